@@ -1,0 +1,38 @@
+-- Words for the worked rows: who says what, and short policies.
+use Rattle.std.proofs.Common.{ℕ, []}
+use Rattle.std.specs.Prelude.{pos}
+use Rattle.ucon_base.specs.declared.value.Side.{Side}
+use Rattle.ucon_base.specs.declared.value.Kind.TheVariants as kinds
+use Rattle.ucon_base.specs.declared.value.Value.TheVariants as values
+use Rattle.ucon_model.specs.declared.command.Command.{Command}
+use Rattle.ucon_model.specs.declared.command.Entry.{Entry}
+use Rattle.ucon_model.specs.declared.formula.Ref.TheVariants as refs
+use Rattle.ucon_model.specs.declared.policy.AttrDecl.{AttrDecl}
+use Rattle.ucon_model.specs.declared.reply.Head.TheVariants as heads
+use Rattle.ucon_model.specs.declared.reply.Revoked.{Revoked}
+use Rattle.ucon_model.specs.Plain.{Bytes, PlainExpr, lit, read, PlainReply, made}
+
+-- a client's line
+abbrev pub by : ℕ → Command → Entry
+by client c = record { caller = record { 0 = client }; command = c }
+
+-- an integer attribute with its range and default
+abbrev pub int_attr : Side → Bytes → ℕ → ℕ → ℕ → AttrDecl
+int_attr side name low high start = record { side = side; name = name; kind = kinds.Int (pos low) (pos high); start = values.Int (pos start) }
+
+abbrev pub int : ℕ → PlainExpr
+int n = lit (values.Int (pos n))
+
+-- the session's own subject's attribute, and its object's
+abbrev pub subject's : Bytes → PlainExpr
+subject's name = read (refs.Subject name)
+
+abbrev pub object's : Bytes → PlainExpr
+object's name = read (refs.Object name)
+
+abbrev pub revoked : ℕ → Bytes → Revoked
+revoked n label = record { session = n; label = label }
+
+-- the reply `ok`
+abbrev pub ok : PlainReply
+ok = made heads.Ok []

@@ -1,0 +1,16 @@
+pub mod Plain
+pub mod Views
+pub mod Spelling
+pub mod Arithmetic
+pub mod Action
+pub mod Readings
+pub mod Truth
+pub mod Decision
+pub mod Updates
+pub mod Legal
+pub mod OwnActions
+pub mod Settle
+pub mod Block
+pub mod History
+pub mod LegalRun
+pub mod Output

@@ -1,0 +1,128 @@
+-- What can be read off a trace, by looking back through it. No current state is kept.
+use Rattle.std.specs.Prelude.{ℕ, suc, zero, ℤ, pos, ◌+◌, Bool, true, false, ◌&&◌, ◌||◌, nat_eq, List, [], ◌∷◌, find, Option, Some, None, option_map, is_none, unwrap_or, if◌then◌else◌}
+use Rattle.std.specs.Str.{bytes_eq}
+use Rattle.ucon_base.specs.declared.value.Side.{Side}
+use Rattle.ucon_base.specs.declared.value.Side.TheVariants.{Subject, Object}
+use Rattle.ucon_base.specs.declared.value.Value.{Value}
+use Rattle.ucon_model.specs.declared.policy.AttrDecl.{AttrDecl}
+use Rattle.ucon_model.specs.declared.policy.EnvDecl.{EnvDecl}
+use Rattle.ucon_model.specs.declared.session.SessionRow.{SessionRow}
+use Rattle.ucon_model.specs.declared.session.SessionState.{SessionState}
+use Rattle.ucon_model.specs.declared.session.SessionState.TheVariants.{Requesting, Denied, Accessing, Revoked, Ended}
+use Rattle.ucon_model.specs.Plain.{Bytes, PlainPolicy}
+use Rattle.ucon_model.specs.Action.{Trace, subject, object, write, env, tick, act, tries, permit, deny, ends, revoke}
+
+-- the tick of the last Tick, else 0
+abbrev pub tick_of : Trace → ℤ
+tick_of [] = pos 0
+tick_of (tick t ∷ T) = t
+tick_of (a ∷ T) = tick_of T
+
+-- ---- entities
+
+-- whether the entity is there: it was once made
+abbrev pub has_entity : Side → Bytes → Trace → Bool
+has_entity side e [] = false
+has_entity Subject e (subject name ∷ T) = bytes_eq e name || has_entity Subject e T
+has_entity Object e (object name ∷ T) = bytes_eq e name || has_entity Object e T
+has_entity side e (a ∷ T) = has_entity side e T
+
+-- how many entities a side has
+abbrev pub entities : Side → Trace → ℕ
+entities side [] = 0
+entities Subject (subject name ∷ T) = entities Subject T + 1
+entities Object (object name ∷ T) = entities Object T + 1
+entities side (a ∷ T) = entities side T
+
+-- ---- attributes and variables
+
+abbrev pub same_side : Side → Side → Bool
+same_side Subject Subject = true
+same_side Object Object = true
+same_side s t = false
+
+-- the value of the last Write to an attribute of an entity
+abbrev pub written : Side → Bytes → Bytes → Trace → Option Value
+written side e attr [] = None
+written side e attr (write s n a v ∷ T) =
+    if same_side side s && bytes_eq e n && bytes_eq attr a then Some v else written side e attr T
+written side e attr (a ∷ T) = written side e attr T
+
+-- the declaration of an attribute of a side
+abbrev pub declared_attr : List AttrDecl → Side → Bytes → Option AttrDecl
+declared_attr ds side attr = find (λ d. same_side side d.side && bytes_eq attr d.name) ds
+
+-- an attribute of an entity that is there: the value of the last Write to it, else its declared default
+abbrev pub attribute : PlainPolicy → Trace → Side → Bytes → Bytes → Option Value
+attribute P T side e attr =
+    if has_entity side e T then option_map (λ d. unwrap_or (written side e attr T) d.start) (declared_attr P.attrs side attr) else None
+
+-- the value of the last Env of a variable
+abbrev pub assigned : Bytes → Trace → Option Value
+assigned name [] = None
+assigned name (env n v ∷ T) = if bytes_eq name n then Some v else assigned name T
+assigned name (a ∷ T) = assigned name T
+
+-- the declaration of a variable
+abbrev pub declared_env : List EnvDecl → Bytes → Option EnvDecl
+declared_env ds name = find (λ d. bytes_eq name d.name) ds
+
+-- a variable: the value of its last Env, else its declared default
+abbrev pub variable : PlainPolicy → Trace → Bytes → Option Value
+variable P T name = option_map (λ d. unwrap_or (assigned name T) d.start) (declared_env P.envs name)
+
+-- ---- acts
+
+-- the moment of an act: the tick at which it was last done
+abbrev pub moment : Bytes → Bytes → Bytes → Trace → Option ℤ
+moment s a o [] = None
+moment s a o (act s' a' o' ∷ T) = if bytes_eq s s' && bytes_eq a a' && bytes_eq o o' then Some (tick_of T) else moment s a o T
+moment s a o (b ∷ T) = moment s a o T
+
+-- how many distinct acts were done
+abbrev pub acts : Trace → ℕ
+acts [] = 0
+acts (act s a o ∷ T) = acts T + (if is_none (moment s a o T) then 1 else 0)
+acts (b ∷ T) = acts T
+
+-- ---- sessions
+
+-- the row with a change, where the action names its session
+abbrev pub changed_if : Bool → (SessionRow → SessionRow) → Option SessionRow → Option SessionRow
+changed_if same change row = if same then option_map change row else row
+
+-- A session: its caller, right, subject and object are those of its Try; its state is given by the last Try, Permit, Deny, End or
+-- Revoke that names it; its start is the tick at its Permit, and 0 without one. A Wait leaves it requesting.
+abbrev pub session : Trace → ℕ → Option SessionRow
+session [] n = None
+session (tries m c s r o ∷ T) n =
+    if nat_eq n m then Some (record { caller = c; right = r; subject = s; object = o; state = Requesting; start = pos 0 }) else session T n
+session (permit m ∷ T) n = changed_if (nat_eq n m) (λ row. record row { state = Accessing; start = tick_of T }) (session T n)
+session (deny m l ∷ T) n = changed_if (nat_eq n m) (λ row. record row { state = Denied }) (session T n)
+session (ends m ∷ T) n = changed_if (nat_eq n m) (λ row. record row { state = Ended }) (session T n)
+session (revoke m l ∷ T) n = changed_if (nat_eq n m) (λ row. record row { state = Revoked }) (session T n)
+session (a ∷ T) n = session T n
+
+-- how many sessions were tried; they are numbered from 1
+abbrev pub sessions : Trace → ℕ
+sessions [] = 0
+sessions (tries m c s r o ∷ T) = sessions T + 1
+sessions (a ∷ T) = sessions T
+
+abbrev pub is_accessing_state : SessionState → Bool
+is_accessing_state Accessing = true
+is_accessing_state s = false
+
+-- whether a session is there and accessing
+abbrev pub is_accessing : Option SessionRow → Bool
+is_accessing None = false
+is_accessing (Some row) = is_accessing_state row.state
+
+-- how many of the sessions 1 to n are accessing
+abbrev pub accessing_up_to : Trace → ℕ → ℕ
+accessing_up_to T zero = 0
+accessing_up_to T (suc n) = accessing_up_to T n + (if is_accessing (session T (suc n)) then 1 else 0)
+
+-- how many sessions are accessing
+abbrev pub accessing : Trace → ℕ
+accessing T = accessing_up_to T (sessions T)

@@ -1,0 +1,64 @@
+//! Replies.
+
+ghost use Rattle.std.specs.Prelude.{◌≡◌};
+
+use crate::SessionState;
+use ucon_base::{Name, Rows, Value};
+
+#[derive(Clone, Copy, Debug, PartialEq, Eq)]
+pub enum Refusal {
+    NotAdmin,
+    NoRight,
+    NoSubject,
+    NoObject,
+    NoAttribute,
+    NoVariable,
+    NoAct,
+    NoSession,
+    NotYours,
+    NotAccessing,
+    NotRequesting,
+    AlreadyThere,
+    BadValue,
+    TickBack,
+    FullSubjects,
+    FullObjects,
+    FullActs,
+    FullSessions,
+    FullAccessing,
+}
+
+#[derive(Clone, Copy, Debug, PartialEq, Eq)]
+pub enum Head {
+    Ok,
+    Permitted(u32),
+    Denied(u32, Name),
+    Waiting(u32, Name),
+    Ended(u32),
+}
+
+#[derive(Clone, Copy, Debug, PartialEq, Eq)]
+pub struct Revoked {
+    pub session: u32,
+    pub label: Name,
+}
+
+#[derive(Debug, Drop)]
+pub enum Reply {
+    Refused(Refusal),
+    Made { head: Head, revoked: Rows<Revoked> },
+    Value(Value),
+    Status(u32, SessionState),
+}
+
+impl Reply {
+    ghost use Rattle.ucon_model.specs.Views.{reply_of};
+    ghost use Rattle.ucon_model.specs.History.{changes};
+
+    /// Whether the step that it answers changed something.
+    pub fn changes(&self) -> bool
+        ensures { result ≡ changes (reply_of self.now) }
+    {
+        matches!(self, Reply::Made { .. })
+    }
+}
