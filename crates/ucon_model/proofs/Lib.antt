@@ -1,5 +1,7 @@
 pub mod Extending
 pub mod Settling
+pub mod SerialRuns
+pub mod ReadBack
 pub mod Scenes
 pub mod FirstRun
 pub mod HigherPullsLower

@@ -1,11 +1,25 @@
 //! Laws of the definitions. A law is a function without parameters that does nothing: its contract is what is proved.
 
-ghost use Rattle.std.specs.Prelude.{◌≡◌, None};
+ghost use Rattle.std.specs.Prelude.{◌≡◌, ◌<◌, List, map, Some, None};
 ghost use Rattle.ucon_model.specs.Plain.{PlainPolicy};
 ghost use Rattle.ucon_model.specs.Action.{Trace, extended};
+ghost use Rattle.ucon_model.specs.History.{History};
+ghost use Rattle.ucon_model.specs.LegalRun.{Answered, Each, IsLegalRun, IsSerialRun, in_text_order};
+ghost use Rattle.ucon_model.specs.Output.{FitsLine, answers_read, output};
 ghost use Rattle.ucon_model.specs.Settle.{least_failing, settle};
 
 /// After settling no accessing session fails.
 pub fn settling_ends()
     ensures { (P : PlainPolicy) (T : Trace) → least_failing P (extended T (settle P T)) ≡ None }
+{}
+
+/// A serial run after a history is a legal run after it, in the order of its text.
+pub fn serial_runs_are_legal()
+    ensures { (P : PlainPolicy) (G : History) (told : List Answered) → IsSerialRun P G told → IsLegalRun P in_text_order G told }
+{}
+
+/// An output whose answers fit their lines is read back as the answers that it was written from.
+pub fn outputs_are_read_back()
+    ensures { (told : List Answered) → Each (λ t. FitsLine t.answer) told → Each (λ t. t.line.caller.0 < 256) told
+        → answers_read (map (λ t. t.line) told) (output told) ≡ Some told }
 {}
