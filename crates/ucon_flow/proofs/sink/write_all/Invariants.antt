@@ -1,0 +1,15 @@
+use Rattle.std.proofs.Common.{length, ◌+◌, ◌-◌, ◌≤◌, take}
+use Rattle.std.specs.Io.KnownBytes.{Appends}
+use Rattle.ucon_flow.proofs.sink.write_all.Given as goal
+
+-- what was taken so far has gone out, at least a byte a write
+abbrev pub invariant-loop-at : goal.invariant-loop-at
+invariant-loop-at g l = record {
+  within : l.at ≤ length l.bytes;
+  sent : Appends (g.K.Sink.contents l.fn.sink) (g.K.Sink.contents l.sink) (take l.at l.bytes);
+  later : g.K.Sink.faults l.fn.sink ≤ g.K.Sink.faults l.sink;
+  writes : g.K.Sink.writes l.sink ≤ g.K.Sink.writes l.fn.sink + l.at;
+}
+
+abbrev pub decreases-loop-at : goal.decreases-loop-at
+decreases-loop-at g l = length l.bytes - l.at
