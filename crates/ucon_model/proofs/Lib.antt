@@ -1,7 +1,9 @@
 pub mod Extending
 pub mod Settling
 pub mod SerialRuns
+pub mod Lacking
 pub mod ReadBack
+pub mod TellsChange
 pub mod Scenes
 pub mod FirstRun
 pub mod HigherPullsLower

@@ -1,46 +1,15 @@
 -- An output is read back as the answers that it was written from.
-use Rattle.std.proofs.Common.{◌≡◌, ℕ, ◌+◌, ◌<◌, ◌^◌, Bool, true, false, cond, List, [], ◌∷◌, ◌++◌, map, refl, ap, ◌∙◌, arith, append_assoc}
-use Rattle.std.specs.Prelude.{◌==◌, Option, Some, None, option_and_then, codes}
-use Rattle.std.specs.List.{position_from}
+use Rattle.std.proofs.Common.{◌≡◌, ℕ, ◌<◌, ◌^◌, true, false, List, [], ◌∷◌, ◌++◌, map, refl, ap, ◌∙◌, arith, append_assoc}
+use Rattle.std.specs.Prelude.{Some, option_and_then, codes}
 use Rattle.std.specs.Fmt.{decimal}
 use Rattle.std.specs.Str.{bytes_eq}
-use Rattle.std.specs.Str.Parse.{AllDigits}
-use Rattle.std.proofs.lemmas.Bool.{eq-eqb, ne_eqb}
+use Rattle.std.proofs.lemmas.Bool.{eq-eqb}
 use Rattle.std.proofs.lemmas.Fmt.{decimal_is_IsNumeral}
-use Rattle.std.proofs.lemmas.Iterator.Adapters.{position_from-zero}
 use Rattle.std.proofs.lemmas.Slice.Eq.{bytes_eq-Decides}
-use Rattle.std.proofs.lemmas.Str.Parse.{digit_from_value}
 use Rattle.ucon_model.specs.Plain.{Bytes}
 use Rattle.ucon_model.specs.LegalRun.{Answer, no_memory, disk_fault, stopped, placed, Answered, Each}
-use Rattle.ucon_model.specs.Output.{answer_spelling, answer_line, output, FitsLine, cut_at, number_read, answer_read, line_read, answers_read}
-
--- ---- bytes that a text lacks
-
-abbrev Lacks : ℕ → Bytes → Type 0
-Lacks byte text = Each (λ b. (b == byte) ≡ false) text
-
-lacks-append : (byte : ℕ) (xs ys : Bytes) → Lacks byte xs → Lacks byte ys → Lacks byte (xs ++ ys)
-lacks-append byte [] ys h k = k
-lacks-append byte (x ∷ xs) ys h k = (h.0, lacks-append byte xs ys h.1 k)
-
-passed_over : (b : Bool) (i : ℕ) (rest : Option ℕ) → cond b (Some i) rest ≡ None → (b ≡ false) × (rest ≡ None)
-passed_over true i rest e = absurd cc
-passed_over false i rest e = (refl, e)
-
-lacks-position_from : (byte i : ℕ) (text : Bytes) → position_from (λ b. b == byte) i text ≡ None → Lacks byte text
-lacks-position_from byte i [] e = tt
-lacks-position_from byte i (x ∷ xs) e =
-    let passed = passed_over (x == byte) i (position_from (λ b. b == byte) (i + 1) xs) e in
-    (passed.0, lacks-position_from byte (i + 1) xs passed.1)
-
-lacks-digits : (byte : ℕ) (ds : Bytes) → byte < 48 → AllDigits 10 ds → Lacks byte ds
-lacks-digits byte [] lt h = tt
-lacks-digits byte (d ∷ ds) lt h =
-    let range = digit_from_value d h.0 in
-    (ne_eqb d byte (λ e. omega (arith, e, lt, range)), lacks-digits byte ds lt h.1)
-
-lacks-decimal : (byte n : ℕ) → byte < 48 → n < 2 ^ 64 → Lacks byte (decimal n)
-lacks-decimal byte n lt fits = lacks-digits byte (decimal n) lt (decimal_is_IsNumeral n fits).0.1
+use Rattle.ucon_model.proofs.Lacking.{lacks-append, lacks-decimal, lacks-tested}
+use Rattle.ucon_model.specs.Output.{Lacks, answer_spelling, answer_line, output, FitsLine, cut_at, number_read, answer_read, line_read, answers_read}
 
 -- ---- cutting
 
@@ -74,12 +43,11 @@ answer_spelling-read (placed place text) fits =
     )
 
 answer_spelling-lacks : (a : Answer) → FitsLine a → Lacks 10 (answer_spelling a)
-answer_spelling-lacks no_memory fits = lacks-position_from 10 0 (codes "- no memory") refl
-answer_spelling-lacks disk_fault fits = lacks-position_from 10 0 (codes "- disk fault") refl
-answer_spelling-lacks stopped fits = lacks-position_from 10 0 (codes "- stopped") refl
+answer_spelling-lacks no_memory fits = lacks-tested 10 (codes "- no memory") refl
+answer_spelling-lacks disk_fault fits = lacks-tested 10 (codes "- disk fault") refl
+answer_spelling-lacks stopped fits = lacks-tested 10 (codes "- stopped") refl
 answer_spelling-lacks (placed place text) fits =
-    let text_lacks : Lacks 10 text = lacks-position_from 10 0 text (grind (arith, position_from-zero (λ b. b == 10) text, fits.1)) in
-    lacks-append 10 (decimal place) (32 ∷ text) (lacks-decimal 10 place (omega arith) fits.0) (refl, text_lacks)
+    lacks-append 10 (decimal place) (32 ∷ text) (lacks-decimal 10 place (omega arith) fits.0) (refl, fits.1)
 
 -- ---- lines
 

@@ -14,3 +14,4 @@ pub mod Block
 pub mod History
 pub mod LegalRun
 pub mod Output
+pub mod Document

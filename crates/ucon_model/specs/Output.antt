@@ -1,11 +1,11 @@
 -- The output of a run, and how its answers are read from it.
-use Rattle.std.specs.Prelude.{◌≡◌, ◌<◌, ◌^◌, ℕ, ◌==◌, List, [], ◌∷◌, ◌++◌, position, Option, Some, None, option_map, option_and_then, codes, if◌then◌else◌}
+use Rattle.std.specs.Prelude.{◌≡◌, ◌<◌, ◌^◌, false, ℕ, ◌==◌, List, [], ◌∷◌, ◌++◌, Option, Some, None, option_map, option_and_then, codes, if◌then◌else◌}
 use Rattle.std.specs.Fmt.{decimal}
 use Rattle.std.specs.Str.{bytes_eq}
 use Rattle.std.specs.Str.Parse.{digits_value}
 use Rattle.ucon_model.specs.declared.command.Entry.{Entry}
 use Rattle.ucon_model.specs.Plain.{Bytes}
-use Rattle.ucon_model.specs.LegalRun.{Answer, no_memory, disk_fault, stopped, placed, Answered}
+use Rattle.ucon_model.specs.LegalRun.{Answer, no_memory, disk_fault, stopped, placed, Answered, Each}
 
 -- ---- what is written
 
@@ -25,9 +25,13 @@ abbrev pub output : List Answered → Bytes
 output [] = []
 output (t ∷ told) = answer_line t ++ output told
 
+-- the byte isn't in the text
+abbrev pub Lacks : ℕ → Bytes → Type 0
+Lacks byte text = Each (λ b. (b == byte) ≡ false) text
+
 -- what fits its line: a place below 2^64, and a text without a newline
 abbrev pub FitsLine : Answer → Type 0
-FitsLine (placed place text) = (place < 2 ^ 64) × (position (λ b. b == 10) text ≡ None)
+FitsLine (placed place text) = (place < 2 ^ 64) × Lacks 10 text
 FitsLine a = Unit {0}
 
 -- ---- what is read
