@@ -9,3 +9,10 @@ pub mod FirstRun
 pub mod HigherPullsLower
 pub mod RevocationSavesNext
 pub mod OrderOfPredicates
+pub mod PayPerUseMusic
+pub mod CapOfZero
+pub mod EveryThirty
+pub mod Clamps
+pub mod FullSet
+pub mod NotYours
+pub mod Ticks

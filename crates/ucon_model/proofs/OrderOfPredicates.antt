@@ -1,6 +1,6 @@
 -- The order of predicates before a usage: authorisations and conditions in written order, then obligations; and waiting until they are met.
 use Rattle.std.proofs.Common.{◌≡◌, List, [], ◌∷◌, refl}
-use Rattle.std.specs.Prelude.{pos, codes, None}
+use Rattle.std.specs.Prelude.{pos, codes}
 use Rattle.ucon_base.specs.declared.value.Side.TheVariants.{Subject}
 use Rattle.ucon_base.specs.declared.value.Kind.TheVariants as kinds
 use Rattle.ucon_base.specs.declared.value.Value.TheVariants as values
@@ -14,9 +14,9 @@ use Rattle.ucon_model.specs.declared.policy.Phase.TheVariants.{Pre}
 use Rattle.ucon_model.specs.declared.reply.Head.TheVariants.{Permitted, Denied, Waiting}
 use Rattle.ucon_model.specs.declared.reply.Refusal.TheVariants.{NoSession, NotRequesting}
 use Rattle.ucon_model.specs.declared.session.SessionState.TheVariants.{Accessing}
-use Rattle.ucon_model.specs.Plain.{PlainPolicy, read, compare, authorisation, duty, condition, refused, made, status}
+use Rattle.ucon_model.specs.Plain.{PlainPolicy, read, compare, authorisation, condition, refused, made, status}
 use Rattle.ucon_model.specs.History.{serial}
-use Rattle.ucon_model.proofs.Scenes.{by, int_attr, int, subject's, ok}
+use Rattle.ucon_model.proofs.Scenes.{by, own_duty, int_attr, int, subject's, ok}
 
 abbrev purchase : PlainPolicy
 purchase = record {
@@ -24,7 +24,7 @@ purchase = record {
   envs = record { name = codes "hour"; kind = kinds.Int (pos 0) (pos 23); start = values.Int (pos 9) } ∷ [];
   rights = record {
     name = codes "buy";
-    preds = record { phase = Pre; label = codes "sign"; test = duty (record { form = Done; action = codes "sign_up"; by_subject = None; on_object = None }) }
+    preds = record { phase = Pre; label = codes "sign"; test = own_duty Done (codes "sign_up") }
         ∷ record { phase = Pre; label = codes "late"; test = condition (compare Ge (read (refs.Env (codes "hour"))) (int 10)) }
         ∷ record { phase = Pre; label = codes "adult"; test = authorisation (compare Ge (subject's (codes "age")) (int 18)) } ∷ [];
     updates = [];

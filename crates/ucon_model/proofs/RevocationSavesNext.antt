@@ -13,7 +13,7 @@ use Rattle.ucon_model.specs.Plain.{Bytes, PlainPolicy, plus, minus, compare, aut
 use Rattle.ucon_model.specs.History.{serial}
 use Rattle.ucon_model.proofs.Scenes.{by, int_attr, int, object's, revoked}
 
-abbrev capped : PlainPolicy
+abbrev pub capped : PlainPolicy
 capped = record {
   attrs = int_attr Object (codes "users") 0 1000 0 ∷ int_attr Object (codes "most") 0 1000 3 ∷ [];
   envs = [];

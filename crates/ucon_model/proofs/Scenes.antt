@@ -1,20 +1,26 @@
 -- Words for the worked rows: who says what, and short policies.
 use Rattle.std.proofs.Common.{ℕ, []}
-use Rattle.std.specs.Prelude.{pos}
+use Rattle.std.specs.Prelude.{pos, None}
 use Rattle.ucon_base.specs.declared.value.Side.{Side}
 use Rattle.ucon_base.specs.declared.value.Kind.TheVariants as kinds
 use Rattle.ucon_base.specs.declared.value.Value.TheVariants as values
 use Rattle.ucon_model.specs.declared.command.Command.{Command}
+use Rattle.ucon_model.specs.declared.command.Command.TheVariants as commands
 use Rattle.ucon_model.specs.declared.command.Entry.{Entry}
+use Rattle.ucon_model.specs.declared.formula.Form.{Form}
 use Rattle.ucon_model.specs.declared.formula.Ref.TheVariants as refs
 use Rattle.ucon_model.specs.declared.policy.AttrDecl.{AttrDecl}
 use Rattle.ucon_model.specs.declared.reply.Head.TheVariants as heads
 use Rattle.ucon_model.specs.declared.reply.Revoked.{Revoked}
-use Rattle.ucon_model.specs.Plain.{Bytes, PlainExpr, lit, read, PlainReply, made}
+use Rattle.ucon_model.specs.Plain.{Bytes, PlainExpr, lit, read, PlainTest, duty, PlainReply, made}
 
 -- a client's line
 abbrev pub by : ℕ → Command → Entry
 by client c = record { caller = record { 0 = client }; command = c }
+
+-- client 0's line that moves the tick
+abbrev pub tick_to : ℕ → Entry
+tick_to t = by 0 (commands.Tick (pos t))
 
 -- an integer attribute with its range and default
 abbrev pub int_attr : Side → Bytes → ℕ → ℕ → ℕ → AttrDecl
@@ -29,6 +35,10 @@ subject's name = read (refs.Subject name)
 
 abbrev pub object's : Bytes → PlainExpr
 object's name = read (refs.Object name)
+
+-- an obligation of the session's own subject, on its own object
+abbrev pub own_duty : Form → Bytes → PlainTest
+own_duty form action = duty (record { form = form; action = action; by_subject = None; on_object = None })
 
 abbrev pub revoked : ℕ → Bytes → Revoked
 revoked n label = record { session = n; label = label }
