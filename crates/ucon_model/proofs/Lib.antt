@@ -16,3 +16,8 @@ pub mod Clamps
 pub mod FullSet
 pub mod NotYours
 pub mod Ticks
+pub mod Numbering
+pub mod OwnCases
+pub mod OwnSteps
+pub mod SettlingSteps
+pub mod Histories

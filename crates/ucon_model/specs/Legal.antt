@@ -42,3 +42,9 @@ IsLegal P T (revoke n label) = IsAccessing T n × (failing P (readings P T) n �
 abbrev pub AreLegal : PlainPolicy → Trace → List Action → Type 0
 AreLegal P T [] = Unit {0}
 AreLegal P T (a ∷ actions) = IsLegal P T a × AreLegal P (a ∷ T) actions
+
+-- each revocation among these actions is legal after the trace and the actions before it
+abbrev pub RevocationsAreLegal : PlainPolicy → Trace → List Action → Type 0
+RevocationsAreLegal P T [] = Unit {0}
+RevocationsAreLegal P T (revoke n label ∷ actions) = IsLegal P T (revoke n label) × RevocationsAreLegal P (revoke n label ∷ T) actions
+RevocationsAreLegal P T (a ∷ actions) = RevocationsAreLegal P (a ∷ T) actions

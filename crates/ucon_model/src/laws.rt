@@ -22,4 +22,21 @@ pub fn serial_runs_are_legal()
 pub fn outputs_are_read_back()
     ensures { (told : List Answered) → Each (λ t. FitsLine t.answer) told → Each (λ t. t.line.caller.0 < 256) told
         → answers_read (map (λ t. t.line) told) (output told) ≡ Some told }
+ghost use Rattle.std.specs.Prelude.{ℕ};
+ghost use Rattle.ucon_model.specs.declared.command.Caller.{Caller};
+ghost use Rattle.ucon_model.specs.declared.command.Command.{Command};
+ghost use Rattle.ucon_model.specs.Block.{block};
+ghost use Rattle.ucon_model.specs.History.{History, trace};
+ghost use Rattle.ucon_model.specs.Legal.{RevocationsAreLegal};
+ghost use Rattle.ucon_model.specs.Settle.{fails_at};
+
+/// After every history, each revocation of a command's block is legal: it names the least accessing session that fails, and the
+/// label of its first false ongoing predicate.
+pub fn revocations_are_legal()
+    ensures { (P : PlainPolicy) (H : History) (caller : Caller) (c : Command) → RevocationsAreLegal P (trace P H) (block P (trace P H) caller c) }
+{}
+
+/// After every history no accessing session fails.
+pub fn no_usage_goes_on_failing()
+    ensures { (P : PlainPolicy) (H : History) (n : ℕ) → fails_at P (trace P H) n ≡ None }
 {}
