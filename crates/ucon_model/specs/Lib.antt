@@ -1,7 +1,7 @@
 pub mod Plain
 pub mod Views
 pub mod Spelling
-pub mod Arithmetic
+pub mod Comparison
 pub mod Action
 pub mod Readings
 pub mod Truth

@@ -13,7 +13,8 @@ use Rattle.ucon_model.specs.declared.formula.Form.TheVariants.{Done, Within, Eve
 use Rattle.ucon_model.specs.declared.formula.Obligation.{Obligation}
 use Rattle.ucon_model.specs.declared.session.SessionRow.{SessionRow}
 use Rattle.ucon_model.specs.Plain.{Bytes, PlainExpr, lit, read, plus, minus, times, size, PlainFormula, both, either, negation, compare, lasts, PlainTest, authorisation, duty, condition, PlainPolicy}
-use Rattle.ucon_model.specs.Arithmetic.{sum_of, difference_of, product_of, size_of, compares}
+use Rattle.ucon_base.specs.Arithmetic.{sum_of, difference_of, product_of, size_of}
+use Rattle.ucon_model.specs.Comparison.{compares}
 use Rattle.ucon_model.specs.Action.{Trace}
 use Rattle.ucon_model.specs.Readings.{tick_of, attribute, variable, moment, session}
 

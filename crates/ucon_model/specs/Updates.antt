@@ -9,7 +9,7 @@ use Rattle.ucon_model.specs.declared.policy.When.{When}
 use Rattle.ucon_model.specs.declared.policy.When.TheVariants.{Before, During, AfterEnd, AfterRevoke}
 use Rattle.ucon_model.specs.declared.session.SessionRow.{SessionRow}
 use Rattle.ucon_model.specs.Plain.{Bytes, PlainUpdate, PlainPolicy}
-use Rattle.ucon_model.specs.Arithmetic.{fitted}
+use Rattle.ucon_base.specs.Arithmetic.{fitted}
 use Rattle.ucon_model.specs.Action.{Action, Trace, write, followed_by}
 use Rattle.ucon_model.specs.Readings.{declared_attr, session}
 use Rattle.ucon_model.specs.Truth.{readings, value_of}

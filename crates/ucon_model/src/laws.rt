@@ -1,12 +1,16 @@
 //! Laws of the definitions. A law is a function without parameters that does nothing: its contract is what is proved.
 
-ghost use Rattle.std.specs.Prelude.{◌≡◌, ◌<◌, List, map, Some, None};
+ghost use Rattle.std.specs.Prelude.{◌≡◌, ◌<◌, ℕ, List, map, Some, None};
+ghost use Rattle.ucon_model.specs.declared.command.Caller.{Caller};
+ghost use Rattle.ucon_model.specs.declared.command.Command.{Command};
 ghost use Rattle.ucon_model.specs.Plain.{PlainPolicy};
 ghost use Rattle.ucon_model.specs.Action.{Trace, extended};
-ghost use Rattle.ucon_model.specs.History.{History};
+ghost use Rattle.ucon_model.specs.Block.{block};
+ghost use Rattle.ucon_model.specs.History.{History, trace};
+ghost use Rattle.ucon_model.specs.Legal.{RevocationsAreLegal};
 ghost use Rattle.ucon_model.specs.LegalRun.{Answered, Each, IsLegalRun, IsSerialRun, in_text_order};
 ghost use Rattle.ucon_model.specs.Output.{FitsLine, answers_read, output};
-ghost use Rattle.ucon_model.specs.Settle.{least_failing, settle};
+ghost use Rattle.ucon_model.specs.Settle.{fails_at, least_failing, settle};
 
 /// After settling no accessing session fails.
 pub fn settling_ends()
@@ -22,13 +26,7 @@ pub fn serial_runs_are_legal()
 pub fn outputs_are_read_back()
     ensures { (told : List Answered) → Each (λ t. FitsLine t.answer) told → Each (λ t. t.line.caller.0 < 256) told
         → answers_read (map (λ t. t.line) told) (output told) ≡ Some told }
-ghost use Rattle.std.specs.Prelude.{ℕ};
-ghost use Rattle.ucon_model.specs.declared.command.Caller.{Caller};
-ghost use Rattle.ucon_model.specs.declared.command.Command.{Command};
-ghost use Rattle.ucon_model.specs.Block.{block};
-ghost use Rattle.ucon_model.specs.History.{History, trace};
-ghost use Rattle.ucon_model.specs.Legal.{RevocationsAreLegal};
-ghost use Rattle.ucon_model.specs.Settle.{fails_at};
+{}
 
 /// After every history, each revocation of a command's block is legal: it names the least accessing session that fails, and the
 /// label of its first false ongoing predicate.

@@ -10,8 +10,10 @@ mod session;
 
 pub use command::{Caller, Command, Entry};
 pub use formula::{Expr, Form, Formula, Obligation, Op, Ref};
-pub use laws::{outputs_are_read_back, serial_runs_are_legal, settling_ends};
-pub use laws::{no_usage_goes_on_failing, revocations_are_legal, settling_ends};
+pub use laws::{
+    no_usage_goes_on_failing, outputs_are_read_back, revocations_are_legal, serial_runs_are_legal,
+    settling_ends,
+};
 pub use policy::{AttrDecl, EnvDecl, Phase, Policy, Predicate, Right, Test, Update, When};
 pub use reply::{Head, Refusal, Reply, Revoked};
 pub use session::{SessionRow, SessionState, Verdict};

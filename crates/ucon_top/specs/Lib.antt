@@ -1,0 +1,14 @@
+pub mod Document
+pub mod Ending
+pub mod Grammar
+pub mod Lines
+pub mod OneAnswer
+pub mod OwnActions
+pub mod Printed
+pub mod Seen
+pub mod Sorts
+pub mod Thin
+pub mod ThinCommand
+pub mod ThinReply
+pub mod ThinTyping
+pub mod Tokens
