@@ -1,2 +1,5 @@
 pub mod BitLemmas
+pub mod MembersLemmas
+pub mod SetLemmas
 pub mod SummaryLemmas
+pub mod WithMemberLemmas

@@ -1,5 +1,5 @@
 -- Rows of bits in words of 64, and what ties a row to the row above it. No public clause cites this module.
-use Rattle.std.specs.Prelude.{◌≡◌, ◌≢◌, ℕ, ◌+◌, ◌*◌, ◌/◌, ◌%◌, ◌<◌, ◌≤◌, min, List, length, slice_index}
+use Rattle.std.specs.Prelude.{◌≡◌, ◌≢◌, ℕ, ◌*◌, ◌/◌, ◌%◌, ◌<◌, ◌≤◌, min, List, length, slice_index}
 use Rattle.std.specs.Int.{bit_at}
 
 -- bit n of the row, 0 past its end

@@ -3,3 +3,6 @@
 
 mod level;
 mod levels;
+mod pend;
+
+pub use pend::Pend;

@@ -1,4 +1,4 @@
-use Rattle.std.proofs.Common.{◌≡◌, ◌/◌, ◌∙◌, rules}
+use Rattle.std.proofs.Common.{◌≡◌, ◌∙◌, rules}
 use Rattle.ucon_pend.specs.Bits.{bit}
 use Rattle.ucon_pend.proofs.SummaryLemmas.{bit-upper_set, Summarizes-clear, Summarizes-left}
 use Rattle.ucon_pend.proofs.levels.Levels.clear.Goals as goal

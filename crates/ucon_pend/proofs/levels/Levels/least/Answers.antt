@@ -1,4 +1,4 @@
-use Rattle.std.proofs.Common.{◌/◌, ◌<◌, arith, rules}
+use Rattle.std.proofs.Common.{◌/◌, arith, rules}
 use Rattle.ucon_pend.specs.Bits.{IsLeastBit}
 use Rattle.ucon_pend.proofs.SummaryLemmas.{bit-under_clear, IsLeastBit-under, bit-one_clear_word}
 use Rattle.ucon_pend.proofs.levels.Levels.least.Goals as goal

@@ -1,0 +1,11 @@
+use Rattle.ucon_pend.proofs.SetLemmas.{IsRising-set_of, set_of-put, Contains-put}
+use Rattle.ucon_pend.proofs.pend.Pend.put.Goals as goal
+
+pub returns-clause-put : goal.returns-clause-put
+returns-clause-put c = rw (← c.self.view_is) (set_of-put _ _ _ _ (rw (← c.self.view_is) at c.requires) c.set.ensures)
+
+pub returns-clause-members : goal.returns-clause-members
+returns-clause-members c = rw (← c.self.view_is) (Contains-put _ _ _ _ (rw (← c.self.view_is) at c.requires) c.set.ensures)
+
+pub returns-clause-rising : goal.returns-clause-rising
+returns-clause-rising c = IsRising-set_of _ _

@@ -1,0 +1,129 @@
+//! The set, least first.
+
+ghost use Rattle.std.specs.Prelude.{◌≡◌, ◌↔◌, ◌⊎◌, ℕ, ◌<◌, ◌≤◌, [], ◌∷◌, All, Contains, IfOk, IfSome, IfNone, IsNone};
+ghost use Rattle.ucon_pend.specs.NumberSet.{with_member, IsRising};
+
+use crate::levels::Levels;
+use std::alloc::Global;
+use std::marker::Model;
+use ucon_base::NoMemory;
+
+/// A set of numbers below a limit, seen as its limit and the rising list of its members.
+///
+/// `put` and `pop_least` read and write at most one word in each of four levels. Once the set
+/// is made nothing takes memory.
+#[derive(Debug, Drop)]
+pub struct Pend {
+    limit: u32,
+    levels: Levels,
+}
+
+impl Model for Pend {
+    ghost use Rattle.ucon_pend.specs.NumberSet.{NumberSet};
+
+    ghost Value = { NumberSet };
+
+    ghost use Rattle.ucon_pend.specs.Pend.{set_of, IsSound};
+
+    ghost view = { λ p. set_of p.levels p.limit };
+
+    ghost invariant = { IsSound };
+}
+
+impl Pend {
+    /// The empty set. It takes an eighth of a byte for each number below the limit, and a
+    /// sixty-fourth of that on top.
+    pub fn new(alloc: Global, limit: u32) -> Result<Pend, NoMemory>
+        requires { limit ≤ 16777216 }
+        ensures { IfOk result (λ p. p ≡ record { limit = limit; members = [] }) }
+    {
+        let last = limit.saturating_sub(1) as usize;
+        Ok(Pend {
+            limit,
+            levels: Levels::new(alloc, last)?,
+        })
+    }
+
+    /// The members stay below it.
+    pub fn limit(&self) -> u32
+        ensures { result ≡ self.now.limit }
+    {
+        self.limit
+    }
+
+    /// Adds a number, or leaves the set as it is where the number is there.
+    pub fn put(&mut self, n: u32)
+        requires { n < self.old.limit }
+        ensures put { self.new ≡ record self.old { members = with_member self.old.members n } }
+        ensures members { (m : ℕ) → Contains self.new.members m ↔ ((m ≡ n) ⊎ Contains self.old.members m) }
+        ensures rising { IsRising self.new }
+    {
+        self.levels.set(n as usize);
+    }
+
+    /// Takes out the least member.
+    pub fn pop_least(&mut self) -> Option<u32>
+        ensures limit { self.new.limit ≡ self.old.limit }
+        ensures least { IfSome result (λ n. self.old.members ≡ n ∷ self.new.members) }
+        ensures empty { IsNone result ↔ (self.old.members ≡ []) }
+        ensures unchanged { IfNone result (self.new.members ≡ self.old.members) }
+
+        ensures within { IfSome result (λ n. n < self.old.limit) }
+        ensures first { IfSome result (λ n. All (λ m. n < m) self.new.members) }
+        ensures rising { IsRising self.old }
+    {
+        let least = self.levels.least()?;
+        self.levels.clear(least);
+        Some(least as u32)
+    }
+
+    /// Takes out all members, at the cost of as many calls of `pop_least`.
+    pub fn clear(&mut self)
+        ensures { self.new ≡ record self.old { members = [] } }
+    {
+        while self.pop_least().is_some() {}
+    }
+}
+
+#[cfg(test)]
+mod tests {
+    use super::*;
+    use std::test::Fail;
+
+    #[test]
+    fn least_first(rt: HostRuntime) -> Result<(), Fail> {
+        let mut set = Pend::new(rt.alloc(), 100)?;
+        set.put(70);
+        set.put(3);
+        assert_eq!(rt; set.pop_least(), Some(3));
+        assert_eq!(rt; set.pop_least(), Some(70));
+        assert_eq!(rt; set.pop_least(), None);
+        Ok(())
+    }
+
+    // The greatest first, so that each is a new least member.
+    fn put_all(set: &mut Pend, numbers: &[u32]) {
+        for n in numbers.iter().rev() {
+            if *n < set.limit() {
+                set.put(*n);
+            }
+        }
+    }
+
+    #[test]
+    fn borders_of_the_levels(rt: HostRuntime) -> Result<(), Fail> {
+        let borders = [0, 63, 64, 4095, 4096, 262143, 262144, 16777215];
+        let mut set = Pend::new(rt.alloc(), 16777216)?;
+        put_all(&mut set, &borders);
+        for n in borders {
+            assert_eq!(rt; set.pop_least(), Some(n));
+        }
+        assert_eq!(rt; set.pop_least(), None);
+        put_all(&mut set, &borders);
+        set.clear();
+        put_all(&mut set, &[4096]);
+        assert_eq!(rt; set.pop_least(), Some(4096));
+        assert_eq!(rt; set.pop_least(), None);
+        Ok(())
+    }
+}
