@@ -31,8 +31,8 @@ impl Model for Pend {
 }
 
 impl Pend {
-    /// The empty set. It takes an eighth of a byte for each number below the limit, and a
-    /// sixty-fourth of that on top.
+    /// The empty set. It takes a bit for each number below the limit, and about a sixty-fourth
+    /// as much for the levels above.
     pub fn new(alloc: Global, limit: u32) -> Result<Pend, NoMemory>
         requires { limit ≤ 16777216 }
         ensures { IfOk result (λ p. p ≡ record { limit = limit; members = [] }) }
@@ -44,7 +44,7 @@ impl Pend {
         })
     }
 
-    /// The members stay below it.
+    /// What all members are below: the condition of `put`.
     pub fn limit(&self) -> u32
         ensures { result ≡ self.now.limit }
     {
@@ -55,7 +55,8 @@ impl Pend {
     pub fn put(&mut self, n: u32)
         requires { n < self.old.limit }
         ensures put { self.new ≡ record self.old { members = with_member self.old.members n } }
-        ensures members { (m : ℕ) → Contains self.new.members m ↔ ((m ≡ n) ⊎ Contains self.old.members m) }
+        ensures members { (m : ℕ) → Contains self.new.members m
+            ↔ ((m ≡ n) ⊎ Contains self.old.members m) }
         ensures rising { IsRising self.new }
     {
         self.levels.set(n as usize);
