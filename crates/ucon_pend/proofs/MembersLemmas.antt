@@ -31,20 +31,20 @@ All-members_from bits first (suc count) =
       | inr clear ↦ rw (members_from-clear bits first count clear) rest
     ]
 
-increasing-cons : (m : ℕ) (ms : List ℕ) → All (λ n. m < n) ms → IsStrictlyIncreasing ms → IsStrictlyIncreasing (m ∷ ms)
-increasing-cons m ms above rising zero within = above 0 0 (omega arith)
-increasing-cons m ms above rising (suc k) within =
+IsStrictlyIncreasing-cons : (m : ℕ) (ms : List ℕ) → All (λ n. m < n) ms → IsStrictlyIncreasing ms → IsStrictlyIncreasing (m ∷ ms)
+IsStrictlyIncreasing-cons m ms above rising zero within = above 0 0 (omega arith)
+IsStrictlyIncreasing-cons m ms above rising (suc k) within =
     let next : suc (k + 1) ≡ suc k + 1 = omega arith in
     subst (λ i. get_or ms k 0 < get_or (m ∷ ms) i 0) next (rising k (omega arith))
 
-pub increasing-members_from : (bits : ℕ → ℕ) (first count : ℕ) → IsStrictlyIncreasing (members_from bits first count)
-increasing-members_from bits first zero = λ k within. absurd (omega arith)
-increasing-members_from bits first (suc count) =
+pub IsStrictlyIncreasing-members_from : (bits : ℕ → ℕ) (first count : ℕ) → IsStrictlyIncreasing (members_from bits first count)
+IsStrictlyIncreasing-members_from bits first zero = λ k within. absurd (omega arith)
+IsStrictlyIncreasing-members_from bits first (suc count) =
     let later = members_from bits (first + 1) count in
-    let rest = increasing-members_from bits (first + 1) count in
+    let rest = IsStrictlyIncreasing-members_from bits (first + 1) count in
     let above : All (λ n. first < n) later = λ k d within. omega (arith, (All-members_from bits (first + 1) count k d within).0) in
     elim (cases_eq (bits first) 1) [
-      | inl set ↦ rw (members_from-set bits first count set) (increasing-cons first later above rest)
+      | inl set ↦ rw (members_from-set bits first count set) (IsStrictlyIncreasing-cons first later above rest)
       | inr clear ↦ rw (members_from-clear bits first count clear) rest
     ]
 

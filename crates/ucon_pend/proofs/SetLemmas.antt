@@ -7,13 +7,13 @@ use Rattle.std.proofs.lemmas.List.Kept.{AllPairs-from_increasing}
 use Rattle.ucon_pend.specs.Bits.{bit, SetsBit, IsLeastBit}
 use Rattle.ucon_pend.specs.NumberSet.{IsRising, with_member}
 use Rattle.ucon_pend.specs.Pend.{set_of}
-use Rattle.ucon_pend.proofs.MembersLemmas.{All-members_from, increasing-members_from, members_from-none, members_from-put, members_from-take}
+use Rattle.ucon_pend.proofs.MembersLemmas.{All-members_from, IsStrictlyIncreasing-members_from, members_from-none, members_from-put, members_from-take}
 use Rattle.ucon_pend.proofs.SummaryLemmas.{bit-clear_word}
 use Rattle.ucon_pend.proofs.WithMemberLemmas.{Contains-with_member}
 
 pub IsRising-set_of : (row : List ℕ) (limit : ℕ) → IsRising (set_of row limit)
 IsRising-set_of row limit = record {
-  rising = increasing-members_from (bit row) 0 limit;
+  rising = IsStrictlyIncreasing-members_from (bit row) 0 limit;
   below = λ k d within. omega (arith, (All-members_from (bit row) 0 limit k d within).1);
 }
 
@@ -59,5 +59,5 @@ module _ (row new : List ℕ) (limit n : ℕ) (past : (m : ℕ) → limit ≤ m 
   pub All-take : All (λ m. n < m) (set_of new limit).members
   All-take k d within =
       let left = (set_of new limit).members in
-      let rising : IsStrictlyIncreasing (n ∷ left) = subst IsStrictlyIncreasing members-take (increasing-members_from (bit row) 0 limit) in
+      let rising : IsStrictlyIncreasing (n ∷ left) = subst IsStrictlyIncreasing members-take (IsStrictlyIncreasing-members_from (bit row) 0 limit) in
       AllPairs-from_increasing (n ∷ left) rising 0 (suc k) d (omega arith) (omega arith)

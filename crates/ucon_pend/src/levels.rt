@@ -1,7 +1,7 @@
 //! Four levels: a row of bits, and above it three rows that say which words of the row below
 //! have a bit set.
 
-ghost use Rattle.std.specs.Prelude.{◌≡◌, ℕ, ◌+◌, ◌/◌, ◌<◌, length, replicate, IfOk, IfSome, IfNone};
+ghost use Rattle.std.specs.Prelude.{◌≡◌, ℕ, ◌+◌, ◌*◌, ◌/◌, ◌<◌, length, replicate, IfOk, IfSome, IfNone};
 ghost use Rattle.ucon_pend.specs.Bits.{bit, SetsBit, IsLeastBit};
 
 use crate::level::{Level, WORD};
@@ -9,13 +9,14 @@ use std::alloc::Global;
 use std::marker::Model;
 use ucon_base::NoMemory;
 
-/// A row of at most 64 * 64 * 64 words, seen as its words.
+/// A row of at most 64 * 64 * 64 words, seen as its words. `numbers` is the row, `words` has a
+/// bit for each word of `numbers`, `blocks` for each of `words`, and `top`, which is one word,
+/// for each of `blocks`.
 #[derive(Debug, Drop)]
 pub(crate) struct Levels {
     numbers: Level,
     words: Level,
     blocks: Level,
-    // One word.
     top: Level,
 }
 
@@ -34,7 +35,7 @@ impl Model for Levels {
 impl Levels {
     /// A row with a bit for each number up to `last`, all clear.
     pub(crate) fn new(alloc: Global, last: usize) -> Result<Levels, NoMemory>
-        requires { last < 16777216 }
+        requires { last < 64 * 64 * 64 * 64 }
         ensures { IfOk result (λ l. l ≡ replicate (last / 64 + 1) 0) }
     {
         let word = last / WORD;
@@ -61,6 +62,7 @@ impl Levels {
         Some(self.numbers.least_in(word))
     }
 
+    /// Sets a bit, and the bits above that tell of it.
     pub(crate) fn set(&mut self, n: usize)
         requires { n / 64 < length self.old }
         ensures { SetsBit self.old self.new n 1 }

@@ -31,10 +31,13 @@ impl Model for Pend {
 }
 
 impl Pend {
+    /// The greatest limit: as many bits as stand under one word at the top of four levels.
+    pub const MAX_LIMIT: u32 = 64 * 64 * 64 * 64;
+
     /// The empty set. It takes a bit for each number below the limit, and about a sixty-fourth
     /// as much for the levels above.
     pub fn new(alloc: Global, limit: u32) -> Result<Pend, NoMemory>
-        requires { limit ≤ 16777216 }
+        requires { limit ≤ Self.MAX_LIMIT }
         ensures { IfOk result (λ p. p ≡ record { limit = limit; members = [] }) }
     {
         let last = limit.saturating_sub(1) as usize;
@@ -114,7 +117,7 @@ mod tests {
     #[test]
     fn borders_of_the_levels(rt: HostRuntime) -> Result<(), Fail> {
         let borders = [0, 63, 64, 4095, 4096, 262143, 262144, 16777215];
-        let mut set = Pend::new(rt.alloc(), 16777216)?;
+        let mut set = Pend::new(rt.alloc(), Pend::MAX_LIMIT)?;
         put_all(&mut set, &borders);
         for n in borders {
             assert_eq!(rt; set.pop_least(), Some(n));
