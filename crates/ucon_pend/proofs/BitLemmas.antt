@@ -4,7 +4,7 @@ use Rattle.std.specs.Int.{bit_at, bit_not, trailing_zeros}
 use Rattle.std.proofs.lemmas.List.{get_or_default, get_or_past}
 use Rattle.std.proofs.lemmas.Bool.{cases_eq, cases_lt}
 use Rattle.std.proofs.lemmas.Nat.Bits.{bit_at-trailing_zeros, bit_at_set_same, bit_at_set_other, bit_at_clear_same, bit_at_clear_other}
-use Rattle.ucon_pend.specs.Bits.{bit, SetsBit}
+use Rattle.ucon_pend.specs.Bits.{bit, SetsBit, IsLeastIn}
 
 -- a word that is not 0 is one of the row's
 pub within_from_some : (row : List ℕ) (at : ℕ) → 0 < get_or row at 0 → at < length row
@@ -55,13 +55,13 @@ module _ (row : List ℕ) (at word : ℕ) (read : word ≡ get_or row at word) (
   bit-at_word : (n : ℕ) → n / 64 ≡ at → bit row n ≡ bit_at word (n % 64)
   bit-at_word n here = ap (λ i. bit_at (get_or row i 0) (n % 64)) here ∙ ap (λ w. bit_at w (n % 64)) (sym read_some)
 
-  pub bit-lowest : bit row (at * 64 + trailing_zeros w64 word) ≡ 1
-  bit-lowest =
+  pub IsLeastIn-lowest : IsLeastIn row at (at * 64 + trailing_zeros w64 word)
+  IsLeastIn-lowest =
       let lowest = bit_at-trailing_zeros w64 word (omega (arith, read_some)) fits in
       let index : (at * 64 + trailing_zeros w64 word) % 64 ≡ trailing_zeros w64 word = omega (arith, lowest.0) in
-      bit-at_word _ (omega (arith, lowest.0)) ∙ ap (bit_at word) index ∙ lowest.1
-
-  pub bit-below_lowest : (n : ℕ) → n / 64 ≡ at → n < at * 64 + trailing_zeros w64 word → bit row n ≡ 0
-  bit-below_lowest n here before =
-      let lowest = bit_at-trailing_zeros w64 word (omega (arith, read_some)) fits in
-      bit-at_word n here ∙ lowest.2 (n % 64) (omega arith)
+      let here : (at * 64 + trailing_zeros w64 word) / 64 ≡ at = omega (arith, lowest.0) in
+      record {
+        here = here;
+        set = bit-at_word _ here ∙ ap (bit_at word) index ∙ lowest.1;
+        lower = λ n same less. bit-at_word n same ∙ lowest.2 (n % 64) (omega arith);
+      }

@@ -4,7 +4,7 @@ use Rattle.std.specs.Int.{bit_at}
 use Rattle.std.proofs.lemmas.Bool.{cases_eq}
 use Rattle.std.proofs.lemmas.List.{get_or_past}
 use Rattle.std.proofs.lemmas.Nat.Bits.{bit_at-zero}
-use Rattle.ucon_pend.specs.Bits.{bit, SetsBit, IsLeastBit, Summarizes}
+use Rattle.ucon_pend.specs.Bits.{bit, SetsBit, IsLeastIn, IsLeastBit, Summarizes}
 
 -- a word that is 0 has no bit set
 pub bit-clear_word : (row : List ℕ) (n : ℕ) → get_or row (n / 64) 0 ≡ 0 → bit row n ≡ 0
@@ -26,13 +26,13 @@ module _ (lower upper : List ℕ) (sums : Summarizes lower upper) where
   bit-under_clear n clear = bit-clear_word lower n (omega (arith, sums.told (n / 64)))
 
   -- the least bit of the upper row leads to the least bit of the lower one
-  pub IsLeastBit-under : (i n : ℕ) → IsLeastBit upper i → n / 64 ≡ i → bit lower n ≡ 1 → ((m : ℕ) → m / 64 ≡ i → m < n → bit lower m ≡ 0) → IsLeastBit lower n
-  IsLeastBit-under i n least here set before = record {
-    set = set;
+  pub IsLeastBit-under : (i n : ℕ) → IsLeastBit upper i → IsLeastIn lower i n → IsLeastBit lower n
+  IsLeastBit-under i n above inside = record {
+    set = inside.set;
     lower = λ m less.
         elim (cases_eq (m / 64) i) [
-          | inl same ↦ before m same less
-          | inr apart ↦ bit-under_clear m (least.lower (m / 64) (omega arith))
+          | inl same ↦ inside.lower m same less
+          | inr apart ↦ bit-under_clear m (above.lower (m / 64) (omega (arith, inside.here)))
         ];
   }
 
@@ -59,6 +59,9 @@ module _ (lower upper : List ℕ) (sums : Summarizes lower upper) where
   Summarizes-left lower' n set down some =
       told-change lower' upper n 1 0 down (omega arith)
       (record { same_length = refl; changed = bit-upper_set n set; others = λ _ _. refl; other_words = λ _ _. refl })
+
+pub IsLeastBit-first_word : (row : List ℕ) (n : ℕ) → IsLeastIn row 0 n → IsLeastBit row n
+IsLeastBit-first_word row n inside = record { set = inside.set; lower = λ m less. inside.lower m (omega (arith, inside.here)) less }
 
 -- a row of one word
 module _ (row : List ℕ) (one_word : length row ≡ 1) where

@@ -13,6 +13,12 @@ pub record SetsBit (old new : List ℕ) (n value : ℕ) : Type 0 where
   pub others : (m : ℕ) → m ≢ n → bit new m ≡ bit old m
   pub other_words : (i : ℕ) → i ≢ n / 64 → slice_index new i ≡ slice_index old i
 
+-- bit n stands in this word and is set, and no lower one of the word is
+pub record IsLeastIn (row : List ℕ) (word n : ℕ) : Type 0 where
+  pub here : n / 64 ≡ word
+  pub set : bit row n ≡ 1
+  pub lower : (m : ℕ) → m / 64 ≡ word → m < n → bit row m ≡ 0
+
 -- bit n is set, and no lower one
 pub record IsLeastBit (row : List ℕ) (n : ℕ) : Type 0 where
   pub set : bit row n ≡ 1

@@ -1,7 +1,7 @@
 //! One level: a row of bits, in words of 64.
 
 ghost use Rattle.std.specs.Prelude.{◌≡◌, ◌↔◌, ℕ, ◌+◌, ◌/◌, ◌^◌, ◌<◌, length, replicate, slice_index, IfOk, IsTrue};
-ghost use Rattle.ucon_pend.specs.Bits.{bit, SetsBit};
+ghost use Rattle.ucon_pend.specs.Bits.{SetsBit, IsLeastIn};
 
 use std::alloc::Global;
 use std::marker::Model;
@@ -46,9 +46,7 @@ impl Level {
     pub(crate) fn least_in(&self, word: usize) -> usize
         requires set { 0 < slice_index self.now word }
         requires small { word < 2 ^ 32 }
-        ensures here { result / 64 ≡ word }
-        ensures set { bit self.now result ≡ 1 }
-        ensures least { (n : ℕ) → n / 64 ≡ word → n < result → bit self.now n ≡ 0 }
+        ensures { IsLeastIn self.now word result }
     {
         word * WORD + self.words[word].trailing_zeros() as usize
     }
