@@ -1,6 +1,6 @@
 //! A source and a sink in memory, some of whose calls fail.
 
-ghost use Rattle.std.specs.Prelude.{◌≡◌, ◌≤◌, ◌<◌, ◌++◌, List, ℕ, [], length, take, drop, min, Some, IfOk, OnErr, IsErr, IsTrue, is_err};
+ghost use Rattle.std.specs.Prelude.{◌≡◌, ◌≤◌, ◌<◌, ◌++◌, [], length, take, drop, min, Some, IfOk, OnErr, IsErr, IsTrue, is_err};
 ghost use Rattle.std.specs.Io.{ReadsAtMost};
 ghost use Rattle.std.specs.Io.KnownBytes.{ReadConsumes, WriteAppends};
 ghost use Rattle.ucon_flow.specs.Calls.{no_calls, fails_next};
