@@ -7,11 +7,13 @@ use Rattle.ucon_model.specs.Action.{Action, Trace, extended, followed_by}
 use Rattle.ucon_model.specs.OwnActions.{Own, refuse, tell, make, own}
 use Rattle.ucon_model.specs.Settle.{settle, revoked_in}
 
+-- own actions, and then the settling after them
 abbrev pub own_block : PlainPolicy → Trace → Own → List Action
 own_block P T (refuse r) = []
 own_block P T (tell reply) = []
 own_block P T (make head actions) = followed_by actions (settle P) T
 
+-- the reply to own actions
 abbrev pub own_reply : PlainPolicy → Trace → Own → PlainReply
 own_reply P T (refuse r) = refused r
 own_reply P T (tell reply) = reply

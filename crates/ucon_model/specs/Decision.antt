@@ -14,10 +14,12 @@ use Rattle.ucon_model.specs.Truth.{Readings, truth}
 abbrev pub right_named : List PlainRight → Bytes → Option PlainRight
 right_named rights name = find (λ r. bytes_eq name r.name) rights
 
+-- whether a phase is during the usage
 abbrev pub is_ongoing : Phase → Bool
 is_ongoing Ongoing = true
 is_ongoing Pre = false
 
+-- whether a test is an obligation
 abbrev pub is_duty : PlainTest → Bool
 is_duty (duty o) = true
 is_duty t = false
@@ -47,10 +49,12 @@ first_false_of P R sort row = option_and_then (λ right. first_false R row sort 
 abbrev pub failing : PlainPolicy → Readings → ℕ → Option Bytes
 failing P R n = option_and_then (first_false_of P R ongoing) (R.row n)
 
+-- denied by this label, if there is one
 abbrev pub denied_else : Option Bytes → Verdict → Verdict
 denied_else None v = v
 denied_else (Some label) v = Deny label
 
+-- waiting for this label, if there is one
 abbrev pub waiting_else : Option Bytes → Verdict → Verdict
 waiting_else None v = v
 waiting_else (Some label) v = Wait label

@@ -13,9 +13,11 @@ use Rattle.ucon_model.specs.Decision.{right_named, verdict, failing}
 use Rattle.ucon_model.specs.OwnActions.{names_act}
 use Rattle.ucon_model.specs.Settle.{fails_at}
 
+-- session n waits for its decision
 abbrev pub IsRequesting : Trace → ℕ → Type 0
 IsRequesting T n = IsSomeAnd (session T n) (λ row. row.state ≡ Requesting)
 
+-- session n is accessing
 abbrev pub IsAccessing : Trace → ℕ → Type 0
 IsAccessing T n = IsSomeAnd (session T n) (λ row. row.state ≡ Accessing)
 

@@ -39,6 +39,7 @@ abbrev pub recorded : List Answered → List (ℕ × Entry)
 recorded [] = []
 recorded (t ∷ told) = with_record t.line t.answer (recorded told)
 
+-- a line under its place, before the first one with a place that is not lower
 abbrev pub put_by_place : ℕ × Entry → List (ℕ × Entry) → List (ℕ × Entry)
 put_by_place x [] = x ∷ []
 put_by_place x (y ∷ ys) = if nat_le x.0 y.0 then x ∷ y ∷ ys else y ∷ put_by_place x ys
@@ -95,10 +96,12 @@ AreInOrder sees (t ∷ told) =
     Each (λ later. IsTrue (sees t.line.caller later.line.caller) → Saw t.answer later.answer × StaysStopped t.answer later.answer) told
     × AreInOrder sees told
 
+-- whether the answer is that the disk failed
 abbrev pub is_disk_fault : Answer → Bool
 is_disk_fault disk_fault = true
 is_disk_fault a = false
 
+-- whether the answer is that the disk had failed before
 abbrev pub is_stopped : Answer → Bool
 is_stopped stopped = true
 is_stopped a = false

@@ -41,6 +41,7 @@ after_action a (make head actions) = make head (a ∷ actions)
 
 -- ---- the decision on a session
 
+-- what a verdict on session n makes
 abbrev pub by_verdict : PlainPolicy → Trace → ℕ → Verdict → Own
 by_verdict P T n Permit = make (heads.Permitted n) (session_writes P n Before T ++ permit n ∷ [])
 by_verdict P T n (Deny label) = make (heads.Denied n label) (deny n label ∷ [])
@@ -56,14 +57,17 @@ decide P T n = by_verdict P T n (verdict P (readings P T) n)
 abbrev pub is_admin : Caller → Bool
 is_admin caller = nat_eq caller.0 0
 
+-- the refusal where an entity of a side is not there
 abbrev pub no_entity : Side → Refusal
 no_entity sides.Subject = NoSubject
 no_entity sides.Object = NoObject
 
+-- the refusal where a side is full
 abbrev pub full_entities : Side → Refusal
 full_entities sides.Subject = FullSubjects
 full_entities sides.Object = FullObjects
 
+-- the action that makes an entity of a side
 abbrev pub new_entity : Side → Bytes → Action
 new_entity sides.Subject name = subject name
 new_entity sides.Object name = object name
@@ -76,6 +80,7 @@ add_entity T caller side name =
     if nat_le 16384 (entities side T) then refuse (full_entities side) else
     make heads.Ok (new_entity side name ∷ [])
 
+-- client 0 writes a value to an attribute whose kind admits it
 abbrev pub set_attribute : PlainPolicy → Trace → Caller → Side → Bytes → Bytes → Value → Own
 set_attribute P T caller side name attr v =
     if not (is_admin caller) then refuse NotAdmin else
@@ -83,18 +88,21 @@ set_attribute P T caller side name attr v =
     option_map_or (λ d. if admits d.kind v then make heads.Ok (write side name attr v ∷ []) else refuse BadValue)
     (declared_attr P.attrs side attr) (refuse NoAttribute)
 
+-- client 0 gives a variable a value that its kind admits
 abbrev pub set_variable : PlainPolicy → Caller → Bytes → Value → Own
 set_variable P caller name v =
     if not (is_admin caller) then refuse NotAdmin else
     option_map_or (λ d. if admits d.kind v then make heads.Ok (env name v ∷ []) else refuse BadValue)
     (declared_env P.envs name) (refuse NoVariable)
 
+-- client 0 moves the tick, never back
 abbrev pub move_tick : Trace → Caller → ℤ → Own
 move_tick T caller t =
     if not (is_admin caller) then refuse NotAdmin else
     if int_lt t (tick_of T) then refuse TickBack else
     make heads.Ok (tick t ∷ [])
 
+-- the value of an attribute of an entity
 abbrev pub tell_value : PlainPolicy → Trace → Side → Bytes → Bytes → Own
 tell_value P T side name attr =
     if not (has_entity side name T) then refuse (no_entity side) else
@@ -137,10 +145,12 @@ abbrev pub with_own : Trace → Caller → ℕ → (SessionRow → Own) → Own
 with_own T caller n f =
     option_map_or (λ row. if nat_eq row.caller.0 caller.0 then f row else refuse NotYours) (session T n) (refuse NoSession)
 
+-- whether a session waits for its decision
 abbrev pub is_requesting : SessionState → Bool
 is_requesting Requesting = true
 is_requesting s = false
 
+-- a session of the caller's own that is requesting is decided afresh
 abbrev pub try_again : PlainPolicy → Trace → Caller → ℕ → Own
 try_again P T caller n = with_own T caller n (λ row.
     if not (is_requesting row.state) then refuse NotRequesting else
@@ -152,6 +162,7 @@ abbrev pub with_usage : Trace → Caller → ℕ → Own → Own
 with_usage T caller n done =
     with_own T caller n (λ row. if not (is_accessing (session T n)) then refuse NotAccessing else done)
 
+-- the usage ends, and its updates after the end run
 abbrev pub end_usage : PlainPolicy → Trace → ℕ → Own
 end_usage P T n = make (heads.Ended n) (ends n ∷ session_writes P n AfterEnd (ends n ∷ T))
 

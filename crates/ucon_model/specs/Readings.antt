@@ -36,6 +36,7 @@ entities side (a ∷ T) = entities side T
 
 -- ---- attributes and variables
 
+-- whether two sides are the same
 abbrev pub same_side : Side → Side → Bool
 same_side Subject Subject = true
 same_side Object Object = true
@@ -109,6 +110,7 @@ sessions [] = 0
 sessions (tries m c s r o ∷ T) = sessions T + 1
 sessions (a ∷ T) = sessions T
 
+-- whether a usage goes on
 abbrev pub is_accessing_state : SessionState → Bool
 is_accessing_state Accessing = true
 is_accessing_state s = false

@@ -12,22 +12,27 @@ use Rattle.ucon_model.specs.declared.session.SessionState.{SessionState}
 use Rattle.ucon_model.specs.declared.session.SessionState.TheVariants as states
 use Rattle.ucon_model.specs.Plain.{Bytes, PlainReply, refused, made, value_is, status}
 
+-- a text between its quotes
 abbrev pub quoted : Bytes → Bytes
 quoted t = 34 ∷ t ++ 34 ∷ []
 
+-- further texts of a set, each behind a comma
 abbrev pub more_texts : List Bytes → Bytes
 more_texts [] = []
 more_texts (t ∷ ts) = 44 ∷ quoted t ++ more_texts ts
 
+-- a set: its texts in order between braces
 abbrev pub set_spelling : List Bytes → Bytes
 set_spelling [] = codes "{}"
 set_spelling (t ∷ ts) = 123 ∷ quoted t ++ more_texts ts ++ 125 ∷ []
 
+-- the one spelling of a value
 abbrev pub value_spelling : Value → Bytes
 value_spelling (values.Int n) = signed_decimal n
 value_spelling (values.Text t) = quoted t
 value_spelling (values.Set ts) = set_spelling ts
 
+-- the text of each refusal
 abbrev pub refusal_words : Refusal → Bytes
 refusal_words NotAdmin = codes "not admin"
 refusal_words NoRight = codes "no right"
@@ -49,6 +54,7 @@ refusal_words FullActs = codes "full acts"
 refusal_words FullSessions = codes "full sessions"
 refusal_words FullAccessing = codes "full accessing"
 
+-- the word for each state of a session
 abbrev pub state_word : SessionState → Bytes
 state_word states.Requesting = codes "requesting"
 state_word states.Denied = codes "denied"
@@ -56,6 +62,7 @@ state_word states.Accessing = codes "accessing"
 state_word states.Revoked = codes "revoked"
 state_word states.Ended = codes "ended"
 
+-- what a reply begins with
 abbrev pub head_spelling : Head → Bytes
 head_spelling heads.Ok = codes "ok"
 head_spelling (heads.Permitted n) = codes "permitted " ++ decimal n
@@ -63,10 +70,12 @@ head_spelling (heads.Denied n label) = codes "denied " ++ decimal n ++ 32 ∷ la
 head_spelling (heads.Waiting n label) = codes "waiting " ++ decimal n ++ 32 ∷ label
 head_spelling (heads.Ended n) = codes "ended " ++ decimal n
 
+-- the revocations behind it, in order
 abbrev pub revoked_spelling : List Revoked → Bytes
 revoked_spelling [] = []
 revoked_spelling (r ∷ rs) = codes " revoked " ++ decimal r.session ++ 32 ∷ r.label ++ revoked_spelling rs
 
+-- the one text of a reply
 abbrev pub reply_spelling : PlainReply → Bytes
 reply_spelling (refused r) = refusal_words r
 reply_spelling (made head revoked) = head_spelling head ++ revoked_spelling revoked

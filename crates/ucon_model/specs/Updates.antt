@@ -15,6 +15,7 @@ use Rattle.ucon_model.specs.Readings.{declared_attr, session}
 use Rattle.ucon_model.specs.Truth.{readings, value_of}
 use Rattle.ucon_model.specs.Decision.{right_named}
 
+-- whether two times are the same
 abbrev pub same_when : When → When → Bool
 same_when Before Before = true
 same_when During During = true
@@ -27,6 +28,7 @@ abbrev pub entity_of : Side → SessionRow → Bytes
 entity_of Subject row = row.subject
 entity_of Object row = row.object
 
+-- a value as a declared attribute keeps it
 abbrev pub fitted_to : Option AttrDecl → Value → Value
 fitted_to None v = v
 fitted_to (Some d) v = fitted d.kind v
@@ -45,6 +47,7 @@ writes P row when [] T = []
 writes P row when (u ∷ us) T =
     if same_when when u.when then followed_by (write_of P row u T ∷ []) (writes P row when us) T else writes P row when us T
 
+-- the updates of a session's right
 abbrev pub updates_of : PlainPolicy → SessionRow → List PlainUpdate
 updates_of P row = option_map_or (λ right. right.updates) (right_named P.rights row.right) []
 

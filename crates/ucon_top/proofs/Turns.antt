@@ -1,5 +1,5 @@
 -- Revocations under a thin policy, one after the other.
-use Rattle.std.proofs.Common.{◌≡◌, ℕ, zero, suc, ◌-◌, ◌+◌, ◌<◌, List, [], ◌∷◌, ◌++◌, map, cond, Bool, true, false, refl, sym, ap, ◌∙◌, append_assoc, arith}
+use Rattle.std.proofs.Common.{◌≡◌, ℕ, zero, suc, ◌-◌, ◌+◌, ◌<◌, ◌≤◌, List, [], ◌∷◌, ◌++◌, map, cond, Bool, true, false, refl, sym, ap, ◌∙◌, append_assoc, arith}
 use Rattle.std.specs.Prelude.{Option, Some, None}
 use Rattle.std.specs.Option.{option_map_or}
 use Rattle.std.specs.Str.{bytes_eq}
@@ -12,7 +12,8 @@ use Rattle.ucon_model.specs.Action.{Action, Trace, revoke, extended, followed_by
 use Rattle.ucon_model.specs.Readings.{session}
 use Rattle.ucon_model.specs.Decision.{right_named}
 use Rattle.ucon_model.specs.Updates.{writes, updates_of}
-use Rattle.ucon_model.specs.Settle.{settle_within, least_failing, revocation, revoked_in}
+use Rattle.ucon_model.specs.Settle.{settle_within, settle, least_failing, revocation, revoked_in}
+use Rattle.ucon_model.proofs.Settling.{least_failing-settle}
 use Rattle.ucon_top.specs.declared.thin.ThinRight.{ThinRight}
 use Rattle.ucon_top.specs.declared.thin.ThinUpdate.{ThinUpdate}
 use Rattle.ucon_top.specs.declared.thin.ThinPolicy.{ThinPolicy}
@@ -88,3 +89,10 @@ all_revoked P T k front all none more =
 -- and the trace is the one that is settled
 pub all_extended : (P : PlainPolicy) (T U : Trace) (k : ℕ) → least_failing P T ≡ None → extended T (settle_within k P T) ≡ U → T ≡ U
 all_extended P T U k none more = sym (ap (extended T) (settled_now P T k none)) ∙ more
+
+-- where all turns are taken nobody fails
+pub nobody_fails : (P : PlainPolicy) (T U : Trace) (turns i : ℕ) → turns ≤ i
+    → extended U (settle_within (turns - i) P U) ≡ extended T (settle P T) → least_failing P U ≡ None
+nobody_fails P T U turns i le more =
+    let none : turns - i ≡ 0 = omega arith in
+    ap (least_failing P) (ap (λ (k : ℕ). extended U (settle_within k P U)) (sym none) ∙ more) ∙ least_failing-settle P T

@@ -1,5 +1,5 @@
 -- How a run ends.
-use Rattle.std.specs.Prelude.{◌≡◌, ◌⊎◌, ℕ, ◌<◌, ◌≤◌, IsSome, List, length, None, codes, ◌∷◌, []}
+use Rattle.std.specs.Prelude.{◌≡◌, ◌⊎◌, ℕ, ◌<◌, ◌≤◌, IsSome, List, length, None, codes, ◌∷◌, ◌++◌, []}
 use Rattle.ucon_model.specs.Plain.{Bytes}
 use Rattle.ucon_top.specs.Document.{document_of}
 use Rattle.ucon_top.specs.declared.outcome.Outcome.{Outcome}
@@ -13,6 +13,15 @@ status_of SourceFault = 4
 status_of SinkFault = 5
 status_of NoMemory = 9
 status_of NotBuilt = 12
+
+-- the line that is printed of an outcome, where not all is done
+abbrev pub fault_words : Outcome → Bytes
+fault_words Done = []
+fault_words Usage = codes "ucon: usage" ++ 10 ∷ []
+fault_words SourceFault = codes "ucon: source fault" ++ 10 ∷ []
+fault_words SinkFault = codes "ucon: sink fault" ++ 10 ∷ []
+fault_words NoMemory = codes "ucon: no memory" ++ 10 ∷ []
+fault_words NotBuilt = codes "ucon: not built" ++ 10 ∷ []
 
 -- the words of the one form that is built
 abbrev pub trial_words : List Bytes

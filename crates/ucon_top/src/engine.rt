@@ -1,8 +1,9 @@
 //! A thin policy with what has happened under it.
 
-ghost use Rattle.std.specs.Prelude.{◌≡◌, ◌≤◌, [], IfOk, OnOk, OnErr};
+ghost use Rattle.std.specs.Prelude.{◌≡◌, ◌≤◌, [], None, IfOk, OnOk, OnErr};
 ghost use Rattle.ucon_model.specs.Readings.{sessions};
 ghost use Rattle.ucon_model.specs.Block.{after, reply};
+ghost use Rattle.ucon_model.specs.Settle.{least_failing};
 ghost use Rattle.ucon_model.specs.Views.{reply_of};
 ghost use Rattle.ucon_top.specs.ThinReply.{IsThinReply};
 ghost use Rattle.ucon_top.specs.Thin.{trace_of, policy_of};
@@ -15,13 +16,15 @@ use std::alloc::Global;
 use ucon_base::NoMemory;
 use ucon_model::{Caller, Command, Reply};
 
-/// It keeps all that has happened, and reads it back at each question: the plain program of the definitions.
+/// It keeps all that has happened, and reads it back at each question: the plain program of the definitions. Between two steps no
+/// accessing session fails.
 #[derive(Drop)]
 pub struct Engine {
     alloc: Global,
     pub policy: ThinPolicy,
     pub actions: Vec<Action>,
     ghost few: { sessions (trace_of actions.items) ≤ 1048576 },
+    ghost settled: { least_failing (policy_of policy) (trace_of actions.items) ≡ None },
 }
 
 impl Engine {

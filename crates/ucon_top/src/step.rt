@@ -1,6 +1,6 @@
 //! One step: a command's own actions, and the recheck of all accessing sessions.
 
-ghost use Rattle.std.specs.Prelude.{◌≡◌, ◌≤◌, [], ◌∷◌, ◌++◌, map, IfOk, OnOk, IsTrue, if◌then◌else◌};
+ghost use Rattle.std.specs.Prelude.{◌≡◌, ◌≤◌, [], ◌∷◌, ◌++◌, map, None, IfOk, OnOk, IsTrue, if◌then◌else◌};
 ghost use Rattle.ucon_base.specs.declared.value.Kind.TheVariants.{Int as IntKind};
 ghost use Rattle.ucon_base.specs.declared.value.Value.TheVariants.{Int as IntValue};
 ghost use Rattle.ucon_model.specs.declared.policy.When.TheVariants.{Before};
@@ -12,7 +12,7 @@ ghost use Rattle.ucon_model.specs.Action.{write, permit, revoke, extended};
 ghost use Rattle.ucon_model.specs.History.{changes};
 ghost use Rattle.ucon_model.specs.OwnActions.{refuse, make, after_action, is_admin, no_entity, full_entities, new_entity, own, add_entity, set_attribute, tell_value, try_right, decide};
 ghost use Rattle.ucon_model.specs.Updates.{entity_of, result as result_of, writes, session_writes};
-ghost use Rattle.ucon_model.specs.Settle.{settle, revoked_in};
+ghost use Rattle.ucon_model.specs.Settle.{least_failing, settle, revoked_in};
 ghost use Rattle.ucon_model.specs.Block.{after, reply};
 ghost use Rattle.ucon_model.specs.Views.{reply_of};
 ghost use Rattle.ucon_top.specs.ThinReply.{IsThinReply};
@@ -371,6 +371,7 @@ fn settle(
     ensures trace { OnOk result (trace_of actions.new.items ≡ extended (trace_of actions.old.items) (settle (policy_of policy.now) (trace_of actions.old.items))) }
     ensures revoked { IfOk result (λ revoked. revoked.items ≡ revoked_in (settle (policy_of policy.now) (trace_of actions.old.items))) }
     ensures few { OnOk result (sessions (trace_of actions.new.items) ≤ 1048576) }
+    ensures settled { OnOk result (least_failing (policy_of policy.now) (trace_of actions.new.items) ≡ None) }
 {
     let mut revoked = Rows::new(alloc);
     let turns = accessing(actions);
@@ -397,6 +398,7 @@ pub fn take_step(
     ensures trace { IfOk result (λ r. IsTrue (changes (reply_of r)) → trace_of actions.new.items ≡ after (policy_of policy.now) (trace_of actions.old.items) caller command.now) }
     ensures thin { IfOk result IsThinReply }
     ensures few { IfOk result (λ r. IsTrue (changes (reply_of r)) → sessions (trace_of actions.new.items) ≤ 1048576) }
+    ensures settled { IfOk result (λ r. IsTrue (changes (reply_of r)) → least_failing (policy_of policy.now) (trace_of actions.new.items) ≡ None) }
 {
     match own_actions(policy, actions, caller, command)? {
         Own::Refuse(r) => Ok(Reply::Refused(r)),

@@ -2,7 +2,7 @@ use Rattle.std.proofs.Common.{◌≡◌, sym, ◌∙◌}
 use Rattle.std.specs.Prelude.{None, Some}
 use Rattle.ucon_model.specs.Settle.{least_failing}
 use Rattle.ucon_top.specs.Thin.{trace_of, policy_of}
-use Rattle.ucon_top.proofs.Turns.{extended-turn, revoked_in-turn, all_revoked, all_extended}
+use Rattle.ucon_top.proofs.Turns.{extended-turn, revoked_in-turn, all_revoked, all_extended, nobody_fails}
 use Rattle.ucon_top.proofs.step.settle.Goals as goal
 
 pub returns-in-None-clause-trace : goal.returns-in-None-clause-trace
@@ -27,3 +27,7 @@ turns-preserved c =
           (revoked_in-turn c.args.policy.now T T' c.accessing-turns.result c.turns.counter found.0 found.1 c.turns.revoked.items c.turns-test.true least c.in_ok-revoke-in-Some.ensures.trace ∙ c.turns.invariant.revoked);
       few = rw c.in_ok-revoke-in-Some.ensures.trace c.turns.invariant.few;
     }
+
+pub returns-clause-settled : goal.returns-clause-settled
+returns-clause-settled c =
+    nobody_fails _ (trace_of c.args.actions.now.items) _ c.accessing-turns.result c.turns.counter c.turns-test.false c.turns.invariant.trace
