@@ -21,3 +21,7 @@ pub mod OwnCases
 pub mod OwnSteps
 pub mod SettlingSteps
 pub mod Histories
+pub mod Sound
+pub mod LegalWrites
+pub mod LegalOwn
+pub mod LegalBlocks

@@ -36,7 +36,7 @@ not_that_one : (same : Bool) (row : SessionRow) (o : Option SessionRow) → same
 not_that_one true row o off e = absurd cc
 not_that_one false row o off e = e
 
-numbered-step : (P : PlainPolicy) (T : Trace) (a : Action) → IsNumbered T → IsStep P T a → IsNumbered (a ∷ T)
+pub numbered-step : (P : PlainPolicy) (T : Trace) (a : Action) → IsNumbered T → IsStep P T a → IsNumbered (a ∷ T)
 numbered-step P T (tries m c s r o) h next = record {
   zeroth = not_that_one (nat_eq 0 m) _ (session T 0) (ne_eqb 0 m (λ e. omega (arith, e, next))) h.zeroth;
   beyond = λ n le. not_that_one (nat_eq n m) _ (session T n) (ne_eqb n m (λ e. omega (arith, e, next, le))) (h.beyond n (omega (arith, le)));

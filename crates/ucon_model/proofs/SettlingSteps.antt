@@ -25,7 +25,7 @@ accessing_state Denied h = absurd cc
 accessing_state Revoked h = absurd cc
 accessing_state Ended h = absurd cc
 
-accessing_row : (o : Option SessionRow) → is_accessing o ≡ true → IsSomeAnd o (λ row. row.state ≡ Accessing)
+pub accessing_row : (o : Option SessionRow) → is_accessing o ≡ true → IsSomeAnd o (λ row. row.state ≡ Accessing)
 accessing_row None h = absurd cc
 accessing_row (Some row) h = accessing_state row.state h
 
@@ -71,7 +71,7 @@ least_from_lem P T a (suc k) f e = least_by P T a k f (fails_at P T a) refl (lea
 
 -- ---- the revocation that is chosen
 
-chosen_is_legal : (P : PlainPolicy) (T : Trace) (f : ℕ × Bytes) → IsNumbered T → least_failing P T ≡ Some f → IsLegal P T (revoke f.0 f.1)
+pub chosen_is_legal : (P : PlainPolicy) (T : Trace) (f : ℕ × Bytes) → IsNumbered T → least_failing P T ≡ Some f → IsLegal P T (revoke f.0 f.1)
 chosen_is_legal P T f h e =
     let least = least_from_lem P T 1 (sessions T) f e in
     let both = both_hold (is_accessing (session T f.0)) (failing P (readings P T) f.0) f.1 least.fails in (

@@ -13,5 +13,6 @@ pub mod Settle
 pub mod Block
 pub mod History
 pub mod LegalRun
+pub mod Fitting
 pub mod Output
 pub mod Document
