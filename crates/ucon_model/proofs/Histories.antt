@@ -1,63 +1,99 @@
--- What holds of the trace of every history.
-use Rattle.std.proofs.Common.{◌≡◌, ℕ, [], ◌∷◌, refl, sym, subst}
-use Rattle.std.specs.Prelude.{None}
+-- What holds after every history: each action of a block is allowed, and no accessing session fails.
+use Rattle.std.proofs.Common.{◌≡◌, ℕ, zero, suc, [], ◌∷◌, refl, sym, subst}
+use Rattle.std.specs.Prelude.{Option, Some, None}
+use Rattle.std.specs.Option.{option_map_or}
 use Rattle.ucon_model.specs.declared.command.Caller.{Caller}
 use Rattle.ucon_model.specs.declared.command.Command.{Command}
-use Rattle.ucon_model.specs.Plain.{PlainPolicy}
-use Rattle.ucon_model.specs.Action.{Trace, extended}
+use Rattle.ucon_model.specs.declared.policy.When.TheVariants.{AfterRevoke}
+use Rattle.ucon_model.specs.Plain.{Bytes, PlainPolicy}
+use Rattle.ucon_model.specs.Action.{Trace, revoke, extended, followed_by}
+use Rattle.ucon_model.specs.Readings.{accessing}
 use Rattle.ucon_model.specs.OwnActions.{Own, refuse, tell, make, own}
-use Rattle.ucon_model.specs.Settle.{fails_at, settle}
+use Rattle.ucon_model.specs.Settle.{fails_at, least_failing, revocation, settle_within, settle}
+use Rattle.ucon_model.specs.Legal.{IsLegal, AreLegal, RevocationsAreLegal}
+use Rattle.ucon_model.specs.Fitting.{UpdatesFit}
 use Rattle.ucon_model.specs.Block.{own_block, block, after}
 use Rattle.ucon_model.specs.History.{History, trace_from, trace}
-use Rattle.ucon_model.specs.Legal.{RevocationsAreLegal}
 use Rattle.ucon_model.proofs.Extending.{extended-append}
 use Rattle.ucon_model.proofs.Settling.{least_failing-settle}
-use Rattle.ucon_model.proofs.Numbering.{IsNumbered, AreSteps, numbered-extended, steps-append, revocations-steps}
+use Rattle.ucon_model.proofs.Allowed.{AreAllowed, allowed-append, legal-allowed, revocations-allowed, IsSound, sound-empty, sound-step, sound-extended}
+use Rattle.ucon_model.proofs.AllowedWrites.{allowed-session_writes}
+use Rattle.ucon_model.proofs.AllowedOwn.{allowed-own}
+use Rattle.ucon_model.proofs.LeastFailing.{chosen_is_legal, nobody_fails}
 use Rattle.ucon_model.proofs.OwnCases.{OwnHas, makes}
-use Rattle.ucon_model.proofs.OwnSteps.{steps-own}
-use Rattle.ucon_model.proofs.SettlingSteps.{steps-settle, nobody_fails}
 
--- sessions are numbered from 1, and no accessing session fails
+-- ---- settling
+
+allowed_revocation : (P : PlainPolicy) (T : Trace) (f : ℕ × Bytes) → IsSound P T → least_failing P T ≡ Some f → AreAllowed P T (revocation P T f)
+allowed_revocation P T f h e =
+    let legal : IsLegal P T (revoke f.0 f.1) = chosen_is_legal P T f h.numbered e in
+    (legal, allowed-session_writes P f.0 AfterRevoke (revoke f.0 f.1 ∷ T) (sound-step P T (revoke f.0 f.1) h legal))
+
+by_turn : (P : PlainPolicy) (T : Trace) (k : ℕ) (o : Option (ℕ × Bytes)) → least_failing P T ≡ o → IsSound P T
+    → ((U : Trace) → IsSound P U → AreAllowed P U (settle_within k P U))
+    → AreAllowed P T (option_map_or (λ f. followed_by (revocation P T f) (settle_within k P) T) o [])
+by_turn P T k None is h rest = tt
+by_turn P T k (Some f) is h rest =
+    let first : AreAllowed P T (revocation P T f) = allowed_revocation P T f h is in
+    let U : Trace = extended T (revocation P T f) in
+    allowed-append P T (revocation P T f) (settle_within k P U) first (rest U (sound-extended P T (revocation P T f) h first))
+
+allowed_within : (k : ℕ) (P : PlainPolicy) (T : Trace) → IsSound P T → AreAllowed P T (settle_within k P T)
+allowed_within zero P T h = tt
+allowed_within (suc k) P T h = by_turn P T k (least_failing P T) refl h (allowed_within k P)
+
+allowed-settle : (P : PlainPolicy) (T : Trace) → IsSound P T → AreAllowed P T (settle P T)
+allowed-settle P T h = allowed_within (accessing T) P T h
+
+-- ---- blocks
+
+allowed_own_block : (P : PlainPolicy) (T : Trace) (o : Own) → IsSound P T → OwnHas (AreAllowed P T) o → AreAllowed P T (own_block P T o)
+allowed_own_block P T (refuse r) h allowed = tt
+allowed_own_block P T (tell reply) h allowed = tt
+allowed_own_block P T (make head actions) h (makes allowed) =
+    let U : Trace = extended T actions in
+    allowed-append P T actions (settle P U) allowed (allowed-settle P U (sound-extended P T actions h allowed))
+
+allowed-block : (P : PlainPolicy) (T : Trace) (caller : Caller) (c : Command) → IsSound P T → AreAllowed P T (block P T caller c)
+allowed-block P T caller c h = allowed_own_block P T (own P T caller c) h (allowed-own P T caller c h)
+
+-- ---- histories
+
+-- a sound trace after which nobody fails
 record IsSettled (P : PlainPolicy) (T : Trace) : Type 0 where
-  numbered : IsNumbered T
+  sound : IsSound P T
   nobody : (n : ℕ) → fails_at P T n ≡ None
 
-own_block_steps : (P : PlainPolicy) (T : Trace) (o : Own) → IsNumbered T → OwnHas (AreSteps P T) o → AreSteps P T (own_block P T o)
-own_block_steps P T (refuse r) h steps = tt
-own_block_steps P T (tell reply) h steps = tt
-own_block_steps P T (make head actions) h (makes steps) =
+nobody_after : (P : PlainPolicy) (T : Trace) (o : Own) → IsSettled P T → OwnHas (AreAllowed P T) o → (n : ℕ) → fails_at P (extended T (own_block P T o)) n ≡ None
+nobody_after P T (refuse r) h allowed = h.nobody
+nobody_after P T (tell reply) h allowed = h.nobody
+nobody_after P T (make head actions) h (makes allowed) =
     let U : Trace = extended T actions in
-    steps-append P T actions (settle P U) steps (steps-settle P U (numbered-extended P T actions h steps))
-
-block_steps : (P : PlainPolicy) (T : Trace) (caller : Caller) (c : Command) → IsNumbered T → AreSteps P T (block P T caller c)
-block_steps P T caller c h = own_block_steps P T (own P T caller c) h (steps-own P T caller c)
-
--- after a block nobody fails, where nobody did before it
-settled_by : (P : PlainPolicy) (T : Trace) (o : Own) → IsSettled P T → OwnHas (AreSteps P T) o → IsSettled P (extended T (own_block P T o))
-settled_by P T (refuse r) h steps = h
-settled_by P T (tell reply) h steps = h
-settled_by P T (make head actions) h (makes steps) =
-    let U : Trace = extended T actions in
-    let before : IsNumbered U = numbered-extended P T actions h.numbered steps in
-    let numbered : IsNumbered (extended U (settle P U)) = numbered-extended P U (settle P U) before (steps-settle P U before) in
-    let settled : IsSettled P (extended U (settle P U)) = record { numbered = numbered; nobody = nobody_fails P (extended U (settle P U)) numbered (least_failing-settle P U) } in
-    subst (IsSettled P) (sym (extended-append T actions (settle P U))) settled
+    let sound : IsSound P U = sound-extended P T actions h.sound allowed in
+    let after : IsSound P (extended U (settle P U)) = sound-extended P U (settle P U) sound (allowed-settle P U sound) in
+    subst (λ (V : Trace). (n : ℕ) → fails_at P V n ≡ None) (sym (extended-append T actions (settle P U)))
+    (nobody_fails P (extended U (settle P U)) after.numbered (least_failing-settle P U))
 
 settled_from : (P : PlainPolicy) (T : Trace) (H : History) → IsSettled P T → IsSettled P (trace_from P T H)
 settled_from P T [] h = h
-settled_from P T (e ∷ H) h = settled_from P (after P T e.caller e.command) H (settled_by P T (own P T e.caller e.command) h (steps-own P T e.caller e.command))
+settled_from P T (e ∷ H) h = settled_from P (after P T e.caller e.command) H (record {
+  sound = sound-extended P T (block P T e.caller e.command) h.sound (allowed-block P T e.caller e.command h.sound);
+  nobody = nobody_after P T (own P T e.caller e.command) h (allowed-own P T e.caller e.command h.sound);
+})
 
 settled : (P : PlainPolicy) (H : History) → IsSettled P (trace P H)
-settled P H = settled_from P [] H (record { numbered = record { zeroth = refl; beyond = λ n lt. refl }; nobody = λ n. refl })
+settled P H = settled_from P [] H (record { sound = sound-empty P; nobody = λ n. refl })
 
-pub history_is_numbered : (P : PlainPolicy) (H : History) → IsNumbered (trace P H)
-history_is_numbered P H = (settled P H).numbered
+allowed_after : (P : PlainPolicy) (H : History) (caller : Caller) (c : Command) → AreAllowed P (trace P H) (block P (trace P H) caller c)
+allowed_after P H caller c = allowed-block P (trace P H) caller c (settled P H).sound
 
-pub history_is_settled : (P : PlainPolicy) (H : History) (n : ℕ) → fails_at P (trace P H) n ≡ None
-history_is_settled P H = (settled P H).nobody
+-- ---- the laws
 
-pub history_revokes_legally : (P : PlainPolicy) (H : History) (caller : Caller) (c : Command)
-    → RevocationsAreLegal P (trace P H) (block P (trace P H) caller c)
-history_revokes_legally P H caller c =
-    let T : Trace = trace P H in
-    revocations-steps P T (block P T caller c) (block_steps P T caller c (history_is_numbered P H))
+pub nobody_fails_after : (P : PlainPolicy) (H : History) (n : ℕ) → fails_at P (trace P H) n ≡ None
+nobody_fails_after P H = (settled P H).nobody
+
+pub legal_revocations_after : (P : PlainPolicy) (H : History) (caller : Caller) (c : Command) → RevocationsAreLegal P (trace P H) (block P (trace P H) caller c)
+legal_revocations_after P H caller c = revocations-allowed P (trace P H) (block P (trace P H) caller c) (allowed_after P H caller c)
+
+pub legal_actions_after : (P : PlainPolicy) → UpdatesFit P → (H : History) (caller : Caller) (c : Command) → AreLegal P (trace P H) (block P (trace P H) caller c)
+legal_actions_after P fits H caller c = legal-allowed P (trace P H) (block P (trace P H) caller c) fits (allowed_after P H caller c)

@@ -16,12 +16,9 @@ pub mod Clamps
 pub mod FullSet
 pub mod NotYours
 pub mod Ticks
-pub mod Numbering
 pub mod OwnCases
-pub mod OwnSteps
-pub mod SettlingSteps
+pub mod Allowed
+pub mod AllowedWrites
+pub mod LeastFailing
+pub mod AllowedOwn
 pub mod Histories
-pub mod Sound
-pub mod LegalWrites
-pub mod LegalOwn
-pub mod LegalBlocks

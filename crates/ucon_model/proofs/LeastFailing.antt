@@ -1,20 +1,19 @@
--- Who is revoked: the least accessing session that fails, by its first false ongoing predicate.
-use Rattle.std.proofs.Common.{◌≡◌, ◌⊎◌, inl, inr, ℕ, zero, suc, ◌+◌, ◌<◌, ◌≤◌, Bool, true, false, cond, [], ◌∷◌, refl, ap, subst, arith}
+-- The least accessing session that fails: its revocation is legal, and where there is none nobody fails.
+use Rattle.std.proofs.Common.{◌≡◌, ◌⊎◌, inl, inr, ℕ, zero, suc, ◌+◌, ◌<◌, ◌≤◌, Bool, true, false, cond, refl, ap, subst, arith}
 use Rattle.std.specs.Prelude.{◌≢◌, nat_eq, nat_le, Option, Some, None, IsSomeAnd}
 use Rattle.std.proofs.lemmas.Bool.Decides.{leb_tells, eqb_tells}
 use Rattle.std.specs.Option.{option_map_or}
-use Rattle.ucon_model.specs.declared.policy.When.TheVariants.{AfterRevoke}
 use Rattle.ucon_model.specs.declared.session.SessionRow.{SessionRow}
 use Rattle.ucon_model.specs.declared.session.SessionState.{SessionState}
 use Rattle.ucon_model.specs.declared.session.SessionState.TheVariants.{Requesting, Denied, Accessing, Revoked, Ended}
 use Rattle.ucon_model.specs.Plain.{Bytes, PlainPolicy}
-use Rattle.ucon_model.specs.Action.{Trace, revoke, extended, followed_by}
-use Rattle.ucon_model.specs.Readings.{session, sessions, is_accessing_state, is_accessing, accessing}
+use Rattle.ucon_model.specs.Action.{Trace, revoke}
+use Rattle.ucon_model.specs.Readings.{session, sessions, is_accessing_state, is_accessing}
 use Rattle.ucon_model.specs.Truth.{readings}
 use Rattle.ucon_model.specs.Decision.{failing}
 use Rattle.ucon_model.specs.Legal.{IsLegal}
-use Rattle.ucon_model.specs.Settle.{fails_at, least_from, least_failing, revocation, settle_within, settle}
-use Rattle.ucon_model.proofs.Numbering.{IsNumbered, AreSteps, numbered-extended, steps-append, steps-session_writes}
+use Rattle.ucon_model.specs.Settle.{fails_at, least_from, least_failing}
+use Rattle.ucon_model.proofs.Allowed.{IsNumbered}
 
 -- ---- what failing means
 
@@ -79,26 +78,6 @@ chosen_is_legal P T f h e =
       both.1,
       λ m lt. from_here (λ m. m < f.0 → fails_at P T m ≡ None) 0 m (λ _. not_there P T 0 h.zeroth) (λ le lt. least.before m le lt) (omega arith) lt,
     )
-
-revocation_steps : (P : PlainPolicy) (T : Trace) (f : ℕ × Bytes) → IsNumbered T → least_failing P T ≡ Some f → AreSteps P T (revocation P T f)
-revocation_steps P T f h e = (chosen_is_legal P T f h e, steps-session_writes P f.0 AfterRevoke (revoke f.0 f.1 ∷ T))
-
-by_turn : (P : PlainPolicy) (T : Trace) (k : ℕ) (o : Option (ℕ × Bytes)) → least_failing P T ≡ o → IsNumbered T
-    → ((U : Trace) → IsNumbered U → AreSteps P U (settle_within k P U))
-    → AreSteps P T (option_map_or (λ f. followed_by (revocation P T f) (settle_within k P) T) o [])
-by_turn P T k None is h rest = tt
-by_turn P T k (Some f) is h rest =
-    let first : AreSteps P T (revocation P T f) = revocation_steps P T f h is in
-    let U : Trace = extended T (revocation P T f) in
-    steps-append P T (revocation P T f) (settle_within k P U) first (rest U (numbered-extended P T (revocation P T f) h first))
-
-steps_within : (k : ℕ) (P : PlainPolicy) (T : Trace) → IsNumbered T → AreSteps P T (settle_within k P T)
-steps_within zero P T h = tt
-steps_within (suc k) P T h = by_turn P T k (least_failing P T) refl h (steps_within k P)
-
--- each revocation of a settling is legal
-pub steps-settle : (P : PlainPolicy) (T : Trace) → IsNumbered T → AreSteps P T (settle P T)
-steps-settle P T h = steps_within (accessing T) P T h
 
 -- ---- where nobody is found, nobody fails
 
