@@ -22,3 +22,4 @@ pub mod AllowedWrites
 pub mod LeastFailing
 pub mod AllowedOwn
 pub mod Histories
+pub mod UpdatesOfThreeUsers

@@ -9,22 +9,21 @@ use Rattle.ucon_model.specs.declared.formula.Op.TheVariants.{Le}
 use Rattle.ucon_model.specs.declared.policy.Phase.TheVariants.{Ongoing}
 use Rattle.ucon_model.specs.declared.policy.When.TheVariants.{Before, AfterEnd, AfterRevoke}
 use Rattle.ucon_model.specs.declared.reply.Head.TheVariants.{Ok, Permitted}
-use Rattle.ucon_model.specs.Plain.{Bytes, PlainPolicy, plus, minus, compare, authorisation, made, value_is}
+use Rattle.ucon_model.specs.Plain.{Bytes, PlainRight, PlainPolicy, plus, minus, compare, authorisation, made, value_is}
 use Rattle.ucon_model.specs.History.{serial}
 use Rattle.ucon_model.proofs.Scenes.{by, int_attr, int, object's, revoked}
 
-abbrev pub capped : PlainPolicy
-capped = record {
-  attrs = int_attr Object (codes "users") 0 1000 0 ∷ int_attr Object (codes "most") 0 1000 3 ∷ [];
-  envs = [];
-  rights = record {
-    name = codes "use";
-    preds = record { phase = Ongoing; label = codes "cap"; test = authorisation (compare Le (object's (codes "users")) (object's (codes "most"))) } ∷ [];
-    updates = record { when = Before; side = Object; attr = codes "users"; value = plus (object's (codes "users")) (int 1) }
-        ∷ record { when = AfterEnd; side = Object; attr = codes "users"; value = minus (object's (codes "users")) (int 1) }
-        ∷ record { when = AfterRevoke; side = Object; attr = codes "users"; value = minus (object's (codes "users")) (int 1) } ∷ [];
-  } ∷ [];
+abbrev pub use_right : PlainRight
+use_right = record {
+  name = codes "use";
+  preds = record { phase = Ongoing; label = codes "cap"; test = authorisation (compare Le (object's (codes "users")) (object's (codes "most"))) } ∷ [];
+  updates = record { when = Before; side = Object; attr = codes "users"; value = plus (object's (codes "users")) (int 1) }
+      ∷ record { when = AfterEnd; side = Object; attr = codes "users"; value = minus (object's (codes "users")) (int 1) }
+      ∷ record { when = AfterRevoke; side = Object; attr = codes "users"; value = minus (object's (codes "users")) (int 1) } ∷ [];
 }
+
+abbrev pub capped : PlainPolicy
+capped = record { attrs = int_attr Object (codes "users") 0 1000 0 ∷ int_attr Object (codes "most") 0 1000 3 ∷ []; envs = []; rights = use_right ∷ [] }
 
 abbrev scene : List Entry
 scene = by 0 (commands.Subject (codes "a")) ∷ by 0 (commands.Subject (codes "b")) ∷ by 0 (commands.Subject (codes "c"))
