@@ -24,7 +24,7 @@ use Rattle.ucon_model.proofs.OwnCases.{OwnHas, makes}
 
 -- ---- settling
 
-allowed_revocation : (P : PlainPolicy) (T : Trace) (f : ℕ × Bytes) → IsSound P T → least_failing P T ≡ Some f → AreAllowed P T (revocation P T f)
+pub allowed_revocation : (P : PlainPolicy) (T : Trace) (f : ℕ × Bytes) → IsSound P T → least_failing P T ≡ Some f → AreAllowed P T (revocation P T f)
 allowed_revocation P T f h e =
     let legal : IsLegal P T (revoke f.0 f.1) = chosen_is_legal P T f h.numbered e in
     (legal, allowed-session_writes P f.0 AfterRevoke (revoke f.0 f.1 ∷ T) (sound-step P T (revoke f.0 f.1) h legal))
@@ -84,8 +84,11 @@ settled_from P T (e ∷ H) h = settled_from P (after P T e.caller e.command) H (
 settled : (P : PlainPolicy) (H : History) → IsSettled P (trace P H)
 settled P H = settled_from P [] H (record { sound = sound-empty P; nobody = λ n. refl })
 
+pub sound_after : (P : PlainPolicy) (H : History) → IsSound P (trace P H)
+sound_after P H = (settled P H).sound
+
 allowed_after : (P : PlainPolicy) (H : History) (caller : Caller) (c : Command) → AreAllowed P (trace P H) (block P (trace P H) caller c)
-allowed_after P H caller c = allowed-block P (trace P H) caller c (settled P H).sound
+allowed_after P H caller c = allowed-block P (trace P H) caller c (sound_after P H)
 
 -- ---- the laws
 

@@ -23,3 +23,4 @@ pub mod LeastFailing
 pub mod AllowedOwn
 pub mod Histories
 pub mod UpdatesOfThreeUsers
+pub mod Cascades

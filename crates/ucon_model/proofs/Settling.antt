@@ -90,13 +90,13 @@ one_fewer T n label (suc k) low high on = last_or_before T n label k (nat_eq (su
 -- ---- the turns
 
 -- a revocation leaves fewer accessing sessions
-falls : (P : PlainPolicy) (T : Trace) (f : ℕ × Bytes) → least_failing P T ≡ Some f → accessing (extended T (revocation P T f)) < accessing T
+pub falls : (P : PlainPolicy) (T : Trace) (f : ℕ × Bytes) → least_failing P T ≡ Some f → accessing (extended T (revocation P T f)) < accessing T
 falls P T f e =
     let found = found_from P T 1 (sessions T) f e in
     let lt : accessing (revoke f.0 f.1 ∷ T) < accessing T = one_fewer T f.0 f.1 (sessions T) found.low (omega (arith, found.high)) found.accessing in
     omega (arith, lt, accessing-session_writes P f.0 AfterRevoke (revoke f.0 f.1 ∷ T))
 
-none_left : (P : PlainPolicy) (T : Trace) (o : Option (ℕ × Bytes)) → least_failing P T ≡ o → accessing T ≤ 0 → o ≡ None
+pub none_left : (P : PlainPolicy) (T : Trace) (o : Option (ℕ × Bytes)) → least_failing P T ≡ o → accessing T ≤ 0 → o ≡ None
 none_left P T None is le = refl
 none_left P T (Some f) is le = absurd (omega (arith, falls P T f is))
 

@@ -1,17 +1,17 @@
 -- Which action may follow a trace. The transitions of a session are those of the formal model (Zhang, Parisi-Presicce, Sandhu and Park,
 -- ACM TISSEC 8(4), 2005); numbers, labels, limits and the order of revocations are this project's own.
-use Rattle.std.specs.Prelude.{◌≡◌, ◌⊎◌, ℕ, ◌+◌, ◌<◌, ◌≤◌, ◌≤ℤ◌, IsTrue, IsFalse, IsSome, IsSomeAnd, None, Some, List, [], ◌∷◌}
+use Rattle.std.specs.Prelude.{◌≡◌, ◌⊎◌, ℕ, ◌+◌, ◌<◌, ◌≤◌, ◌≤ℤ◌, IsTrue, IsFalse, IsSome, IsSomeAnd, None, Some, List, [], ◌∷◌, ◌++◌}
 use Rattle.ucon_base.specs.declared.value.Side.TheVariants as sides
 use Rattle.ucon_base.specs.Admits.{admits}
 use Rattle.ucon_model.specs.declared.session.SessionState.TheVariants.{Requesting, Accessing}
 use Rattle.ucon_model.specs.declared.session.Verdict.TheVariants.{Wait, Deny}
-use Rattle.ucon_model.specs.Plain.{PlainPolicy}
-use Rattle.ucon_model.specs.Action.{Action, Trace, subject, object, write, env, tick, act, tries, wait, permit, deny, ends, revoke}
+use Rattle.ucon_model.specs.Plain.{Bytes, PlainPolicy}
+use Rattle.ucon_model.specs.Action.{Action, Trace, subject, object, write, env, tick, act, tries, wait, permit, deny, ends, revoke, extended}
 use Rattle.ucon_model.specs.Readings.{tick_of, has_entity, entities, declared_attr, declared_env, moment, session, sessions, accessing, acts}
 use Rattle.ucon_model.specs.Truth.{readings}
 use Rattle.ucon_model.specs.Decision.{right_named, verdict, failing}
 use Rattle.ucon_model.specs.OwnActions.{names_act}
-use Rattle.ucon_model.specs.Settle.{fails_at}
+use Rattle.ucon_model.specs.Settle.{fails_at, revocation}
 
 -- session n waits for its decision
 abbrev pub IsRequesting : Trace → ℕ → Type 0
@@ -50,3 +50,9 @@ abbrev pub RevocationsAreLegal : PlainPolicy → Trace → List Action → Type 
 RevocationsAreLegal P T [] = Unit {0}
 RevocationsAreLegal P T (revoke n label ∷ actions) = IsLegal P T (revoke n label) × RevocationsAreLegal P (revoke n label ∷ T) actions
 RevocationsAreLegal P T (a ∷ actions) = RevocationsAreLegal P (a ∷ T) actions
+
+-- legal revocations, each followed directly by its session's updates after a revocation, up to where no accessing session fails
+pub data IsCascade (P : PlainPolicy) : Trace → List Action → Type 0 where
+  over : {T : Trace} → ((n : ℕ) → fails_at P T n ≡ None) → IsCascade P T []
+  turn : {T : Trace} (f : ℕ × Bytes) (actions : List Action) → IsLegal P T (revoke f.0 f.1)
+      → IsCascade P (extended T (revocation P T f)) actions → IsCascade P T (revocation P T f ++ actions)
