@@ -24,3 +24,4 @@ pub mod AllowedOwn
 pub mod Histories
 pub mod UpdatesOfThreeUsers
 pub mod Cascades
+pub mod WithinAndLasts

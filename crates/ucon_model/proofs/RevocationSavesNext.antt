@@ -11,7 +11,7 @@ use Rattle.ucon_model.specs.declared.policy.When.TheVariants.{Before, AfterEnd, 
 use Rattle.ucon_model.specs.declared.reply.Head.TheVariants.{Ok, Permitted}
 use Rattle.ucon_model.specs.Plain.{Bytes, PlainRight, PlainPolicy, plus, minus, compare, authorisation, made, value_is}
 use Rattle.ucon_model.specs.History.{serial}
-use Rattle.ucon_model.proofs.Scenes.{by, int_attr, int, object's, revoked}
+use Rattle.ucon_model.proofs.Scenes.{by, int_attr, int, object's, revoked, ok}
 
 abbrev pub use_right : PlainRight
 use_right = record {
@@ -37,6 +37,10 @@ users = by 1 (commands.Value Object (codes "x") (codes "users"))
 
 abbrev three_users : List Entry
 three_users = scene ++ try_use (codes "a") ∷ try_use (codes "b") ∷ try_use (codes "c") ∷ []
+
+three_permitted : serial capped [] three_users ≡ (1, ok) ∷ (2, ok) ∷ (3, ok) ∷ (4, ok) ∷ (5, ok)
+    ∷ (6, made (Permitted 1) []) ∷ (7, made (Permitted 2) []) ∷ (8, made (Permitted 3) []) ∷ []
+three_permitted = refl
 
 fourth_user : serial capped three_users (try_use (codes "d") ∷ users ∷ []) ≡ (9, made (Permitted 4) (revoked 1 (codes "cap") ∷ []))
     ∷ (9, value_is (values.Int (pos 3))) ∷ []
