@@ -16,7 +16,7 @@ use Rattle.ucon_base.specs.Numbers.{clamp, clamped}
 use Rattle.ucon_model.specs.declared.session.SessionRow.{SessionRow}
 use Rattle.ucon_model.specs.Plain.{Bytes, PlainPolicy, PlainRight}
 use Rattle.ucon_model.specs.Action.{Trace, write, env}
-use Rattle.ucon_model.specs.Arithmetic.{sum_of, difference_of, fitted}
+use Rattle.ucon_base.specs.Arithmetic.{sum_of, difference_of, fitted}
 use Rattle.ucon_model.specs.Readings.{same_side, written, declared_attr, has_entity}
 use Rattle.ucon_model.specs.LegalRun.{Each}
 use Rattle.ucon_model.specs.Fitting.{ValuesFit, ResultFits, UpdatesFit}

@@ -1,31 +1,23 @@
 //! Laws of the definitions. A law is a function without parameters that does nothing: its contract is what is proved.
 
-ghost use Rattle.std.specs.Prelude.{◌≡◌, ◌<◌, ℕ, List, map, Some, None};
+ghost use Rattle.std.specs.Prelude.{◌≡◌, ◌<◌, ◌↔◌, ℕ, List, map, Some, None};
 ghost use Rattle.ucon_model.specs.declared.command.Caller.{Caller};
 ghost use Rattle.ucon_model.specs.declared.command.Command.{Command};
+ghost use Rattle.ucon_model.specs.declared.reply.Head.{Head};
 ghost use Rattle.ucon_model.specs.Plain.{PlainPolicy};
-ghost use Rattle.ucon_model.specs.Action.{Trace, extended};
+ghost use Rattle.ucon_model.specs.Action.{Action, Trace, extended};
 ghost use Rattle.ucon_model.specs.Block.{block};
+ghost use Rattle.ucon_model.specs.Fitting.{UpdatesFit};
 ghost use Rattle.ucon_model.specs.History.{History, trace};
-ghost use Rattle.ucon_model.specs.Legal.{RevocationsAreLegal};
+ghost use Rattle.ucon_model.specs.Legal.{AreLegal, IsCascade, RevocationsAreLegal};
 ghost use Rattle.ucon_model.specs.LegalRun.{Answered, Each, IsLegalRun, IsSerialRun, in_text_order};
 ghost use Rattle.ucon_model.specs.Output.{FitsLine, answers_read, output};
+ghost use Rattle.ucon_model.specs.OwnActions.{make, own};
 ghost use Rattle.ucon_model.specs.Settle.{fails_at, least_failing, settle};
 
 /// After settling no accessing session fails.
 pub fn settling_ends()
     ensures { (P : PlainPolicy) (T : Trace) → least_failing P (extended T (settle P T)) ≡ None }
-{}
-
-/// A serial run after a history is a legal run after it, in the order of its text.
-pub fn serial_runs_are_legal()
-    ensures { (P : PlainPolicy) (G : History) (told : List Answered) → IsSerialRun P G told → IsLegalRun P in_text_order G told }
-{}
-
-/// An output whose answers fit their lines is read back as the answers that it was written from.
-pub fn outputs_are_read_back()
-    ensures { (told : List Answered) → Each (λ t. FitsLine t.answer) told → Each (λ t. t.line.caller.0 < 256) told
-        → answers_read (map (λ t. t.line) told) (output told) ≡ Some told }
 {}
 
 /// After every history, each revocation of a command's block is legal: it names the least accessing session that fails, and the
@@ -37,4 +29,29 @@ pub fn revocations_are_legal()
 /// After every history no accessing session fails.
 pub fn no_usage_goes_on_failing()
     ensures { (P : PlainPolicy) (H : History) (n : ℕ) → fails_at P (trace P H) n ≡ None }
+{}
+
+/// After every history, each action of a command's block is legal after those before it, under a policy whose updates give what
+/// their attributes admit.
+pub fn blocks_are_legal()
+    ensures { (P : PlainPolicy) → UpdatesFit P → (H : History) (caller : Caller) (c : Command) → AreLegal P (trace P H) (block P (trace P H) caller c) }
+{}
+
+/// After every history and a command's own actions, exactly one list of actions is a cascade of legal revocations up to where no
+/// accessing session fails: the settling.
+pub fn settling_is_the_only_cascade()
+    ensures { (P : PlainPolicy) (H : History) (caller : Caller) (c : Command) (head : Head) (actions cascade : List Action)
+        → own P (trace P H) caller c ≡ make head actions
+        → IsCascade P (extended (trace P H) actions) cascade ↔ (cascade ≡ settle P (extended (trace P H) actions)) }
+{}
+
+/// A serial run after a history is a legal run after it, in the order of its text.
+pub fn serial_runs_are_legal()
+    ensures { (P : PlainPolicy) (G : History) (told : List Answered) → IsSerialRun P G told → IsLegalRun P in_text_order G told }
+{}
+
+/// An output whose answers fit their lines is read back as the answers that it was written from.
+pub fn outputs_are_read_back()
+    ensures { (told : List Answered) → Each (λ t. FitsLine t.answer) told → Each (λ t. t.line.caller.0 < 256) told
+        → answers_read (map (λ t. t.line) told) (output told) ≡ Some told }
 {}

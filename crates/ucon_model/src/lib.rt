@@ -11,8 +11,8 @@ mod session;
 pub use command::{Caller, Command, Entry};
 pub use formula::{Expr, Form, Formula, Obligation, Op, Ref};
 pub use laws::{
-    no_usage_goes_on_failing, outputs_are_read_back, revocations_are_legal, serial_runs_are_legal,
-    settling_ends,
+    blocks_are_legal, no_usage_goes_on_failing, outputs_are_read_back, revocations_are_legal,
+    serial_runs_are_legal, settling_ends, settling_is_the_only_cascade,
 };
 pub use policy::{AttrDecl, EnvDecl, Phase, Policy, Predicate, Right, Test, Update, When};
 pub use reply::{Head, Refusal, Reply, Revoked};
