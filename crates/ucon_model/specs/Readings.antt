@@ -1,5 +1,5 @@
 -- What can be read off a trace, by looking back through it. No current state is kept.
-use Rattle.std.specs.Prelude.{ℕ, suc, zero, ℤ, pos, ◌+◌, Bool, true, false, ◌&&◌, ◌||◌, nat_eq, List, [], ◌∷◌, find, Option, Some, None, option_map, is_none, unwrap_or, if◌then◌else◌}
+use Rattle.std.specs.Prelude.{ℕ, suc, zero, ℤ, pos, ◌+◌, Bool, true, false, ◌&&◌, ◌||◌, nat_eq, ◌++◌, List, [], ◌∷◌, find, Option, Some, None, option_map, is_none, unwrap_or, if◌then◌else◌}
 use Rattle.std.specs.Str.{bytes_eq}
 use Rattle.ucon_base.specs.declared.value.Side.{Side}
 use Rattle.ucon_base.specs.declared.value.Side.TheVariants.{Subject, Object}
@@ -33,6 +33,17 @@ entities side [] = 0
 entities Subject (subject name ∷ T) = entities Subject T + 1
 entities Object (object name ∷ T) = entities Object T + 1
 entities side (a ∷ T) = entities side T
+
+-- a new name behind the others
+abbrev pub with_new : Bool → List Bytes → Bytes → List Bytes
+with_new there names name = if there then names else names ++ name ∷ []
+
+-- the entities of a side, in the order in which they were first made
+abbrev pub entity_names : Side → Trace → List Bytes
+entity_names side [] = []
+entity_names Subject (subject name ∷ T) = with_new (has_entity Subject name T) (entity_names Subject T) name
+entity_names Object (object name ∷ T) = with_new (has_entity Object name T) (entity_names Object T) name
+entity_names side (a ∷ T) = entity_names side T
 
 -- ---- attributes and variables
 
@@ -79,6 +90,12 @@ abbrev pub moment : Bytes → Bytes → Bytes → Trace → Option ℤ
 moment s a o [] = None
 moment s a o (act s' a' o' ∷ T) = if bytes_eq s s' && bytes_eq a a' && bytes_eq o o' then Some (tick_of T) else moment s a o T
 moment s a o (b ∷ T) = moment s a o T
+
+-- the distinct acts (subject, action, object), in the order in which they were first done
+abbrev pub act_rows : Trace → List (Bytes × Bytes × Bytes)
+act_rows [] = []
+act_rows (act s a o ∷ T) = if is_none (moment s a o T) then act_rows T ++ (s, a, o) ∷ [] else act_rows T
+act_rows (b ∷ T) = act_rows T
 
 -- how many distinct acts were done
 abbrev pub acts : Trace → ℕ
