@@ -1,29 +1,39 @@
 //! The turn itself.
-ghost use Rattle.std.specs.Prelude.{◌≡◌, ◌≢◌, ◌⊎◌, ◌<◌, List, [], ◌∷◌, ◌++◌, IfOk, IfErr};
-ghost use Rattle.ucon_turn.specs.Words.{Each, Has, Continues, Begins, Foreign};
-ghost use Rattle.ucon_turn.specs.Callers.{IsOf, base_of, opening_of};
+ghost use Rattle.std.specs.Prelude.{◌≡◌, ◌≢◌, ◌⊎◌, ◌<◌, List, [], ◌∷◌, IfOk, IfErr};
+ghost use Rattle.ucon_turn.specs.Lists.{Each, Has, Begins, Continues, ByOthers};
+ghost use Rattle.ucon_turn.specs.Turns.{IsSeatOf};
 
-use crate::board::Board;
-use crate::plays::{Look, Meet, Note, Part};
-use crate::seat::{Seat, Token};
-use crate::steps::{give, take, wait_turn};
+use crate::seat::{Seat, SeatToken};
+use crate::steps::{book, meet, note, part, pass, put_back, take, wait_turn};
+use crate::table::{TurnTable, VALUE};
 use crate::value::{Job, Turned};
 use atomic_table::{Refused, Table};
 use std::alloc::{AllocFailed, Global};
+use std::marker::Model;
 use std::snapshot::Snapshot;
 use std::sync::Wait;
 use ucon_base::NoMemory;
 
 /// One value, and whose turn it is.
 pub struct Turn<E: Turned> {
-    pub(crate) table: Board<E>,
-    ghost sized: { (table.shared.table_id.words ≡ 3) × (table.shared.table_id.slots ≡ 1) },
+    table: TurnTable<E>,
+}
+
+impl<E: Turned> Model for Turn<E> {
+    ghost use Rattle.std.specs.Prelude.{◌≡◌};
+    ghost use Rattle.ucon_turn.specs.Turns.{Opening};
+
+    ghost Value = { Opening E };
+
+    ghost view = { λ t. record { turn = t.table.shared.table_id; opened = t.table.shared.key.value } };
+
+    ghost invariant = { λ t. (t.table.shared.table_id.words ≡ 3) × (t.table.shared.table_id.slots ≡ 1) };
 }
 
 impl<E: Turned> Turn<E> {
-    /// The seat has number 0, and has seen the opening list.
+    /// The seat has number 0, and has seen the opening list. Where there is no memory for the turn, the value comes back.
     pub fn open(alloc: Global, value: E) -> Result<(Turn<E>, Seat<E>), (E, NoMemory)>
-        ensures turn { IfOk result (λ t. (base_of E.base t.0.table ≡ E.base value) × (opening_of E.entries t.0.table ≡ E.entries value) × IsOf E.base t.0.table t.1) }
+        ensures turn { IfOk result (λ t. (t.0.opened ≡ value) × IsSeatOf t.0 t.1) }
         ensures seat { IfOk result (λ t. (t.1.number ≡ 0) × (t.1.seen ≡ E.entries value) × (t.1.given ≡ []) × (t.1.taken ≡ [])) }
         ensures err { IfErr result (λ e. e.0 ≡ value) }
     {
@@ -36,7 +46,7 @@ impl<E: Turned> Turn<E> {
             return Err((value, NoMemory));
         }
         match Table::new(alloc, &[0, 0, 0], slots, &about) {
-            Ok((table, place)) => Ok((Turn { table }, Token { place, number: 0 })),
+            Ok((table, place)) => Ok((Turn { table }, SeatToken { place, number: 0 })),
             Err(Refused { mut slots }) => {
                 let value = slots.pop();
                 slots.destroy_empty();
@@ -48,79 +58,78 @@ impl<E: Turned> Turn<E> {
         }
     }
 
-    /// A seat with this number, which has seen what the first has seen.
+    /// A seat with this number, which has seen what the first seat has seen.
     pub fn split(&self, seat: &mut Seat<E>, number: u32) -> Seat<E>
-        requires turn { IsOf E.base self.now.table seat.old }
+        requires turn { IsSeatOf self.now seat.old }
         requires first { seat.old.number ≡ 0 }
         requires above { (0 < number) × Each (λ k. k < number) seat.old.given }
-        ensures turn { IsOf E.base self.now.table seat.new × IsOf E.base self.now.table result }
+        ensures turn { IsSeatOf self.now seat.new × IsSeatOf self.now result }
         ensures given { seat.new.given ≡ number ∷ seat.old.given }
         ensures kept { (seat.new.number ≡ 0) × (seat.new.seen ≡ seat.old.seen) × (seat.new.taken ≡ seat.old.taken) }
         ensures made { (result.number ≡ number) × (result.seen ≡ seat.old.seen) × (result.given ≡ []) × (result.taken ≡ []) }
+        ensures begins { Begins (E.entries self.now.opened) result.seen }
     {
-        let top = &self.table.shared;
+        let table = &self.table.shared;
         let place = &mut seat.place;
-        let n = u64::from(number);
-        top.compare_exchange::<Note>(place, 0, n, n);
-        let place = top.split_seat::<Part>(place);
-        Token { place, number }
+        note(table, place, number);
+        let place = part(table, place);
+        SeatToken { place, number }
     }
 
-    /// Waits for its turn, and runs the job on the value.
+    /// Waits for its turn, and runs the job on the value. What the job did is true of the list before and the list after, which the seat has then seen.
     pub fn call<J: Job<E>, R: Wait>(&self, rt: &R, seat: &mut Seat<E>, job: &mut J) -> J::Answer
-        requires turn { IsOf E.base self.now.table seat.old }
+        requires turn { IsSeatOf self.now seat.old }
         requires number { J.by job.old ≡ seat.old.number }
-        ensures turn { IsOf E.base self.now.table seat.new }
+        ensures turn { IsSeatOf self.now seat.new }
         ensures kept { (seat.new.number ≡ seat.old.number) × (seat.new.given ≡ seat.old.given) × (seat.new.taken ≡ seat.old.taken) }
         ensures job { J.by job.new ≡ J.by job.old }
-        ensures did { (before : List E.Entry) × (own : List E.Entry)
-            × Continues (Foreign E.caller seat.old.number seat.old.taken) seat.old.seen before
-            × (seat.new.seen ≡ before ++ own) × Each (λ e. E.caller e ≡ seat.old.number) own
-            × J.did job.old (base_of E.base self.now.table) before seat.new.seen result job.new }
+        ensures begins { Begins (E.entries self.now.opened) seat.new.seen }
+        ensures did { (before : List E.Entry)
+            × Continues (ByOthers E.caller seat.old.number seat.old.taken) seat.old.seen before
+            × Continues (λ e. E.caller e ≡ seat.old.number) before seat.new.seen
+            × J.did job.old (E.base self.now.opened) before seat.new.seen result job.new }
     {
-        let top = &self.table.shared;
+        let table = &self.table.shared;
         let place = &mut seat.place;
-        wait_turn(rt, top, place);
-        let mut value = take(top, place);
+        wait_turn(rt, table, place);
+        let mut value = take(table, place);
         let before = value.len();
         let answer = job.run(&mut value);
-        let after = value.len();
-        give(top, place, value, after - before);
+        let count = value.len() - before;
+        put_back(table, place, value);
+        book(table, place, count);
+        pass(table, place);
         answer
     }
 
-    /// Takes the other seat back. The first has then seen the longer of the two lists.
+    /// Takes the other seat back. The first seat has then seen the longer of the two lists.
     pub fn join(&self, seat: &mut Seat<E>, other: Seat<E>)
-        requires turn { IsOf E.base self.now.table seat.old × IsOf E.base self.now.table other }
+        requires turn { IsSeatOf self.now seat.old × IsSeatOf self.now other }
         requires first { seat.old.number ≡ 0 }
-        ensures turn { IsOf E.base self.now.table seat.new }
-        ensures kept { (seat.new.number ≡ 0) × (seat.new.given ≡ seat.old.given) × (seat.new.taken ≡ other.number ∷ seat.old.taken) }
+        ensures turn { IsSeatOf self.now seat.new }
+        ensures kept { (seat.new.number ≡ 0) × (seat.new.given ≡ seat.old.given) }
+        ensures taken { seat.new.taken ≡ other.number ∷ seat.old.taken }
         ensures longer { (seat.new.seen ≡ seat.old.seen) ⊎ (seat.new.seen ≡ other.seen) }
-        ensures ours { Continues (Foreign E.caller 0 seat.old.taken) seat.old.seen seat.new.seen }
+        ensures begins { Begins (E.entries self.now.opened) seat.new.seen }
+        ensures ours { Continues (ByOthers E.caller 0 seat.old.taken) seat.old.seen seat.new.seen }
         ensures theirs { Continues (λ e. E.caller e ≢ other.number) other.seen seat.new.seen }
     {
-        let top = &self.table.shared;
-        let theirs = other.into_place();
-        let place = &mut seat.place;
-        top.join_seat::<Meet>(place, theirs);
-        top.load::<Look>(place, 0);
+        meet(&self.table.shared, &mut seat.place, other.into_place());
     }
 
     /// Gives the value, which stands for the list that the seat has seen.
     pub fn close(self, seat: Seat<E>) -> E
-        requires turn { IsOf E.base self.table seat }
+        requires turn { IsSeatOf self seat }
         requires first { seat.number ≡ 0 }
         requires joined { Each (λ k. Has seat.taken k) seat.given }
-        ensures base { E.base result ≡ base_of E.base self.table }
+        ensures base { E.base result ≡ E.base self.opened }
         ensures list { E.entries result ≡ seat.seen }
-        ensures callers { Continues (λ e. Has (0 ∷ seat.taken) (E.caller e)) (opening_of E.entries self.table) (E.entries result) }
+        ensures callers { Continues (λ e. Has (0 ∷ seat.taken) (E.caller e)) (E.entries self.opened) (E.entries result) }
     {
         let Turn { table } = self;
-        let place = seat.into_place();
-        let mut closed = table.close_with(place);
-        let value = closed.take(0);
+        let mut closed = table.close_with(seat.into_place());
+        let value = closed.take(VALUE);
         closed.free();
-        let Some(value) = value else { unreachable!() };
-        value
+        value.unwrap()
     }
 }
