@@ -5,6 +5,8 @@ mod plays;
 mod seat;
 mod steps;
 mod table;
+#[cfg(test)]
+mod tests;
 mod turn;
 mod value;
 
