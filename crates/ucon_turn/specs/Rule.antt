@@ -45,7 +45,7 @@ weight Booked = 1
 -- what a seat that took in another knows of the three lists: its own, the other's and the longer of them
 abbrev pub MeetsBoth : {N : Type 0} → (N → ℕ) → ℕ → List ℕ → List N → List N → List N → Type 0
 MeetsBoth caller number [] ours theirs seen = Unit {0}
-MeetsBoth caller number (k ∷ taken) ours theirs seen = Continues (ByOthers caller number taken) ours seen × Continues (λ e. caller e ≢ k) theirs seen
+MeetsBoth caller number (k ∷ taken) ours theirs seen = Continues (ByOthers caller number taken) ours seen × Continues (ByOthers caller k []) theirs seen
 
 module _ {E N : Type 0} where
   abbrev pub IsLive : SeatView E N → Type 0

@@ -112,7 +112,7 @@ impl<E: Turned> Turn<E> {
         ensures longer { (seat.new.seen ≡ seat.old.seen) ⊎ (seat.new.seen ≡ other.seen) }
         ensures begins { Begins (E.entries self.now.opened) seat.new.seen }
         ensures ours { Continues (ByOthers E.caller 0 seat.old.taken) seat.old.seen seat.new.seen }
-        ensures theirs { Continues (λ e. E.caller e ≢ other.number) other.seen seat.new.seen }
+        ensures theirs { Continues (ByOthers E.caller other.number []) other.seen seat.new.seen }
     {
         meet(&self.table.shared, &mut seat.place, other.into_place());
     }

@@ -22,10 +22,10 @@ returns-clause-first g c =
     let one = c.join-one.ensures.first in
     let n = c.join-one.result.0.seat.number in
     one.2
-    ∙ (serial_on (λ e. e.0 ≢ n) 1 _ _ (λ e h is. h (is ∙ sym one.1)) c.join.ensures.theirs
+    ∙ (serial_on (ByOthers (λ (e : ℕ × ℕ). e.0) n []) 1 _ _ (λ e h is. h.0 (is ∙ sym one.1)) c.join.ensures.theirs
     ∙ (serial_on (ByOthers (λ (e : ℕ × ℕ). e.0) 0 c.join.new.seat.taken) 1 _ _ (λ e h is. (subst (Each (λ k. e.0 ≢ k)) c.join.ensures.taken h.1).0 (is ∙ sym one.1)) c.join-2.ensures.ours ∙ ap (serial 1) (sym c.close.ensures.list)))
 
 pub returns-clause-second : goal.returns-clause-second
 returns-clause-second g c =
     let two = c.join-one.ensures.second in
-    two.2 ∙ (serial_on (λ e. e.0 ≢ c.join-one.result.1.seat.number) 2 _ _ (λ e h is. h (is ∙ sym two.1)) c.join-2.ensures.theirs ∙ ap (serial 2) (sym c.close.ensures.list))
+    two.2 ∙ (serial_on (ByOthers (λ (e : ℕ × ℕ). e.0) c.join-one.result.1.seat.number []) 2 _ _ (λ e h is. h.0 (is ∙ sym two.1)) c.join-2.ensures.theirs ∙ ap (serial 2) (sym c.close.ensures.list))
