@@ -5,11 +5,12 @@ ghost use Rattle.ucon_turn.specs.Lists.{Each, Has};
 ghost use Rattle.ucon_turn.specs.Turns.{IsSeatOf};
 ghost use Rattle.ucon_turn.specs.Additions.{serial};
 
-use super::counter::{Add, Counter, Told};
+use super::counter::{Add, Counter, Hold, Told};
 use crate::{Seat, Turn};
 use std::alloc::Global;
 use std::sync::Wait;
 use std::thread::{Threads, join};
+use std::time::Clock;
 
 #[derive(Drop)]
 pub struct Adder {
@@ -124,8 +125,8 @@ fn next_seat(turn: &Turn<Counter>, seat: &mut Seat<Counter>, number: u32) -> Sea
     turn.split(seat, number)
 }
 
-// Adds 0, 1, 2 and so on, so many times, and keeps no answers.
-fn add_all<R: Wait>(
+// Holds the counter, then adds 0, 1, 2 and so on, so many times, and keeps no answers.
+fn add_all<R: Wait + Clock>(
     rt: &R,
     turn: &Turn<Counter>,
     mut seat: Seat<Counter>,
@@ -135,6 +136,9 @@ fn add_all<R: Wait>(
     requires { IsSeatOf turn.now seat × (seat.number ≡ number) }
     ensures { IsSeatOf turn.now result × (result.number ≡ number) }
 {
+    let mut hold = Hold { rt, number };
+    turn.call(rt, &mut seat, &mut hold);
+    let Hold { rt: _, number: _ } = hold;
     for amount in 0..times {
         let mut job = Add { number, amount };
         turn.call(rt, &mut seat, &mut job);
@@ -143,7 +147,7 @@ fn add_all<R: Wait>(
 }
 
 // So many callers add at once, each in a thread of its own, with the numbers from `first` on. All their seats are taken back.
-fn add_beside<R: Threads + Wait + Sync>(
+fn add_beside<R: Threads + Wait + Clock + Sync>(
     rt: &R,
     turn: &Turn<Counter>,
     mut seat: Seat<Counter>,
@@ -176,7 +180,7 @@ fn add_beside<R: Threads + Wait + Sync>(
 }
 
 /// So many callers add at once, each in a thread of its own, 0, 1, 2 and so on.
-pub fn many_adders<R: Threads + Wait + Sync>(
+pub fn many_adders<R: Threads + Wait + Clock + Sync>(
     rt: &R,
     alloc: Global,
     count: u32,

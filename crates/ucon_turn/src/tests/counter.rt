@@ -4,6 +4,8 @@ ghost use Rattle.ucon_turn.specs.Additions.{Adds, total_of};
 
 use crate::{Job, Turned};
 use std::alloc::Global;
+use std::thread;
+use std::time::{Clock, Duration};
 
 /// The number of the caller, and the amount.
 pub type Addition = (u32, u64);
@@ -77,5 +79,27 @@ impl Job<Counter> for Add {
 
     fn run(&mut self, counter: &mut Counter) -> Option<Told> {
         counter.add(self.number, self.amount)
+    }
+}
+
+/// Holds the counter for a while, and leaves it as it is: whoever waits goes to sleep.
+pub struct Hold<'a, R: Clock> {
+    pub rt: &'a R,
+    pub number: u32,
+}
+
+impl<'a, R: Clock> Job<Counter> for Hold<'a, R> {
+    type Answer = ();
+
+    ghost by = { λ j. j.number };
+
+    ghost did = { λ _ _ before after _ _. after ≡ before };
+
+    fn number(&self) -> u32 {
+        self.number
+    }
+
+    fn run(&mut self, _counter: &mut Counter) {
+        thread::sleep(self.rt, Duration::from_millis(2));
     }
 }
