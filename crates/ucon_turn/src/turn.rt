@@ -4,7 +4,7 @@ ghost use Rattle.ucon_turn.specs.Lists.{Each, Has, Begins, Continues, ByOthers};
 ghost use Rattle.ucon_turn.specs.Turns.{IsSeatOf};
 
 use crate::seat::{Seat, SeatToken};
-use crate::steps::{book, meet, note, part, pass, put_back, take, wait_turn};
+use crate::steps::{give, meet, note, part, take, wait_turn};
 use crate::table::{TurnTable, VALUE};
 use crate::value::{Job, Turned};
 use atomic_table::{Refused, Table};
@@ -96,9 +96,7 @@ impl<E: Turned> Turn<E> {
         let before = value.len();
         let answer = job.run(&mut value);
         let count = value.len() - before;
-        put_back(table, place, value);
-        book(table, place, count);
-        pass(table, place);
+        give(table, place, value, count);
         answer
     }
 

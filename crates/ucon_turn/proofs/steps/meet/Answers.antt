@@ -4,7 +4,7 @@ use Rattle.ucon_turn.specs.Rule.{MeetsBoth}
 use Rattle.ucon_turn.specs.declared.table.SeatView.{SeatView}
 use Rattle.ucon_turn.proofs.Lists.{longer_is}
 use Rattle.ucon_turn.proofs.Rounds.{looks}
-use Rattle.ucon_turn.proofs.Ends.{joins}
+use Rattle.ucon_turn.proofs.Joining.{joins}
 use Rattle.ucon_turn.proofs.steps.meet.Goals as goal
 
 pub join_seat-requires : goal.join_seat-requires

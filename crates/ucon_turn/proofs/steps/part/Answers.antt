@@ -1,5 +1,5 @@
 use Rattle.std.proofs.Common.{rules}
-use Rattle.ucon_turn.proofs.Ends.{splits}
+use Rattle.ucon_turn.proofs.Splitting.{splits}
 use Rattle.ucon_turn.proofs.steps.part.Goals as goal
 
 pub split_seat-requires : goal.split_seat-requires
