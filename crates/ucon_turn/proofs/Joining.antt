@@ -1,5 +1,5 @@
 -- Two seats that are joined keep the rule.
-use Rattle.std.proofs.Common.{◌≡◌, ◌≢◌, ◌⊎◌, ℕ, ◌<◌, ◌≤◌, List, [], ◌∷◌, length, set, sym, ap, ◌∙◌, subst, ⊎_elim, arith, length-set}
+use Rattle.std.proofs.Common.{◌≡◌, ◌≢◌, ℕ, List, [], ◌∷◌, length, set, sym, ap, ◌∙◌, subst, ⊎_elim, arith, length-set}
 use Rattle.std.specs.Prelude.{Option}
 use Rattle.std.proofs.lemmas.List.{append-nil}
 use mathlib.Core.Option.{some}
@@ -9,7 +9,7 @@ use Rattle.atomic_table.proofs.Lists.{set_else}
 use Rattle.ucon_turn.specs.declared.table.SeatView.{SeatView}
 use Rattle.ucon_turn.specs.declared.table.Stage.TheVariants.{Idle}
 use Rattle.ucon_turn.specs.Lists.{Begins, ByOthers, longer}
-use Rattle.ucon_turn.specs.Rule.{rank, weight, IsLive, MeetsBoth, Fits, Apart, Ruled, spent, joined}
+use Rattle.ucon_turn.specs.Rule.{rank, weight, IsLive, Fits, Ruled, spent, joined}
 use Rattle.ucon_turn.proofs.Lists.{each_both, begins_trans, continues_map, between, longer_is}
 use Rattle.ucon_turn.proofs.Seats.{Places, places_set, Pairs, pairs_set, set_swap, tickets_set, spot_set}
 use Rattle.ucon_turn.proofs.Rounds.{away, resting, LiveApart}

@@ -1,15 +1,15 @@
 -- A seat that is split keeps the rule.
-use Rattle.std.proofs.Common.{◌≡◌, ◌≢◌, ◌⊎◌, ℕ, ◌+◌, ◌<◌, ◌≤◌, List, [], ◌∷◌, ◌++◌, length, set, refl, sym, ap, ◌∙◌, subst, inl, inr, ⊎_elim, arith, length-append, length-set}
+use Rattle.std.proofs.Common.{◌≡◌, ◌≢◌, ℕ, ◌+◌, ◌<◌, ◌≤◌, List, [], ◌∷◌, ◌++◌, length, set, refl, sym, ap, ◌∙◌, subst, inl, inr, ⊎_elim, arith, length-append, length-set}
 use Rattle.std.specs.Prelude.{Option}
 use mathlib.Core.Option.{some}
 use lib.ListN.{get_elem?}
 use Rattle.atomic_table.specs.Table.{State, Splits}
 use Rattle.ucon_turn.specs.declared.table.SeatView.{SeatView}
 use Rattle.ucon_turn.specs.declared.table.Stage.TheVariants.{Idle}
-use Rattle.ucon_turn.specs.Lists.{Each, Has, Begins, Continues, ByOthers}
-use Rattle.ucon_turn.specs.Rule.{rank, top, IsLive, Knows, Fits, Apart, Ruled, parted, child}
+use Rattle.ucon_turn.specs.Lists.{Each, Has, ByOthers}
+use Rattle.ucon_turn.specs.Rule.{rank, top, IsLive, Knows, Fits, Ruled, parted, child}
 use Rattle.ucon_turn.proofs.Lists.{each_map, continues_map, between, has_not, top_above}
-use Rattle.ucon_turn.proofs.Seats.{Places, places_set, places_snoc, Pairs, pairs_set, pairs_snoc, tickets_set, tickets_snoc, spot_set, spot_snoc}
+use Rattle.ucon_turn.proofs.Seats.{Places, places_set, places_snoc, pairs_set, pairs_snoc, tickets_set, tickets_snoc, spot_set, spot_snoc}
 use Rattle.ucon_turn.proofs.Rounds.{away, resting, LiveApart}
 
 module _ {E B N : Type 0} (caller : N → ℕ) (base : E → B) (entries : E → List N) (about : E) where

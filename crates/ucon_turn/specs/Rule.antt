@@ -115,7 +115,9 @@ module _ {E N : Type 0} where
 
   -- the value is in the slot, and no seat has it
   abbrev pub AtHome : {B : Type 0} → (E → B) → (E → List N) → E → List N → State (Option E) (SeatView E N) → Type 0
-  AtHome base entries about log s = (x : E) × (s.homes ≡ some (Some x) ∷ []) × (base x ≡ base about) × (entries x ≡ log) × ((j : ℕ) (v : SeatView E N) → get_elem? s.views j ≡ some v → rank v.stage < 4)
+  AtHome base entries about log s =
+      (x : E) × (s.homes ≡ some (Some x) ∷ []) × (base x ≡ base about) × (entries x ≡ log)
+      × ((j : ℕ) (v : SeatView E N) → get_elem? s.views j ≡ some v → rank v.stage < 4)
 
   -- a seat has the slot
   abbrev pub OutWith : State (Option E) (SeatView E N) → Type 0
@@ -181,6 +183,10 @@ module _ {E N : Type 0} where
   -- it is a seat at this table, which has three words and a slot
   abbrev pub IsAt : {P : Type 0} → Shared (Option E) (SeatView E N) (Snapshot E) P → Seat (Option E) (SeatView E N) → Type 0
   IsAt t p = (p.table_id ≡ t.table_id) × (t.table_id.words ≡ 3) × (t.table_id.slots ≡ 1) × (p.me.0.opened ≡ t.key.value ∷ [])
+
+  -- it is out of its round, and holds no slot
+  abbrev pub IsIdle : Seat (Option E) (SeatView E N) → Type 0
+  IsIdle p = (p.me.0.stage ≡ Idle) × (p.me.1 ≡ [])
 
   -- a seat as contracts see it
   abbrev pub shown : TableId → SeatView E N → Knowledge E N

@@ -1,4 +1,5 @@
-//! One value that goes from hand to hand among threads, and stands for one list of entries, which begins with all that its caller saw.
+//! One value that goes from hand to hand among threads, and stands for one list of entries,
+//! which begins with all that its caller saw.
 #![tactic(auto)]
 
 mod plays;

@@ -31,10 +31,12 @@ impl<E: Turned> Model for Turn<E> {
 }
 
 impl<E: Turned> Turn<E> {
-    /// The seat has number 0, and has seen the opening list. Where there is no memory for the turn, the value comes back.
+    /// The seat has number 0, and has seen the opening list. Where there is no memory for the turn,
+    /// the value comes back.
     pub fn open(alloc: Global, value: E) -> Result<(Turn<E>, Seat<E>), (E, NoMemory)>
         ensures turn { IfOk result (λ t. (t.0.opened ≡ value) × IsSeatOf t.0 t.1) }
-        ensures seat { IfOk result (λ t. (t.1.number ≡ 0) × (t.1.seen ≡ E.entries value) × (t.1.given ≡ []) × (t.1.taken ≡ [])) }
+        ensures seat { IfOk result (λ t. (t.1.number ≡ 0) × (t.1.seen ≡ E.entries value)
+            × (t.1.given ≡ []) × (t.1.taken ≡ [])) }
         ensures err { IfErr result (λ e. e.0 ≡ value) }
     {
         let about = Snapshot::of(&value);
@@ -65,8 +67,10 @@ impl<E: Turned> Turn<E> {
         requires above { (0 < number) × Each (λ k. k < number) seat.old.given }
         ensures turn { IsSeatOf self.now seat.new × IsSeatOf self.now result }
         ensures given { seat.new.given ≡ number ∷ seat.old.given }
-        ensures kept { (seat.new.number ≡ 0) × (seat.new.seen ≡ seat.old.seen) × (seat.new.taken ≡ seat.old.taken) }
-        ensures made { (result.number ≡ number) × (result.seen ≡ seat.old.seen) × (result.given ≡ []) × (result.taken ≡ []) }
+        ensures kept { (seat.new.number ≡ 0) × (seat.new.seen ≡ seat.old.seen)
+            × (seat.new.taken ≡ seat.old.taken) }
+        ensures made { (result.number ≡ number) × (result.seen ≡ seat.old.seen)
+            × (result.given ≡ []) × (result.taken ≡ []) }
         ensures begins { Begins (E.entries self.now.opened) result.seen }
     {
         let table = &self.table.shared;
@@ -76,12 +80,14 @@ impl<E: Turned> Turn<E> {
         SeatToken { place, number }
     }
 
-    /// Waits for its turn, and runs the job on the value. What the job did is true of the list before and the list after, which the seat has then seen.
+    /// Waits for its turn, and runs the job on the value. What the job did is true of the list before
+    /// and of the list after, which the seat has then seen. It takes no memory, and it need not return.
     pub fn call<J: Job<E>, R: Wait>(&self, rt: &R, seat: &mut Seat<E>, job: &mut J) -> J::Answer
         requires turn { IsSeatOf self.now seat.old }
         requires number { J.by job.old ≡ seat.old.number }
         ensures turn { IsSeatOf self.now seat.new }
-        ensures kept { (seat.new.number ≡ seat.old.number) × (seat.new.given ≡ seat.old.given) × (seat.new.taken ≡ seat.old.taken) }
+        ensures kept { (seat.new.number ≡ seat.old.number) × (seat.new.given ≡ seat.old.given)
+            × (seat.new.taken ≡ seat.old.taken) }
         ensures job { J.by job.new ≡ J.by job.old }
         ensures begins { Begins (E.entries self.now.opened) seat.new.seen }
         ensures did { (before : List E.Entry)
@@ -115,14 +121,16 @@ impl<E: Turned> Turn<E> {
         meet(&self.table.shared, &mut seat.place, other.into_place());
     }
 
-    /// Gives the value, which stands for the list that the seat has seen.
+    /// Gives the value, which stands for the list that the seat has seen. It wants all seats that were split
+    /// joined again, so a seat that is dropped keeps the turn open for ever.
     pub fn close(self, seat: Seat<E>) -> E
         requires turn { IsSeatOf self seat }
         requires first { seat.number ≡ 0 }
         requires joined { Each (λ k. Has seat.taken k) seat.given }
         ensures base { E.base result ≡ E.base self.opened }
         ensures list { E.entries result ≡ seat.seen }
-        ensures callers { Continues (λ e. Has (0 ∷ seat.taken) (E.caller e)) (E.entries self.opened) (E.entries result) }
+        ensures callers { Continues (λ e. Has (0 ∷ seat.taken) (E.caller e))
+            (E.entries self.opened) (E.entries result) }
     {
         let Turn { table } = self;
         let mut closed = table.close_with(seat.into_place());

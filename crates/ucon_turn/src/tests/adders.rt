@@ -19,7 +19,8 @@ pub struct Adder {
 }
 
 impl Adder {
-    /// Adds, keeps the answer, and gives the place, which is after all that the caller had seen. None where nothing was added.
+    /// Adds, keeps the answer, and gives the place, which is after all that the caller had seen.
+    /// None where nothing was added.
     pub fn add<R: Wait>(&mut self, rt: &R, turn: &Turn<Counter>, amount: u64) -> Option<u64>
         requires turn { IsSeatOf turn.now self.old.seat }
         requires serial { self.old.answers.items ≡ serial self.old.seat.number self.old.seat.seen }
@@ -73,7 +74,8 @@ fn served<R: Wait>(
     adder
 }
 
-/// Two threads add. Each is answered as one thread would be over the final list, which has their additions and no others.
+/// Two threads add. Each is answered as one thread would be over the final list,
+/// which has their additions and no others.
 pub fn two_adders<R: Threads + Wait + Sync>(
     rt: &R,
     alloc: Global,
@@ -146,7 +148,8 @@ fn add_all<R: Wait + Clock>(
     seat
 }
 
-// So many callers add at once, each in a thread of its own, with the numbers from `first` on. All their seats are taken back.
+// So many callers add at once, each in a thread of its own, with the numbers from `first` on.
+// All their seats are taken back.
 fn add_beside<R: Threads + Wait + Clock + Sync>(
     rt: &R,
     turn: &Turn<Counter>,
