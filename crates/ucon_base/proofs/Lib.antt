@@ -1,1 +1,10 @@
+pub mod Integers
+pub mod Passing
 pub mod Products
+pub mod Rising
+pub mod Runs
+pub mod Saturated
+pub mod SetsRead
+pub mod SetsSpelled
+pub mod TextFront
+pub mod Values

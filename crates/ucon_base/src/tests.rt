@@ -67,3 +67,73 @@ fn rows_and_steps(rt: HostRuntime) -> Result<(), Fail> {
     assert_eq!(rt; steps.count(), 1);
     Ok(())
 }
+
+#[test]
+fn sets_grow_and_shrink(rt: HostRuntime) -> Result<(), Fail> {
+    let a = Text::read(b"a")?;
+    let one = TextSet::empty(rt.alloc()).with(rt.alloc(), &a)?;
+    assert_eq!(rt; (one.size(), one.at(0)), (1, Some(&a)));
+    assert_eq!(rt; one.without(rt.alloc(), &a)?.size(), 0);
+    assert!(rt; one.copy(rt.alloc())?.has(&a));
+    Ok(())
+}
+
+#[test]
+fn values_are_read_and_written(rt: HostRuntime) -> Result<(), Fail> {
+    let spelled: [&[u8]; 6] = [
+        b"0",
+        b"-5",
+        b"1000000000000000",
+        b"\"a b\"",
+        b"{}",
+        b"{\"a\",\"ab\",\"b\"}",
+    ];
+    for bytes in spelled {
+        let mut out = Vec::new(rt.alloc());
+        Value::read(rt.alloc(), bytes)?
+            .copy(rt.alloc())?
+            .write(rt.alloc(), &mut out)?;
+        assert_eq!(rt; out.as_slice(), bytes);
+    }
+    let refused: [(&[u8], ValueFault); 10] = [
+        (b"", ValueFault::BadSpelling(0)),
+        (b"-0", ValueFault::BadSpelling(1)),
+        (b"12x", ValueFault::BadSpelling(2)),
+        (b"\"a\"\"", ValueFault::BadSpelling(3)),
+        (b"{\"a\",", ValueFault::BadSpelling(5)),
+        (b"{\"b\",\"a\"}", ValueFault::BadSpelling(5)),
+        (b"{\"b\",\"a", ValueFault::BadSpelling(5)),
+        (b"{\"b\",\"b\"}", ValueFault::BadSpelling(5)),
+        (b"{\"b\",\"b", ValueFault::BadSpelling(7)),
+        (b"1000000000000001", ValueFault::OutOfRange),
+    ];
+    for (bytes, fault) in refused {
+        assert_eq!(rt; Value::read(rt.alloc(), bytes).err(), Some(fault));
+    }
+    Ok(())
+}
+
+#[test]
+fn values_keep_their_limits(rt: HostRuntime) -> Result<(), Fail> {
+    let mut long = Vec::new(rt.alloc());
+    long.extend_from_slice(b"{\"")?;
+    long.extend_from_slice(&[b'a'; 65])?;
+    long.extend_from_slice(b"\"}")?;
+    assert_eq!(rt;
+        Value::read(rt.alloc(), &long).err(),
+        Some(ValueFault::TooLong(1))
+    );
+    let mut many = Vec::new(rt.alloc());
+    for c in b'#'..b'd' {
+        many.push(if c == b'#' { b'{' } else { b',' })?;
+        many.push(b'"')?;
+        many.push(c)?;
+        many.push(b'"')?;
+    }
+    many.push(b'}')?;
+    assert_eq!(rt;
+        Value::read(rt.alloc(), &many).err(),
+        Some(ValueFault::TooMany(65))
+    );
+    Ok(())
+}

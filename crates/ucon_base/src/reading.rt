@@ -1,0 +1,117 @@
+//! Integers and lone texts, read from their one spelling.
+
+ghost use Rattle.std.specs.Prelude.{◌≡◌, ◌≤◌, ◌<◌, pos, min, not, length, position, IfSome};
+ghost use Rattle.std.specs.List.{prefix_len};
+ghost use Rattle.ucon_base.specs.TextBytes.{is_text_byte};
+ghost use Rattle.ucon_base.specs.Reading.{is_digit, bad_number_place, bad_integer_place, number_of, spelled_integer, integer_read, text_len, bad_close, text_read};
+
+use crate::text::is_text_byte;
+use crate::{Int, Text, Value, ValueFault};
+
+/// The integer that the bytes spell.
+pub fn read_integer(bytes: &[u8]) -> Result<Value, ValueFault>
+    ensures { result ≡ integer_read bytes.now }
+{
+    match bad_integer_place(bytes) {
+        Some(at) => Err(ValueFault::BadSpelling(at)),
+        None => spelled_integer(bytes),
+    }
+}
+
+fn bad_integer_place(bytes: &[u8]) -> Option<usize>
+    ensures { result ≡ bad_integer_place bytes.now }
+{
+    match bytes {
+        [b'-', digits @ ..] => match bad_number_place(digits) {
+            Some(i) => Some(i + 1),
+            None => None,
+        },
+        [b'0'] => None,
+        [b'0', ..] => Some(1),
+        _ => bad_number_place(bytes),
+    }
+}
+
+fn bad_number_place(bytes: &[u8]) -> Option<usize>
+    ensures place { result ≡ bad_number_place bytes.now }
+    ensures within { IfSome result (λ i. i ≤ length bytes.now) }
+{
+    match bytes {
+        [first, digits @ ..] if *first >= b'1' && *first <= b'9' => match no_digit(digits) {
+            Some(i) => Some(i + 1),
+            None => None,
+        },
+        _ => Some(0),
+    }
+}
+
+fn no_digit(bytes: &[u8]) -> Option<usize>
+    ensures place { result ≡ position (λ d. not (is_digit d)) bytes.now }
+    ensures within { IfSome result (λ i. i < length bytes.now) }
+{
+    bytes.iter().position(|d| !is_digit(*d))
+}
+
+fn is_digit(b: u8) -> bool
+    ensures { result ≡ is_digit b }
+{
+    b >= b'0' && b <= b'9'
+}
+
+fn spelled_integer(bytes: &[u8]) -> Result<Value, ValueFault>
+    ensures { result ≡ spelled_integer bytes.now }
+{
+    let n = match bytes {
+        [b'-', digits @ ..] => Int::new(-number(digits)),
+        _ => Int::new(number(bytes)),
+    };
+    match n {
+        Some(n) => Ok(Value::Int(n)),
+        None => Err(ValueFault::OutOfRange),
+    }
+}
+
+/// The number that digits write, or the first out of range where it is above it.
+fn number(digits: &[u8]) -> i64
+    ensures { result ≡ pos (min (number_of digits.now) 1000000000000001) }
+{
+    let mut n: u64 = 0;
+    for d in digits {
+        n = (n * 10 + d.saturating_sub(b'0') as u64).min(1_000_000_000_000_001);
+    }
+    n as i64
+}
+
+/// The text whose bytes these are behind its opening quote.
+#[tactic(auto, using(crate::proofs::TextFront::long_front))]
+pub fn read_text(bytes: &[u8]) -> Result<Value, ValueFault>
+    ensures { result ≡ text_read bytes.now }
+{
+    let (text, rest) = bytes.split_at(text_len(bytes));
+    match bad_close(text.len() + 1, rest) {
+        Some(at) => Err(ValueFault::BadSpelling(at)),
+        None => match Text::read(text) {
+            Ok(text) => Ok(Value::Text(text)),
+            Err(_) => Err(ValueFault::TooLong(0)),
+        },
+    }
+}
+
+/// How many bytes of a text stand at the front.
+pub fn text_len(bytes: &[u8]) -> usize
+    ensures len { result ≡ text_len bytes.now }
+    ensures within { result ≤ length bytes.now }
+{
+    bytes.iter().take_while(|b| is_text_byte(**b)).count()
+}
+
+fn bad_close(at: usize, bytes: &[u8]) -> Option<usize>
+    requires { at < usize.MAX }
+    ensures { result ≡ bad_close at bytes.now }
+{
+    match bytes {
+        [b'"'] => None,
+        [b'"', ..] => Some(at + 1),
+        _ => Some(at),
+    }
+}
