@@ -1,8 +1,7 @@
--- How values and replies are spelled.
+-- How replies are spelled.
 use Rattle.std.specs.Prelude.{List, [], ◌∷◌, ◌++◌, codes}
-use Rattle.std.specs.Fmt.{decimal, signed_decimal}
-use Rattle.ucon_base.specs.declared.value.Value.{Value}
-use Rattle.ucon_base.specs.declared.value.Value.TheVariants as values
+use Rattle.std.specs.Fmt.{decimal}
+use Rattle.ucon_base.specs.Spelling.{value_spelling}
 use Rattle.ucon_model.specs.declared.reply.Head.{Head}
 use Rattle.ucon_model.specs.declared.reply.Head.TheVariants as heads
 use Rattle.ucon_model.specs.declared.reply.Refusal.{Refusal}
@@ -11,26 +10,6 @@ use Rattle.ucon_model.specs.declared.reply.Revoked.{Revoked}
 use Rattle.ucon_model.specs.declared.session.SessionState.{SessionState}
 use Rattle.ucon_model.specs.declared.session.SessionState.TheVariants as states
 use Rattle.ucon_model.specs.Plain.{Bytes, PlainReply, refused, made, value_is, status}
-
--- a text between its quotes
-abbrev pub quoted : Bytes → Bytes
-quoted t = 34 ∷ t ++ 34 ∷ []
-
--- further texts of a set, each behind a comma
-abbrev pub more_texts : List Bytes → Bytes
-more_texts [] = []
-more_texts (t ∷ ts) = 44 ∷ quoted t ++ more_texts ts
-
--- a set: its texts in order between braces
-abbrev pub set_spelling : List Bytes → Bytes
-set_spelling [] = codes "{}"
-set_spelling (t ∷ ts) = 123 ∷ quoted t ++ more_texts ts ++ 125 ∷ []
-
--- the one spelling of a value
-abbrev pub value_spelling : Value → Bytes
-value_spelling (values.Int n) = signed_decimal n
-value_spelling (values.Text t) = quoted t
-value_spelling (values.Set ts) = set_spelling ts
 
 -- the text of each refusal
 abbrev pub refusal_words : Refusal → Bytes

@@ -4,8 +4,9 @@ ghost use Rattle.std.specs.Prelude.{◌≡◌, ◌++◌, ◌∷◌, [], codes, O
 ghost use Rattle.std.specs.Fmt.{decimal, signed_decimal};
 ghost use Rattle.ucon_top.specs.ThinReply.{IsInteger, IsThinReply};
 ghost use Rattle.ucon_model.specs.Output.{Lacks};
+ghost use Rattle.ucon_base.specs.Spelling.{value_spelling};
 ghost use Rattle.ucon_model.specs.Views.{reply_of};
-ghost use Rattle.ucon_model.specs.Spelling.{value_spelling, refusal_words, head_spelling, revoked_spelling, reply_spelling};
+ghost use Rattle.ucon_model.specs.Spelling.{refusal_words, head_spelling, revoked_spelling, reply_spelling};
 
 use std::alloc::Global;
 use ucon_base::{Int, Name, NoMemory, Value};
