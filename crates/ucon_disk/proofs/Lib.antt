@@ -1,0 +1,7 @@
+mod Cuts
+mod Elapsed
+mod Filled
+mod Histories
+mod Kept
+mod Settled
+mod Writes

@@ -1,0 +1,10 @@
+pub mod Causes
+pub mod Disk
+pub mod FileDisk
+pub mod History
+pub mod Image
+pub mod MemDisk
+pub mod Moments
+pub mod Recorded
+pub mod Started
+pub mod Replayed

@@ -1,0 +1,182 @@
+//! A disk over a real file: the edge of what is proved. No clause says what a real file keeps.
+
+ghost use Rattle.std.specs.Prelude.{◌≡◌, ◌+◌, ◌^◌, ◌<◌, ◌≤◌, ⊤, None, length, MatchResult, IfOk, OnOk, IsErr};
+ghost use Rattle.ucon_disk.specs.Causes.{HasCause};
+
+use crate::{Disk, Failed};
+use std::fs::{File, OpenFile, OpenOptions};
+use std::io;
+use std::os::unix::fs::FileExt;
+use std::path::Path;
+use std::rt::Files;
+
+const MAX_END: u64 = (1 << 63) - 1;
+
+/// A file at a path, which is opened, and made where it isn't there, at the first call.
+#[derive(Drop)]
+pub struct FileDisk<R> {
+    rt: R,
+    path: String,
+    file: Option<File>,
+    faults: u64,
+}
+
+impl<R: Files<File = File>> FileDisk<R> {
+    ghost use Rattle.ucon_disk.specs.FileDisk.{file_faults};
+
+    pub fn new(rt: R, path: String) -> FileDisk<R>
+        ensures { file_faults result ≡ 0 }
+    {
+        FileDisk {
+            rt,
+            path,
+            file: None,
+            faults: 0,
+        }
+    }
+
+    fn open(&mut self) -> Result<(), Failed>
+        ensures { HasCause self.old.faults self.new.faults result }
+    {
+        if self.file.is_some() {
+            return Ok(());
+        }
+        let file = counted(&mut self.faults, opened(&self.rt, self.path.as_str()))?;
+        self.file = Some(file);
+        Ok(())
+    }
+}
+
+impl<R: Files<File = File>> Disk for FileDisk<R> {
+    ghost contents = { λ _. None };
+
+    ghost images = { λ _ _. ⊤ };
+
+    ghost moment = { λ _. 0 };
+
+    ghost images_since = { λ _ _ _. ⊤ };
+
+    ghost faults = { λ d. d.faults };
+
+    ghost as_read = { λ d. tt };
+
+    ghost counts_now = { λ d t c le image. tt };
+
+    ghost only_now = { λ d c since. tt };
+
+    ghost since_earlier = { λ d t u c le within since. tt };
+
+    fn len(&mut self) -> Result<u64, Failed> {
+        self.open()?;
+        let answer = match &self.file {
+            Some(file) => measure(file),
+            None => Err(not_open()),
+        };
+        counted(&mut self.faults, answer)
+    }
+
+    fn read_at(&mut self, at: u64, buf: &mut [u8]) -> Result<usize, Failed> {
+        self.open()?;
+        let answer = match &self.file {
+            Some(file) => read(file, at, buf),
+            None => Err(not_open()),
+        };
+        counted(&mut self.faults, answer)
+    }
+
+    fn write_at(&mut self, at: u64, bytes: &[u8]) -> Result<(), Failed> {
+        self.open()?;
+        let answer = match &self.file {
+            Some(file) => write(file, at, bytes),
+            None => Err(not_open()),
+        };
+        counted(&mut self.faults, answer)
+    }
+
+    fn cut(&mut self, len: u64) -> Result<(), Failed> {
+        self.open()?;
+        let answer = match &self.file {
+            Some(file) => file.set_len(len),
+            None => Err(not_open()),
+        };
+        counted(&mut self.faults, answer)
+    }
+
+    fn sync(&mut self) -> Result<(), Failed> {
+        self.open()?;
+        let answer = match &self.file {
+            Some(file) => file.sync_data(),
+            None => Err(not_open()),
+        };
+        counted(&mut self.faults, answer)
+    }
+}
+
+fn counted<T>(faults: &mut u64, answer: io::Result<T>) -> Result<T, Failed>
+    ensures value { MatchResult result (λ v. answer ≡ Ok v) (λ _. IsErr answer) }
+    ensures cause { HasCause faults.old faults.new result }
+{
+    match answer {
+        Ok(value) => Ok(value),
+        Err(_) => {
+            *faults = faults.saturating_add(1);
+            Err(Failed)
+        }
+    }
+}
+
+fn not_open() -> io::Error {
+    io::ErrorKind::NotFound.into()
+}
+
+// The folder is synced too, so that a crash doesn't lose the name of a new file.
+fn opened<R: Files<File = File>>(rt: &R, path: &str) -> io::Result<File> {
+    let mut how = OpenOptions::new();
+    how.read(true);
+    how.write(true);
+    how.create(true);
+    let file = how.open(rt, path)?;
+    let folder = match Path::new(path).parent() {
+        Some(folder) if !folder.as_str().is_empty() => folder,
+        _ => Path::new("."),
+    };
+    File::open(rt, folder)?.sync_all()?;
+    Ok(file)
+}
+
+fn measure(file: &File) -> io::Result<u64>
+    ensures { IfOk result (λ n. n < 2 ^ 63) }
+{
+    let len = file.metadata()?.len();
+    if len > MAX_END {
+        return Err(io::ErrorKind::InvalidData.into());
+    }
+    Ok(len)
+}
+
+// Reads until the buffer is full or the file ends, so that fewer bytes mean the end.
+fn read(file: &File, at: u64, buf: &mut [u8]) -> io::Result<usize>
+    ensures { IfOk result (λ n. n ≤ length buf.new) }
+{
+    let mut done = 0;
+    while done < buf.len() {
+        let place = at
+            .checked_add(done as u64)
+            .ok_or(io::ErrorKind::InvalidInput)?;
+        let n = file.read_at(&mut buf[done..], place)?;
+        if n == 0 {
+            break;
+        }
+        done += n;
+    }
+    Ok(done)
+}
+
+fn write(file: &File, at: u64, bytes: &[u8]) -> io::Result<()>
+    ensures { OnOk result (at + length bytes.now < 2 ^ 63) }
+{
+    if at > MAX_END || bytes.len() as u64 > MAX_END - at {
+        return Err(io::ErrorKind::InvalidInput.into());
+    }
+    file.write_all_at(bytes, at)
+}

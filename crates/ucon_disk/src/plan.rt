@@ -1,0 +1,52 @@
+//! Which calls of a disk in memory fail.
+
+ghost use Rattle.std.specs.Prelude.{◌≡◌, ◌≤◌, not, ◌&&◌, if◌then◌else◌, is_ok};
+
+use crate::Failed;
+use ucon_base::NoMemory;
+
+/// The numbers of the calls that fail, from 0, a number of calls from which on all fail, and counts.
+#[derive(Drop)]
+pub(crate) struct Plan {
+    pub failing: Vec<u64>,
+    pub stop_after: Option<u64>,
+    pub number: u64,
+    pub faults: u64,
+    pub short: u64,
+}
+
+impl Plan {
+    ghost use Rattle.ucon_disk.specs.Recorded.{counted, is_failing};
+
+    /// Counts a call that begins, and tells whether it is one that succeeds.
+    pub fn begin(&mut self) -> bool
+        ensures outcome { result ≡ not (is_failing self.old self.old.number) }
+        ensures counted { self.new ≡ record self.old { number = counted self.old.number } }
+    {
+        let number = self.number;
+        self.number = number.saturating_add(1);
+        let stopped = match self.stop_after {
+            Some(limit) => limit <= number,
+            None => false,
+        };
+        !(stopped || self.failing.contains(&number))
+    }
+
+    /// Counts a fault where the call fails: as it was to, or for want of memory, which is counted apart too.
+    pub fn end(&mut self, done: bool, kept: Result<(), NoMemory>) -> Result<(), Failed>
+        ensures outcome { is_ok result ≡ (done && is_ok kept) }
+        ensures counted { self.new ≡ record self.old {
+          faults = if done && is_ok kept then self.old.faults else counted self.old.faults;
+          short = if is_ok kept then self.old.short else counted self.old.short;
+        } }
+        ensures later { self.old.faults ≤ self.new.faults }
+    {
+        match kept {
+            Ok(()) if done => return Ok(()),
+            Ok(()) => {}
+            Err(NoMemory) => self.short = self.short.saturating_add(1),
+        }
+        self.faults = self.faults.saturating_add(1);
+        Err(Failed)
+    }
+}
