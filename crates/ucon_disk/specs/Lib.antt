@@ -8,3 +8,4 @@ pub mod Moments
 pub mod Recorded
 pub mod Started
 pub mod Replayed
+pub mod Run

@@ -1,0 +1,80 @@
+-- What holds of the bytes as read, where the disk tells.
+use Rattle.std.proofs.Common.{◌≡◌, ◌≢◌, ℕ, ◌+◌, ◌^◌, ◌<◌, List, [], ◌∷◌, ◌++◌, length, take, drop, Option, None, Some, IfSome, refl, sym, ◌∙◌, ap, subst}
+use Rattle.std.specs.Option.{option_map}
+use Rattle.ucon_disk.specs.Disk.{overwritten, Only}
+use Rattle.ucon_disk.specs.Run.{IsAtRest}
+use Rattle.ucon_journal.specs.JournalBytes.{record_bytes}
+use Rattle.ucon_journal.specs.Found.{NotJournal, found, counted, payloads_from, StandsAt}
+use Rattle.ucon_journal.specs.Opened.{opened}
+use Rattle.ucon_journal.specs.Journal.{told_payloads}
+use Rattle.ucon_journal.proofs.Openings.{opened_stands}
+use Rattle.ucon_journal.proofs.Files.{shut_file, stands_closed, counted-closed, drop-front}
+use Rattle.ucon_journal.proofs.Added.{staged, staged_file, opened_file, added_stands, added_shut, counted-added}
+
+pub told_at : {A : Type 0} {o : Option A} (P : A → Type 0) (x : A) → o ≡ Some x → IfSome o P → P x
+told_at P x is told = subst (λ o. IfSome o P) is told
+
+pub if_told : {A : Type 0} (o : Option A) (P : A → Type 0) → ((x : A) → o ≡ Some x → P x) → IfSome o P
+if_told None P each = tt
+if_told (Some x) P each = each x refl
+
+-- what a call made of the bytes is on the disk
+pub rests_after : (old new : Option (List ℕ)) (images : List ℕ → Type 0) (f : List ℕ → List ℕ) (file : List ℕ) → new ≡ option_map f old → Only new images → old ≡ Some file → IsAtRest new images (f file)
+rests_after old new images f file made only is =
+    let told : new ≡ Some (f file) = made ∙ ap (option_map f) is in
+    record { told = told; only = subst (λ o. Only o images) told only }
+
+-- read to the end; its last byte is a closed gate
+abbrev pub EndsAt : ℕ → List ℕ → Type 0
+EndsAt gate file = StandsAt file gate (counted file) × (payloads_from file gate ≡ [])
+
+abbrev pub ClosesAt : ℕ → List ℕ → Type 0
+ClosesAt gate file = StandsAt file gate (counted file) × (drop gate file ≡ 0 ∷ [])
+
+abbrev Mended : ℕ → Option (List ℕ) → Option (List ℕ) → Type 0
+Mended gate old new = IfSome new (ClosesAt gate) × (told_payloads new ≡ told_payloads old)
+
+mended_file : (file : List ℕ) (gate : ℕ) → EndsAt gate file → Mended gate (Some file) (Some (overwritten gate (0 ∷ []) (take (gate + 1) file)))
+mended_file file gate ends =
+    let shut = take gate file ++ 0 ∷ [] in
+    let same : counted shut ≡ counted file = counted-closed file gate (counted file) ends.0 in
+    let closed : Mended gate (Some file) (Some shut) =
+    ((subst (λ (ps : List (List ℕ)). StandsAt shut gate ps) (sym same) (stands_closed file gate (counted file) ends.0), drop-front file gate (counted file) ends.0 (0 ∷ [])), same) in
+    subst (λ (l : List ℕ). Mended gate (Some file) (Some l)) (sym (shut_file file gate (counted file) ends.0 ends.1)) closed
+
+pub mended : (gate : ℕ) (o cut shut : Option (List ℕ)) → IfSome o (EndsAt gate) → cut ≡ option_map (take (gate + 1)) o → shut ≡ option_map (overwritten gate (0 ∷ [])) cut → IfSome shut (ClosesAt gate) × (told_payloads shut ≡ told_payloads o)
+mended gate None cut shut ends is_cut is_shut = subst (Mended gate None) (sym (is_shut ∙ ap (option_map (overwritten gate (0 ∷ []))) is_cut)) (tt, refl)
+mended gate (Some file) cut shut ends is_cut is_shut = subst (Mended gate (Some file)) (sym (is_shut ∙ ap (option_map (overwritten gate (0 ∷ []))) is_cut)) (mended_file file gate ends)
+
+-- the file with a payload more
+abbrev pub with_payload : ℕ → List ℕ → List ℕ → List ℕ
+with_payload gate p file = take gate file ++ record_bytes p ++ 0 ∷ []
+
+pub record Appended (gate : ℕ) (p : List ℕ) (old new : Option (List ℕ)) : Type 0 where
+  pub closed : IfSome new (ClosesAt (gate + 5 + length p))
+  pub bytes : new ≡ option_map (with_payload gate p) old
+  pub added : IfSome old (λ file. told_payloads new ≡ told_payloads old ++ p ∷ [])
+
+appended_file : (file : List ℕ) (gate : ℕ) (p : List ℕ) → length p < 2 ^ 32 → ClosesAt gate file → Appended gate p (Some file) (Some (with_payload gate p file))
+appended_file file gate p short closes =
+    let same : counted (with_payload gate p file) ≡ counted file ++ p ∷ [] = counted-added file gate (counted file) closes.0 closes.1 p short in
+    record {
+      closed = (
+        subst (λ (ps : List (List ℕ)). StandsAt (with_payload gate p file) (gate + 5 + length p) ps) (sym same) (added_stands file gate (counted file) closes.0 closes.1 p short),
+        added_shut file gate (counted file) closes.0 closes.1 p short,
+      );
+      bytes = refl;
+      added = same;
+    }
+
+pub appended : (gate : ℕ) (p : List ℕ) (o one two : Option (List ℕ)) → length p < 2 ^ 32 → IfSome o (ClosesAt gate) → one ≡ option_map (overwritten (gate + 1) (staged p)) o → two ≡ option_map (overwritten gate (1 ∷ [])) one → Appended gate p o two
+appended gate p None one two short closes is_one is_two = subst (Appended gate p None) (sym (is_two ∙ ap (option_map (overwritten gate (1 ∷ []))) is_one)) (record { closed = tt; bytes = refl; added = tt })
+appended gate p (Some file) one two short closes is_one is_two =
+    let written : overwritten gate (1 ∷ []) (overwritten (gate + 1) (staged p) file) ≡ with_payload gate p file =
+    ap (λ (l : List ℕ). overwritten gate (1 ∷ []) l) (staged_file file gate (counted file) closes.0 closes.1 p short) ∙ opened_file file gate (counted file) closes.0 closes.1 p short in
+    subst (Appended gate p (Some file)) (sym (is_two ∙ ap (option_map (overwritten gate (1 ∷ []))) is_one ∙ ap Some written)) (appended_file file gate p short closes)
+
+-- what is opened can be read from the first gate on
+pub opened_told : (old new : Option (List ℕ)) → new ≡ option_map opened old → IfSome old (λ file. found file ≢ NotJournal) → IfSome new (λ file. (ps : List (List ℕ)) × StandsAt file 8 ps)
+opened_told None new is journal = subst (λ o. IfSome o (λ file. (ps : List (List ℕ)) × StandsAt file 8 ps)) (sym is) tt
+opened_told (Some file) new is journal = subst (λ o. IfSome o (λ file. (ps : List (List ℕ)) × StandsAt file 8 ps)) (sym is) ([], opened_stands file journal)

@@ -1,0 +1,93 @@
+use Rattle.std.proofs.Common.{◌≡◌, ℕ, ◌+◌, ◌^◌, ◌<◌, IfSome, List, length, inl, ◌∙◌, ap, subst, refl, arith}
+use Rattle.std.specs.Option.{option_map}
+use Rattle.ucon_disk.specs.Disk.{overwritten, Torn}
+use Rattle.ucon_disk.specs.Run.{weaker, joined}
+use Rattle.ucon_journal.specs.Found.{counted}
+use Rattle.ucon_journal.specs.Opened.{PerhapsAdded}
+use Rattle.ucon_journal.proofs.Added.{staged, stage_same, staged_file, open_perhaps}
+use Rattle.ucon_journal.proofs.Told.{told_at, rests_after, ClosesAt, appended}
+use Rattle.ucon_journal.proofs.journal.Journal.append.Goals as goal
+
+pub returns-in_err-write_synced-clause-images : goal.returns-in_err-write_synced-clause-images
+returns-in_err-write_synced-clause-images g c = record {
+  each = λ file rest.
+      let old = c.args.self.now.disk in
+      let gate = c.args.self.now.gate in
+      let p = c.args.payload.now in
+      let closes = told_at (ClosesAt gate) file rest.told c.requires.closed.told in
+      let n = length c.deref.result.now in
+      weaker g.D.Disk.moment g.D.Disk.images_since old c.write_synced.new.disk (Torn (gate + 1) n file) (PerhapsAdded p file) (λ x torn. inl (stage_same file gate (counted file) closes.0 closes.1 n x torn)) (c.write_synced.ensures.images.each file rest);
+}
+
+pub returns-in_err-write_synced-2-clause-images : goal.returns-in_err-write_synced-2-clause-images
+returns-in_err-write_synced-2-clause-images g c = record {
+  each = λ file rest.
+      let old = c.args.self.now.disk in
+      let mid = c.write_synced.new.disk in
+      let new = c.write_synced-2.new.disk in
+      let gate = c.args.self.now.gate in
+      let p = c.args.payload.now in
+      let short : length p < 2 ^ 32 = omega arith in
+      let closes = told_at (ClosesAt gate) file rest.told c.requires.closed.told in
+      let n = length c.deref.result.now in
+      let staging = weaker g.D.Disk.moment g.D.Disk.images_since old mid (Torn (gate + 1) n file) (PerhapsAdded p file) (λ x torn. inl (stage_same file gate (counted file) closes.0 closes.1 n x torn)) (c.write_synced.ensures.images.each file rest) in
+      let bytes : c.deref.result.now ≡ staged p = c.deref.ensures.value ∙ c.stage.ensures.staged in
+      let written = c.in_ok-write_synced.ensures.written ∙ ap (λ (l : List ℕ). option_map (overwritten (gate + 1) l) (g.D.Disk.contents old)) bytes in
+      let is_staged = staged_file file gate (counted file) closes.0 closes.1 p short in
+      let rest_staged = rests_after _ _ (g.D.Disk.images mid) (overwritten (gate + 1) (staged p)) file written c.in_ok-write_synced.ensures.only rest.told in
+      let opens = λ (x : List ℕ) (torn : Torn gate 1 (overwritten (gate + 1) (staged p) file) x). open_perhaps file gate (counted file) closes.0 closes.1 p short x (subst (λ (l : List ℕ). Torn gate 1 l x) is_staged torn) in
+      let opening = weaker g.D.Disk.moment g.D.Disk.images_since mid new (Torn gate 1 (overwritten (gate + 1) (staged p) file)) (PerhapsAdded p file) opens (c.write_synced-2.ensures.images.each (overwritten (gate + 1) (staged p) file) rest_staged) in
+      joined g.D.Disk.moment g.D.Disk.images_since old mid new (PerhapsAdded p file) staging opening;
+}
+
+pub returns-clause-images : goal.returns-clause-images
+returns-clause-images g c = record {
+  each = λ file rest.
+      let old = c.args.self.now.disk in
+      let mid = c.write_synced.new.disk in
+      let new = c.write_synced-2.new.disk in
+      let gate = c.args.self.now.gate in
+      let p = c.args.payload.now in
+      let short : length p < 2 ^ 32 = omega arith in
+      let closes = told_at (ClosesAt gate) file rest.told c.requires.closed.told in
+      let n = length c.deref.result.now in
+      let staging = weaker g.D.Disk.moment g.D.Disk.images_since old mid (Torn (gate + 1) n file) (PerhapsAdded p file) (λ x torn. inl (stage_same file gate (counted file) closes.0 closes.1 n x torn)) (c.write_synced.ensures.images.each file rest) in
+      let bytes : c.deref.result.now ≡ staged p = c.deref.ensures.value ∙ c.stage.ensures.staged in
+      let written = c.in_ok-write_synced.ensures.written ∙ ap (λ (l : List ℕ). option_map (overwritten (gate + 1) l) (g.D.Disk.contents old)) bytes in
+      let is_staged = staged_file file gate (counted file) closes.0 closes.1 p short in
+      let rest_staged = rests_after _ _ (g.D.Disk.images mid) (overwritten (gate + 1) (staged p)) file written c.in_ok-write_synced.ensures.only rest.told in
+      let opens = λ (x : List ℕ) (torn : Torn gate 1 (overwritten (gate + 1) (staged p) file) x). open_perhaps file gate (counted file) closes.0 closes.1 p short x (subst (λ (l : List ℕ). Torn gate 1 l x) is_staged torn) in
+      let opening = weaker g.D.Disk.moment g.D.Disk.images_since mid new (Torn gate 1 (overwritten (gate + 1) (staged p) file)) (PerhapsAdded p file) opens (c.write_synced-2.ensures.images.each (overwritten (gate + 1) (staged p) file) rest_staged) in
+      joined g.D.Disk.moment g.D.Disk.images_since old mid new (PerhapsAdded p file) staging opening;
+}
+
+pub returns-clause-closed : goal.returns-clause-closed
+returns-clause-closed g c =
+    let gate = c.args.self.now.gate in
+    let p = c.args.payload.now in
+    let short : length p < 2 ^ 32 = omega arith in
+    let bytes : c.deref.result.now ≡ staged p = c.deref.ensures.value ∙ c.stage.ensures.staged in
+    let written = c.in_ok-write_synced.ensures.written ∙ ap (λ (l : List ℕ). option_map (overwritten (gate + 1) l) (g.D.Disk.contents c.args.self.now.disk)) bytes in
+    let done = appended gate p _ _ _ short c.requires.closed.told written c.in_ok-write_synced-2.ensures.written in
+    let place : gate + 5 + length p ≡ gate + (5 + length p) = omega arith in
+    record { phase = refl; told = subst (λ k. IfSome (g.D.Disk.contents c.write_synced-2.new.disk) (ClosesAt k)) place done.closed }
+
+pub returns-clause-added : goal.returns-clause-added
+returns-clause-added g c =
+    let gate = c.args.self.now.gate in
+    let p = c.args.payload.now in
+    let short : length p < 2 ^ 32 = omega arith in
+    let bytes : c.deref.result.now ≡ staged p = c.deref.ensures.value ∙ c.stage.ensures.staged in
+    let written = c.in_ok-write_synced.ensures.written ∙ ap (λ (l : List ℕ). option_map (overwritten (gate + 1) l) (g.D.Disk.contents c.args.self.now.disk)) bytes in
+    let done = appended gate p _ _ _ short c.requires.closed.told written c.in_ok-write_synced-2.ensures.written in
+    done.added
+
+pub returns-clause-bytes : goal.returns-clause-bytes
+returns-clause-bytes g c =
+    let gate = c.args.self.now.gate in
+    let p = c.args.payload.now in
+    let short : length p < 2 ^ 32 = omega arith in
+    let bytes : c.deref.result.now ≡ staged p = c.deref.ensures.value ∙ c.stage.ensures.staged in
+    let written = c.in_ok-write_synced.ensures.written ∙ ap (λ (l : List ℕ). option_map (overwritten (gate + 1) l) (g.D.Disk.contents c.args.self.now.disk)) bytes in
+    let done = appended gate p _ _ _ short c.requires.closed.told written c.in_ok-write_synced-2.ensures.written in
+    done.bytes

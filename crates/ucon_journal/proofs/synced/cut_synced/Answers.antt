@@ -1,0 +1,35 @@
+use Rattle.std.proofs.Common.{List, ℕ, sym, subst}
+use Rattle.ucon_disk.specs.Disk.{Shortened}
+use Rattle.ucon_disk.specs.Run.{started, goes_on}
+use Rattle.ucon_journal.proofs.Steps.{shortened_same}
+use Rattle.ucon_journal.proofs.synced.cut_synced.Goals as goal
+
+pub returns-in_err-cut-clause-images : goal.returns-in_err-cut-clause-images
+returns-in_err-cut-clause-images g c = record {
+  each = λ file rest.
+      let P = (Shortened c.args.len file) in
+      let here = λ (x : List ℕ) (now : g.D.Disk.images c.cut.new.self x). let from = c.cut.ensures.images x now in subst (λ (d : List ℕ). Shortened c.args.len d x) (rest.only from.0 from.1) from.2 in
+      let at_start = started g.D.Disk.moment g.D.Disk.images_since c.args.disk.now P (λ x since. subst P (sym (rest.only x (g.met.D.Disk.only_now c.args.disk.now x since))) (shortened_same c.args.len file)) in
+      let changed = goes_on g.D.Disk.moment g.D.Disk.images_since c.args.disk.now c.args.disk.now c.cut.new.self P _ at_start c.cut.ensures.time here in
+      changed;
+}
+
+pub returns-in_err-sync-clause-images : goal.returns-in_err-sync-clause-images
+returns-in_err-sync-clause-images g c = record {
+  each = λ file rest.
+      let P = (Shortened c.args.len file) in
+      let here = λ (x : List ℕ) (now : g.D.Disk.images c.cut.new.self x). let from = c.cut.ensures.images x now in subst (λ (d : List ℕ). Shortened c.args.len d x) (rest.only from.0 from.1) from.2 in
+      let at_start = started g.D.Disk.moment g.D.Disk.images_since c.args.disk.now P (λ x since. subst P (sym (rest.only x (g.met.D.Disk.only_now c.args.disk.now x since))) (shortened_same c.args.len file)) in
+      let changed = goes_on g.D.Disk.moment g.D.Disk.images_since c.args.disk.now c.args.disk.now c.cut.new.self P _ at_start c.cut.ensures.time here in
+      goes_on g.D.Disk.moment g.D.Disk.images_since c.args.disk.now c.cut.new.self c.sync.new.self P _ changed c.sync.ensures.time (λ x now. here x (c.sync.ensures.images x now));
+}
+
+pub returns-clause-images : goal.returns-clause-images
+returns-clause-images g c = record {
+  each = λ file rest.
+      let P = (Shortened c.args.len file) in
+      let here = λ (x : List ℕ) (now : g.D.Disk.images c.cut.new.self x). let from = c.cut.ensures.images x now in subst (λ (d : List ℕ). Shortened c.args.len d x) (rest.only from.0 from.1) from.2 in
+      let at_start = started g.D.Disk.moment g.D.Disk.images_since c.args.disk.now P (λ x since. subst P (sym (rest.only x (g.met.D.Disk.only_now c.args.disk.now x since))) (shortened_same c.args.len file)) in
+      let changed = goes_on g.D.Disk.moment g.D.Disk.images_since c.args.disk.now c.args.disk.now c.cut.new.self P _ at_start c.cut.ensures.time here in
+      goes_on g.D.Disk.moment g.D.Disk.images_since c.args.disk.now c.cut.new.self c.sync.new.self P _ changed c.sync.ensures.time (λ x now. here x (c.sync.ensures.images x now));
+}

@@ -1,0 +1,41 @@
+-- A journal over a disk.
+use Rattle.std.specs.Prelude.{◌≡◌, ◌≢◌, ℕ, ◌+◌, ◌≤◌, List, [], ◌∷◌, length, drop, Option, None, Some, IfSome, vec_capacity}
+use Rattle.ucon_journal.specs.declared.journal.Journal.{Journal}
+use Rattle.ucon_journal.specs.declared.phase.Phase.TheVariants.{Ended, Closed}
+use Rattle.ucon_journal.specs.Found.{counted, payloads_from, StandsAt}
+
+abbrev pub disk_of : {D : Type 0} → Journal D → D
+disk_of j = j.disk
+
+-- the place of the gate that comes next
+abbrev pub gate_of : {D : Type 0} → Journal D → ℕ
+gate_of j = j.gate
+
+-- the payload that was read last
+abbrev pub payload_of : {D : Type 0} → Journal D → List ℕ
+payload_of j = j.buffer.items
+
+-- there is room for a payload of n bytes
+abbrev pub HasRoomFor : {D : Type 0} → Journal D → ℕ → Type 0
+HasRoomFor j n = n + 5 ≤ vec_capacity j.buffer
+
+-- the payloads that count in the bytes as read, where the disk tells
+abbrev pub told_payloads : Option (List ℕ) → List (List ℕ)
+told_payloads None = []
+told_payloads (Some file) = counted file
+
+-- it is being read, up to the gate
+pub record IsReading {D : Type 0} (contents : D → Option (List ℕ)) (j : Journal D) : Type 0 where
+  pub phase : j.phase ≢ Closed
+  pub told : IfSome (contents j.disk) (λ file. (payloads : List (List ℕ)) × StandsAt file j.gate payloads)
+  pub len : IfSome (contents j.disk) (λ file. j.len ≡ length file)
+
+-- it was read to the first gate whose record doesn't count
+pub record HasEnded {D : Type 0} (contents : D → Option (List ℕ)) (j : Journal D) : Type 0 where
+  pub phase : j.phase ≡ Ended
+  pub told : IfSome (contents j.disk) (λ file. StandsAt file j.gate (counted file) × (payloads_from file j.gate ≡ []))
+
+-- its last byte is a closed gate, behind the records of all its payloads
+pub record IsClosed {D : Type 0} (contents : D → Option (List ℕ)) (j : Journal D) : Type 0 where
+  pub phase : j.phase ≡ Closed
+  pub told : IfSome (contents j.disk) (λ file. StandsAt file j.gate (counted file) × (drop j.gate file ≡ 0 ∷ []))

@@ -1,0 +1,4 @@
+pub mod Found
+pub mod Journal
+pub mod JournalBytes
+pub mod Opened

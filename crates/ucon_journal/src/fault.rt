@@ -1,0 +1,59 @@
+//! Why a call of a journal failed.
+
+ghost use Rattle.ucon_journal.specs.declared.fault.OpenFault.TheVariants as open_faults;
+ghost use Rattle.ucon_journal.specs.declared.fault.TakeFault.TheVariants as take_faults;
+ghost use Rattle.std.specs.Prelude.{◌≡◌};
+
+use std::alloc::AllocError;
+use ucon_disk::Failed;
+
+/// The disk failed.
+#[derive(Clone, Copy, Debug, PartialEq, Eq)]
+pub struct DiskFault;
+
+impl From<Failed> for DiskFault {
+    fn from(_e: Failed) -> DiskFault {
+        DiskFault
+    }
+}
+
+/// Why a journal could not be opened.
+#[derive(Clone, Copy, Debug, PartialEq, Eq)]
+pub enum OpenFault {
+    NotJournal,
+    DiskFault,
+    NoMemory,
+}
+
+impl From<Failed> for OpenFault {
+    ghost from_gives = { λ _ e. e ≡ open_faults.DiskFault };
+
+    fn from(_e: Failed) -> OpenFault {
+        OpenFault::DiskFault
+    }
+}
+
+/// Why the next record could not be taken.
+#[derive(Clone, Copy, Debug, PartialEq, Eq)]
+pub enum TakeFault {
+    /// A whole record is too long. It has the place of its gate.
+    TooLong(u64),
+    DiskFault,
+    NoMemory,
+}
+
+impl From<Failed> for TakeFault {
+    ghost from_gives = { λ _ e. e ≡ take_faults.DiskFault };
+
+    fn from(_e: Failed) -> TakeFault {
+        TakeFault::DiskFault
+    }
+}
+
+impl From<AllocError> for TakeFault {
+    ghost from_gives = { λ _ e. e ≡ take_faults.NoMemory };
+
+    fn from(_e: AllocError) -> TakeFault {
+        TakeFault::NoMemory
+    }
+}

@@ -1,0 +1,218 @@
+//! A journal: payloads of bytes in records, each on the disk before it is acknowledged.
+
+ghost use Rattle.std.specs.Prelude.{◌≡◌, ◌≢◌, ◌+◌, ◌<◌, ◌≤◌, ◌^◌, false, List, ℕ, [], ◌∷◌, ◌++◌, length, take, Some, IsSome, IfSome, IfOk, IfErr, OnOk, OnErr, IsErrOf, MatchBool, MatchOption, true, vec_capacity};
+ghost use Rattle.std.specs.Int.{w32, to_be_bytes};
+ghost use Rattle.std.specs.Option.{option_map};
+ghost use Rattle.ucon_disk.specs.Causes.{HasCause, Rose};
+ghost use Rattle.ucon_disk.specs.Disk.{Only, SameImages};
+ghost use Rattle.ucon_disk.specs.Run.{LeavesOnly, LeavesAfter};
+ghost use Rattle.ucon_journal.specs.JournalBytes.{journal_bytes, record_bytes};
+ghost use Rattle.ucon_journal.specs.Found.{found, payloads_from, counts, length_told};
+ghost use Rattle.ucon_journal.specs.Found as finding;
+ghost use Rattle.ucon_journal.specs.Opened.{opened, SamePayloads, PerhapsAdded};
+
+use crate::fault::{DiskFault, OpenFault, TakeFault};
+use crate::opening::begin;
+use crate::phase::Phase;
+use crate::synced::{cut_synced, write_synced};
+use std::alloc::Global;
+use ucon_base::NoMemory;
+use ucon_disk::Disk;
+
+/// The place of the first gate.
+const FIRST_GATE: u64 = 8;
+
+/// A gate and four bytes of length.
+const HEADER: u64 = 5;
+
+/// The longest payload, in bytes.
+pub const MAX_PAYLOAD: u64 = 16_777_215;
+
+#[derive(Drop)]
+pub struct Journal<D> {
+    disk: D,
+    gate: u64,
+    len: u64,
+    buffer: Vec<u8>,
+    phase: Phase,
+    ghost gate_small: { gate < 2 ^ 63 },
+    ghost len_small: { len < 2 ^ 63 },
+}
+
+impl<D: Disk> Journal<D> {
+    ghost use Rattle.ucon_journal.specs.Journal.{disk_of, gate_of, payload_of, told_payloads, HasRoomFor, IsReading, HasEnded, IsClosed};
+
+    /// Opens the journal in a file, and makes it in a file of at most 9 bytes. A refusal hands the disk back.
+    pub fn open(alloc: Global, mut disk: D) -> Result<Journal<D>, (D, OpenFault)>
+        ensures reading { IfOk result (λ j. IsReading D.contents j × (gate_of j ≡ 8)) }
+        ensures bytes { IfOk result (λ j. D.contents (disk_of j) ≡ option_map opened (D.contents disk)) }
+        ensures only { IfOk result (λ j. Only (D.contents (disk_of j)) (D.images (disk_of j))) }
+        ensures images { IfOk result (λ j. LeavesAfter D.contents D.images D.moment D.images_since disk (disk_of j) SamePayloads) }
+        ensures later { IfOk result (λ j. D.faults disk ≤ D.faults (disk_of j)) }
+
+        ensures is_journal { IfOk result (λ _. IfSome (D.contents disk) (λ file. found file ≢ finding.NotJournal)) }
+        ensures not_journal { IfErr result (λ e. e.1 ≡ OpenFault.NotJournal
+            → IfSome (D.contents disk) (λ file. (found file ≡ finding.NotJournal) × (D.contents e.0 ≡ Some file))) }
+        ensures images_err { IfErr result (λ e. LeavesAfter D.contents D.images D.moment D.images_since disk e.0 SamePayloads) }
+        ensures later_err { IfErr result (λ e. D.faults disk ≤ D.faults e.0) }
+        ensures failed { IfErr result (λ e. e.1 ≡ OpenFault.DiskFault → Rose (D.faults disk) (D.faults e.0)) }
+    {
+        match begin(&mut disk) {
+            Ok(len) => Ok(Journal {
+                disk,
+                gate: FIRST_GATE,
+                len,
+                buffer: Vec::new(alloc),
+                phase: Phase::Reading,
+            }),
+            Err(fault) => Err((disk, fault)),
+        }
+    }
+
+    /// Takes the next record, whose payload `payload` gives then, and tells whether there was one.
+    pub fn next(&mut self) -> Result<bool, TakeFault>
+        requires { IsReading D.contents self.old }
+        ensures reading { IsReading D.contents self.new }
+        ensures taken { IfOk result (λ more. IfSome (D.contents (disk_of self.old)) (λ file. MatchBool more
+            ((payloads_from file (gate_of self.old) ≡ payload_of self.new ∷ payloads_from file (gate_of self.new)) × (length (payload_of self.new) ≤ MAX_PAYLOAD))
+            (payloads_from file (gate_of self.old) ≡ []))) }
+        ensures ended { IfOk result (λ more. more ≡ false → HasEnded D.contents self.new) }
+        ensures too_long { IfErr result (λ e. (place : ℕ) → e ≡ TakeFault.TooLong place → (place ≡ gate_of self.old)
+            × IfSome (D.contents (disk_of self.old)) (λ file. ((p : List ℕ) × (ps : List (List ℕ)) × (payloads_from file place ≡ p ∷ ps) × (MAX_PAYLOAD < length p)))) }
+        ensures stays { OnErr result (gate_of self.new ≡ gate_of self.old) }
+
+        ensures contents { D.contents (disk_of self.new) ≡ D.contents (disk_of self.old) }
+        ensures images { SameImages (D.images (disk_of self.old)) (D.images (disk_of self.new)) }
+        ensures run { LeavesOnly D.moment D.images_since (disk_of self.old) (disk_of self.new) (D.images (disk_of self.old)) }
+        ensures later { D.faults (disk_of self.old) ≤ D.faults (disk_of self.new) }
+        ensures failed { IsErrOf result TakeFault.DiskFault → Rose (D.faults (disk_of self.old)) (D.faults (disk_of self.new)) }
+    {
+        let mut header = [0; 5];
+        let got = self.disk.read_at(self.gate, &mut header)?;
+        let left = self.len.saturating_sub(self.gate);
+        let Some(len) = whole_len(&header[..got], left) else {
+            self.phase = Phase::Ended;
+            return Ok(false);
+        };
+        if len > MAX_PAYLOAD {
+            return Err(TakeFault::TooLong(self.gate));
+        }
+        self.buffer.resize(len as usize, 0)?;
+        let got = self.disk.read_at(self.gate + HEADER, &mut self.buffer)?;
+        if got < self.buffer.len() {
+            self.phase = Phase::Ended;
+            return Ok(false);
+        }
+        self.gate += HEADER + len;
+        Ok(true)
+    }
+
+    /// The payload that `next` has taken.
+    pub fn payload(&self) -> &[u8]
+        ensures { result.now ≡ payload_of self.now }
+    {
+        &self.buffer
+    }
+
+    /// Takes away what stands behind the last whole record, and closes the gate there. After a fault, open the file again.
+    pub fn mend(&mut self) -> Result<(), DiskFault>
+        requires { HasEnded D.contents self.old }
+        ensures closed { OnOk result (IsClosed D.contents self.new) }
+        ensures same { OnOk result (told_payloads (D.contents (disk_of self.new)) ≡ told_payloads (D.contents (disk_of self.old))) }
+        ensures gate { gate_of self.new ≡ gate_of self.old }
+        ensures only { OnOk result (Only (D.contents (disk_of self.new)) (D.images (disk_of self.new))) }
+        ensures images { LeavesAfter D.contents D.images D.moment D.images_since (disk_of self.old) (disk_of self.new) SamePayloads }
+        ensures cause { HasCause (D.faults (disk_of self.old)) (D.faults (disk_of self.new)) result }
+    {
+        self.phase = Phase::Broken;
+        // The cut has to be on the disk first: behind a gate that is torn open, what was there would count.
+        cut_synced(&mut self.disk, self.gate + 1)?;
+        write_synced(&mut self.disk, self.gate, &[0])?;
+        self.phase = Phase::Closed;
+        Ok(())
+    }
+
+    /// Makes room for a payload of so many bytes.
+    pub fn reserve(&mut self, n: usize) -> Result<(), NoMemory>
+        ensures room { OnOk result (HasRoomFor self.new n) }
+        ensures disk { disk_of self.new ≡ disk_of self.old }
+        ensures gate { gate_of self.new ≡ gate_of self.old }
+        ensures closed { IsClosed D.contents self.old → IsClosed D.contents self.new }
+    {
+        let all = n.checked_add(5).ok_or(NoMemory)?;
+        self.buffer.reserve(all)?;
+        Ok(())
+    }
+
+    /// Adds a payload. At `Ok` it is acknowledged: from then on each crash leaves a file that has it.
+    /// After a fault, open the file again.
+    pub fn append(&mut self, payload: &[u8]) -> Result<(), DiskFault>
+        requires closed { IsClosed D.contents self.old }
+        requires short { length payload.now ≤ MAX_PAYLOAD }
+        requires room { HasRoomFor self.old (length payload.now) }
+        ensures closed { OnOk result (IsClosed D.contents self.new) }
+        ensures room { (n : ℕ) → HasRoomFor self.old n → HasRoomFor self.new n }
+        ensures added { OnOk result (IfSome (D.contents (disk_of self.old)) (λ file.
+            told_payloads (D.contents (disk_of self.new)) ≡ told_payloads (D.contents (disk_of self.old)) ++ payload.now ∷ [])) }
+        ensures bytes { OnOk result (D.contents (disk_of self.new)
+            ≡ option_map (λ file. take (gate_of self.old) file ++ record_bytes payload.now ++ 0 ∷ []) (D.contents (disk_of self.old))) }
+        ensures gate { OnOk result (gate_of self.new ≡ gate_of self.old + 5 + length payload.now) }
+        ensures only { OnOk result (Only (D.contents (disk_of self.new)) (D.images (disk_of self.new))) }
+
+        // A crash at any moment of the call leaves the payloads from before it, with the new one or without.
+        ensures images { LeavesAfter D.contents D.images D.moment D.images_since (disk_of self.old) (disk_of self.new) (PerhapsAdded payload.now) }
+        ensures cause { HasCause (D.faults (disk_of self.old)) (D.faults (disk_of self.new)) result }
+    {
+        self.phase = Phase::Broken;
+        stage(&mut self.buffer, payload);
+        write_synced(&mut self.disk, self.gate + 1, &self.buffer)?;
+        // The gate is opened once what it shows is on the disk.
+        write_synced(&mut self.disk, self.gate, &[1])?;
+        self.gate += HEADER + payload.len() as u64;
+        self.phase = Phase::Closed;
+        Ok(())
+    }
+
+    pub fn close(self) -> D
+        ensures { result ≡ disk_of self }
+    {
+        let Journal {
+            disk,
+            gate: _,
+            len: _,
+            buffer: _,
+            phase: _,
+        } = self;
+        disk
+    }
+}
+
+// The length of the payload of the record at the front of so many bytes, of which these are the first five,
+// if the record counts.
+fn whole_len(header: &[u8], left: u64) -> Option<u64>
+    ensures counts { (bytes : List ℕ) → header.now ≡ take 5 bytes → left ≡ length bytes
+        → MatchOption result (counts bytes ≡ false) (λ n. (counts bytes ≡ true) × (n ≡ length_told bytes)) }
+    ensures short { IfSome result (λ n. n < 2 ^ 32) }
+    ensures within { IfSome result (λ n. 5 + n < left) }
+{
+    if header.len() < 5 || header[0] != 1 {
+        return None;
+    }
+    let len = u64::from(u32::from_be_bytes([header[1], header[2], header[3], header[4]]));
+    if HEADER + len < left { Some(len) } else { None }
+}
+
+// What stands behind a gate: the length, the payload, and the next gate, closed.
+fn stage(buffer: &mut Vec<u8>, payload: &[u8])
+    requires short { length payload.now < 2 ^ 32 }
+    requires room { length payload.now + 5 ≤ vec_capacity buffer.old }
+    ensures staged { buffer.new.items ≡ to_be_bytes w32 (length payload.now) ++ payload.now ++ 0 ∷ [] }
+    ensures room { vec_capacity buffer.old ≤ vec_capacity buffer.new }
+{
+    buffer.clear();
+    buffer
+        .extend_from_slice(&(payload.len() as u32).to_be_bytes())
+        .unwrap();
+    buffer.extend_from_slice(payload).unwrap();
+    buffer.extend_from_slice(&[0]).unwrap();
+}

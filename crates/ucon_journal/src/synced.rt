@@ -1,0 +1,34 @@
+//! Changes of a file that are on the disk when they return.
+
+ghost use Rattle.std.specs.Prelude.{◌≡◌, ◌+◌, ◌<◌, ◌≤◌, ◌^◌, length, take, IfSome, OnOk};
+ghost use Rattle.std.specs.Option.{option_map};
+ghost use Rattle.ucon_disk.specs.Causes.{HasCause};
+ghost use Rattle.ucon_disk.specs.Disk.{overwritten, HasPlace, Torn, Shortened, Only};
+ghost use Rattle.ucon_disk.specs.Run.{LeavesAfter};
+
+use ucon_disk::{Disk, Failed};
+
+pub(crate) fn write_synced<D: Disk>(disk: &mut D, at: u64, bytes: &[u8]) -> Result<(), Failed>
+    requires { HasPlace (D.contents disk.old) at (length bytes.now) }
+    ensures small { OnOk result (at + length bytes.now < 2 ^ 63) }
+    ensures written { OnOk result (D.contents disk.new ≡ option_map (overwritten at bytes.now) (D.contents disk.old)) }
+    ensures only { OnOk result (Only (D.contents disk.new) (D.images disk.new)) }
+    ensures images { LeavesAfter D.contents D.images D.moment D.images_since disk.old disk.new (Torn at (length bytes.now)) }
+    ensures cause { HasCause (D.faults disk.old) (D.faults disk.new) result }
+{
+    disk.write_at(at, bytes)?;
+    disk.sync()?;
+    Ok(())
+}
+
+pub(crate) fn cut_synced<D: Disk>(disk: &mut D, len: u64) -> Result<(), Failed>
+    requires { IfSome (D.contents disk.old) (λ file. len ≤ length file) }
+    ensures cut { OnOk result (D.contents disk.new ≡ option_map (take len) (D.contents disk.old)) }
+    ensures only { OnOk result (Only (D.contents disk.new) (D.images disk.new)) }
+    ensures images { LeavesAfter D.contents D.images D.moment D.images_since disk.old disk.new (Shortened len) }
+    ensures cause { HasCause (D.faults disk.old) (D.faults disk.new) result }
+{
+    disk.cut(len)?;
+    disk.sync()?;
+    Ok(())
+}
