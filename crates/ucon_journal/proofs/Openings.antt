@@ -1,13 +1,15 @@
 -- A file that is opened as a journal.
-use Rattle.std.proofs.Common.{◌≡◌, ◌≢◌, inl, inr, ℕ, ◌+◌, ◌≤◌, cond, nat_le, List, [], ◌∷◌, ◌++◌, length, take, drop, sym, ◌∙◌, ap, arith, length-drop, take-append-drop}
+use Rattle.std.proofs.Common.{◌≡◌, ◌≢◌, inl, inr, ℕ, ◌+◌, ◌-◌, ◌<◌, ◌≤◌, false, refl, cond, nat_le, List, [], ◌∷◌, ◌++◌, length, take, drop, sym, ◌∙◌, ap, arith, append_assoc, length-append, length-drop, take-append-drop}
+use Rattle.std.proofs.lemmas.List.{append-nil}
 use Rattle.std.specs.Prelude.{bytes_eq}
-use Rattle.std.proofs.lemmas.Bool.{cases_Bool, le-leb, leb-false}
+use Rattle.std.proofs.lemmas.Bool.{cases_Bool, le-leb, lt-leb, leb-true, leb-false}
 use Rattle.std.proofs.lemmas.Slice.Eq.{bytes_eq-Decides}
 use Rattle.ucon_disk.specs.Disk.{Torn}
-use Rattle.ucon_journal.specs.JournalBytes.{magic, records}
-use Rattle.ucon_journal.specs.Found.{Fresh, NotJournal, Holds, found, payloads_from, payloads_found, counted, StandsAt}
+use Rattle.ucon_journal.specs.JournalBytes.{magic, record_bytes, records, journal_bytes, AreShort}
+use Rattle.ucon_journal.specs.Found.{Fresh, NotJournal, Holds, found, payloads_after, payloads_from, payloads_found, counted, StandsAt}
 use Rattle.ucon_journal.specs.Opened.{opened}
-use Rattle.ucon_journal.proofs.Records.{reads_none}
+use Rattle.ucon_journal.proofs.Records.{reads_none, payloads_after-record}
+use Rattle.ucon_journal.proofs.Files.{counted-magic}
 
 -- at most 9 bytes have no record
 pub counted-short : (c : List ℕ) → length c ≤ 9 → counted c ≡ []
@@ -44,3 +46,34 @@ opened_stands file is_journal = elim (cases_Bool (nat_le (length file) 9)) [
         reads = reads_none;
       }
 ]
+
+pub counted-opened : (file : List ℕ) → counted (opened file) ≡ counted file
+counted-opened file = elim (cases_Bool (nat_le (length file) 9)) [
+  | inl e ↦ ap (λ b. counted (cond b (magic ++ [] ++ 0 ∷ []) file)) e ∙ sym (counted-short file (leb-true (length file) 9 e))
+  | inr e ↦ ap (λ b. counted (cond b (magic ++ [] ++ 0 ∷ []) file)) e
+]
+
+-- what was written is found
+payloads_after-records : (ps : List (List ℕ)) (rest : List ℕ) → AreShort ps → 0 < length rest → payloads_after 0 (records ps ++ rest) ≡ ps ++ payloads_after 0 rest
+payloads_after-records [] rest short some = refl
+payloads_after-records (p ∷ ps) rest short some =
+    ap (λ (l : List ℕ). payloads_after 0 l) (append_assoc (record_bytes p) (records ps) rest)
+    ∙ payloads_after-record p (records ps ++ rest) short.0 (omega (arith, some, length-append (records ps) rest))
+    ∙ ap (λ (qs : List (List ℕ)). p ∷ qs) (payloads_after-records ps rest short.1 some)
+
+payloads_behind_magic : (ps : List (List ℕ)) → AreShort ps → payloads_after 0 (records ps ++ 0 ∷ []) ≡ ps
+payloads_behind_magic ps short = payloads_after-records ps (0 ∷ []) short (omega arith) ∙ append-nil ps
+
+pub counted-journal_bytes : (ps : List (List ℕ)) → AreShort ps → counted (journal_bytes ps) ≡ ps
+counted-journal_bytes ps short = ap counted (append_assoc magic (records ps) (0 ∷ [])) ∙ counted-magic (records ps ++ 0 ∷ []) ∙ payloads_behind_magic ps short
+
+pub found-journal_bytes : (p : List ℕ) (ps : List (List ℕ)) → AreShort (p ∷ ps) → found (journal_bytes (p ∷ ps)) ≡ Holds (p ∷ ps) (length (journal_bytes (p ∷ ps)) - 1)
+found-journal_bytes p ps short =
+    let all = journal_bytes (p ∷ ps) in
+    let size : length all ≡ 8 + length (records (p ∷ ps)) + 1 = omega (arith, length-append (magic ++ records (p ∷ ps)) (0 ∷ []), length-append magic (records (p ∷ ps))) in
+    let long : nat_le (length all) 9 ≡ false = lt-leb (length all) 9 (omega (arith, size, length-append (record_bytes p) (records ps))) in
+    let read : payloads_from all 8 ≡ p ∷ ps = payloads_behind_magic (p ∷ ps) short in
+    let place : 8 + length (records (p ∷ ps)) ≡ length all - 1 = omega (arith, size) in
+    ap (λ b. cond b Fresh (Holds (payloads_from all 8) (8 + length (records (payloads_from all 8))))) long
+    ∙ ap (λ (qs : List (List ℕ)). Holds qs (8 + length (records qs))) read
+    ∙ ap (λ k. Holds (p ∷ ps) k) place

@@ -3,12 +3,11 @@ use Rattle.std.proofs.Common.{◌≡◌, ◌≢◌, ℕ, ◌+◌, ◌^◌, ◌<�
 use Rattle.std.specs.Option.{option_map}
 use Rattle.ucon_disk.specs.Disk.{overwritten, Only}
 use Rattle.ucon_disk.specs.Run.{IsAtRest}
-use Rattle.ucon_journal.specs.JournalBytes.{record_bytes}
 use Rattle.ucon_journal.specs.Found.{NotJournal, found, counted, payloads_from, StandsAt}
-use Rattle.ucon_journal.specs.Opened.{opened}
+use Rattle.ucon_journal.specs.Opened.{opened, shut_at, with_payload}
 use Rattle.ucon_journal.specs.Journal.{told_payloads}
-use Rattle.ucon_journal.proofs.Openings.{opened_stands}
-use Rattle.ucon_journal.proofs.Files.{shut_file, stands_closed, counted-closed, drop-front}
+use Rattle.ucon_journal.proofs.Openings.{opened_stands, counted-opened}
+use Rattle.ucon_journal.proofs.Files.{counted-stands, shut_file, stands_closed, counted-closed, drop-front}
 use Rattle.ucon_journal.proofs.Added.{staged, staged_file, opened_file, added_stands, added_shut, counted-added}
 
 pub told_at : {A : Type 0} {o : Option A} (P : A → Type 0) (x : A) → o ≡ Some x → IfSome o P → P x
@@ -31,24 +30,26 @@ EndsAt gate file = StandsAt file gate (counted file) × (payloads_from file gate
 abbrev pub ClosesAt : ℕ → List ℕ → Type 0
 ClosesAt gate file = StandsAt file gate (counted file) × (drop gate file ≡ 0 ∷ [])
 
-abbrev Mended : ℕ → Option (List ℕ) → Option (List ℕ) → Type 0
-Mended gate old new = IfSome new (ClosesAt gate) × (told_payloads new ≡ told_payloads old)
+pub record Mended (gate : ℕ) (old new : Option (List ℕ)) : Type 0 where
+  pub closed : IfSome new (ClosesAt gate)
+  pub same : told_payloads new ≡ told_payloads old
+  pub bytes : new ≡ option_map (shut_at gate) old
 
 mended_file : (file : List ℕ) (gate : ℕ) → EndsAt gate file → Mended gate (Some file) (Some (overwritten gate (0 ∷ []) (take (gate + 1) file)))
 mended_file file gate ends =
     let shut = take gate file ++ 0 ∷ [] in
     let same : counted shut ≡ counted file = counted-closed file gate (counted file) ends.0 in
     let closed : Mended gate (Some file) (Some shut) =
-    ((subst (λ (ps : List (List ℕ)). StandsAt shut gate ps) (sym same) (stands_closed file gate (counted file) ends.0), drop-front file gate (counted file) ends.0 (0 ∷ [])), same) in
+    record {
+      closed = (subst (λ (ps : List (List ℕ)). StandsAt shut gate ps) (sym same) (stands_closed file gate (counted file) ends.0), drop-front file gate (counted file) ends.0 (0 ∷ []));
+      same = same;
+      bytes = refl;
+    } in
     subst (λ (l : List ℕ). Mended gate (Some file) (Some l)) (sym (shut_file file gate (counted file) ends.0 ends.1)) closed
 
-pub mended : (gate : ℕ) (o cut shut : Option (List ℕ)) → IfSome o (EndsAt gate) → cut ≡ option_map (take (gate + 1)) o → shut ≡ option_map (overwritten gate (0 ∷ [])) cut → IfSome shut (ClosesAt gate) × (told_payloads shut ≡ told_payloads o)
-mended gate None cut shut ends is_cut is_shut = subst (Mended gate None) (sym (is_shut ∙ ap (option_map (overwritten gate (0 ∷ []))) is_cut)) (tt, refl)
+pub mended : (gate : ℕ) (o cut shut : Option (List ℕ)) → IfSome o (EndsAt gate) → cut ≡ option_map (take (gate + 1)) o → shut ≡ option_map (overwritten gate (0 ∷ [])) cut → Mended gate o shut
+mended gate None cut shut ends is_cut is_shut = subst (Mended gate None) (sym (is_shut ∙ ap (option_map (overwritten gate (0 ∷ []))) is_cut)) (record { closed = tt; same = refl; bytes = refl })
 mended gate (Some file) cut shut ends is_cut is_shut = subst (Mended gate (Some file)) (sym (is_shut ∙ ap (option_map (overwritten gate (0 ∷ []))) is_cut)) (mended_file file gate ends)
-
--- the file with a payload more
-abbrev pub with_payload : ℕ → List ℕ → List ℕ → List ℕ
-with_payload gate p file = take gate file ++ record_bytes p ++ 0 ∷ []
 
 pub record Appended (gate : ℕ) (p : List ℕ) (old new : Option (List ℕ)) : Type 0 where
   pub closed : IfSome new (ClosesAt (gate + 5 + length p))
@@ -78,3 +79,13 @@ appended gate p (Some file) one two short closes is_one is_two =
 pub opened_told : (old new : Option (List ℕ)) → new ≡ option_map opened old → IfSome old (λ file. found file ≢ NotJournal) → IfSome new (λ file. (ps : List (List ℕ)) × StandsAt file 8 ps)
 opened_told None new is journal = subst (λ o. IfSome o (λ file. (ps : List (List ℕ)) × StandsAt file 8 ps)) (sym is) tt
 opened_told (Some file) new is journal = subst (λ o. IfSome o (λ file. (ps : List (List ℕ)) × StandsAt file 8 ps)) (sym is) ([], opened_stands file journal)
+
+-- and all that counts in it is read from there
+pub opened_all : (old new : Option (List ℕ)) → new ≡ option_map opened old → IfSome old (λ file. found file ≢ NotJournal) → IfSome new (λ file. payloads_from file 8 ≡ counted file)
+opened_all None new is journal = subst (λ o. IfSome o (λ file. payloads_from file 8 ≡ counted file)) (sym is) tt
+opened_all (Some file) new is journal = subst (λ o. IfSome o (λ file. payloads_from file 8 ≡ counted file)) (sym is) (sym (counted-stands (opened file) 8 [] (opened_stands file journal)))
+
+-- the same payloads are found in it
+pub opened_same : (old new : Option (List ℕ)) → new ≡ option_map opened old → told_payloads new ≡ told_payloads old
+opened_same None new is = ap told_payloads is
+opened_same (Some file) new is = ap told_payloads is ∙ counted-opened file

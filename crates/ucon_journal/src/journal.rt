@@ -1,15 +1,15 @@
 //! A journal: payloads of bytes in records, each on the disk before it is acknowledged.
 
-ghost use Rattle.std.specs.Prelude.{◌≡◌, ◌≢◌, ◌+◌, ◌<◌, ◌≤◌, ◌^◌, false, List, ℕ, [], ◌∷◌, ◌++◌, length, take, Some, IsSome, IfSome, IfOk, IfErr, OnOk, OnErr, IsErrOf, MatchBool, MatchOption, true, vec_capacity};
+ghost use Rattle.std.specs.Prelude.{◌≡◌, ◌≢◌, ◌+◌, ◌-◌, ◌<◌, ◌≤◌, ◌^◌, false, List, ℕ, Some, [], ◌∷◌, ◌++◌, length, take, Ok, IsSome, IfSome, IfOk, IfErr, OnOk, IsErrOf, MatchBool, MatchOption, true, vec_capacity};
 ghost use Rattle.std.specs.Int.{w32, to_be_bytes};
 ghost use Rattle.std.specs.Option.{option_map};
 ghost use Rattle.ucon_disk.specs.Causes.{HasCause, Rose};
 ghost use Rattle.ucon_disk.specs.Disk.{Only, SameImages};
 ghost use Rattle.ucon_disk.specs.Run.{LeavesOnly, LeavesAfter};
-ghost use Rattle.ucon_journal.specs.JournalBytes.{journal_bytes, record_bytes};
-ghost use Rattle.ucon_journal.specs.Found.{found, payloads_from, counts, length_told};
+ghost use Rattle.ucon_journal.specs.JournalBytes.{AreShort, journal_bytes};
+ghost use Rattle.ucon_journal.specs.Found.{found, counted, payloads_from, counts, length_told};
 ghost use Rattle.ucon_journal.specs.Found as finding;
-ghost use Rattle.ucon_journal.specs.Opened.{opened, SamePayloads, PerhapsAdded};
+ghost use Rattle.ucon_journal.specs.Opened.{opened, shut_at, with_payload, SamePayloads, PerhapsAdded};
 
 use crate::fault::{DiskFault, OpenFault, TakeFault};
 use crate::opening::begin;
@@ -46,6 +46,8 @@ impl<D: Disk> Journal<D> {
     pub fn open(alloc: Global, mut disk: D) -> Result<Journal<D>, (D, OpenFault)>
         ensures reading { IfOk result (λ j. IsReading D.contents j × (gate_of j ≡ 8)) }
         ensures bytes { IfOk result (λ j. D.contents (disk_of j) ≡ option_map opened (D.contents disk)) }
+        ensures same { IfOk result (λ j. told_payloads (D.contents (disk_of j)) ≡ told_payloads (D.contents disk)) }
+        ensures all { IfOk result (λ j. IfSome (D.contents (disk_of j)) (λ file. payloads_from file 8 ≡ counted file)) }
         ensures only { IfOk result (λ j. Only (D.contents (disk_of j)) (D.images (disk_of j))) }
         ensures images { IfOk result (λ j. LeavesAfter D.contents D.images D.moment D.images_since disk (disk_of j) SamePayloads) }
         ensures later { IfOk result (λ j. D.faults disk ≤ D.faults (disk_of j)) }
@@ -79,7 +81,7 @@ impl<D: Disk> Journal<D> {
         ensures ended { IfOk result (λ more. more ≡ false → HasEnded D.contents self.new) }
         ensures too_long { IfErr result (λ e. (place : ℕ) → e ≡ TakeFault.TooLong place → (place ≡ gate_of self.old)
             × IfSome (D.contents (disk_of self.old)) (λ file. ((p : List ℕ) × (ps : List (List ℕ)) × (payloads_from file place ≡ p ∷ ps) × (MAX_PAYLOAD < length p)))) }
-        ensures stays { OnErr result (gate_of self.new ≡ gate_of self.old) }
+        ensures stays { result ≢ Ok true → gate_of self.new ≡ gate_of self.old }
 
         ensures contents { D.contents (disk_of self.new) ≡ D.contents (disk_of self.old) }
         ensures images { SameImages (D.images (disk_of self.old)) (D.images (disk_of self.new)) }
@@ -119,6 +121,7 @@ impl<D: Disk> Journal<D> {
         requires { HasEnded D.contents self.old }
         ensures closed { OnOk result (IsClosed D.contents self.new) }
         ensures same { OnOk result (told_payloads (D.contents (disk_of self.new)) ≡ told_payloads (D.contents (disk_of self.old))) }
+        ensures bytes { OnOk result (D.contents (disk_of self.new) ≡ option_map (shut_at (gate_of self.old)) (D.contents (disk_of self.old))) }
         ensures gate { gate_of self.new ≡ gate_of self.old }
         ensures only { OnOk result (Only (D.contents (disk_of self.new)) (D.images (disk_of self.new))) }
         ensures images { LeavesAfter D.contents D.images D.moment D.images_since (disk_of self.old) (disk_of self.new) SamePayloads }
@@ -155,7 +158,7 @@ impl<D: Disk> Journal<D> {
         ensures added { OnOk result (IfSome (D.contents (disk_of self.old)) (λ file.
             told_payloads (D.contents (disk_of self.new)) ≡ told_payloads (D.contents (disk_of self.old)) ++ payload.now ∷ [])) }
         ensures bytes { OnOk result (D.contents (disk_of self.new)
-            ≡ option_map (λ file. take (gate_of self.old) file ++ record_bytes payload.now ++ 0 ∷ []) (D.contents (disk_of self.old))) }
+            ≡ option_map (with_payload (gate_of self.old) payload.now) (D.contents (disk_of self.old))) }
         ensures gate { OnOk result (gate_of self.new ≡ gate_of self.old + 5 + length payload.now) }
         ensures only { OnOk result (Only (D.contents (disk_of self.new)) (D.images (disk_of self.new))) }
 
@@ -186,6 +189,14 @@ impl<D: Disk> Journal<D> {
         disk
     }
 }
+
+/// The law of reading back: what counts in the bytes of payloads is those payloads, up to the last gate.
+pub fn reads_back()
+    ensures payloads { (ps : List (List ℕ)) → AreShort ps → counted (journal_bytes ps) ≡ ps }
+    ensures gate { (p : List ℕ) (ps : List (List ℕ)) → AreShort (p ∷ ps)
+        → found (journal_bytes (p ∷ ps)) ≡ finding.Holds (p ∷ ps) (length (journal_bytes (p ∷ ps)) - 1) }
+    ensures fresh { found (journal_bytes []) ≡ finding.Fresh }
+{}
 
 // The length of the payload of the record at the front of so many bytes, of which these are the first five,
 // if the record counts.

@@ -8,5 +8,8 @@ mod phase;
 mod synced;
 
 pub use fault::{DiskFault, OpenFault, TakeFault};
-pub use journal::{Journal, MAX_PAYLOAD};
+pub use journal::{Journal, MAX_PAYLOAD, reads_back};
 pub use phase::Phase;
+
+#[cfg(test)]
+mod tests;

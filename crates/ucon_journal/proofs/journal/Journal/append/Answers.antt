@@ -32,7 +32,7 @@ returns-in_err-write_synced-2-clause-images g c = record {
       let n = length c.deref.result.now in
       let staging = weaker g.D.Disk.moment g.D.Disk.images_since old mid (Torn (gate + 1) n file) (PerhapsAdded p file) (λ x torn. inl (stage_same file gate (counted file) closes.0 closes.1 n x torn)) (c.write_synced.ensures.images.each file rest) in
       let bytes : c.deref.result.now ≡ staged p = c.deref.ensures.value ∙ c.stage.ensures.staged in
-      let written = c.in_ok-write_synced.ensures.written ∙ ap (λ (l : List ℕ). option_map (overwritten (gate + 1) l) (g.D.Disk.contents old)) bytes in
+      let written : g.D.Disk.contents c.write_synced.new.disk ≡ option_map (overwritten (gate + 1) (staged p)) (g.D.Disk.contents c.args.self.now.disk) = c.in_ok-write_synced.ensures.written ∙ ap (λ (l : List ℕ). option_map (overwritten (gate + 1) l) (g.D.Disk.contents old)) bytes in
       let is_staged = staged_file file gate (counted file) closes.0 closes.1 p short in
       let rest_staged = rests_after _ _ (g.D.Disk.images mid) (overwritten (gate + 1) (staged p)) file written c.in_ok-write_synced.ensures.only rest.told in
       let opens = λ (x : List ℕ) (torn : Torn gate 1 (overwritten (gate + 1) (staged p) file) x). open_perhaps file gate (counted file) closes.0 closes.1 p short x (subst (λ (l : List ℕ). Torn gate 1 l x) is_staged torn) in
@@ -53,7 +53,7 @@ returns-clause-images g c = record {
       let n = length c.deref.result.now in
       let staging = weaker g.D.Disk.moment g.D.Disk.images_since old mid (Torn (gate + 1) n file) (PerhapsAdded p file) (λ x torn. inl (stage_same file gate (counted file) closes.0 closes.1 n x torn)) (c.write_synced.ensures.images.each file rest) in
       let bytes : c.deref.result.now ≡ staged p = c.deref.ensures.value ∙ c.stage.ensures.staged in
-      let written = c.in_ok-write_synced.ensures.written ∙ ap (λ (l : List ℕ). option_map (overwritten (gate + 1) l) (g.D.Disk.contents old)) bytes in
+      let written : g.D.Disk.contents c.write_synced.new.disk ≡ option_map (overwritten (gate + 1) (staged p)) (g.D.Disk.contents c.args.self.now.disk) = c.in_ok-write_synced.ensures.written ∙ ap (λ (l : List ℕ). option_map (overwritten (gate + 1) l) (g.D.Disk.contents old)) bytes in
       let is_staged = staged_file file gate (counted file) closes.0 closes.1 p short in
       let rest_staged = rests_after _ _ (g.D.Disk.images mid) (overwritten (gate + 1) (staged p)) file written c.in_ok-write_synced.ensures.only rest.told in
       let opens = λ (x : List ℕ) (torn : Torn gate 1 (overwritten (gate + 1) (staged p) file) x). open_perhaps file gate (counted file) closes.0 closes.1 p short x (subst (λ (l : List ℕ). Torn gate 1 l x) is_staged torn) in
@@ -67,7 +67,7 @@ returns-clause-closed g c =
     let p = c.args.payload.now in
     let short : length p < 2 ^ 32 = omega arith in
     let bytes : c.deref.result.now ≡ staged p = c.deref.ensures.value ∙ c.stage.ensures.staged in
-    let written = c.in_ok-write_synced.ensures.written ∙ ap (λ (l : List ℕ). option_map (overwritten (gate + 1) l) (g.D.Disk.contents c.args.self.now.disk)) bytes in
+    let written : g.D.Disk.contents c.write_synced.new.disk ≡ option_map (overwritten (gate + 1) (staged p)) (g.D.Disk.contents c.args.self.now.disk) = c.in_ok-write_synced.ensures.written ∙ ap (λ (l : List ℕ). option_map (overwritten (gate + 1) l) (g.D.Disk.contents c.args.self.now.disk)) bytes in
     let done = appended gate p _ _ _ short c.requires.closed.told written c.in_ok-write_synced-2.ensures.written in
     let place : gate + 5 + length p ≡ gate + (5 + length p) = omega arith in
     record { phase = refl; told = subst (λ k. IfSome (g.D.Disk.contents c.write_synced-2.new.disk) (ClosesAt k)) place done.closed }
@@ -78,7 +78,7 @@ returns-clause-added g c =
     let p = c.args.payload.now in
     let short : length p < 2 ^ 32 = omega arith in
     let bytes : c.deref.result.now ≡ staged p = c.deref.ensures.value ∙ c.stage.ensures.staged in
-    let written = c.in_ok-write_synced.ensures.written ∙ ap (λ (l : List ℕ). option_map (overwritten (gate + 1) l) (g.D.Disk.contents c.args.self.now.disk)) bytes in
+    let written : g.D.Disk.contents c.write_synced.new.disk ≡ option_map (overwritten (gate + 1) (staged p)) (g.D.Disk.contents c.args.self.now.disk) = c.in_ok-write_synced.ensures.written ∙ ap (λ (l : List ℕ). option_map (overwritten (gate + 1) l) (g.D.Disk.contents c.args.self.now.disk)) bytes in
     let done = appended gate p _ _ _ short c.requires.closed.told written c.in_ok-write_synced-2.ensures.written in
     done.added
 
@@ -88,6 +88,6 @@ returns-clause-bytes g c =
     let p = c.args.payload.now in
     let short : length p < 2 ^ 32 = omega arith in
     let bytes : c.deref.result.now ≡ staged p = c.deref.ensures.value ∙ c.stage.ensures.staged in
-    let written = c.in_ok-write_synced.ensures.written ∙ ap (λ (l : List ℕ). option_map (overwritten (gate + 1) l) (g.D.Disk.contents c.args.self.now.disk)) bytes in
+    let written : g.D.Disk.contents c.write_synced.new.disk ≡ option_map (overwritten (gate + 1) (staged p)) (g.D.Disk.contents c.args.self.now.disk) = c.in_ok-write_synced.ensures.written ∙ ap (λ (l : List ℕ). option_map (overwritten (gate + 1) l) (g.D.Disk.contents c.args.self.now.disk)) bytes in
     let done = appended gate p _ _ _ short c.requires.closed.told written c.in_ok-write_synced-2.ensures.written in
     done.bytes

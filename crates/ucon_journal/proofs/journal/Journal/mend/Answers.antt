@@ -47,8 +47,11 @@ returns-clause-images g c = record {
 pub returns-clause-closed : goal.returns-clause-closed
 returns-clause-closed g c = record {
   phase = refl;
-  told = (mended c.args.self.now.gate _ _ _ c.requires.told c.in_ok-cut_synced.ensures.cut c.in_ok-write_synced.ensures.written).0;
+  told = (mended c.args.self.now.gate _ _ _ c.requires.told c.in_ok-cut_synced.ensures.cut c.in_ok-write_synced.ensures.written).closed;
 }
 
 pub returns-clause-same : goal.returns-clause-same
-returns-clause-same g c = (mended c.args.self.now.gate _ _ _ c.requires.told c.in_ok-cut_synced.ensures.cut c.in_ok-write_synced.ensures.written).1
+returns-clause-same g c = (mended c.args.self.now.gate _ _ _ c.requires.told c.in_ok-cut_synced.ensures.cut c.in_ok-write_synced.ensures.written).same
+
+pub returns-clause-bytes : goal.returns-clause-bytes
+returns-clause-bytes g c = (mended c.args.self.now.gate _ _ _ c.requires.told c.in_ok-cut_synced.ensures.cut c.in_ok-write_synced.ensures.written).bytes
