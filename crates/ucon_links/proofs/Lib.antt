@@ -1,0 +1,16 @@
+mod Cells
+mod Linked
+mod Moves
+mod Stacks
+mod ListsHeld
+mod Places
+mod Seen
+mod Hiding
+mod Placing
+mod Unhiding
+mod Freeing
+mod Growing
+mod Distinct
+mod Steps
+mod Reading
+mod Restoring

@@ -1,0 +1,12 @@
+//! Lists linked by index in one table of nodes. A hidden node goes back to where it stood, without a search and without memory.
+#![tactic(auto)]
+
+mod links;
+mod table;
+#[cfg(test)]
+mod tests;
+
+pub use links::{Links, NodeId};
+// A crate can name `Links` in a contract only if the types of its fields are exported.
+#[doc(hidden)]
+pub use table::{Node, State, Table};
