@@ -13,4 +13,5 @@ mod Growing
 mod Distinct
 mod Steps
 mod Reading
-mod Restoring
+pub mod Restoring
+pub mod Walking

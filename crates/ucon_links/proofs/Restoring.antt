@@ -1,20 +1,24 @@
 -- To unhide is to undo a hide, and so for any number of them in reverse order.
-use Rattle.std.proofs.Common.{◌≡◌, ℕ, zero, suc, List, [], ◌∷◌, ◌++◌, map, set, refl, sym, ap, ◌∙◌, subst}
+use Rattle.std.proofs.Common.{◌≡◌, ℕ, zero, suc, List, [], ◌∷◌, ◌++◌, map, set, refl, sym, ap, ◌∙◌, subst, length-set, length, Option, Some, None}
 use Rattle.std.proofs.lemmas.List.{get_or-set_same, set-get_or}
 use Rattle.ucon_links.specs.Lists.{Item, Lists, list_at, listed_nodes, nodes_of, place_of, without, with_behind, put_in, take_out, hide, hide_item, hide_all, unhide, IsListed, AllListed, AreHidden, CanUnhide, IsGap, IsAbsent, IsDistinct}
 use Rattle.ucon_links.proofs.Hiding.{some_of}
 use Rattle.ucon_links.proofs.Linked.{ids, distinct_parts}
 use Rattle.ucon_links.proofs.Places.{Stands, stands_there, without-first, with_behind-last}
 
-distinct_front : (xs ys : List ℕ) → IsDistinct (xs ++ ys) → IsDistinct xs
+pub absent_front : (node : ℕ) (xs ys : List ℕ) → IsAbsent node (xs ++ ys) → IsAbsent node xs
+absent_front node [] ys absent = tt
+absent_front node (x ∷ xs) ys absent = (absent.0, absent_front node xs ys absent.1)
+
+pub absent_back : (node : ℕ) (xs ys : List ℕ) → IsAbsent node (xs ++ ys) → IsAbsent node ys
+absent_back node [] ys absent = absent
+absent_back node (x ∷ xs) ys absent = absent_back node xs ys absent.1
+
+pub distinct_front : (xs ys : List ℕ) → IsDistinct (xs ++ ys) → IsDistinct xs
 distinct_front [] ys distinct = tt
 distinct_front (x ∷ xs) ys distinct = (absent_front x xs ys distinct.0, distinct_front xs ys distinct.1)
-  where
-    absent_front : (node : ℕ) (xs ys : List ℕ) → IsAbsent node (xs ++ ys) → IsAbsent node xs
-    absent_front node [] ys absent = tt
-    absent_front node (x ∷ xs) ys absent = (absent.0, absent_front node xs ys absent.1)
 
-distinct_back : (xs ys : List ℕ) → IsDistinct (xs ++ ys) → IsDistinct ys
+pub distinct_back : (xs ys : List ℕ) → IsDistinct (xs ++ ys) → IsDistinct ys
 distinct_back [] ys distinct = distinct
 distinct_back (x ∷ xs) ys distinct = distinct_back xs ys distinct.1
 
@@ -96,3 +100,10 @@ others_hidden v nodes node hidden are distinct =
       listed = listed.0;
       result = ap unhide is ∙ unhide-hide (hide_all v nodes) node listed.1 (subst (λ w. IsDistinct (nodes_of w)) is distinct);
     }
+
+pub length-hide : (v : Lists) (node : ℕ) → length (hide v node).lists ≡ length v.lists
+length-hide v node = by_place v (place_of v node)
+  where
+    by_place : (v : Lists) (place : Option Item) → length (hide_item v place).lists ≡ length v.lists
+    by_place v None = refl
+    by_place v (Some item) = length-set v.lists item.list (without item.node (list_at v.lists item.list))

@@ -225,10 +225,11 @@ impl Links {
         requires { oldest self.old.hidden ≡ Some node }
         ensures { self.new ≡ free_oldest self.old }
     {
-        self.table.nodes[node as usize] = Node::spare(self.unused);
+        self.hidden_count -= 1;
+        let freed = Node::spare(self.unused);
+        self.table.nodes[node as usize] = freed;
         self.unused = Some(node);
         self.spare_count += 1;
-        self.hidden_count -= 1;
     }
 
     // Frees the newest hidden node.

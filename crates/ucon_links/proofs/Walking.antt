@@ -1,0 +1,99 @@
+-- What a walk meets: a node in the middle of its list is where it stands.
+use Rattle.std.proofs.Common.{◌≡◌, ◌≢◌, ℕ, zero, suc, ◌+◌, ◌<◌, List, [], ◌∷◌, ◌++◌, map, length, Some, None, Option, is_some, IsSome, option_map, Bool, true, false, eqb, cond, refl, sym, ap, ◌∙◌, subst, arith, append_assoc, length-append}
+use Rattle.std.proofs.lemmas.Bool.{ne_eqb, eq-eqb}
+use Rattle.ucon_links.specs.Lists.{Item, Lists, first_or, last_or, list_at, place_behind, or_else, place_from, place_of, listed_nodes, nodes_of, owner_of, hidden_at, IsListed, IsAbsent, IsDistinct}
+use Rattle.ucon_links.proofs.Cells.{some_same}
+use Rattle.ucon_links.proofs.Hiding.{some_of}
+use Rattle.ucon_links.proofs.Linked.{ids, distinct_parts, apart_head}
+use Rattle.ucon_links.proofs.Restoring.{absent_front, absent_back, distinct_front, distinct_back}
+
+place_behind-there : (list : ℕ) (before : Option ℕ) (front back : List (ℕ × ℕ)) (x : ℕ × ℕ) → IsAbsent x.0 (ids front) → place_behind list before (front ++ x ∷ back) x.0 ≡ Some (record { list = list; node = x.0; owner = x.1; before = last_or before front; after = first_or None back })
+place_behind-there list before [] back x absent = rw (eq-eqb x.0 x.0 refl)
+place_behind-there list before (y ∷ front) back x absent = rw (ne_eqb y.0 x.0 absent.0) (place_behind-there list (Some y.0) front back x absent.1)
+
+place_behind-absent : (list : ℕ) (before : Option ℕ) (xs : List (ℕ × ℕ)) (node : ℕ) → IsAbsent node (ids xs) → place_behind list before xs node ≡ None
+place_behind-absent list before [] node absent = refl
+place_behind-absent list before (x ∷ xs) node absent = rw (ne_eqb x.0 node absent.0) (place_behind-absent list (Some x.0) xs node absent.1)
+
+-- a node of the second part isn't in the first
+absent_before : (node : ℕ) (xs ys : List ℕ) → IsDistinct (xs ++ ys) → (IsAbsent node ys → ⊥) → IsAbsent node xs
+absent_before node [] ys distinct there = tt
+absent_before node (x ∷ xs) ys distinct there =
+    (λ e. there (subst (λ n. IsAbsent n ys) e (absent_back x xs ys distinct.0)), absent_before node xs ys distinct.1 there)
+
+absent_not_there : (front back : List (ℕ × ℕ)) (x : ℕ × ℕ) → IsAbsent x.0 (ids (front ++ x ∷ back)) → ⊥
+absent_not_there [] back x absent = absent.0 refl
+absent_not_there (y ∷ front) back x absent = absent_not_there front back x absent.1
+
+absent_from_lists : (lists : List (List (ℕ × ℕ))) (list node : ℕ) → list < length lists → IsAbsent node (listed_nodes lists) → IsAbsent node (ids (list_at lists list))
+absent_from_lists [] list node within absent = absurd (omega arith)
+absent_from_lists (xs ∷ rest) zero node within absent = absent_front node (ids xs) (listed_nodes rest) absent
+absent_from_lists (xs ∷ rest) (suc list) node within absent = absent_from_lists rest list node (omega arith) (absent_back node (ids xs) (listed_nodes rest) absent)
+
+place_from-there : (base : ℕ) (lists : List (List (ℕ × ℕ))) (list : ℕ) (front back : List (ℕ × ℕ)) (x : ℕ × ℕ) → IsDistinct (listed_nodes lists) → list < length lists → list_at lists list ≡ front ++ x ∷ back → place_from base lists x.0 ≡ Some (record { list = base + list; node = x.0; owner = x.1; before = last_or None front; after = first_or None back })
+place_from-there base [] list front back x distinct within there = absurd (omega arith)
+place_from-there base (xs ∷ rest) zero front back x distinct within there =
+    let this = subst (λ ys. IsDistinct (ids ys)) there (distinct_front (ids xs) (listed_nodes rest) distinct) in
+    let absent = apart_head front x back (distinct_parts front (x ∷ back) this).apart in
+    let same : base ≡ base + 0 = omega arith in
+    ap (λ ys. or_else (place_behind base None ys x.0) (place_from (suc base) rest x.0)) there
+    ∙ ap (λ place. or_else place (place_from (suc base) rest x.0)) (place_behind-there base None front back x absent)
+    ∙ ap (λ list. Some (record { list = list; node = x.0; owner = x.1; before = last_or None front; after = first_or None back })) same
+place_from-there base (xs ∷ rest) (suc list) front back x distinct within there =
+    let later = place_from-there (suc base) rest list front back x (distinct_back (ids xs) (listed_nodes rest) distinct) (omega arith) there in
+    let absent = absent_before x.0 (ids xs) (listed_nodes rest) distinct (λ none. absent_not_there front back x (subst (λ ys. IsAbsent x.0 (ids ys)) there (absent_from_lists rest list x.0 (omega arith) none))) in
+    let same : suc base + list ≡ base + suc list = omega arith in
+    ap (λ place. or_else place (place_from (suc base) rest x.0)) (place_behind-absent base None xs x.0 absent)
+    ∙ later
+    ∙ ap (λ list. Some (record { list = list; node = x.0; owner = x.1; before = last_or None front; after = first_or None back })) same
+
+-- where a node stands that is met on the way through a list
+pub place_there : (v : Lists) (list : ℕ) (front back : List (ℕ × ℕ)) (x : ℕ × ℕ) → IsDistinct (nodes_of v) → list < length v.lists → list_at v.lists list ≡ front ++ x ∷ back → place_of v x.0 ≡ Some (record { list = list; node = x.0; owner = x.1; before = last_or None front; after = first_or None back })
+place_there v list front back x distinct within there =
+    place_from-there 0 v.lists list front back x (distinct_front (listed_nodes v.lists) (map (λ item. item.node) v.hidden) distinct) within there
+    ∙ ap (λ n. Some (record { list = n; node = x.0; owner = x.1; before = last_or None front; after = first_or None back })) (none list)
+  where
+    none : (n : ℕ) → 0 + n ≡ n
+    none n = omega arith
+
+-- the way that is left in a list, from the next node on
+pub record IsOnTheWay (v : Lists) (list : ℕ) (passed : ℕ) (at : Option ℕ) : Type 0 where
+  pub front : List (ℕ × ℕ)
+  pub back : List (ℕ × ℕ)
+  pub there : list_at v.lists list ≡ front ++ back
+  pub passed_is : length front ≡ passed
+  pub at_is : at ≡ first_or None back
+
+-- the next node on the way is listed, and the way goes on behind it
+pub record IsNext (v : Lists) (list passed node : ℕ) : Type 0 where
+  pub listed : IsListed v node
+  pub more : (next : Option ℕ) → option_map (λ item. item.after) (place_of v node) ≡ Some next → IsOnTheWay v list (passed + 1) next
+  pub short : passed < length (list_at v.lists list)
+
+way_listed_at : (v : Lists) (list passed : ℕ) (node : ℕ) (front back : List (ℕ × ℕ)) → IsDistinct (nodes_of v) → list < length v.lists → list_at v.lists list ≡ front ++ back → length front ≡ passed → Some node ≡ first_or None back → IsNext v list passed node
+way_listed_at v list passed node front [] distinct within there passed_is at_is = let no : ⊥ = cc in absurd no
+way_listed_at v list passed node front (x ∷ back) distinct within there passed_is at_is =
+    let same : x.0 ≡ node = some_same (sym at_is) in
+    let place = place_there v list front back x distinct within there in
+    let size = length-append front (x ∷ back) in
+    let whole = ap length there in
+    subst (IsNext v list passed) same (record {
+      listed = ap is_some place;
+      more = λ next is. record {
+        front = front ++ x ∷ [];
+        back = back;
+        there = there ∙ sym (append_assoc front (x ∷ []) back);
+        passed_is = length-append front (x ∷ []) ∙ ap (λ n. n + 1) passed_is;
+        at_is = some_same (sym is ∙ ap (option_map (λ item. item.after)) place);
+      };
+      short = omega arith;
+    })
+
+pub next_on_the_way : (v : Lists) (list passed node : ℕ) → IsDistinct (nodes_of v) → list < length v.lists → IsOnTheWay v list passed (Some node) → IsNext v list passed node
+next_on_the_way v list passed node distinct within way = way_listed_at v list passed node way.front way.back distinct within way.there way.passed_is way.at_is
+
+pub way_from_first : (v : Lists) (list : ℕ) (at : Option ℕ) → at ≡ first_or None (list_at v.lists list) → IsOnTheWay v list 0 at
+way_from_first v list at is = record { front = []; back = list_at v.lists list; there = refl; passed_is = refl; at_is = is }
+
+pub listed_has_owner : (v : Lists) (node : ℕ) → IsListed v node → IsSome (owner_of v node)
+listed_has_owner v node listed = let at = some_of (place_of v node) listed in ap (λ place. is_some (option_map (λ item. item.owner) (or_else place (hidden_at v.hidden node)))) at.1
