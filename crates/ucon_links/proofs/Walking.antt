@@ -1,7 +1,7 @@
 -- What a walk meets: a node in the middle of its list is where it stands.
-use Rattle.std.proofs.Common.{◌≡◌, ◌≢◌, ℕ, zero, suc, ◌+◌, ◌<◌, List, [], ◌∷◌, ◌++◌, map, length, Some, None, Option, is_some, IsSome, option_map, Bool, true, false, eqb, cond, refl, sym, ap, ◌∙◌, subst, arith, append_assoc, length-append}
+use Rattle.std.proofs.Common.{◌≡◌, ℕ, zero, suc, ◌+◌, ◌<◌, List, [], ◌∷◌, ◌++◌, map, length, Some, None, Option, is_some, IsSome, option_map, refl, sym, ap, ◌∙◌, subst, arith, append_assoc, length-append}
 use Rattle.std.proofs.lemmas.Bool.{ne_eqb, eq-eqb}
-use Rattle.ucon_links.specs.Lists.{Item, Lists, first_or, last_or, list_at, place_behind, or_else, place_from, place_of, listed_nodes, nodes_of, owner_of, hidden_at, IsListed, IsAbsent, IsDistinct}
+use Rattle.ucon_links.specs.Lists.{Lists, first_or, last_or, list_at, place_behind, or_else, place_from, place_of, listed_nodes, nodes_of, owner_of, hidden_at, IsListed, IsAbsent, IsDistinct}
 use Rattle.ucon_links.proofs.Cells.{some_same}
 use Rattle.ucon_links.proofs.Hiding.{some_of}
 use Rattle.ucon_links.proofs.Linked.{ids, distinct_parts, apart_head}

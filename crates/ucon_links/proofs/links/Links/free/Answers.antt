@@ -12,9 +12,9 @@ index_mut-requires c =
 pub invariant_of-self : goal.invariant_of-self
 invariant_of-self c =
     let now = opened _ _ _ _ _ _ _ c.self.invariant c.self.view_is in
-    rw c.spare.ensures (free_oldest_leaves _ _ _ _ _ _ _ now c.args.node c.requires).is_sound
+    rw c.spare-freed.ensures (free_oldest_leaves _ _ _ _ _ _ _ now c.args.node c.requires).is_sound
 
 pub returns : goal.returns
 returns c =
     let now = opened _ _ _ _ _ _ _ c.self.invariant c.self.view_is in
-    rw c.spare.ensures (free_oldest_leaves _ _ _ _ _ _ _ now c.args.node c.requires).seen_as
+    rw c.spare-freed.ensures (free_oldest_leaves _ _ _ _ _ _ _ now c.args.node c.requires).seen_as
