@@ -1,6 +1,6 @@
 -- To unhide is to undo a hide, and so for any number of them in reverse order.
-use Rattle.std.proofs.Common.{◌≡◌, ℕ, zero, suc, List, [], ◌∷◌, ◌++◌, map, set, refl, sym, ap, ◌∙◌, subst, length-set, length, Option, Some, None}
-use Rattle.std.proofs.lemmas.List.{get_or-set_same, set-get_or}
+use Rattle.std.proofs.Common.{◌≡◌, ℕ, zero, suc, List, [], ◌∷◌, ◌++◌, map, set, refl, sym, ap, ◌∙◌, subst, length-set, length, Option, Some, None, take, get_or, ◌<◌, ◌+◌, arith}
+use Rattle.std.proofs.lemmas.List.{get_or-set_same, set-get_or, take_more}
 use Rattle.ucon_links.specs.Lists.{Item, Lists, list_at, listed_nodes, nodes_of, place_of, without, with_behind, put_in, take_out, hide, hide_item, hide_all, unhide, IsListed, AllListed, AreHidden, CanUnhide, IsGap, IsAbsent, IsDistinct}
 use Rattle.ucon_links.proofs.Hiding.{some_of}
 use Rattle.ucon_links.proofs.Linked.{ids, distinct_parts}
@@ -107,3 +107,12 @@ length-hide v node = by_place v (place_of v node)
     by_place : (v : Lists) (place : Option Item) → length (hide_item v place).lists ≡ length v.lists
     by_place v None = refl
     by_place v (Some item) = length-set v.lists item.list (without item.node (list_at v.lists item.list))
+
+-- each node is listed once those before it are hidden
+pub listed_in_turn : (v : Lists) (nodes : List ℕ) (i : ℕ) → i < length nodes → AllListed v nodes → IsListed (hide_all v (take i nodes)) (get_or nodes i 0)
+listed_in_turn v [] i within listed = absurd (omega arith)
+listed_in_turn v (node ∷ rest) zero within listed = listed.0
+listed_in_turn v (node ∷ rest) (suc i) within listed = listed_in_turn (hide v node) rest i (omega arith) listed.1
+
+pub hide_all-take-suc : (v : Lists) (nodes : List ℕ) (i : ℕ) → i < length nodes → hide_all v (take (i + 1) nodes) ≡ hide (hide_all v (take i nodes)) (get_or nodes i 0)
+hide_all-take-suc v nodes i within = ap (hide_all v) (take_more nodes i 0 within) ∙ hide_all-push v (take i nodes) (get_or nodes i 0)

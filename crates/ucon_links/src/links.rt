@@ -1,7 +1,7 @@
 //! Lists linked by index.
 
 ghost use Rattle.std.specs.Prelude.{◌≡◌, ◌+◌, ◌-◌, ◌^◌, ◌<◌, ◌≤◌, [], ◌∷◌, ◌++◌, length, replicate, option_map, Some, None, IsSome, IfOk, OnOk, OnErr};
-ghost use Rattle.ucon_links.specs.Lists.{node_count, list_at, list_of, first_or, last_or, place_of, owner_of, nodes_of, newest, oldest, IsListed, IsAbsent, IsDistinct, IsGap, CanUnhide, link_behind, hide, unlink, unhide, free_oldest, free_newest, Lists, AreHidden, WereHidden};
+ghost use Rattle.ucon_links.specs.Lists.{node_count, list_at, list_of, first_or, last_or, place_of, owner_of, nodes_of, newest, oldest, IsListed, IsAbsent, IsDistinct, IsGap, CanUnhide, link_behind, hide, unlink, unhide, free_oldest, free_newest, hide_all, Lists, AllListed, AreHidden, WereHidden};
 
 use crate::table::{Node, State, Table};
 use std::alloc::Global;
@@ -269,6 +269,16 @@ impl Links {
     {
         while let Some(node) = self.newest_hidden() {
             self.free_newest(node);
+        }
+    }
+
+    /// Hides nodes in this order.
+    pub fn hide_all(&mut self, nodes: &[NodeId])
+        requires { AllListed self.old nodes.now }
+        ensures { self.new ≡ hide_all self.old nodes.now }
+    {
+        for node in nodes {
+            self.hide(*node);
         }
     }
 
