@@ -1,6 +1,6 @@
 -- More room and more lists.
 use Rattle.std.proofs.Common.{◌≡◌, ℕ, zero, suc, ◌+◌, ◌*◌, ◌-◌, ◌^◌, ◌<◌, ◌≤◌, List, [], ◌∷◌, ◌++◌, map, length, take, replicate, sum_by, Some, None, Option, slice_get, refl, sym, ap, ◌∙◌, subst, arith, length-append}
-use Rattle.std.proofs.lemmas.List.{map-append, take_all}
+use Rattle.std.proofs.lemmas.List.{map-append, take_all, length-replicate}
 use Rattle.std.proofs.lemmas.List.Sums.{sum_by-append}
 use Rattle.std.proofs.lemmas.List.Folds.{sum_by-replicate}
 use Rattle.ucon_links.specs.declared.table.Node.{Node}
@@ -30,6 +30,7 @@ adds_spare nodes firsts newest unused v spares holds fits =
     record {
       listed = record {
         heads = holds.listed.heads;
+        count_fits = holds.listed.count_fits;
         each = λ list. record {
           linked = linked_kept nodes more list None (list_at v.lists list) None 0 (keeps_push 0 nodes (spare_node unused)) (λ e. omega arith) (holds.listed.each list).linked;
           distinct = (holds.listed.each list).distinct;
@@ -69,14 +70,18 @@ firsts_of_empty : (n : ℕ) → map (first_or None) (replicate n []) ≡ replica
 firsts_of_empty zero = refl
 firsts_of_empty (suc n) = ap (λ firsts. None ∷ firsts) (firsts_of_empty n)
 
+length-empty : (lists : List (List (ℕ × ℕ))) (n : ℕ) → length (lists ++ replicate n []) ≡ length lists + n
+length-empty lists n = length-append lists (replicate n []) ∙ ap (λ count. length lists + count) (length-replicate n [])
+
 -- more empty lists
-pub adds_lists : (nodes : List Node) (firsts : List (Option ℕ)) (newest unused : Option ℕ) (v : Lists) (spares : List ℕ) (n : ℕ) → Holds nodes firsts newest unused v spares → Holds nodes (firsts ++ replicate n None) newest unused (record v { lists = v.lists ++ replicate n [] }) spares
-adds_lists nodes firsts newest unused v spares n holds =
+pub adds_lists : (nodes : List Node) (firsts : List (Option ℕ)) (newest unused : Option ℕ) (v : Lists) (spares : List ℕ) (n : ℕ) → Holds nodes firsts newest unused v spares → length v.lists + n < 2 ^ 32 → Holds nodes (firsts ++ replicate n None) newest unused (record v { lists = v.lists ++ replicate n [] }) spares
+adds_lists nodes firsts newest unused v spares n holds fits =
     let size = length-append v.lists (replicate n []) in
     let same : sum_by length (v.lists ++ replicate n []) ≡ sum_by length v.lists = sum_by-append length v.lists (replicate n []) ∙ none_more (sum_by length v.lists) n _ (sum_by-replicate length n []) in
     record {
       listed = record {
         heads = ap (λ all. all ++ replicate n None) holds.listed.heads ∙ ap (λ all. map (first_or None) v.lists ++ all) (sym (firsts_of_empty n)) ∙ sym (map-append (first_or None) v.lists (replicate n []));
+        count_fits = subst (λ count. count < 2 ^ 32) (sym (length-empty v.lists n)) fits;
         each = λ list. subst (IsList nodes list) (sym (list_at-more v.lists n list)) (holds.listed.each list);
       };
       hidden = record {
@@ -92,17 +97,6 @@ adds_lists nodes firsts newest unused v spares n holds =
   where
     none_more : (a n b : ℕ) → b ≡ n * 0 → a + b ≡ a
     none_more a n b e = omega arith
-
--- a table without nodes and lists
-pub holds_nothing : Holds [] [] None None (record { lists = []; hidden = []; spare = 0 }) []
-holds_nothing = record {
-  listed = record { heads = refl; each = λ list. record { linked = tt; distinct = tt } };
-  hidden = record { stack = tt; distinct = tt; in_lists = tt };
-  spare = record { stack = tt; distinct = tt };
-  spare_count = refl;
-  counted = refl;
-  fits = omega arith;
-}
 
 pub resized : (firsts : List (Option ℕ)) (total size n : ℕ) → total ≡ size + n → size ≡ length firsts → take total firsts ++ replicate (total - size) None ≡ firsts ++ replicate n None
 resized firsts total size n total_is size_is =

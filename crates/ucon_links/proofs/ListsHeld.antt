@@ -1,5 +1,5 @@
 -- All lists after a node left one of them or came into it.
-use Rattle.std.proofs.Common.{◌≡◌, ◌≢◌, ℕ, suc, ◌+◌, ◌<◌, List, [], ◌∷◌, ◌++◌, map, length, set, sum_by, Some, None, Option, slice_get, refl, sym, ap, ◌∙◌, subst, arith, length-append}
+use Rattle.std.proofs.Common.{◌≡◌, ◌≢◌, ℕ, suc, ◌+◌, ◌<◌, List, [], ◌∷◌, ◌++◌, map, length, set, sum_by, Some, None, Option, slice_get, refl, sym, ap, ◌∙◌, subst, arith, length-append, length-set, ◌^◌}
 use Rattle.std.proofs.lemmas.List.{map-set, get_or-set_same, get_or-set_other}
 use Rattle.std.proofs.lemmas.List.Sums.{sum_by-set}
 use Rattle.std.proofs.lemmas.Bool.Decides.{eqb_tells}
@@ -40,6 +40,7 @@ lists_left nodes firsts lists list front back x new within there holds =
     let gone = left nodes list front back x new (subst (IsList nodes list) there (holds.each list)) in
     record {
       heads = heads_set firsts lists list front (x ∷ back) back holds.heads there;
+      count_fits = subst (λ count. count < 2 ^ 32) (sym (length-set lists list (front ++ back))) holds.count_fits;
       each = each_set _ lists list (front ++ back) within gone.is_list (λ other differs.
           record {
             linked = linked_kept nodes _ other None (list_at lists other) None (suc (suc list)) gone.keeps (λ e. differs (omega arith)) (holds.each other).linked;
@@ -53,6 +54,7 @@ lists_came nodes firsts lists list front back x old within there found unlisted 
     let come = came nodes list front back x old found (unlisted list) (subst (IsList nodes list) there (holds.each list)) in
     record {
       heads = heads_set firsts lists list front back (x ∷ back) holds.heads there;
+      count_fits = subst (λ count. count < 2 ^ 32) (sym (length-set lists list (front ++ x ∷ back))) holds.count_fits;
       each = each_set _ lists list (front ++ x ∷ back) within come.is_list (λ other differs.
           let linked = (holds.each other).linked in
           record {
@@ -67,6 +69,7 @@ lists_came nodes firsts lists list front back x old within there found unlisted 
 pub lists_write : (nodes : List Node) (firsts : List (Option ℕ)) (lists : List (List (ℕ × ℕ))) (at : ℕ) (old new : Node) → slice_get nodes at ≡ Some old → ((other : ℕ) → tag_of old ≢ suc (suc other)) → HoldsLists nodes firsts lists → HoldsLists (set nodes at new) firsts lists
 lists_write nodes firsts lists at old new found unlisted holds = record {
   heads = holds.heads;
+  count_fits = holds.count_fits;
   each = λ list.
       let linked = (holds.each list).linked in
       record {

@@ -115,5 +115,5 @@ module _ (nodes : List Node) (firsts : List (Option ℕ)) (top : Option ℕ) (hi
   spare_leaves fits =
       leaves _ _ _ _ _ _ _ _ (adds_spare nodes firsts top unused v now.spares now.holds fits) now.hidden_is (ap (λ n. n + 1) now.spare_is)
 
-  pub lists_leave : (n : ℕ) → Leaves nodes (firsts ++ replicate n None) top hidden unused spare (record v { lists = v.lists ++ replicate n [] })
-  lists_leave n = leaves _ _ _ _ _ _ _ now.spares (adds_lists nodes firsts top unused v now.spares n now.holds) now.hidden_is now.spare_is
+  pub lists_leave : (n : ℕ) → length v.lists + n < 2 ^ 32 → Leaves nodes (firsts ++ replicate n None) top hidden unused spare (record v { lists = v.lists ++ replicate n [] })
+  lists_leave n fits = leaves _ _ _ _ _ _ _ now.spares (adds_lists nodes firsts top unused v now.spares n now.holds fits) now.hidden_is now.spare_is

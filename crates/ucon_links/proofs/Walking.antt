@@ -66,6 +66,12 @@ pub record IsOnTheWay (v : Lists) (list : ℕ) (passed : ℕ) (at : Option ℕ) 
 
 -- the next node on the way is listed, and the way goes on behind it
 pub record IsNext (v : Lists) (list passed node : ℕ) : Type 0 where
+  pub front : List (ℕ × ℕ)
+  pub owner : ℕ
+  pub back : List (ℕ × ℕ)
+  pub there : list_at v.lists list ≡ front ++ (node, owner) ∷ back
+  pub passed_is : length front ≡ passed
+  pub owner_is : owner_of v node ≡ Some owner
   pub listed : IsListed v node
   pub more : (next : Option ℕ) → option_map (λ item. item.after) (place_of v node) ≡ Some next → IsOnTheWay v list (passed + 1) next
   pub short : passed < length (list_at v.lists list)
@@ -78,6 +84,12 @@ way_listed_at v list passed node front (x ∷ back) distinct within there passed
     let size = length-append front (x ∷ back) in
     let whole = ap length there in
     subst (IsNext v list passed) same (record {
+      front = front;
+      owner = x.1;
+      back = back;
+      there = there;
+      passed_is = passed_is;
+      owner_is = ap (λ at. option_map (λ item. item.owner) (or_else at (hidden_at v.hidden x.0))) place;
       listed = ap is_some place;
       more = λ next is. record {
         front = front ++ x ∷ [];

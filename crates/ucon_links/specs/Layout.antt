@@ -73,6 +73,7 @@ InLists lists (item ∷ rest) = (item.list < lists) × InLists lists rest
 pub record HoldsLists (nodes : List Node) (firsts : List (Option ℕ)) (lists : List (List (ℕ × ℕ))) : Type 0 where
   pub heads : firsts ≡ map (first_or None) lists
   pub each : (list : ℕ) → IsList nodes list (list_at lists list)
+  pub count_fits : length lists < 2 ^ 32
 
 -- the table holds these hidden nodes, on a stack with this top
 pub record HoldsHidden (nodes : List Node) (newest : Option ℕ) (lists : ℕ) (hidden : List Item) : Type 0 where

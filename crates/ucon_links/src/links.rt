@@ -65,6 +65,13 @@ impl Links {
         Ok(())
     }
 
+    /// How many lists there are.
+    pub fn list_count(&self) -> u32
+        ensures { result ≡ length self.now.lists }
+    {
+        self.table.firsts.len() as u32
+    }
+
     /// The first node of a list.
     pub fn first(&self, list: u32) -> Option<NodeId>
         requires { list < length self.now.lists }
@@ -232,8 +239,8 @@ impl Links {
         self.spare_count += 1;
     }
 
-    // Frees the newest hidden node.
-    fn free_newest(&mut self, node: NodeId)
+    /// Frees the newest hidden node.
+    pub fn free_newest(&mut self, node: NodeId)
         requires { newest self.old.hidden ≡ Some node }
         ensures { self.new ≡ free_newest self.old }
     {
