@@ -16,3 +16,4 @@ pub mod LegalRun
 pub mod Fitting
 pub mod Output
 pub mod Document
+pub mod Tokens

@@ -1,0 +1,4 @@
+pub mod Reader
+pub mod Seen
+pub mod Tokens
+pub mod Reading

@@ -1,0 +1,11 @@
+//! The tokens of a policy's text, read from left to right.
+#![tactic(auto)]
+
+mod lex;
+mod reader;
+mod stop;
+mod token;
+
+pub use reader::Reader;
+pub use stop::{Cause, Stop};
+pub use token::{Flaw, Symbol, Token};
