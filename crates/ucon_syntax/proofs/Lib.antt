@@ -1,0 +1,5 @@
+pub mod Chains
+pub mod Levels
+pub mod Lists
+pub mod Rises
+pub mod Texts

@@ -1,0 +1,270 @@
+//! Attributes, variables, predicates and updates.
+
+ghost use Rattle.std.specs.Prelude.{◌≡◌, codes};
+ghost use Rattle.ucon_model.specs.Views.{test_of, predicate_of, update_of};
+ghost use Rattle.ucon_token.specs.Reading.{Gives, taken};
+ghost use Rattle.ucon_token.specs.Tokens.{first};
+ghost use Rattle.ucon_syntax.specs.Starts.{side_of, phase_of, test_sort, when_of};
+ghost use Rattle.ucon_syntax.specs.Items.{take_side, take_phase, take_when, counted, range_at, kind_at, attr_at, env_at, form_at, party_at, duty_at, test_from, pred_at, update_at};
+
+use crate::expr::read_expr;
+use crate::formula::read_formula;
+use crate::literal::{int, literal};
+use crate::room::{PhaseRoom, SideRoom, WhenRoom};
+use crate::starts::{
+    DutyWord, KindWord, TestSort, duty_word, kind_word, name_in, phase_of, side_of, test_sort,
+    when_of,
+};
+use ucon_base::{Kind, Name, Side};
+use ucon_model::{AttrDecl, EnvDecl, Form, Obligation, Phase, Predicate, Test, Update, When};
+use ucon_token::{Cause, Reader, Stop, Symbol};
+
+/// The most levels that a formula or an expression may open.
+const MOST_LEVELS: usize = 32;
+
+/// The side of one more attribute.
+fn attr_side(reader: &mut Reader, room: SideRoom) -> Result<(Side, SideRoom), Stop>
+    ensures read { Gives (λ x. (x, reader.new.tokens)) result reader.new.tokens (counted take_side room (side_of (first reader.old.tokens)) reader.old.tokens) }
+    ensures text { reader.new.text ≡ reader.old.text }
+{
+    let Some(side) = side_of(reader.first()) else {
+        return Err(Stop::At(Cause::Unexpected));
+    };
+    let Some(left) = room.take(side) else {
+        return Err(Stop::At(Cause::TooMany));
+    };
+    reader.advance();
+    Ok((side, left))
+}
+
+#[tactic(auto, unfolding(crate::specs::Items::range_at))]
+fn range(reader: &mut Reader) -> Result<Kind, Stop>
+    ensures read { Gives (λ k. (k, reader.new.tokens)) result reader.new.tokens (range_at reader.old.tokens) }
+    ensures text { reader.new.text ≡ reader.old.text }
+{
+    let low = int(reader)?;
+    reader.expect(Symbol::Dots)?;
+    let high = int(reader)?;
+    Ok(Kind::Int { low, high })
+}
+
+#[tactic(auto, unfolding(crate::specs::Items::kind_at))]
+fn kind(reader: &mut Reader) -> Result<Kind, Stop>
+    ensures read { Gives (λ k. (k, reader.new.tokens)) result reader.new.tokens (kind_at reader.old.tokens) }
+    ensures text { reader.new.text ≡ reader.old.text }
+{
+    let Some(word) = kind_word(reader.first()) else {
+        return Err(Stop::At(Cause::Unexpected));
+    };
+    reader.advance();
+    match word {
+        KindWord::Int => range(reader),
+        KindWord::Text => Ok(Kind::Text),
+        KindWord::Set => Ok(Kind::Set),
+    }
+}
+
+/// One more attribute, and what room is then left.
+#[tactic(auto, unfolding(crate::specs::Items::attr_at))]
+pub fn attr(reader: &mut Reader, room: SideRoom) -> Result<(AttrDecl, SideRoom), Stop>
+    ensures read { Gives (λ x. (x, reader.new.tokens)) result reader.new.tokens (attr_at room reader.old.tokens) }
+    ensures text { reader.new.text ≡ reader.old.text }
+{
+    reader.word(b"attr")?;
+    let (side, left) = attr_side(reader, room)?;
+    let name = reader.name()?;
+    reader.expect(Symbol::Colon)?;
+    let kind = kind(reader)?;
+    reader.expect(Symbol::Equal)?;
+    let start = literal(reader)?;
+    reader.expect(Symbol::Semicolon)?;
+    let attr = AttrDecl {
+        side,
+        name,
+        kind,
+        start,
+    };
+    Ok((attr, left))
+}
+
+#[tactic(auto, unfolding(crate::specs::Items::env_at))]
+pub fn env(reader: &mut Reader) -> Result<EnvDecl, Stop>
+    ensures read { Gives (λ v. (v, reader.new.tokens)) result reader.new.tokens (env_at reader.old.tokens) }
+    ensures text { reader.new.text ≡ reader.old.text }
+{
+    reader.word(b"env")?;
+    let name = reader.name()?;
+    reader.expect(Symbol::Colon)?;
+    let kind = kind(reader)?;
+    reader.expect(Symbol::Equal)?;
+    let start = literal(reader)?;
+    reader.expect(Symbol::Semicolon)?;
+    Ok(EnvDecl { name, kind, start })
+}
+
+#[tactic(auto, unfolding(crate::specs::Items::form_at))]
+fn form(reader: &mut Reader) -> Result<Form, Stop>
+    ensures read { Gives (λ f. (f, reader.new.tokens)) result reader.new.tokens (form_at reader.old.tokens) }
+    ensures text { reader.new.text ≡ reader.old.text }
+{
+    let Some(word) = duty_word(reader.first()) else {
+        return Err(Stop::At(Cause::Unexpected));
+    };
+    reader.advance();
+    match word {
+        DutyWord::Done => Ok(Form::Done),
+        DutyWord::Within => {
+            let n = reader.number()?;
+            Ok(Form::Within(n))
+        }
+        DutyWord::Every => {
+            let n = reader.number()?;
+            Ok(Form::Every(n))
+        }
+    }
+}
+
+/// The name in the text behind this word, if the word stands here.
+#[tactic(auto, unfolding(crate::specs::Items::party_at))]
+fn party(reader: &mut Reader, word: &[u8]) -> Result<Option<Name>, Stop>
+    ensures read { Gives (λ n. (n, reader.new.tokens)) result reader.new.tokens (party_at word.now reader.old.tokens) }
+    ensures text { reader.new.text ≡ reader.old.text }
+{
+    if !reader.first().is_word(word) {
+        return Ok(None);
+    }
+    reader.advance();
+    match name_in(reader.first()) {
+        None => Err(Stop::At(Cause::Unexpected)),
+        Some(name) => {
+            reader.advance();
+            Ok(Some(name))
+        }
+    }
+}
+
+#[tactic(auto, unfolding(crate::specs::Items::duty_at))]
+fn duty(reader: &mut Reader) -> Result<Obligation, Stop>
+    ensures read { Gives (λ o. (o, reader.new.tokens)) result reader.new.tokens (duty_at reader.old.tokens) }
+    ensures text { reader.new.text ≡ reader.old.text }
+{
+    let form = form(reader)?;
+    let action = reader.name()?;
+    let by_subject = party(reader, b"by")?;
+    let on_object = party(reader, b"on")?;
+    Ok(Obligation {
+        form,
+        action,
+        by_subject,
+        on_object,
+    })
+}
+
+/// The phase of one more predicate.
+fn pred_phase(reader: &mut Reader, room: PhaseRoom) -> Result<(Phase, PhaseRoom), Stop>
+    ensures read { Gives (λ x. (x, reader.new.tokens)) result reader.new.tokens (counted take_phase room (phase_of (first reader.old.tokens)) reader.old.tokens) }
+    ensures text { reader.new.text ≡ reader.old.text }
+{
+    let Some(phase) = phase_of(reader.first()) else {
+        return Err(Stop::At(Cause::Unexpected));
+    };
+    let Some(left) = room.take(phase) else {
+        return Err(Stop::At(Cause::TooMany));
+    };
+    reader.advance();
+    Ok((phase, left))
+}
+
+fn sort(reader: &mut Reader) -> Result<TestSort, Stop>
+    ensures read { Gives (λ s. (s, reader.new.tokens)) result reader.new.tokens (taken (test_sort (first reader.old.tokens)) reader.old.tokens) }
+    ensures text { reader.new.text ≡ reader.old.text }
+{
+    let Some(sort) = test_sort(reader.first()) else {
+        return Err(Stop::At(Cause::Unexpected));
+    };
+    reader.advance();
+    Ok(sort)
+}
+
+fn test(reader: &mut Reader, sort: TestSort) -> Result<Test, Stop>
+    ensures read { Gives (λ t. (test_of t, reader.new.tokens)) result reader.new.tokens (test_from sort reader.old.tokens) }
+    ensures text { reader.new.text ≡ reader.old.text }
+{
+    match sort {
+        TestSort::A => {
+            let f = read_formula(reader, MOST_LEVELS)?;
+            Ok(Test::A(f))
+        }
+        TestSort::B => {
+            let o = duty(reader)?;
+            Ok(Test::B(o))
+        }
+        TestSort::C => {
+            let f = read_formula(reader, MOST_LEVELS)?;
+            Ok(Test::C(f))
+        }
+    }
+}
+
+/// One more predicate, and what room is then left.
+#[tactic(auto, unfolding(crate::specs::Items::pred_at))]
+pub fn pred(reader: &mut Reader, room: PhaseRoom) -> Result<(Predicate, PhaseRoom), Stop>
+    ensures read { Gives (λ x. ((predicate_of x.0, x.1), reader.new.tokens)) result reader.new.tokens (pred_at room reader.old.tokens) }
+    ensures text { reader.new.text ≡ reader.old.text }
+{
+    let (phase, left) = pred_phase(reader, room)?;
+    let sort = sort(reader)?;
+    let label = reader.name()?;
+    reader.expect(Symbol::Colon)?;
+    let test = test(reader, sort)?;
+    reader.expect(Symbol::Semicolon)?;
+    Ok((Predicate { phase, label, test }, left))
+}
+
+/// When one more update is made.
+fn update_when(reader: &mut Reader, room: WhenRoom) -> Result<(When, WhenRoom), Stop>
+    ensures read { Gives (λ x. (x, reader.new.tokens)) result reader.new.tokens (counted take_when room (when_of (first reader.old.tokens)) reader.old.tokens) }
+    ensures text { reader.new.text ≡ reader.old.text }
+{
+    let Some(when) = when_of(reader.first()) else {
+        return Err(Stop::At(Cause::Unexpected));
+    };
+    let Some(left) = room.take(when) else {
+        return Err(Stop::At(Cause::TooMany));
+    };
+    reader.advance();
+    Ok((when, left))
+}
+
+fn side(reader: &mut Reader) -> Result<Side, Stop>
+    ensures read { Gives (λ s. (s, reader.new.tokens)) result reader.new.tokens (taken (side_of (first reader.old.tokens)) reader.old.tokens) }
+    ensures text { reader.new.text ≡ reader.old.text }
+{
+    let Some(side) = side_of(reader.first()) else {
+        return Err(Stop::At(Cause::Unexpected));
+    };
+    reader.advance();
+    Ok(side)
+}
+
+/// One more update, and what room is then left.
+#[tactic(auto, unfolding(crate::specs::Items::update_at))]
+pub fn update(reader: &mut Reader, room: WhenRoom) -> Result<(Update, WhenRoom), Stop>
+    ensures read { Gives (λ x. ((update_of x.0, x.1), reader.new.tokens)) result reader.new.tokens (update_at room reader.old.tokens) }
+    ensures text { reader.new.text ≡ reader.old.text }
+{
+    let (when, left) = update_when(reader, room)?;
+    let side = side(reader)?;
+    reader.expect(Symbol::Dot)?;
+    let attr = reader.name()?;
+    reader.expect(Symbol::Equal)?;
+    let value = read_expr(reader, MOST_LEVELS)?;
+    reader.expect(Symbol::Semicolon)?;
+    let update = Update {
+        when,
+        side,
+        attr,
+        value,
+    };
+    Ok((update, left))
+}

@@ -1,0 +1,62 @@
+//! Policies from texts.
+
+ghost use Rattle.std.specs.Prelude.{◌≡◌, length};
+ghost use Rattle.ucon_model.specs.Tokens.{place_of};
+ghost use Rattle.ucon_token.specs.Tokens.{first, flaw_at};
+ghost use Rattle.ucon_syntax.specs.Policies.{fault_of, reading_of, Reading};
+
+use crate::policy::whole;
+use std::alloc::Global;
+use ucon_model::Policy;
+use ucon_token::{Cause, Flaw, Reader, Stop};
+
+/// The most bytes of a text.
+const LONGEST: usize = 65536;
+
+/// Why a text is no policy. Places are byte offsets from 0.
+#[derive(Clone, Copy, Debug, PartialEq, Eq)]
+pub enum SyntaxFault {
+    /// The byte begins no token, or may not stand in a text.
+    UnknownByte(usize),
+    /// No policy has this token after the tokens before it.
+    Unexpected(usize),
+    /// A word, a number or a text passes its limit, or, at 65,536, the whole does.
+    TooLong(usize),
+    /// One level too many opens.
+    TooDeep(usize),
+    /// One item, operand or text too many.
+    TooMany(usize),
+    NoMemory,
+}
+
+fn fault(reader: &Reader, cause: Cause) -> SyntaxFault
+    ensures { result ≡ fault_of (flaw_at (first reader.now.tokens)) cause (place_of reader.now.text (length reader.now.tokens)) }
+{
+    let place = reader.place();
+    match reader.first().flaw() {
+        Some(Flaw::Unknown) => SyntaxFault::UnknownByte(place),
+        Some(Flaw::TooLong) => SyntaxFault::TooLong(place),
+        Some(Flaw::Misplaced) => SyntaxFault::Unexpected(place),
+        None => match cause {
+            Cause::Unexpected => SyntaxFault::Unexpected(place),
+            Cause::TooMany => SyntaxFault::TooMany(place),
+            Cause::TooDeep => SyntaxFault::TooDeep(place),
+        },
+    }
+}
+
+/// The policy that the text spells, or the first fault, from left to right.
+#[tactic(auto, unfolding(crate::specs::Policies::reading_of))]
+pub fn read_policy(alloc: Global, text: &[u8]) -> Result<Policy, SyntaxFault>
+    ensures { Reading result text.now }
+{
+    if text.len() > LONGEST {
+        return Err(SyntaxFault::TooLong(LONGEST));
+    }
+    let mut reader = Reader::new(alloc, text);
+    match whole(&mut reader) {
+        Ok(policy) => Ok(policy),
+        Err(Stop::Memory) => Err(SyntaxFault::NoMemory),
+        Err(Stop::At(cause)) => Err(fault(&reader, cause)),
+    }
+}

@@ -1,0 +1,299 @@
+//! What a token begins, where the grammar asks.
+
+ghost use Rattle.std.specs.Prelude.{◌≡◌, Some};
+ghost use Rattle.ucon_token.specs.Seen.{symbol_of, token_of};
+ghost use Rattle.ucon_syntax.specs.Starts.{symbol_literal, literal_start, symbol_factor, word_factor, factor_start, symbol_sum, sum_sign, unit_start, symbol_op, word_op, op_of, side_of, kind_word, phase_of, test_sort, duty_word, when_of, if_name, name_in};
+
+use ucon_base::{Name, Side};
+use ucon_model::{Op, Phase, When};
+use ucon_token::{Symbol, Token};
+
+#[derive(Clone, Copy)]
+pub enum LiteralStart {
+    Int,
+    Text,
+    Set,
+}
+
+#[derive(Clone, Copy)]
+pub enum FactorStart {
+    Literal,
+    Subject,
+    Object,
+    Env,
+    Size,
+    Round,
+}
+
+#[derive(Clone, Copy)]
+pub enum SumSign {
+    Plus,
+    Minus,
+}
+
+#[derive(Clone, Copy)]
+pub enum UnitStart {
+    Not,
+    Bracket,
+    Lasts,
+    Compare,
+}
+
+#[derive(Clone, Copy)]
+pub enum KindWord {
+    Int,
+    Text,
+    Set,
+}
+
+#[derive(Clone, Copy)]
+pub enum TestSort {
+    A,
+    B,
+    C,
+}
+
+#[derive(Clone, Copy)]
+pub enum DutyWord {
+    Done,
+    Within,
+    Every,
+}
+
+fn symbol_literal(s: Symbol) -> Option<LiteralStart>
+    ensures { result ≡ symbol_literal (symbol_of s) }
+{
+    match s {
+        Symbol::Minus => Some(LiteralStart::Int),
+        Symbol::OpenCurly => Some(LiteralStart::Set),
+        _ => None,
+    }
+}
+
+#[tactic(auto, unfolding(crate::specs::Starts::literal_start))]
+pub fn literal_start(token: &Token) -> Option<LiteralStart>
+    ensures { result ≡ literal_start (token_of token.now) }
+{
+    match token {
+        Token::Number(_) => Some(LiteralStart::Int),
+        Token::Text(_) => Some(LiteralStart::Text),
+        Token::Symbol(s) => symbol_literal(*s),
+        _ => None,
+    }
+}
+
+fn symbol_factor(s: Symbol) -> Option<FactorStart>
+    ensures { result ≡ symbol_factor (symbol_of s) }
+{
+    match s {
+        Symbol::Minus => Some(FactorStart::Literal),
+        Symbol::OpenCurly => Some(FactorStart::Literal),
+        Symbol::OpenRound => Some(FactorStart::Round),
+        _ => None,
+    }
+}
+
+fn word_factor(name: &Name) -> Option<FactorStart>
+    ensures { result ≡ word_factor name.now }
+{
+    let bytes = name.bytes();
+    if bytes == b"s".as_slice() {
+        Some(FactorStart::Subject)
+    } else if bytes == b"o".as_slice() {
+        Some(FactorStart::Object)
+    } else if bytes == b"env".as_slice() {
+        Some(FactorStart::Env)
+    } else if bytes == b"size".as_slice() {
+        Some(FactorStart::Size)
+    } else {
+        None
+    }
+}
+
+#[tactic(auto, unfolding(crate::specs::Starts::factor_start))]
+pub fn factor_start(token: &Token) -> Option<FactorStart>
+    ensures { result ≡ factor_start (token_of token.now) }
+{
+    match token {
+        Token::Number(_) => Some(FactorStart::Literal),
+        Token::Text(_) => Some(FactorStart::Literal),
+        Token::Symbol(s) => symbol_factor(*s),
+        Token::Word(name) => word_factor(name),
+        _ => None,
+    }
+}
+
+fn symbol_sum(s: Symbol) -> Option<SumSign>
+    ensures { result ≡ symbol_sum (symbol_of s) }
+{
+    match s {
+        Symbol::Plus => Some(SumSign::Plus),
+        Symbol::Minus => Some(SumSign::Minus),
+        _ => None,
+    }
+}
+
+#[tactic(auto, unfolding(crate::specs::Starts::sum_sign))]
+pub fn sum_sign(token: &Token) -> Option<SumSign>
+    ensures { result ≡ sum_sign (token_of token.now) }
+{
+    match token {
+        Token::Symbol(s) => symbol_sum(*s),
+        _ => None,
+    }
+}
+
+#[tactic(auto, unfolding(crate::specs::Starts::unit_start))]
+pub fn unit_start(token: &Token) -> UnitStart
+    ensures { result ≡ unit_start (token_of token.now) }
+{
+    if token.is_word(b"not") {
+        UnitStart::Not
+    } else if token.is_symbol(Symbol::OpenSquare) {
+        UnitStart::Bracket
+    } else if token.is_word(b"lasts") {
+        UnitStart::Lasts
+    } else {
+        UnitStart::Compare
+    }
+}
+
+fn symbol_op(s: Symbol) -> Option<Op>
+    ensures { result ≡ symbol_op (symbol_of s) }
+{
+    match s {
+        Symbol::Equal => Some(Op::Eq),
+        Symbol::NotEqual => Some(Op::Ne),
+        Symbol::Less => Some(Op::Lt),
+        Symbol::LessEqual => Some(Op::Le),
+        Symbol::Greater => Some(Op::Gt),
+        Symbol::GreaterEqual => Some(Op::Ge),
+        _ => None,
+    }
+}
+
+fn word_op(name: &Name) -> Option<Op>
+    ensures { result ≡ word_op name.now }
+{
+    if name.bytes() == b"in".as_slice() {
+        Some(Op::Member)
+    } else {
+        None
+    }
+}
+
+#[tactic(auto, unfolding(crate::specs::Starts::op_of))]
+pub fn op_of(token: &Token) -> Option<Op>
+    ensures { result ≡ op_of (token_of token.now) }
+{
+    match token {
+        Token::Symbol(s) => symbol_op(*s),
+        Token::Word(name) => word_op(name),
+        _ => None,
+    }
+}
+
+#[tactic(auto, unfolding(crate::specs::Starts::side_of))]
+pub fn side_of(token: &Token) -> Option<Side>
+    ensures { result ≡ side_of (token_of token.now) }
+{
+    if token.is_word(b"s") {
+        Some(Side::Subject)
+    } else if token.is_word(b"o") {
+        Some(Side::Object)
+    } else {
+        None
+    }
+}
+
+#[tactic(auto, unfolding(crate::specs::Starts::kind_word))]
+pub fn kind_word(token: &Token) -> Option<KindWord>
+    ensures { result ≡ kind_word (token_of token.now) }
+{
+    if token.is_word(b"int") {
+        Some(KindWord::Int)
+    } else if token.is_word(b"text") {
+        Some(KindWord::Text)
+    } else if token.is_word(b"set") {
+        Some(KindWord::Set)
+    } else {
+        None
+    }
+}
+
+#[tactic(auto, unfolding(crate::specs::Starts::phase_of))]
+pub fn phase_of(token: &Token) -> Option<Phase>
+    ensures { result ≡ phase_of (token_of token.now) }
+{
+    if token.is_word(b"pre") {
+        Some(Phase::Pre)
+    } else if token.is_word(b"on") {
+        Some(Phase::Ongoing)
+    } else {
+        None
+    }
+}
+
+#[tactic(auto, unfolding(crate::specs::Starts::test_sort))]
+pub fn test_sort(token: &Token) -> Option<TestSort>
+    ensures { result ≡ test_sort (token_of token.now) }
+{
+    if token.is_word(b"a") {
+        Some(TestSort::A)
+    } else if token.is_word(b"b") {
+        Some(TestSort::B)
+    } else if token.is_word(b"c") {
+        Some(TestSort::C)
+    } else {
+        None
+    }
+}
+
+#[tactic(auto, unfolding(crate::specs::Starts::duty_word))]
+pub fn duty_word(token: &Token) -> Option<DutyWord>
+    ensures { result ≡ duty_word (token_of token.now) }
+{
+    if token.is_word(b"done") {
+        Some(DutyWord::Done)
+    } else if token.is_word(b"within") {
+        Some(DutyWord::Within)
+    } else if token.is_word(b"every") {
+        Some(DutyWord::Every)
+    } else {
+        None
+    }
+}
+
+#[tactic(auto, unfolding(crate::specs::Starts::when_of))]
+pub fn when_of(token: &Token) -> Option<When>
+    ensures { result ≡ when_of (token_of token.now) }
+{
+    if token.is_word(b"before") {
+        Some(When::Before)
+    } else if token.is_word(b"during") {
+        Some(When::During)
+    } else if token.is_word(b"after_end") {
+        Some(When::AfterEnd)
+    } else if token.is_word(b"after_revoke") {
+        Some(When::AfterRevoke)
+    } else {
+        None
+    }
+}
+
+/// The name that a text spells.
+#[tactic(auto, unfolding(crate::specs::Starts::name_in))]
+pub fn name_in(token: &Token) -> Option<Name>
+    ensures { result ≡ name_in (token_of token.now) }
+{
+    match token.text() {
+        Some(text) => name_of(text.bytes()),
+        None => None,
+    }
+}
+
+fn name_of(bytes: &[u8]) -> Option<Name>
+    ensures { result ≡ if_name (Some bytes.now) }
+{
+    Name::read(bytes).ok()
+}
