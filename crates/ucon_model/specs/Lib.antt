@@ -17,3 +17,5 @@ pub mod Fitting
 pub mod Output
 pub mod Document
 pub mod Tokens
+pub mod Checked
+pub mod Lookup

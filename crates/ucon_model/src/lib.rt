@@ -1,13 +1,16 @@
 //! The types that every layer shares, what they mean, and the laws of these definitions.
 #![tactic(auto)]
 
+mod checked;
 mod command;
 mod formula;
 mod laws;
 mod policy;
 mod reply;
 mod session;
+mod view;
 
+pub use checked::Checked;
 pub use command::{Caller, Command, Entry};
 pub use formula::{Expr, Form, Formula, Obligation, Op, Ref};
 pub use laws::{
@@ -17,3 +20,4 @@ pub use laws::{
 pub use policy::{AttrDecl, EnvDecl, Phase, Policy, Predicate, Right, Test, Update, When};
 pub use reply::{Head, Refusal, Reply, Revoked};
 pub use session::{SessionRow, SessionState, Verdict};
+pub use view::View;
