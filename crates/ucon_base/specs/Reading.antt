@@ -51,6 +51,7 @@ abbrev pub unless_bad : Option ℕ → Result Value ValueFault → Result Value 
 unless_bad None r = r
 unless_bad (Some p) r = Err (BadSpelling p)
 
+-- the integer whose spelling these bytes are
 abbrev pub integer_read : List ℕ → Result Value ValueFault
 integer_read bs = unless_bad (bad_integer_place bs) (spelled_integer bs)
 
@@ -83,6 +84,7 @@ abbrev pub rises : Option (List ℕ) → List ℕ → Bool
 rises None t = true
 rises (Some u) t = is_lt (slice_cmp nat_cmp u t)
 
+-- whether bytes begin with these
 abbrev pub begins_with : List ℕ → List ℕ → Bool
 begins_with us [] = true
 begins_with [] (b ∷ bs) = false
@@ -135,6 +137,7 @@ abbrev pub first_long : List Member → Option ℕ
 first_long [] = None
 first_long (m ∷ ms) = if nat_lt 64 (length m.text) then Some m.at else first_long ms
 
+-- the set of members of which none, or the one at a place, is too long
 abbrev pub unless_long : Option ℕ → List Member → Result Value ValueFault
 unless_long (Some p) ms = Err (TooLong p)
 unless_long None ms = if nat_lt 64 (length ms) then Err (TooMany (length ms)) else Ok (Set (map (λ m. m.text) ms))
