@@ -1,0 +1,6 @@
+//! For each place the sessions that read it, over linked lists.
+#![tactic(auto)]
+
+mod index;
+
+pub use index::Index;
