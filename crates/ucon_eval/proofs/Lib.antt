@@ -1,0 +1,3 @@
+pub mod SameTexts
+pub mod Places
+pub mod Agreeing

@@ -1,0 +1,4 @@
+pub mod Worth
+pub mod Sums
+pub mod Asked
+pub mod Sort

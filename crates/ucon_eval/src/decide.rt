@@ -1,0 +1,144 @@
+//! Decisions: the truth of a predicate, the verdict, and the first ongoing predicate that is false.
+
+ghost use Rattle.std.specs.Prelude.{◌≡◌, ◌+◌, ◌-◌, ◌^◌, ◌&&◌, not, min, map, option_map, option_copied, true, Some, IsSome};
+ghost use Rattle.ucon_model.specs.Truth.{truth};
+ghost use Rattle.ucon_model.specs.Decision.{right_named, first_false, first_false_of, failing, verdict};
+ghost use Rattle.ucon_model.specs.Views.{right_of, predicate_of, test_of};
+ghost use Rattle.ucon_eval.specs.Sums.{preds_make_no_set, tests_make_no_set};
+ghost use Rattle.ucon_eval.specs.Asked.{right_of_session, predicate_at, truth_at, makes_no_set_at};
+ghost use Rattle.ucon_eval.specs.Sort.{sort_of};
+
+use crate::test::is_true;
+use ucon_base::{Name, Steps};
+use ucon_model::{Phase, Predicate, Right, SessionRow, Test, Verdict, View};
+
+/// Which predicates are asked.
+#[derive(Clone, Copy)]
+enum Sort {
+    /// Before the usage, of kind A or C.
+    PreCheck,
+    /// Before the usage, of kind B.
+    PreDuty,
+    Ongoing,
+}
+
+fn is_of(sort: Sort, p: &Predicate) -> bool
+    ensures { result ≡ sort_of sort (predicate_of p.now) }
+{
+    match (sort, p.phase, &p.test) {
+        (Sort::Ongoing, Phase::Ongoing, _) => true,
+        (Sort::PreDuty, Phase::Pre, Test::B(_)) => true,
+        (Sort::PreCheck, Phase::Pre, Test::A(_)) => true,
+        (Sort::PreCheck, Phase::Pre, Test::C(_)) => true,
+        _ => false,
+    }
+}
+
+/// The label of the first predicate of a sort that is false.
+fn first_false<V: View>(
+    view: &V,
+    session: u32,
+    row: &SessionRow,
+    sort: Sort,
+    preds: &[Predicate],
+) -> Option<Name>
+    requires row { (V.readings view.now).row session ≡ Some row.now }
+    requires no_set { preds_make_no_set (V.readings view.now) row.now (map predicate_of preds.now) ≡ true }
+    ensures { result ≡ first_false (V.readings view.now) row.now (sort_of sort) (map predicate_of preds.now) }
+{
+    for p in preds {
+        if is_of(sort, p) && !is_true(view, session, row, &p.test) {
+            return Some(p.label);
+        }
+    }
+    None
+}
+
+/// A right by its name.
+pub fn right_named<'a>(rights: &'a [Right], name: &Name) -> Option<&'a Right>
+    ensures { option_map right_of (option_copied result) ≡ right_named (map right_of rights.now) name.now }
+{
+    for r in rights {
+        if name == &r.name {
+            return Some(r);
+        }
+    }
+    None
+}
+
+/// The right of a session.
+pub fn right<'a, V: View>(view: &'a V, row: &SessionRow) -> Option<&'a Right>
+    ensures { option_map right_of (option_copied result) ≡ right_named (V.policy view.now).rights row.now.right }
+{
+    right_named(view.checked().policy().rights.slice(), &row.right)
+}
+
+/// A predicate of the session's right by its place, from 0.
+#[tactic(auto, using(crate::proofs::Places::place_of_view))]
+fn predicate<'a, V: View>(view: &'a V, row: &SessionRow, at: u32) -> Option<&'a Predicate>
+    ensures { option_map predicate_of (option_copied result) ≡ predicate_at (V.policy view.now) row.now at }
+{
+    match right(view, row) {
+        Some(right) => right.preds.at(at as usize),
+        None => None,
+    }
+}
+
+/// Whether a predicate of the session's right, by its place from 0, is true. It takes no memory.
+pub fn truth<V: View>(view: &V, session: u32, pred: u32) -> bool
+    requires there { IsSome (truth_at (V.policy view.now) (V.readings view.now) session pred) }
+    requires no_set { makes_no_set_at (V.policy view.now) (V.readings view.now) session pred ≡ true }
+    ensures { truth_at (V.policy view.now) (V.readings view.now) session pred ≡ Some result }
+{
+    let Some(row) = view.session(session) else {
+        unreachable!()
+    };
+    let Some(p) = predicate(view, &row, pred) else {
+        unreachable!()
+    };
+    is_true(view, session, &row, &p.test)
+}
+
+/// The label of the session's first predicate of a sort that is false.
+fn first_false_of<V: View>(view: &V, session: u32, row: &SessionRow, sort: Sort) -> Option<Name>
+    requires row { (V.readings view.now).row session ≡ Some row.now }
+    requires no_set { tests_make_no_set (V.policy view.now) (V.readings view.now) session ≡ true }
+    ensures { result ≡ first_false_of (V.policy view.now) (V.readings view.now) (sort_of sort) row.now }
+{
+    match right(view, row) {
+        Some(right) => first_false(view, session, row, sort, right.preds.slice()),
+        None => None,
+    }
+}
+
+/// The verdict on a session. It takes no memory.
+pub fn verdict<V: View>(view: &V, session: u32) -> Verdict
+    requires there { IsSome (right_of_session (V.policy view.now) (V.readings view.now) session) }
+    requires no_set { tests_make_no_set (V.policy view.now) (V.readings view.now) session ≡ true }
+    ensures { result ≡ verdict (V.policy view.now) (V.readings view.now) session }
+{
+    let Some(row) = view.session(session) else {
+        unreachable!()
+    };
+    if let Some(label) = first_false_of(view, session, &row, Sort::PreCheck) {
+        return Verdict::Deny(label);
+    }
+    match first_false_of(view, session, &row, Sort::PreDuty) {
+        Some(label) => Verdict::Wait(label),
+        None => Verdict::Permit,
+    }
+}
+
+/// The label of the first ongoing predicate of a session that is false; None where all hold. It counts one step, and takes no memory.
+pub fn failing<V: View>(view: &V, session: u32, steps: &mut Steps) -> Option<Name>
+    requires there { IsSome (right_of_session (V.policy view.now) (V.readings view.now) session) }
+    requires no_set { tests_make_no_set (V.policy view.now) (V.readings view.now) session ≡ true }
+    ensures label { result ≡ failing (V.policy view.now) (V.readings view.now) session }
+    ensures steps { steps.new ≡ min (steps.old + 1) (2 ^ 64 - 1) }
+{
+    steps.tick();
+    let Some(row) = view.session(session) else {
+        unreachable!()
+    };
+    first_false_of(view, session, &row, Sort::Ongoing)
+}

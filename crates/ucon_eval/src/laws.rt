@@ -1,0 +1,25 @@
+//! Laws of what is evaluated over a view. A law is a function without parameters that does nothing: its contract is what is proved.
+
+ghost use Rattle.std.specs.Prelude.{◌≡◌, ℕ};
+ghost use Rattle.ucon_model.specs.declared.session.SessionRow.{SessionRow};
+ghost use Rattle.ucon_model.specs.Plain.{PlainPolicy, PlainUpdate};
+ghost use Rattle.ucon_model.specs.Action.{Trace};
+ghost use Rattle.ucon_model.specs.Truth.{Readings, readings};
+ghost use Rattle.ucon_model.specs.Decision.{failing, verdict};
+ghost use Rattle.ucon_model.specs.History.{Agree};
+ghost use Rattle.ucon_model.specs.Updates.{result as trace_result};
+ghost use Rattle.ucon_eval.specs.Asked.{truth_at, result_at, result_read};
+
+/// Over the readings of a trace, an update's result is the trace's.
+pub fn results_are_those_of_the_trace()
+    ensures { (P : PlainPolicy) (T : Trace) (row : SessionRow) (u : PlainUpdate) → result_read P (readings P T) row u ≡ trace_result P T row u }
+{}
+
+/// Readings that agree point by point decide alike. So what holds over the readings of a history's trace holds over every view that
+/// stands for the history.
+pub fn views_that_agree_decide_alike()
+    ensures truth { (P : PlainPolicy) (R S : Readings) (n i : ℕ) → Agree R S → truth_at P R n i ≡ truth_at P S n i }
+    ensures verdict { (P : PlainPolicy) (R S : Readings) (n : ℕ) → Agree R S → verdict P R n ≡ verdict P S n }
+    ensures failing { (P : PlainPolicy) (R S : Readings) (n : ℕ) → Agree R S → failing P R n ≡ failing P S n }
+    ensures result { (P : PlainPolicy) (R S : Readings) (n i : ℕ) → Agree R S → result_at P R n i ≡ result_at P S n i }
+{}

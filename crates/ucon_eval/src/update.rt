@@ -1,0 +1,115 @@
+//! What an update writes.
+
+ghost use Rattle.std.specs.Prelude.{◌≡◌, map, option_map, option_copied, Some, IfOk, IsSome};
+ghost use Rattle.ucon_model.specs.Readings.{declared_attr};
+ghost use Rattle.ucon_model.specs.Truth.{value_of};
+ghost use Rattle.ucon_model.specs.Updates.{fitted_to};
+ghost use Rattle.ucon_model.specs.Views.{expr_of, update_of};
+ghost use Rattle.ucon_eval.specs.Asked.{result_read, update_at, result_at};
+
+use crate::arithmetic::{difference, fitted, product, size, sum};
+use crate::decide::right;
+use std::alloc::Global;
+use ucon_base::{Int, Name, NoMemory, Side, Value};
+use ucon_model::{AttrDecl, Expr, SessionRow, Update, View};
+
+fn value_of<V: View>(
+    alloc: Global,
+    view: &V,
+    session: u32,
+    row: &SessionRow,
+    e: &Expr,
+) -> Result<Value, NoMemory>
+    requires { (V.readings view.now).row session ≡ Some row.now }
+    ensures { IfOk result (λ v. v ≡ value_of ((V.readings view.now).at row.now) (expr_of e.now)) }
+{
+    match e {
+        Expr::Lit(v) => v.copy(alloc),
+        Expr::Read(place) => match view.value(session, place) {
+            Some(v) => v.copy(alloc),
+            None => Ok(Value::Int(Int::zero())),
+        },
+        Expr::Add(a, b) => {
+            let left = value_of(alloc, view, session, row, a)?;
+            sum(alloc, left, value_of(alloc, view, session, row, b)?)
+        }
+        Expr::Sub(a, b) => {
+            let left = value_of(alloc, view, session, row, a)?;
+            difference(alloc, left, value_of(alloc, view, session, row, b)?)
+        }
+        Expr::Mul(a, b) => {
+            let left = value_of(alloc, view, session, row, a)?;
+            Ok(product(left, value_of(alloc, view, session, row, b)?))
+        }
+        Expr::Size(a) => Ok(size(value_of(alloc, view, session, row, a)?)),
+    }
+}
+
+/// The declaration of an attribute.
+fn declared<'a>(attrs: &'a [AttrDecl], side: Side, name: &Name) -> Option<&'a AttrDecl>
+    ensures { option_copied result ≡ declared_attr attrs.now side name.now }
+{
+    for a in attrs {
+        if side == a.side && name == &a.name {
+            return Some(a);
+        }
+    }
+    None
+}
+
+/// The value as the attribute keeps it.
+fn fitted_to(attr: Option<&AttrDecl>, v: Value) -> Value
+    ensures { result ≡ fitted_to (option_copied attr.entry) v }
+{
+    match attr {
+        Some(a) => fitted(&a.kind, v),
+        None => v,
+    }
+}
+
+/// What an update writes for a session.
+fn result_of<V: View>(
+    alloc: Global,
+    view: &V,
+    session: u32,
+    row: &SessionRow,
+    u: &Update,
+) -> Result<Value, NoMemory>
+    requires { (V.readings view.now).row session ≡ Some row.now }
+    ensures { IfOk result (λ v. v ≡ result_read (V.policy view.now) (V.readings view.now) row.now (update_of u.now)) }
+{
+    let value = value_of(alloc, view, session, row, &u.value)?;
+    let attrs = view.checked().policy().attrs.slice();
+    Ok(fitted_to(declared(attrs, u.side, &u.attr), value))
+}
+
+/// An update of the session's right by its place, from 0.
+#[tactic(auto, using(crate::proofs::Places::place_of_view))]
+pub fn update_at<'a, V: View>(view: &'a V, row: &SessionRow, at: u32) -> Option<&'a Update>
+    ensures { option_map update_of (option_copied result) ≡ update_at (V.policy view.now) row.now at }
+{
+    match right(view, row) {
+        Some(right) => right.updates.at(at as usize),
+        None => None,
+    }
+}
+
+/// The result of an update of the session's right, by its place from 0: its expression's value, clamped to the declared range where
+/// the attribute is an integer.
+pub fn result<V: View>(
+    alloc: Global,
+    view: &V,
+    session: u32,
+    update: u32,
+) -> Result<Value, NoMemory>
+    requires { IsSome (result_at (V.policy view.now) (V.readings view.now) session update) }
+    ensures { IfOk result (λ v. result_at (V.policy view.now) (V.readings view.now) session update ≡ Some v) }
+{
+    let Some(row) = view.session(session) else {
+        unreachable!()
+    };
+    let Some(u) = update_at(view, &row, update) else {
+        unreachable!()
+    };
+    result_of(alloc, view, session, &row, u)
+}
