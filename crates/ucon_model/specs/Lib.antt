@@ -19,3 +19,4 @@ pub mod Document
 pub mod Tokens
 pub mod Checked
 pub mod Lookup
+pub mod CommandLine
