@@ -111,24 +111,22 @@ abbrev pub said : {A : Type 0} → (Bytes → Option A) → Word → Result A Li
 said kind w = ok_or (kind w.text) (bad_word w.at)
 
 -- a line of other than its form's number of words, of which these stand behind the first
-abbrev pub miscounted : List Word → Result Command LineRefusal
+abbrev pub miscounted : {A : Type 0} → List Word → Result A LineRefusal
 miscounted words = Err (wrong_count (1 + length words))
 
 -- one word
-unfoldable pub one_word : {A : Type 0} → (Bytes → Option A) → (A → Command) → List Word → Result Command LineRefusal
-one_word kind command (a ∷ []) = do
-  x ← said kind a
-  Ok (command x)
-one_word kind command words = miscounted words
+unfoldable pub one_word : {A : Type 0} → (Bytes → Option A) → List Word → Result A LineRefusal
+one_word kind (a ∷ []) = said kind a
+one_word kind words = miscounted words
 
 -- three names
-unfoldable pub three_names : (Bytes → Bytes → Bytes → Command) → List Word → Result Command LineRefusal
-three_names command (a ∷ b ∷ c ∷ []) = do
+unfoldable pub three_names : List Word → Result (Bytes × Bytes × Bytes) LineRefusal
+three_names (a ∷ b ∷ c ∷ []) = do
   x ← said name_in a
   y ← said name_in b
   z ← said name_in c
-  Ok (command x y z)
-three_names command words = miscounted words
+  Ok (x, y, z)
+three_names words = miscounted words
 
 -- a side, an entity's name and an attribute's
 unfoldable pub value_words : List Word → Result Command LineRefusal
@@ -157,20 +155,25 @@ env_words line (n ∷ v ∷ more) = do
   Ok (Env name value)
 env_words line words = miscounted words
 
+-- the command of what its words say
+abbrev pub made : {A : Type 0} → (A → Command) → Result A LineRefusal → Result Command LineRefusal
+made command (Ok x) = Ok (command x)
+made command (Err refusal) = Err refusal
+
 -- the form that a line's first word begins, read from the words behind it
 unfoldable pub command_read : Bytes → Bytes → List Word → Result Command LineRefusal
 command_read line first words =
-    if bytes_eq first (codes "subject") then one_word name_in Subject words else
-    if bytes_eq first (codes "object") then one_word name_in Object words else
+    if bytes_eq first (codes "subject") then made Subject (one_word name_in words) else
+    if bytes_eq first (codes "object") then made Object (one_word name_in words) else
     if bytes_eq first (codes "set") then set_words line words else
     if bytes_eq first (codes "env") then env_words line words else
-    if bytes_eq first (codes "tick") then one_word integer_in Tick words else
-    if bytes_eq first (codes "act") then three_names Act words else
-    if bytes_eq first (codes "try") then three_names Try words else
-    if bytes_eq first (codes "again") then one_word number_in Again words else
-    if bytes_eq first (codes "beat") then one_word number_in Beat words else
-    if bytes_eq first (codes "end") then one_word number_in End words else
-    if bytes_eq first (codes "look") then one_word number_in Look words else
+    if bytes_eq first (codes "tick") then made Tick (one_word integer_in words) else
+    if bytes_eq first (codes "act") then made (λ t. Act t.0 t.1 t.2) (three_names words) else
+    if bytes_eq first (codes "try") then made (λ t. Try t.0 t.1 t.2) (three_names words) else
+    if bytes_eq first (codes "again") then made Again (one_word number_in words) else
+    if bytes_eq first (codes "beat") then made Beat (one_word number_in words) else
+    if bytes_eq first (codes "end") then made End (one_word number_in words) else
+    if bytes_eq first (codes "look") then made Look (one_word number_in words) else
     if bytes_eq first (codes "value") then value_words words else
     Err unknown_word
 
