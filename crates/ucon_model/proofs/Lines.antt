@@ -5,7 +5,7 @@ use Rattle.std.specs.Fmt.{digits}
 use Rattle.ucon_base.specs.declared.value.Side.TheVariants as sides
 use Rattle.ucon_base.specs.declared.value.Value.TheVariants as values
 use Rattle.ucon_model.specs.declared.command.Command.TheVariants as commands
-use Rattle.ucon_model.specs.CommandLine.{command_spelling, no_word, unknown_word, wrong_count, bad_word, one_word, three_names, value_words, set_words, env_words, command_read, line_read}
+use Rattle.ucon_model.specs.CommandLine.{command_spelling, no_word, unknown_word, wrong_count, bad_word, one_word, names_of, three_names, place_of, value_words, set_of, set_words, env_of, env_words, command_read, line_read}
 
 none_or_unknown : map line_read ([] ∷ codes " end 7" ∷ codes "fly" ∷ codes "End 7" ∷ [])
     ≡ Err no_word ∷ Err no_word ∷ Err unknown_word ∷ Err unknown_word ∷ []
@@ -24,13 +24,13 @@ numbers = refl
 
 leftmost : map line_read (codes "try a  x" ∷ codes "value x A b" ∷ codes "set s a credit 5 6" ∷ codes "set s a credit  5" ∷ [])
     ≡ Err (bad_word 6) ∷ Err (bad_word 6) ∷ Err (bad_word 15) ∷ Err (bad_word 15) ∷ []
-unfolding line_read command_read three_names value_words set_words
+unfolding line_read command_read names_of three_names place_of value_words set_of set_words
 leftmost = refl
 
 rest_of_the_line : map line_read (codes "env zone \"a  b \"" ∷ codes "set o x tags {\"a b\",\"c\"}" ∷ [])
     ≡ Ok (commands.Env (codes "zone") (values.Text (codes "a  b ")))
     ∷ Ok (commands.Set sides.Object (codes "x") (codes "tags") (values.Set (codes "a b" ∷ codes "c" ∷ []))) ∷ []
-unfolding line_read command_read set_words env_words
+unfolding line_read command_read place_of set_of set_words env_of env_words
 rest_of_the_line = refl
 
 written : command_spelling (commands.Set sides.Subject (codes "a") (codes "credit") (values.Int (pos 10))) ≡ codes "set s a credit 10"

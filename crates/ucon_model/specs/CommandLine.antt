@@ -110,49 +110,63 @@ number_in bs = option_and_then number_of (integer_in bs)
 abbrev pub said : {A : Type 0} → (Bytes → Option A) → Word → Result A LineRefusal
 said kind w = ok_or (kind w.text) (bad_word w.at)
 
--- a line of other than its form's number of words, of which these stand behind the first
+-- a line of other than its form's number of words
 abbrev pub miscounted : {A : Type 0} → List Word → Result A LineRefusal
-miscounted words = Err (wrong_count (1 + length words))
+miscounted words = Err (wrong_count (length words))
 
--- one word
+-- a line of one word behind its first
 unfoldable pub one_word : {A : Type 0} → (Bytes → Option A) → List Word → Result A LineRefusal
-one_word kind (a ∷ []) = said kind a
+one_word kind (w ∷ a ∷ []) = said kind a
 one_word kind words = miscounted words
 
 -- three names
-unfoldable pub three_names : List Word → Result (Bytes × Bytes × Bytes) LineRefusal
-three_names (a ∷ b ∷ c ∷ []) = do
+unfoldable pub names_of : Word → Word → Word → Result (Bytes × Bytes × Bytes) LineRefusal
+names_of a b c = do
   x ← said name_in a
   y ← said name_in b
   z ← said name_in c
   Ok (x, y, z)
+
+-- a line of three names behind its first word
+unfoldable pub three_names : List Word → Result (Bytes × Bytes × Bytes) LineRefusal
+three_names (w ∷ a ∷ b ∷ c ∷ []) = names_of a b c
 three_names words = miscounted words
 
 -- a side, an entity's name and an attribute's
-unfoldable pub value_words : List Word → Result Command LineRefusal
-value_words (s ∷ n ∷ a ∷ []) = do
+unfoldable pub place_of : Word → Word → Word → Result (Side × Bytes × Bytes) LineRefusal
+place_of s n a = do
   side ← said side_in s
   name ← said name_in n
   attr ← said name_in a
-  Ok (Value' side name attr)
+  Ok (side, name, attr)
+
+-- a line of these behind its first word
+unfoldable pub value_words : List Word → Result (Side × Bytes × Bytes) LineRefusal
+value_words (w ∷ s ∷ n ∷ a ∷ []) = place_of s n a
 value_words words = miscounted words
 
--- the same and a value, which takes the rest of the line
+-- these and a value
+unfoldable pub set_of : Result (Side × Bytes × Bytes) LineRefusal → Word → Result Command LineRefusal
+set_of place v = do
+  p ← place
+  value ← said value_in v
+  Ok (Set p.0 p.1 p.2 value)
+
+-- a line of these behind its first word, whose value takes the rest of the line
 unfoldable pub set_words : Bytes → List Word → Result Command LineRefusal
-set_words line (s ∷ n ∷ a ∷ v ∷ more) = do
-  side ← said side_in s
-  name ← said name_in n
-  attr ← said name_in a
-  value ← said value_in (with_rest line v)
-  Ok (Set side name attr value)
+set_words line (w ∷ s ∷ n ∷ a ∷ v ∷ more) = set_of (place_of s n a) (with_rest line v)
 set_words line words = miscounted words
 
--- a variable's name and a value, which takes the rest of the line
-unfoldable pub env_words : Bytes → List Word → Result Command LineRefusal
-env_words line (n ∷ v ∷ more) = do
+-- a variable's name and a value
+unfoldable pub env_of : Word → Word → Result Command LineRefusal
+env_of n v = do
   name ← said name_in n
-  value ← said value_in (with_rest line v)
+  value ← said value_in v
   Ok (Env name value)
+
+-- a line of these behind its first word, whose value takes the rest of the line
+unfoldable pub env_words : Bytes → List Word → Result Command LineRefusal
+env_words line (w ∷ n ∷ v ∷ more) = env_of n (with_rest line v)
 env_words line words = miscounted words
 
 -- the command of what its words say
@@ -160,7 +174,7 @@ abbrev pub made : {A : Type 0} → (A → Command) → Result A LineRefusal → 
 made command (Ok x) = Ok (command x)
 made command (Err refusal) = Err refusal
 
--- the form that a line's first word begins, read from the words behind it
+-- the form that a line's first word begins
 unfoldable pub command_read : Bytes → Bytes → List Word → Result Command LineRefusal
 command_read line first words =
     if bytes_eq first (codes "subject") then made Subject (one_word name_in words) else
@@ -174,13 +188,13 @@ command_read line first words =
     if bytes_eq first (codes "beat") then made Beat (one_word number_in words) else
     if bytes_eq first (codes "end") then made End (one_word number_in words) else
     if bytes_eq first (codes "look") then made Look (one_word number_in words) else
-    if bytes_eq first (codes "value") then value_words words else
+    if bytes_eq first (codes "value") then made (λ p. Value' p.0 p.1 p.2) (value_words words) else
     Err unknown_word
 
 -- a line's words: the first may not be empty
 abbrev pub words_read : Bytes → List Word → Result Command LineRefusal
 words_read line [] = Err no_word
-words_read line (w ∷ words) = if length w.text == 0 then Err no_word else command_read line w.text words
+words_read line (w ∷ words) = if length w.text == 0 then Err no_word else command_read line w.text (w ∷ words)
 
 -- the command whose text a line is, or the first refusal
 unfoldable pub line_read : Bytes → Result Command LineRefusal

@@ -1,0 +1,14 @@
+-- What a refused line's fault tells.
+use Rattle.std.specs.Prelude.{◌≡◌, Result, Err, ⊤}
+use Rattle.ucon_command.specs.declared.line_fault.LineFault.{LineFault}
+use Rattle.ucon_command.specs.declared.line_fault.LineFault.TheVariants.{TooLong, NoWord, UnknownWord, WrongCount, BadWord, NoMemory}
+use Rattle.ucon_model.specs.CommandLine.{LineRefusal, line_too_long, no_word, unknown_word, wrong_count, bad_word}
+
+-- what is said is this refusal, unless it is want of memory
+abbrev pub IsRefusal : {A : Type 0} → Result A LineRefusal → LineFault → Type 0
+IsRefusal said (TooLong n) = said ≡ Err (line_too_long n)
+IsRefusal said NoWord = said ≡ Err no_word
+IsRefusal said UnknownWord = said ≡ Err unknown_word
+IsRefusal said (WrongCount n) = said ≡ Err (wrong_count n)
+IsRefusal said (BadWord place) = said ≡ Err (bad_word place)
+IsRefusal said NoMemory = ⊤
