@@ -11,6 +11,7 @@ use std::alloc::Global;
 use ucon_base::Rows;
 
 /// The command lines of a document, or the first line that is refused.
+#[tactic(auto, unfolding(ucon_model::specs::Document::document_read))]
 pub fn read_document(alloc: Global, bytes: &[u8]) -> Result<Document, DocFault>
     requires { length bytes.now ≤ 4194304 }
     ensures { Gives lines_said result (document_read bytes.now) }
