@@ -26,3 +26,4 @@ pub mod UpdatesOfThreeUsers
 pub mod Cascades
 pub mod WithinAndLasts
 pub mod Lines
+pub mod Documents
