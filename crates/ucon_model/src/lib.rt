@@ -3,6 +3,7 @@
 
 mod checked;
 mod command;
+mod core_model;
 mod formula;
 mod laws;
 mod policy;
@@ -12,6 +13,7 @@ mod view;
 
 pub use checked::Checked;
 pub use command::{Caller, Command, Entry};
+pub use core_model::{Core, CoreKind};
 pub use formula::{Expr, Form, Formula, Obligation, Op, Ref};
 pub use laws::{
     blocks_are_legal, no_usage_goes_on_failing, outputs_are_read_back, revocations_are_legal,
