@@ -58,31 +58,30 @@ is_of_kind OnC p = ongoing p && is_condition p.test
 abbrev pub index_if : Bool → ℕ → List ℕ
 index_if applies i = if applies then i ∷ [] else []
 
--- the index of updates before a usage
-abbrev pub index_before : List PlainUpdate → List ℕ
-index_before us = index_if (has_update Before us) 1
-
--- the index of updates during a usage
-abbrev pub index_during : List PlainUpdate → List ℕ
-index_during us = index_if (has_update During us) 2
-
--- the index of updates after a usage
-abbrev pub index_after : List PlainUpdate → List ℕ
-index_after us = index_if (has_update AfterEnd us || has_update AfterRevoke us) 3
-
 -- 0 alone where no other index applies
 abbrev pub or_zero : List ℕ → List ℕ
 or_zero [] = 0 ∷ []
 or_zero (i ∷ is) = i ∷ is
 
--- the indices of a kind beside these updates; a decision before the usage has none of updates during it, and conditions have 0 alone
+-- whether a kind's models are told apart by updates of a time: those of conditions by none, and decisions before a usage not by
+-- updates during it
+abbrev pub may_update : CoreKind → When → Bool
+may_update PreC when = false
+may_update OnC when = false
+may_update PreA During = false
+may_update PreB During = false
+may_update kind when = true
+
+abbrev pub updates_at : CoreKind → List PlainUpdate → When → Bool
+updates_at kind us when = may_update kind when && has_update when us
+
+-- the indices by these: there are updates before, during and after a usage
+abbrev pub indices_by : Bool → Bool → Bool → List ℕ
+indices_by before during after = or_zero (index_if before 1 ++ index_if during 2 ++ index_if after 3)
+
+-- the indices of a kind beside these updates
 abbrev pub indices : CoreKind → List PlainUpdate → List ℕ
-indices PreA us = or_zero (index_before us ++ index_after us)
-indices PreB us = or_zero (index_before us ++ index_after us)
-indices OnA us = or_zero (index_before us ++ index_during us ++ index_after us)
-indices OnB us = or_zero (index_before us ++ index_during us ++ index_after us)
-indices PreC us = 0 ∷ []
-indices OnC us = 0 ∷ []
+indices kind us = indices_by (updates_at kind us Before) (updates_at kind us During) (updates_at kind us AfterEnd || updates_at kind us AfterRevoke)
 
 -- a right's core models of a kind: none where it has no predicate of the kind
 abbrev pub cores_of_kind : PlainRight → CoreKind → List Core

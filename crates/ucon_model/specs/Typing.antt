@@ -13,6 +13,8 @@ use Rattle.ucon_model.specs.declared.formula.Op.{Op}
 use Rattle.ucon_model.specs.declared.formula.Op.TheVariants.{Eq, Ne, Lt, Le, Gt, Ge, Member}
 use Rattle.ucon_model.specs.declared.formula.Ref.{Ref}
 use Rattle.ucon_model.specs.declared.formula.Ref.TheVariants.{Subject, Object, Env}
+use Rattle.ucon_model.specs.declared.formula.Sort.{Sort}
+use Rattle.ucon_model.specs.declared.formula.Sort.TheVariants.{Integer, Text, Set}
 use Rattle.ucon_model.specs.declared.formula.Form.{Form}
 use Rattle.ucon_model.specs.declared.formula.Form.TheVariants.{Every}
 use Rattle.ucon_model.specs.declared.policy.AttrDecl.{AttrDecl}
@@ -35,17 +37,27 @@ pub data TypeFault : Type 0 where
 
 -- ---- names
 
+-- a kind without its range
+abbrev pub sort_of : Kind → Sort
+sort_of (kinds.Int low high) = Integer
+sort_of kinds.Text = Text
+sort_of kinds.Set = Set
+
 -- the name of a place
 abbrev pub name_of : Ref → Bytes
 name_of (Subject attr) = attr
 name_of (Object attr) = attr
 name_of (Env name) = name
 
+-- the sort that is declared for a place
+abbrev pub place_sort : PlainPolicy → Ref → Option Sort
+place_sort P (Subject attr) = option_map (λ d. sort_of d.kind) (declared_attr P.attrs sides.Subject attr)
+place_sort P (Object attr) = option_map (λ d. sort_of d.kind) (declared_attr P.attrs sides.Object attr)
+place_sort P (Env name) = option_map (λ d. sort_of d.kind) (declared_env P.envs name)
+
 -- whether a place is an attribute or a variable that the policy declares
 abbrev pub is_declared : PlainPolicy → Ref → Bool
-is_declared P (Subject attr) = is_some (declared_attr P.attrs sides.Subject attr)
-is_declared P (Object attr) = is_some (declared_attr P.attrs sides.Object attr)
-is_declared P (Env name) = is_some (declared_env P.envs name)
+is_declared P place = is_some (place_sort P place)
 
 -- the leftmost name among these places that the policy doesn't declare
 abbrev pub undeclared : PlainPolicy → List Ref → Option Bytes
@@ -89,82 +101,67 @@ reads_wrongly (condition f) = list_any (λ p. not (is_variable p)) (formula_plac
 abbrev pub is_wrong_reader : PlainPredicate → Bool
 is_wrong_reader p = reads_wrongly p.test || (not (ongoing p) && counts_from_start p.test)
 
--- ---- kinds
+-- ---- sorts
 
--- a kind without its range
-pub data PlainKind : Type 0 where
-  integer : PlainKind
-  text : PlainKind
-  set : PlainKind
+abbrev pub value_sort : Value → Sort
+value_sort (values.Int n) = Integer
+value_sort (values.Text t) = Text
+value_sort (values.Set s) = Set
 
-abbrev pub plain_kind : Kind → PlainKind
-plain_kind (kinds.Int low high) = integer
-plain_kind kinds.Text = text
-plain_kind kinds.Set = set
+abbrev pub same_sort : Sort → Sort → Bool
+same_sort Integer Integer = true
+same_sort Text Text = true
+same_sort Set Set = true
+same_sort s t = false
 
-abbrev pub value_kind : Value → PlainKind
-value_kind (values.Int n) = integer
-value_kind (values.Text t) = text
-value_kind (values.Set s) = set
+-- whether an expression is typed and of this sort
+abbrev pub is_of : Sort → Option Sort → Bool
+is_of s None = false
+is_of s (Some t) = same_sort s t
 
-abbrev pub same_kind : PlainKind → PlainKind → Bool
-same_kind integer integer = true
-same_kind text text = true
-same_kind set set = true
-same_kind k l = false
+-- whether two expressions are typed and of one sort
+abbrev pub are_of_one_sort : Option Sort → Option Sort → Bool
+are_of_one_sort None l = false
+are_of_one_sort (Some s) l = is_of s l
 
--- the kind that is declared for a place
-abbrev pub place_kind : PlainPolicy → Ref → Option PlainKind
-place_kind P (Subject attr) = option_map (λ d. plain_kind d.kind) (declared_attr P.attrs sides.Subject attr)
-place_kind P (Object attr) = option_map (λ d. plain_kind d.kind) (declared_attr P.attrs sides.Object attr)
-place_kind P (Env name) = option_map (λ d. plain_kind d.kind) (declared_env P.envs name)
+-- the sort of a sum or a difference: of two integers, and in an update alone of a set and a text
+abbrev pub sum_sort : Bool → Option Sort → Option Sort → Option Sort
+sum_sort in_update k l =
+    if is_of Integer k && is_of Integer l then Some Integer else
+    if in_update && is_of Set k && is_of Text l then Some Set else None
 
--- the kind of a sum or a difference: of two integers, and in an update alone of a set and a text
-abbrev pub sum_kind : Bool → Option PlainKind → Option PlainKind → Option PlainKind
-sum_kind in_update (Some integer) (Some integer) = Some integer
-sum_kind true (Some set) (Some text) = Some set
-sum_kind in_update k l = None
+-- the sort of a product: of two integers
+abbrev pub product_sort : Option Sort → Option Sort → Option Sort
+product_sort k l = if is_of Integer k && is_of Integer l then Some Integer else None
 
--- the kind of a product
-abbrev pub product_kind : Option PlainKind → Option PlainKind → Option PlainKind
-product_kind (Some integer) (Some integer) = Some integer
-product_kind k l = None
+-- the sort of a size: of a set
+abbrev pub size_sort : Option Sort → Option Sort
+size_sort k = if is_of Set k then Some Integer else None
 
--- the kind of a size
-abbrev pub size_kind : Option PlainKind → Option PlainKind
-size_kind (Some set) = Some integer
-size_kind k = None
+-- the sort of an expression, in an update or in a predicate; none where it isn't typed
+abbrev pub expr_sort : PlainPolicy → Bool → PlainExpr → Option Sort
+expr_sort P in_update (lit v) = Some (value_sort v)
+expr_sort P in_update (read place) = place_sort P place
+expr_sort P in_update (plus a b) = sum_sort in_update (expr_sort P in_update a) (expr_sort P in_update b)
+expr_sort P in_update (minus a b) = sum_sort in_update (expr_sort P in_update a) (expr_sort P in_update b)
+expr_sort P in_update (times a b) = product_sort (expr_sort P in_update a) (expr_sort P in_update b)
+expr_sort P in_update (size a) = size_sort (expr_sort P in_update a)
 
--- the kind of an expression, in an update or in a predicate; none where it isn't typed
-abbrev pub expr_kind : PlainPolicy → Bool → PlainExpr → Option PlainKind
-expr_kind P in_update (lit v) = Some (value_kind v)
-expr_kind P in_update (read place) = place_kind P place
-expr_kind P in_update (plus a b) = sum_kind in_update (expr_kind P in_update a) (expr_kind P in_update b)
-expr_kind P in_update (minus a b) = sum_kind in_update (expr_kind P in_update a) (expr_kind P in_update b)
-expr_kind P in_update (times a b) = product_kind (expr_kind P in_update a) (expr_kind P in_update b)
-expr_kind P in_update (size a) = size_kind (expr_kind P in_update a)
-
--- whether two expressions are typed and of one kind
-abbrev pub are_of_one_kind : Option PlainKind → Option PlainKind → Bool
-are_of_one_kind (Some k) (Some l) = same_kind k l
-are_of_one_kind k l = false
-
--- whether a comparison takes these: `=` and `!=` two of one kind, the orders two integers, `in` a text with a set
-abbrev pub takes : Op → Option PlainKind → Option PlainKind → Bool
-takes Eq k l = are_of_one_kind k l
-takes Ne k l = are_of_one_kind k l
-takes Member (Some text) (Some set) = true
-takes Lt (Some integer) (Some integer) = true
-takes Le (Some integer) (Some integer) = true
-takes Gt (Some integer) (Some integer) = true
-takes Ge (Some integer) (Some integer) = true
-takes op k l = false
+-- whether a comparison takes these: `=` and `!=` two of one sort, the orders two integers, `in` a text with a set
+abbrev pub takes : Op → Option Sort → Option Sort → Bool
+takes Eq k l = are_of_one_sort k l
+takes Ne k l = are_of_one_sort k l
+takes Lt k l = is_of Integer k && is_of Integer l
+takes Le k l = is_of Integer k && is_of Integer l
+takes Gt k l = is_of Integer k && is_of Integer l
+takes Ge k l = is_of Integer k && is_of Integer l
+takes Member k l = is_of Text k && is_of Set l
 
 abbrev pub is_typed_formula : PlainPolicy → PlainFormula → Bool
 is_typed_formula P (both f g) = is_typed_formula P f && is_typed_formula P g
 is_typed_formula P (either f g) = is_typed_formula P f && is_typed_formula P g
 is_typed_formula P (negation f) = is_typed_formula P f
-is_typed_formula P (compare op a b) = takes op (expr_kind P false a) (expr_kind P false b)
+is_typed_formula P (compare op a b) = takes op (expr_sort P false a) (expr_sort P false b)
 is_typed_formula P (lasts n) = true
 
 abbrev pub is_typed_test : PlainPolicy → PlainTest → Bool
@@ -172,9 +169,9 @@ is_typed_test P (authorisation f) = is_typed_formula P f
 is_typed_test P (duty o) = true
 is_typed_test P (condition f) = is_typed_formula P f
 
--- an update's expression has the kind of the attribute that it writes; the range doesn't matter, since the result is clamped
+-- an update's expression is of the sort of the attribute that it writes; the range doesn't matter, since the result is clamped
 abbrev pub is_typed_update : PlainPolicy → PlainUpdate → Bool
-is_typed_update P u = are_of_one_kind (place_kind P (attr_place u.side u.attr)) (expr_kind P true u.value)
+is_typed_update P u = are_of_one_sort (place_sort P (attr_place u.side u.attr)) (expr_sort P true u.value)
 
 -- whether an integer kind's range isn't empty
 abbrev pub is_range : Kind → Bool
