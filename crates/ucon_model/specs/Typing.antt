@@ -22,7 +22,7 @@ use Rattle.ucon_model.specs.declared.policy.EnvDecl.{EnvDecl}
 use Rattle.ucon_model.specs.Plain.{Bytes, PlainExpr, lit, read, plus, minus, times, size, PlainFormula, both, either, negation, compare, lasts, PlainTest, authorisation, duty, condition, PlainPredicate, PlainUpdate, PlainRight, PlainPolicy}
 use Rattle.ucon_model.specs.Readings.{declared_attr, declared_env}
 use Rattle.ucon_model.specs.Decision.{right_named, ongoing}
-use Rattle.ucon_model.specs.Places.{expr_places, formula_places, test_places, attr_place, update_places, places_read}
+use Rattle.ucon_model.specs.Places.{formula_places, test_places, attr_place, update_places, places_read}
 use Rattle.ucon_model.specs.Cores.{is_core}
 
 -- What is wrong with a policy. Its items are numbered from 1 in written order: each attribute, each variable, and then of each right the
@@ -216,7 +216,7 @@ predicate_fault P before n p =
 -- an update
 abbrev pub update_fault : PlainPolicy → List PlainUpdate → ℕ → PlainUpdate → Option TypeFault
 update_fault P before n u =
-    item_fault n None (undeclared P (update_places u)) (list_any is_variable (expr_places u.value)) (is_typed_update P u)
+    item_fault n None (undeclared P (update_places u)) (list_any is_variable (update_places u)) (is_typed_update P u)
 
 -- ---- the first fault
 
