@@ -16,9 +16,7 @@ use crate::sorts::{
 };
 use std::alloc::Global;
 use ucon_base::Name;
-use ucon_model::{
-    AttrDecl, EnvDecl, Form, Formula, Policy, Predicate, Ref, Right, Test, Update,
-};
+use ucon_model::{AttrDecl, EnvDecl, Form, Formula, Policy, Predicate, Ref, Right, Test, Update};
 
 fn name_of(place: &Ref) -> Name
     ensures { result ≡ name_of place.now }
@@ -222,12 +220,7 @@ pub fn check_predicate(
 }
 
 /// An update.
-pub fn check_update(
-    alloc: Global,
-    policy: &Policy,
-    item: u32,
-    u: &Update,
-) -> Result<(), CheckFault>
+pub fn check_update(alloc: Global, policy: &Policy, item: u32, u: &Update) -> Result<(), CheckFault>
     ensures { Answers (update_fault (policy_of policy.now) [] item (update_of u.now)) result }
 {
     let places = update_places(alloc, u)?;
