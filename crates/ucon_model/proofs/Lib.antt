@@ -27,3 +27,4 @@ pub mod Cascades
 pub mod WithinAndLasts
 pub mod Lines
 pub mod Documents
+pub mod FirstFaults

@@ -21,3 +21,6 @@ pub mod Checked
 pub mod Lookup
 pub mod CommandLine
 pub mod ReplyText
+pub mod Places
+pub mod Cores
+pub mod Typing
