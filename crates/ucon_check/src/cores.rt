@@ -175,7 +175,8 @@ fn put_kind(right: &Right, kind: CoreKind, cores: &mut Vec<Core>) -> Result<(), 
     )
 }
 
-fn cores_of(alloc: Global, right: &Right) -> Result<Vec<Core>, NoMemory>
+/// The core models of a right, in the order preA, onA, preB, onB, preC, onC and by rising index.
+pub fn cores_of(alloc: Global, right: &Right) -> Result<Vec<Core>, NoMemory>
     ensures { IfOk result (λ cores. cores.items ≡ core_models_of (right_of right.now)) }
 {
     let mut cores = Vec::new(alloc);

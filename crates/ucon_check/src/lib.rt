@@ -8,7 +8,7 @@ mod places;
 mod sorts;
 mod typing;
 
-pub use cores::{core_models, core_name};
+pub use cores::{core_models, core_name, cores_of};
 pub use fault::CheckFault;
 pub use places::reads;
 pub use typing::check;
