@@ -1,2 +1,5 @@
 pub mod Cuts
 pub mod InLine
+pub mod Joined
+pub mod Lengths
+pub mod ReadLines
