@@ -3,3 +3,4 @@ pub mod InLine
 pub mod Joined
 pub mod Lengths
 pub mod ReadLines
+pub mod SpelledLines
