@@ -1,5 +1,5 @@
 -- Words with one space between: how they are cut again, and how long they are.
-use Rattle.std.proofs.Common.{◌≡◌, ℕ, ◌+◌, ◌≤◌, ◌<◌, List, [], ◌∷◌, ◌++◌, length, drop, refl, sym, ap, ◌∙◌, append_assoc, arith, length-append}
+use Rattle.std.proofs.Common.{◌≡◌, ℕ, ◌+◌, ◌<◌, List, [], ◌∷◌, ◌++◌, length, drop, refl, sym, ap, ◌∙◌, append_assoc, arith, length-append}
 use Rattle.std.specs.Prelude.{◌==◌}
 use Rattle.std.specs.List.{slice_split, join_with_byte}
 use Rattle.std.proofs.Math.Seq.{drop-append_seam}
@@ -46,7 +46,7 @@ drop-behind at [] front rest here = ap (λ n. drop n (front ++ rest)) (sym here)
 drop-behind at (w ∷ ws) front rest here =
     let longer : length (front ++ (w ++ 32 ∷ [])) ≡ at + length w + 1 = omega (arith, here, length-append front (w ++ 32 ∷ []), length-append w (32 ∷ [])) in
     let same : front ++ (w ++ 32 ∷ join (ws ++ rest ∷ [])) ≡ (front ++ (w ++ 32 ∷ [])) ++ join (ws ++ rest ∷ []) =
-        ap (λ bs. front ++ bs) (sym (append_assoc w (32 ∷ []) (join (ws ++ rest ∷ [])))) ∙ sym (append_assoc front (w ++ 32 ∷ []) (join (ws ++ rest ∷ []))) in
+    ap (λ bs. front ++ bs) (sym (append_assoc w (32 ∷ []) (join (ws ++ rest ∷ [])))) ∙ sym (append_assoc front (w ++ 32 ∷ []) (join (ws ++ rest ∷ []))) in
     ap (λ bs. drop (behind (at + length w + 1) ws) (front ++ bs)) (join-cons w ws rest) ∙ ap (drop (behind (at + length w + 1) ws)) same
     ∙ drop-behind (at + length w + 1) ws (front ++ (w ++ 32 ∷ [])) rest longer
 

@@ -1,8 +1,8 @@
 -- How long a command's text is at the most.
 use Rattle.std.proofs.Common.{◌≡◌, ℕ, suc, ◌+◌, ◌*◌, ◌≤◌, ◌<◌, ◌^◌, true, List, [], ◌∷◌, ◌++◌, length, refl, arith, length-append}
-use Rattle.std.specs.Prelude.{ℤ, pos, negsuc, IsTrue, nat_le, nat_lt, ◌&&◌, is_none, codes}
+use Rattle.std.specs.Prelude.{ℤ, pos, negsuc, nat_le, nat_lt, ◌&&◌, is_none, codes}
 use Rattle.std.specs.Fmt.{decimal, signed_decimal}
-use Rattle.std.specs.List.{list_all, join_with_byte}
+use Rattle.std.specs.List.{list_all}
 use Rattle.std.proofs.lemmas.Bool.{and_parts, leb-true}
 use Rattle.std.proofs.lemmas.Fmt.{length-decimal-le}
 use Rattle.std.proofs.lemmas.Int.{ints}
@@ -14,10 +14,10 @@ use Rattle.ucon_base.specs.NameBytes.{is_name, bad_place}
 use Rattle.ucon_base.specs.Numbers.{InRange}
 use Rattle.ucon_base.specs.Spelling.{quoted, more_texts, set_spelling, value_spelling, IsValue}
 use Rattle.ucon_base.specs.TextBytes.{is_text, bad_text_place}
-use Rattle.ucon_base.specs.Value.{is_set, is_rising}
+use Rattle.ucon_base.specs.Value.{is_rising}
 use Rattle.ucon_model.specs.declared.command.Command.{Command}
 use Rattle.ucon_model.specs.declared.command.Command.TheVariants.{Subject, Object, Set as Set', Env, Tick, Act, Try, Again, Beat, End, Look, Value as Value'}
-use Rattle.ucon_model.specs.CommandLine.{side_word, command_words, command_spelling, IsCommand}
+use Rattle.ucon_model.specs.CommandLine.{side_word, command_spelling, IsCommand}
 use Rattle.ucon_model.specs.LegalRun.{Each}
 use Rattle.ucon_model.specs.Plain.{Bytes}
 use Rattle.ucon_command.proofs.Joined.{join}

@@ -1,6 +1,6 @@
 -- A command's text is read as the command.
-use Rattle.std.proofs.Common.{◌≡◌, ℕ, suc, ◌+◌, ◌≤◌, ◌<◌, ◌^◌, true, false, List, [], ◌∷◌, ◌++◌, length, drop, Some, None, Ok, Err, refl, sym, ap, ◌∙◌, arith}
-use Rattle.std.specs.Prelude.{ℤ, pos, negsuc, IsTrue, Result, Option, codes, nat_lt, ok_or}
+use Rattle.std.proofs.Common.{◌≡◌, ℕ, suc, ◌<◌, ◌^◌, true, List, [], ◌∷◌, ◌++◌, length, Some, Ok, refl, ap, ◌∙◌, arith}
+use Rattle.std.specs.Prelude.{ℤ, pos, negsuc, Option, codes}
 use Rattle.std.specs.Fmt.{decimal, signed_decimal}
 use Rattle.std.proofs.lemmas.Bool.{lt-ltb, le-ltb}
 use Rattle.std.proofs.lemmas.Int.{ints}
@@ -10,17 +10,16 @@ use Rattle.ucon_base.specs.declared.value.Value.{Value}
 use Rattle.ucon_base.specs.declared.value.Value.TheVariants.{Int}
 use Rattle.ucon_base.specs.NameBytes.{is_name}
 use Rattle.ucon_base.specs.Numbers.{InRange}
-use Rattle.ucon_base.specs.Reading.{value_read}
 use Rattle.ucon_base.specs.Spelling.{value_spelling, IsValue}
 use Rattle.ucon_base.proofs.Values.{value_back}
 use Rattle.ucon_model.specs.declared.command.Command.{Command}
 use Rattle.ucon_model.specs.declared.command.Command.TheVariants.{Subject, Object, Set, Env, Tick, Act, Try, Again, Beat, End, Look, Value as Value'}
-use Rattle.ucon_model.specs.CommandLine.{side_word, command_words, command_spelling, IsCommand, LineRefusal, Word, placed, side_in, name_in, value_in, integer_in, number_in, one_word, names_of, three_names, place_of, value_words, set_of, set_words, env_of, env_words, command_read, words_read, line_read}
+use Rattle.ucon_model.specs.CommandLine.{side_word, command_spelling, IsCommand, placed, side_in, name_in, value_in, integer_in, number_in, one_word, names_of, three_names, place_of, value_words, set_of, set_words, env_of, env_words, command_read, words_read, line_read}
 use Rattle.ucon_model.specs.LegalRun.{Each}
 use Rattle.ucon_model.specs.Output.{Lacks}
 use Rattle.ucon_model.specs.Plain.{Bytes}
 use Rattle.ucon_model.proofs.Lacking.{lacks-tested, lacks-decimal, lacks-name}
-use Rattle.ucon_command.proofs.Joined.{split, join, split-join, split-join_rest, behind, drop-join, split_some}
+use Rattle.ucon_command.proofs.Joined.{split, join, split-join, split-join_rest, drop-join, split_some}
 use Rattle.ucon_command.proofs.Lengths.{short}
 
 -- ---- words

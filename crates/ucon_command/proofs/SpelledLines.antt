@@ -1,10 +1,10 @@
 -- A line that is read as a command is the command's text.
-use Rattle.std.proofs.Common.{◌≡◌, ℕ, ◌+◌, ◌^◌, Bool, true, false, cond, List, [], ◌∷◌, ◌++◌, length, drop, Some, None, Ok, Err, is_ok, is_some, inl, inr, refl, sym, ap, ◌∙◌, arith}
+use Rattle.std.proofs.Common.{◌≡◌, ℕ, ◌^◌, Bool, true, false, cond, List, [], ◌∷◌, ◌++◌, length, drop, Some, None, Ok, Err, is_ok, is_some, refl, sym, ap, ◌∙◌}
 use Rattle.std.specs.Prelude.{ℤ, pos, negsuc, Result, Option, codes, nat_lt, ok_or, unwrap_or, option_and_then, ◌==◌}
 use Rattle.std.specs.Fmt.{decimal, signed_decimal}
 use Rattle.std.specs.Result.{result_ok, result_unwrap_or}
 use Rattle.std.specs.Str.{bytes_eq}
-use Rattle.std.proofs.lemmas.Bool.{cases_Bool, true≢false, false≢true}
+use Rattle.std.proofs.lemmas.Bool.{false≢true}
 use Rattle.std.proofs.lemmas.List.Splits.{join_with_byte-slice_split}
 use Rattle.std.proofs.lemmas.Slice.Eq.{bytes_eq-Decides}
 use Rattle.ucon_base.specs.declared.value.Side.{Side}
@@ -18,7 +18,7 @@ use Rattle.ucon_base.specs.Spelling.{value_spelling}
 use Rattle.ucon_base.proofs.Values.{value_is}
 use Rattle.ucon_model.specs.declared.command.Command.{Command}
 use Rattle.ucon_model.specs.declared.command.Command.TheVariants.{Subject, Object, Set, Env, Tick, Act, Try, Again, Beat, End, Look, Value as Value'}
-use Rattle.ucon_model.specs.CommandLine.{side_word, command_words, command_spelling, LineRefusal, no_word, line_too_long, Word, placed, with_rest, said, ◌>>=◌, side_in, name_in, value_in, integer_of, integer_in, number_of, number_in, one_word, names_of, three_names, place_of, value_words, set_of, set_words, env_of, env_words, made, command_read, words_read, line_read}
+use Rattle.ucon_model.specs.CommandLine.{side_word, command_words, command_spelling, LineRefusal, no_word, line_too_long, Word, placed, ◌>>=◌, side_in, name_in, value_in, integer_of, integer_in, number_of, number_in, one_word, names_of, three_names, place_of, value_words, set_of, set_words, env_of, env_words, made, command_read, words_read, line_read}
 use Rattle.ucon_model.specs.Plain.{Bytes}
 use Rattle.ucon_command.proofs.Joined.{split, join, behind, drop-join}
 
