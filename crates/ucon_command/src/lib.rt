@@ -1,11 +1,19 @@
 //! Command lines and replies: the one text of each, both ways.
 #![tactic(auto)]
 
+mod commands;
 mod forms;
+mod in_form;
 mod kinds;
+mod laws;
 mod line_fault;
 mod lines;
+mod replies;
+mod spelling;
 mod words;
 
+pub use commands::command_text;
+pub use laws::commands_are_read_back;
 pub use line_fault::LineFault;
 pub use lines::read_command;
+pub use replies::reply_text;

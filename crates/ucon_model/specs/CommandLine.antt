@@ -1,5 +1,5 @@
 -- Command lines: the one text of each command, and the command or the refusal that a line gives.
-use Rattle.std.specs.Prelude.{ℕ, ◌+◌, ◌^◌, ℤ, pos, negsuc, ◌==◌, nat_lt, List, [], ◌∷◌, length, drop, Option, Some, None, Result, Ok, Err, ok_or, option_and_then, codes, if◌then◌else◌}
+use Rattle.std.specs.Prelude.{IsTrue, ℕ, ◌+◌, ◌^◌, ◌<◌, ℤ, pos, negsuc, ◌==◌, nat_lt, List, [], ◌∷◌, length, drop, Option, Some, None, Result, Ok, Err, ok_or, option_and_then, codes, if◌then◌else◌}
 use Rattle.std.specs.Fmt.{decimal, signed_decimal}
 use Rattle.std.specs.List.{slice_split, join_with_byte}
 use Rattle.std.specs.Result.{result_ok}
@@ -9,8 +9,9 @@ use Rattle.ucon_base.specs.declared.value.Side.TheVariants as sides
 use Rattle.ucon_base.specs.declared.value.Value.{Value}
 use Rattle.ucon_base.specs.declared.value.Value.TheVariants as values
 use Rattle.ucon_base.specs.NameBytes.{is_name}
+use Rattle.ucon_base.specs.Numbers.{InRange}
 use Rattle.ucon_base.specs.Reading.{value_read}
-use Rattle.ucon_base.specs.Spelling.{value_spelling}
+use Rattle.ucon_base.specs.Spelling.{value_spelling, IsValue}
 use Rattle.ucon_model.specs.declared.command.Command.{Command}
 use Rattle.ucon_model.specs.declared.command.Command.TheVariants.{Subject, Object, Set, Env, Tick, Act, Try, Again, Beat, End, Look, Value as Value'}
 use Rattle.ucon_model.specs.Plain.{Bytes}
@@ -40,6 +41,21 @@ command_words (Value' side name attr) = codes "value" ∷ side_word side ∷ nam
 -- the one text of a command: its words with a space between
 unfoldable pub command_spelling : Command → Bytes
 command_spelling c = join_with_byte 32 (command_words c)
+
+-- a command of names, values, integers in range and numbers of sessions
+abbrev pub IsCommand : Command → Type 0
+IsCommand (Subject name) = IsTrue (is_name name)
+IsCommand (Object name) = IsTrue (is_name name)
+IsCommand (Set side name attr v) = IsTrue (is_name name) × IsTrue (is_name attr) × IsValue v
+IsCommand (Env name v) = IsTrue (is_name name) × IsValue v
+IsCommand (Tick t) = InRange t
+IsCommand (Act s a o) = IsTrue (is_name s) × IsTrue (is_name a) × IsTrue (is_name o)
+IsCommand (Try s r o) = IsTrue (is_name s) × IsTrue (is_name r) × IsTrue (is_name o)
+IsCommand (Again n) = n < 2 ^ 32
+IsCommand (Beat n) = n < 2 ^ 32
+IsCommand (End n) = n < 2 ^ 32
+IsCommand (Look n) = n < 2 ^ 32
+IsCommand (Value' side name attr) = IsTrue (is_name name) × IsTrue (is_name attr)
 
 -- ---- what is read
 

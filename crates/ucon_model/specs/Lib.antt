@@ -20,3 +20,4 @@ pub mod Tokens
 pub mod Checked
 pub mod Lookup
 pub mod CommandLine
+pub mod ReplyText
