@@ -1,5 +1,5 @@
 -- The words of a line as its reader keeps them.
-use Rattle.std.specs.Prelude.{ℕ, ◌≤◌, List, [], ◌∷◌, length, ⊤}
+use Rattle.std.specs.Prelude.{◌≤◌, List, [], ◌∷◌, length, ⊤}
 use Rattle.ucon_command.specs.declared.words.Word.{Word}
 use Rattle.ucon_model.specs.CommandLine as model
 use Rattle.ucon_model.specs.Plain.{Bytes}

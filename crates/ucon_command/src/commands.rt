@@ -1,6 +1,6 @@
 //! Commands as text.
 
-ghost use Rattle.std.specs.Prelude.{◌≡◌, ◌++◌, ◌∷◌, IfOk, OnOk};
+ghost use Rattle.std.specs.Prelude.{◌≡◌, ◌≤◌, ◌++◌, ◌∷◌, length, IfOk, OnOk, Ok};
 ghost use Rattle.ucon_model.specs.CommandLine.{side_word, command_spelling, line_read};
 
 use crate::in_form::command_in_form;
@@ -10,48 +10,58 @@ use ucon_base::{Name, NoMemory, Side};
 use ucon_model::Command;
 
 /// The one line that reads as the command.
-#[tactic(auto, unfolding(ucon_model::specs::CommandLine::command_spelling))]
+#[tactic(auto, using(crate::proofs::Lengths::short, crate::proofs::ReadLines::command_back))]
 pub fn command_text(alloc: Global, command: &Command) -> Result<Vec<u8>, NoMemory>
     ensures text { IfOk result (λ t. t.items ≡ command_spelling command.now) }
+    ensures read_back { line_read (command_spelling command.now) ≡ Ok command.now }
+    ensures short { length (command_spelling command.now) ≤ 8192 }
 {
-    let mut out = Vec::new(alloc);
+    command_in_form(command);
+    let mut text = Vec::new(alloc);
+    put_command(alloc, &mut text, command)?;
+    Ok(text)
+}
+
+#[tactic(auto, unfolding(ucon_model::specs::CommandLine::command_spelling))]
+fn put_command(alloc: Global, out: &mut Vec<u8>, command: &Command) -> Result<(), NoMemory>
+    ensures { OnOk result (out.new.items ≡ out.old.items ++ command_spelling command.now) }
+{
     match command {
-        Command::Subject(name) => put_named(&mut out, b"subject", name)?,
-        Command::Object(name) => put_named(&mut out, b"object", name)?,
+        Command::Subject(name) => put_named(out, b"subject", name),
+        Command::Object(name) => put_named(out, b"object", name),
         Command::Set {
             side,
             name,
             attr,
             value,
         } => {
-            put_place(&mut out, b"set ", *side, name, attr)?;
-            put_value(alloc, &mut out, value)?;
+            put_place(out, b"set ", *side, name, attr)?;
+            put_value(alloc, out, value)
         }
         Command::Env { name, value } => {
-            put_named(&mut out, b"env", name)?;
-            put_value(alloc, &mut out, value)?;
+            put_named(out, b"env", name)?;
+            put_value(alloc, out, value)
         }
         Command::Tick(t) => {
-            put_word(&mut out, b"tick ")?;
-            put_integer(alloc, &mut out, *t)?;
+            put_word(out, b"tick ")?;
+            put_integer(alloc, out, *t)
         }
         Command::Act {
             subject,
             action,
             object,
-        } => put_names(&mut out, b"act", subject, action, object)?,
+        } => put_names(out, b"act", subject, action, object),
         Command::Try {
             subject,
             right,
             object,
-        } => put_names(&mut out, b"try", subject, right, object)?,
-        Command::Again(n) => put_session(alloc, &mut out, b"again ", *n)?,
-        Command::Beat(n) => put_session(alloc, &mut out, b"beat ", *n)?,
-        Command::End(n) => put_session(alloc, &mut out, b"end ", *n)?,
-        Command::Look(n) => put_session(alloc, &mut out, b"look ", *n)?,
-        Command::Value { side, name, attr } => put_place(&mut out, b"value ", *side, name, attr)?,
+        } => put_names(out, b"try", subject, right, object),
+        Command::Again(n) => put_session(alloc, out, b"again ", *n),
+        Command::Beat(n) => put_session(alloc, out, b"beat ", *n),
+        Command::End(n) => put_session(alloc, out, b"end ", *n),
+        Command::Look(n) => put_session(alloc, out, b"look ", *n),
+        Command::Value { side, name, attr } => put_place(out, b"value ", *side, name, attr),
     }
-    Ok(out)
 }
 
 /// Adds a word, a space and a name.

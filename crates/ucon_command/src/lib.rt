@@ -5,6 +5,7 @@ mod commands;
 mod forms;
 mod in_form;
 mod kinds;
+mod laws;
 mod line_fault;
 mod lines;
 mod replies;
@@ -12,6 +13,7 @@ mod spelling;
 mod words;
 
 pub use commands::command_text;
+pub use laws::commands_are_read_back;
 pub use line_fault::LineFault;
 pub use lines::read_command;
 pub use replies::reply_text;

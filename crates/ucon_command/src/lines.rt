@@ -1,7 +1,7 @@
 //! Reads a command from its line.
 
-ghost use Rattle.std.specs.Prelude.{◌≡◌, ◌≤◌, length, map, MatchResult};
-ghost use Rattle.ucon_model.specs.CommandLine.{command_read, line_read};
+ghost use Rattle.std.specs.Prelude.{◌≡◌, map, IfOk, MatchResult};
+ghost use Rattle.ucon_model.specs.CommandLine.{command_spelling, command_read, line_read};
 ghost use Rattle.ucon_command.specs.Words.{word_of, BeginWithin};
 ghost use Rattle.ucon_command.specs.Faults.{IsRefusal};
 
@@ -14,8 +14,16 @@ use std::alloc::Global;
 use ucon_model::Command;
 
 /// The command whose text a line is, or the first refusal.
-#[tactic(auto, unfolding(ucon_model::specs::CommandLine::line_read))]
+#[tactic(auto, using(crate::proofs::SpelledLines::command_is))]
 pub fn read_command(alloc: Global, line: &[u8]) -> Result<Command, LineFault>
+    ensures read { MatchResult result (λ c. line_read line.now ≡ Ok c) (IsRefusal (line_read line.now)) }
+    ensures spelled { IfOk result (λ c. command_spelling c ≡ line.now) }
+{
+    line_command(alloc, line)
+}
+
+#[tactic(auto, unfolding(ucon_model::specs::CommandLine::line_read))]
+fn line_command(alloc: Global, line: &[u8]) -> Result<Command, LineFault>
     ensures { MatchResult result (λ c. line_read line.now ≡ Ok c) (IsRefusal (line_read line.now)) }
 {
     if line.len() > 8192 {

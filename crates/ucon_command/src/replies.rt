@@ -19,24 +19,30 @@ pub fn reply_text(alloc: Global, reply: &Reply) -> Result<Vec<u8>, NoMemory>
     ensures one_line { Lacks 10 (reply_spelling (reply_of reply.now)) }
 {
     reply_in_form(reply);
-    let mut out = Vec::new(alloc);
+    let mut text = Vec::new(alloc);
+    put_reply(alloc, &mut text, reply)?;
+    Ok(text)
+}
+
+fn put_reply(alloc: Global, out: &mut Vec<u8>, reply: &Reply) -> Result<(), NoMemory>
+    ensures { OnOk result (out.new.items ≡ out.old.items ++ reply_spelling (reply_of reply.now)) }
+{
     match reply {
-        Reply::Refused(r) => put_word(&mut out, refusal_words(*r))?,
+        Reply::Refused(r) => put_word(out, refusal_words(*r)),
         Reply::Made { head, revoked } => {
-            put_head(alloc, &mut out, head)?;
-            put_revoked(alloc, &mut out, revoked.slice())?;
+            put_head(alloc, out, head)?;
+            put_revoked(alloc, out, revoked.slice())
         }
         Reply::Value(v) => {
-            put_word(&mut out, b"value")?;
-            put_value(alloc, &mut out, v)?;
+            put_word(out, b"value")?;
+            put_value(alloc, out, v)
         }
         Reply::Status(n, state) => {
-            put_session(alloc, &mut out, b"status ", *n)?;
-            put_word(&mut out, b" ")?;
-            put_word(&mut out, state_word(*state))?;
+            put_session(alloc, out, b"status ", *n)?;
+            put_word(out, b" ")?;
+            put_word(out, state_word(*state))
         }
     }
-    Ok(out)
 }
 
 fn refusal_words(r: Refusal) -> &'static [u8]

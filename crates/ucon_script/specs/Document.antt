@@ -2,9 +2,8 @@
 use Rattle.std.specs.Prelude.{◌≡◌, ℕ, List, map, Result, Ok, Err, ⊤}
 use Rattle.ucon_command.specs.declared.line_fault.LineFault.{LineFault}
 use Rattle.ucon_command.specs.declared.line_fault.LineFault.TheVariants as faults
-use Rattle.ucon_model.specs.declared.command.Entry.{Entry}
 use Rattle.ucon_model.specs.CommandLine.{line_too_long, no_word, unknown_word, wrong_count, bad_word}
-use Rattle.ucon_model.specs.Document.{ScriptLine, DocumentRefusal, too_many_clients, bad_heading, too_many_lines, bad_line, entry_of}
+use Rattle.ucon_model.specs.Document.{ScriptLine, DocumentRefusal, too_many_clients, bad_heading, too_many_lines, bad_line}
 use Rattle.ucon_script.specs.declared.document.Line.{Line}
 use Rattle.ucon_script.specs.declared.document.Document.{Document}
 use Rattle.ucon_script.specs.declared.document.DocFault.{DocFault}
@@ -16,10 +15,6 @@ line_of l = record { number = l.number; caller = l.caller; command = l.command }
 -- the command lines of a document that was read
 abbrev pub lines_said : Document → List ScriptLine
 lines_said d = map line_of d.lines.items
-
--- its command lines as entries of a history
-abbrev pub entries_said : Document → List Entry
-entries_said d = map (λ l. entry_of (line_of l)) d.lines.items
 
 -- the document's fault where the line of this number has this one
 abbrev pub fault_of : ℕ → LineFault → DocFault

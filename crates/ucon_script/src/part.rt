@@ -1,6 +1,6 @@
 //! How a document is divided.
 
-ghost use Rattle.std.specs.Prelude.{◌≡◌, ◌≤◌, ◌+◌, ◌==◌, length, take, option_map, position, IfSome, MatchOption, Ok, [], ℕ};
+ghost use Rattle.std.specs.Prelude.{◌≡◌, ◌≤◌, ◌+◌, ◌==◌, length, take, option_map, position, IfSome};
 ghost use Rattle.std.specs.List.{before_first, after_first};
 ghost use Rattle.ucon_model.specs.Document.{is_divider, before_divider, lines_of, policy_part};
 ghost use Rattle.ucon_script.specs.Lines.{Divides};
@@ -26,10 +26,10 @@ pub fn policy_part(bytes: &[u8]) -> &[u8]
     }
 }
 
-/// The first line that is exactly `%%`.
+/// The first line that is exactly `%%`. Its two bytes, a newline for each line above and the script lie within the text.
 pub fn find_divider(bytes: &[u8]) -> Option<Divider<'_>>
     ensures place { option_map (λ d. take d.place bytes.now) result ≡ before_divider (lines_of bytes.now) }
-    ensures within { IfSome result (λ d. (d.place ≤ length bytes.now) × (d.above ≤ d.place) × (length d.script.now + d.above + 2 ≤ length bytes.now)) }
+    ensures within { IfSome result (λ d. (d.place ≤ length bytes.now) × (d.above + 2 + length d.script.now ≤ length bytes.now)) }
     ensures script { Divides bytes.now result }
 {
     let mut rest = bytes;

@@ -17,6 +17,7 @@ pub fn read_document(alloc: Global, bytes: &[u8]) -> Result<Document, DocFault>
     ensures { Gives lines_said result (document_read bytes.now) }
 {
     match find_divider(bytes) {
+        // The divider is a line too.
         Some(divider) => read_script(alloc, divider.above as u32 + 2, divider.script),
         None => Ok(Document {
             lines: Rows::new(alloc),
