@@ -22,9 +22,11 @@ pub mod AllowedWrites
 pub mod LeastFailing
 pub mod AllowedOwn
 pub mod Histories
-pub mod UpdatesOfThreeUsers
 pub mod Cascades
 pub mod WithinAndLasts
 pub mod Lines
 pub mod Documents
 pub mod FirstFaults
+pub mod Written
+pub mod TypedParts
+pub mod SortsOfValues
