@@ -4,8 +4,10 @@
 mod act;
 mod change;
 mod counts;
+mod defaults;
 mod state;
 mod tables;
+mod view;
 
 pub use counts::Counts;
-pub use state::State;
+pub use state::{CellId, State};
