@@ -1,0 +1,7 @@
+pub mod Lists
+pub mod Stages
+pub mod Entities
+pub mod Acts
+pub mod Sounds
+pub mod Places
+pub mod Moved

@@ -1,0 +1,6 @@
+pub mod Tables
+pub mod Applied
+pub mod Undo
+pub mod Sound
+pub mod Views
+pub mod Shown

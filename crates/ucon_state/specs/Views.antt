@@ -1,0 +1,15 @@
+-- What the tables of `src/` stand for.
+use Rattle.ucon_state.specs.declared.tables.Tables.{Tables as Kept}
+use Rattle.ucon_state.specs.Tables.{Tables}
+
+-- the lists that the tables hold
+abbrev pub lists_of : Kept → Tables
+lists_of t = record {
+  subjects = t.subjects.entries;
+  objects = t.objects.entries;
+  cells = t.cells.items;
+  variables = t.variables.items;
+  tick = t.tick;
+  acts = t.acts.entries;
+  sessions = t.sessions.items;
+}

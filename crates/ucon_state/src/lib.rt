@@ -1,0 +1,13 @@
+//! The state that steps read and change, and that gives back what was before.
+#![tactic(auto)]
+
+mod act;
+mod change;
+mod counts;
+mod defaults;
+mod state;
+mod tables;
+mod view;
+
+pub use counts::Counts;
+pub use state::{CellId, State};
