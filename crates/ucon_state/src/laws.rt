@@ -1,0 +1,44 @@
+//! Laws of the tables. A law is a function without parameters that does nothing: its contract is what is proved.
+
+ghost use Rattle.std.specs.Prelude.{◌≡◌, List, [], ◌∷◌};
+ghost use Rattle.ucon_model.specs.Plain.{PlainPolicy};
+ghost use Rattle.ucon_model.specs.Action.{Action, Trace, extended};
+ghost use Rattle.ucon_model.specs.Truth.{readings};
+ghost use Rattle.ucon_model.specs.Legal.{IsLegal, AreLegal};
+ghost use Rattle.ucon_model.specs.Fitting.{UpdatesFit};
+ghost use Rattle.ucon_model.specs.History.{Agree, History, trace};
+ghost use Rattle.ucon_state.specs.Tables.{Tables, readings_in};
+ghost use Rattle.ucon_state.specs.Applied.{applied, opening_tables, tables_of};
+ghost use Rattle.ucon_state.specs.Following.{IsLegalTrace, Keeps, all_applied};
+
+/// After a legal trace the tables give to read what the trace does: what holds over the readings of the trace holds over theirs.
+pub fn tables_read_as_the_trace()
+    ensures { (P : PlainPolicy) (T : Trace) → IsLegalTrace P T → Agree (readings_in P (tables_of P T)) (readings P T) }
+{}
+
+/// After a legal trace the tables keep all of it that commands ask for: who is there and under which number, the cells of
+/// attributes, the values, the acts, the sessions, and how many there are of each sort.
+pub fn tables_keep_the_trace()
+    ensures { (P : PlainPolicy) (T : Trace) → IsLegalTrace P T → Keeps P (tables_of P T) T }
+{}
+
+/// The opening tables keep the empty trace, and one legal action more is kept by the tables that it makes.
+pub fn each_action_is_kept()
+    ensures opening { (P : PlainPolicy) → Keeps P (opening_tables P) [] }
+    ensures after { (P : PlainPolicy) (T : Trace) (a : Action) (tables : Tables) → IsLegalTrace P T → IsLegal P T a → tables ≡ tables_of P T → Keeps P (applied P a tables) (a ∷ T) }
+{}
+
+/// The tables after more actions are those that the actions make of the tables, one after the other.
+pub fn changes_add_up()
+    ensures { (P : PlainPolicy) (T : Trace) (actions : List Action) → tables_of P (extended T actions) ≡ all_applied P actions (tables_of P T) }
+{}
+
+/// A legal trace with legal actions after it is legal.
+pub fn legal_traces_go_on()
+    ensures { (P : PlainPolicy) (T : Trace) (actions : List Action) → IsLegalTrace P T → AreLegal P T actions → IsLegalTrace P (extended T actions) }
+{}
+
+/// The trace of every history is legal, under a policy whose updates give what their attributes admit.
+pub fn traces_of_histories_are_legal()
+    ensures { (P : PlainPolicy) → UpdatesFit P → (H : History) → IsLegalTrace P (trace P H) }
+{}
