@@ -1,10 +1,1 @@
-pub mod Places
-pub mod Names
-pub mod Cells
-pub mod Attributes
-pub mod Entities
-pub mod Acts
-pub mod Sessions
-pub mod Variables
-pub mod Keeping
-pub mod LegalTraces
+pub mod Following

@@ -2,7 +2,7 @@ use Rattle.std.proofs.Common.{◌∷◌, sym, subst, []}
 use Rattle.ucon_state.specs.Tables.{Tables}
 use Rattle.ucon_state.specs.Applied.{applied}
 use Rattle.ucon_state.specs.Following.{Keeps}
-use Rattle.ucon_state.proofs.Keeping.{tables_keep}
+use Rattle.ucon_state.proofs.Following.Keeping.{tables_keep}
 use Rattle.ucon_state.proofs.laws.each_action_is_kept.Goals as goal
 
 pub returns-clause-opening : goal.returns-clause-opening

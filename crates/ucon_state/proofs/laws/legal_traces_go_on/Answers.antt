@@ -1,4 +1,4 @@
-use Rattle.ucon_state.proofs.Keeping.{legal_extended}
+use Rattle.ucon_state.proofs.Following.Keeping.{legal_extended}
 use Rattle.ucon_state.proofs.laws.legal_traces_go_on.Goals as goal
 
 pub returns : goal.returns

@@ -1,4 +1,4 @@
-use Rattle.ucon_state.proofs.Keeping.{tables_keep}
+use Rattle.ucon_state.proofs.Following.Keeping.{tables_keep}
 use Rattle.ucon_state.proofs.laws.tables_keep_the_trace.Goals as goal
 
 pub returns : goal.returns

@@ -11,8 +11,8 @@ use Rattle.ucon_model.specs.Plain.{Bytes, PlainPolicy}
 use Rattle.ucon_model.specs.Action.{Trace, env}
 use Rattle.ucon_model.specs.Readings.{declared_env, assigned, variable}
 use Rattle.ucon_state.specs.Tables.{env_place}
-use Rattle.ucon_state.proofs.Places.{found_there, passes_there, written_gives, written_leaves}
-use Rattle.ucon_state.proofs.Names.{same_name, own_name}
+use Rattle.ucon_state.proofs.Following.Places.{found_there, passes_there, written_gives, written_leaves}
+use Rattle.ucon_state.proofs.Following.Names.{same_name, own_name}
 
 pub record KeepsVariables (P : PlainPolicy) (variables : List Value) (T : Trace) : Type 0 where
   pub count : length variables ≡ length P.envs

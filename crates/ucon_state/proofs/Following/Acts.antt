@@ -10,7 +10,7 @@ use Rattle.ucon_model.specs.Action.{Trace, act}
 use Rattle.ucon_model.specs.Readings.{tick_of, moment, acts, act_rows}
 use Rattle.ucon_state.specs.declared.act.Act.{Act}
 use Rattle.ucon_state.specs.Tables.{same_act}
-use Rattle.ucon_state.proofs.Names.{same_name, own_name}
+use Rattle.ucon_state.proofs.Following.Names.{same_name, own_name}
 
 abbrev pub act_of : Bytes → Bytes → Bytes → Act
 act_of s a o = record { subject = s; action = a; object = o }

@@ -20,9 +20,9 @@ use Rattle.ucon_state.specs.declared.act.Act.{Act}
 use Rattle.ucon_state.specs.Tables.{Tables, entities_of, attr_place, cell_of, attribute_in, env_place, session_in}
 use Rattle.ucon_state.specs.Applied.{with_entity, with_cell, with_variable, moved_to, applied, opening_tables}
 use Rattle.ucon_state.specs.Following.{IsLegalTrace}
-use Rattle.ucon_state.proofs.Names.{KeepsNames, keeps_names_opening, keeps_names_subject, keeps_names_object}
-use Rattle.ucon_state.proofs.Cells.{first, from_first, width, cell_of-first, place_where_declared, HaveOwnCells, own_cells-with_entity, own_cells-with_cell}
-use Rattle.ucon_state.proofs.Attributes.{attribute_in-with_entity, attribute_in-with_cell, is_that, new_value, written_value}
+use Rattle.ucon_state.proofs.Following.Names.{KeepsNames, keeps_names_opening, keeps_names_subject, keeps_names_object}
+use Rattle.ucon_state.proofs.Following.Cells.{first, from_first, width, cell_of-first, place_where_declared, HaveOwnCells, own_cells-with_entity, own_cells-with_cell}
+use Rattle.ucon_state.proofs.Following.Attributes.{attribute_in-with_entity, attribute_in-with_cell, is_that, new_value, written_value}
 
 pub record KeepsEntities (P : PlainPolicy) (t : Tables) (T : Trace) : Type 0 where
   pub names : (side : Side) → KeepsNames (entities_of side t) side T

@@ -14,8 +14,8 @@ use Rattle.ucon_model.specs.Plain.{Bytes, PlainPolicy}
 use Rattle.ucon_model.specs.Readings.{same_side, declared_attr}
 use Rattle.ucon_state.specs.Tables.{Tables, entities_of, attrs_of, attr_place, cell_of}
 use Rattle.ucon_state.specs.Applied.{defaults_of, with_entity, with_cell}
-use Rattle.ucon_state.proofs.Places.{found_there, place_within, passes_there, both_pass, found_still, found_new, read_by_place}
-use Rattle.ucon_state.proofs.Names.{same_name}
+use Rattle.ucon_state.proofs.Following.Places.{found_there, place_within, passes_there, both_pass, found_still, found_new, read_by_place}
+use Rattle.ucon_state.proofs.Following.Names.{same_name}
 
 -- the first cell of an entity
 abbrev pub first : Tables → Side → Bytes → Option ℕ

@@ -22,12 +22,12 @@ use Rattle.ucon_state.specs.declared.act.Act.{Act}
 use Rattle.ucon_state.specs.Tables.{Tables, entities_of, entity_number, cell_of, env_place, place_in, session_in, counts_in}
 use Rattle.ucon_state.specs.Applied.{with_cell, with_variable, moved_to, with_state, applied, opening_tables, tables_of}
 use Rattle.ucon_state.specs.Following.{IsLegalTrace, all_applied, counts_of, Keeps}
-use Rattle.ucon_state.proofs.Places.{passes_there, placed_where_found, placed_where_first}
-use Rattle.ucon_state.proofs.Names.{same_name}
-use Rattle.ucon_state.proofs.Entities.{KeepsEntities, keeps_entities_opening, keeps_entities_after, cell_where_declared}
-use Rattle.ucon_state.proofs.Acts.{KeepsActs, keeps_acts_opening, keeps_acts_act}
-use Rattle.ucon_state.proofs.Sessions.{KeepsSessions, keeps_sessions_opening, keeps_sessions_after, accessing_kept, by_option}
-use Rattle.ucon_state.proofs.Variables.{KeepsVariables, keeps_variables_opening, keeps_variables_given}
+use Rattle.ucon_state.proofs.Following.Places.{passes_there, placed_where_found, placed_where_first}
+use Rattle.ucon_state.proofs.Following.Names.{same_name}
+use Rattle.ucon_state.proofs.Following.Entities.{KeepsEntities, keeps_entities_opening, keeps_entities_after, cell_where_declared}
+use Rattle.ucon_state.proofs.Following.Acts.{KeepsActs, keeps_acts_opening, keeps_acts_act}
+use Rattle.ucon_state.proofs.Following.Sessions.{KeepsSessions, keeps_sessions_opening, keeps_sessions_after, accessing_kept, by_option}
+use Rattle.ucon_state.proofs.Following.Variables.{KeepsVariables, keeps_variables_opening, keeps_variables_given}
 
 -- ---- what an action leaves
 

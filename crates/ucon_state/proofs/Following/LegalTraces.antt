@@ -8,7 +8,7 @@ use Rattle.ucon_model.specs.Fitting.{UpdatesFit}
 use Rattle.ucon_model.specs.History.{History, trace_from, trace}
 use Rattle.ucon_model.proofs.Histories.{legal_actions_after}
 use Rattle.ucon_state.specs.Following.{IsLegalTrace}
-use Rattle.ucon_state.proofs.Keeping.{legal_extended}
+use Rattle.ucon_state.proofs.Following.Keeping.{legal_extended}
 
 one_more : (P : PlainPolicy) (T : Trace) (G : History) (e : Entry) → trace_from P T (G ++ e ∷ []) ≡ after P (trace_from P T G) e.caller e.command
 one_more P T [] e = refl

@@ -12,7 +12,7 @@ use Rattle.ucon_base.specs.declared.value.Side.TheVariants.{Subject, Object}
 use Rattle.ucon_model.specs.Plain.{Bytes}
 use Rattle.ucon_model.specs.Action.{Trace, subject, object}
 use Rattle.ucon_model.specs.Readings.{has_entity, entities, entity_names, with_new}
-use Rattle.ucon_state.proofs.Places.{still_there, added_there, not_there, place_kept, place_new, found_still, found_new, placed_where_found}
+use Rattle.ucon_state.proofs.Following.Places.{still_there, added_there, not_there, place_kept, place_new, found_still, found_new, placed_where_found}
 
 pub same_name : (a b : Bytes) → bytes_eq a b ≡ true → a ≡ b
 same_name a b e = (bytes_eq-Decides a b).0 e

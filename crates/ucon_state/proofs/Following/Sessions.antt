@@ -16,7 +16,7 @@ use Rattle.ucon_model.specs.Readings.{tick_of, changed_if, session, sessions, is
 use Rattle.ucon_model.specs.Legal.{IsLegal}
 use Rattle.ucon_state.specs.Tables.{Tables, cell_of, env_place, session_in, accessing_among}
 use Rattle.ucon_state.specs.Applied.{with_cell, with_variable, with_session, moved_to, with_state, applied, opening_tables}
-use Rattle.ucon_state.proofs.Places.{set_here, set_elsewhere, still_there, added_there, is_there, not_there}
+use Rattle.ucon_state.proofs.Following.Places.{set_here, set_elsewhere, still_there, added_there, is_there, not_there}
 
 -- ---- a session behind the others
 

@@ -14,9 +14,9 @@ use Rattle.ucon_model.specs.Readings.{has_entity, same_side, written, declared_a
 use Rattle.ucon_state.specs.Tables.{Tables, attrs_of, attr_place, cell_of, attribute_in}
 use Rattle.ucon_state.specs.Applied.{defaults_of, with_entity, with_cell}
 use Rattle.ucon_state.specs.Following.{IsLegalTrace}
-use Rattle.ucon_state.proofs.Places.{set_here, set_elsewhere, still_there, added_there}
-use Rattle.ucon_state.proofs.Names.{same_name, own_name}
-use Rattle.ucon_state.proofs.Cells.{first, from_first, cell_of-first, declared_there, same_sides, HaveOwnCells, first-with_entity, cells-with_entity, first-with_cell, parts_of_cell, cell_within, whose_cell}
+use Rattle.ucon_state.proofs.Following.Places.{set_here, set_elsewhere, still_there, added_there}
+use Rattle.ucon_state.proofs.Following.Names.{same_name, own_name}
+use Rattle.ucon_state.proofs.Following.Cells.{first, from_first, cell_of-first, declared_there, same_sides, HaveOwnCells, first-with_entity, cells-with_entity, first-with_cell, parts_of_cell, cell_within, whose_cell}
 
 -- ---- after an entity came
 
