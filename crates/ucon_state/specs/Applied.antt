@@ -1,5 +1,5 @@
 -- What each action makes of the tables.
-use Rattle.std.specs.Prelude.{ℕ, ℤ, pos, ◌-◌, List, [], ◌∷◌, ◌++◌, length, map, slice_set}
+use Rattle.std.specs.Prelude.{Bool, true, false, ℕ, ℤ, pos, ◌-◌, List, [], ◌∷◌, ◌++◌, length, map, slice_set}
 use Rattle.std.specs.Option.{option_map_or}
 use Rattle.indexmap.specs.IndexMap.{insert_entry}
 use Rattle.ucon_base.specs.declared.value.Side.{Side}
@@ -18,12 +18,16 @@ use Rattle.ucon_state.specs.Tables.{Tables, attrs_of, cell_of, env_place, same_a
 abbrev pub defaults_of : PlainPolicy → Side → List Value
 defaults_of P side = map (λ d. d.start) (attrs_of P side)
 
--- with a new entity behind the others; its cells come behind the others and hold the defaults
+-- with a new entity behind the others; its cells come behind the others and hold these values
+abbrev pub with_new_entity : Tables → Side → Bytes → List Value → Tables
+with_new_entity t sides.Subject name values =
+    record t { subjects = t.subjects ++ (name, length t.cells) ∷ []; cells = t.cells ++ values }
+with_new_entity t sides.Object name values =
+    record t { objects = t.objects ++ (name, length t.cells) ∷ []; cells = t.cells ++ values }
+
+-- with a new entity, whose attributes have their defaults
 abbrev pub with_entity : PlainPolicy → Tables → Side → Bytes → Tables
-with_entity P t sides.Subject name =
-    record t { subjects = t.subjects ++ (name, length t.cells) ∷ []; cells = t.cells ++ defaults_of P sides.Subject }
-with_entity P t sides.Object name =
-    record t { objects = t.objects ++ (name, length t.cells) ∷ []; cells = t.cells ++ defaults_of P sides.Object }
+with_entity P t side name = with_new_entity t side name (defaults_of P side)
 
 -- with this value in a cell
 abbrev pub with_cell : Tables → ℕ → Value → Tables
@@ -33,14 +37,33 @@ with_cell t cell v = record t { cells = slice_set t.cells cell v }
 abbrev pub with_variable : Tables → ℕ → Value → Tables
 with_variable t place v = record t { variables = slice_set t.variables place v }
 
+-- with this tick
+abbrev pub with_tick : Tables → ℤ → Tables
+with_tick t now = record t { tick = now }
+
 -- with this act as done now: in its own place, or behind the others where it was never done
 abbrev pub with_act : Tables → Act → Tables
 with_act t a = record t { acts = insert_entry same_act t.acts a t.tick }
 
--- with a new session, which is requesting, behind the others
-abbrev pub with_session : Tables → Caller → Bytes → Bytes → Bytes → Tables
-with_session t caller right s o =
-    record t { sessions = t.sessions ++ (record { caller = caller; right = right; subject = s; object = o; state = Requesting; start = pos 0 }) ∷ [] }
+-- with a new session behind the others
+abbrev pub with_new_session : Tables → SessionRow → Tables
+with_new_session t row = record t { sessions = t.sessions ++ row ∷ [] }
+
+-- a session as it is tried
+abbrev pub tried : Caller → Bytes → Bytes → Bytes → SessionRow
+tried caller s r o = record { caller = caller; right = r; subject = s; object = o; state = Requesting; start = pos 0 }
+
+-- with this row as that of the session at a place
+abbrev pub with_row : Tables → ℕ → SessionRow → Tables
+with_row t place row = record t { sessions = slice_set t.sessions place row }
+
+-- whether a session in the one state may become the other
+abbrev pub may_become : SessionState → SessionState → Bool
+may_become Requesting Denied = true
+may_become Requesting Accessing = true
+may_become Accessing Ended = true
+may_become Accessing Revoked = true
+may_become before after = false
 
 -- a session once it is in this state; where it becomes accessing, it starts now
 abbrev pub moved_to : SessionState → ℤ → SessionRow → SessionRow
@@ -49,8 +72,7 @@ moved_to state now row = record row { state = state }
 
 -- with session n in this state
 abbrev pub with_state : Tables → ℕ → SessionState → Tables
-with_state t n state =
-    option_map_or (λ row. record t { sessions = slice_set t.sessions (n - 1) (moved_to state t.tick row) }) (session_in t n) t
+with_state t n state = option_map_or (λ row. with_row t (n - 1) (moved_to state t.tick row)) (session_in t n) t
 
 -- the tables after an action
 abbrev pub applied : PlainPolicy → Action → Tables → Tables
@@ -58,9 +80,9 @@ applied P (subject name) t = with_entity P t sides.Subject name
 applied P (object name) t = with_entity P t sides.Object name
 applied P (write side name attr v) t = option_map_or (λ cell. with_cell t cell v) (cell_of P t side name attr) t
 applied P (env name v) t = option_map_or (λ place. with_variable t place v) (env_place P name) t
-applied P (tick now) t = record t { tick = now }
+applied P (tick now) t = with_tick t now
 applied P (act s a o) t = with_act t (record { subject = s; action = a; object = o })
-applied P (tries n caller s r o) t = with_session t caller r s o
+applied P (tries n caller s r o) t = with_new_session t (tried caller s r o)
 applied P (wait n label) t = t
 applied P (permit n) t = with_state t n Accessing
 applied P (deny n label) t = with_state t n Denied

@@ -1,5 +1,5 @@
 -- What a state keeps, as lists, and what can be read off it.
-use Rattle.std.specs.Prelude.{◌≡◌, ℕ, suc, zero, ℤ, ◌+◌, Bool, ◌&&◌, IsTrue, List, length, map, position, filter, count_by, Option, Some, None, IsSomeAnd, option_and_then, option_map, slice_get}
+use Rattle.std.specs.Prelude.{if◌then◌else◌, ◌≡◌, ℕ, suc, zero, ℤ, ◌+◌, Bool, ◌&&◌, IsTrue, List, length, map, position, filter, count_by, Option, Some, None, IsSomeAnd, option_and_then, option_map, slice_get}
 use Rattle.std.specs.Map.{lookup}
 use Rattle.std.specs.Str.{bytes_eq}
 use Rattle.ucon_base.specs.declared.value.Side.{Side}
@@ -98,6 +98,10 @@ moment_in t s a o = lookup (same_act (record { subject = s; action = a; object =
 abbrev pub session_in : Tables → ℕ → Option SessionRow
 session_in t zero = None
 session_in t (suc n) = slice_get t.sessions n
+
+-- 1 for a session that is accessing
+abbrev pub accessing_in : SessionRow → ℕ
+accessing_in row = if is_accessing_state row.state then 1 else 0
 
 -- how many of these sessions are accessing
 abbrev pub accessing_among : List SessionRow → ℕ
