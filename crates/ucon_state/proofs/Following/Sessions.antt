@@ -1,21 +1,20 @@
 -- The tables keep the sessions of the trace.
 use Rattle.std.proofs.Common.{◌≡◌, ◌⊎◌, inl, inr, ◌∙◌, sym, ap, subst, ℕ, zero, suc, ◌+◌, ◌-◌, ◌<◌, ◌≤◌, Bool, true, false, cond, List, [], ◌∷◌, ◌++◌, length, take, get_or, refl, arith, add-one}
-use Rattle.std.specs.Prelude.{Option, Some, None, pos, option_map, nat_eq, slice_get, slice_set, count_by}
+use Rattle.std.specs.Prelude.{Option, Some, None, option_map, nat_eq, slice_get, slice_set, count_by}
 use Rattle.std.specs.Option.{option_map_or}
 use Rattle.std.proofs.lemmas.Bool.{cases_order, eqb-true, eqb-false, eq-eqb, ne_eqb}
 use Rattle.std.proofs.lemmas.List.{length_push, length-set, take_all}
 use Rattle.std.proofs.lemmas.List.Sums.{count_by_more_yes, count_by_more_no}
 use Rattle.std.proofs.lemmas.Option.{slice_get_cases}
-use Rattle.ucon_model.specs.declared.command.Caller.{Caller}
 use Rattle.ucon_model.specs.declared.session.SessionRow.{SessionRow}
 use Rattle.ucon_model.specs.declared.session.SessionState.{SessionState}
-use Rattle.ucon_model.specs.declared.session.SessionState.TheVariants.{Requesting, Denied, Accessing, Revoked, Ended}
-use Rattle.ucon_model.specs.Plain.{Bytes, PlainPolicy}
+use Rattle.ucon_model.specs.declared.session.SessionState.TheVariants.{Denied, Accessing, Revoked, Ended}
+use Rattle.ucon_model.specs.Plain.{PlainPolicy}
 use Rattle.ucon_model.specs.Action.{Action, Trace, subject, object, write, env, tick, act, tries, wait, permit, deny, ends, revoke}
 use Rattle.ucon_model.specs.Readings.{tick_of, changed_if, session, sessions, is_accessing_state, is_accessing, accessing_up_to, accessing}
 use Rattle.ucon_model.specs.Legal.{IsLegal}
 use Rattle.ucon_state.specs.Tables.{Tables, cell_of, env_place, session_in, accessing_among}
-use Rattle.ucon_state.specs.Applied.{with_cell, with_variable, with_session, moved_to, with_state, applied, opening_tables}
+use Rattle.ucon_state.specs.Applied.{with_cell, with_variable, with_new_session, tried, moved_to, with_state, applied, opening_tables}
 use Rattle.ucon_state.proofs.Following.Places.{set_here, set_elsewhere, still_there, added_there, is_there, not_there}
 
 -- ---- a session behind the others
@@ -27,11 +26,10 @@ behind_others xs x k m is (inr (inl lt)) = rw (ne_eqb (suc k) m (λ e. omega ari
 behind_others xs x k m is (inr (inr gt)) =
     rw (ne_eqb (suc k) m (λ e. omega arith)) (not_there (xs ++ x ∷ []) k (omega (arith, length_push xs x)) ∙ sym (not_there xs k (omega arith)))
 
-pub session_in-with_session : (t : Tables) (m : ℕ) (caller : Caller) (right s o : Bytes) (n : ℕ) → m ≡ length t.sessions + 1
-    → session_in (with_session t caller right s o) n
-    ≡ cond (nat_eq n m) (Some (record { caller = caller; right = right; subject = s; object = o; state = Requesting; start = pos 0 })) (session_in t n)
-session_in-with_session t m caller right s o zero is = rw (ne_eqb 0 m (λ e. omega arith)) refl
-session_in-with_session t m caller right s o (suc k) is = behind_others t.sessions _ k m is (cases_order k (length t.sessions))
+pub session_in-with_new_session : (t : Tables) (m : ℕ) (row : SessionRow) (n : ℕ) → m ≡ length t.sessions + 1
+    → session_in (with_new_session t row) n ≡ cond (nat_eq n m) (Some row) (session_in t n)
+session_in-with_new_session t m row zero is = rw (ne_eqb 0 m (λ e. omega arith)) refl
+session_in-with_new_session t m row (suc k) is = behind_others t.sessions row k m is (cases_order k (length t.sessions))
 
 -- ---- a session in another state
 
@@ -151,7 +149,7 @@ keeps_sessions_after P t T (tick to) now legal h = left t (applied P (tick to) t
 keeps_sessions_after P t T (act s a o) now legal h = left t (applied P (act s a o) t) T (act s a o) refl h (λ n. refl) refl
 keeps_sessions_after P t T (wait n label) now legal h = left t t T (wait n label) refl h (λ n. refl) refl
 keeps_sessions_after P t T (tries m caller s r o) now legal h = record {
-  rows = λ n. session_in-with_session t m caller r s o n (legal.0 ∙ ap (λ n. n + 1) (sym h.count)) ∙ rw (h.rows n) refl;
+  rows = λ n. session_in-with_new_session t m (tried caller s r o) n (legal.0 ∙ ap (λ n. n + 1) (sym h.count)) ∙ ap (cond (nat_eq n m) (Some (tried caller s r o))) (h.rows n);
   count = length_push t.sessions _ ∙ ap (λ n. n + 1) h.count;
 }
 keeps_sessions_after P t T (permit m) now legal h =
