@@ -9,3 +9,4 @@ pub mod Sessions
 pub mod Variables
 pub mod Keeping
 pub mod LegalTraces
+pub mod Sound

@@ -1,11 +1,15 @@
 //! Laws of the tables. A law is a function without parameters that does nothing: its contract is what is proved.
 
-ghost use Rattle.std.specs.Prelude.{◌≡◌, List, [], ◌∷◌};
+ghost use Rattle.std.specs.Prelude.{◌≡◌, ℕ, List, [], ◌∷◌, Some, IsSome, IsTrue};
+ghost use Rattle.ucon_base.specs.declared.value.Side.TheVariants.{Subject, Object};
+ghost use Rattle.ucon_model.specs.declared.session.SessionRow.{SessionRow};
 ghost use Rattle.ucon_model.specs.Plain.{PlainPolicy};
 ghost use Rattle.ucon_model.specs.Action.{Action, Trace, extended};
 ghost use Rattle.ucon_model.specs.Truth.{readings};
 ghost use Rattle.ucon_model.specs.Legal.{IsLegal, AreLegal};
-ghost use Rattle.ucon_model.specs.Fitting.{UpdatesFit};
+ghost use Rattle.ucon_model.specs.Readings.{has_entity, session};
+ghost use Rattle.ucon_model.specs.Decision.{right_named};
+ghost use Rattle.ucon_model.specs.Fitting.{UpdatesFit, ValuesFit};
 ghost use Rattle.ucon_model.specs.History.{Agree, History, trace};
 ghost use Rattle.ucon_state.specs.Tables.{Tables, readings_in};
 ghost use Rattle.ucon_state.specs.Applied.{applied, opening_tables, tables_of};
@@ -41,4 +45,12 @@ pub fn legal_traces_go_on()
 /// The trace of every history is legal, under a policy whose updates give what their attributes admit.
 pub fn traces_of_histories_are_legal()
     ensures { (P : PlainPolicy) → UpdatesFit P → (H : History) → IsLegalTrace P (trace P H) }
+{}
+
+/// After a legal trace all values are what their declarations admit, and of each session the subject, the object and the right are
+/// there.
+pub fn legal_traces_are_sound()
+    ensures values { (P : PlainPolicy) (T : Trace) → IsLegalTrace P T → ValuesFit P T }
+    ensures entities { (P : PlainPolicy) (T : Trace) (n : ℕ) (row : SessionRow) → IsLegalTrace P T → session T n ≡ Some row → IsTrue (has_entity Subject row.subject T) × IsTrue (has_entity Object row.object T) }
+    ensures right { (P : PlainPolicy) (T : Trace) (n : ℕ) (row : SessionRow) → IsLegalTrace P T → session T n ≡ Some row → IsSome (right_named P.rights row.right) }
 {}
