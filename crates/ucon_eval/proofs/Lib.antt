@@ -1,3 +1,4 @@
 pub mod SameTexts
 pub mod Places
 pub mod Agreeing
+pub mod Watched

@@ -2,3 +2,4 @@ pub mod Worth
 pub mod Sums
 pub mod Asked
 pub mod Sort
+pub mod Watching

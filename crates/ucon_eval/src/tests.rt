@@ -1,6 +1,8 @@
-ghost use Rattle.std.specs.Prelude.{◌≡◌, true, IsTrue, IsSome};
+ghost use Rattle.std.specs.Prelude.{◌≡◌, [], ◌∷◌, true, IfOk, IsTrue, IsSome};
+ghost use Rattle.ucon_model.specs.Views.{predicate_of, update_of, right_of, policy_of};
 ghost use Rattle.ucon_eval.specs.Asked.{right_of_session, truth_at, makes_no_set_at, result_at};
 ghost use Rattle.ucon_eval.specs.Sums.{tests_make_no_set};
+ghost use Rattle.ucon_eval.specs.Watching.{watch_right, watch_policy};
 
 use super::*;
 use crate::decide::right;
@@ -80,59 +82,95 @@ fn has_update(view: &Still) -> bool
     update_at(view, &view.row, 0).is_some()
 }
 
-/// A right `watch` with one predicate, that is met where `click` was done within 30 ticks of the start or of the last time, and
-/// one update, `o.users = o.users + 1`.
-fn watch(alloc: Global) -> Result<Right, Fail> {
-    let every = Obligation {
-        form: Form::Every(Int::new(30).ok_or("in range")?),
-        action: Name::read(b"click")?,
-        by_subject: None,
-        on_object: None,
-    };
-    let mut preds = Rows::new(alloc);
-    preds.push(Predicate {
+fn name(bytes: &[u8]) -> Result<Name, Fail>
+    ensures { IfOk result (λ n. n ≡ bytes.now) }
+{
+    Ok(Name::read(bytes)?)
+}
+
+fn int(n: i64) -> Result<Int, Fail>
+    ensures { IfOk result (λ m. m ≡ n) }
+{
+    Ok(Int::new(n).ok_or("in range")?)
+}
+
+/// Met where `click` was done within 30 ticks of the start or of the last time.
+fn ads() -> Result<Predicate, Fail>
+    ensures { IfOk result (λ p. watch_right.preds ≡ predicate_of p ∷ []) }
+{
+    Ok(Predicate {
         phase: Phase::Ongoing,
-        label: Name::read(b"ads")?,
-        test: Test::B(every),
-    })?;
-    let users = Name::read(b"users")?;
-    let one = Expr::Lit(Value::Int(Int::new(1).ok_or("in range")?));
+        label: name(b"ads")?,
+        test: Test::B(Obligation {
+            form: Form::Every(int(30)?),
+            action: name(b"click")?,
+            by_subject: None,
+            on_object: None,
+        }),
+    })
+}
+
+/// `before o.users = o.users + 1`
+fn one_more(alloc: Global) -> Result<Update, Fail>
+    ensures { IfOk result (λ u. watch_right.updates ≡ update_of u ∷ []) }
+{
+    let users = name(b"users")?;
+    let one = Expr::Lit(Value::Int(int(1)?));
     let read = Box::new(alloc, Expr::Read(Ref::Object(users)))?;
-    let mut updates = Rows::new(alloc);
-    updates.push(Update {
+    Ok(Update {
         when: When::Before,
         side: Side::Object,
         attr: users,
         value: Expr::Add(read, Box::new(alloc, one)?),
-    })?;
+    })
+}
+
+fn watch(alloc: Global) -> Result<Right, Fail>
+    ensures { IfOk result (λ r. right_of r ≡ watch_right) }
+{
+    let mut preds = Rows::new(alloc);
+    preds.push(ads()?)?;
+    let mut updates = Rows::new(alloc);
+    updates.push(one_more(alloc)?)?;
     Ok(Right {
-        name: Name::read(b"watch")?,
+        name: name(b"watch")?,
         preds,
         updates,
     })
 }
 
-/// A usage of `watch` from tick 0 on, where `users` holds the value.
-fn usage(alloc: Global, users: i64, tick: i64, last: Option<Int>) -> Result<Still, Fail> {
-    let most = Int::new(1000).ok_or("in range")?;
+fn policy(alloc: Global) -> Result<Policy, Fail>
+    ensures { IfOk result (λ p. policy_of p ≡ watch_policy) }
+{
     let mut attrs = Rows::new(alloc);
     attrs.push(AttrDecl {
         side: Side::Object,
-        name: Name::read(b"users")?,
+        name: name(b"users")?,
         kind: Kind::Int {
             low: Int::zero(),
-            high: most,
+            high: int(1000)?,
         },
         start: Value::Int(Int::zero()),
     })?;
     let mut rights = Rows::new(alloc);
     rights.push(watch(alloc)?)?;
+    Ok(Policy {
+        attrs,
+        envs: Rows::new(alloc),
+        rights,
+    })
+}
+
+#[tactic(auto, using(crate::proofs::Watched::watch_is_typed))]
+fn checked(alloc: Global) -> Result<Checked, Fail> {
+    let policy = policy(alloc)?;
+    Ok(Checked::new(policy))
+}
+
+/// A usage of `watch` from tick 0 on, where `users` holds the value.
+fn usage(alloc: Global, users: i64, tick: i64, last: Option<Int>) -> Result<Still, Fail> {
     Ok(Still {
-        checked: Checked::new(Policy {
-            attrs,
-            envs: Rows::new(alloc),
-            rights,
-        }),
+        checked: checked(alloc)?,
         row: SessionRow {
             caller: Caller(0),
             right: Name::read(b"watch")?,

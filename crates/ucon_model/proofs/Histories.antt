@@ -11,7 +11,8 @@ use Rattle.ucon_model.specs.Readings.{accessing}
 use Rattle.ucon_model.specs.OwnActions.{Own, refuse, tell, make, own}
 use Rattle.ucon_model.specs.Settle.{fails_at, least_failing, revocation, settle_within, settle}
 use Rattle.ucon_model.specs.Legal.{IsLegal, AreLegal, RevocationsAreLegal}
-use Rattle.ucon_model.specs.Fitting.{UpdatesFit}
+use Rattle.ucon_model.specs.Fitting.{ValuesFit}
+use Rattle.ucon_model.specs.Typing.{IsTyped}
 use Rattle.ucon_model.specs.Block.{own_block, block, after}
 use Rattle.ucon_model.specs.History.{History, trace_from, trace}
 use Rattle.ucon_model.proofs.Extending.{extended-append}
@@ -21,6 +22,7 @@ use Rattle.ucon_model.proofs.AllowedWrites.{allowed-session_writes}
 use Rattle.ucon_model.proofs.AllowedOwn.{allowed-own}
 use Rattle.ucon_model.proofs.LeastFailing.{chosen_is_legal, nobody_fails}
 use Rattle.ucon_model.proofs.OwnCases.{OwnHas, makes}
+use Rattle.ucon_model.proofs.SortsOfValues.{typed_updates_fit}
 
 -- ---- settling
 
@@ -98,5 +100,9 @@ nobody_fails_after P H = (settled P H).nobody
 pub legal_revocations_after : (P : PlainPolicy) (H : History) (caller : Caller) (c : Command) → RevocationsAreLegal P (trace P H) (block P (trace P H) caller c)
 legal_revocations_after P H caller c = revocations-allowed P (trace P H) (block P (trace P H) caller c) (allowed_after P H caller c)
 
-pub legal_actions_after : (P : PlainPolicy) → UpdatesFit P → (H : History) (caller : Caller) (c : Command) → AreLegal P (trace P H) (block P (trace P H) caller c)
-legal_actions_after P fits H caller c = legal-allowed P (trace P H) (block P (trace P H) caller c) fits (allowed_after P H caller c)
+pub legal_actions_after : (P : PlainPolicy) → IsTyped P → (H : History) (caller : Caller) (c : Command) → AreLegal P (trace P H) (block P (trace P H) caller c)
+legal_actions_after P typed H caller c =
+    legal-allowed P (trace P H) (block P (trace P H) caller c) (typed_updates_fit P typed) (allowed_after P H caller c)
+
+pub values_fit_after : (P : PlainPolicy) → IsTyped P → (H : History) → ValuesFit P (trace P H)
+values_fit_after P typed H = (sound_after P H).fit (typed_updates_fit P typed)

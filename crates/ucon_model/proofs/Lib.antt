@@ -22,6 +22,9 @@ pub mod AllowedWrites
 pub mod LeastFailing
 pub mod AllowedOwn
 pub mod Histories
-pub mod UpdatesOfThreeUsers
 pub mod Cascades
 pub mod WithinAndLasts
+pub mod FirstFaults
+pub mod Written
+pub mod TypedParts
+pub mod SortsOfValues

@@ -1,6 +1,7 @@
 -- Pay-per-use music: waiting for an act, going on, a beat that costs, a denied try, another's session, and a usage that a tick revokes.
 use Rattle.std.proofs.Common.{◌≡◌, List, [], ◌∷◌, refl}
-use Rattle.std.specs.Prelude.{pos, codes}
+use Rattle.std.specs.Prelude.{pos, codes, map, None}
+use Rattle.std.specs.Fmt.{digits}
 use Rattle.ucon_base.specs.declared.value.Side.TheVariants.{Subject, Object}
 use Rattle.ucon_base.specs.declared.value.Kind.TheVariants as kinds
 use Rattle.ucon_base.specs.declared.value.Value.TheVariants as values
@@ -15,6 +16,8 @@ use Rattle.ucon_model.specs.declared.reply.Head.TheVariants.{Ok, Permitted, Deni
 use Rattle.ucon_model.specs.declared.reply.Refusal.TheVariants.{NotYours}
 use Rattle.ucon_model.specs.Plain.{PlainPolicy, lit, read, plus, minus, compare, authorisation, condition, refused, made, value_is}
 use Rattle.ucon_model.specs.History.{serial}
+use Rattle.ucon_model.specs.Cores.{core_models_of, core_name}
+use Rattle.ucon_model.specs.Typing.{type_fault}
 use Rattle.ucon_model.proofs.Scenes.{by, own_duty, int_attr, int, subject's, object's, revoked, ok}
 
 abbrev music : PlainPolicy
@@ -37,6 +40,16 @@ music = record {
         ∷ record { when = AfterRevoke; side = Object; attr = codes "plays"; value = plus (object's (codes "plays")) (int 1) } ∷ [];
   } ∷ [];
 }
+
+music_is_typed : type_fault music ≡ None
+unfolding type_fault
+music_is_typed = refl
+
+core_models : map (λ r. map core_name (core_models_of r)) music.rights
+    ≡ (codes "preA1" ∷ codes "preA3" ∷ codes "onA1" ∷ codes "onA2" ∷ codes "onA3" ∷ codes "preB1" ∷ codes "preB3" ∷ codes "onB1" ∷ codes "onB2"
+    ∷ codes "onB3" ∷ codes "preC0" ∷ []) ∷ []
+unfolding digits
+core_models = refl
 
 abbrev scene : List Entry
 scene = by 0 (commands.Subject (codes "ann")) ∷ by 0 (commands.Subject (codes "bob")) ∷ by 0 (commands.Subject (codes "cat"))

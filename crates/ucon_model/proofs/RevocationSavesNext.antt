@@ -1,6 +1,7 @@
 -- Three users at most: a fourth costs the first, and a revocation saves those behind it.
 use Rattle.std.proofs.Common.{◌≡◌, List, [], ◌∷◌, ◌++◌, refl}
-use Rattle.std.specs.Prelude.{pos, codes}
+use Rattle.std.specs.Prelude.{pos, codes, map, None}
+use Rattle.std.specs.Fmt.{digits}
 use Rattle.ucon_base.specs.declared.value.Side.TheVariants.{Object}
 use Rattle.ucon_base.specs.declared.value.Value.TheVariants as values
 use Rattle.ucon_model.specs.declared.command.Command.TheVariants as commands
@@ -11,6 +12,10 @@ use Rattle.ucon_model.specs.declared.policy.When.TheVariants.{Before, AfterEnd, 
 use Rattle.ucon_model.specs.declared.reply.Head.TheVariants.{Ok, Permitted}
 use Rattle.ucon_model.specs.Plain.{Bytes, PlainRight, PlainPolicy, plus, minus, compare, authorisation, made, value_is}
 use Rattle.ucon_model.specs.History.{serial}
+use Rattle.ucon_model.specs.declared.formula.Ref.TheVariants as refs
+use Rattle.ucon_model.specs.Places.{places_read}
+use Rattle.ucon_model.specs.Cores.{core_models_of, core_name}
+use Rattle.ucon_model.specs.Typing.{type_fault}
 use Rattle.ucon_model.proofs.Scenes.{by, int_attr, int, object's, revoked, ok}
 
 abbrev pub use_right : PlainRight
@@ -24,6 +29,17 @@ use_right = record {
 
 abbrev pub capped : PlainPolicy
 capped = record { attrs = int_attr Object (codes "users") 0 1000 0 ∷ int_attr Object (codes "most") 0 1000 3 ∷ []; envs = []; rights = use_right ∷ [] }
+
+capped_is_typed : type_fault capped ≡ None
+unfolding type_fault
+capped_is_typed = refl
+
+core_models : map core_name (core_models_of use_right) ≡ codes "onA1" ∷ codes "onA3" ∷ []
+unfolding digits
+core_models = refl
+
+places : places_read use_right ≡ refs.Object (codes "users") ∷ refs.Object (codes "most") ∷ []
+places = refl
 
 abbrev scene : List Entry
 scene = by 0 (commands.Subject (codes "a")) ∷ by 0 (commands.Subject (codes "b")) ∷ by 0 (commands.Subject (codes "c"))

@@ -2,25 +2,30 @@
 
 ghost use Rattle.std.specs.Prelude.{◌≡◌};
 ghost use Rattle.ucon_model.specs.Views.{policy_of};
-ghost use Rattle.ucon_model.specs.Checked.{checked_policy};
+ghost use Rattle.ucon_model.specs.Typing.{IsTyped};
 
 use crate::Policy;
 
-/// A policy that was checked to be well typed. The type doesn't say so yet: whoever makes one answers for it.
+/// A policy that is well typed.
 #[derive(Debug, Drop)]
 pub struct Checked {
     policy: Policy,
+    ghost typed: { IsTyped (policy_of policy) },
 }
 
 impl Checked {
+    ghost use Rattle.ucon_model.specs.Checked.{checked_policy};
+
     pub fn new(policy: Policy) -> Checked
+        requires { IsTyped (policy_of policy) }
         ensures { checked_policy result ≡ policy_of policy }
     {
         Checked { policy }
     }
 
     pub fn policy(&self) -> &Policy
-        ensures { policy_of result.now ≡ checked_policy self.now }
+        ensures policy { policy_of result.now ≡ checked_policy self.now }
+        ensures typed { IsTyped (checked_policy self.now) }
     {
         &self.policy
     }

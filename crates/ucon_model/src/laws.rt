@@ -1,19 +1,23 @@
 //! Laws of the definitions. A law is a function without parameters that does nothing: its contract is what is proved.
 
-ghost use Rattle.std.specs.Prelude.{◌≡◌, ◌<◌, ◌↔◌, ℕ, List, map, Some, None};
+ghost use Rattle.std.specs.Prelude.{◌≡◌, ◌<◌, ◌↔◌, ℕ, List, map, true, Some, None};
 ghost use Rattle.ucon_model.specs.declared.command.Caller.{Caller};
 ghost use Rattle.ucon_model.specs.declared.command.Command.{Command};
 ghost use Rattle.ucon_model.specs.declared.reply.Head.{Head};
-ghost use Rattle.ucon_model.specs.Plain.{PlainPolicy};
+ghost use Rattle.ucon_model.specs.declared.session.SessionRow.{SessionRow};
+ghost use Rattle.ucon_model.specs.Plain.{Bytes, PlainPolicy, PlainRight};
 ghost use Rattle.ucon_model.specs.Action.{Action, Trace, extended};
 ghost use Rattle.ucon_model.specs.Block.{block};
-ghost use Rattle.ucon_model.specs.Fitting.{UpdatesFit};
+ghost use Rattle.ucon_model.specs.Decision.{right_named};
+ghost use Rattle.ucon_model.specs.Fitting.{PlacesFit, UpdatesFit, ValuesFit};
 ghost use Rattle.ucon_model.specs.History.{History, trace};
 ghost use Rattle.ucon_model.specs.Legal.{AreLegal, IsCascade, RevocationsAreLegal};
 ghost use Rattle.ucon_model.specs.LegalRun.{Answered, Each, IsLegalRun, IsSerialRun, in_text_order};
 ghost use Rattle.ucon_model.specs.Output.{FitsLine, answers_read, output};
 ghost use Rattle.ucon_model.specs.OwnActions.{make, own};
 ghost use Rattle.ucon_model.specs.Settle.{fails_at, least_failing, settle};
+ghost use Rattle.ucon_model.specs.Truth.{place_of};
+ghost use Rattle.ucon_model.specs.Typing.{IsTyped, is_typed_test};
 
 /// After settling no accessing session fails.
 pub fn settling_ends()
@@ -31,10 +35,30 @@ pub fn no_usage_goes_on_failing()
     ensures { (P : PlainPolicy) (H : History) (n : ℕ) → fails_at P (trace P H) n ≡ None }
 {}
 
-/// After every history, each action of a command's block is legal after those before it, under a policy whose updates give what
-/// their attributes admit.
+/// Under a well typed policy, after every history, each action of a command's block is legal after those before it.
 pub fn blocks_are_legal()
-    ensures { (P : PlainPolicy) → UpdatesFit P → (H : History) (caller : Caller) (c : Command) → AreLegal P (trace P H) (block P (trace P H) caller c) }
+    ensures { (P : PlainPolicy) → IsTyped P → (H : History) (caller : Caller) (c : Command) → AreLegal P (trace P H) (block P (trace P H) caller c) }
+{}
+
+/// Under a well typed policy all values after a history fit their declarations.
+pub fn values_fit()
+    ensures { (P : PlainPolicy) → IsTyped P → (H : History) → ValuesFit P (trace P H) }
+{}
+
+/// Under a well typed policy, where all values of a trace fit, the result of each update fits.
+pub fn updates_fit()
+    ensures { (P : PlainPolicy) → IsTyped P → UpdatesFit P }
+{}
+
+/// Under a well typed policy, where all values of a trace fit, each declared place holds a value of the declared sort, for any session.
+pub fn places_hold_their_sorts()
+    ensures { (P : PlainPolicy) → IsTyped P → (T : Trace) → ValuesFit P T → (row : SessionRow) → PlacesFit P (place_of P T row) }
+{}
+
+/// Each test of a well typed policy is typed.
+pub fn tests_are_typed()
+    ensures { (P : PlainPolicy) → IsTyped P → (name : Bytes) (r : PlainRight) → right_named P.rights name ≡ Some r
+        → Each (λ p. is_typed_test P p.test ≡ true) r.preds }
 {}
 
 /// After every history and a command's own actions, exactly one list of actions is a cascade of legal revocations up to where no

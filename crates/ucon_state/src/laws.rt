@@ -9,7 +9,8 @@ ghost use Rattle.ucon_model.specs.Truth.{readings};
 ghost use Rattle.ucon_model.specs.Legal.{IsLegal, AreLegal};
 ghost use Rattle.ucon_model.specs.Readings.{has_entity, session};
 ghost use Rattle.ucon_model.specs.Decision.{right_named};
-ghost use Rattle.ucon_model.specs.Fitting.{UpdatesFit, ValuesFit};
+ghost use Rattle.ucon_model.specs.Typing.{IsTyped};
+ghost use Rattle.ucon_model.specs.Fitting.{ValuesFit};
 ghost use Rattle.ucon_model.specs.History.{Agree, History, trace};
 ghost use Rattle.ucon_state.specs.Tables.{Tables, readings_in};
 ghost use Rattle.ucon_state.specs.Applied.{applied, opening_tables, tables_of};
@@ -42,9 +43,9 @@ pub fn legal_traces_go_on()
     ensures { (P : PlainPolicy) (T : Trace) (actions : List Action) → IsLegalTrace P T → AreLegal P T actions → IsLegalTrace P (extended T actions) }
 {}
 
-/// The trace of every history is legal, under a policy whose updates give what their attributes admit.
+/// Under a well typed policy the trace of every history is legal.
 pub fn traces_of_histories_are_legal()
-    ensures { (P : PlainPolicy) → UpdatesFit P → (H : History) → IsLegalTrace P (trace P H) }
+    ensures { (P : PlainPolicy) → IsTyped P → (H : History) → IsLegalTrace P (trace P H) }
 {}
 
 /// After a legal trace all values are what their declarations admit, and of each session the subject, the object and the right are

@@ -4,7 +4,7 @@ use Rattle.ucon_model.specs.declared.command.Entry.{Entry}
 use Rattle.ucon_model.specs.Plain.{PlainPolicy}
 use Rattle.ucon_model.specs.Action.{Trace}
 use Rattle.ucon_model.specs.Block.{block, after}
-use Rattle.ucon_model.specs.Fitting.{UpdatesFit}
+use Rattle.ucon_model.specs.Typing.{IsTyped}
 use Rattle.ucon_model.specs.History.{History, trace_from, trace}
 use Rattle.ucon_model.proofs.Histories.{legal_actions_after}
 use Rattle.ucon_state.specs.Following.{IsLegalTrace}
@@ -14,13 +14,13 @@ one_more : (P : PlainPolicy) (T : Trace) (G : History) (e : Entry) → trace_fro
 one_more P T [] e = refl
 one_more P T (d ∷ G) e = one_more P (after P T d.caller d.command) G e
 
-legal_from : (P : PlainPolicy) → UpdatesFit P → (G H : History) → IsLegalTrace P (trace P G) → IsLegalTrace P (trace_from P (trace P G) H)
-legal_from P fits G [] legal = legal
-legal_from P fits G (e ∷ H) legal =
+legal_from : (P : PlainPolicy) → IsTyped P → (G H : History) → IsLegalTrace P (trace P G) → IsLegalTrace P (trace_from P (trace P G) H)
+legal_from P typed G [] legal = legal
+legal_from P typed G (e ∷ H) legal =
     let next : IsLegalTrace P (after P (trace P G) e.caller e.command) =
-    legal_extended P (trace P G) (block P (trace P G) e.caller e.command) legal (legal_actions_after P fits G e.caller e.command) in
+    legal_extended P (trace P G) (block P (trace P G) e.caller e.command) legal (legal_actions_after P typed G e.caller e.command) in
     subst (λ (T : Trace). IsLegalTrace P (trace_from P T H)) (one_more P [] G e)
-    (legal_from P fits (G ++ e ∷ []) H (subst (IsLegalTrace P) (sym (one_more P [] G e)) next))
+    (legal_from P typed (G ++ e ∷ []) H (subst (IsLegalTrace P) (sym (one_more P [] G e)) next))
 
-pub legal_trace_of : (P : PlainPolicy) → UpdatesFit P → (H : History) → IsLegalTrace P (trace P H)
-legal_trace_of P fits H = legal_from P fits [] H tt
+pub legal_trace_of : (P : PlainPolicy) → IsTyped P → (H : History) → IsLegalTrace P (trace P H)
+legal_trace_of P typed H = legal_from P typed [] H tt

@@ -1,0 +1,47 @@
+//! Why a policy is not well typed.
+
+ghost use Rattle.std.specs.Prelude.{◌≡◌, ◌+◌};
+ghost use Rattle.ucon_check.specs.Numbers.{told_number};
+
+use ucon_base::{Name, NoMemory};
+
+/// The first fault of a policy. Its items are numbered from 1 in written order: each attribute, each variable, and then of each
+/// right the heading, each predicate and each update. A number that no u32 holds is told as the greatest.
+#[derive(Clone, Copy, Debug, PartialEq, Eq)]
+pub enum CheckFault {
+    /// The name stood before, or is the label `no_right`.
+    Twice(Name, u32),
+    /// The leftmost name that isn't declared.
+    NoName(Name, u32),
+    /// A predicate or an update that reads what it may not.
+    WrongReader(u32),
+    /// An item that isn't typed.
+    WrongKind(u32),
+    /// The right of this name makes no core model.
+    NotCore(Name),
+    /// The ongoing predicates of the right of this name read so many distinct places, more than 32.
+    TooManyCells(Name, u32),
+    NoMemory,
+}
+
+impl From<NoMemory> for CheckFault {
+    ghost use Rattle.ucon_check.specs.declared.fault.CheckFault.TheVariants.{NoMemory as Memory};
+
+    ghost from_gives = { λ e fault. fault ≡ Memory };
+
+    fn from(_e: NoMemory) -> CheckFault {
+        CheckFault::NoMemory
+    }
+}
+
+/// So many items further.
+pub fn after(item: u32, n: usize) -> u32
+    ensures { result ≡ told_number (item + n) }
+{
+    let left = u32::MAX - item;
+    if n < left as usize {
+        item + n as u32
+    } else {
+        u32::MAX
+    }
+}

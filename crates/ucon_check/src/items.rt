@@ -1,0 +1,230 @@
+//! The faults of single items.
+
+ghost use Rattle.std.specs.Prelude.{◌≡◌, [], map, not, is_some, codes};
+ghost use Rattle.std.specs.List.{list_any};
+ghost use Rattle.std.specs.Str.{bytes_eq};
+ghost use Rattle.ucon_model.specs.Decision.{right_named};
+ghost use Rattle.ucon_model.specs.Places.{test_places};
+ghost use Rattle.ucon_model.specs.Views.{formula_of, test_of, predicate_of, update_of, right_of, policy_of};
+ghost use Rattle.ucon_model.specs.Typing.{name_of, is_declared, undeclared, name_if, is_variable, has_lasts, is_recurring, counts_from_start, reads_wrongly, is_wrong_reader, item_fault, attr_fault, env_fault, heading_fault, is_label_taken, predicate_fault, update_fault};
+ghost use Rattle.ucon_check.specs.Told.{Answers};
+
+use crate::CheckFault;
+use crate::places::{is_ongoing, test_places, update_places};
+use crate::sorts::{
+    declared_attr, declared_env, is_typed_start, is_typed_test, is_typed_update, place_sort,
+};
+use std::alloc::Global;
+use ucon_base::Name;
+use ucon_model::{AttrDecl, EnvDecl, Form, Formula, Policy, Predicate, Ref, Right, Test, Update};
+
+fn name_of(place: &Ref) -> Name
+    ensures { result ≡ name_of place.now }
+{
+    match place {
+        Ref::Subject(attr) => *attr,
+        Ref::Object(attr) => *attr,
+        Ref::Env(name) => *name,
+    }
+}
+
+fn is_declared(policy: &Policy, place: &Ref) -> bool
+    ensures { result ≡ is_declared (policy_of policy.now) place.now }
+{
+    place_sort(policy, place).is_some()
+}
+
+/// The leftmost name among these places that isn't declared.
+fn undeclared(policy: &Policy, places: &[Ref]) -> Option<Name>
+    ensures { result ≡ undeclared (policy_of policy.now) places.now }
+{
+    for place in places {
+        if !is_declared(policy, place) {
+            return Some(name_of(place));
+        }
+    }
+    None
+}
+
+fn is_variable(place: &Ref) -> bool
+    ensures { result ≡ is_variable place.now }
+{
+    matches!(place, Ref::Env(_))
+}
+
+fn has_variable(places: &[Ref]) -> bool
+    ensures { result ≡ list_any is_variable places.now }
+{
+    places.iter().any(is_variable)
+}
+
+fn has_attribute(places: &[Ref]) -> bool
+    ensures { result ≡ list_any (λ p. not (is_variable p)) places.now }
+{
+    places.iter().any(|p| !is_variable(p))
+}
+
+fn has_lasts(f: &Formula) -> bool
+    ensures { result ≡ has_lasts (formula_of f.now) }
+{
+    match f {
+        Formula::And(f, g) => has_lasts(f) || has_lasts(g),
+        Formula::Or(f, g) => has_lasts(f) || has_lasts(g),
+        Formula::Not(f) => has_lasts(f),
+        Formula::Compare(..) => false,
+        Formula::Lasts(_) => true,
+    }
+}
+
+fn is_recurring(form: Form) -> bool
+    ensures { result ≡ is_recurring form }
+{
+    matches!(form, Form::Every(_))
+}
+
+/// Whether a test counts time from the session's start.
+fn counts_from_start(test: &Test) -> bool
+    ensures { result ≡ counts_from_start (test_of test.now) }
+{
+    match test {
+        Test::A(f) => has_lasts(f),
+        Test::B(o) => is_recurring(o.form),
+        Test::C(f) => has_lasts(f),
+    }
+}
+
+/// Whether a test, which reads these places, reads what its kind may not.
+fn reads_wrongly(test: &Test, places: &[Ref]) -> bool
+    requires { places.now ≡ test_places (test_of test.now) }
+    ensures { result ≡ reads_wrongly (test_of test.now) }
+{
+    match test {
+        Test::A(f) => has_variable(places) || has_lasts(f),
+        Test::B(_) => false,
+        Test::C(_) => has_attribute(places),
+    }
+}
+
+/// Whether a predicate, which reads these places, reads what it may not.
+fn is_wrong_reader(p: &Predicate, places: &[Ref]) -> bool
+    requires { places.now ≡ test_places (test_of p.now.test) }
+    ensures { result ≡ is_wrong_reader (predicate_of p.now) }
+{
+    reads_wrongly(&p.test, places) || (!is_ongoing(p) && counts_from_start(&p.test))
+}
+
+fn name_if(stood: bool, name: &Name) -> Option<Name>
+    ensures { result ≡ name_if stood name.now }
+{
+    if stood { Some(*name) } else { None }
+}
+
+/// The first of an item's four faults.
+fn check_item(
+    item: u32,
+    twice: Option<Name>,
+    unknown: Option<Name>,
+    wrong: bool,
+    typed: bool,
+) -> Result<(), CheckFault>
+    ensures { Answers (item_fault item twice unknown wrong typed) result }
+{
+    if let Some(name) = twice {
+        return Err(CheckFault::Twice(name, item));
+    }
+    if let Some(name) = unknown {
+        return Err(CheckFault::NoName(name, item));
+    }
+    if wrong {
+        return Err(CheckFault::WrongReader(item));
+    }
+    if !typed {
+        return Err(CheckFault::WrongKind(item));
+    }
+    Ok(())
+}
+
+/// An attribute, behind those before it.
+pub fn check_attr(before: &[AttrDecl], item: u32, d: &AttrDecl) -> Result<(), CheckFault>
+    ensures { Answers (attr_fault before.now item d.now) result }
+{
+    let stood = declared_attr(before, d.side, &d.name).is_some();
+    let typed = is_typed_start(&d.kind, &d.start);
+    check_item(item, name_if(stood, &d.name), None, false, typed)
+}
+
+/// A variable, behind those before it.
+pub fn check_env(before: &[EnvDecl], item: u32, d: &EnvDecl) -> Result<(), CheckFault>
+    ensures { Answers (env_fault before.now item d.now) result }
+{
+    let stood = declared_env(before, &d.name).is_some();
+    let typed = is_typed_start(&d.kind, &d.start);
+    check_item(item, name_if(stood, &d.name), None, false, typed)
+}
+
+fn is_right(rights: &[Right], name: &Name) -> bool
+    ensures { result ≡ is_some (right_named (map right_of rights.now) name.now) }
+{
+    for r in rights {
+        if name == &r.name {
+            return true;
+        }
+    }
+    false
+}
+
+/// A right's heading, behind the rights before it.
+pub fn check_heading(before: &[Right], item: u32, r: &Right) -> Result<(), CheckFault>
+    ensures { Answers (heading_fault (map right_of before.now) item (right_of r.now)) result }
+{
+    let stood = is_right(before, &r.name);
+    check_item(item, name_if(stood, &r.name), None, false, true)
+}
+
+fn is_label(preds: &[Predicate], label: &Name) -> bool
+    ensures { result ≡ list_any (λ q. bytes_eq label.now q.label) (map predicate_of preds.now) }
+{
+    for p in preds {
+        if label == &p.label {
+            return true;
+        }
+    }
+    false
+}
+
+fn is_no_right(label: &[u8]) -> bool
+    ensures { result ≡ bytes_eq label.now (codes "no_right") }
+{
+    label == b"no_right".as_slice()
+}
+
+/// A predicate, behind those before it in its right.
+pub fn check_predicate(
+    alloc: Global,
+    policy: &Policy,
+    before: &[Predicate],
+    item: u32,
+    p: &Predicate,
+) -> Result<(), CheckFault>
+    ensures { Answers (predicate_fault (policy_of policy.now) (map predicate_of before.now) item (predicate_of p.now)) result }
+{
+    let places = test_places(alloc, &p.test)?;
+    let taken = is_label(before, &p.label) || is_no_right(p.label.bytes());
+    check_item(
+        item,
+        name_if(taken, &p.label),
+        undeclared(policy, &places),
+        is_wrong_reader(p, &places),
+        is_typed_test(policy, &p.test),
+    )
+}
+
+/// An update.
+pub fn check_update(alloc: Global, policy: &Policy, item: u32, u: &Update) -> Result<(), CheckFault>
+    ensures { Answers (update_fault (policy_of policy.now) [] item (update_of u.now)) result }
+{
+    let places = update_places(alloc, u)?;
+    let unknown = undeclared(policy, &places);
+    let wrong = has_variable(&places);
+    check_item(item, None, unknown, wrong, is_typed_update(policy, u))
+}

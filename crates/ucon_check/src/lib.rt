@@ -1,0 +1,15 @@
+//! Whether a policy is well typed, the core models of its rights, and the places that they read.
+#![tactic(auto)]
+
+mod cores;
+mod fault;
+mod items;
+mod places;
+mod sorts;
+mod typing;
+
+pub use cores::{core_models, core_name};
+pub use fault::CheckFault;
+pub use places::reads;
+pub use typing::check;
+pub use ucon_model::{Core, CoreKind};

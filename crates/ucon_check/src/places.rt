@@ -1,0 +1,155 @@
+//! The places that expressions, predicates and updates read.
+
+ghost use Rattle.std.specs.Prelude.{◌≡◌, [], ◌++◌, ◌<◌, length, map, fold, filter, slice_get, option_map, Some, IfOk, OnOk};
+ghost use Rattle.std.specs.List.{list_any, flat_map};
+ghost use Rattle.ucon_model.specs.Checked.{checked_policy};
+ghost use Rattle.ucon_model.specs.Decision.{ongoing};
+ghost use Rattle.ucon_model.specs.Views.{expr_of, formula_of, test_of, predicate_of, update_of, right_of};
+ghost use Rattle.ucon_model.specs.Places.{expr_places, formula_places, test_places, attr_place, update_places, same_place, with_place, places_read};
+
+use std::alloc::Global;
+use ucon_base::{Name, NoMemory, Rows, Side};
+use ucon_model::{Checked, Expr, Formula, Phase, Predicate, Ref, Right, Test, Update};
+
+/// Adds the places that an expression reads.
+fn put_expr(e: &Expr, places: &mut Vec<Ref>) -> Result<(), NoMemory>
+    ensures { OnOk result (places.new.items ≡ places.old.items ++ expr_places (expr_of e.now)) }
+{
+    match e {
+        Expr::Lit(_) => Ok(()),
+        Expr::Read(place) => {
+            places.push(*place)?;
+            Ok(())
+        }
+        Expr::Add(a, b) => {
+            put_expr(a, places)?;
+            put_expr(b, places)
+        }
+        Expr::Sub(a, b) => {
+            put_expr(a, places)?;
+            put_expr(b, places)
+        }
+        Expr::Mul(a, b) => {
+            put_expr(a, places)?;
+            put_expr(b, places)
+        }
+        Expr::Size(a) => put_expr(a, places),
+    }
+}
+
+/// Adds the places that a formula reads.
+fn put_formula(f: &Formula, places: &mut Vec<Ref>) -> Result<(), NoMemory>
+    ensures { OnOk result (places.new.items ≡ places.old.items ++ formula_places (formula_of f.now)) }
+{
+    match f {
+        Formula::And(f, g) => {
+            put_formula(f, places)?;
+            put_formula(g, places)
+        }
+        Formula::Or(f, g) => {
+            put_formula(f, places)?;
+            put_formula(g, places)
+        }
+        Formula::Not(f) => put_formula(f, places),
+        Formula::Compare(_, a, b) => {
+            put_expr(a, places)?;
+            put_expr(b, places)
+        }
+        Formula::Lasts(_) => Ok(()),
+    }
+}
+
+/// The places that a test reads.
+pub fn test_places(alloc: Global, test: &Test) -> Result<Vec<Ref>, NoMemory>
+    ensures { IfOk result (λ places. places.items ≡ test_places (test_of test.now)) }
+{
+    let mut places = Vec::new(alloc);
+    match test {
+        Test::A(f) => put_formula(f, &mut places)?,
+        Test::B(_) => {}
+        Test::C(f) => put_formula(f, &mut places)?,
+    }
+    Ok(places)
+}
+
+/// The place of an attribute of a side.
+pub fn attr_place(side: Side, attr: &Name) -> Ref
+    ensures { result ≡ attr_place side attr.now }
+{
+    match side {
+        Side::Subject => Ref::Subject(*attr),
+        Side::Object => Ref::Object(*attr),
+    }
+}
+
+/// The place that an update writes, and then those that it reads.
+pub fn update_places(alloc: Global, u: &Update) -> Result<Vec<Ref>, NoMemory>
+    ensures { IfOk result (λ places. places.items ≡ update_places (update_of u.now)) }
+{
+    let mut places = Vec::new(alloc);
+    places.push(attr_place(u.side, &u.attr))?;
+    put_expr(&u.value, &mut places)?;
+    Ok(places)
+}
+
+fn same_place(p: &Ref, q: &Ref) -> bool
+    ensures { result ≡ same_place p.now q.now }
+{
+    match (p, q) {
+        (Ref::Subject(a), Ref::Subject(b)) => a == b,
+        (Ref::Object(a), Ref::Object(b)) => a == b,
+        (Ref::Env(a), Ref::Env(b)) => a == b,
+        _ => false,
+    }
+}
+
+fn is_among(place: &Ref, places: &[Ref]) -> bool
+    ensures { result ≡ list_any (same_place place.now) places.now }
+{
+    places.iter().any(|p| same_place(place, p))
+}
+
+/// Adds each place that isn't there yet.
+fn put_new(found: &[Ref], places: &mut Vec<Ref>) -> Result<(), NoMemory>
+    ensures { OnOk result (places.new.items ≡ fold with_place places.old.items found.now) }
+{
+    for place in found {
+        if !is_among(place, places) {
+            places.push(*place)?;
+        }
+    }
+    Ok(())
+}
+
+pub fn is_ongoing(p: &Predicate) -> bool
+    ensures { result ≡ ongoing (predicate_of p.now) }
+{
+    match p.phase {
+        Phase::Ongoing => true,
+        Phase::Pre => false,
+    }
+}
+
+/// The distinct places that a right's ongoing predicates read, in the order of their first reading.
+pub fn places_read(alloc: Global, right: &Right) -> Result<Vec<Ref>, NoMemory>
+    ensures { IfOk result (λ places. places.items ≡ places_read (right_of right.now)) }
+{
+    let mut places = Vec::new(alloc);
+    for p in right.preds.slice() {
+        if is_ongoing(p) {
+            put_new(&test_places(alloc, &p.test)?, &mut places)?;
+        }
+    }
+    Ok(places)
+}
+
+/// The distinct places that the ongoing predicates of a right of the policy, by its place from 0, read, in the order of their first
+/// reading.
+pub fn reads(alloc: Global, checked: &Checked, right: u32) -> Result<Rows<Ref>, NoMemory>
+    requires { right < length (checked_policy checked.now).rights }
+    ensures { IfOk result (λ rows. option_map places_read (slice_get (checked_policy checked.now).rights right) ≡ Some rows.items) }
+{
+    let rights = checked.policy().rights.slice();
+    let places = places_read(alloc, &rights[right as usize])?;
+    Ok(Rows::from(places))
+}

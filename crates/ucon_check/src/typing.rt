@@ -1,0 +1,160 @@
+//! The first fault of a policy.
+
+ghost use Rattle.std.specs.Prelude.{◌≡◌, ◌+◌, [], map, option_map, IfOk, IfErr};
+ghost use Rattle.ucon_model.specs.Checked.{checked_policy};
+ghost use Rattle.ucon_model.specs.Views.{predicate_of, update_of, right_of, policy_of};
+ghost use Rattle.ucon_model.specs.Typing.{attr_fault, env_fault, predicate_fault, update_fault, first_fault_of, one_item, items_of, whole_fault, right_fault, type_fault, IsTyped};
+ghost use Rattle.ucon_check.specs.Numbers.{told_number};
+ghost use Rattle.ucon_check.specs.Told.{told, IsTold, Answers};
+
+use crate::CheckFault;
+use crate::cores::is_core;
+use crate::fault::after;
+use crate::items::{check_attr, check_env, check_heading, check_predicate, check_update};
+use crate::places::places_read;
+use std::alloc::Global;
+use ucon_model::{AttrDecl, Checked, EnvDecl, Policy, Predicate, Right, Update};
+
+/// The most distinct places that a right's ongoing predicates may read.
+const MOST_PLACES: usize = 32;
+
+/// The attributes, the first of which is this item.
+fn check_attrs(first: u32, attrs: &[AttrDecl]) -> Result<(), CheckFault>
+    ensures { Answers (first_fault_of one_item attr_fault [] first attrs.now) result }
+{
+    let mut item = first;
+    for (i, d) in attrs.iter().enumerate() {
+        check_attr(&attrs[..i], item, d)?;
+        item = after(item, 1);
+    }
+    Ok(())
+}
+
+/// The variables, the first of which is this item.
+fn check_envs(first: u32, envs: &[EnvDecl]) -> Result<(), CheckFault>
+    ensures { Answers (first_fault_of one_item env_fault [] first envs.now) result }
+{
+    let mut item = first;
+    for (i, d) in envs.iter().enumerate() {
+        check_env(&envs[..i], item, d)?;
+        item = after(item, 1);
+    }
+    Ok(())
+}
+
+/// A right's predicates, the first of which is this item.
+fn check_predicates(
+    alloc: Global,
+    policy: &Policy,
+    first: u32,
+    preds: &[Predicate],
+) -> Result<(), CheckFault>
+    ensures { Answers (first_fault_of one_item (predicate_fault (policy_of policy.now)) [] first (map predicate_of preds.now)) result }
+{
+    let mut item = first;
+    for (i, p) in preds.iter().enumerate() {
+        check_predicate(alloc, policy, &preds[..i], item, p)?;
+        item = after(item, 1);
+    }
+    Ok(())
+}
+
+/// A right's updates, the first of which is this item.
+fn check_updates(
+    alloc: Global,
+    policy: &Policy,
+    first: u32,
+    updates: &[Update],
+) -> Result<(), CheckFault>
+    ensures { Answers (first_fault_of one_item (update_fault (policy_of policy.now)) [] first (map update_of updates.now)) result }
+{
+    let mut item = first;
+    for u in updates {
+        check_update(alloc, policy, item, u)?;
+        item = after(item, 1);
+    }
+    Ok(())
+}
+
+/// A right as a whole.
+fn check_whole(alloc: Global, right: &Right) -> Result<(), CheckFault>
+    ensures { Answers (whole_fault (right_of right.now)) result }
+{
+    if !is_core(right) {
+        return Err(CheckFault::NotCore(right.name));
+    }
+    let count = places_read(alloc, right)?.len();
+    if count > MOST_PLACES {
+        return Err(CheckFault::TooManyCells(right.name, after(0, count)));
+    }
+    Ok(())
+}
+
+/// A right, behind those before it, whose heading is this item.
+fn check_right(
+    alloc: Global,
+    policy: &Policy,
+    before: &[Right],
+    item: u32,
+    right: &Right,
+) -> Result<(), CheckFault>
+    ensures { Answers (right_fault (policy_of policy.now) (map right_of before.now) item (right_of right.now)) result }
+{
+    let preds = right.preds.slice();
+    let first_pred = after(item, 1);
+    let first_update = after(first_pred, preds.len());
+    check_heading(before, item, right)?;
+    check_predicates(alloc, policy, first_pred, preds)?;
+    check_updates(alloc, policy, first_update, right.updates.slice())?;
+    check_whole(alloc, right)
+}
+
+/// The item behind a right whose heading is this item.
+fn after_right(item: u32, right: &Right) -> u32
+    ensures { result ≡ told_number (item + items_of (right_of right.now)) }
+{
+    let first_update = after(after(item, 1), right.preds.len());
+    after(first_update, right.updates.len())
+}
+
+/// The rights, of which the first one's heading is this item.
+fn check_rights(
+    alloc: Global,
+    policy: &Policy,
+    first: u32,
+    rights: &[Right],
+) -> Result<(), CheckFault>
+    ensures { Answers (first_fault_of items_of (right_fault (policy_of policy.now)) [] first (map right_of rights.now)) result }
+{
+    let mut item = first;
+    for (i, r) in rights.iter().enumerate() {
+        check_right(alloc, policy, &rights[..i], item, r)?;
+        item = after_right(item, r);
+    }
+    Ok(())
+}
+
+fn check_policy(alloc: Global, policy: &Policy) -> Result<(), CheckFault>
+    ensures { Answers (type_fault (policy_of policy.now)) result }
+{
+    let attrs = policy.attrs.slice();
+    let envs = policy.envs.slice();
+    let first_env = after(1, attrs.len());
+    check_attrs(1, attrs)?;
+    check_envs(first_env, envs)?;
+    check_rights(
+        alloc,
+        policy,
+        after(first_env, envs.len()),
+        policy.rights.slice(),
+    )
+}
+
+/// The policy, if it is well typed, or its first fault.
+pub fn check(alloc: Global, policy: Policy) -> Result<Checked, CheckFault>
+    ensures ok { IfOk result (λ c. (checked_policy c ≡ policy_of policy) × IsTyped (policy_of policy)) }
+    ensures err { IfErr result (IsTold (option_map told (type_fault (policy_of policy)))) }
+{
+    check_policy(alloc, &policy)?;
+    Ok(Checked::new(policy))
+}
