@@ -16,10 +16,10 @@ use Rattle.ucon_model.specs.declared.session.SessionState.TheVariants.{Denied, A
 use Rattle.ucon_model.specs.Plain.{Bytes, PlainPolicy}
 use Rattle.ucon_model.specs.Action.{Action, Trace, subject, object, write, env, tick, act, tries, wait, permit, deny, ends, revoke, extended}
 use Rattle.ucon_model.specs.Readings.{tick_of, entity_names, declared_env}
-use Rattle.ucon_model.specs.Truth.{place_of}
+use Rattle.ucon_model.specs.Truth.{readings, place_of}
 use Rattle.ucon_model.specs.Legal.{IsLegal, AreLegal}
 use Rattle.ucon_state.specs.declared.act.Act.{Act}
-use Rattle.ucon_state.specs.Tables.{Tables, entities_of, entity_number, cell_of, env_place, place_in, session_in, counts_in}
+use Rattle.ucon_state.specs.Tables.{Tables, entities_of, entity_number, cell_of, env_place, place_in, session_in, readings_in, counts_in}
 use Rattle.ucon_state.specs.Applied.{with_cell, with_variable, moved_to, with_state, applied, opening_tables, tables_of}
 use Rattle.ucon_state.specs.Following.{IsLegalTrace, all_applied, counts_of, Keeps}
 use Rattle.ucon_state.proofs.Following.Places.{passes_there, placed_where_found, placed_where_first}
@@ -201,6 +201,12 @@ keeps P t T h = record {
 
 pub tables_keep : (P : PlainPolicy) (T : Trace) → IsLegalTrace P T → Keeps P (tables_of P T) T
 tables_keep P T legal = keeps P (tables_of P T) T (follows P T legal)
+
+-- readings that agree point by point are one
+pub readings_in-tables_of : (P : PlainPolicy) (T : Trace) → IsLegalTrace P T → readings_in P (tables_of P T) ≡ readings P T
+readings_in-tables_of P T legal =
+    let agree = (tables_keep P T legal).readings_agree in
+    λ i. record { now = agree.now i; row = λ n. agree.row n i; at = λ row place. agree.at row place i; done_at = λ s a o. agree.done_at s a o i }
 
 -- ---- traces that go on
 
