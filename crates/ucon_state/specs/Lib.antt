@@ -4,3 +4,4 @@ pub mod Undo
 pub mod Sound
 pub mod Views
 pub mod Shown
+pub mod Following

@@ -1,0 +1,219 @@
+-- The tables after a legal trace keep it.
+use Rattle.std.proofs.Common.{◌≡◌, ◌∙◌, sym, ap, subst, ℕ, ℤ, ◌-◌, true, List, [], ◌∷◌, map, refl}
+use Rattle.std.specs.Prelude.{◌↔◌, Option, Some, None, is_some, slice_get, slice_set, IsTrue, IsSomeAnd}
+use Rattle.std.specs.Option.{option_map_or}
+use Rattle.std.specs.Str.{bytes_eq}
+use Rattle.ucon_base.specs.declared.value.Side.{Side}
+use Rattle.ucon_base.specs.declared.value.Side.TheVariants as sides
+use Rattle.ucon_base.specs.declared.value.Value.{Value}
+use Rattle.ucon_base.specs.Admits.{admits}
+use Rattle.ucon_model.specs.declared.formula.Ref.{Ref}
+use Rattle.ucon_model.specs.declared.formula.Ref.TheVariants as refs
+use Rattle.ucon_model.specs.declared.policy.EnvDecl.{EnvDecl}
+use Rattle.ucon_model.specs.declared.session.SessionRow.{SessionRow}
+use Rattle.ucon_model.specs.declared.session.SessionState.{SessionState}
+use Rattle.ucon_model.specs.declared.session.SessionState.TheVariants.{Denied, Accessing, Revoked, Ended}
+use Rattle.ucon_model.specs.Plain.{Bytes, PlainPolicy}
+use Rattle.ucon_model.specs.Action.{Action, Trace, subject, object, write, env, tick, act, tries, wait, permit, deny, ends, revoke, extended}
+use Rattle.ucon_model.specs.Readings.{tick_of, entity_names, declared_env}
+use Rattle.ucon_model.specs.Truth.{readings, place_of}
+use Rattle.ucon_model.specs.Legal.{IsLegal, AreLegal}
+use Rattle.ucon_state.specs.declared.act.Act.{Act}
+use Rattle.ucon_state.specs.Tables.{Tables, entities_of, entity_number, cell_of, env_place, place_in, session_in, readings_in, counts_in}
+use Rattle.ucon_state.specs.Applied.{with_cell, with_variable, moved_to, with_state, applied, opening_tables, tables_of}
+use Rattle.ucon_state.specs.Following.{IsLegalTrace, all_applied, counts_of, Keeps}
+use Rattle.ucon_state.proofs.Following.Places.{passes_there, placed_where_found, placed_where_first}
+use Rattle.ucon_state.proofs.Following.Names.{same_name}
+use Rattle.ucon_state.proofs.Following.Entities.{KeepsEntities, keeps_entities_opening, keeps_entities_after, cell_where_declared}
+use Rattle.ucon_state.proofs.Following.Acts.{KeepsActs, keeps_acts_opening, keeps_acts_act}
+use Rattle.ucon_state.proofs.Following.Sessions.{KeepsSessions, keeps_sessions_opening, keeps_sessions_after, accessing_kept, by_option}
+use Rattle.ucon_state.proofs.Following.Variables.{KeepsVariables, keeps_variables_opening, keeps_variables_given}
+
+-- ---- what an action leaves
+
+moved_leaves : {A : Type 0} (read : Tables → A) (t : Tables) (n : ℕ) (state : SessionState) → ((rows : List SessionRow) → read (record t { sessions = rows }) ≡ read t)
+    → read (with_state t n state) ≡ read t
+moved_leaves read t n state each =
+    by_option read t (λ row. record t { sessions = slice_set t.sessions (n - 1) (moved_to state t.tick row) }) (session_in t n)
+    (λ row. each (slice_set t.sessions (n - 1) (moved_to state t.tick row)))
+
+-- ---- variables
+
+abbrev LeavesVariables : Action → Type 0
+LeavesVariables (env name v) = ⊥
+LeavesVariables a = Unit {0}
+
+same_variables : (P : PlainPolicy) (t : Tables) (a : Action) → LeavesVariables a → (applied P a t).variables ≡ t.variables
+same_variables P t (subject name) leaves = refl
+same_variables P t (object name) leaves = refl
+same_variables P t (write side name attr v) leaves = by_option (λ u. u.variables) t (λ cell. with_cell t cell v) (cell_of P t side name attr) (λ cell. refl)
+same_variables P t (env name v) leaves = absurd leaves
+same_variables P t (tick now) leaves = refl
+same_variables P t (act s a o) leaves = refl
+same_variables P t (tries n caller s r o) leaves = refl
+same_variables P t (wait n label) leaves = refl
+same_variables P t (permit n) leaves = moved_leaves (λ u. u.variables) t n Accessing (λ rows. refl)
+same_variables P t (deny n label) leaves = moved_leaves (λ u. u.variables) t n Denied (λ rows. refl)
+same_variables P t (ends n) leaves = moved_leaves (λ u. u.variables) t n Ended (λ rows. refl)
+same_variables P t (revoke n label) leaves = moved_leaves (λ u. u.variables) t n Revoked (λ rows. refl)
+
+still_variables : (P : PlainPolicy) (variables : List Value) (T : Trace) (a : Action) → LeavesVariables a → KeepsVariables P variables T → KeepsVariables P variables (a ∷ T)
+still_variables P variables T (env name v) leaves h = absurd leaves
+still_variables P variables T a leaves h = record { count = h.count; values = h.values }
+
+variables_left : (P : PlainPolicy) (t : Tables) (T : Trace) (a : Action) → LeavesVariables a → KeepsVariables P t.variables T → KeepsVariables P (applied P a t).variables (a ∷ T)
+variables_left P t T a leaves h =
+    subst (λ (variables : List Value). KeepsVariables P variables (a ∷ T)) (sym (same_variables P t a leaves)) (still_variables P t.variables T a leaves h)
+
+is_declared : (o : Option EnvDecl) (v : Value) → IsSomeAnd o (λ d. IsTrue (admits d.kind v)) → is_some o ≡ true
+is_declared None v h = absurd h
+is_declared (Some d) v h = refl
+
+variable_given : (P : PlainPolicy) (t : Tables) (T : Trace) (name : Bytes) (v : Value) (o : Option ℕ) → env_place P name ≡ o → is_some o ≡ true → KeepsVariables P t.variables T
+    → KeepsVariables P (option_map_or (λ place. with_variable t place v) o t).variables (env name v ∷ T)
+variable_given P t T name v None is there h = absurd cc
+variable_given P t T name v (Some place) is there h = keeps_variables_given P t.variables T name v place h is
+
+keeps_variables_after : (P : PlainPolicy) (t : Tables) (T : Trace) (a : Action) → IsLegal P T a → KeepsVariables P t.variables T → KeepsVariables P (applied P a t).variables (a ∷ T)
+keeps_variables_after P t T (env name v) legal h =
+    variable_given P t T name v (env_place P name) refl (placed_where_first (λ d. bytes_eq name d.name) P.envs ∙ is_declared (declared_env P.envs name) v legal) h
+keeps_variables_after P t T a legal h = variables_left P t T a tt h
+
+-- ---- the tick
+
+keeps_tick_after : (P : PlainPolicy) (t : Tables) (T : Trace) (a : Action) → t.tick ≡ tick_of T → (applied P a t).tick ≡ tick_of (a ∷ T)
+keeps_tick_after P t T (subject name) h = h
+keeps_tick_after P t T (object name) h = h
+keeps_tick_after P t T (write side name attr v) h = by_option (λ u. u.tick) t (λ cell. with_cell t cell v) (cell_of P t side name attr) (λ cell. refl) ∙ h
+keeps_tick_after P t T (env name v) h = by_option (λ u. u.tick) t (λ place. with_variable t place v) (env_place P name) (λ place. refl) ∙ h
+keeps_tick_after P t T (tick now) h = refl
+keeps_tick_after P t T (act s a o) h = h
+keeps_tick_after P t T (tries n caller s r o) h = h
+keeps_tick_after P t T (wait n label) h = h
+keeps_tick_after P t T (permit n) h = moved_leaves (λ u. u.tick) t n Accessing (λ rows. refl) ∙ h
+keeps_tick_after P t T (deny n label) h = moved_leaves (λ u. u.tick) t n Denied (λ rows. refl) ∙ h
+keeps_tick_after P t T (ends n) h = moved_leaves (λ u. u.tick) t n Ended (λ rows. refl) ∙ h
+keeps_tick_after P t T (revoke n label) h = moved_leaves (λ u. u.tick) t n Revoked (λ rows. refl) ∙ h
+
+-- ---- acts
+
+abbrev LeavesActs : Action → Type 0
+LeavesActs (act s a o) = ⊥
+LeavesActs a = Unit {0}
+
+same_acts : (P : PlainPolicy) (t : Tables) (a : Action) → LeavesActs a → (applied P a t).acts ≡ t.acts
+same_acts P t (subject name) leaves = refl
+same_acts P t (object name) leaves = refl
+same_acts P t (write side name attr v) leaves = by_option (λ u. u.acts) t (λ cell. with_cell t cell v) (cell_of P t side name attr) (λ cell. refl)
+same_acts P t (env name v) leaves = by_option (λ u. u.acts) t (λ place. with_variable t place v) (env_place P name) (λ place. refl)
+same_acts P t (tick now) leaves = refl
+same_acts P t (act s a o) leaves = absurd leaves
+same_acts P t (tries n caller s r o) leaves = refl
+same_acts P t (wait n label) leaves = refl
+same_acts P t (permit n) leaves = moved_leaves (λ u. u.acts) t n Accessing (λ rows. refl)
+same_acts P t (deny n label) leaves = moved_leaves (λ u. u.acts) t n Denied (λ rows. refl)
+same_acts P t (ends n) leaves = moved_leaves (λ u. u.acts) t n Ended (λ rows. refl)
+same_acts P t (revoke n label) leaves = moved_leaves (λ u. u.acts) t n Revoked (λ rows. refl)
+
+still_acts : (es : List (Act × ℤ)) (T : Trace) (a : Action) → LeavesActs a → KeepsActs es T → KeepsActs es (a ∷ T)
+still_acts es T (act s a o) leaves h = absurd leaves
+still_acts es T a leaves h = record { moments = h.moments; rows = h.rows; count = h.count }
+
+acts_left : (P : PlainPolicy) (t : Tables) (T : Trace) (a : Action) → LeavesActs a → KeepsActs t.acts T → KeepsActs (applied P a t).acts (a ∷ T)
+acts_left P t T a leaves h = subst (λ (es : List (Act × ℤ)). KeepsActs es (a ∷ T)) (sym (same_acts P t a leaves)) (still_acts t.acts T a leaves h)
+
+keeps_acts_after : (P : PlainPolicy) (t : Tables) (T : Trace) (a : Action) → t.tick ≡ tick_of T → KeepsActs t.acts T → KeepsActs (applied P a t).acts (a ∷ T)
+keeps_acts_after P t T (act s a o) now h = keeps_acts_act t.acts T t.tick s a o now h
+keeps_acts_after P t T a now h = acts_left P t T a tt h
+
+-- ---- all of it
+
+pub record Follows (P : PlainPolicy) (t : Tables) (T : Trace) : Type 0 where
+  pub entities : KeepsEntities P t T
+  pub variables : KeepsVariables P t.variables T
+  pub tick : t.tick ≡ tick_of T
+  pub acts : KeepsActs t.acts T
+  pub sessions : KeepsSessions t T
+
+pub follows_opening : (P : PlainPolicy) → Follows P (opening_tables P) []
+follows_opening P = record {
+  entities = keeps_entities_opening P;
+  variables = keeps_variables_opening P;
+  tick = refl;
+  acts = keeps_acts_opening;
+  sessions = keeps_sessions_opening P;
+}
+
+pub follows_after : (P : PlainPolicy) (t : Tables) (T : Trace) (a : Action) → IsLegalTrace P T → IsLegal P T a → Follows P t T → Follows P (applied P a t) (a ∷ T)
+follows_after P t T a before legal h = record {
+  entities = keeps_entities_after P t T a before legal h.entities;
+  variables = keeps_variables_after P t T a legal h.variables;
+  tick = keeps_tick_after P t T a h.tick;
+  acts = keeps_acts_after P t T a h.tick h.acts;
+  sessions = keeps_sessions_after P t T a h.tick legal h.sessions;
+}
+
+pub follows : (P : PlainPolicy) (T : Trace) → IsLegalTrace P T → Follows P (tables_of P T) T
+follows P [] legal = follows_opening P
+follows P (a ∷ T) legal = follows_after P (tables_of P T) T a legal.0 legal.1 (follows P T legal.0)
+
+-- ---- what is kept
+
+same_place : (P : PlainPolicy) (t : Tables) (T : Trace) → Follows P t T → (row : SessionRow) (place : Ref) → place_in P t row place ≡ place_of P T row place
+same_place P t T h row (refs.Subject attr) = h.entities.values sides.Subject row.subject attr
+same_place P t T h row (refs.Object attr) = h.entities.values sides.Object row.object attr
+same_place P t T h row (refs.Env name) = h.variables.values name
+
+same_counts : (P : PlainPolicy) (t : Tables) (T : Trace) → Follows P t T → counts_in t ≡ counts_of T
+same_counts P t T h = λ i. record {
+  subjects = (h.entities.names sides.Subject).count i;
+  objects = (h.entities.names sides.Object).count i;
+  acts = h.acts.count i;
+  sessions = h.sessions.count i;
+  accessing = accessing_kept t T h.sessions i;
+}
+
+named_by : (name : Bytes) (o : Option Bytes) → IsSomeAnd o (λ e. bytes_eq name e ≡ true) → o ≡ Some name
+named_by name None h = absurd h
+named_by name (Some e) h = ap (λ (e : Bytes). Some e) (sym (same_name name e h))
+
+number_is_place : (P : PlainPolicy) (t : Tables) (T : Trace) → Follows P t T → (side : Side) (name : Bytes) (i : ℕ)
+    → (entity_number t side name ≡ Some i) ↔ (slice_get (entity_names side T) i ≡ Some name)
+number_is_place P t T h side name i =
+    let names = h.entities.names side in
+    subst (λ (es : List Bytes). (entity_number t side name ≡ Some i) ↔ (slice_get es i ≡ Some name)) names.names (
+      λ at. named_by name (slice_get (map (λ (e : Bytes × ℕ). e.0) (entities_of side t)) i) (passes_there (bytes_eq name) (map (λ (e : Bytes × ℕ). e.0) (entities_of side t)) i at),
+      names.number name i,
+    )
+
+pub keeps : (P : PlainPolicy) (t : Tables) (T : Trace) → Follows P t T → Keeps P t T
+keeps P t T h = record {
+  readings_agree = record { now = h.tick; row = h.sessions.rows; at = same_place P t T h; done_at = h.acts.moments };
+  counts_agree = same_counts P t T h;
+  names = λ side. (h.entities.names side).names;
+  entity_is_there = λ side name. placed_where_found (bytes_eq name) (entities_of side t) ∙ (h.entities.names side).there name;
+  number_is_place = number_is_place P t T h;
+  cell_is_there = cell_where_declared P t T h.entities;
+  attribute_agrees = h.entities.values;
+  variable_agrees = h.variables.values;
+  act_rows_agree = h.acts.rows;
+}
+
+pub tables_keep : (P : PlainPolicy) (T : Trace) → IsLegalTrace P T → Keeps P (tables_of P T) T
+tables_keep P T legal = keeps P (tables_of P T) T (follows P T legal)
+
+-- readings that agree point by point are one
+pub readings_in-tables_of : (P : PlainPolicy) (T : Trace) → IsLegalTrace P T → readings_in P (tables_of P T) ≡ readings P T
+readings_in-tables_of P T legal =
+    let agree = (tables_keep P T legal).readings_agree in
+    λ i. record { now = agree.now i; row = λ n. agree.row n i; at = λ row place. agree.at row place i; done_at = λ s a o. agree.done_at s a o i }
+
+-- ---- traces that go on
+
+pub legal_extended : (P : PlainPolicy) (T : Trace) (actions : List Action) → IsLegalTrace P T → AreLegal P T actions → IsLegalTrace P (extended T actions)
+legal_extended P T [] before legal = before
+legal_extended P T (a ∷ actions) before legal = legal_extended P (a ∷ T) actions (before, legal.0) legal.1
+
+pub tables_of-extended : (P : PlainPolicy) (T : Trace) (actions : List Action) → tables_of P (extended T actions) ≡ all_applied P actions (tables_of P T)
+tables_of-extended P T [] = refl
+tables_of-extended P T (a ∷ actions) = tables_of-extended P (a ∷ T) actions

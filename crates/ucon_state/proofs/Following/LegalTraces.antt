@@ -1,0 +1,26 @@
+-- The traces of histories are legal.
+use Rattle.std.proofs.Common.{◌≡◌, sym, subst, [], ◌∷◌, ◌++◌, refl}
+use Rattle.ucon_model.specs.declared.command.Entry.{Entry}
+use Rattle.ucon_model.specs.Plain.{PlainPolicy}
+use Rattle.ucon_model.specs.Action.{Trace}
+use Rattle.ucon_model.specs.Block.{block, after}
+use Rattle.ucon_model.specs.Typing.{IsTyped}
+use Rattle.ucon_model.specs.History.{History, trace_from, trace}
+use Rattle.ucon_model.proofs.Histories.{legal_actions_after}
+use Rattle.ucon_state.specs.Following.{IsLegalTrace}
+use Rattle.ucon_state.proofs.Following.Keeping.{legal_extended}
+
+one_more : (P : PlainPolicy) (T : Trace) (G : History) (e : Entry) → trace_from P T (G ++ e ∷ []) ≡ after P (trace_from P T G) e.caller e.command
+one_more P T [] e = refl
+one_more P T (d ∷ G) e = one_more P (after P T d.caller d.command) G e
+
+legal_from : (P : PlainPolicy) → IsTyped P → (G H : History) → IsLegalTrace P (trace P G) → IsLegalTrace P (trace_from P (trace P G) H)
+legal_from P typed G [] legal = legal
+legal_from P typed G (e ∷ H) legal =
+    let next : IsLegalTrace P (after P (trace P G) e.caller e.command) =
+    legal_extended P (trace P G) (block P (trace P G) e.caller e.command) legal (legal_actions_after P typed G e.caller e.command) in
+    subst (λ (T : Trace). IsLegalTrace P (trace_from P T H)) (one_more P [] G e)
+    (legal_from P typed (G ++ e ∷ []) H (subst (IsLegalTrace P) (sym (one_more P [] G e)) next))
+
+pub legal_trace_of : (P : PlainPolicy) → IsTyped P → (H : History) → IsLegalTrace P (trace P H)
+legal_trace_of P typed H = legal_from P typed [] H tt

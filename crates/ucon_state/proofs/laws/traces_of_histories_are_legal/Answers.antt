@@ -1,0 +1,5 @@
+use Rattle.ucon_state.proofs.Following.LegalTraces.{legal_trace_of}
+use Rattle.ucon_state.proofs.laws.traces_of_histories_are_legal.Goals as goal
+
+pub returns : goal.returns
+returns c = legal_trace_of
