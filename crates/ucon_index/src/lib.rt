@@ -2,5 +2,6 @@
 #![tactic(auto)]
 
 mod index;
+mod newest;
 
 pub use index::Index;
