@@ -123,8 +123,8 @@ module _ (session place node item : ℕ) (added : List ℕ) (first_places first_
         items_room = omega arith;
         gone = subst (AreGone (sessions_of places.hidden)) (sym step_places)
             (are_gone_set session (sessions_of places.hidden) all place new_place absent_owners
-              (λ other differs absent. (λ e. differs (sym e), subst (λ (p : Place). IsAbsent other (sessions_in p.listed)) before absent))
-              short work.gone);
+            (λ other differs absent. (λ e. differs (sym e), subst (λ (p : Place). IsAbsent other (sessions_in p.listed)) before absent))
+            short work.gone);
         is_added = subst (IsAdded (seen first_places first_sessions) session (added ++ place ∷ [])) (sym step_seen) (IsAdded-push (seen first_places first_sessions) session added (seen places sessions) place node work.is_added);
         untouched = λ other absent. get_or-set_other places.lists place other _ [] (apart added other place absent) ∙ work.untouched other (front added other place absent);
       }
@@ -132,9 +132,11 @@ module _ (session place node item : ℕ) (added : List ℕ) (first_places first_
       one_more : (xs : List ℕ) (x : ℕ) → length (xs ++ x ∷ []) ≡ length xs + 1
       one_more [] x = omega arith
       one_more (y ∷ ys) x = let rest = one_more ys x in omega arith
+
       apart : (xs : List ℕ) (other x : ℕ) → IsAbsent other (xs ++ x ∷ []) → other ≢ x
       apart [] other x absent = λ e. absent.0 (sym e)
       apart (y ∷ ys) other x absent = apart ys other x absent.1
+
       front : (xs : List ℕ) (other x : ℕ) → IsAbsent other (xs ++ x ∷ []) → IsAbsent other xs
       front [] other x absent = tt
       front (y ∷ ys) other x absent = (absent.0, front ys other x absent.1)

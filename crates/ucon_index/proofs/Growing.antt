@@ -90,8 +90,7 @@ can_return_more lists n (item ∷ rest) can =
     let same = at_front_of lists n item.list can.0 in
     let size = length-append lists (replicate n []) in
     let within = can.0 in
-    let pair : ℕ × ℕ = (item.node, item.owner) in
-    (
+    let pair : ℕ × ℕ = (item.node, item.owner) in (
       omega arith,
       can.1,
       can.2 ∙ ap (first_or None) (sym same),
@@ -119,11 +118,10 @@ forgotten from (xs ∷ rest) hidden = ap (λ ps. seen_at from xs [] ∷ ps) (for
 
 each_forgotten : (places : List Place) → EachPlace IsOnce places → EachPlace IsOnce (map forget_at places)
 each_forgotten [] each = tt
-each_forgotten (place ∷ rest) each =
-    (
-      subst IsDistinct (sym (append-nil (sessions_in place.listed))) (distinct_front (sessions_in place.listed) (sessions_out place.hidden) each.0),
-      each_forgotten rest each.1,
-    )
+each_forgotten (place ∷ rest) each = (
+  subst IsDistinct (sym (append-nil (sessions_in place.listed))) (distinct_front (sessions_in place.listed) (sessions_out place.hidden) each.0),
+  each_forgotten rest each.1,
+)
 
 module _ (places sessions : Lists) (sound : IsSound places sessions) where
   abbrev pub free_places : Lists

@@ -62,7 +62,6 @@ fewer other [] ys node s absent = absent.1
 fewer other (x ∷ xs) ys node s absent = (absent.0, fewer other xs ys node s absent.1)
 
 module _ (session item : ℕ) (first_places first_sessions places sessions : Lists) (apart : IsAbsent session (sessions_of first_places.hidden)) (work : IsHiding session first_places first_sessions places sessions) (next : NextItem session item places sessions) (distinct : IsDistinct (nodes_of places)) (items_distinct : IsDistinct (nodes_of sessions)) where
-
   abbrev after_places : Lists
   after_places = record places { lists = set places.lists next.spot.place (next.spot.front ++ next.spot.back); hidden = item_of next.spot.place next.node session next.spot.front next.spot.back ∷ places.hidden }
 
@@ -81,7 +80,7 @@ module _ (session item : ℕ) (first_places first_sessions places sessions : Lis
   step_begun : HasBegun session first_places after_places
   step_begun =
       elim work.begun [
-        inl same ↦ inr (subst (λ v. IsDistinct (nodes_of v)) same distinct, ap (λ v. on_top session (sessions_of v.hidden)) same ∙ on_top-other session (sessions_of first_places.hidden) apart)
+        | inl same ↦ inr (subst (λ v. IsDistinct (nodes_of v)) same distinct, ap (λ v. on_top session (sessions_of v.hidden)) same ∙ on_top-other session (sessions_of first_places.hidden) apart)
         | inr begun ↦ inr (begun.0, ap (on_top session) begun.1 ∙ on_top-same session (sessions_of first_places.hidden))
       ]
 
@@ -89,16 +88,16 @@ module _ (session item : ℕ) (first_places first_sessions places sessions : Lis
   step_goal =
       ap (map (hide_at session)) step_places
       ∙ map-set_same (hide_at session) (places_from 0 places.lists places.hidden) next.spot.place _ empty_place
-          (hide_at-absent session _ (absent_left session next.spot.front next.spot.back (stood_at next.spot.place places.hidden) step_alone)
-          ∙ sym (ap (hide_at session) step_before ∙ hide_at-there session next.node next.spot.front next.spot.back (stood_at next.spot.place places.hidden) step_alone.front_absent))
+      (hide_at-absent session _ (absent_left session next.spot.front next.spot.back (stood_at next.spot.place places.hidden) step_alone)
+      ∙ sym (ap (hide_at session) step_before ∙ hide_at-there session next.node next.spot.front next.spot.back (stood_at next.spot.place places.hidden) step_alone.front_absent))
 
   step_others : AreGone (sessions_of first_places.hidden) (places_from 0 after_places.lists after_places.hidden)
   step_others =
       let short : next.spot.place < length (places_from 0 places.lists places.hidden) = subst (λ n. next.spot.place < n) (sym (places-length 0 places.lists places.hidden)) next.spot.within in
       subst (AreGone (sessions_of first_places.hidden)) (sym step_places)
       (are_gone_set session (sessions_of first_places.hidden) (places_from 0 places.lists places.hidden) next.spot.place _ apart
-        (λ other differs absent. fewer other next.spot.front next.spot.back next.node session (subst (λ place. IsAbsent other (sessions_in place.listed)) step_before absent))
-        short work.others)
+      (λ other differs absent. fewer other next.spot.front next.spot.back next.node session (subst (λ place. IsAbsent other (sessions_in place.listed)) step_before absent))
+      short work.others)
 
   pub step_places_is : links.hide places next.node ≡ after_places
   step_places_is = hide_is places next.spot.place next.node session next.spot.front next.spot.back next.spot.within next.spot.there distinct
@@ -148,7 +147,7 @@ module _ (session : ℕ) (first_places first_sessions places sessions : Lists) (
   all_begun : IsDistinct (nodes_of first_places) × (sessions_of places.hidden ≡ session ∷ sessions_of first_places.hidden)
   all_begun =
       elim work.begun [
-        inl same ↦ let no_more = gone-not_there session (places_from 0 first_places.lists first_places.hidden) (subst (λ v. IsGone session (places_from 0 v.lists v.hidden)) same all_gone) in let no : ⊥ = cc in absurd no
+        | inl same ↦ let no_more = gone-not_there session (places_from 0 first_places.lists first_places.hidden) (subst (λ v. IsGone session (places_from 0 v.lists v.hidden)) same all_gone) in let no : ⊥ = cc in absurd no
         | inr begun ↦ begun
       ]
 

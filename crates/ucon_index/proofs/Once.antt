@@ -25,8 +25,7 @@ distinct_pull n (x ∷ xs) ys distinct =
 pub distinct_push : (n : ℕ) (xs ys : List ℕ) → Pulled n xs ys → IsDistinct (xs ++ n ∷ ys)
 distinct_push n [] ys pulled = (pulled.absent, pulled.distinct)
 distinct_push n (x ∷ xs) ys pulled =
-    let absent = pulled.distinct.0 in
-    (
+    let absent = pulled.distinct.0 in (
       absent_join x xs (n ∷ ys) (absent_front x xs ys absent) (λ e. pulled.absent.0 (sym e), absent_back x xs ys absent),
       distinct_push n xs ys (record { absent = pulled.absent.1; distinct = pulled.distinct.1 }),
     )

@@ -70,8 +70,8 @@ module _ (session item : ℕ) (first_places first_sessions places sessions : Lis
   step_goal =
       ap (map (remove_at session)) step_places
       ∙ map-set_same (remove_at session) all place left_place empty_place
-          (ap (λ xs. record { listed = xs; hidden = stood_at place places.hidden }) (without-absent session (next.spot.front ++ next.spot.back) (absent_left session next.spot.front next.spot.back (stood_at place places.hidden) step_alone))
-          ∙ sym (ap (remove_at session) step_before ∙ ap (λ xs. record { listed = xs; hidden = stood_at place places.hidden }) (without-there session next.node next.spot.front next.spot.back step_alone.front_absent)))
+      (ap (λ xs. record { listed = xs; hidden = stood_at place places.hidden }) (without-absent session (next.spot.front ++ next.spot.back) (absent_left session next.spot.front next.spot.back (stood_at place places.hidden) step_alone))
+      ∙ sym (ap (remove_at session) step_before ∙ ap (λ xs. record { listed = xs; hidden = stood_at place places.hidden }) (without-there session next.node next.spot.front next.spot.back step_alone.front_absent)))
 
   one_less : suc (model.nodes_of session (places_from 0 after_places.lists places.hidden)) ≡ model.nodes_of session all
   one_less =
@@ -86,8 +86,8 @@ module _ (session item : ℕ) (first_places first_sessions places sessions : Lis
   step_gone =
       subst (AreGone (sessions_of places.hidden)) (sym step_places)
       (are_gone_set session (sessions_of places.hidden) all place left_place apart
-        (λ other differs absent. fewer other next.spot.front next.spot.back next.node session (subst (λ (p : Place). IsAbsent other (sessions_in p.listed)) step_before absent))
-        short work.gone)
+      (λ other differs absent. fewer other next.spot.front next.spot.back next.node session (subst (λ (p : Place). IsAbsent other (sessions_in p.listed)) step_before absent))
+      short work.gone)
 
   pub removed_places_is : links.unlink places next.node ≡ after_places
   removed_places_is = unlink_is places place next.node session next.spot.front next.spot.back next.spot.within next.spot.there distinct

@@ -141,15 +141,15 @@ module _ (lists items : List (List (ℕ × ℕ))) (node item : Item) (rest rest_
           place_is ∙ ap (λ xs. record { listed = xs; hidden = stood_of node ∷ stood_at node.list rest }) node_gap.parts in
           ap (map (unhide_at node.owner)) after_seen
           ∙ map-set_same (unhide_at node.owner) (places_from 0 lists (node ∷ rest)) node.list _ empty_place
-              (unhide_at-absent node.owner _ alone_back.hidden_absent
-              ∙ sym (ap (unhide_at node.owner) here ∙ unhide_at-gap node.owner node.node node.before node.after front back (stood_at node.list rest) node_gap.front_ends front_distinct))
+          (unhide_at-absent node.owner _ alone_back.hidden_absent
+          ∙ sym (ap (unhide_at node.owner) here ∙ unhide_at-gap node.owner node.node node.before node.after front back (stood_at node.list rest) node_gap.front_ends front_distinct))
 
       gone_kept : IsAbsent node.owner others → AreGone others (places_from 0 after_lists rest)
       gone_kept apart =
           subst (AreGone others) (sym after_seen)
           (are_gone_set node.owner others (places_from 0 lists (node ∷ rest)) node.list _ apart
-            (λ other differs absent. more other front back node.node node.owner differs (subst (λ xs. IsAbsent other (sessions_in xs)) node_gap.parts (subst (λ (p : Place). IsAbsent other (sessions_in p.listed)) place_is absent)))
-            short work.gone)
+          (λ other differs absent. more other front back node.node node.owner differs (subst (λ xs. IsAbsent other (sessions_in xs)) node_gap.parts (subst (λ (p : Place). IsAbsent other (sessions_in p.listed)) place_is absent)))
+          short work.gone)
         where
           more : (other : ℕ) (xs ys : List (ℕ × ℕ)) (n s : ℕ) → other ≢ s → IsAbsent other (sessions_in (xs ++ ys)) → IsAbsent other (sessions_in (xs ++ (n, s) ∷ ys))
           more other [] ys n s differs absent = (λ e. differs (sym e), absent)

@@ -87,18 +87,16 @@ not_there-gone session (place ∷ rest) none =
 -- a session that stands at a place isn't hidden
 pub there-not_hidden : (session : ℕ) (hidden : List ℕ) (places : List Place) → AreGone hidden places → is_there session places ≡ true → IsAbsent session hidden
 there-not_hidden session [] places gone there = tt
-there-not_hidden session (first ∷ rest) places gone there =
-    (
-      λ e. let none = gone-not_there session places (subst (λ s. IsGone s places) e gone.0) in let no : ⊥ = cc in absurd no,
-      there-not_hidden session rest places gone.1 there,
-    )
+there-not_hidden session (first ∷ rest) places gone there = (
+  λ e. let none = gone-not_there session places (subst (λ s. IsGone s places) e gone.0) in let no : ⊥ = cc in absurd no,
+  there-not_hidden session rest places gone.1 there,
+)
 
 -- one place changes, and no other session comes to it
 pub are_gone_set : (coming : ℕ) (hidden : List ℕ) (places : List Place) (i : ℕ) (place : Place) → IsAbsent coming hidden → ((session : ℕ) → session ≢ coming → IsAbsent session (sessions_in (place_at places i).listed) → IsAbsent session (sessions_in place.listed)) → i < length places → AreGone hidden places → AreGone hidden (set places i place)
 are_gone_set coming [] places i place apart fewer within gone = tt
 are_gone_set coming (session ∷ rest) places i place apart fewer within gone =
-    let P : Place → Type 0 = λ p. IsAbsent session (sessions_in p.listed) in
-    (
+    let P : Place → Type 0 = λ p. IsAbsent session (sessions_in p.listed) in (
       each_set P places i place gone.0 (fewer session apart.0 (each_at P places i within gone.0)),
       are_gone_set coming rest places i place apart.1 fewer within gone.1,
     )

@@ -49,8 +49,7 @@ pub can_return-other : (lists : List (List (ℕ × ℕ))) (hidden : List Item) (
 can_return-other lists [] list xs absent can = tt
 can_return-other lists (item ∷ rest) list xs absent can =
     let same = get_or-set_other lists list item.list xs [] absent.0 in
-    let pair : ℕ × ℕ = (item.node, item.owner) in
-    (
+    let pair : ℕ × ℕ = (item.node, item.owner) in (
       subst (λ n. item.list < n) (sym (length-set lists list xs)) can.0,
       can.1,
       can.2 ∙ ap (first_or None) (sym same),
@@ -100,8 +99,7 @@ module _ (places sessions : Lists) (place session item node : ℕ) (front back r
           ap (λ xs. set (set sessions.lists session rest) session ((item, node) ∷ xs)) first
           ∙ set-set sessions.lists session rest ((item, node) ∷ rest)
           ∙ ap (set sessions.lists session) (sym there)
-          ∙ set-get_or sessions.lists session [] in
-          (
+          ∙ set-get_or sessions.lists session [] in (
             subst (λ n. session < n) (sym (length-set sessions.lists session rest)) within,
             refl,
             ap (first_or None) (sym first),

@@ -25,7 +25,7 @@ standing_first : (session : ℕ) (x : ℕ × ℕ) (xs : List (ℕ × ℕ)) (test
 standing_first session x xs true is rest = let pair : ℕ → ℕ × ℕ = λ s. (x.0, s) in inr (record { node = x.0; front = []; back = xs; there = ap (λ s. pair s ∷ xs) (eqb-true x.1 session is) })
 standing_first session x xs false is rest =
     elim rest [
-      inl absent ↦ inl (eqb-false x.1 session is, absent)
+      | inl absent ↦ inl (eqb-false x.1 session is, absent)
       | inr more ↦ inr (record { node = more.node; front = x ∷ more.front; back = more.back; there = ap (λ ys. x ∷ ys) more.there })
     ]
 
@@ -58,7 +58,7 @@ restores_there session node front back hidden can =
 restores : (session : ℕ) (place : Place) → IsRestorable session place → Restores session place
 restores session place can =
     elim (standing session place.listed) [
-      inl absent ↦ restores_absent session place can absent
+      | inl absent ↦ restores_absent session place can absent
       | inr there ↦ let same : place ≡ record { listed = there.front ++ (there.node, session) ∷ there.back; hidden = place.hidden } = ap (λ xs. record { listed = xs; hidden = place.hidden }) there.there in subst (Restores session) (sym same) (restores_there session there.node there.front there.back place.hidden (subst (IsRestorable session) same can))
     ]
 
@@ -78,11 +78,10 @@ all_restored session (place ∷ rest) each =
 
 each_restorable : (session from : ℕ) (lists : List (List (ℕ × ℕ))) (hidden : List Item) → EachPlace IsOnce (places_from from lists hidden) → IsDistinct (listed_nodes lists) → IsAbsent session (owners_of hidden) → EachPlace (IsRestorable session) (places_from from lists hidden)
 each_restorable session from [] hidden once distinct absent = tt
-each_restorable session from (xs ∷ rest) hidden once distinct absent =
-    (
-      record { once = once.0; nodes = distinct_front (ids xs) (listed_nodes rest) distinct; not_hidden = stood_absent session from hidden absent },
-      each_restorable session (suc from) rest hidden once.1 (distinct_back (ids xs) (listed_nodes rest) distinct) absent,
-    )
+each_restorable session from (xs ∷ rest) hidden once distinct absent = (
+  record { once = once.0; nodes = distinct_front (ids xs) (listed_nodes rest) distinct; not_hidden = stood_absent session from hidden absent },
+  each_restorable session (suc from) rest hidden once.1 (distinct_back (ids xs) (listed_nodes rest) distinct) absent,
+)
 
 pub undone : (session : ℕ) (places sessions : Lists) → IsSound places sessions → IsDistinct (nodes_of places) → is_there session (places_from 0 places.lists places.hidden) ≡ true → UnhideGives 1 (hide (seen places sessions) session) (seen places sessions)
 undone session places sessions sound distinct there =

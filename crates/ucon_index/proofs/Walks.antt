@@ -1,5 +1,7 @@
 -- A walk through a place goes through its list in the table.
-use Rattle.std.proofs.Common.{◌≡◌, ◌≢◌, ℕ, zero, suc, ◌+◌, ◌<◌, List, [], ◌∷◌, ◌++◌, length, map, Some, None, Option, Bool, true, false, eqb, cond, IsSome, option_map, refl, sym, ap, ◌∙◌, subst, arith}
+use Rattle.std.proofs.Common.{◌≡◌, ◌≢◌, ℕ, zero, suc, ◌+◌, ◌<◌, List, [], ◌∷◌, ◌++◌, length, map, Some, None, Option, Bool, true, false, eqb, cond, IsSome, is_some, option_map, refl, sym, ap, ◌∙◌, subst, arith, append_assoc, length-append}
+use Rattle.std.proofs.lemmas.List.{append-nil, length-map, map-append}
+use Rattle.ucon_links.proofs.Walking.{place_there}
 use Rattle.std.proofs.lemmas.Bool.{eqb-true, eqb-false, ne_eqb, eq-eqb}
 use Rattle.ucon_links.specs.Lists.{Item, Lists, first_or, list_at, place_from, place_of, or_else, hidden_at, owner_of, listed_nodes, nodes_of, IsListed, IsAbsent, IsDistinct}
 use Rattle.ucon_links.proofs.Restoring.{distinct_front, distinct_back}
@@ -103,3 +105,71 @@ session_has_owner places sessions v node is some =
     some_owner places.lists places.hidden node (place_of places node) (hidden_at places.hidden node) refl
     (subst (λ place. IsSome (first_some (option_map (λ item. item.owner) place) (hidden_session (places_from 0 places.lists places.hidden) node))) (place_seen places sessions (seen places sessions) refl node)
     (subst (λ (w : Dependents). IsSome (session_of w node)) (sym is) some))
+
+-- so far a walk has met these sessions of a place, and it goes on at a node
+pub record IsWalked (v : Dependents) (place : ℕ) (met : List ℕ) (at : Option ℕ) : Type 0 where
+  pub front : List (ℕ × ℕ)
+  pub back : List (ℕ × ℕ)
+  pub there : (place_at v.places place).listed ≡ front ++ back
+  pub met_is : met ≡ map (λ x. x.1) front
+  pub at_is : at ≡ first_or None back
+
+pub walk_begins : (v : Dependents) (place : ℕ) (at : Option ℕ) → at ≡ first_or None (place_at v.places place).listed → IsWalked v place [] at
+walk_begins v place at is = record { front = []; back = (place_at v.places place).listed; there = refl; met_is = refl; at_is = is }
+
+-- a node on the way is listed, has its session, and the walk goes on behind it
+pub record IsMet (v : Dependents) (place : ℕ) (met : List ℕ) (node : ℕ) : Type 0 where
+  pub session : ℕ
+  pub listed : IsListed (walked v) node
+  pub session_is : session_of v node ≡ Some session
+  pub short : length met < length (place_at v.places place).listed
+  pub more : (next : Option ℕ) → option_map (λ item. item.after) (place_of (walked v) node) ≡ Some next → IsWalked v place (met ++ session ∷ []) next
+
+list_of_place : (places : List Place) (place : ℕ) → place < length places → list_at (map (λ p. p.listed) places) place ≡ (place_at places place).listed
+list_of_place [] place within = absurd (omega arith)
+list_of_place (first ∷ rest) zero within = refl
+list_of_place (first ∷ rest) (suc place) within = list_of_place rest place (omega arith)
+
+met_at : (v : Dependents) (place : ℕ) (met : List ℕ) (node : ℕ) (front back : List (ℕ × ℕ)) → IsDistinct (listed_nodes (walked v).lists) → place < length v.places → (place_at v.places place).listed ≡ front ++ back → met ≡ map (λ x. x.1) front → Some node ≡ first_or None back → IsMet v place met node
+met_at v place met node front [] distinct within there met_is at_is = let no : ⊥ = cc in absurd no
+met_at v place met node front (x ∷ back) distinct within there met_is at_is =
+    let same : x.0 ≡ node = cc in
+    let once = subst IsDistinct (sym (append-nil (listed_nodes (walked v).lists))) distinct in
+    let short : place < length (walked v).lists = subst (λ n. place < n) (sym (length-map v.places (λ p. p.listed))) within in
+    let is = place_there (walked v) place front back x once short (list_of_place v.places place within ∙ there) in
+    let size = length-append front (x ∷ back) in
+    let whole = ap length there in
+    let met_size = ap length met_is ∙ length-map front (λ x. x.1) in
+    subst (IsMet v place met) same (record {
+      session = x.1;
+      listed = ap is_some is;
+      session_is = ap (λ item. first_some (option_map (λ i. i.owner) item) (hidden_session v.places x.0)) is;
+      short = omega arith;
+      more = λ next after. record {
+        front = front ++ x ∷ [];
+        back = back;
+        there = there ∙ sym (append_assoc front (x ∷ []) back);
+        met_is = ap (λ ns. ns ++ x.1 ∷ []) met_is ∙ sym (map-append (λ y. y.1) front (x ∷ []));
+        at_is = some_of (sym after ∙ ap (option_map (λ item. item.after)) is);
+      };
+    })
+  where
+    some_of : {X : Type 0} {a b : X} → Some a ≡ Some b → a ≡ b
+    some_of e = cc
+
+pub walk_meets : (v : Dependents) (place : ℕ) (met : List ℕ) (node : ℕ) → IsDistinct (listed_nodes (walked v).lists) → place < length v.places → IsWalked v place met (Some node) → IsMet v place met node
+walk_meets v place met node distinct within way = met_at v place met node way.front way.back distinct within way.there way.met_is way.at_is
+
+-- at the end the walk has met all
+pub walk_ends : (v : Dependents) (place : ℕ) (met : List ℕ) → IsWalked v place met None → met ≡ map (λ x. x.1) (place_at v.places place).listed
+walk_ends v place met way = at_end way.front way.back way.there way.met_is way.at_is
+  where
+    at_end : (front back : List (ℕ × ℕ)) → (place_at v.places place).listed ≡ front ++ back → met ≡ map (λ x. x.1) front → None ≡ first_or None back → met ≡ map (λ x. x.1) (place_at v.places place).listed
+    at_end front [] there met_is at_is = met_is ∙ sym (ap (map (λ x. x.1)) (there ∙ append-nil front))
+    at_end front (x ∷ back) there met_is at_is = let no : ⊥ = cc in absurd no
+
+pub session_is_met : (v : Dependents) (place : ℕ) (met : List ℕ) (node session : ℕ) (is : IsMet v place met node) → session_of v node ≡ Some session → is.session ≡ session
+session_is_met v place met node session is found = same (sym is.session_is ∙ found)
+  where
+    same : {a b : ℕ} → Some a ≡ Some b → a ≡ b
+    same e = cc

@@ -3,5 +3,7 @@
 
 mod index;
 mod newest;
+#[cfg(test)]
+mod tests;
 
 pub use index::Index;
