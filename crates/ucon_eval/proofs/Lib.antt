@@ -2,3 +2,4 @@ pub mod SameTexts
 pub mod Places
 pub mod Agreeing
 pub mod Watched
+pub mod NoSets

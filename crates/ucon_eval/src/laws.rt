@@ -1,14 +1,19 @@
 //! Laws of what is evaluated over a view. A law is a function without parameters that does nothing: its contract is what is proved.
 
-ghost use Rattle.std.specs.Prelude.{◌≡◌, ℕ};
+ghost use Rattle.std.specs.Prelude.{◌≡◌, ℕ, true};
 ghost use Rattle.ucon_model.specs.declared.session.SessionRow.{SessionRow};
 ghost use Rattle.ucon_model.specs.Plain.{PlainPolicy, PlainUpdate};
 ghost use Rattle.ucon_model.specs.Action.{Trace};
 ghost use Rattle.ucon_model.specs.Truth.{Readings, readings};
 ghost use Rattle.ucon_model.specs.Decision.{failing, verdict};
+ghost use Rattle.ucon_model.specs.Fitting.{ValuesFit};
 ghost use Rattle.ucon_model.specs.History.{Agree};
+ghost use Rattle.ucon_model.specs.Typing.{IsTyped};
 ghost use Rattle.ucon_model.specs.Updates.{result as trace_result};
-ghost use Rattle.ucon_eval.specs.Asked.{truth_at, result_at, result_read};
+ghost use Rattle.ucon_eval.specs.Asked.{truth_at, result_at, result_read, makes_no_set_at};
+ghost use Rattle.ucon_eval.specs.Sums.{tests_make_no_set};
+
+use ucon_model::{places_hold_their_sorts, tests_are_typed};
 
 /// Over the readings of a trace, an update's result is the trace's.
 pub fn results_are_those_of_the_trace()
@@ -23,3 +28,13 @@ pub fn views_that_agree_decide_alike()
     ensures failing { (P : PlainPolicy) (R S : Readings) (n : ℕ) → Agree R S → failing P R n ≡ failing P S n }
     ensures result { (P : PlainPolicy) (R S : Readings) (n i : ℕ) → Agree R S → result_at P R n i ≡ result_at P S n i }
 {}
+
+/// Where all values of a trace under a well typed policy fit, its tests make no set, over readings that agree with the trace's: what
+/// `truth`, `verdict` and `failing` ask of a view.
+pub fn typed_tests_make_no_set()
+    ensures all { (P : PlainPolicy) (T : Trace) (R : Readings) → IsTyped P → ValuesFit P T → Agree R (readings P T) → (n : ℕ) → tests_make_no_set P R n ≡ true }
+    ensures one { (P : PlainPolicy) (T : Trace) (R : Readings) → IsTyped P → ValuesFit P T → Agree R (readings P T) → (n i : ℕ) → makes_no_set_at P R n i ≡ true }
+{
+    places_hold_their_sorts();
+    tests_are_typed();
+}
