@@ -5,3 +5,4 @@ pub mod Sound
 pub mod Views
 pub mod Shown
 pub mod Following
+pub mod Engine
