@@ -13,7 +13,7 @@ use ucon_base::{Int, Name, Side};
 use ucon_model::Command;
 
 /// A word with the rest of the line.
-fn with_rest<'a>(line: &'a [u8], w: &Word<'a>) -> Word<'a>
+pub fn with_rest<'a>(line: &'a [u8], w: &Word<'a>) -> Word<'a>
     requires { w.now.at ≤ length line.now }
     ensures { word_of result ≡ with_rest line.now (word_of w.now) }
 {

@@ -22,13 +22,13 @@ fn side_in(bytes: &[u8]) -> Option<Side>
     }
 }
 
-fn name_in(bytes: &[u8]) -> Option<Name>
+pub fn name_in(bytes: &[u8]) -> Option<Name>
     ensures { result ≡ name_in bytes.now }
 {
     Name::read(bytes).ok()
 }
 
-fn value_in(alloc: Global, bytes: &[u8]) -> Result<Option<Value>, NoMemory>
+pub fn value_in(alloc: Global, bytes: &[u8]) -> Result<Option<Value>, NoMemory>
     ensures { IfOk result (λ v. v ≡ value_in bytes.now) }
 {
     match Value::read(alloc, bytes) {
@@ -62,7 +62,7 @@ fn number_of(n: Int) -> Option<u32>
     u32::try_from(n.get()).ok()
 }
 
-fn number_in(alloc: Global, bytes: &[u8]) -> Result<Option<u32>, NoMemory>
+pub fn number_in(alloc: Global, bytes: &[u8]) -> Result<Option<u32>, NoMemory>
     ensures { IfOk result (λ n. n ≡ number_in bytes.now) }
 {
     match integer_in(alloc, bytes)? {

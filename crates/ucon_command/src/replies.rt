@@ -45,7 +45,7 @@ fn put_reply(alloc: Global, out: &mut Vec<u8>, reply: &Reply) -> Result<(), NoMe
     }
 }
 
-fn refusal_words(r: Refusal) -> &'static [u8]
+pub fn refusal_words(r: Refusal) -> &'static [u8]
     ensures { result.now ≡ refusal_words r }
 {
     match r {
@@ -71,7 +71,7 @@ fn refusal_words(r: Refusal) -> &'static [u8]
     }
 }
 
-fn state_word(state: SessionState) -> &'static [u8]
+pub fn state_word(state: SessionState) -> &'static [u8]
     ensures { result.now ≡ state_word state }
 {
     match state {
