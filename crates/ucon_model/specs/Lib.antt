@@ -22,3 +22,4 @@ pub mod Lookup
 pub mod Places
 pub mod Cores
 pub mod Typing
+pub mod Meaning
