@@ -30,3 +30,4 @@ pub mod FirstFaults
 pub mod Written
 pub mod TypedParts
 pub mod SortsOfValues
+pub mod Meaningful

@@ -24,3 +24,4 @@ pub mod ReplyText
 pub mod Places
 pub mod Cores
 pub mod Typing
+pub mod Meaning
