@@ -18,12 +18,14 @@ use Rattle.ucon_state.specs.Tables.{Tables, attrs_of, cell_of, env_place, same_a
 abbrev pub defaults_of : PlainPolicy → Side → List Value
 defaults_of P side = map (λ d. d.start) (attrs_of P side)
 
--- with a new entity behind the others; its cells come behind the others and hold these values
+-- with a new entity behind the others, which has this first cell
+abbrev pub with_name : Tables → Side → Bytes → ℕ → Tables
+with_name t sides.Subject name first = record t { subjects = t.subjects ++ (name, first) ∷ [] }
+with_name t sides.Object name first = record t { objects = t.objects ++ (name, first) ∷ [] }
+
+-- with a new entity, whose cells come behind the others and hold these values
 abbrev pub with_new_entity : Tables → Side → Bytes → List Value → Tables
-with_new_entity t sides.Subject name values =
-    record t { subjects = t.subjects ++ (name, length t.cells) ∷ []; cells = t.cells ++ values }
-with_new_entity t sides.Object name values =
-    record t { objects = t.objects ++ (name, length t.cells) ∷ []; cells = t.cells ++ values }
+with_new_entity t side name values = record (with_name t side name (length t.cells)) { cells = t.cells ++ values }
 
 -- with a new entity, whose attributes have their defaults
 abbrev pub with_entity : PlainPolicy → Tables → Side → Bytes → Tables

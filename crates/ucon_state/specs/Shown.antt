@@ -1,6 +1,8 @@
 -- What a state shows.
+use Rattle.std.specs.Prelude.{List}
 use Rattle.ucon_model.specs.Checked.{checked_policy}
 use Rattle.ucon_model.specs.Plain.{PlainPolicy}
+use Rattle.ucon_state.specs.declared.change.Change.{Change}
 use Rattle.ucon_state.specs.declared.state.State.{State}
 use Rattle.ucon_state.specs.Tables.{Tables}
 use Rattle.ucon_state.specs.Undo.{all_undone}
@@ -12,12 +14,12 @@ pub record Shown : Type 0 where
   pub tables : Tables
   pub opening : Tables
 
+-- what these tables show, with these changes to undo
+abbrev pub showing : PlainPolicy → Tables → List Change → Shown
+showing P tables changes = record { policy = P; tables = tables; opening = all_undone changes tables }
+
 abbrev pub shown : State → Shown
-shown s = record {
-  policy = checked_policy s.checked;
-  tables = lists_of s.tables;
-  opening = all_undone s.changes.items (lists_of s.tables);
-}
+shown s = showing (checked_policy s.checked) (lists_of s.tables) s.changes.items
 
 -- a change: only the tables are others, and undoing gives what it gave before
 abbrev pub changed_to : Shown → Tables → Shown

@@ -1,20 +1,33 @@
 //! The state of a policy, and its changes.
 
-ghost use Rattle.std.specs.Prelude.{◌≡◌, ◌<◌, length, slice_get, Some, OnOk, OnErr};
+ghost use Rattle.std.specs.Prelude.{◌≡◌, ◌≤ℤ◌, ◌<◌, ◌+◌, ◌⊎◌, length, slice_get, Some, None, OnOk, OnErr, IfOk, IfSome, IsSome, IsSomeAnd, IsTrue, is_some};
+ghost use Rattle.ucon_base.specs.Admits.{admits};
+ghost use Rattle.ucon_model.specs.Action as actions;
 ghost use Rattle.ucon_model.specs.Checked.{checked_policy};
-ghost use Rattle.ucon_state.specs.Sound.{AllSound};
+ghost use Rattle.ucon_model.specs.Readings.{declared_attr, declared_env};
+ghost use Rattle.ucon_state.specs.Applied.{opening_tables, applied, with_entity, with_cell, with_state, may_become, moved_to};
+ghost use Rattle.ucon_state.specs.Sound.{AllSound, IsSound};
+ghost use Rattle.ucon_state.specs.Tables.{entities_of, entity_number, cell_at, CellAdmits, attribute_in, env_place, counts_in, moment_in, session_in};
 ghost use Rattle.ucon_state.specs.Views.{lists_of};
 
+use crate::act::Act;
 use crate::change::Change;
+use crate::counts::Counts;
+use crate::defaults::{attr_defaults, attr_place, env_defaults, env_place};
 use crate::tables::Tables;
+use std::alloc::Global;
 use ucon_base::{Int, Name, NoMemory, Side, Value};
 use ucon_model::{Caller, Checked, SessionRow, SessionState};
 
-/// What is there under a policy. Each change can be undone until it is kept.
+/// The number of a cell.
+pub type CellId = u32;
+
+/// What is there under a policy. Each change can be undone until it is kept. Want of memory changes nothing.
 #[derive(Drop)]
 pub struct State {
-    checked: Checked,
-    tables: Tables,
+    alloc: Global,
+    pub(crate) checked: Checked,
+    pub(crate) tables: Tables,
     changes: Vec<Change>,
     ghost sound: { AllSound (checked_policy checked) changes.items (lists_of tables) },
 }
@@ -22,11 +35,216 @@ pub struct State {
 impl State {
     ghost use Rattle.ucon_state.specs.Shown.{shown, changed_to};
 
+    /// No entities, each variable at its default, tick 0.
+    pub fn new(alloc: Global, checked: Checked) -> Result<State, NoMemory>
+        ensures policy { IfOk result (λ s. (shown s).policy ≡ checked_policy checked) }
+        ensures tables { IfOk result (λ s. (shown s).tables ≡ opening_tables (checked_policy checked)) }
+        ensures opening { IfOk result (λ s. (shown s).opening ≡ opening_tables (checked_policy checked)) }
+    {
+        let variables = env_defaults(alloc, &checked)?;
+        Ok(State {
+            alloc,
+            checked,
+            tables: Tables::new(alloc, variables),
+            changes: Vec::new(alloc),
+        })
+    }
+
+    /// The number of an entity among those of its side, from 0. None where it isn't there.
+    pub fn find(&self, side: Side, name: &Name) -> Option<u32>
+        ensures number { result ≡ entity_number (shown self.now).tables side name.now }
+        ensures there { IfSome result (λ n. n < length (entities_of side (shown self.now).tables)) }
+    {
+        let number = self.tables.entity_number(side, name)?;
+        Some(number as u32)
+    }
+
+    /// The cell of an attribute of an entity. None where the attribute isn't declared for that side.
+    pub fn cell(&self, side: Side, entity: u32, attr: &Name) -> Option<CellId>
+        requires { entity < length (entities_of side (shown self.now).tables) }
+        ensures cell { result ≡ cell_at (shown self.now).policy (shown self.now).tables side entity attr.now }
+        ensures declared { is_some result ≡ is_some (declared_attr (shown self.now).policy.attrs side attr.now) }
+        ensures there { IfSome result (λ c. c < length (shown self.now).tables.cells) }
+    {
+        let cell = cell_number(&self.checked, &self.tables, side, entity as usize, attr)?;
+        Some(cell as u32)
+    }
+
     /// The value of a cell.
-    pub fn cell_value(&self, cell: u32) -> &Value
+    pub fn cell_value(&self, cell: CellId) -> &Value
         requires { cell < length (shown self.now).tables.cells }
         ensures { slice_get (shown self.now).tables.cells cell ≡ Some result.now }
     {
         &self.tables.cells[cell as usize]
     }
+
+    /// Adds an entity, and gives its number. Its attributes have their defaults.
+    pub fn add_entity(&mut self, side: Side, name: Name) -> Result<u32, NoMemory>
+        requires new { entity_number (shown self.old).tables side name ≡ None }
+        requires room { length (entities_of side (shown self.old).tables) < 16384 }
+        ensures ok { OnOk result (shown self.new ≡ changed_to (shown self.old) (with_entity (shown self.old).policy (shown self.old).tables side name)) }
+        ensures number { IfOk result (λ n. n ≡ length (entities_of side (shown self.old).tables)) }
+        ensures err { OnErr result (shown self.new ≡ shown self.old) }
+    {
+        let number = self.tables.entities(side).len() as u32;
+        let defaults = attr_defaults(self.alloc, &self.checked, side)?;
+        if self.tables.cells.len() + defaults.len() > u32::MAX as usize {
+            return Err(NoMemory);
+        }
+        self.changes.reserve(1)?;
+        let change = self.tables.add_entity(side, name, defaults)?;
+        self.changes.push_reserved(change);
+        Ok(number)
+    }
+
+    /// Writes a value into a cell.
+    pub fn write(&mut self, cell: CellId, value: Value) -> Result<(), NoMemory>
+        requires { CellAdmits (shown self.old).policy (shown self.old).tables cell value }
+        ensures ok { OnOk result (shown self.new ≡ changed_to (shown self.old) (with_cell (shown self.old).tables cell value)) }
+        ensures err { OnErr result (shown self.new ≡ shown self.old) }
+    {
+        self.changes.reserve(1)?;
+        let change = self.tables.set_cell(cell as usize, value);
+        self.changes.push_reserved(change);
+        Ok(())
+    }
+
+    /// Gives a variable a value.
+    pub fn set_env(&mut self, name: &Name, value: Value) -> Result<(), NoMemory>
+        requires { IsSomeAnd (declared_env (shown self.old).policy.envs name.now) (λ d. IsTrue (admits d.kind value)) }
+        ensures ok { OnOk result (shown self.new ≡ changed_to (shown self.old) (applied (shown self.old).policy (actions.env name.now value) (shown self.old).tables)) }
+        ensures err { OnErr result (shown self.new ≡ shown self.old) }
+    {
+        let place = env_place(&self.checked, name).unwrap();
+        self.changes.reserve(1)?;
+        let change = self.tables.set_variable(place, value);
+        self.changes.push_reserved(change);
+        Ok(())
+    }
+
+    pub fn set_tick(&mut self, tick: Int) -> Result<(), NoMemory>
+        requires { (shown self.old).tables.tick ≤ℤ tick }
+        ensures ok { OnOk result (shown self.new ≡ changed_to (shown self.old) (applied (shown self.old).policy (actions.tick tick) (shown self.old).tables)) }
+        ensures err { OnErr result (shown self.new ≡ shown self.old) }
+    {
+        self.changes.reserve(1)?;
+        let change = self.tables.set_tick(tick);
+        self.changes.push_reserved(change);
+        Ok(())
+    }
+
+    /// An act is done now: its moment is the tick.
+    pub fn add_act(&mut self, subject: Name, action: Name, object: Name) -> Result<(), NoMemory>
+        requires { IsSome (moment_in (shown self.old).tables subject action object) ⊎ (length (shown self.old).tables.acts < 1048576) }
+        ensures ok { OnOk result (shown self.new ≡ changed_to (shown self.old) (applied (shown self.old).policy (actions.act subject action object) (shown self.old).tables)) }
+        ensures err { OnErr result (shown self.new ≡ shown self.old) }
+    {
+        self.changes.reserve(1)?;
+        let change = self.tables.set_act(Act {
+            subject,
+            action,
+            object,
+        })?;
+        self.changes.push_reserved(change);
+        Ok(())
+    }
+
+    /// Adds a session that is requesting, and gives its number, from 1.
+    pub fn add_session(
+        &mut self,
+        caller: Caller,
+        right: Name,
+        subject: Name,
+        object: Name,
+    ) -> Result<u32, NoMemory>
+        requires { length (shown self.old).tables.sessions < 1048576 }
+        ensures ok { OnOk result (shown self.new ≡ changed_to (shown self.old) (applied (shown self.old).policy (actions.tries (length (shown self.old).tables.sessions + 1) caller subject right object) (shown self.old).tables)) }
+        ensures number { IfOk result (λ n. n ≡ length (shown self.old).tables.sessions + 1) }
+        ensures err { OnErr result (shown self.new ≡ shown self.old) }
+    {
+        self.changes.reserve(1)?;
+        let change = self.tables.add_session(SessionRow {
+            caller,
+            right,
+            subject,
+            object,
+            state: SessionState::Requesting,
+            start: Int::zero(),
+        })?;
+        self.changes.push_reserved(change);
+        Ok(self.tables.sessions.len() as u32)
+    }
+
+    /// A session becomes denied, accessing, ended or revoked. Where it becomes accessing, it starts now.
+    pub fn set_session(&mut self, session: u32, state: SessionState) -> Result<(), NoMemory>
+        requires { IsSomeAnd (session_in (shown self.old).tables session) (λ row. IsTrue (may_become row.state state)) }
+        ensures ok { OnOk result (shown self.new ≡ changed_to (shown self.old) (with_state (shown self.old).tables session state)) }
+        ensures err { OnErr result (shown self.new ≡ shown self.old) }
+    {
+        self.changes.reserve(1)?;
+        let place = session as usize - 1;
+        let row = moved_to(&self.tables.sessions[place], state, self.tables.tick);
+        let change = self.tables.set_row(place, row);
+        self.changes.push_reserved(change);
+        Ok(())
+    }
+
+    pub fn counts(&self) -> Counts
+        ensures { result ≡ counts_in (shown self.now).tables }
+    {
+        Counts {
+            subjects: self.tables.subjects.len() as u32,
+            objects: self.tables.objects.len() as u32,
+            acts: self.tables.acts.len() as u32,
+            sessions: self.tables.sessions.len() as u32,
+            accessing: self.tables.accessing as u32,
+        }
+    }
+
+    /// Gives back the state at the last keep, or at the making.
+    pub fn undo_all(&mut self)
+        ensures { shown self.new ≡ changed_to (shown self.old) (shown self.old).opening }
+    {
+        while let Some(change) = self.changes.pop() {
+            self.tables.undo(change);
+        }
+    }
+
+    /// From here on undoing gives what is there now.
+    pub fn keep(&mut self)
+        ensures { shown self.new ≡ record (shown self.old) { opening = (shown self.old).tables } }
+    {
+        self.changes.clear();
+    }
+}
+
+/// The row of a session that goes into a state at a tick.
+fn moved_to(row: &SessionRow, state: SessionState, now: Int) -> SessionRow
+    ensures { result ≡ moved_to state now row.now }
+{
+    match state {
+        SessionState::Accessing => SessionRow {
+            state,
+            start: now,
+            ..*row
+        },
+        _ => SessionRow { state, ..*row },
+    }
+}
+
+/// The cell of an attribute of an entity.
+pub(crate) fn cell_number(
+    checked: &Checked,
+    tables: &Tables,
+    side: Side,
+    entity: usize,
+    attr: &Name,
+) -> Option<usize>
+    requires { IsSound (checked_policy checked.now) (lists_of tables.now) }
+    ensures cell { result ≡ cell_at (checked_policy checked.now) (lists_of tables.now) side entity attr.now }
+    ensures there { IfSome result (λ c. c < length (lists_of tables.now).cells) }
+{
+    let first = tables.first_cell(side, entity)?;
+    let place = attr_place(checked, side, attr)?;
+    Some(first + place)
 }

@@ -1,13 +1,15 @@
 //! The tables: what is there now.
 
-ghost use Rattle.std.specs.Prelude.{◌≡◌};
-ghost use Rattle.ucon_state.specs.Tables.{accessing_among};
+ghost use Rattle.std.specs.Prelude.{◌≡◌, ◌-◌, ◌<◌, IfOk, OnOk, OnErr, IfSome, None, slice_get, slice_set, option_map, length};
+ghost use Rattle.ucon_state.specs.Tables.{accessing_among, accessing_in};
 
 use crate::act::Act;
+use crate::change::Change;
 use indexmap::IndexMap;
 use std::alloc::Global;
-use ucon_base::{Int, Name, Side, Value};
-use ucon_model::SessionRow;
+use std::mem;
+use ucon_base::{Int, Name, NoMemory, Side, Value};
+use ucon_model::{SessionRow, SessionState};
 
 /// Entities stand by name with their first cell, acts with their moment. A variable and a session's row stand at their places.
 #[derive(Drop)]
@@ -24,8 +26,51 @@ pub struct Tables {
 }
 
 impl Tables {
-    ghost use Rattle.ucon_state.specs.Tables.{session_in, moment_in};
+    ghost use Rattle.std.specs.Prelude.{[], pos};
+    ghost use Rattle.ucon_state.specs.Tables.{session_in, moment_in, entities_of, entity_number};
+    ghost use Rattle.ucon_state.specs.Applied.{with_name, with_new_entity, with_cell, with_variable, with_tick, with_act, with_row, with_new_session};
+    ghost use Rattle.ucon_state.specs.Undo.{undone};
     ghost use Rattle.ucon_state.specs.Views.{lists_of};
+
+    /// No entities, acts or sessions, tick 0, and variables with these values.
+    pub fn new(alloc: Global, variables: Vec<Value>) -> Tables
+        ensures { lists_of result ≡ record { subjects = []; objects = []; cells = []; variables = variables.items; tick = pos 0; acts = []; sessions = [] } }
+    {
+        Tables {
+            subjects: IndexMap::new(alloc),
+            objects: IndexMap::new(alloc),
+            cells: Vec::new(alloc),
+            variables,
+            tick: Int::zero(),
+            acts: IndexMap::new(alloc),
+            sessions: Vec::new(alloc),
+            accessing: 0,
+        }
+    }
+
+    pub fn entities(&self, side: Side) -> &IndexMap<Name, usize>
+        ensures { result.now.entries ≡ entities_of side (lists_of self.now) }
+    {
+        match side {
+            Side::Subject => &self.subjects,
+            Side::Object => &self.objects,
+        }
+    }
+
+    pub fn entity_number(&self, side: Side, name: &Name) -> Option<usize>
+        ensures number { result ≡ entity_number (lists_of self.now) side name.now }
+        ensures within { IfSome result (λ n. n < length (entities_of side (lists_of self.now))) }
+    {
+        self.entities(side).get_index_of(name)
+    }
+
+    /// The first cell of the entity with this number.
+    pub fn first_cell(&self, side: Side, entity: usize) -> Option<usize>
+        ensures { result ≡ option_map (λ e. e.1) (slice_get (entities_of side (lists_of self.now)) entity) }
+    {
+        let (_, first) = self.entities(side).get_index(entity)?;
+        Some(*first)
+    }
 
     pub fn session(&self, n: u32) -> Option<SessionRow>
         ensures { result ≡ session_in (lists_of self.now) n }
@@ -45,5 +90,174 @@ impl Tables {
             object: *object,
         };
         self.acts.get(&act).copied()
+    }
+
+    /// Adds an entity that isn't there, with cells that hold these values.
+    #[tactic(auto, using(crate::proofs::Entities::entity_undone))]
+    pub fn add_entity(
+        &mut self,
+        side: Side,
+        name: Name,
+        mut defaults: Vec<Value>,
+    ) -> Result<Change, NoMemory>
+        requires { entity_number (lists_of self.old) side name ≡ None }
+        ensures ok { OnOk result (lists_of self.new ≡ with_new_entity (lists_of self.old) side name defaults.items) }
+        ensures undone { IfOk result (λ c. undone c (lists_of self.new) ≡ lists_of self.old) }
+        ensures err { OnErr result (lists_of self.new ≡ lists_of self.old) }
+    {
+        let first = self.cells.len();
+        self.cells.append(&mut defaults)?;
+        if self.add_name(side, name, first).is_err() {
+            self.cells.truncate(first);
+            return Err(NoMemory);
+        }
+        Ok(Change::Entity(side, first))
+    }
+
+    #[tactic(auto, using(crate::proofs::Lists::inserted_last))]
+    fn add_name(&mut self, side: Side, name: Name, first: usize) -> Result<(), NoMemory>
+        requires { entity_number (lists_of self.old) side name ≡ None }
+        ensures ok { OnOk result (lists_of self.new ≡ with_name (lists_of self.old) side name first) }
+        ensures err { OnErr result (lists_of self.new ≡ lists_of self.old) }
+    {
+        match side {
+            Side::Subject => self.subjects.insert(name, first)?,
+            Side::Object => self.objects.insert(name, first)?,
+        };
+        Ok(())
+    }
+
+    #[tactic(auto, using(crate::proofs::Lists::written_back))]
+    pub fn set_cell(&mut self, cell: usize, value: Value) -> Change
+        requires { cell < length (lists_of self.old).cells }
+        ensures tables { lists_of self.new ≡ with_cell (lists_of self.old) cell value }
+        ensures undone { undone result (lists_of self.new) ≡ lists_of self.old }
+    {
+        let before = mem::replace(&mut self.cells[cell], value);
+        Change::Cell(cell, before)
+    }
+
+    #[tactic(auto, using(crate::proofs::Lists::written_back))]
+    pub fn set_variable(&mut self, place: usize, value: Value) -> Change
+        requires { place < length (lists_of self.old).variables }
+        ensures tables { lists_of self.new ≡ with_variable (lists_of self.old) place value }
+        ensures undone { undone result (lists_of self.new) ≡ lists_of self.old }
+    {
+        let before = mem::replace(&mut self.variables[place], value);
+        Change::Variable(place, before)
+    }
+
+    pub fn set_tick(&mut self, tick: Int) -> Change
+        ensures tables { lists_of self.new ≡ with_tick (lists_of self.old) tick }
+        ensures undone { undone result (lists_of self.new) ≡ lists_of self.old }
+    {
+        Change::Tick(mem::replace(&mut self.tick, tick))
+    }
+
+    /// An act is done now.
+    #[tactic(auto, using(crate::proofs::Lists::row_written_back, crate::proofs::Lists::inserted_at, crate::proofs::Lists::inserted_last, crate::proofs::Lists::front_of_push))]
+    pub fn set_act(&mut self, act: Act) -> Result<Change, NoMemory>
+        ensures ok { OnOk result (lists_of self.new ≡ with_act (lists_of self.old) act) }
+        ensures undone { IfOk result (λ c. undone c (lists_of self.new) ≡ lists_of self.old) }
+        ensures err { OnErr result (lists_of self.new ≡ lists_of self.old) }
+    {
+        let now = self.tick;
+        match self.acts.get_index_of(&act) {
+            Some(place) => {
+                let before = mem::replace(&mut self.acts[place], now);
+                Ok(Change::Moment(place, before))
+            }
+            None => {
+                self.acts.insert(act, now)?;
+                Ok(Change::Act)
+            }
+        }
+    }
+
+    /// Adds a session that is requesting.
+    pub fn add_session(&mut self, row: SessionRow) -> Result<Change, NoMemory>
+        ensures ok { OnOk result (lists_of self.new ≡ with_new_session (lists_of self.old) row) }
+        ensures undone { IfOk result (λ c. undone c (lists_of self.new) ≡ lists_of self.old) }
+        ensures err { OnErr result (lists_of self.new ≡ lists_of self.old) }
+    {
+        self.sessions.push(row)?;
+        self.accessing += accessing_in(&row);
+        Ok(Change::Session)
+    }
+
+    /// Writes the row of a session at its place.
+    #[tactic(auto, using(crate::proofs::Lists::written_back))]
+    pub fn set_row(&mut self, place: usize, row: SessionRow) -> Change
+        requires { place < length (lists_of self.old).sessions }
+        ensures tables { lists_of self.new ≡ with_row (lists_of self.old) place row }
+        ensures undone { undone result (lists_of self.new) ≡ lists_of self.old }
+    {
+        let before = mem::replace(&mut self.sessions[place], row);
+        self.accessing = self.accessing - accessing_in(&before) + accessing_in(&row);
+        Change::Row(place, before)
+    }
+
+    /// Undoes a change.
+    #[tactic(auto, using(crate::proofs::Lists::written_past))]
+    pub fn undo(&mut self, change: Change)
+        ensures { lists_of self.new ≡ undone change (lists_of self.old) }
+    {
+        match change {
+            Change::Entity(side, cells) => self.remove_entity(side, cells),
+            Change::Cell(place, before) => put(&mut self.cells, place, before),
+            Change::Variable(place, before) => put(&mut self.variables, place, before),
+            Change::Tick(before) => self.tick = before,
+            Change::Act => {
+                let _ = self.acts.pop();
+            }
+            Change::Moment(place, before) => {
+                if place < self.acts.len() {
+                    self.acts[place] = before;
+                }
+            }
+            Change::Session => self.remove_session(),
+            Change::Row(place, before) => {
+                if place < self.sessions.len() {
+                    let _ = self.set_row(place, before);
+                }
+            }
+        }
+    }
+
+    fn remove_entity(&mut self, side: Side, cells: usize)
+        ensures { lists_of self.new ≡ undone (Change.Entity side cells) (lists_of self.old) }
+    {
+        let _ = match side {
+            Side::Subject => self.subjects.pop(),
+            Side::Object => self.objects.pop(),
+        };
+        self.cells.truncate(cells);
+    }
+
+    fn remove_session(&mut self)
+        ensures { lists_of self.new ≡ undone Change.Session (lists_of self.old) }
+    {
+        if let Some(row) = self.sessions.pop() {
+            self.accessing -= accessing_in(&row);
+        }
+    }
+}
+
+/// 1 for a session that is accessing.
+fn accessing_in(row: &SessionRow) -> usize
+    ensures { result ≡ accessing_in row.now }
+{
+    match row.state {
+        SessionState::Accessing => 1,
+        _ => 0,
+    }
+}
+
+/// Writes at a place, if it is there.
+fn put<T: Drop>(items: &mut Vec<T>, place: usize, item: T)
+    ensures { items.new.items ≡ slice_set items.old.items place item }
+{
+    if place < items.len() {
+        items[place] = item;
     }
 }

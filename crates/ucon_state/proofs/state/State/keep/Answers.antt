@@ -1,0 +1,13 @@
+use Rattle.std.proofs.Common.{sym, subst}
+use Rattle.ucon_model.specs.Checked.{checked_policy}
+use Rattle.ucon_state.specs.Sound.{AllSound}
+use Rattle.ucon_state.specs.Views.{lists_of}
+use Rattle.ucon_state.proofs.Stages.{sound_alone, sound_now}
+use Rattle.ucon_state.proofs.state.State.keep.Goals as goal
+
+pub invariant_of-self : goal.invariant_of-self
+invariant_of-self c =
+    let P = checked_policy c.args.self.now.checked in
+    let t = lists_of c.args.self.now.tables in
+    let now = sound_now P c.args.self.now.changes.items t c.args.self.now.sound in
+    record { sound = subst (λ cs. AllSound P cs t) (sym c.clear.ensures.items) (sound_alone P t now) }
