@@ -1,6 +1,7 @@
 pub mod Plain
 pub mod Views
 pub mod Spelling
+pub mod Printing
 pub mod Comparison
 pub mod Action
 pub mod Readings

@@ -1,0 +1,10 @@
+//! Policies as plain text.
+#![tactic(auto)]
+
+mod expr;
+mod formula;
+mod items;
+mod policy;
+mod words;
+
+pub use policy::policy_text;
