@@ -56,18 +56,18 @@ abbrev pub more_texts : ℕ → List Bytes → List Marked
 more_texts n [] = []
 more_texts n (t ∷ ts) = sign comma ∷ (text t, beyond item 64 n) ∷ more_texts (suc n) ts
 
-abbrev pub texts_tokens : List Bytes → List Marked
-texts_tokens [] = []
-texts_tokens (t ∷ ts) = clear (text t) ∷ more_texts 1 ts
-
--- "{" [ TEXT { "," TEXT } ] "}", each of the first 64 texts above the one before it
-abbrev pub a_set : Form (List Bytes)
-a_set = record {
-  Written = List Bytes;
-  tokens = λ ts. sign open_curly ∷ (texts_tokens ts ++ sign close_curly ∷ []);
-  tree = λ ts. ts;
-  IsProper = λ ts. is_rising (take 64 ts) ≡ true;
+-- TEXT { "," TEXT } "}", each of the first 64 texts above the one before it
+abbrev pub some_texts : Form (List Bytes)
+some_texts = record {
+  Written = Bytes × List Bytes;
+  tokens = λ s. clear (text s.0) ∷ (more_texts 1 s.1 ++ sign close_curly ∷ []);
+  tree = λ s. s.0 ∷ s.1;
+  IsProper = λ s. is_rising (take 64 (s.0 ∷ s.1)) ≡ true;
 }
+
+-- set = "{" [ TEXT { "," TEXT } ] "}"
+abbrev pub a_set : Form (List Bytes)
+a_set = before (sign open_curly) (either_of (before (sign close_curly) (nothing [])) some_texts)
 
 -- literal = int | TEXT | set
 abbrev pub a_literal : Form Value

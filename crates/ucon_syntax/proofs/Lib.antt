@@ -3,3 +3,14 @@ pub mod Levels
 pub mod Lists
 pub mod Rises
 pub mod Texts
+pub mod Marks
+pub mod Laws
+pub mod Local
+pub mod Steps
+pub mod Outcomes
+pub mod Sound
+pub mod Chained
+pub mod Listed
+pub mod Words
+pub mod SetTexts
+pub mod Values
