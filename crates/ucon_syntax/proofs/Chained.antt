@@ -157,10 +157,10 @@ further_runs {A} ops p x (suc n) all = by_first (λ t. t) (λ t ts. cond (ops.go
 
 sound_further : {O A P : Type 0} {token : O → Terminal} {join : O → A → A → A} {ops : Operators A} {X : Form A} {E : Token → Type 0} {p : Reads A} → Chaining token join ops E → Sound P X E p → (all : A) → Sound P (further token join X 1 all) (Ends E ops) (more ops p 31 all)
 sound_further {ops = ops} {p = p} k x all = record {
-  finds = λ holds. record { found = further_found k (x.finds holds) 31 1 refl all; stopped = further_stopped k (x.finds holds) x.example 31 1 refl all };
+  finds = λ holds. record { found = further_found k (x.finds holds) 31 1 refl all; stopped = further_stopped k (x.finds holds) (x.example holds) 31 1 refl all };
   again = record { again = λ ms proper. further_again k x.again 31 1 refl all ms proper };
   runs = further_runs ops p x.runs 31 all;
-  example = record { written = []; proper = tt };
+  example = λ holds. record { written = []; proper = tt };
 }
 
 pub sound_chain : {O A P : Type 0} {token : O → Terminal} {join : O → A → A → A} {ops : Operators A} {X : Form A} {E : Token → Type 0} {p : Reads A} → Chaining token join ops E → Sound P X E p → Sound P (chain token join X) (Ends E ops) (chains.chain ops p)

@@ -14,3 +14,5 @@ pub mod Listed
 pub mod Words
 pub mod SetTexts
 pub mod Values
+pub mod Operators
+pub mod Factors

@@ -176,5 +176,5 @@ sound_listed {room = room} {begins = begins} {item = item} k f n fits = record {
   finds = λ holds. record { found = items_found k holds f n fits; stopped = items_stopped k holds f n fits };
   again = record { again = λ s proper. items_again k f s.0 n fits s.1 proper };
   runs = items_runs begins item k.runs f (room n);
-  example = record { written = (0, tt); proper = tt };
+  example = λ holds. record { written = (0, tt); proper = tt };
 }

@@ -267,7 +267,7 @@ sound_texts = record {
   };
   again = record { again = λ s proper. texts_again 64 0 [] refl refl s.0 s.1 proper };
   runs = texts_runs 64 [];
-  example = record { written = ([], []); proper = refl };
+  example = λ holds. record { written = ([], []); proper = refl };
 }
 
 closes : (b : Bool) (ts : List Token) → (let r : Result (List Bytes × List Token) Halt = cond b (Ok ([], drop 1 ts)) (texts_at 64 [] ts) in r) ≡ cond b ((let r : Result (List Token) Halt = cond b (Ok (drop 1 ts)) (Err (Unexpected, ts)) in r) >>= λ after. outcome [] after) (texts_at 64 [] ts)

@@ -19,7 +19,7 @@ pub record Sound {A : Type 0} (P : Type 0) (X : Form A) (E : Token → Type 0) (
   pub finds : P → Finds X reads
   pub again : Again X E reads
   pub runs : Runs reads
-  pub example : Example X
+  pub example : P → Example X
 
 abbrev pub Anything : Token → Type 0
 Anything t = Unit {0}
@@ -63,7 +63,7 @@ sound_nothing {A} x = record {
   };
   again = record { again = λ s proper. inl (record { clean = tt; on = λ rest e. refl }) };
   runs = gives x;
-  example = record { written = tt; proper = tt };
+  example = λ holds. record { written = tt; proper = tt };
 }
 
 pub sound_mapped : {A B P : Type 0} {X : Form A} {E : Token → Type 0} {p : Reads A} (f : A → B) → Sound P X E p → Sound P (mapped f X) E (λ ts. p ts >>= λ x. Ok (f x.0, x.1))
@@ -81,7 +81,7 @@ sound_mapped {A} {B} {P} {X} {E} {p} f x = record {
   };
   again = record { again = λ s proper. outcome_mapped f (X.tokens s) (X.tree s) E p (x.again.again s proper) };
   runs = andthen x.runs (λ y. gives (f y));
-  example = record { written = x.example.written; proper = x.example.proper };
+  example = λ holds. record { written = (x.example holds).written; proper = (x.example holds).proper };
 }
 
 -- a form and then another, which may follow it
@@ -103,7 +103,7 @@ sound_meeting {A} {B} {P} {X} {Y} {E} {F} {p} {q} x y meets = record {
     stopped = λ ts h e. elim (bind_err (p ts) (λ z. q z.0 z.1) h e) [
       | inl z ↦
           let f = (x.finds holds).stopped ts h z in
-          let more = (y (X.tree f.written)).example in
+          let more = (y (X.tree f.written)).example holds in
           record {
             written = (f.written, more.written);
             front = f.front;
@@ -132,7 +132,7 @@ sound_meeting {A} {B} {P} {X} {Y} {E} {F} {p} {q} x y meets = record {
   };
   again = record { again = λ s proper. in_sequence (X.tokens s.0) ((Y (X.tree s.0)).tokens s.1) (X.tree s.0) ((Y (X.tree s.0)).tree s.1) E F p q (x.again.again s.0 proper.0) (λ clean. (y (X.tree s.0)).again.again s.1 proper.1) (meets (X.tree s.0) s.1 proper.1) };
   runs = andthen x.runs (λ z. (y z).runs);
-  example = let e = x.example in let f = (y (X.tree e.written)).example in record { written = (e.written, f.written); proper = (e.proper, f.proper) };
+  example = λ holds. let e = x.example holds in let f = (y (X.tree e.written)).example holds in record { written = (e.written, f.written); proper = (e.proper, f.proper) };
 }
 
 -- where anything may follow the first
@@ -168,7 +168,7 @@ sound_before {A} {P} {X} {E} {next} {t} {test} k x = record {
         let f = (x.finds holds).found a.0 y rest a.2 in
         record { written = f.written; text = taking_ok ts a.0 k a.1 ∙ ap (λ (r : List Token). as_token t ∷ r) f.text; tree = f.tree; proper = f.proper; clean = f.clean };
     stopped = λ ts h e. elim (bind_err (taking test ts) next h e) [
-      | inl y ↦ stops_here (before (clear t) X) ts h (taking_stops (test (first ts)) ts h y) (record { written = x.example.written; proper = x.example.proper })
+      | inl y ↦ stops_here (before (clear t) X) ts h (taking_stops (test (first ts)) ts h y) (record { written = (x.example holds).written; proper = (x.example holds).proper })
       | inr (a, y, z) ↦
           let f = (x.finds holds).stopped a h z in
           record {
@@ -185,14 +185,14 @@ sound_before {A} {P} {X} {E} {next} {t} {test} k x = record {
   };
   again = record { again = λ s proper. outcome_behind t None (X.tokens s) (X.tree s) E next (λ ts. taking test ts >>= λ after. next after) refl (λ ts. taking_on test next (as_token t) ts k.again) (x.again.again s proper) };
   runs = takes test x.runs;
-  example = record { written = x.example.written; proper = x.example.proper };
+  example = λ holds. record { written = (x.example holds).written; proper = (x.example holds).proper };
 }
 
 -- a token that passes a limit
 abbrev pub barred : {A : Type 0} → Limit → (Token → Bool) → Reads A
 barred limit test ts = cond (test (first ts)) (Err (cause_of limit, ts)) (Err (Unexpected, ts))
 
-pub sound_barred : {A P : Type 0} {X : Form A} {E : Token → Type 0} {t : Terminal} {test : Token → Bool} (limit : Limit) → Tests t test → ((u : Token) → Stands limit t u → test u ≡ true) → Example X → Sound P (before (t, Some limit) X) E (barred limit test)
+pub sound_barred : {A P : Type 0} {X : Form A} {E : Token → Type 0} {t : Terminal} {test : Token → Bool} (limit : Limit) → Tests t test → ((u : Token) → Stands limit t u → test u ≡ true) → (P → Example X) → Sound P (before (t, Some limit) X) E (barred limit test)
 sound_barred {A} {P} {X} {E} {t} {test} limit k stands x = record {
   finds = λ holds. record {
     found = λ ts y rest e. elim (chosen (test (first ts)) (Err (cause_of limit, ts)) (Err (Unexpected, ts)) (outcome y rest) e) [
@@ -201,15 +201,15 @@ sound_barred {A} {P} {X} {E} {t} {test} limit k stands x = record {
     ];
     stopped = λ ts h e. elim (chosen (test (first ts)) (Err (cause_of limit, ts)) (Err (Unexpected, ts)) (failed h) e) [
       | inl (b, z) ↦ at_halt (before (t, Some limit) X) ts (halted (cause_of limit) ts) h (failure_is (halted (cause_of limit) ts) h z) (record {
-          written = x.written; front = []; behind = (t, Some limit) ∷ X.tokens x.written; whole = refl; text = refl; proper = x.proper; clean = tt;
-          over = inr (record { limit = limit; last = t; more = X.tokens x.written; token = as_token t; after = drop 1 ts; is_behind = refl; is_rest = k.is ts b; stands = inl refl; cause = refl });
+          written = (x holds).written; front = []; behind = (t, Some limit) ∷ X.tokens (x holds).written; whole = refl; text = refl; proper = (x holds).proper; clean = tt;
+          over = inr (record { limit = limit; last = t; more = X.tokens (x holds).written; token = as_token t; after = drop 1 ts; is_behind = refl; is_rest = k.is ts b; stands = inl refl; cause = refl });
         })
-      | inr (b, z) ↦ stops_here (before (t, Some limit) X) ts h (failure_is (halted Unexpected ts) h z) (record { written = x.written; proper = x.proper })
+      | inr (b, z) ↦ stops_here (before (t, Some limit) X) ts h (failure_is (halted Unexpected ts) h z) (record { written = (x holds).written; proper = (x holds).proper })
     ];
   };
   again = record { again = λ s proper. inr (record { front = []; last = t; limit = limit; behind = X.tokens s; whole = refl; clean = tt; stops = λ u r st. bars u r (stands u st) }) };
   runs = by_first test (λ b ts. cond b (Err (cause_of limit, ts)) (Err (Unexpected, ts))) (λ b. either_way (λ ts. Err (cause_of limit, ts)) (λ ts. Err (Unexpected, ts)) (halts (cause_of limit)) (halts Unexpected) b);
-  example = record { written = x.written; proper = x.proper };
+  example = λ holds. record { written = (x holds).written; proper = (x holds).proper };
 }
   where
     failed : Halt → Result (A × List Token) Halt
@@ -283,7 +283,7 @@ sound_picked {B} {P} {token} {passes} {IsAllowed} {pick} k = record {
   };
   again = record { again = λ b allowed. picked_again k b (passes b) refl allowed };
   runs = by_first pick (picked passes) each;
-  example = record { written = k.one; proper = k.one_allowed };
+  example = λ holds. record { written = k.one; proper = k.one_allowed };
 }
   where
     by_mark : (o : Option Limit) (b : B) → Runs (unless_passed o b)
@@ -317,7 +317,7 @@ sound_either {A} {P} {X} {Y} {E} {p} {q} test one other x y = record {
   };
   again = record { again = again };
   runs = by_first test (λ b ts. cond b (p ts) (q ts)) (λ b. either_way p q x.runs y.runs b);
-  example = record { written = inl x.example.written; proper = x.example.proper };
+  example = λ holds. record { written = inl (x.example holds).written; proper = (x.example holds).proper };
 }
   where
     again : (s : (either_of X Y).Written) → (either_of X Y).IsProper s → Outcome ((either_of X Y).tokens s) ((either_of X Y).tree s) E (λ ts. cond (test (first ts)) (p ts) (q ts))
@@ -334,5 +334,17 @@ sound_at_any_depth {A} {P} {X} {E} {p} depth holds x {Q} = record {
   };
   again = record { again = λ s proper. (x s.0).again.again s.1 proper };
   runs = (x depth).runs;
-  example = record { written = (depth, (x depth).example.written); proper = (x depth).example.proper };
+  example = λ q. record { written = (depth, ((x depth).example holds).written); proper = ((x depth).example holds).proper };
 }
+
+pub sound_no_form : {A P : Type 0} {E : Token → Type 0} {p : Reads A} → (P → ⊥) → Runs p → Sound P no_form E p
+sound_no_form nothing_holds runs = record {
+  finds = λ holds. absurd (nothing_holds holds);
+  again = record { again = λ s proper. absurd s };
+  runs = runs;
+  example = λ holds. absurd (nothing_holds holds);
+}
+
+-- under a stronger premise
+pub sound_under : {A P Q : Type 0} {X : Form A} {E : Token → Type 0} {p : Reads A} → (Q → P) → Sound P X E p → Sound Q X E p
+sound_under f x = record { finds = λ q. x.finds (f q); again = x.again; runs = x.runs; example = λ q. x.example (f q) }
