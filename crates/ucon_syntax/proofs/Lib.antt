@@ -16,3 +16,4 @@ pub mod SetTexts
 pub mod Values
 pub mod Operators
 pub mod Factors
+pub mod Units
