@@ -112,7 +112,7 @@ further_stopped {A = A} {token = token} {join = join} {ops = ops} {X = X} {p = p
       | inr (b, z) ↦ absurd cc
     ]
 
-mark_is : (l : Limit) (b : Bool) (m : Limit) → (let o : Option Limit = cond b None (Some l) in o) ≡ Some m → m ≡ l
+pub mark_is : (l : Limit) (b : Bool) (m : Limit) → (let o : Option Limit = cond b None (Some l) in o) ≡ Some m → m ≡ l
 mark_is l true m e = absurd cc
 mark_is l false m e = cc
 

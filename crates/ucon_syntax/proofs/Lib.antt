@@ -17,3 +17,5 @@ pub mod Values
 pub mod Operators
 pub mod Factors
 pub mod Units
+pub mod Rooms
+pub mod Parts
