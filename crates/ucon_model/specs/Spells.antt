@@ -1,8 +1,8 @@
 -- Which policy a text spells, and which fault of it is the first.
-use Rattle.std.specs.Prelude.{◌≡◌, ◌<◌, ◌≤◌, ℕ, List, [], ◌∷◌, ◌++◌, length, Some}
+use Rattle.std.specs.Prelude.{◌≡◌, ◌<◌, ◌≤◌, ℕ, List, [], ◌∷◌, ◌++◌, length, Option, Some, None}
 use Rattle.std.proofs.Common.{◌⊎◌}
 use Rattle.ucon_model.specs.Plain.{Bytes, PlainPolicy}
-use Rattle.ucon_model.specs.Tokens.{Token, joined_word, flawed, unknown, too_long, misplaced, tokens_of, place_of}
+use Rattle.ucon_model.specs.Tokens.{Token, joined_word, flawed, Flaw, unknown, too_long, misplaced, tokens_of, place_of}
 use Rattle.ucon_model.specs.Forms.{Terminal, word, as_token, Limit, operand, item, level, Marked, bare, IsClean}
 use Rattle.ucon_model.specs.Grammar.{a_policy}
 
@@ -63,16 +63,30 @@ pub record Passes (limit : Limit) (used : List Token) (t : Token) : Type 0 where
 pub data TextFault : Type 0 where
   unknown_byte overlong too_many too_deep unexpected : TextFault
 
+-- the flaw in what is no token
+abbrev pub flaw_in : Token → Option Flaw
+flaw_in (flawed f) = Some f
+flaw_in t = None
+
+abbrev pub fault_of_flaw : Flaw → TextFault
+fault_of_flaw unknown = unknown_byte
+fault_of_flaw too_long = overlong
+fault_of_flaw misplaced = unexpected
+
+-- The next token, with a flaw or not, has this fault: it is none; it passes a limit; or no policy has it after the tokens
+-- before it.
+abbrev pub StopsAt : TextFault → List Token → Token → Option Flaw → Type 0
+StopsAt fault used t (Some flaw) = fault ≡ fault_of_flaw flaw
+StopsAt too_many used t None = Passes operand used t ⊎ Passes item used t
+StopsAt too_deep used t None = Passes level used t
+StopsAt unexpected used t None = (IsAlive (used ++ t ∷ []) → ⊥) × (Passes operand used t → ⊥)
+StopsAt fault used t None = ⊥
+
 -- the next token, or the end, has this fault
 abbrev pub Stops : TextFault → List Token → List Token → Type 0
-Stops fault used (flawed unknown ∷ ts) = fault ≡ unknown_byte
-Stops fault used (flawed too_long ∷ ts) = fault ≡ overlong
-Stops fault used (flawed misplaced ∷ ts) = fault ≡ unexpected
-Stops too_many used (t ∷ ts) = Passes operand used t ⊎ Passes item used t
-Stops too_deep used (t ∷ ts) = Passes level used t
-Stops unexpected used (t ∷ ts) = (IsAlive (used ++ t ∷ []) → ⊥) × (Passes operand used t → ⊥)
+Stops fault used (t ∷ ts) = StopsAt fault used t (flaw_in t)
 Stops unexpected used [] = (p : PlainPolicy) → Spelled used p → ⊥
-Stops fault used rest = ⊥
+Stops fault used [] = ⊥
 
 -- the first fault of the tokens stands before the rest
 pub record FirstFault (fault : TextFault) (ts rest : List Token) : Type 0 where

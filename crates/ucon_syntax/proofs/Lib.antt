@@ -19,3 +19,6 @@ pub mod Factors
 pub mod Units
 pub mod Rooms
 pub mod Parts
+pub mod Wholes
+pub mod Firsts
+pub mod Exact

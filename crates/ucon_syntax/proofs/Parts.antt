@@ -24,18 +24,20 @@ use Rattle.ucon_syntax.specs.declared.starts.KindWord.TheVariants as kind_words
 use Rattle.ucon_syntax.specs.declared.starts.TestSort.{TestSort}
 use Rattle.ucon_syntax.specs.declared.starts.TestSort.TheVariants as sorts
 use Rattle.ucon_syntax.specs.declared.starts.DutyWord.TheVariants as duties
-use Rattle.ucon_syntax.specs.Starts.{sum_sign, kind_word, test_sort, duty_word, name_in}
+use Rattle.ucon_syntax.specs.Starts.{sum_sign, side_of, phase_of, when_of, kind_word, test_sort, duty_word, name_in}
+use Rattle.ucon_syntax.specs.Literals.{literal_at}
 use Rattle.ucon_syntax.specs.Expressions.{expr_at}
 use Rattle.ucon_syntax.specs.Formulas.{formula_at}
-use Rattle.ucon_syntax.specs.Items.{range_at, kind_from, kind_at, attr_at, env_at, form_from, form_at, some_name, party_at, duty_at, test_from, pred_at, update_at}
+use Rattle.ucon_syntax.specs.Items.{take_side, take_phase, take_when, range_at, kind_from, kind_at, attr_at, env_at, form_from, form_at, some_name, party_at, duty_at, test_from, pred_at, update_at}
 use Rattle.ucon_syntax.proofs.Laws.{Meets, Example}
-use Rattle.ucon_syntax.proofs.Sound.{Sound, Anything, sound_same, sound_ending, sound_nothing, sound_mapped, sound_meeting, sound_then, sound_before, sound_either}
+use Rattle.ucon_syntax.proofs.Local.{Runs, andthen, takes}
+use Rattle.ucon_syntax.proofs.Sound.{Sound, Anything, sound_retree, sound_same, sound_ending, sound_nothing, sound_mapped, sound_meeting, sound_then, sound_before, sound_either}
 use Rattle.ucon_syntax.proofs.Words.{symbol_tests, word_tests, sound_name, sound_number, sound_named_text}
 use Rattle.ucon_syntax.proofs.Values.{when_taken, sound_int, sound_literal}
 use Rattle.ucon_syntax.proofs.Operators.{expr_ends, formula_ends}
 use Rattle.ucon_syntax.proofs.Factors.{sound_expr}
 use Rattle.ucon_syntax.proofs.Units.{sound_formula, semicolon_ends}
-use Rattle.ucon_syntax.proofs.Rooms.{side_room, phase_room, when_room, sound_side, sound_counted_side, sound_counted_phase, sound_counted_when}
+use Rattle.ucon_syntax.proofs.Rooms.{side_room, phase_room, when_room, sound_side, sound_counted_side, sound_counted_phase, sound_counted_when, counted_runs}
 
 abbrev took : Bool → List Token → Result (List Token) Halt
 took b ts = cond b (Ok (drop 1 ts)) (Err (Unexpected, ts))
@@ -66,18 +68,33 @@ sound_kind =
 
 -- ---- attributes and variables
 
-abbrev attr_form : SideCount → Form (AttrDecl × SideRoom)
-attr_form n =
-    before (keyword (codes "attr")) (and_then {A = Side × SideRoom} (mapped (λ side. (side, side_room (count_side n side))) (one_of side_token (λ side. beyond item 16 (of_side n side)) (λ side. Unit {0}))) (λ side.
+abbrev attr_rest : Side × SideRoom → Form (AttrDecl × SideRoom)
+attr_rest side =
     and_then a_name (λ name. before (sign colon) (and_then a_kind (λ kind. before (sign equal_sign) (and_then a_literal (λ start.
-    before (sign semicolon) (nothing (record { side = side.0; name = name; kind = kind; start = start }, side.1)))))))))
+    before (sign semicolon) (nothing (record { side = side.0; name = name; kind = kind; start = start }, side.1)))))))
+
+attr_behind : {P : Type 0} (side : Side × SideRoom) → Sound P (attr_rest side) Anything (λ ts. name_at ts >>= λ name. expect colon name.1 >>= λ b. kind_at b >>= λ kind. expect equal_sign kind.1 >>= λ c. literal_at c >>= λ start. expect semicolon start.1 >>= λ d. Ok ((record { side = side.0; name = name.0; kind = kind.0; start = start.0 }, side.1), d))
+attr_behind side =
+    sound_then sound_name (λ name. sound_before (symbol_tests colon)
+    (sound_then sound_kind (λ kind. sound_before (symbol_tests equal_sign) (sound_then sound_literal (λ start. sound_before (symbol_tests semicolon)
+    (sound_nothing (record { side = side.0; name = name; kind = kind; start = start }, side.1)))))))
+
+-- what stands behind the word for its side
+abbrev pub attr_tail : Side → Form AttrDecl
+attr_tail side =
+    and_then a_name (λ name. before (sign colon) (and_then a_kind (λ kind. before (sign equal_sign) (and_then a_literal (λ start.
+    before (sign semicolon) (nothing (record { side = side; name = name; kind = kind; start = start })))))))
+
+abbrev attr_form : SideCount → Form (AttrDecl × SideRoom)
+attr_form n = before (keyword (codes "attr")) (and_then {A = Side × SideRoom} (mapped (λ side. (side, side_room (count_side n side))) (one_of side_token (λ side. beyond item 16 (of_side n side)) (λ side. Unit {0}))) attr_rest)
 
 attr_read : {P : Type 0} (n : SideCount) → Sound P (attr_form n) Anything (attr_at (side_room n))
 unfolding attr_at
-attr_read n =
-    sound_before (word_tests (codes "attr")) (sound_then (sound_counted_side n) (λ side. sound_then sound_name (λ name. sound_before (symbol_tests colon)
-    (sound_then sound_kind (λ kind. sound_before (symbol_tests equal_sign) (sound_then sound_literal (λ start. sound_before (symbol_tests semicolon)
-    (sound_nothing (record { side = side.0; name = name; kind = kind; start = start }, side.1)))))))))
+attr_read n = sound_before (word_tests (codes "attr")) (sound_then (sound_counted_side n) attr_behind)
+
+pub attr_runs : (room : SideRoom) → Runs (attr_at room)
+unfolding attr_at
+attr_runs room = takes (λ t. is_word t (codes "attr")) (andthen (counted_runs take_side room side_of) (λ side. (attr_behind {P = Unit {0}} side).runs))
 
 pub sound_attr : {P : Type 0} (n : SideCount) → Sound P (mapped (λ a. (a, side_room (count_side n a.side))) (an_attr n)) Anything (attr_at (side_room n))
 sound_attr n = attr_read n
@@ -197,3 +214,55 @@ pub pred_phase : (n : PhaseCount) (s : (a_pred n).Written) → ((a_pred n).tree 
 pred_phase n (phase, inl s) = refl
 pred_phase n (phase, inr (inl s)) = refl
 pred_phase n (phase, inr (inr s)) = refl
+
+pub sound_pred : {P : Type 0} (n : PhaseCount) → Sound P (mapped (λ p. (p, phase_room (count_phase n p.phase))) (a_pred n)) Anything (pred_at (phase_room n))
+sound_pred n = sound_retree {X = pred_form n} (λ s. ((a_pred n).tree s, phase_room (count_phase n ((a_pred n).tree s).phase))) (pred_tree n) (pred_read n)
+
+pub pred_runs : (room : PhaseRoom) → Runs (pred_at room)
+unfolding pred_at
+pred_runs room = andthen (counted_runs take_phase room phase_of) (λ phase. (sound_sorted {P = Unit {0}} phase).runs)
+
+-- what stands behind the word for its phase
+abbrev pub pred_rest : Phase → Form PlainPredicate
+pred_rest phase =
+    either_of (before (keyword (codes "a")) (labelled phase (mapped (λ f. authorisation f) a_formula)))
+    (either_of (before (keyword (codes "b")) (labelled phase (mapped (λ o. duty o) a_duty)))
+    (before (keyword (codes "c")) (labelled phase (mapped (λ f. condition f) a_formula))))
+
+pub pred_example : (phase : Phase) → Example (pred_rest phase)
+pred_example phase = let e = (sound_sorted {P = Unit {0}} (phase, record { pre = 0; ongoing = 0 })).example tt in record { written = e.written; proper = e.proper }
+
+-- ---- updates
+
+abbrev update_rest : When × WhenRoom → Form (PlainUpdate × WhenRoom)
+update_rest when =
+    and_then a_side (λ side. before (sign dot) (and_then a_name (λ attr. before (sign equal_sign) (and_then an_expr (λ value.
+    before (sign semicolon) (nothing (record { when = when.0; side = side; attr = attr; value = value }, when.1)))))))
+
+update_behind : {P : Type 0} (when : When × WhenRoom) → Sound P (update_rest when) Anything (λ ts. taken (side_of (first ts)) ts >>= λ side. expect dot side.1 >>= λ a. name_at a >>= λ attr. expect equal_sign attr.1 >>= λ b. expr_at 32 b >>= λ value. expect semicolon value.1 >>= λ c. Ok ((record { when = when.0; side = side.0; attr = attr.0; value = value.0 }, when.1), c))
+update_behind when =
+    sound_then sound_side (λ side. sound_before (symbol_tests dot) (sound_then sound_name (λ attr. sound_before (symbol_tests equal_sign)
+    (sound_meeting sound_expr (λ value. sound_before (symbol_tests semicolon) (sound_nothing (record { when = when.0; side = side; attr = attr; value = value }, when.1))) (λ value s proper. semicolon_ends.0.0)))))
+
+abbrev update_form : WhenCount → Form (PlainUpdate × WhenRoom)
+update_form n = and_then {A = When × WhenRoom} (mapped (λ when. (when, when_room (count_when n when))) (one_of when_token (λ when. beyond item 16 (of_when n when)) (λ when. Unit {0}))) update_rest
+
+update_read : {P : Type 0} (n : WhenCount) → Sound P (update_form n) Anything (update_at (when_room n))
+unfolding update_at
+update_read n = sound_then (sound_counted_when n) update_behind
+
+pub sound_update : {P : Type 0} (n : WhenCount) → Sound P (mapped (λ u. (u, when_room (count_when n u.when))) (an_update n)) Anything (update_at (when_room n))
+sound_update n = update_read n
+
+pub update_runs : (room : WhenRoom) → Runs (update_at room)
+unfolding update_at
+update_runs room = andthen (counted_runs take_when room when_of) (λ when. (update_behind {P = Unit {0}} when).runs)
+
+-- what stands behind the word for its phase
+abbrev pub plain_rest : When → Form PlainUpdate
+plain_rest when =
+    and_then a_side (λ side. before (sign dot) (and_then a_name (λ attr. before (sign equal_sign) (and_then an_expr (λ value.
+    before (sign semicolon) (nothing (record { when = when; side = side; attr = attr; value = value })))))))
+
+pub update_example : (when : When) → Example (plain_rest when)
+update_example when = let e = (update_behind {P = Unit {0}} (when, record { before = 0; during = 0; after_end = 0; after_revoke = 0 })).example tt in record { written = e.written; proper = e.proper }

@@ -12,7 +12,7 @@ use Rattle.ucon_model.specs.Tokens.{Token, a_word}
 use Rattle.ucon_model.specs.Forms.{Terminal, as_token, Limit, item, Marked, beyond, Form, mapped, one_of, IsClean}
 use Rattle.ucon_model.specs.Grammar.{side_token, SideCount, of_side, count_side, phase_token, PhaseCount, of_phase, count_phase, when_token, WhenCount, of_when, count_when}
 use Rattle.ucon_model.specs.Spells.{Stands}
-use Rattle.ucon_token.specs.declared.stop.Cause.TheVariants.{Unexpected}
+use Rattle.ucon_token.specs.declared.stop.Cause.TheVariants.{Unexpected, TooMany}
 use Rattle.ucon_token.specs.Tokens.{first, is_word}
 use Rattle.ucon_token.specs.Reading.{Halt, Reads, ◌>>=◌, taken}
 use Rattle.ucon_syntax.specs.declared.room.SideRoom.{SideRoom}
@@ -21,6 +21,7 @@ use Rattle.ucon_syntax.specs.declared.room.WhenRoom.{WhenRoom}
 use Rattle.ucon_syntax.specs.Starts.{side_of, phase_of, when_of}
 use Rattle.ucon_syntax.specs.Items.{less, take_side, take_phase, take_when, with_room, counted}
 use Rattle.ucon_syntax.proofs.Steps.{chosen}
+use Rattle.ucon_syntax.proofs.Local.{Runs, gives, halts, past, by_first}
 use Rattle.ucon_syntax.proofs.Sound.{Sound, Anything, Picks, unless_passed, picked, sound_same, sound_mapped, sound_picked, sound_taken}
 use Rattle.ucon_syntax.proofs.Chained.{mark_is}
 use Rattle.ucon_syntax.proofs.Words.{is_word_is, word_tests, no_mark}
@@ -196,3 +197,16 @@ pub sound_counted_when : {P : Type 0} (n : WhenCount) → Sound P (mapped (λ wh
 sound_counted_when n =
     sound_same (λ ts. counted take_when (when_room n) (when_of (first ts)) ts) (λ ts. counted_is take_when (when_room n) (λ when. beyond item 16 (of_when n when)) (λ when. when_room (count_when n when)) (when_rooms n) (when_of (first ts)) ts)
     (sound_mapped (λ when. (when, when_room (count_when n when))) (sound_picked {pick = when_of} (record { is = when_is; allowed = λ t b e. tt; again = λ b a. when_again b; alone = λ b l e u s. item_alone 16 (of_when n b) (when_token b) l e u s; one = whens.Before; one_allowed = tt })))
+
+-- ---- runs
+
+room_runs : {B S : Type 0} (b : B) (o : Option S) → Runs (with_room b o)
+room_runs b None = halts TooMany
+room_runs b (Some left) = past (gives (b, left))
+
+pub counted_runs : {B S : Type 0} (take : B → S → Option S) (room : S) (pick : Token → Option B) → Runs (λ ts. counted take room (pick (first ts)) ts)
+counted_runs {B} take room pick = by_first pick (counted take room) each
+  where
+    each : (o : Option B) → Runs (counted take room o)
+    each None = halts Unexpected
+    each (Some b) = record { program = (room_runs b (take b room)).program; same = (room_runs b (take b room)).same }

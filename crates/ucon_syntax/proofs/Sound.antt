@@ -348,3 +348,15 @@ sound_no_form nothing_holds runs = record {
 -- under a stronger premise
 pub sound_under : {A P Q : Type 0} {X : Form A} {E : Token → Type 0} {p : Reads A} → (Q → P) → Sound P X E p → Sound Q X E p
 sound_under f x = record { finds = λ q. x.finds (f q); again = x.again; runs = x.runs; example = λ q. x.example (f q) }
+
+-- standing for the same
+pub sound_retree : {A P : Type 0} {X : Form A} {E : Token → Type 0} {p : Reads A} (tree : X.Written → A) → ((s : X.Written) → tree s ≡ X.tree s) → Sound P X E p → Sound P (record { Written = X.Written; tokens = X.tokens; tree = tree; IsProper = X.IsProper }) E p
+sound_retree {A} {P} {X} {E} {p} tree same x = record {
+  finds = λ holds. record {
+    found = λ ts y rest e. let f = (x.finds holds).found ts y rest e in record { written = f.written; text = f.text; tree = same f.written ∙ f.tree; proper = f.proper; clean = f.clean };
+    stopped = λ ts h e. let f = (x.finds holds).stopped ts h e in record { written = f.written; front = f.front; behind = f.behind; whole = f.whole; text = f.text; proper = f.proper; clean = f.clean; over = f.over };
+  };
+  again = record { again = λ s proper. outcome_as (X.tokens s) (X.tree s) (tree s) E p (sym (same s)) (x.again.again s proper) };
+  runs = x.runs;
+  example = λ holds. record { written = (x.example holds).written; proper = (x.example holds).proper };
+}
