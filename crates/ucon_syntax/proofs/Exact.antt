@@ -19,10 +19,10 @@ use Rattle.ucon_syntax.proofs.Sound.{Sound}
 use Rattle.ucon_syntax.proofs.Wholes.{policy_ends, sound_policy}
 use Rattle.ucon_syntax.proofs.Firsts.{SameMark, same_mark, mark_behind, length-bare, Split, split_bare, bare_plain, Inside, Behind, apart}
 
-policy_finds : Finds a_policy policy_at
+pub policy_finds : Finds a_policy policy_at
 policy_finds = (sound_policy {P = Unit {0}}).finds tt
 
-abbrev Read : Type 0
+abbrev pub Read : Type 0
 Read = Result (PlainPolicy × List Token) Halt
 
 at_end : policy_ends the_end
@@ -120,7 +120,7 @@ fault_name None TooMany = too_many
 fault_name None TooDeep = too_deep
 
 -- the token at which reading stopped passes a limit
-passes_at : (s : a_policy.Written) (front behind : List Marked) (t : Token) (r : List Token) (c : Cause) → a_policy.tokens s ≡ front ++ behind → a_policy.IsProper s → IsClean front → (b : Beyond c behind (t ∷ r)) → Passes b.limit (bare front) t
+pub passes_at : (s : a_policy.Written) (front behind : List Marked) (t : Token) (r : List Token) (c : Cause) → a_policy.tokens s ≡ front ++ behind → a_policy.IsProper s → IsClean front → (b : Beyond c behind (t ∷ r)) → Passes b.limit (bare front) t
 passes_at s front behind t r c whole proper clean b =
     let same : b.token ≡ t = (let h = ap first b.is_rest in sym h) in
     record {
@@ -166,7 +166,7 @@ stop_by s front behind t r TooMany None whole proper clean (inr b) e = many_stop
 stop_by s front behind t r TooDeep None whole proper clean (inl x) e = absurd cc
 stop_by s front behind t r TooDeep None whole proper clean (inr b) e = deep_stop (bare front) t b.limit b.cause (passes_at s front behind t r TooDeep whole proper clean b)
 
-nil_over : (c : Cause) (behind : List Marked) → Over c behind [] → c ≡ Unexpected
+pub nil_over : (c : Cause) (behind : List Marked) → Over c behind [] → c ≡ Unexpected
 nil_over c behind (inl e) = e
 nil_over c behind (inr b) = absurd (omega (arith, ap length b.is_rest))
 
@@ -229,7 +229,7 @@ moved_left (Ok x) ts = refl
 moved_left (Err h) ts = refl
 
 -- reading goes past what begins a policy
-goes_past : (used rest : List Token) → IsAliveWithin used → Behind rest (left (policy_at (used ++ rest)))
+pub goes_past : (used rest : List Token) → IsAliveWithin used → Behind rest (left (policy_at (used ++ rest)))
 goes_past used rest a =
     let tail = leaves_tail policy_at (sound_policy {P = Unit {0}}).runs (used ++ rest) in
     elim (apart used rest tail.used (left (policy_at (used ++ rest))) tail.same) [

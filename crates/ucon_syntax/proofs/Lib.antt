@@ -22,3 +22,4 @@ pub mod Parts
 pub mod Wholes
 pub mod Firsts
 pub mod Exact
+pub mod Only
