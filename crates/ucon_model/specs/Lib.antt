@@ -26,3 +26,6 @@ pub mod Places
 pub mod Cores
 pub mod Typing
 pub mod Meaning
+pub mod Forms
+pub mod Grammar
+pub mod Spells
