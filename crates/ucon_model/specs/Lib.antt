@@ -22,3 +22,4 @@ pub mod Lookup
 pub mod Forms
 pub mod Grammar
 pub mod Spells
+pub mod Limits
