@@ -29,3 +29,4 @@ pub mod Meaning
 pub mod Forms
 pub mod Grammar
 pub mod Spells
+pub mod Limits

@@ -10,7 +10,7 @@ use Rattle.ucon_syntax.specs.Chains.{Operators, more}
 use Rattle.ucon_syntax.specs.Chains as chains
 use Rattle.ucon_syntax.proofs.Marks.{clean_append, clean_head, not_beyond, is_beyond}
 use Rattle.ucon_syntax.proofs.Steps.{halted, outcome, bind_ok, bind_err, pair_is, chosen, two_texts}
-use Rattle.ucon_syntax.proofs.Laws.{Found, Stopped, Example, Finds, Outcome, Again, Meets}
+use Rattle.ucon_syntax.proofs.Keeping.{Found, Stopped, Example, Finds, Outcome, Again, Meets}
 use Rattle.ucon_syntax.proofs.Local.{Runs, gives, halts, past, by_first, andthen, either_way}
 use Rattle.ucon_syntax.proofs.Outcomes.{over_more, followed, in_sequence, outcome_as, outcome_behind}
 use Rattle.ucon_syntax.proofs.Sound.{Sound, sound_meeting, at_halt}

@@ -13,7 +13,7 @@ use Rattle.ucon_token.specs.Reading.{Halt, ◌>>=◌}
 use Rattle.ucon_syntax.specs.Policies.{policy_at, ended, whole_at}
 use Rattle.ucon_syntax.proofs.Marks.{clean_append, clean_front, not_clean, bare_append}
 use Rattle.ucon_syntax.proofs.Steps.{halted, bind_ok, bind_err, pair_is, bare_both}
-use Rattle.ucon_syntax.proofs.Laws.{cause_of, Found, Beyond, Over, Stopped, Finds, Breaks, Repeats, Outcome}
+use Rattle.ucon_syntax.proofs.Keeping.{cause_of, Found, Beyond, Over, Stopped, Finds, Breaks, Repeats, Outcome}
 use Rattle.ucon_syntax.proofs.Local.{left, moved, is_local, Tail, leaves_tail}
 use Rattle.ucon_syntax.proofs.Sound.{Sound}
 use Rattle.ucon_syntax.proofs.Wholes.{policy_ends, sound_policy}

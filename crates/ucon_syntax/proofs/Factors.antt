@@ -19,7 +19,7 @@ use Rattle.ucon_syntax.specs.Literals.{literal_at}
 use Rattle.ucon_syntax.specs.Expressions.{place_at, round_with, factor_from, level as below, factor_at, term_at, expr_at}
 use Rattle.ucon_syntax.specs.Expressions as reading
 use Rattle.ucon_syntax.proofs.Steps.{chosen}
-use Rattle.ucon_syntax.proofs.Laws.{Meets, Example}
+use Rattle.ucon_syntax.proofs.Keeping.{Meets, Example}
 use Rattle.ucon_syntax.proofs.Local.{Runs, taking}
 use Rattle.ucon_syntax.proofs.Sound.{Sound, Anything, Tests, barred, sound_same, sound_ending, sound_nothing, sound_mapped, sound_meeting, sound_before, sound_barred, sound_either, sound_at_any_depth, sound_no_form, sound_under}
 use Rattle.ucon_syntax.proofs.Chained.{sound_chain}

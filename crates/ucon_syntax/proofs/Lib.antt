@@ -4,7 +4,7 @@ pub mod Lists
 pub mod Rises
 pub mod Texts
 pub mod Marks
-pub mod Laws
+pub mod Keeping
 pub mod Local
 pub mod Steps
 pub mod Outcomes
@@ -23,3 +23,5 @@ pub mod Wholes
 pub mod Firsts
 pub mod Exact
 pub mod Only
+pub mod Whole
+pub mod Counts

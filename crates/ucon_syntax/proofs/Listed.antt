@@ -9,7 +9,7 @@ use Rattle.ucon_token.specs.Reading.{Halt, Reads, ◌>>=◌}
 use Rattle.ucon_syntax.specs.Lists.{items_at}
 use Rattle.ucon_syntax.proofs.Marks.{clean_append}
 use Rattle.ucon_syntax.proofs.Steps.{halted, outcome, bind_ok, bind_err, pair_is, ok_is, chosen, two_texts}
-use Rattle.ucon_syntax.proofs.Laws.{cause_of, Found, Stopped, Outcome, Meets, meets_any}
+use Rattle.ucon_syntax.proofs.Keeping.{cause_of, Found, Stopped, Outcome, Meets, meets_any}
 use Rattle.ucon_syntax.proofs.Local.{Runs, gives, halts, by_first, andthen, either_way}
 use Rattle.ucon_syntax.proofs.Outcomes.{Led, led_meets, led_append, over_more, followed, in_sequence, outcome_mapped, outcome_when}
 use Rattle.ucon_syntax.proofs.Sound.{Sound, Anything, at_halt}

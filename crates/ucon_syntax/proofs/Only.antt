@@ -12,7 +12,7 @@ use Rattle.ucon_token.specs.Tokens.{first}
 use Rattle.ucon_token.specs.Reading.{Halt, ◌>>=◌}
 use Rattle.ucon_syntax.specs.Policies.{policy_at, ended, whole_at}
 use Rattle.ucon_syntax.proofs.Marks.{clean_front, bare_append}
-use Rattle.ucon_syntax.proofs.Laws.{cause_of, Found, Beyond, Over, Stopped}
+use Rattle.ucon_syntax.proofs.Keeping.{cause_of, Found, Beyond, Over, Stopped}
 use Rattle.ucon_syntax.proofs.Local.{left}
 use Rattle.ucon_syntax.proofs.Firsts.{Split, split_bare, bare_plain, Behind}
 use Rattle.ucon_syntax.proofs.Exact.{Read, policy_finds, reads_mark, fault_name, passes_at, nil_over, goes_past}

@@ -9,7 +9,7 @@ use Rattle.ucon_token.specs.Tokens.{first}
 use Rattle.ucon_token.specs.Reading.{Halt, Reads, ◌>>=◌}
 use Rattle.ucon_syntax.proofs.Marks.{clean_append, clean_head}
 use Rattle.ucon_syntax.proofs.Steps.{bare_both}
-use Rattle.ucon_syntax.proofs.Laws.{cause_of, Beyond, Over, Breaks, Repeats, Outcome, Meets, meets_rest, meets_stop}
+use Rattle.ucon_syntax.proofs.Keeping.{cause_of, Beyond, Over, Breaks, Repeats, Outcome, Meets, meets_rest, meets_stop}
 use Rattle.ucon_syntax.proofs.Local.{taking}
 
 -- not empty, and what stands there first is one of these

@@ -29,7 +29,7 @@ use Rattle.ucon_syntax.specs.Literals.{literal_at}
 use Rattle.ucon_syntax.specs.Expressions.{expr_at}
 use Rattle.ucon_syntax.specs.Formulas.{formula_at}
 use Rattle.ucon_syntax.specs.Items.{take_side, take_phase, take_when, range_at, kind_from, kind_at, attr_at, env_at, form_from, form_at, some_name, party_at, duty_at, test_from, pred_at, update_at}
-use Rattle.ucon_syntax.proofs.Laws.{Meets, Example}
+use Rattle.ucon_syntax.proofs.Keeping.{Meets, Example}
 use Rattle.ucon_syntax.proofs.Local.{Runs, andthen, takes}
 use Rattle.ucon_syntax.proofs.Sound.{Sound, Anything, sound_retree, sound_same, sound_ending, sound_nothing, sound_mapped, sound_meeting, sound_then, sound_before, sound_either}
 use Rattle.ucon_syntax.proofs.Words.{symbol_tests, word_tests, sound_name, sound_number, sound_named_text}

@@ -21,7 +21,7 @@ use Rattle.ucon_token.specs.Reading.{Halt, Reads, ◌>>=◌, expect}
 use Rattle.ucon_syntax.specs.Literals.{member_from, member_at, behind_member, one_too_many, texts_at, set_at}
 use Rattle.ucon_syntax.proofs.Marks.{clean_head, not_beyond, is_beyond}
 use Rattle.ucon_syntax.proofs.Steps.{halted, outcome, bind_ok, bind_err, ok_is, pair_is, chosen}
-use Rattle.ucon_syntax.proofs.Laws.{Found, Stopped, Outcome, Example}
+use Rattle.ucon_syntax.proofs.Keeping.{Found, Stopped, Outcome, Example}
 use Rattle.ucon_syntax.proofs.Local.{Runs, gives, halts, past, by_first, andthen, either_way, takes}
 use Rattle.ucon_syntax.proofs.Sound.{Sound, Anything, at_halt, stops_here, sound_same, sound_nothing, sound_before, sound_either, taking_ok, taking_stops}
 use Rattle.ucon_syntax.proofs.Words.{is_symbol_is, symbol_tests, text_of_is}

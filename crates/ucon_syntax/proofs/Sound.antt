@@ -10,7 +10,7 @@ use Rattle.ucon_token.specs.Tokens.{first}
 use Rattle.ucon_token.specs.Reading.{Halt, Reads, ◌>>=◌, taken}
 use Rattle.ucon_syntax.proofs.Marks.{clean_append, clean_head}
 use Rattle.ucon_syntax.proofs.Steps.{halted, outcome, bind_ok, bind_err, pair_is, chosen, two_texts}
-use Rattle.ucon_syntax.proofs.Laws.{cause_of, Found, Beyond, Over, Stopped, Example, Finds, Breaks, Repeats, Outcome, Again, Meets, meets_any}
+use Rattle.ucon_syntax.proofs.Keeping.{cause_of, Found, Beyond, Over, Stopped, Example, Finds, Breaks, Repeats, Outcome, Again, Meets, meets_any}
 use Rattle.ucon_syntax.proofs.Local.{Runs, gives, halts, past, by_first, andthen, either_way, taking, takes, runs_same}
 use Rattle.ucon_syntax.proofs.Outcomes.{over_more, followed, in_sequence, outcome_as, outcome_same, outcome_ending, outcome_mapped, outcome_when, outcome_unless, outcome_behind}
 

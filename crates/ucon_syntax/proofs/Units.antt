@@ -20,7 +20,7 @@ use Rattle.ucon_syntax.specs.Expressions.{expr_at}
 use Rattle.ucon_syntax.specs.Formulas.{compare_at, unit_from, unit_level, unit_at, conj_at, formula_at}
 use Rattle.ucon_syntax.specs.Formulas as reading
 use Rattle.ucon_syntax.proofs.Steps.{chosen}
-use Rattle.ucon_syntax.proofs.Laws.{Meets, Example}
+use Rattle.ucon_syntax.proofs.Keeping.{Meets, Example}
 use Rattle.ucon_syntax.proofs.Outcomes.{Led, led_meets, led_append}
 use Rattle.ucon_syntax.proofs.Sound.{Sound, Anything, Tests, Picks, sound_same, sound_ending, sound_mapped, sound_meeting, sound_then, sound_before, sound_barred, sound_taken, sound_either, sound_at_any_depth, sound_no_form, sound_under}
 use Rattle.ucon_syntax.proofs.Chained.{sound_chain}

@@ -11,7 +11,7 @@ use Rattle.ucon_syntax.specs.declared.starts.LiteralStart.{LiteralStart}
 use Rattle.ucon_syntax.specs.declared.starts.LiteralStart.TheVariants as literals
 use Rattle.ucon_syntax.specs.Starts.{literal_start, symbol_literal}
 use Rattle.ucon_syntax.specs.Literals.{negative_at, int_at, set_at, literal_from, literal_at}
-use Rattle.ucon_syntax.proofs.Laws.{Meets}
+use Rattle.ucon_syntax.proofs.Keeping.{Meets}
 use Rattle.ucon_syntax.proofs.Local.{taking}
 use Rattle.ucon_syntax.proofs.Sound.{Sound, Anything, Tests, sound_same, sound_mapped, sound_before, sound_either}
 use Rattle.ucon_syntax.proofs.Words.{symbol_tests, sound_number, sound_text}

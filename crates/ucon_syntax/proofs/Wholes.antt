@@ -19,7 +19,7 @@ use Rattle.ucon_syntax.specs.Lists.{items_at, alone}
 use Rattle.ucon_syntax.specs.Items.{attr_at, env_at, pred_at, update_at, begins_pred, begins_update}
 use Rattle.ucon_syntax.specs.Policies.{preds_at, updates_at, right_at, attrs_at, envs_at, rights_at, policy_at}
 use Rattle.ucon_syntax.proofs.Marks.{not_beyond, is_beyond}
-use Rattle.ucon_syntax.proofs.Laws.{Meets, Example}
+use Rattle.ucon_syntax.proofs.Keeping.{Meets, Example}
 use Rattle.ucon_syntax.proofs.Local.{Runs, gives, andthen}
 use Rattle.ucon_syntax.proofs.Outcomes.{Led, led_head}
 use Rattle.ucon_syntax.proofs.Sound.{Sound, Anything, sound_ending, sound_nothing, sound_mapped, sound_meeting, sound_then, sound_before}
