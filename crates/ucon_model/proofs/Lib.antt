@@ -31,3 +31,4 @@ pub mod Written
 pub mod TypedParts
 pub mod SortsOfValues
 pub mod Meaningful
+pub mod Numbering

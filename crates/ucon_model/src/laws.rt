@@ -1,6 +1,6 @@
 //! Laws of the definitions. A law is a function without parameters that does nothing: its contract is what is proved.
 
-ghost use Rattle.std.specs.Prelude.{◌≡◌, ◌<◌, ◌↔◌, ℕ, List, map, true, Some, None};
+ghost use Rattle.std.specs.Prelude.{◌≡◌, ◌+◌, ◌<◌, ◌↔◌, ℕ, List, map, true, Some, None};
 ghost use Rattle.ucon_model.specs.declared.command.Caller.{Caller};
 ghost use Rattle.ucon_model.specs.declared.command.Command.{Command};
 ghost use Rattle.ucon_model.specs.declared.reply.Head.{Head};
@@ -19,7 +19,7 @@ ghost use Rattle.ucon_model.specs.OwnActions.{make, own};
 ghost use Rattle.ucon_model.specs.Readings.{session};
 ghost use Rattle.ucon_model.specs.Settle.{fails_at, least_failing, settle};
 ghost use Rattle.ucon_model.specs.Truth.{place_of};
-ghost use Rattle.ucon_model.specs.Typing.{IsTyped, is_typed_test};
+ghost use Rattle.ucon_model.specs.Typing.{IsTyped, NamesItem, TypeFault, is_typed_test, item_count, type_fault};
 
 /// After settling no accessing session fails.
 pub fn settling_ends()
@@ -64,6 +64,11 @@ pub fn predicates_and_updates_mean_something()
         → right_named P.rights row.right ≡ Some r → Each (λ p. test_means (place_of P (trace P H) row) p.test ≡ true) r.preds }
     ensures updates { (P : PlainPolicy) → IsTyped P → (H : History) (n : ℕ) (row : SessionRow) (r : PlainRight) → session (trace P H) n ≡ Some row
         → right_named P.rights row.right ≡ Some r → Each (λ u. expr_means true (place_of P (trace P H) row) u.value ≡ true) r.updates }
+{}
+
+/// The item that a policy's first fault names is one of its items.
+pub fn faults_name_items()
+    ensures { (P : PlainPolicy) (f : TypeFault) → type_fault P ≡ Some f → NamesItem 1 (1 + item_count P) f }
 {}
 
 /// Each test of a well typed policy is typed.
