@@ -13,7 +13,7 @@ use Rattle.ucon_model.specs.declared.reply.Revoked.{Revoked}
 use Rattle.ucon_model.specs.declared.session.SessionState.{SessionState}
 use Rattle.ucon_model.specs.CommandLine.{Word, placed, words_of}
 use Rattle.ucon_model.specs.Plain.{Bytes, PlainReply, status}
-use Rattle.ucon_model.specs.ReplyText.{◌>>=◌, refusals, refusal_read, states_of, state_read, labelled_read, one_revoked, revoked_read, made_read, numbered_reply, labelled_reply, value_reply, status_of, status_reply, told_read, refused_else, reply_read}
+use Rattle.ucon_model.specs.ReplyText.{◌>>=◌, refusals, refusal_read, session_states, state_read, labelled_read, one_revoked, revoked_read, made_read, numbered_reply, labelled_reply, value_reply, status_of, status_reply, told_read, refused_else, reply_read}
 use Rattle.ucon_model.specs.Spelling.{refusal_words, state_word, reply_spelling}
 use Rattle.ucon_command.proofs.Joined.{split, join}
 use Rattle.ucon_command.proofs.SpelledLines.{same_bytes, name_is, number_is, rest_is}
@@ -36,7 +36,7 @@ refusal_is : (bytes : Bytes) (r : Refusal) → refusal_read bytes ≡ Some r →
 refusal_is bytes r h = sym (same_bytes bytes (refusal_words r) (found (λ q. bytes_eq bytes (refusal_words q)) refusals r h))
 
 state_is : (bytes : Bytes) (s : SessionState) → state_read bytes ≡ Some s → state_word s ≡ bytes
-state_is bytes s h = sym (same_bytes bytes (state_word s) (found (λ q. bytes_eq bytes (state_word q)) states_of s h))
+state_is bytes s h = sym (same_bytes bytes (state_word s) (found (λ q. bytes_eq bytes (state_word q)) session_states s h))
 
 map_is : {A B : Type 0} (f : A → B) (o : Option A) (y : B) → option_map f o ≡ Some y → (x : A) × ((o ≡ Some x) × (f x ≡ y))
 map_is f None y h = absurd (nothing h)

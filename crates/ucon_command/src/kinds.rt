@@ -22,12 +22,14 @@ fn side_in(bytes: &[u8]) -> Option<Side>
     }
 }
 
+/// The name that the bytes are.
 pub fn name_in(bytes: &[u8]) -> Option<Name>
     ensures { result ≡ name_in bytes.now }
 {
     Name::read(bytes).ok()
 }
 
+/// The value that the bytes spell.
 pub fn value_in(alloc: Global, bytes: &[u8]) -> Result<Option<Value>, NoMemory>
     ensures { IfOk result (λ v. v ≡ value_in bytes.now) }
 {
@@ -62,6 +64,7 @@ fn number_of(n: Int) -> Option<u32>
     u32::try_from(n.get()).ok()
 }
 
+/// The session's number that the bytes spell.
 pub fn number_in(alloc: Global, bytes: &[u8]) -> Result<Option<u32>, NoMemory>
     ensures { IfOk result (λ n. n ≡ number_in bytes.now) }
 {

@@ -12,6 +12,8 @@ mod reading;
 mod replies;
 mod reply_fault;
 mod spelling;
+#[cfg(test)]
+mod tests;
 mod words;
 
 pub use commands::command_text;

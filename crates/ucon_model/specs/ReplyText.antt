@@ -55,12 +55,12 @@ abbrev pub refusal_read : Bytes → Option Refusal
 refusal_read bytes = find (λ r. bytes_eq bytes (refusal_words r)) refusals
 
 -- all states of a session
-abbrev pub states_of : List SessionState
-states_of = states.Requesting ∷ states.Denied ∷ states.Accessing ∷ states.Revoked ∷ states.Ended ∷ []
+abbrev pub session_states : List SessionState
+session_states = states.Requesting ∷ states.Denied ∷ states.Accessing ∷ states.Revoked ∷ states.Ended ∷ []
 
 -- the state of this word
 abbrev pub state_read : Bytes → Option SessionState
-state_read bytes = find (λ s. bytes_eq bytes (state_word s)) states_of
+state_read bytes = find (λ s. bytes_eq bytes (state_word s)) session_states
 
 -- a session's number and a label
 unfoldable pub labelled_read : Word → Word → Option (ℕ × Bytes)
