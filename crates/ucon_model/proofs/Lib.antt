@@ -25,3 +25,4 @@ pub mod Histories
 pub mod UpdatesOfThreeUsers
 pub mod Cascades
 pub mod WithinAndLasts
+mod Printed
