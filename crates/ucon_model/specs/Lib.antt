@@ -20,3 +20,7 @@ pub mod Document
 pub mod Tokens
 pub mod Checked
 pub mod Lookup
+pub mod Forms
+pub mod Grammar
+pub mod Spells
+pub mod Limits
