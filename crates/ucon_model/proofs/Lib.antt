@@ -32,3 +32,4 @@ pub mod TypedParts
 pub mod SortsOfValues
 pub mod Meaningful
 pub mod Numbering
+mod Printed
