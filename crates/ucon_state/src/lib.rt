@@ -7,6 +7,8 @@ mod counts;
 mod defaults;
 mod state;
 mod tables;
+#[cfg(test)]
+mod tests;
 mod view;
 
 pub use counts::Counts;
