@@ -8,6 +8,8 @@ mod reading;
 mod scene;
 mod settle;
 mod step;
+#[cfg(test)]
+mod tests;
 mod told;
 mod update;
 mod usage;
