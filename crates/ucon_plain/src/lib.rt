@@ -2,6 +2,7 @@
 #![tactic(auto)]
 
 mod declared;
+mod laws;
 mod monitor;
 mod own;
 mod reading;
@@ -14,4 +15,5 @@ mod told;
 mod update;
 mod usage;
 
+pub use laws::monitors_stand_for_histories;
 pub use monitor::PlainMonitor;
