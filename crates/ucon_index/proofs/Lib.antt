@@ -1,1 +1,16 @@
-mod Heads
+mod Once
+mod Weights
+mod Rows
+mod Standing
+mod Steps
+mod Stack
+mod Listed
+mod Hiding
+mod Undone
+mod Returning
+mod Sums
+mod Removing
+mod Adding
+mod Growing
+mod Several
+mod Walks

@@ -1,26 +1,41 @@
 //! The dependency index: two tables of linked lists, one by place and one by session.
 
-ghost use Rattle.std.specs.Prelude.{◌≡◌, ◌+◌, ◌-◌, ◌^◌, ◌<◌, ◌≤◌, [], ◌++◌, length, replicate, option_map, Some, None, IsSome, IfOk, OnOk, OnErr};
+ghost use Rattle.std.specs.Prelude.{◌≡◌, ◌+◌, ◌-◌, ◌^◌, ◌<◌, ◌≤◌, ◌++◌, [], true, false, length, replicate, option_map, Some, None, IsSome, IfOk, OnOk, OnErr};
 ghost use Rattle.std.specs.List.{All};
-ghost use Rattle.ucon_links.specs.Lists.{node_count, list_at, first_or, place_of, owner_of, nodes_of, hide, unlink, IsListed, IsDistinct};
-ghost use Rattle.ucon_index.specs.Sessions.{ids, owners, in_turn, ListedInTurn, Adds};
+ghost use Rattle.ucon_links.specs.Lists.{first_or, place_of, listed_nodes, IsListed, IsAbsent, IsDistinct};
+ghost use Rattle.ucon_index.specs.Dependents.{Dependents, empty_place, place_at, is_there, walked, session_of, node_count, hide, unhide, forget_hidden, remove, hide_all, IsAdded, CanUnhide, UnhideGives, AllThere};
 
+use crate::newest::{last_hidden, unhide_newest};
 use std::alloc::Global;
+use std::marker::Model;
 use ucon_base::NoMemory;
 use ucon_links::{Links, NodeId};
 
-/// For each place its nodes with the sessions that read it, and for each session its nodes. A hidden session is hidden in both.
+/// For each place the sessions that were added with it and aren't hidden.
 #[derive(Drop)]
 pub struct Index {
+    // A list of nodes for each place, owned by the sessions.
     places: Links,
-    // The owner of an item of a session is its node among the places.
+    // A list of items for each session, owned by its nodes. Both hide in step.
     sessions: Links,
 }
 
+impl Model for Index {
+    ghost use Rattle.ucon_index.specs.Dependents.{Dependents};
+
+    ghost Value = { Dependents };
+
+    ghost use Rattle.ucon_index.specs.Tables.{seen, IsSound};
+
+    ghost view = { λ i. seen i.places i.sessions };
+
+    ghost invariant = { λ i. IsSound i.places i.sessions };
+}
+
 impl Index {
+    /// No places, and no session may be added yet.
     pub fn new(alloc: Global) -> Result<Index, NoMemory>
-        ensures places { IfOk result (λ i. i.places ≡ record { lists = []; hidden = []; spare = 0 }) }
-        ensures sessions { IfOk result (λ i. i.sessions ≡ record { lists = []; hidden = []; spare = 0 }) }
+        ensures { IfOk result (λ i. i ≡ record { places = []; hidden = []; sessions = 0; spare = 0 }) }
     {
         let places = Links::new(alloc, 0)?;
         let sessions = Links::new(alloc, 0)?;
@@ -29,32 +44,28 @@ impl Index {
 
     /// Makes the places at least so many.
     pub fn grow(&mut self, places: u32) -> Result<(), NoMemory>
-        ensures ok { OnOk result (self.new.places ≡ record self.old.places { lists = self.old.places.lists ++ replicate (places - length self.old.places.lists) [] }) }
-        ensures err { OnErr result (self.new.places ≡ self.old.places) }
-        ensures sessions { self.new.sessions ≡ self.old.sessions }
+        ensures ok { OnOk result (self.new ≡ record self.old { places = self.old.places ++ replicate (places - length self.old.places) empty_place }) }
+        ensures err { OnErr result (self.new ≡ self.old) }
     {
         let more = places.saturating_sub(self.places.list_count());
         self.places.more_lists(more)
     }
 
-    /// Makes the sessions that may be added at least those below this number.
+    /// Lets the sessions below this number be added.
     pub fn grow_sessions(&mut self, sessions: u32) -> Result<(), NoMemory>
-        ensures ok { OnOk result (self.new.sessions ≡ record self.old.sessions { lists = self.old.sessions.lists ++ replicate (sessions - length self.old.sessions.lists) [] }) }
-        ensures err { OnErr result (self.new.sessions ≡ self.old.sessions) }
-        ensures places { self.new.places ≡ self.old.places }
+        ensures ok { OnOk result (self.new ≡ record self.old { sessions = self.old.sessions + (sessions - self.old.sessions) }) }
+        ensures err { OnErr result (self.new ≡ self.old) }
     {
         let more = sessions.saturating_sub(self.sessions.list_count());
         self.sessions.more_lists(more)
     }
 
-    /// Makes room for so many nodes.
+    /// Makes room for so many more nodes: a session needs one for each of its places.
     pub fn reserve(&mut self, nodes: u32) -> Result<(), NoMemory>
-        requires places { node_count self.old.places + nodes < 2 ^ 32 - 1 }
-        requires sessions { node_count self.old.sessions + nodes < 2 ^ 32 - 1 }
-        ensures places { self.new.places ≡ record self.old.places { spare = self.new.places.spare } }
-        ensures sessions { self.new.sessions ≡ record self.old.sessions { spare = self.new.sessions.spare } }
-        ensures room_by_place { OnOk result (nodes ≤ self.new.places.spare) }
-        ensures room_by_session { OnOk result (nodes ≤ self.new.sessions.spare) }
+        requires { node_count self.old + nodes < 2 ^ 32 - 1 }
+        ensures kept { self.new ≡ record self.old { spare = self.new.spare } }
+        ensures spare { self.old.spare ≤ self.new.spare }
+        ensures ok { OnOk result (nodes ≤ self.new.spare) }
     {
         self.places.reserve(nodes)?;
         self.sessions.reserve(nodes)
@@ -62,11 +73,14 @@ impl Index {
 
     /// Adds a session to its places.
     pub fn add(&mut self, session: u32, places: &[u32])
-        requires room_by_place { length places.now ≤ self.old.places.spare }
-        requires room_by_session { length places.now ≤ self.old.sessions.spare }
-        requires places { All (λ place. place < length self.old.places.lists) places.now }
-        requires session { session < length self.old.sessions.lists }
-        ensures { Adds self.old.places self.old.sessions session places.now self.new.places self.new.sessions }
+        requires room { length places.now ≤ self.old.spare }
+        requires some { 1 ≤ length places.now }
+        requires exist { All (λ place. place < length self.old.places) places.now }
+        requires distinct { IsDistinct places.now }
+        requires session { session < self.old.sessions }
+        requires not_there { is_there session self.old.places ≡ false }
+        requires not_hidden { IsAbsent session self.old.hidden }
+        ensures { IsAdded self.old session places.now self.new }
     {
         for place in places {
             let node = self.places.link(*place, session);
@@ -74,12 +88,11 @@ impl Index {
         }
     }
 
-    /// Takes a session out of all its places, where its nodes keep their neighbours.
+    /// Takes a session out of all its places, which keep where it stood.
     pub fn hide(&mut self, session: u32)
-        requires session { session < length self.old.sessions.lists }
-        requires there { ListedInTurn hide self.old.places (owners (list_at self.old.sessions.lists session)) }
-        ensures places { self.new.places ≡ in_turn hide self.old.places (owners (list_at self.old.sessions.lists session)) }
-        ensures sessions { self.new.sessions ≡ in_turn hide self.old.sessions (ids (list_at self.old.sessions.lists session)) }
+        requires { is_there session self.old.places ≡ true }
+        ensures hidden { self.new ≡ hide self.old session }
+        ensures restored { UnhideGives 1 self.new self.old }
     {
         while let Some(item) = self.sessions.first(session) {
             self.places.hide(self.sessions.owner(item));
@@ -87,21 +100,53 @@ impl Index {
         }
     }
 
+    /// Puts the session that was hidden last back in all its places.
+    pub fn unhide_last(&mut self)
+        requires { CanUnhide self.old }
+        ensures { self.new ≡ unhide self.old }
+    {
+        let Some(session) = last_hidden(&self.places) else {
+            return;
+        };
+        while last_hidden(&self.places) == Some(session) {
+            unhide_newest(&mut self.places);
+            unhide_newest(&mut self.sessions);
+        }
+    }
+
+    /// Hides sessions in this order.
+    pub fn hide_all(&mut self, sessions: &[u32])
+        requires { AllThere self.old sessions.now }
+        ensures hidden { self.new ≡ hide_all self.old sessions.now }
+        ensures restored { UnhideGives (length sessions.now) self.new self.old }
+    {
+        for session in sessions {
+            self.hide(*session);
+        }
+    }
+
+    /// Puts so many of the sessions that were hidden last back in all their places.
+    pub fn unhide_all(&mut self, count: u32)
+        requires { (before : Dependents) × UnhideGives count self.old before }
+        ensures { (before : Dependents) → UnhideGives count self.old before → self.new ≡ before }
+    {
+        for _ in 0..count {
+            self.unhide_last();
+        }
+    }
+
     /// Frees the nodes of all hidden sessions.
     pub fn forget_hidden(&mut self)
-        ensures places { self.new.places ≡ record self.old.places { hidden = []; spare = self.old.places.spare + length self.old.places.hidden } }
-        ensures sessions { self.new.sessions ≡ record self.old.sessions { hidden = []; spare = self.old.sessions.spare + length self.old.sessions.hidden } }
+        ensures { self.new ≡ forget_hidden self.old }
     {
         self.places.free_all();
         self.sessions.free_all();
     }
 
-    /// Takes a session out of all its places and frees its nodes.
+    /// Takes a session out of all its places and frees its nodes: what undoes `add`.
     pub fn remove(&mut self, session: u32)
-        requires session { session < length self.old.sessions.lists }
-        requires there { ListedInTurn unlink self.old.places (owners (list_at self.old.sessions.lists session)) }
-        ensures places { self.new.places ≡ in_turn unlink self.old.places (owners (list_at self.old.sessions.lists session)) }
-        ensures sessions { self.new.sessions ≡ in_turn unlink self.old.sessions (ids (list_at self.old.sessions.lists session)) }
+        requires { is_there session self.old.places ≡ true }
+        ensures { self.new ≡ remove self.old session }
     {
         while let Some(item) = self.sessions.first(session) {
             self.places.unlink(self.sessions.owner(item));
@@ -109,29 +154,28 @@ impl Index {
         }
     }
 
-    /// The first dependent of a place.
+    /// The first node of a place.
     pub fn first(&self, place: u32) -> Option<NodeId>
-        requires { place < length self.now.places.lists }
-        ensures first { result ≡ first_or None (list_at self.now.places.lists place) }
-        ensures distinct { IsDistinct (nodes_of self.now.places) }
+        requires { place < length self.now.places }
+        ensures first { result ≡ first_or None (place_at self.now.places place).listed }
+        ensures distinct { IsDistinct (listed_nodes (walked self.now).lists) }
     {
         self.places.first(place)
     }
 
-    /// The dependent behind another.
+    /// The node behind another at its place.
     pub fn next(&self, node: NodeId) -> Option<NodeId>
-        requires { IsListed self.now.places node }
-        ensures next { option_map (λ place. place.after) (place_of self.now.places node) ≡ Some result }
-        ensures distinct { IsDistinct (nodes_of self.now.places) }
+        requires { IsListed (walked self.now) node }
+        ensures next { option_map (λ item. item.after) (place_of (walked self.now) node) ≡ Some result }
+        ensures distinct { IsDistinct (listed_nodes (walked self.now).lists) }
     {
         self.places.next(node)
     }
 
     /// The session of a node.
     pub fn owner(&self, node: NodeId) -> u32
-        requires { IsSome (owner_of self.now.places node) }
-        ensures owner { owner_of self.now.places node ≡ Some result }
-        ensures distinct { IsDistinct (nodes_of self.now.places) }
+        requires { IsSome (session_of self.now node) }
+        ensures { session_of self.now node ≡ Some result }
     {
         self.places.owner(node)
     }

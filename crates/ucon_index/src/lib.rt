@@ -2,5 +2,8 @@
 #![tactic(auto)]
 
 mod index;
+mod newest;
+#[cfg(test)]
+mod tests;
 
 pub use index::Index;

@@ -1,9 +1,9 @@
 mod Cells
-mod Linked
+pub mod Linked
 mod Moves
 mod Stacks
 mod ListsHeld
-mod Places
+pub mod Places
 mod Seen
 mod Hiding
 mod Placing

@@ -23,12 +23,12 @@ distinct_back [] ys distinct = distinct
 distinct_back (x ∷ xs) ys distinct = distinct_back xs ys distinct.1
 
 -- one of the lists
-distinct_at : (lists : List (List (ℕ × ℕ))) (list : ℕ) → IsDistinct (listed_nodes lists) → IsDistinct (ids (list_at lists list))
+pub distinct_at : (lists : List (List (ℕ × ℕ))) (list : ℕ) → IsDistinct (listed_nodes lists) → IsDistinct (ids (list_at lists list))
 distinct_at [] list distinct = tt
 distinct_at (xs ∷ rest) zero distinct = distinct_front (ids xs) (listed_nodes rest) distinct
 distinct_at (xs ∷ rest) (suc list) distinct = distinct_at rest list (distinct_back (ids xs) (listed_nodes rest) distinct)
 
-set-set : {X : Type 0} (xs : List X) (i : ℕ) (first second : X) → set (set xs i first) i second ≡ set xs i second
+pub set-set : {X : Type 0} (xs : List X) (i : ℕ) (first second : X) → set (set xs i first) i second ≡ set xs i second
 set-set [] i first second = refl
 set-set (x ∷ xs) zero first second = refl
 set-set (x ∷ xs) (suc i) first second = ap (λ rest. x ∷ rest) (set-set xs i first second)

@@ -11,7 +11,7 @@ place_behind-there : (list : ℕ) (before : Option ℕ) (front back : List (ℕ 
 place_behind-there list before [] back x absent = rw (eq-eqb x.0 x.0 refl)
 place_behind-there list before (y ∷ front) back x absent = rw (ne_eqb y.0 x.0 absent.0) (place_behind-there list (Some y.0) front back x absent.1)
 
-place_behind-absent : (list : ℕ) (before : Option ℕ) (xs : List (ℕ × ℕ)) (node : ℕ) → IsAbsent node (ids xs) → place_behind list before xs node ≡ None
+pub place_behind-absent : (list : ℕ) (before : Option ℕ) (xs : List (ℕ × ℕ)) (node : ℕ) → IsAbsent node (ids xs) → place_behind list before xs node ≡ None
 place_behind-absent list before [] node absent = refl
 place_behind-absent list before (x ∷ xs) node absent = rw (ne_eqb x.0 node absent.0) (place_behind-absent list (Some x.0) xs node absent.1)
 

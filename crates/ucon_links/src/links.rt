@@ -197,7 +197,8 @@ impl Links {
     /// Takes a listed node out of its list and puts it on the stack of hidden nodes, where it keeps its neighbours.
     pub fn hide(&mut self, node: NodeId)
         requires { IsListed self.old node }
-        ensures { self.new ≡ hide self.old node }
+        ensures hidden { self.new ≡ hide self.old node }
+        ensures distinct { IsDistinct (nodes_of self.old) }
     {
         let taken = self.table.nodes[node as usize];
         self.table.join(taken.list, taken.previous, taken.next);
@@ -254,7 +255,8 @@ impl Links {
     /// Takes a listed node out and frees it: what undoes `link` and `link_after`.
     pub fn unlink(&mut self, node: NodeId)
         requires { IsListed self.old node }
-        ensures { self.new ≡ unlink self.old node }
+        ensures unlinked { self.new ≡ unlink self.old node }
+        ensures distinct { IsDistinct (nodes_of self.old) }
     {
         self.hide(node);
         self.free_newest(node);

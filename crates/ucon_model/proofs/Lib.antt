@@ -24,7 +24,12 @@ pub mod AllowedOwn
 pub mod Histories
 pub mod Cascades
 pub mod WithinAndLasts
+pub mod Lines
+pub mod Documents
 pub mod FirstFaults
 pub mod Written
 pub mod TypedParts
 pub mod SortsOfValues
+pub mod Meaningful
+pub mod Numbering
+mod Printed

@@ -1,8 +1,15 @@
--- How a document is divided: a policy, a divider, and a script of lines.
-use Rattle.std.specs.Prelude.{Bool, true, ◌==◌, List, [], ◌∷◌, ◌++◌, Option, Some, None, option_map, unwrap_or, codes, if◌then◌else◌}
-use Rattle.std.specs.List.{slice_split}
+-- How a document is divided: a policy, a divider, and a script of lines; what the lines say, and the first that is refused.
+use Rattle.std.specs.Prelude.{ℕ, ◌+◌, Bool, true, false, not, ◌&&◌, ◌||◌, ◌==◌, nat_lt, List, [], ◌∷◌, ◌++◌, length, map, Option, Some, None, option_map, option_to_list, unwrap_or, Result, Ok, Err, codes, if◌then◌else◌}
+use Rattle.std.specs.List.{slice_split, before_first, after_first, list_all}
 use Rattle.std.specs.Str.{bytes_eq}
+use Rattle.ucon_base.specs.Reading.{is_digit, number_of}
+use Rattle.ucon_model.specs.declared.command.Caller.{Caller}
+use Rattle.ucon_model.specs.declared.command.Command.{Command}
+use Rattle.ucon_model.specs.declared.command.Entry.{Entry}
 use Rattle.ucon_model.specs.Plain.{Bytes}
+use Rattle.ucon_model.specs.CommandLine.{LineRefusal, line_read}
+
+-- ---- how a document is divided
 
 -- the lines of a text, without the newlines that end them; the last one may lack its newline
 abbrev pub lines_of : Bytes → List Bytes
@@ -30,3 +37,111 @@ script_lines (l ∷ ls) = if is_divider l then ls else script_lines ls
 abbrev pub is_skipped : Bytes → Bool
 is_skipped [] = true
 is_skipped (b ∷ bs) = b == 35
+
+-- ---- headings
+
+-- the first word of a line: all before its first space
+abbrev pub first_word : Bytes → Bytes
+first_word line = before_first (λ b. b == 32) line
+
+-- what stands behind the first space
+abbrev pub behind_first_word : Bytes → Bytes
+behind_first_word line = after_first (λ b. b == 32) line
+
+-- a line whose first word is `client` is a heading
+abbrev pub is_heading : Bytes → Bool
+is_heading line = bytes_eq (first_word line) (codes "client")
+
+-- digits, the first of them `0` only where it stands alone
+abbrev pub is_number : Bytes → Bool
+is_number [] = false
+is_number (d ∷ ds) = list_all is_digit (d ∷ ds) && (not (d == 48) || length ds == 0)
+
+-- the number that these bytes spell, of any length
+abbrev pub number_spelled : Bytes → Option ℕ
+number_spelled bytes = if is_number bytes then Some (number_of bytes) else None
+
+-- the number of a heading, if it is of the form `client N`
+abbrev pub heading_number : Bytes → Option ℕ
+heading_number line = number_spelled (behind_first_word line)
+
+-- the client of this number
+abbrev pub caller_of : ℕ → Caller
+caller_of n = record { 0 = n }
+
+-- ---- what a script says
+
+-- a command line: its number in the document, from 1, the client whose it is, and the command
+pub record ScriptLine : Type 0 where
+  pub number : ℕ
+  pub caller : Caller
+  pub command : Command
+
+-- why a document is refused, with the number of the line: a client of 64 or above; a heading of any other wrong form, or a command
+-- line without a heading above it; one command line too many; a command line that is none
+pub data DocumentRefusal : Type 0 where
+  too_many_clients : (number : ℕ) → DocumentRefusal
+  bad_heading : (number : ℕ) → DocumentRefusal
+  too_many_lines : (number : ℕ) → DocumentRefusal
+  bad_line : (number : ℕ) (cause : LineRefusal) → DocumentRefusal
+
+-- whose lines stand below these, the nearest line first: those of the nearest heading's client
+abbrev pub client_below : List Bytes → Option Caller
+client_below [] = None
+client_below (l ∷ above) = if is_heading l then option_map caller_of (heading_number l) else client_below above
+
+-- how many of these lines are command lines
+abbrev pub command_lines : List Bytes → ℕ
+command_lines [] = 0
+command_lines (l ∷ ls) = if is_skipped l || is_heading l then command_lines ls else command_lines ls + 1
+
+-- a heading, at this line, of this number if it is of its form
+abbrev pub heading_told : ℕ → Option ℕ → Result (Option ScriptLine) DocumentRefusal
+heading_told n None = Err (bad_heading n)
+heading_told n (Some client) = if nat_lt client 64 then Ok None else Err (too_many_clients n)
+
+-- a client's command line, at this line
+abbrev pub command_told : ℕ → Caller → Result Command LineRefusal → Result (Option ScriptLine) DocumentRefusal
+command_told n client (Ok command) = Ok (Some (record { number = n; caller = client; command = command }))
+command_told n client (Err cause) = Err (bad_line n cause)
+
+-- a command line, at this line, of a client if there is a heading above, and so many command lines above
+abbrev pub said_told : ℕ → Option Caller → ℕ → Bytes → Result (Option ScriptLine) DocumentRefusal
+said_told n None said l = Err (bad_heading n)
+said_told n (Some client) said l = if nat_lt said 262144 then command_told n client (line_read l) else Err (too_many_lines n)
+
+-- what a script's line of this number says, below a heading of this client, if any, and so many command lines: a command line, if it
+-- is one, or why the document is refused at it
+abbrev pub line_told : ℕ → Option Caller → ℕ → Bytes → Result (Option ScriptLine) DocumentRefusal
+line_told n client said l =
+    if is_skipped l then Ok None else
+    if is_heading l then heading_told n (heading_number l) else
+    said_told n client said l
+
+-- what a line says before what the next ones say; the first refusal stands
+abbrev pub before_next : Result (Option ScriptLine) DocumentRefusal → Result (List ScriptLine) DocumentRefusal → Result (List ScriptLine) DocumentRefusal
+before_next (Err r) next = Err r
+before_next (Ok told) (Err r) = Err r
+before_next (Ok told) (Ok next) = Ok (option_to_list told ++ next)
+
+-- what the lines from this number on say, below these, the nearest first
+abbrev pub script_told : ℕ → List Bytes → List Bytes → Result (List ScriptLine) DocumentRefusal
+script_told n above [] = Ok []
+script_told n above (l ∷ ls) = before_next (line_told n (client_below above) (command_lines above) l) (script_told (n + 1) (l ∷ above) ls)
+
+-- the number of the first line behind the divider, where these lines begin with the document's first
+abbrev pub script_number : List Bytes → ℕ
+script_number [] = 1
+script_number (l ∷ ls) = if is_divider l then 2 else script_number ls + 1
+
+-- the command lines of a document, in order, or why it is refused, at the first line that is
+unfoldable pub document_read : Bytes → Result (List ScriptLine) DocumentRefusal
+document_read bytes = script_told (script_number (lines_of bytes)) [] (script_lines (lines_of bytes))
+
+-- a command line as an entry of a history
+abbrev pub entry_of : ScriptLine → Entry
+entry_of line = record { caller = line.caller; command = line.command }
+
+-- command lines as entries of a history
+abbrev pub entries_of : List ScriptLine → List Entry
+entries_of lines = map entry_of lines

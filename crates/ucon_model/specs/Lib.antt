@@ -1,6 +1,7 @@
 pub mod Plain
 pub mod Views
 pub mod Spelling
+pub mod Printing
 pub mod Comparison
 pub mod Action
 pub mod Readings
@@ -19,6 +20,13 @@ pub mod Document
 pub mod Tokens
 pub mod Checked
 pub mod Lookup
+pub mod CommandLine
+pub mod ReplyText
 pub mod Places
 pub mod Cores
 pub mod Typing
+pub mod Meaning
+pub mod Forms
+pub mod Grammar
+pub mod Spells
+pub mod Limits

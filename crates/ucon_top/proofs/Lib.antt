@@ -1,13 +1,1 @@
-pub mod AttrLoop
-pub mod Duties
-pub mod OneLine
-pub mod OwnSteps
-pub mod Pieces
-pub mod Quiet
-pub mod Adding
 pub mod Along
-pub mod Settles
-pub mod Thins
-pub mod TokenLoop
-pub mod Traces
-pub mod Turns

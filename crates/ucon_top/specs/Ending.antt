@@ -1,45 +1,54 @@
 -- How a run ends.
-use Rattle.std.specs.Prelude.{◌≡◌, ◌⊎◌, ℕ, ◌<◌, ◌≤◌, IsSome, List, length, None, codes, ◌∷◌, ◌++◌, []}
-use Rattle.ucon_model.specs.Plain.{Bytes}
-use Rattle.ucon_top.specs.Document.{document_of}
+use Rattle.std.specs.Prelude.{ℕ}
 use Rattle.ucon_top.specs.declared.outcome.Outcome.{Outcome}
-use Rattle.ucon_top.specs.declared.outcome.Outcome.TheVariants.{Done, Usage, NotBuilt, SourceFault, SinkFault, NoMemory}
+use Rattle.ucon_top.specs.declared.outcome.Outcome.TheVariants.{Done, Usage, Policy, Script, SourceFault, SinkFault, NoMemory, TooLong}
+use Rattle.ucon_syntax.specs.declared.read.SyntaxFault.{SyntaxFault}
+use Rattle.ucon_syntax.specs.declared.read.SyntaxFault.TheVariants as syntax
+use Rattle.ucon_check.specs.declared.fault.CheckFault.{CheckFault}
+use Rattle.ucon_check.specs.declared.fault.CheckFault.TheVariants as checks
+use Rattle.ucon_script.specs.declared.document.DocFault.{DocFault}
+use Rattle.ucon_script.specs.declared.document.DocFault.TheVariants as scripts
+use Rattle.ucon_top.specs.declared.outcome.PolicyFault.TheVariants.{Syntax, Typing}
+use Rattle.ucon_top.specs.declared.outcome.Refused.{Refused}
+use Rattle.ucon_top.specs.declared.outcome.Refused.TheVariants as refusals
 
 -- the outcome's number
 abbrev pub status_of : Outcome → ℕ
 status_of Done = 0
 status_of Usage = 1
+status_of (Policy f) = 2
+status_of (Script f) = 3
 status_of SourceFault = 4
 status_of SinkFault = 5
 status_of NoMemory = 9
-status_of NotBuilt = 12
+status_of TooLong = 11
 
--- the line that is printed of an outcome, where not all is done
-abbrev pub fault_words : Outcome → Bytes
-fault_words Done = []
-fault_words Usage = codes "ucon: usage" ++ 10 ∷ []
-fault_words SourceFault = codes "ucon: source fault" ++ 10 ∷ []
-fault_words SinkFault = codes "ucon: sink fault" ++ 10 ∷ []
-fault_words NoMemory = codes "ucon: no memory" ++ 10 ∷ []
-fault_words NotBuilt = codes "ucon: not built" ++ 10 ∷ []
+-- what refuses a document whose policy part has this fault, whose policy has this one, or whose script has this one
+abbrev pub by_syntax : SyntaxFault → Refused
+by_syntax syntax.NoMemory = refusals.NoMemory
+by_syntax f = refusals.Policy (Syntax f)
 
--- the words of the one form that is built
-abbrev pub trial_words : List Bytes
-trial_words = codes "trial" ∷ []
+abbrev pub by_typing : CheckFault → Refused
+by_typing checks.NoMemory = refusals.NoMemory
+by_typing f = refusals.Policy (Typing f)
 
--- the bytes are too many, or no thin document
-abbrev pub IsNotBuilt : Bytes → Type 0
-IsNotBuilt bytes = (4194304 < length bytes) ⊎ (document_of bytes ≡ None)
+abbrev pub by_script : DocFault → Refused
+by_script scripts.NoMemory = refusals.NoMemory
+by_script f = refusals.Script f
 
--- the bytes are few enough, and a thin document
-abbrev pub IsBuilt : Bytes → Type 0
-IsBuilt bytes = (length bytes ≤ 4194304) × IsSome (document_of bytes)
+-- how a run ends whose document is refused
+abbrev pub outcome_of : Refused → Outcome
+outcome_of (refusals.Policy f) = Policy f
+outcome_of (refusals.Script f) = Script f
+outcome_of refusals.NoMemory = NoMemory
 
 -- how a run ends that wrote nothing
 abbrev pub IsUnwritten : Outcome → Type 0
 IsUnwritten Done = ⊥
 IsUnwritten SinkFault = ⊥
 IsUnwritten Usage = Unit {0}
-IsUnwritten NotBuilt = Unit {0}
+IsUnwritten (Policy f) = Unit {0}
+IsUnwritten (Script f) = Unit {0}
 IsUnwritten SourceFault = Unit {0}
 IsUnwritten NoMemory = Unit {0}
+IsUnwritten TooLong = Unit {0}

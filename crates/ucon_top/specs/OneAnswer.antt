@@ -3,11 +3,16 @@ use Rattle.std.specs.Prelude.{◌≡◌, ◌⊎◌, ℕ, ◌+◌, ◌-◌, ◌^�
 use Rattle.ucon_model.specs.declared.command.Entry.{Entry}
 use Rattle.ucon_model.specs.Plain.{Bytes, PlainPolicy, PlainReply}
 use Rattle.ucon_model.specs.Spelling.{reply_spelling}
-use Rattle.ucon_model.specs.Action.{Trace}
-use Rattle.ucon_model.specs.Block.{after, reply}
-use Rattle.ucon_model.specs.History.{changes}
+use Rattle.ucon_model.specs.History.{History, said, changes, grown}
 use Rattle.ucon_model.specs.LegalRun.{Answer, Answered, no_memory, placed}
 use Rattle.ucon_model.specs.Output.{Lacks, answer_line}
+use Rattle.ucon_model.specs.Document.{entry_of as said_entry}
+use Rattle.ucon_script.specs.declared.document.Line.{Line}
+use Rattle.ucon_script.specs.Document.{line_of}
+
+-- what a line asks, and by whom
+abbrev pub entry_of : Line → Entry
+entry_of line = said_entry (line_of line)
 
 abbrev pub answered : Entry → Answer → Answered
 answered e a = record { line = e; answer = a }
@@ -16,21 +21,19 @@ answered e a = record { line = e; answer = a }
 abbrev pub replied : Entry → ℕ → PlainReply → Answered
 replied e place r = answered e (placed place (reply_spelling r))
 
--- nothing changed but the text
-pub record WantsMemory (T T' : Trace) (place place' : ℕ) (text text' : Bytes) (e : Entry) : Type 0 where
-  pub trace_is : T' ≡ T
+-- nothing changed but the text; the engine still stands for the history
+pub record WantsMemory (stands_for : History → Type 0) (H : History) (place place' : ℕ) (text text' : Bytes) (e : Entry) : Type 0 where
+  pub stands : stands_for H
   pub place_is : place' ≡ place
   pub text_is : text' ≡ text ++ answer_line (answered e no_memory)
 
--- the reply is the step's, at its place
-pub record Replies (P : PlainPolicy) (T T' : Trace) (place place' : ℕ) (text text' : Bytes) (e : Entry) : Type 0 where
-  pub said : PlainReply
-  pub reply_is : said ≡ reply P T e.caller e.command
-  pub one_line : Lacks 10 (reply_spelling said)
-  pub trace_is : T' ≡ after P T e.caller e.command
-  pub place_is : place' ≡ min (if changes said then place + 1 else place) (2 ^ 64 - 1)
-  pub text_is : text' ≡ text ++ answer_line (replied e place' said)
+-- the reply is the one said after the history, at its place, and the engine stands for the history that it grows to
+pub record Replies (P : PlainPolicy) (stands_for : History → Type 0) (H : History) (place place' : ℕ) (text text' : Bytes) (e : Entry) : Type 0 where
+  pub stands : stands_for (grown P H e)
+  pub one_line : Lacks 10 (reply_spelling (said P H e.caller e.command))
+  pub place_is : place' ≡ min (if changes (said P H e.caller e.command) then place + 1 else place) (2 ^ 64 - 1)
+  pub text_is : text' ≡ text ++ answer_line (replied e place' (said P H e.caller e.command))
 
 -- the line was answered so, and its answer was written
-abbrev pub Answers : PlainPolicy → Trace → Trace → ℕ → ℕ → Bytes → Bytes → Entry → Type 0
-Answers P T T' place place' text text' e = WantsMemory T T' place place' text text' e ⊎ Replies P T T' place place' text text' e
+abbrev pub Answers : PlainPolicy → (History → Type 0) → History → ℕ → ℕ → Bytes → Bytes → Entry → Type 0
+Answers P stands_for H place place' text text' e = WantsMemory stands_for H place place' text text' e ⊎ Replies P stands_for H place place' text text' e

@@ -1,23 +1,38 @@
--- What `trial` prints.
-use Rattle.std.specs.Prelude.{◌≡◌, List, [], ◌++◌, length, take, drop, Option, Some, None, IsSomeAnd}
+-- What a run prints.
+use Rattle.std.specs.Prelude.{◌≡◌, List, [], ◌++◌, length, take, drop, Option, Some, None, Ok, IsSomeAnd}
 use Rattle.ucon_model.specs.declared.command.Entry.{Entry}
 use Rattle.ucon_model.specs.Plain.{Bytes, PlainPolicy}
+use Rattle.ucon_model.specs.Document.{ScriptLine, entries_of, document_read}
 use Rattle.ucon_model.specs.LegalRun.{IsLegalRun, in_text_order}
 use Rattle.ucon_model.specs.Output.{output, answers_read}
-use Rattle.ucon_top.specs.Document.{document_of}
+use Rattle.ucon_top.specs.declared.form.Form.{Form}
+use Rattle.ucon_top.specs.declared.form.Form.TheVariants.{Trial, Check}
+use Rattle.ucon_top.specs.Accepted.{HasPolicy}
+use Rattle.ucon_top.specs.Models.{rights_output}
 
 -- the text is the output of the answers that are read from it, and these are a legal run of the lines, in the order of the text, from the
 -- empty history
 abbrev pub IsRunOutput : PlainPolicy → List Entry → Bytes → Type 0
 IsRunOutput P lines text = IsSomeAnd (answers_read lines text) (λ told. (text ≡ output told) × IsLegalRun P in_text_order [] told)
 
--- the bytes spell a document, and the text is the output of a legal run of it
-abbrev pub IsOutputOf : Bytes → Bytes → Type 0
-IsOutputOf bytes text = IsSomeAnd (document_of bytes) (λ d. IsRunOutput d.policy d.lines text)
+-- what a form prints of a policy and lines
+abbrev pub IsFormOutput : Form → PlainPolicy → List Entry → Bytes → Type 0
+IsFormOutput Trial P lines text = IsRunOutput P lines text
+IsFormOutput Check P lines text = text ≡ rights_output P.rights
 
--- the text is the front of the output of some legal run of the document that the bytes spell
-abbrev pub IsCutOutputOf : Bytes → Bytes → Type 0
-IsCutOutputOf bytes text = (whole : Bytes) × IsOutputOf bytes whole × (take (length text) whole ≡ text)
+-- the bytes are an accepted document, and the text is what the form prints of it
+pub record IsOutputOf (form : Form) (bytes text : Bytes) : Type 0 where
+  pub policy : PlainPolicy
+  pub lines : List ScriptLine
+  pub has_policy : HasPolicy bytes policy
+  pub says : document_read bytes ≡ Ok lines
+  pub prints : IsFormOutput form policy (entries_of lines) text
+
+-- the text is the front of what the form prints of the document that the bytes are
+pub record IsCutOutputOf (form : Form) (bytes text : Bytes) : Type 0 where
+  pub whole : Bytes
+  pub is_output : IsOutputOf form bytes whole
+  pub is_front : take (length text) whole ≡ text
 
 -- what a sink holds now beyond what it held before
 abbrev pub added : Bytes → Bytes → Bytes

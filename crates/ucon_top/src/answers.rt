@@ -1,71 +1,92 @@
 //! Answers lines, one after the other, and writes each answer as a line.
 
-ghost use Rattle.std.specs.Prelude.{◌≡◌, ◌+◌, ◌-◌, ◌^◌, ◌<◌, ◌∷◌, [], ◌++◌, min, All, IfOk, OnOk, if◌then◌else◌};
+ghost use Rattle.std.specs.Prelude.{◌≡◌, ◌+◌, ◌-◌, ◌^◌, ◌<◌, ◌∷◌, [], ◌++◌, min, map, IfOk, OnOk, OnErr, if◌then◌else◌};
 ghost use Rattle.std.specs.Fmt.{decimal};
-ghost use Rattle.ucon_model.specs.History.{changes};
+ghost use Rattle.ucon_model.specs.History.{History, said, changes, grown};
 ghost use Rattle.ucon_model.specs.LegalRun.{no_memory};
 ghost use Rattle.ucon_model.specs.Output.{Lacks, answer_line};
 ghost use Rattle.ucon_model.specs.Spelling.{reply_spelling};
+ghost use Rattle.ucon_model.specs.Plain.{PlainPolicy};
 ghost use Rattle.ucon_model.specs.Views.{reply_of};
-ghost use Rattle.ucon_top.specs.OneAnswer.{Answers, answered, replied};
+ghost use Rattle.ucon_state.specs.Engine.{IsIdle};
+ghost use Rattle.ucon_top.specs.OneAnswer.{Answers, answered, entry_of, replied};
 ghost use Rattle.ucon_top.specs.Printed.{IsRunOutput};
-ghost use Rattle.ucon_top.specs.Thin.{policy_of, trace_of};
-ghost use Rattle.ucon_top.specs.ThinCommand.{IsThinCommand};
-ghost use Rattle.ucon_top.specs.ThinReply.{IsThinReply};
 
-use crate::engine::Engine;
-use crate::spelling::{put_number, put_reply};
-use crate::thin::ThinPolicy;
+use crate::number::put_number;
 use std::alloc::Global;
-use ucon_base::NoMemory;
-use ucon_model::{Entry, Reply};
+use ucon_base::{NoMemory, Steps};
+use ucon_command::reply_text;
+use ucon_model::Reply;
+use ucon_script::Line;
+use ucon_state::{Drafted, Engine};
 
-/// The output of a run of the lines: each is answered, and its answer is written, in the order of the lines.
-pub fn run_lines(alloc: Global, policy: ThinPolicy, lines: &[Entry]) -> Result<Vec<u8>, NoMemory>
-    requires { All (λ e. IsThinCommand e.command) lines.now }
-    ensures { IfOk result (λ text. IsRunOutput (policy_of policy) lines.now text.items) }
+/// The output of a run of the lines from the empty history: each is answered, and its answer is written, in the order of the lines.
+pub fn run_lines<E: Engine>(
+    alloc: Global,
+    mut engine: E,
+    lines: &[Line],
+) -> Result<Vec<u8>, NoMemory>
+    requires { IsIdle E.stands_for engine }
+    ensures { IfOk result (λ text. (P : PlainPolicy) → E.stands_for engine P [] → IsRunOutput P (map entry_of lines.now) text.items) }
 {
-    let mut engine = Engine::new(alloc, policy);
     let mut text = Vec::new(alloc);
+    let mut steps = Steps::new();
     let mut place = 0u64;
     for line in lines {
-        place = answer_one(alloc, &mut engine, &mut text, place, line)?;
+        place = answer_one(alloc, &mut engine, &mut steps, &mut text, place, line)?;
     }
     Ok(text)
 }
 
 /// Answers one line and writes the answer. The number of records after it comes back.
-fn answer_one(
+fn answer_one<E: Engine>(
     alloc: Global,
-    engine: &mut Engine,
+    engine: &mut E,
+    steps: &mut Steps,
     text: &mut Vec<u8>,
     place: u64,
-    line: &Entry,
+    line: &Line,
 ) -> Result<u64, NoMemory>
-    requires { IsThinCommand line.now.command }
-    ensures answers { IfOk result (λ next. Answers (policy_of engine.old.policy) (trace_of engine.old.actions.items) (trace_of engine.new.actions.items) place next text.old.items text.new.items line.now) }
+    requires { IsIdle E.stands_for engine.old }
+    ensures idle { IsIdle E.stands_for engine.new }
+    ensures answers { IfOk result (λ next. (P : PlainPolicy) (H : History) → E.stands_for engine.old P H → Answers P (E.stands_for engine.new P) H place next text.old.items text.new.items (entry_of line.now)) }
     ensures client { line.now.caller.0 < 256 }
-    ensures policy { engine.new.policy ≡ engine.old.policy }
 {
     let _client = line.caller.0;
-    match engine.answer(line.caller, &line.command) {
+    match step(engine, steps, line) {
         Err(NoMemory) => {
             put_no_memory(alloc, text, line)?;
             Ok(place)
         }
-        Ok(reply) => {
-            let next = place_after(place, &reply);
-            put_placed(alloc, text, line, next, &reply)?;
+        Ok(drafted) => {
+            let next = place_after(place, drafted.changes);
+            put_placed(alloc, text, line, next, &drafted.reply)?;
             Ok(next)
         }
     }
 }
 
-/// The number of records after a reply: one more where it changes something.
-fn place_after(place: u64, reply: &Reply) -> u64
-    ensures { result ≡ min (if changes (reply_of reply.now) then place + 1 else place) (2 ^ 64 - 1) }
+/// Lets the engine answer a line, and keeps the change where it makes one. Want of memory changes nothing.
+fn step<E: Engine>(engine: &mut E, steps: &mut Steps, line: &Line) -> Result<Drafted, NoMemory>
+    requires { IsIdle E.stands_for engine.old }
+    ensures idle { IsIdle E.stands_for engine.new }
+    ensures reply { IfOk result (λ d. (P : PlainPolicy) (H : History) → E.stands_for engine.old P H → reply_of d.reply ≡ said P H line.now.caller line.now.command) }
+    ensures changes { IfOk result (λ d. d.changes ≡ changes (reply_of d.reply)) }
+    ensures stands { OnOk result ((P : PlainPolicy) (H : History) → E.stands_for engine.old P H → E.stands_for engine.new P (grown P H (entry_of line.now))) }
+    ensures err { OnErr result ((P : PlainPolicy) (H : History) → E.stands_for engine.old P H → E.stands_for engine.new P H) }
 {
-    if reply.changes() {
+    let drafted = engine.draft(line.caller, &line.command, steps)?;
+    if drafted.changes {
+        engine.keep();
+    }
+    Ok(drafted)
+}
+
+/// The number of records after a reply: one more where it changes something.
+fn place_after(place: u64, changes: bool) -> u64
+    ensures { result ≡ min (if changes then place + 1 else place) (2 ^ 64 - 1) }
+{
+    if changes {
         place.saturating_add(1)
     } else {
         place
@@ -76,25 +97,25 @@ fn place_after(place: u64, reply: &Reply) -> u64
 fn put_placed(
     alloc: Global,
     out: &mut Vec<u8>,
-    line: &Entry,
+    line: &Line,
     place: u64,
     reply: &Reply,
 ) -> Result<(), NoMemory>
-    requires { IsThinReply reply.now }
-    ensures text { OnOk result (out.new.items ≡ out.old.items ++ answer_line (replied line.now place (reply_of reply.now))) }
+    ensures text { OnOk result (out.new.items ≡ out.old.items ++ answer_line (replied (entry_of line.now) place (reply_of reply.now))) }
     ensures one_line { OnOk result (Lacks 10 (reply_spelling (reply_of reply.now))) }
 {
     put_client(alloc, out, line)?;
     put_number(alloc, out, place)?;
     out.push(b' ')?;
-    put_reply(alloc, out, reply)?;
+    let reply = reply_text(alloc, reply)?;
+    out.extend_from_slice(&reply)?;
     out.push(b'\n')?;
     Ok(())
 }
 
 /// Adds the line of an answer that says that there was no memory.
-fn put_no_memory(alloc: Global, out: &mut Vec<u8>, line: &Entry) -> Result<(), NoMemory>
-    ensures { OnOk result (out.new.items ≡ out.old.items ++ answer_line (answered line.now no_memory)) }
+fn put_no_memory(alloc: Global, out: &mut Vec<u8>, line: &Line) -> Result<(), NoMemory>
+    ensures { OnOk result (out.new.items ≡ out.old.items ++ answer_line (answered (entry_of line.now) no_memory)) }
 {
     put_client(alloc, out, line)?;
     out.extend_from_slice(b"- no memory")?;
@@ -103,7 +124,7 @@ fn put_no_memory(alloc: Global, out: &mut Vec<u8>, line: &Entry) -> Result<(), N
 }
 
 /// Adds the client's number and a space.
-fn put_client(alloc: Global, out: &mut Vec<u8>, line: &Entry) -> Result<(), NoMemory>
+fn put_client(alloc: Global, out: &mut Vec<u8>, line: &Line) -> Result<(), NoMemory>
     ensures { OnOk result (out.new.items ≡ out.old.items ++ (decimal line.now.caller.0 ++ 32 ∷ [])) }
 {
     put_number(alloc, out, line.caller.0 as u64)?;

@@ -1,60 +1,82 @@
-//! Reads a document: its policy part, and the lines of its script.
+//! What a form prints of a document.
 
-ghost use Rattle.std.specs.Prelude.{◌≡◌, map, option_map, All, IfOk, IfSome};
-ghost use Rattle.ucon_model.specs.Document.{lines_of, policy_part};
-ghost use Rattle.ucon_top.specs.Document.{document_of};
-ghost use Rattle.ucon_top.specs.Grammar.{thin_policy};
-ghost use Rattle.ucon_top.specs.Seen.{document};
-ghost use Rattle.ucon_top.specs.Thin.{policy_of};
-ghost use Rattle.ucon_top.specs.ThinCommand.{IsThinCommand};
+ghost use Rattle.std.specs.Prelude.{◌≡◌, ◌≤◌, length, Ok, IfOk, IfErr};
+ghost use Rattle.ucon_model.specs.Checked.{checked_policy};
+ghost use Rattle.ucon_model.specs.Document.{document_read, entries_of};
+ghost use Rattle.ucon_script.specs.Document.{lines_said};
+ghost use Rattle.ucon_top.specs.Accepted.{HasPolicy, IsRefused};
+ghost use Rattle.ucon_top.specs.Printed.{IsFormOutput, IsOutputOf, IsRunOutput};
 
-use crate::grammar::thin_policy;
-use crate::lines::{before_divider, entries_of, pieces, script_lines};
-use crate::thin::ThinPolicy;
+use crate::answers::run_lines;
+use crate::form::Form;
+use crate::models::models_text;
+use crate::outcome::Refused;
 use std::alloc::Global;
 use ucon_base::NoMemory;
-use ucon_model::Entry;
+use ucon_check::check;
+use ucon_model::Checked;
+use ucon_script::{Document, policy_part, read_document};
+use ucon_state::Engine;
+use ucon_syntax::read_policy;
 
-/// A thin policy and the lines that are to be run under it.
-#[derive(Debug, Drop)]
-pub struct ThinDocument {
-    pub policy: ThinPolicy,
-    pub lines: Vec<Entry>,
-}
-
-/// The most command lines that a document may have.
-const MOST_LINES: usize = 262_144;
-
-/// The document that the bytes spell, if it is thin.
-#[tactic(auto, unfolding(crate::specs::Document::document_of))]
-pub fn read_document(alloc: Global, bytes: &[u8]) -> Result<Option<ThinDocument>, NoMemory>
-    ensures value { IfOk result (λ o. option_map document o ≡ document_of bytes.now) }
-    ensures thin { IfOk result (λ o. IfSome o (λ d. All (λ e. IsThinCommand e.command) d.lines.items)) }
+/// What a form prints of the document that the bytes are, or why the document is refused.
+pub fn output_of<E: Engine>(alloc: Global, form: Form, bytes: &[u8]) -> Result<Vec<u8>, Refused>
+    requires { length bytes.now ≤ 4194304 }
+    ensures ok { IfOk result (λ text. IsOutputOf form bytes.now text.items) }
+    ensures err { IfErr result (λ r. IsRefused r bytes.now) }
 {
-    let pieces = pieces(alloc, bytes, b'\n')?;
-    let Some(policy) = read_policy_part(alloc, bytes, &pieces)? else {
-        return Ok(None);
-    };
-    let Some(lines) = entries_of(alloc, script_lines(&pieces))? else {
-        return Ok(None);
-    };
-    if lines.len() > MOST_LINES {
-        return Ok(None);
-    }
-    Ok(Some(ThinDocument { policy, lines }))
+    let checked = read_checked(alloc, bytes)?;
+    let document = read_script(alloc, &checked, bytes)?;
+    let text = print::<E>(alloc, form, checked, &document)?;
+    Ok(text)
 }
 
-/// The policy that the part before the divider spells, or the whole text where there is no divider.
-fn read_policy_part(
+/// The policy of a document, checked.
+fn read_checked(alloc: Global, bytes: &[u8]) -> Result<Checked, Refused>
+    ensures ok { IfOk result (λ c. HasPolicy bytes.now (checked_policy c)) }
+    ensures err { IfErr result (λ r. IsRefused r bytes.now) }
+{
+    let policy = read_policy(alloc, policy_part(bytes))?;
+    let checked = check(alloc, policy)?;
+    Ok(checked)
+}
+
+/// The command lines of a document whose policy is accepted.
+fn read_script(alloc: Global, checked: &Checked, bytes: &[u8]) -> Result<Document, Refused>
+    requires few { length bytes.now ≤ 4194304 }
+    requires policy { HasPolicy bytes.now (checked_policy checked.now) }
+    ensures ok { IfOk result (λ d. document_read bytes.now ≡ Ok (lines_said d)) }
+    ensures err { IfErr result (λ r. IsRefused r bytes.now) }
+{
+    let _ = checked;
+    let document = read_document(alloc, bytes)?;
+    Ok(document)
+}
+
+/// What a form prints of a policy and lines.
+fn print<E: Engine>(
     alloc: Global,
-    bytes: &[u8],
-    lines: &[&[u8]],
-) -> Result<Option<ThinPolicy>, NoMemory>
-    requires { map (λ l. l.now) lines.now ≡ lines_of bytes.now }
-    ensures { IfOk result (λ o. option_map policy_of o ≡ thin_policy (policy_part bytes.now)) }
+    form: Form,
+    checked: Checked,
+    document: &Document,
+) -> Result<Vec<u8>, NoMemory>
+    ensures { IfOk result (λ text. IsFormOutput form (checked_policy checked) (entries_of (lines_said document.now)) text.items) }
 {
-    match before_divider(alloc, lines)? {
-        Some(text) => thin_policy(alloc, &text),
-        None => thin_policy(alloc, bytes),
+    match form {
+        Form::Trial => trial::<E>(alloc, checked, document),
+        Form::Check => models_text(alloc, &checked),
     }
+}
+
+/// The output of a run of a document's lines from the empty history.
+fn trial<E: Engine>(
+    alloc: Global,
+    checked: Checked,
+    document: &Document,
+) -> Result<Vec<u8>, NoMemory>
+    ensures { IfOk result (λ text. IsRunOutput (checked_policy checked) (entries_of (lines_said document.now)) text.items) }
+{
+    let engine = E::begin(alloc, checked)?;
+    let text = run_lines(alloc, engine, document.lines.slice())?;
+    Ok(text)
 }

@@ -1,25 +1,18 @@
-//! The top call: from the words, the bytes read and the bytes written, to how it ended.
+//! The one call that does all that the program does.
 #![tactic(auto)]
 
-mod action;
 mod answers;
-mod decide;
 mod document;
-mod engine;
-mod grammar;
-mod lines;
+mod form;
+mod models;
+mod number;
 mod outcome;
-mod readings;
-mod spelling;
-mod step;
-mod thin;
-mod token;
-mod top;
-mod trial;
-mod typing;
-
-pub use outcome::{Ended, Outcome, fault_text};
-pub use top::run;
-
+mod printing;
 #[cfg(test)]
 mod tests;
+mod top;
+
+pub use form::Form;
+pub use outcome::{Ended, Outcome, PolicyFault, Refused};
+pub use printing::fault_text;
+pub use top::run;

@@ -1,21 +1,32 @@
-use Rattle.std.proofs.Common.{arith, ◌∙◌}
-use Rattle.ucon_top.specs.Thin.{policy_of, trace_of}
+use Rattle.std.proofs.Common.{◌≡◌, ◌<◌, ◌≤◌, ◌^◌, length, map, get_or, sym, ◌∙◌, ap, subst, arith}
+use Rattle.std.proofs.lemmas.List.{length-map}
+use Rattle.std.proofs.Math.ListN.{get_or-map}
+use Rattle.ucon_model.specs.declared.command.Entry.{Entry}
+use Rattle.ucon_top.specs.OneAnswer.{entry_of}
 use Rattle.ucon_top.proofs.Along.{begun, one_more, finished}
 use Rattle.ucon_top.proofs.answers.run_lines.Goals as goal
 
 pub loop-line-init : goal.loop-line-init
-loop-line-init c = record {
-  policy = c.new-engine.ensures.policy;
-  along = rw (c.new-engine.ensures.actions, c.new-text.ensures.items) (begun (policy_of c.args.policy) c.args.lines.now);
+loop-line-init g c = record {
+  idle = c.requires;
+  along = λ P stands. rw c.new-text.ensures.items (begun P (g.E.Engine.stands_for c.args.engine P) (map entry_of c.args.lines.now) stands);
 }
 
 pub loop-line-preserved : goal.loop-line-preserved
-loop-line-preserved c = record {
-  policy = c.in_ok-place.ensures.policy ∙ c.loop-line.invariant.policy;
-  along = one_more (policy_of c.args.policy) c.args.lines.now c.loop-line.line-index (trace_of c.loop-line.engine.actions.items) (trace_of c.answer_one.new.engine.actions.items)
-      c.loop-line.place c.in_ok-place.place c.loop-line.text.items c.answer_one.new.text.items c.line-item.result c.loop-line-test.true (omega arith) c.line-item.is c.in_ok-place.ensures.client
-      (rw c.loop-line.invariant.policy at c.in_ok-place.ensures.answers) c.loop-line.invariant.along;
+loop-line-preserved g c = record {
+  idle = c.answer_one.ensures.idle;
+  along = λ P stands.
+      let lines = map entry_of c.args.lines.now in
+      let line = entry_of c.line-item.result in
+      let len = length-map c.args.lines.now entry_of in
+      let is : line ≡ get_or lines c.loop-line.line-index line = ap entry_of c.line-item.is ∙ sym (get_or-map entry_of c.args.lines.now c.loop-line.line-index c.line-item.result) in
+      let so_far = c.loop-line.invariant.along P stands in
+      one_more P (g.E.Engine.stands_for c.loop-line.engine P) (g.E.Engine.stands_for c.answer_one.new.engine P) lines c.loop-line.line-index c.loop-line.place c.in_ok-place.place
+      c.loop-line.text.items c.answer_one.new.text.items line (omega (arith, len, c.loop-line-test.true)) (omega (arith, len)) is c.in_ok-place.ensures.client so_far
+      (c.in_ok-place.ensures.answers P so_far.history so_far.stands);
 }
 
 pub returns : goal.returns
-returns c = finished (policy_of c.args.policy) c.args.lines.now c.loop-line.line-index _ c.loop-line.place c.loop-line.text.items c.loop-line-test.false c.loop-line.invariant.along
+returns g c = λ P stands.
+    finished P (g.E.Engine.stands_for c.loop-line.engine P) (map entry_of c.args.lines.now) c.loop-line.line-index c.loop-line.place c.loop-line.text.items
+    (omega (arith, length-map c.args.lines.now entry_of, c.loop-line-test.false)) (c.loop-line.invariant.along P stands)

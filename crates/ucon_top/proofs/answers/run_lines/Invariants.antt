@@ -1,10 +1,12 @@
-use Rattle.std.proofs.Common.{◌≡◌}
-use Rattle.ucon_top.specs.Thin.{trace_of, policy_of}
+use Rattle.std.proofs.Common.{[], map}
+use Rattle.ucon_model.specs.Plain.{PlainPolicy}
+use Rattle.ucon_state.specs.Engine.{IsIdle}
+use Rattle.ucon_top.specs.OneAnswer.{entry_of}
 use Rattle.ucon_top.proofs.Along.{Along}
 use Rattle.ucon_top.proofs.answers.run_lines.Given as goal
 
 abbrev pub invariant-loop-line : goal.invariant-loop-line
-invariant-loop-line l = record {
-  policy : l.engine.policy ≡ l.fn.policy;
-  along : Along (policy_of l.fn.policy) l.lines l.line-index (trace_of l.engine.actions.items) l.place l.text.items;
+invariant-loop-line g l = record {
+  idle : IsIdle g.E.Engine.stands_for l.engine;
+  along : (P : PlainPolicy) → g.E.Engine.stands_for l.fn.engine P [] → Along P (g.E.Engine.stands_for l.engine P) (map entry_of l.lines) l.line-index l.place l.text.items;
 }

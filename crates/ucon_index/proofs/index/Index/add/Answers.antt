@@ -1,23 +1,27 @@
-use Rattle.std.proofs.Common.{◌∙◌, ap, arith, length, take, get_or, length-set}
+use Rattle.std.proofs.Common.{◌≡◌, ◌<◌, arith, false, get_or, sym, subst, take}
 use Rattle.std.proofs.lemmas.List.{take_more}
-use Rattle.ucon_index.proofs.Heads.{Adds-push}
+use Rattle.ucon_links.specs.Lists.{IsAbsent}
+use Rattle.ucon_index.specs.Dependents.{Dependents, is_there}
+use Rattle.ucon_index.proofs.Adding.{adding_goes_on, place_is_new}
+use Rattle.ucon_index.proofs.Walks.{within_seen}
 use Rattle.ucon_index.proofs.index.Index.add.Goals as goal
+
+pub link-node-requires-clause-list : goal.link-node-requires-clause-list
+link-node-requires-clause-list c =
+    let exists = c.requires.exist c.loop-place.place-index 0 c.loop-place-test.true in
+    let within = within_seen c.self.inside.places c.self.inside.sessions c.args.self.now c.self.view_is (get_or c.args.places.now c.loop-place.place-index 0) exists in
+    let count = c.loop-place.invariant.count in
+    omega (arith, within, count)
 
 pub loop-place-preserved : goal.loop-place-preserved
 loop-place-preserved c =
-    let kept = c.loop-place.invariant in
-    let i = c.loop-place.place-index in
-    let more = take_more c.args.places.now i 0 c.loop-place-test.true in
-    let by_place = ap (λ v. v.spare) c.link-node.ensures.linked in
-    let by_session = ap (λ v. v.spare) c.link.ensures.linked in
-    let room_by_place = kept.room_by_place in
-    let room_by_session = kept.room_by_session in
-    let test = c.loop-place-test.true in
-    record {
-      adds = rw (more, c.link-node.ensures.linked, c.link.ensures.linked)
-          (Adds-push c.args.session (take i c.args.places.now) c.args.self.now.places c.args.self.now.sessions c.loop-place.self.places c.loop-place.self.sessions (get_or c.args.places.now i 0) c.link-node.result c.link.result kept.adds c.link-node.ensures.fresh c.link.ensures.fresh);
-      room_by_place = omega (arith, by_place, room_by_place, test);
-      room_by_session = omega (arith, by_session, room_by_session, test);
-      places = ap (λ v. length v.lists) c.link-node.ensures.linked ∙ length-set c.loop-place.self.places.lists (get_or c.args.places.now i 0) _ ∙ kept.places;
-      sessions = ap (λ v. length v.lists) c.link.ensures.linked ∙ length-set c.loop-place.self.sessions.lists c.args.session _ ∙ kept.sessions;
-    }
+    let place = get_or c.args.places.now c.loop-place.place-index 0 in
+    let added = take c.loop-place.place-index c.args.places.now in
+    let exists = c.requires.exist c.loop-place.place-index 0 c.loop-place-test.true in
+    let within = within_seen c.self.inside.places c.self.inside.sessions c.args.self.now c.self.view_is place exists in
+    let session = subst (λ (v : Dependents). c.args.session < v.sessions) (sym c.self.view_is) c.requires.session in
+    let not_there = subst (λ (v : Dependents). is_there c.args.session v.places ≡ false) (sym c.self.view_is) c.requires.not_there in
+    let not_hidden = subst (λ (v : Dependents). IsAbsent c.args.session v.hidden) (sym c.self.view_is) c.requires.not_hidden in
+    let is_new = place_is_new c.args.places.now c.loop-place.place-index c.loop-place-test.true c.requires.distinct in
+    let more = adding_goes_on c.args.session place c.link-node.result c.link.result added c.self.inside.places c.self.inside.sessions c.loop-place.self-inside.places c.loop-place.self-inside.sessions within session not_there not_hidden is_new c.loop-place.invariant in
+    rw (take_more c.args.places.now c.loop-place.place-index 0 c.loop-place-test.true, c.link-node.ensures.linked, c.link.ensures.linked) more

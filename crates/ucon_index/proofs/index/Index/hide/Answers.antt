@@ -1,40 +1,71 @@
-use Rattle.std.proofs.Common.{◌∙◌, subst, sym, ap, is_some, arith, length}
-use Rattle.ucon_links.specs.Lists.{list_at, hide, IsListed}
-use Rattle.ucon_index.proofs.Heads.{some_same, IsLeft, head_of, head_listed, head_owner, node_listed, rest_after_hide, is_left_after_hide}
+use Rattle.std.proofs.Common.{◌≡◌, ◌∙◌, ap, arith, is_some, length, subst, sym, true}
+use Rattle.ucon_links.specs.Lists.{list_at}
+use Rattle.ucon_links.specs.Lists as links
+use Rattle.ucon_index.specs.Dependents.{Dependents, is_there, hide, UnhideGives}
+use Rattle.ucon_index.specs.Tables.{seen}
+use Rattle.ucon_index.proofs.Hiding.{IsHiding, hiding_begins, hiding_goes_on, hiding_ends, next_item, one_item_less}
+use Rattle.ucon_index.proofs.Listed.{item_listed, item_owner, node_is, node_listed}
+use Rattle.ucon_index.proofs.Stack.{there-not_hidden}
+use Rattle.ucon_index.proofs.Undone.{undone}
 use Rattle.ucon_index.proofs.index.Index.hide.Goals as goal
+
+pub loop-item-init : goal.loop-item-init
+loop-item-init c = hiding_begins c.args.session c.self.inside.places c.self.inside.sessions c.self.invariant (subst (λ (v : Dependents). is_there c.args.session v.places ≡ true) (sym c.self.view_is) c.requires)
 
 pub owner-requires : goal.owner-requires
 owner-requires c =
     let work = c.loop-item.invariant in
-    let head = head_of c.loop-item.self.sessions c.args.session c.in-Some.item c.first.ensures.distinct work.within (sym c.first.ensures.first ∙ c.in-Some.is) in
-    ap is_some (head_owner c.loop-item.self.sessions c.args.session c.in-Some.item work.within head)
+    let next = next_item c.args.session c.in-Some.item c.loop-item.self-inside.places c.loop-item.self-inside.sessions work.paired work.within c.in-Some.ensures.first in
+    ap is_some (item_owner c.args.session c.in-Some.item c.loop-item.self-inside.places c.loop-item.self-inside.sessions work.within next c.in-Some.ensures.distinct)
 
 pub hide-requires : goal.hide-requires
 hide-requires c =
     let work = c.loop-item.invariant in
-    let head = head_of c.loop-item.self.sessions c.args.session c.in-Some.item c.first.ensures.distinct work.within (sym c.first.ensures.first ∙ c.in-Some.is) in
-    let same = some_same (sym (head_owner c.loop-item.self.sessions c.args.session c.in-Some.item work.within head) ∙ c.owner.ensures.owner) in
-    subst (IsListed c.loop-item.self.places) same (node_listed hide c.args.session c.in-Some.item c.loop-item.self.places c.loop-item.self.sessions c.args.self.now.places c.args.self.now.sessions work head)
+    let next = next_item c.args.session c.in-Some.item c.loop-item.self-inside.places c.loop-item.self-inside.sessions work.paired work.within c.in-Some.ensures.first in
+    node_listed c.args.session c.in-Some.item c.loop-item.self-inside.places c.loop-item.self-inside.sessions work.within next c.in-Some.ensures.distinct c.owner.result c.owner.ensures.owner
 
 pub hide-requires-in-Some : goal.hide-requires-in-Some
 hide-requires-in-Some c =
     let work = c.loop-item.invariant in
-    let head = head_of c.loop-item.self.sessions c.args.session c.in-Some.item c.first.ensures.distinct work.within (sym c.first.ensures.first ∙ c.in-Some.is) in
-    head_listed c.loop-item.self.sessions c.args.session c.in-Some.item work.within head
-
-pub loop-item-preserved : goal.loop-item-preserved
-loop-item-preserved c =
-    let work = c.loop-item.invariant in
-    let head = head_of c.loop-item.self.sessions c.args.session c.in-Some.item c.first.ensures.distinct work.within (sym c.first.ensures.first ∙ c.in-Some.is) in
-    let same = some_same (sym (head_owner c.loop-item.self.sessions c.args.session c.in-Some.item work.within head) ∙ c.owner.ensures.owner) in
-    let less = is_left_after_hide c.args.session c.in-Some.item c.loop-item.self.places c.loop-item.self.sessions c.args.self.now.places c.args.self.now.sessions work head in
-    rw (c.hide.ensures, c.hide-in-Some.ensures)
-    (subst (λ node. IsLeft hide c.args.session (hide c.loop-item.self.places node) (hide c.loop-item.self.sessions c.in-Some.item) c.args.self.now.places c.args.self.now.sessions) same less)
+    let next = next_item c.args.session c.in-Some.item c.loop-item.self-inside.places c.loop-item.self-inside.sessions work.paired work.within c.in-Some.ensures.first in
+    item_listed c.args.session c.in-Some.item c.loop-item.self-inside.places c.loop-item.self-inside.sessions work.within next c.in-Some.ensures.distinct
 
 pub loop-item-smaller : goal.loop-item-smaller
 loop-item-smaller c =
     let work = c.loop-item.invariant in
-    let head = head_of c.loop-item.self.sessions c.args.session c.in-Some.item c.first.ensures.distinct work.within (sym c.first.ensures.first ∙ c.in-Some.is) in
-    let before = ap length head.list_is in
-    let after = ap (λ v. length (list_at v.lists c.args.session)) c.hide-in-Some.ensures ∙ ap length (rest_after_hide c.loop-item.self.sessions c.args.session c.in-Some.item work.within head) in
-    omega (arith, before, after)
+    let next = next_item c.args.session c.in-Some.item c.loop-item.self-inside.places c.loop-item.self-inside.sessions work.paired work.within c.in-Some.ensures.first in
+    let there = subst (λ (v : Dependents). is_there c.args.session v.places ≡ true) (sym c.self.view_is) c.requires in
+    let apart = there-not_hidden c.args.session _ _ c.self.invariant.gone there in
+    let less = one_item_less c.args.session c.in-Some.item c.self.inside.places c.self.inside.sessions c.loop-item.self-inside.places c.loop-item.self-inside.sessions apart work next c.hide.ensures.distinct c.in-Some.ensures.distinct in
+    let is = ap (λ v. length (list_at v.lists c.args.session)) c.hide-in-Some.ensures.hidden in
+    omega (arith, less, is)
+
+pub loop-item-preserved : goal.loop-item-preserved
+loop-item-preserved c =
+    let work = c.loop-item.invariant in
+    let next = next_item c.args.session c.in-Some.item c.loop-item.self-inside.places c.loop-item.self-inside.sessions work.paired work.within c.in-Some.ensures.first in
+    let there = subst (λ (v : Dependents). is_there c.args.session v.places ≡ true) (sym c.self.view_is) c.requires in
+    let apart = there-not_hidden c.args.session _ _ c.self.invariant.gone there in
+    let more = hiding_goes_on c.args.session c.in-Some.item c.self.inside.places c.self.inside.sessions c.loop-item.self-inside.places c.loop-item.self-inside.sessions apart work next c.hide.ensures.distinct c.in-Some.ensures.distinct in
+    let node = node_is c.args.session c.in-Some.item c.loop-item.self-inside.places c.loop-item.self-inside.sessions work.within next c.in-Some.ensures.distinct c.owner.result c.owner.ensures.owner in
+    let places_is = ap (links.hide c.loop-item.self-inside.places) node ∙ sym c.hide.ensures.hidden in
+    subst (IsHiding c.args.session c.self.inside.places c.self.inside.sessions c.hide.new.self) (sym c.hide-in-Some.ensures.hidden)
+    (subst (λ v. IsHiding c.args.session c.self.inside.places c.self.inside.sessions v (links.hide c.loop-item.self-inside.sessions c.in-Some.item)) places_is more)
+
+pub invariant_of-self : goal.invariant_of-self
+invariant_of-self c =
+    let there = subst (λ (v : Dependents). is_there c.args.session v.places ≡ true) (sym c.self.view_is) c.requires in
+    (hiding_ends c.args.session c.self.inside.places c.self.inside.sessions c.loop-item.self-inside.places c.loop-item.self-inside.sessions c.self.invariant there c.loop-item.invariant (sym c.in_default.is ∙ c.first.ensures.first)).sound
+
+pub returns-clause-hidden : goal.returns-clause-hidden
+returns-clause-hidden c =
+    let there = subst (λ (v : Dependents). is_there c.args.session v.places ≡ true) (sym c.self.view_is) c.requires in
+    (hiding_ends c.args.session c.self.inside.places c.self.inside.sessions c.loop-item.self-inside.places c.loop-item.self-inside.sessions c.self.invariant there c.loop-item.invariant (sym c.in_default.is ∙ c.first.ensures.first)).hidden
+    ∙ ap (λ v. hide v c.args.session) c.self.view_is
+
+pub returns-clause-restored : goal.returns-clause-restored
+returns-clause-restored c =
+    let there = subst (λ (v : Dependents). is_there c.args.session v.places ≡ true) (sym c.self.view_is) c.requires in
+    let end = hiding_ends c.args.session c.self.inside.places c.self.inside.sessions c.loop-item.self-inside.places c.loop-item.self-inside.sessions c.self.invariant there c.loop-item.invariant (sym c.in_default.is ∙ c.first.ensures.first) in
+    let law = undone c.args.session c.self.inside.places c.self.inside.sessions c.self.invariant end.distinct there in
+    subst (λ v. UnhideGives 1 v c.args.self.now) (sym end.hidden) (subst (λ v. UnhideGives 1 (hide (seen c.self.inside.places c.self.inside.sessions) c.args.session) v) c.self.view_is law)

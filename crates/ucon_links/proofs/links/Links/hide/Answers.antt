@@ -1,5 +1,6 @@
 use Rattle.std.proofs.Common.{arith, ap, ◌∙◌, length}
 use Rattle.ucon_links.proofs.Seen.{opened}
+use Rattle.ucon_links.proofs.Distinct.{nodes_distinct}
 use Rattle.ucon_links.proofs.Hiding.{length-joined}
 use Rattle.ucon_links.proofs.Steps.{read_at, listed_in, hide_needs, hide_leaves}
 use Rattle.ucon_links.proofs.links.Links.hide.Goals as goal
@@ -30,8 +31,13 @@ invariant_of-self c =
     let there = read_at _ c.args.node c.index-taken.result.now (listed_in _ _ _ _ _ _ _ now c.args.node c.requires) c.index-taken.ensures in
     rw (c.join.ensures.nodes, c.join.ensures.firsts) (hide_leaves _ _ _ _ _ _ _ now c.args.node _ c.requires there).is_sound
 
-pub returns : goal.returns
-returns c =
+pub returns-clause-hidden : goal.returns-clause-hidden
+returns-clause-hidden c =
     let now = opened _ _ _ _ _ _ _ c.self.invariant c.self.view_is in
     let there = read_at _ c.args.node c.index-taken.result.now (listed_in _ _ _ _ _ _ _ now c.args.node c.requires) c.index-taken.ensures in
     rw (c.join.ensures.nodes, c.join.ensures.firsts) (hide_leaves _ _ _ _ _ _ _ now c.args.node _ c.requires there).seen_as
+
+pub returns-clause-distinct : goal.returns-clause-distinct
+returns-clause-distinct c =
+    let now = opened _ _ _ _ _ _ _ c.self.invariant c.self.view_is in
+    nodes_distinct _ _ _ _ _ now.spares now.holds

@@ -10,5 +10,5 @@ hide-requires c =
 
 pub loop-node-preserved : goal.loop-node-preserved
 loop-node-preserved c =
-    c.hide.ensures ∙ ap (λ v. hide v (get_or c.args.nodes.now c.loop-node.node-index 0)) c.loop-node.invariant
+    c.hide.ensures.hidden ∙ ap (λ v. hide v (get_or c.args.nodes.now c.loop-node.node-index 0)) c.loop-node.invariant
     ∙ sym (hide_all-take-suc c.args.self.now c.args.nodes.now c.loop-node.node-index c.loop-node-test.true)

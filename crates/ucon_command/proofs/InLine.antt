@@ -1,0 +1,120 @@
+-- The text of a reply has no newline.
+use Rattle.std.proofs.Common.{◌≡◌, ℕ, suc, ◌<◌, ◌^◌, true, false, List, [], ◌∷◌, ◌++◌, refl, ap, arith}
+use Rattle.std.specs.Prelude.{ℤ, pos, negsuc, codes}
+use Rattle.std.specs.Fmt.{decimal, signed_decimal}
+use Rattle.std.specs.List.{list_all}
+use Rattle.std.proofs.lemmas.Bool.{and_parts, ne_eqb}
+use Rattle.std.proofs.lemmas.Int.{ints}
+use Rattle.ucon_base.specs.declared.value.Value.{Value}
+use Rattle.ucon_base.specs.declared.value.Value.TheVariants.{Int, Text, Set}
+use Rattle.ucon_base.specs.Numbers.{InRange}
+use Rattle.ucon_base.specs.Spelling.{quoted, more_texts, set_spelling, value_spelling, IsValue}
+use Rattle.ucon_base.specs.TextBytes.{is_text, is_text_byte}
+use Rattle.ucon_base.proofs.TextFront.{texty, texty_is}
+use Rattle.ucon_model.specs.declared.reply.Head.{Head}
+use Rattle.ucon_model.specs.declared.reply.Head.TheVariants as heads
+use Rattle.ucon_model.specs.declared.reply.Refusal.{Refusal}
+use Rattle.ucon_model.specs.declared.reply.Refusal.TheVariants.{NotAdmin, NoRight, NoSubject, NoObject, NoAttribute, NoVariable, NoAct, NoSession, NotYours, NotAccessing, NotRequesting, AlreadyThere, BadValue, TickBack, FullSubjects, FullObjects, FullActs, FullSessions, FullAccessing}
+use Rattle.ucon_model.specs.declared.reply.Revoked.{Revoked}
+use Rattle.ucon_model.specs.declared.session.SessionState.{SessionState}
+use Rattle.ucon_model.specs.declared.session.SessionState.TheVariants as states
+use Rattle.ucon_model.specs.LegalRun.{Each}
+use Rattle.ucon_model.specs.Output.{Lacks}
+use Rattle.ucon_model.specs.Plain.{Bytes, PlainReply, refused, made, value_is, status}
+use Rattle.ucon_model.specs.ReplyText.{IsLabelled, IsHead, IsReply}
+use Rattle.ucon_model.specs.Spelling.{refusal_words, state_word, head_spelling, revoked_spelling, reply_spelling}
+use Rattle.ucon_model.proofs.Lacking.{lacks-append, lacks-tested, lacks-decimal, lacks-name}
+
+-- ---- values
+
+texty_in_line : (t : Bytes) → texty t ≡ true → Lacks 10 t
+texty_in_line [] h = tt
+texty_in_line (b ∷ bs) h =
+    let parts = and_parts (is_text_byte b) (texty bs) h in
+    (ne_eqb b 10 (λ e. (let same : is_text_byte b ≡ false = ap is_text_byte e in cc)), texty_in_line bs parts.1)
+
+quoted_in_line : (t : Bytes) → is_text t ≡ true → Lacks 10 (quoted t)
+quoted_in_line t h = (refl, lacks-append 10 t (34 ∷ []) (texty_in_line t (texty_is t h)) (refl, tt))
+
+more_in_line : (ts : List Bytes) → list_all is_text ts ≡ true → Lacks 10 (more_texts ts)
+more_in_line [] h = tt
+more_in_line (t ∷ ts) h =
+    let parts = and_parts (is_text t) (list_all is_text ts) h in
+    (refl, lacks-append 10 (quoted t) (more_texts ts) (quoted_in_line t parts.0) (more_in_line ts parts.1))
+
+set_in_line : (ts : List Bytes) → list_all is_text ts ≡ true → Lacks 10 (set_spelling ts)
+set_in_line [] h = lacks-tested 10 (codes "{}") refl
+set_in_line (t ∷ ts) h =
+    let parts = and_parts (is_text t) (list_all is_text ts) h in
+    let front : Lacks 10 (123 ∷ quoted t) = (refl, quoted_in_line t parts.0) in
+    lacks-append 10 (123 ∷ quoted t ++ more_texts ts) (125 ∷ []) (lacks-append 10 (123 ∷ quoted t) (more_texts ts) front (more_in_line ts parts.1)) (refl, tt)
+
+integer_in_line : (n : ℤ) → InRange n → Lacks 10 (signed_decimal n)
+integer_in_line (pos n) h = lacks-decimal 10 n (omega arith) (omega (arith, ints, h.high))
+integer_in_line (negsuc n) h = (refl, lacks-decimal 10 (suc n) (omega arith) (omega (arith, ints, h.low)))
+
+value_in_line : (v : Value) → IsValue v → Lacks 10 (value_spelling v)
+value_in_line (Int n) h = integer_in_line n h
+value_in_line (Text t) h = quoted_in_line t h
+value_in_line (Set ts) h = set_in_line ts h.1
+
+-- ---- words
+
+number_in_line : (n : ℕ) → n < 2 ^ 32 → Lacks 10 (decimal n)
+number_in_line n lt = lacks-decimal 10 n (omega arith) (omega (arith, lt))
+
+refusal_in_line : (r : Refusal) → Lacks 10 (refusal_words r)
+refusal_in_line NotAdmin = lacks-tested 10 (refusal_words NotAdmin) refl
+refusal_in_line NoRight = lacks-tested 10 (refusal_words NoRight) refl
+refusal_in_line NoSubject = lacks-tested 10 (refusal_words NoSubject) refl
+refusal_in_line NoObject = lacks-tested 10 (refusal_words NoObject) refl
+refusal_in_line NoAttribute = lacks-tested 10 (refusal_words NoAttribute) refl
+refusal_in_line NoVariable = lacks-tested 10 (refusal_words NoVariable) refl
+refusal_in_line NoAct = lacks-tested 10 (refusal_words NoAct) refl
+refusal_in_line NoSession = lacks-tested 10 (refusal_words NoSession) refl
+refusal_in_line NotYours = lacks-tested 10 (refusal_words NotYours) refl
+refusal_in_line NotAccessing = lacks-tested 10 (refusal_words NotAccessing) refl
+refusal_in_line NotRequesting = lacks-tested 10 (refusal_words NotRequesting) refl
+refusal_in_line AlreadyThere = lacks-tested 10 (refusal_words AlreadyThere) refl
+refusal_in_line BadValue = lacks-tested 10 (refusal_words BadValue) refl
+refusal_in_line TickBack = lacks-tested 10 (refusal_words TickBack) refl
+refusal_in_line FullSubjects = lacks-tested 10 (refusal_words FullSubjects) refl
+refusal_in_line FullObjects = lacks-tested 10 (refusal_words FullObjects) refl
+refusal_in_line FullActs = lacks-tested 10 (refusal_words FullActs) refl
+refusal_in_line FullSessions = lacks-tested 10 (refusal_words FullSessions) refl
+refusal_in_line FullAccessing = lacks-tested 10 (refusal_words FullAccessing) refl
+
+state_in_line : (s : SessionState) → Lacks 10 (state_word s)
+state_in_line states.Requesting = lacks-tested 10 (codes "requesting") refl
+state_in_line states.Denied = lacks-tested 10 (codes "denied") refl
+state_in_line states.Accessing = lacks-tested 10 (codes "accessing") refl
+state_in_line states.Revoked = lacks-tested 10 (codes "revoked") refl
+state_in_line states.Ended = lacks-tested 10 (codes "ended") refl
+
+-- ---- replies
+
+numbered : (word : Bytes) (n : ℕ) → Lacks 10 word → n < 2 ^ 32 → Lacks 10 (word ++ decimal n)
+numbered word n h lt = lacks-append 10 word (decimal n) h (number_in_line n lt)
+
+labelled : (word : Bytes) (n : ℕ) (label : Bytes) → Lacks 10 word → IsLabelled n label → Lacks 10 (word ++ decimal n ++ 32 ∷ label)
+labelled word n label h l = lacks-append 10 (word ++ decimal n) (32 ∷ label) (numbered word n h l.0) (refl, lacks-name 10 label refl l.1)
+
+head_in_line : (head : Head) → IsHead head → Lacks 10 (head_spelling head)
+head_in_line heads.Ok h = lacks-tested 10 (codes "ok") refl
+head_in_line (heads.Permitted n) h = numbered (codes "permitted ") n (lacks-tested 10 (codes "permitted ") refl) h
+head_in_line (heads.Denied n label) h = labelled (codes "denied ") n label (lacks-tested 10 (codes "denied ") refl) h
+head_in_line (heads.Waiting n label) h = labelled (codes "waiting ") n label (lacks-tested 10 (codes "waiting ") refl) h
+head_in_line (heads.Ended n) h = numbered (codes "ended ") n (lacks-tested 10 (codes "ended ") refl) h
+
+revoked_in_line : (rs : List Revoked) → Each (λ r. IsLabelled r.session r.label) rs → Lacks 10 (revoked_spelling rs)
+revoked_in_line [] h = tt
+revoked_in_line (r ∷ rs) h =
+    lacks-append 10 (codes " revoked " ++ decimal r.session ++ 32 ∷ r.label) (revoked_spelling rs)
+    (labelled (codes " revoked ") r.session r.label (lacks-tested 10 (codes " revoked ") refl) h.0) (revoked_in_line rs h.1)
+
+pub reply_in_line : (r : PlainReply) → IsReply r → Lacks 10 (reply_spelling r)
+reply_in_line (refused r) h = refusal_in_line r
+reply_in_line (made head revoked) h = lacks-append 10 (head_spelling head) (revoked_spelling revoked) (head_in_line head h.0) (revoked_in_line revoked h.1)
+reply_in_line (value_is v) h = lacks-append 10 (codes "value ") (value_spelling v) (lacks-tested 10 (codes "value ") refl) (value_in_line v h)
+reply_in_line (status n state) h =
+    lacks-append 10 (codes "status " ++ decimal n) (32 ∷ state_word state) (numbered (codes "status ") n (lacks-tested 10 (codes "status ") refl) h) (refl, state_in_line state)

@@ -1,0 +1,9 @@
+pub mod Cuts
+pub mod InLine
+pub mod Joined
+pub mod Lengths
+pub mod ReadLines
+pub mod ReadReplies
+pub mod Revoked
+pub mod SpelledLines
+pub mod SpelledReplies

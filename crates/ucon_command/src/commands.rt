@@ -1,0 +1,106 @@
+//! Commands as text.
+
+ghost use Rattle.std.specs.Prelude.{◌≡◌, ◌≤◌, ◌++◌, ◌∷◌, length, IfOk, OnOk, Ok};
+ghost use Rattle.ucon_model.specs.CommandLine.{side_word, command_spelling, line_read};
+
+use crate::in_form::command_in_form;
+use crate::spelling::{put_integer, put_name, put_session, put_value, put_word};
+use std::alloc::Global;
+use ucon_base::{Name, NoMemory, Side};
+use ucon_model::Command;
+
+/// The one line that reads as the command.
+#[tactic(auto, using(crate::proofs::Lengths::short, crate::proofs::ReadLines::command_back))]
+pub fn command_text(alloc: Global, command: &Command) -> Result<Vec<u8>, NoMemory>
+    ensures text { IfOk result (λ t. t.items ≡ command_spelling command.now) }
+    ensures read_back { line_read (command_spelling command.now) ≡ Ok command.now }
+    ensures short { length (command_spelling command.now) ≤ 8192 }
+{
+    command_in_form(command);
+    let mut text = Vec::new(alloc);
+    put_command(alloc, &mut text, command)?;
+    Ok(text)
+}
+
+#[tactic(auto, unfolding(ucon_model::specs::CommandLine::command_spelling))]
+fn put_command(alloc: Global, out: &mut Vec<u8>, command: &Command) -> Result<(), NoMemory>
+    ensures { OnOk result (out.new.items ≡ out.old.items ++ command_spelling command.now) }
+{
+    match command {
+        Command::Subject(name) => put_named(out, b"subject", name),
+        Command::Object(name) => put_named(out, b"object", name),
+        Command::Set {
+            side,
+            name,
+            attr,
+            value,
+        } => {
+            put_place(out, b"set ", *side, name, attr)?;
+            put_value(alloc, out, value)
+        }
+        Command::Env { name, value } => {
+            put_named(out, b"env", name)?;
+            put_value(alloc, out, value)
+        }
+        Command::Tick(t) => {
+            put_word(out, b"tick ")?;
+            put_integer(alloc, out, *t)
+        }
+        Command::Act {
+            subject,
+            action,
+            object,
+        } => put_names(out, b"act", subject, action, object),
+        Command::Try {
+            subject,
+            right,
+            object,
+        } => put_names(out, b"try", subject, right, object),
+        Command::Again(n) => put_session(alloc, out, b"again ", *n),
+        Command::Beat(n) => put_session(alloc, out, b"beat ", *n),
+        Command::End(n) => put_session(alloc, out, b"end ", *n),
+        Command::Look(n) => put_session(alloc, out, b"look ", *n),
+        Command::Value { side, name, attr } => put_place(out, b"value ", *side, name, attr),
+    }
+}
+
+/// Adds a word, a space and a name.
+fn put_named(out: &mut Vec<u8>, word: &[u8], name: &Name) -> Result<(), NoMemory>
+    ensures { OnOk result (out.new.items ≡ out.old.items ++ (word.now ++ 32 ∷ name.now)) }
+{
+    put_word(out, word)?;
+    put_name(out, name)
+}
+
+/// Adds a word and three names, each behind a space.
+fn put_names(out: &mut Vec<u8>, word: &[u8], a: &Name, b: &Name, c: &Name) -> Result<(), NoMemory>
+    ensures { OnOk result (out.new.items ≡ out.old.items ++ (word.now ++ 32 ∷ a.now ++ 32 ∷ b.now ++ 32 ∷ c.now)) }
+{
+    put_named(out, word, a)?;
+    put_name(out, b)?;
+    put_name(out, c)
+}
+
+/// Adds a word and the word for a side, and two names, each behind a space.
+fn put_place(
+    out: &mut Vec<u8>,
+    word: &[u8],
+    side: Side,
+    name: &Name,
+    attr: &Name,
+) -> Result<(), NoMemory>
+    ensures { OnOk result (out.new.items ≡ out.old.items ++ (word.now ++ side_word side ++ 32 ∷ name.now ++ 32 ∷ attr.now)) }
+{
+    put_word(out, word)?;
+    put_named(out, side_word(side), name)?;
+    put_name(out, attr)
+}
+
+fn side_word(side: Side) -> &'static [u8]
+    ensures { result.now ≡ side_word side }
+{
+    match side {
+        Side::Subject => b"s",
+        Side::Object => b"o",
+    }
+}

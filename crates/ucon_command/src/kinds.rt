@@ -1,0 +1,110 @@
+//! What a word says, by its kind.
+
+ghost use Rattle.std.specs.Prelude.{◌≡◌, IfOk, MatchResult};
+ghost use Rattle.ucon_model.specs.CommandLine.{side_in, name_in, value_in, integer_of, integer_in, number_of, number_in, said};
+ghost use Rattle.ucon_command.specs.Words.{word_of};
+ghost use Rattle.ucon_command.specs.Faults.{IsRefusal};
+
+use crate::line_fault::LineFault;
+use crate::words::Word;
+use std::alloc::Global;
+use ucon_base::{Int, Name, NoMemory, Side, Value, ValueFault};
+
+fn side_in(bytes: &[u8]) -> Option<Side>
+    ensures { result ≡ side_in bytes.now }
+{
+    if bytes == b"s".as_slice() {
+        Some(Side::Subject)
+    } else if bytes == b"o".as_slice() {
+        Some(Side::Object)
+    } else {
+        None
+    }
+}
+
+/// The name that the bytes are.
+pub fn name_in(bytes: &[u8]) -> Option<Name>
+    ensures { result ≡ name_in bytes.now }
+{
+    Name::read(bytes).ok()
+}
+
+/// The value that the bytes spell.
+pub fn value_in(alloc: Global, bytes: &[u8]) -> Result<Option<Value>, NoMemory>
+    ensures { IfOk result (λ v. v ≡ value_in bytes.now) }
+{
+    match Value::read(alloc, bytes) {
+        Ok(v) => Ok(Some(v)),
+        Err(ValueFault::NoMemory) => Err(NoMemory),
+        Err(_) => Ok(None),
+    }
+}
+
+fn integer_of(v: &Value) -> Option<Int>
+    ensures { result ≡ integer_of v.now }
+{
+    match v {
+        Value::Int(n) => Some(*n),
+        _ => None,
+    }
+}
+
+fn integer_in(alloc: Global, bytes: &[u8]) -> Result<Option<Int>, NoMemory>
+    ensures { IfOk result (λ n. n ≡ integer_in bytes.now) }
+{
+    match value_in(alloc, bytes)? {
+        Some(v) => Ok(integer_of(&v)),
+        None => Ok(None),
+    }
+}
+
+fn number_of(n: Int) -> Option<u32>
+    ensures { result ≡ number_of n }
+{
+    u32::try_from(n.get()).ok()
+}
+
+/// The session's number that the bytes spell.
+pub fn number_in(alloc: Global, bytes: &[u8]) -> Result<Option<u32>, NoMemory>
+    ensures { IfOk result (λ n. n ≡ number_in bytes.now) }
+{
+    match integer_in(alloc, bytes)? {
+        Some(n) => Ok(number_of(n)),
+        None => Ok(None),
+    }
+}
+
+/// The side that a word names.
+pub fn side_word(w: &Word<'_>) -> Result<Side, LineFault>
+    ensures { MatchResult result (λ s. said side_in (word_of w.now) ≡ Ok s) (IsRefusal (said side_in (word_of w.now))) }
+{
+    side_in(w.text).ok_or(LineFault::BadWord(w.at))
+}
+
+/// The name that a word is.
+pub fn name_word(w: &Word<'_>) -> Result<Name, LineFault>
+    ensures { MatchResult result (λ n. said name_in (word_of w.now) ≡ Ok n) (IsRefusal (said name_in (word_of w.now))) }
+{
+    name_in(w.text).ok_or(LineFault::BadWord(w.at))
+}
+
+/// The value that a word spells.
+pub fn value_word(alloc: Global, w: &Word<'_>) -> Result<Value, LineFault>
+    ensures { MatchResult result (λ v. said value_in (word_of w.now) ≡ Ok v) (IsRefusal (said value_in (word_of w.now))) }
+{
+    value_in(alloc, w.text)?.ok_or(LineFault::BadWord(w.at))
+}
+
+/// The integer that a word spells.
+pub fn integer_word(alloc: Global, w: &Word<'_>) -> Result<Int, LineFault>
+    ensures { MatchResult result (λ n. said integer_in (word_of w.now) ≡ Ok n) (IsRefusal (said integer_in (word_of w.now))) }
+{
+    integer_in(alloc, w.text)?.ok_or(LineFault::BadWord(w.at))
+}
+
+/// The number that a word spells.
+pub fn number_word(alloc: Global, w: &Word<'_>) -> Result<u32, LineFault>
+    ensures { MatchResult result (λ n. said number_in (word_of w.now) ≡ Ok n) (IsRefusal (said number_in (word_of w.now))) }
+{
+    number_in(alloc, w.text)?.ok_or(LineFault::BadWord(w.at))
+}

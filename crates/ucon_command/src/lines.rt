@@ -1,0 +1,88 @@
+//! Reads a command from its line.
+
+ghost use Rattle.std.specs.Prelude.{◌≡◌, map, IfOk, MatchResult};
+ghost use Rattle.ucon_model.specs.CommandLine.{command_spelling, command_read, line_read};
+ghost use Rattle.ucon_command.specs.Words.{word_of, BeginWithin};
+ghost use Rattle.ucon_command.specs.Faults.{IsRefusal};
+
+use crate::forms::{
+    env_words, one_integer, one_name, one_number, set_words, three_names, value_words,
+};
+use crate::line_fault::LineFault;
+use crate::words::{Word, words};
+use std::alloc::Global;
+use ucon_model::Command;
+
+/// The command whose text a line is, or the first refusal.
+#[tactic(auto, using(crate::proofs::SpelledLines::command_is))]
+pub fn read_command(alloc: Global, line: &[u8]) -> Result<Command, LineFault>
+    ensures read { MatchResult result (λ c. line_read line.now ≡ Ok c) (IsRefusal (line_read line.now)) }
+    ensures spelled { IfOk result (λ c. command_spelling c ≡ line.now) }
+{
+    line_command(alloc, line)
+}
+
+#[tactic(auto, unfolding(ucon_model::specs::CommandLine::line_read))]
+fn line_command(alloc: Global, line: &[u8]) -> Result<Command, LineFault>
+    ensures { MatchResult result (λ c. line_read line.now ≡ Ok c) (IsRefusal (line_read line.now)) }
+{
+    if line.len() > 8192 {
+        return Err(LineFault::TooLong(line.len()));
+    }
+    let words = words(alloc, line)?;
+    match words.as_slice() {
+        [first, ..] if !first.text.is_empty() => command(alloc, line, first.text, &words),
+        _ => Err(LineFault::NoWord),
+    }
+}
+
+/// The form that a line's first word begins.
+#[tactic(auto, unfolding(ucon_model::specs::CommandLine::command_read))]
+fn command<'a>(
+    alloc: Global,
+    line: &'a [u8],
+    first: &[u8],
+    words: &[Word<'a>],
+) -> Result<Command, LineFault>
+    requires { BeginWithin line.now words.now }
+    ensures { MatchResult result (λ c. command_read line.now first.now (map word_of words.now) ≡ Ok c) (IsRefusal (command_read line.now first.now (map word_of words.now))) }
+{
+    if first == b"subject".as_slice() {
+        Ok(Command::Subject(one_name(words)?))
+    } else if first == b"object".as_slice() {
+        Ok(Command::Object(one_name(words)?))
+    } else if first == b"set".as_slice() {
+        set_words(alloc, line, words)
+    } else if first == b"env".as_slice() {
+        env_words(alloc, line, words)
+    } else if first == b"tick".as_slice() {
+        Ok(Command::Tick(one_integer(alloc, words)?))
+    } else if first == b"act".as_slice() {
+        let (subject, action, object) = three_names(words)?;
+        Ok(Command::Act {
+            subject,
+            action,
+            object,
+        })
+    } else if first == b"try".as_slice() {
+        let (subject, right, object) = three_names(words)?;
+        Ok(Command::Try {
+            subject,
+            right,
+            object,
+        })
+    } else if first == b"again".as_slice() {
+        Ok(Command::Again(one_number(alloc, words)?))
+    } else if first == b"beat".as_slice() {
+        Ok(Command::Beat(one_number(alloc, words)?))
+    } else if first == b"end".as_slice() {
+        Ok(Command::End(one_number(alloc, words)?))
+    } else if first == b"look".as_slice() {
+        Ok(Command::Look(one_number(alloc, words)?))
+    } else if first == b"value".as_slice() {
+        let (side, name, attr) = value_words(words)?;
+        Ok(Command::Value { side, name, attr })
+    } else {
+        Err(LineFault::UnknownWord)
+    }
+}

@@ -1,0 +1,123 @@
+//! Replies as text.
+
+ghost use Rattle.std.specs.Prelude.{◌≡◌, ◌++◌, ◌∷◌, IfOk, OnOk, Some};
+ghost use Rattle.std.specs.Fmt.{decimal};
+ghost use Rattle.ucon_model.specs.Output.{Lacks};
+ghost use Rattle.ucon_model.specs.ReplyText.{reply_read};
+ghost use Rattle.ucon_model.specs.Spelling.{refusal_words, state_word, head_spelling, revoked_spelling, reply_spelling};
+ghost use Rattle.ucon_model.specs.Views.{reply_of};
+
+use crate::in_form::reply_in_form;
+use crate::spelling::{put_name, put_session, put_value, put_word};
+use std::alloc::Global;
+use ucon_base::{Name, NoMemory};
+use ucon_model::{Head, Refusal, Reply, Revoked, SessionState};
+
+/// The one text of a reply, which has no newline in it.
+#[tactic(auto, using(crate::proofs::InLine::reply_in_line, crate::proofs::ReadReplies::reply_back))]
+pub fn reply_text(alloc: Global, reply: &Reply) -> Result<Vec<u8>, NoMemory>
+    ensures text { IfOk result (λ t. t.items ≡ reply_spelling (reply_of reply.now)) }
+    ensures read_back { reply_read (reply_spelling (reply_of reply.now)) ≡ Some (reply_of reply.now) }
+    ensures one_line { Lacks 10 (reply_spelling (reply_of reply.now)) }
+{
+    reply_in_form(reply);
+    let mut text = Vec::new(alloc);
+    put_reply(alloc, &mut text, reply)?;
+    Ok(text)
+}
+
+fn put_reply(alloc: Global, out: &mut Vec<u8>, reply: &Reply) -> Result<(), NoMemory>
+    ensures { OnOk result (out.new.items ≡ out.old.items ++ reply_spelling (reply_of reply.now)) }
+{
+    match reply {
+        Reply::Refused(r) => put_word(out, refusal_words(*r)),
+        Reply::Made { head, revoked } => {
+            put_head(alloc, out, head)?;
+            put_revoked(alloc, out, revoked.slice())
+        }
+        Reply::Value(v) => {
+            put_word(out, b"value")?;
+            put_value(alloc, out, v)
+        }
+        Reply::Status(n, state) => {
+            put_session(alloc, out, b"status ", *n)?;
+            put_word(out, b" ")?;
+            put_word(out, state_word(*state))
+        }
+    }
+}
+
+/// The text of a refusal.
+pub fn refusal_words(r: Refusal) -> &'static [u8]
+    ensures { result.now ≡ refusal_words r }
+{
+    match r {
+        Refusal::NotAdmin => b"not admin",
+        Refusal::NoRight => b"no right",
+        Refusal::NoSubject => b"no subject",
+        Refusal::NoObject => b"no object",
+        Refusal::NoAttribute => b"no attribute",
+        Refusal::NoVariable => b"no variable",
+        Refusal::NoAct => b"no act",
+        Refusal::NoSession => b"no session",
+        Refusal::NotYours => b"not yours",
+        Refusal::NotAccessing => b"not accessing",
+        Refusal::NotRequesting => b"not requesting",
+        Refusal::AlreadyThere => b"already there",
+        Refusal::BadValue => b"bad value",
+        Refusal::TickBack => b"tick back",
+        Refusal::FullSubjects => b"full subjects",
+        Refusal::FullObjects => b"full objects",
+        Refusal::FullActs => b"full acts",
+        Refusal::FullSessions => b"full sessions",
+        Refusal::FullAccessing => b"full accessing",
+    }
+}
+
+/// The word for a session's state.
+pub fn state_word(state: SessionState) -> &'static [u8]
+    ensures { result.now ≡ state_word state }
+{
+    match state {
+        SessionState::Requesting => b"requesting",
+        SessionState::Denied => b"denied",
+        SessionState::Accessing => b"accessing",
+        SessionState::Revoked => b"revoked",
+        SessionState::Ended => b"ended",
+    }
+}
+
+/// Adds a word, a session's number, a space and a label.
+fn put_labelled(
+    alloc: Global,
+    out: &mut Vec<u8>,
+    word: &[u8],
+    n: u32,
+    label: &Name,
+) -> Result<(), NoMemory>
+    ensures { OnOk result (out.new.items ≡ out.old.items ++ (word.now ++ decimal n ++ 32 ∷ label.now)) }
+{
+    put_session(alloc, out, word, n)?;
+    put_name(out, label)
+}
+
+fn put_head(alloc: Global, out: &mut Vec<u8>, head: &Head) -> Result<(), NoMemory>
+    ensures { OnOk result (out.new.items ≡ out.old.items ++ head_spelling head.now) }
+{
+    match head {
+        Head::Ok => put_word(out, b"ok"),
+        Head::Permitted(n) => put_session(alloc, out, b"permitted ", *n),
+        Head::Denied(n, label) => put_labelled(alloc, out, b"denied ", *n, label),
+        Head::Waiting(n, label) => put_labelled(alloc, out, b"waiting ", *n, label),
+        Head::Ended(n) => put_session(alloc, out, b"ended ", *n),
+    }
+}
+
+fn put_revoked(alloc: Global, out: &mut Vec<u8>, revoked: &[Revoked]) -> Result<(), NoMemory>
+    ensures { OnOk result (out.new.items ≡ out.old.items ++ revoked_spelling revoked.now) }
+{
+    for r in revoked {
+        put_labelled(alloc, out, b" revoked ", r.session, &r.label)?;
+    }
+    Ok(())
+}

@@ -1,0 +1,15 @@
+use Rattle.std.proofs.Common.{◌∙◌, ap, sym, None}
+use Rattle.ucon_links.specs.Lists.{first_or}
+use Rattle.ucon_index.proofs.Walks.{distinct_seen, list_seen, within_seen}
+use Rattle.ucon_index.proofs.index.Index.first.Goals as goal
+
+pub first-requires : goal.first-requires
+first-requires c = within_seen c.self.inside.places c.self.inside.sessions c.args.self.now c.self.view_is c.args.place c.requires
+
+pub returns-clause-first : goal.returns-clause-first
+returns-clause-first c =
+    let within = within_seen c.self.inside.places c.self.inside.sessions c.args.self.now c.self.view_is c.args.place c.requires in
+    c.first.ensures.first ∙ ap (first_or None) (sym (list_seen c.self.inside.places c.self.inside.sessions c.args.self.now c.self.view_is c.args.place within))
+
+pub returns-clause-distinct : goal.returns-clause-distinct
+returns-clause-distinct c = distinct_seen c.self.inside.places c.self.inside.sessions c.args.self.now c.self.view_is c.first.ensures.distinct

@@ -1,0 +1,4 @@
+pub mod Capped
+pub mod Cuts
+pub mod Divided
+pub mod Scripts

@@ -1,0 +1,44 @@
+//! The command lines of a document.
+
+ghost use Rattle.std.specs.Prelude.{◌≡◌, ◌≤◌, ◌+◌, [], length};
+ghost use Rattle.ucon_model.specs.Document.{document_read, lines_of, script_told};
+ghost use Rattle.ucon_script.specs.Document.{Gives, lines_said};
+
+use crate::part::{cut, find_divider};
+use crate::script::Script;
+use crate::{DocFault, Document};
+use std::alloc::Global;
+use ucon_base::Rows;
+
+/// The command lines of a document, or the first line that is refused.
+#[tactic(auto, unfolding(ucon_model::specs::Document::document_read))]
+pub fn read_document(alloc: Global, bytes: &[u8]) -> Result<Document, DocFault>
+    requires { length bytes.now ≤ 4194304 }
+    ensures { Gives lines_said result (document_read bytes.now) }
+{
+    match find_divider(bytes) {
+        // The divider is a line too.
+        Some(divider) => read_script(alloc, divider.above as u32 + 2, divider.script),
+        None => Ok(Document {
+            lines: Rows::new(alloc),
+        }),
+    }
+}
+
+/// The command lines of a script whose first line has this number.
+fn read_script(alloc: Global, number: u32, text: &[u8]) -> Result<Document, DocFault>
+    requires { number + length text.now ≤ 4194304 }
+    ensures { Gives lines_said result (script_told number [] (lines_of text.now)) }
+{
+    let mut script = Script::new(number);
+    let mut lines = Rows::new(alloc);
+    let mut rest = text;
+    while !rest.is_empty() {
+        let (line, after) = cut(rest, b'\n');
+        if let Some(line) = script.line(alloc, line)? {
+            lines.push(line)?;
+        }
+        rest = after;
+    }
+    Ok(Document { lines })
+}

@@ -1,0 +1,101 @@
+//! A script, read line by line.
+
+ghost use Rattle.std.specs.Prelude.{◌≡◌, ◌<◌, ◌+◌, Some, option_map, OnOk};
+ghost use Rattle.ucon_model.specs.Document.{is_skipped, said_told, line_told};
+ghost use Rattle.ucon_script.specs.Document.{Gives, line_of};
+ghost use Rattle.ucon_script.specs.Lines.{client_after, count_after};
+
+use crate::document::fault_of;
+use crate::heading::heading;
+use crate::part::cut;
+use crate::{DocFault, Line};
+use std::alloc::Global;
+use ucon_command::read_command;
+use ucon_model::Caller;
+
+/// The most command lines of a document.
+const MOST_LINES: u32 = 262_144;
+
+/// How far a script is read.
+#[derive(Drop)]
+pub struct Script {
+    /// The number of the next line.
+    pub number: u32,
+    /// The client of the nearest heading above.
+    pub client: Option<Caller>,
+    /// How many command lines stand above.
+    pub said: u32,
+}
+
+impl Script {
+    /// The script whose first line has this number.
+    pub fn new(number: u32) -> Script
+        ensures { result ≡ record { number = number; client = None; said = 0 } }
+    {
+        Script {
+            number,
+            client: None,
+            said: 0,
+        }
+    }
+
+    /// The command line that the next line is, if it is one.
+    pub fn line(&mut self, alloc: Global, line: &[u8]) -> Result<Option<Line>, DocFault>
+        requires { self.old.number < u32.MAX }
+        ensures told { Gives (option_map line_of) result (line_told self.old.number self.old.client self.old.said line.now) }
+        ensures number { self.new.number ≡ self.old.number + 1 }
+        ensures client { OnOk result (self.new.client ≡ client_after self.old.client line.now) }
+        ensures said { OnOk result (self.new.said ≡ count_after self.old.said line.now) }
+    {
+        let number = self.number;
+        self.number += 1;
+        if is_skipped(line) {
+            return Ok(None);
+        }
+        let (word, rest) = cut(line, b' ');
+        if word == b"client".as_slice() {
+            let client = heading(number, rest)?;
+            self.client = Some(client);
+            return Ok(None);
+        }
+        let line = command_line(alloc, number, self.client, self.said, line)?;
+        self.said += 1;
+        Ok(Some(line))
+    }
+}
+
+/// The command line of this number, below a heading of this client, if any, and so many command lines.
+fn command_line(
+    alloc: Global,
+    number: u32,
+    client: Option<Caller>,
+    said: u32,
+    line: &[u8],
+) -> Result<Line, DocFault>
+    ensures told { Gives (λ l. Some (line_of l)) result (said_told number client said line.now) }
+    ensures room { OnOk result (said < 262144) }
+{
+    let Some(caller) = client else {
+        return Err(DocFault::BadHeading(number));
+    };
+    if said >= MOST_LINES {
+        return Err(DocFault::TooManyLines(number));
+    }
+    match read_command(alloc, line) {
+        Ok(command) => Ok(Line {
+            number,
+            caller,
+            command,
+        }),
+        Err(fault) => Err(fault_of(number, fault)),
+    }
+}
+
+fn is_skipped(line: &[u8]) -> bool
+    ensures { result ≡ is_skipped line.now }
+{
+    match line {
+        [] => true,
+        [first, ..] => *first == b'#',
+    }
+}

@@ -1,0 +1,66 @@
+-- Which documents are accepted, and why others are refused.
+use Rattle.std.specs.Prelude.{◌≡◌, ◌≤◌, List, length, Some, option_map, Ok}
+use Rattle.ucon_model.specs.Plain.{Bytes, PlainPolicy}
+use Rattle.ucon_model.specs.Document.{ScriptLine, policy_part, document_read}
+use Rattle.ucon_model.specs.Typing.{IsTyped, type_fault}
+use Rattle.ucon_model.specs.Spells.{Spells}
+use Rattle.ucon_syntax.specs.Refusals.{IsSyntaxFault}
+use Rattle.ucon_check.specs.Told.{told}
+use Rattle.ucon_check.specs.declared.fault.CheckFault.{CheckFault}
+use Rattle.ucon_check.specs.declared.fault.CheckFault.TheVariants as checks
+use Rattle.ucon_script.specs.Document.{IsCause}
+use Rattle.ucon_script.specs.declared.document.DocFault.{DocFault}
+use Rattle.ucon_script.specs.declared.document.DocFault.TheVariants as faults
+use Rattle.ucon_top.specs.declared.outcome.PolicyFault.{PolicyFault}
+use Rattle.ucon_top.specs.declared.outcome.PolicyFault.TheVariants.{Syntax, Typing}
+use Rattle.ucon_top.specs.declared.outcome.Outcome.{Outcome}
+use Rattle.ucon_top.specs.declared.outcome.Outcome.TheVariants as outcomes
+use Rattle.ucon_top.specs.declared.outcome.Refused.{Refused}
+use Rattle.ucon_top.specs.declared.outcome.Refused.TheVariants as refusals
+
+-- a document's policy part spells this policy, and it is well typed
+pub record HasPolicy (bytes : Bytes) (P : PlainPolicy) : Type 0 where
+  pub spelled : Spells (policy_part bytes) P
+  pub typed : IsTyped P
+
+-- a document has a policy, and its script says these lines
+pub record IsAccepted (bytes : Bytes) : Type 0 where
+  pub short : length bytes ≤ 4194304
+  pub policy : PlainPolicy
+  pub lines : List ScriptLine
+  pub has_policy : HasPolicy bytes policy
+  pub says : document_read bytes ≡ Ok lines
+
+-- a document's policy part spells a policy that has this typing fault first
+pub record HasTypeFault (bytes : Bytes) (fault : CheckFault) : Type 0 where
+  pub policy : PlainPolicy
+  pub spelled : Spells (policy_part bytes) policy
+  pub first : option_map told (type_fault policy) ≡ Some fault
+
+-- the policy part is refused so
+abbrev pub IsPolicyFault : PolicyFault → Bytes → Type 0
+IsPolicyFault (Syntax f) bytes = IsSyntaxFault (policy_part bytes) f
+IsPolicyFault (Typing checks.NoMemory) bytes = ⊥
+IsPolicyFault (Typing f) bytes = HasTypeFault bytes f
+
+-- the policy is accepted, and the script is refused so
+pub record HasScriptFault (bytes : Bytes) (fault : DocFault) : Type 0 where
+  pub policy : PlainPolicy
+  pub has_policy : HasPolicy bytes policy
+  pub cause : IsCause (document_read bytes) fault
+
+abbrev pub IsScriptFault : DocFault → Bytes → Type 0
+IsScriptFault faults.NoMemory bytes = ⊥
+IsScriptFault f bytes = HasScriptFault bytes f
+
+-- the document is refused so; want of memory may come at any moment
+abbrev pub IsRefused : Refused → Bytes → Type 0
+IsRefused (refusals.Policy f) bytes = IsPolicyFault f bytes
+IsRefused (refusals.Script f) bytes = IsScriptFault f bytes
+IsRefused refusals.NoMemory bytes = Unit {0}
+
+-- a run that ended so was refused its document by this cause, which is of at most 4,194,304 bytes
+abbrev pub IsRefusedBy : Outcome → Bytes → Type 0
+IsRefusedBy (outcomes.Policy f) bytes = (length bytes ≤ 4194304) × IsPolicyFault f bytes
+IsRefusedBy (outcomes.Script f) bytes = (length bytes ≤ 4194304) × IsScriptFault f bytes
+IsRefusedBy outcome bytes = Unit {0}

@@ -1,0 +1,30 @@
+//! Documents with what the program makes of them, as bytes for tests.
+#![tactic(auto)]
+
+mod guide;
+mod worked;
+
+pub use guide::guide_examples;
+pub use worked::{CAPPED, PAY_PER_USE, worked_rows};
+
+/// A document and what `trial` prints of it.
+#[derive(Clone, Copy, Debug)]
+pub struct Row {
+    /// What the row shows.
+    pub name: &'static str,
+    pub policy: &'static [u8],
+    /// What stands behind the divider.
+    pub script: &'static [u8],
+    pub output: &'static [u8],
+}
+
+/// A whole document, and what a form makes of it.
+#[derive(Clone, Copy, Debug)]
+pub struct Example {
+    pub name: &'static str,
+    pub form: &'static str,
+    pub document: &'static [u8],
+    pub status: u8,
+    /// What is printed with status 0, else the line of the fault.
+    pub text: &'static [u8],
+}
