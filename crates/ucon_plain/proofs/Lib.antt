@@ -10,3 +10,4 @@ pub mod Updated
 pub mod Deciding
 pub mod Cascade
 pub mod Standing
+pub mod Typing

@@ -4,3 +4,4 @@ pub mod Gives
 pub mod Updating
 pub mod Sessions
 pub mod Monitor
+pub mod Capped

@@ -2,14 +2,18 @@
 #![tactic(auto)]
 
 mod declared;
+mod laws;
 mod monitor;
 mod own;
 mod reading;
 mod scene;
 mod settle;
 mod step;
+#[cfg(test)]
+mod tests;
 mod told;
 mod update;
 mod usage;
 
+pub use laws::monitors_stand_for_histories;
 pub use monitor::PlainMonitor;
