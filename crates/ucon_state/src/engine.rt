@@ -33,7 +33,7 @@ pub trait Engine: Drop {
     fn begin(alloc: Global, checked: Checked) -> Result<Self, NoMemory>
         ensures { IfOk result (λ e. stands_for e (checked_policy checked) []) };
 
-    /// Each recheck of a session counts a step.
+    /// Each recheck of a session counts a step; no clause speaks of the count.
     fn draft(
         &mut self,
         caller: Caller,
