@@ -1,0 +1,7 @@
+-- What watched sessions are.
+use Rattle.std.specs.Prelude.{ℕ, List}
+use Rattle.ucon_watch.specs.declared.watched.Watched.{Watched}
+
+-- their numbers, least first
+abbrev pub watched : Watched → List ℕ
+watched w = w.numbers.items

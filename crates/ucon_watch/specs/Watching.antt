@@ -1,0 +1,28 @@
+-- Which sessions may come to fail.
+use Rattle.std.specs.Prelude.{◌≡◌, ℕ, Bool, true, false, ◌&&◌, List, [], ◌∷◌, Option, Some, None}
+use Rattle.std.specs.List.{list_any}
+use Rattle.std.specs.Option.{option_map_or}
+use Rattle.ucon_model.specs.declared.session.SessionRow.{SessionRow}
+use Rattle.ucon_model.specs.Plain.{Bytes, PlainPolicy}
+use Rattle.ucon_model.specs.Action.{Trace}
+use Rattle.ucon_model.specs.Readings.{session, is_accessing_state}
+use Rattle.ucon_model.specs.Decision.{right_named, ongoing}
+use Rattle.ucon_watch.specs.Rising.{has}
+
+-- whether the right of this name has an ongoing predicate
+abbrev pub asks : PlainPolicy → Bytes → Bool
+asks P name = option_map_or (λ r. list_any ongoing r.preds) (right_named P.rights name) false
+
+-- whether a session is accessing and its right has an ongoing predicate
+abbrev pub may_fail : PlainPolicy → Option SessionRow → Bool
+may_fail P None = false
+may_fail P (Some row) = is_accessing_state row.state && asks P row.right
+
+-- each session that may fail is one of these
+abbrev pub Covers : PlainPolicy → Trace → List ℕ → Type 0
+Covers P T ns = (n : ℕ) → may_fail P (session T n) ≡ true → has ns n ≡ true
+
+-- the first of these sessions that fails, with its label
+abbrev pub first_in : (ℕ → Option Bytes) → List ℕ → Option (ℕ × Bytes)
+first_in fails [] = None
+first_in fails (n ∷ ns) = option_map_or (λ label. Some (n, label)) (fails n) (first_in fails ns)

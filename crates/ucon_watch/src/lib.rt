@@ -1,0 +1,6 @@
+//! Scratch.
+#![tactic(auto)]
+
+mod watched;
+
+pub use watched::Watched;

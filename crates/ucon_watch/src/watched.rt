@@ -1,0 +1,76 @@
+//! Which sessions may come to fail.
+
+ghost use Rattle.std.specs.Prelude.{◌≡◌, ◌≤◌, ◌||◌, ℕ, length, slice_get, Some, nat_eq, nat_lt, true, false, OnOk, OnErr};
+ghost use Rattle.std.specs.List.{prefix_len};
+ghost use Rattle.ucon_watch.specs.Rising.{rises, has};
+
+use std::alloc::Global;
+use ucon_base::NoMemory;
+
+/// Numbers of sessions, least first.
+#[derive(Drop)]
+pub struct Watched {
+    numbers: Vec<u32>,
+    ghost rise: { rises numbers.items ≡ true },
+}
+
+impl Watched {
+    ghost use Rattle.ucon_watch.specs.Watched.{watched};
+
+    pub fn new(alloc: Global) -> Watched
+        ensures { (n : ℕ) → has (watched result) n ≡ false }
+    {
+        Watched {
+            numbers: Vec::new(alloc),
+        }
+    }
+
+    /// The numbers, least first.
+    pub fn numbers(&self) -> &[u32]
+        ensures numbers { result.now ≡ watched self.now }
+        ensures rise { rises (watched self.now) ≡ true }
+    {
+        &self.numbers
+    }
+
+    /// Adds a number, if it isn't there.
+    pub fn add(&mut self, n: u32) -> Result<(), NoMemory>
+        ensures ok { OnOk result ((m : ℕ) → has (watched self.new) m ≡ (nat_eq m n || has (watched self.old) m)) }
+        ensures err { OnErr result (watched self.new ≡ watched self.old) }
+    {
+        put(&mut self.numbers, n)
+    }
+}
+
+/// Puts a number in its place among rising ones, if it isn't there.
+fn put(numbers: &mut Vec<u32>, n: u32) -> Result<(), NoMemory>
+    requires { rises numbers.old.items ≡ true }
+    ensures rise { rises numbers.new.items ≡ true }
+    ensures ok { OnOk result ((m : ℕ) → has numbers.new.items m ≡ (nat_eq m n || has numbers.old.items m)) }
+    ensures err { OnErr result (numbers.new.items ≡ numbers.old.items) }
+{
+    let at = place_of(numbers, n);
+    if stands_at(numbers, at, n) {
+        return Ok(());
+    }
+    numbers.insert(at, n)?;
+    Ok(())
+}
+
+/// How many numbers stand below a number, up to the first that doesn't.
+fn place_of(numbers: &[u32], n: u32) -> usize
+    ensures place { result ≡ prefix_len (λ m. nat_lt m n) numbers.now }
+    ensures within { result ≤ length numbers.now }
+{
+    numbers.iter().take_while(|m| **m < n).count()
+}
+
+fn stands_at(numbers: &[u32], at: usize, n: u32) -> bool
+    ensures yes { result ≡ true → slice_get numbers.now at ≡ Some n }
+    ensures no { result ≡ false → slice_get numbers.now at ≡ Some n → ⊥ }
+{
+    match numbers.get(at) {
+        Some(m) => *m == n,
+        None => false,
+    }
+}
