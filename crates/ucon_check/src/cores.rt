@@ -176,8 +176,8 @@ fn put_kind(right: &Right, kind: CoreKind, cores: &mut Vec<Core>) -> Result<(), 
 }
 
 /// The core models of a right, in the order preA, onA, preB, onB, preC, onC and by rising index.
-pub fn cores_of(alloc: Global, right: &Right) -> Result<Vec<Core>, NoMemory>
-    ensures { IfOk result (λ cores. cores.items ≡ core_models_of (right_of right.now)) }
+pub fn core_models_of(alloc: Global, right: &Right) -> Result<Rows<Core>, NoMemory>
+    ensures { IfOk result (λ rows. rows.items ≡ core_models_of (right_of right.now)) }
 {
     let mut cores = Vec::new(alloc);
     put_kind(right, CoreKind::PreA, &mut cores)?;
@@ -186,17 +186,16 @@ pub fn cores_of(alloc: Global, right: &Right) -> Result<Vec<Core>, NoMemory>
     put_kind(right, CoreKind::OnB, &mut cores)?;
     put_kind(right, CoreKind::PreC, &mut cores)?;
     put_kind(right, CoreKind::OnC, &mut cores)?;
-    Ok(cores)
+    Ok(Rows::from(cores))
 }
 
-/// The core models of a right of the policy, by its place from 0, in the order preA, onA, preB, onB, preC, onC and by rising index.
+/// The core models of a right of the policy, by its place from 0.
 pub fn core_models(alloc: Global, checked: &Checked, right: u32) -> Result<Rows<Core>, NoMemory>
     requires { right < length (checked_policy checked.now).rights }
     ensures { IfOk result (λ rows. option_map core_models_of (slice_get (checked_policy checked.now).rights right) ≡ Some rows.items) }
 {
     let rights = checked.policy().rights.slice();
-    let cores = cores_of(alloc, &rights[right as usize])?;
-    Ok(Rows::from(cores))
+    core_models_of(alloc, &rights[right as usize])
 }
 
 fn kind_name(kind: CoreKind) -> &'static [u8]

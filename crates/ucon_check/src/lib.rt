@@ -6,10 +6,12 @@ mod fault;
 mod items;
 mod places;
 mod sorts;
+#[cfg(test)]
+mod tests;
 mod typing;
 
-pub use cores::{core_models, core_name, cores_of};
+pub use cores::{core_models, core_models_of, core_name};
 pub use fault::CheckFault;
-pub use places::reads;
+pub use places::{places_read, reads};
 pub use typing::check;
 pub use ucon_model::{Core, CoreKind};

@@ -131,8 +131,8 @@ pub fn is_ongoing(p: &Predicate) -> bool
 }
 
 /// The distinct places that a right's ongoing predicates read, in the order of their first reading.
-pub fn places_read(alloc: Global, right: &Right) -> Result<Vec<Ref>, NoMemory>
-    ensures { IfOk result (λ places. places.items ≡ places_read (right_of right.now)) }
+pub fn places_read(alloc: Global, right: &Right) -> Result<Rows<Ref>, NoMemory>
+    ensures { IfOk result (λ rows. rows.items ≡ places_read (right_of right.now)) }
 {
     let mut places = Vec::new(alloc);
     for p in right.preds.slice() {
@@ -140,7 +140,7 @@ pub fn places_read(alloc: Global, right: &Right) -> Result<Vec<Ref>, NoMemory>
             put_new(&test_places(alloc, &p.test)?, &mut places)?;
         }
     }
-    Ok(places)
+    Ok(Rows::from(places))
 }
 
 /// The distinct places that the ongoing predicates of a right of the policy, by its place from 0, read, in the order of their first
@@ -150,6 +150,5 @@ pub fn reads(alloc: Global, checked: &Checked, right: u32) -> Result<Rows<Ref>, 
     ensures { IfOk result (λ rows. option_map places_read (slice_get (checked_policy checked.now).rights right) ≡ Some rows.items) }
 {
     let rights = checked.policy().rights.slice();
-    let places = places_read(alloc, &rights[right as usize])?;
-    Ok(Rows::from(places))
+    places_read(alloc, &rights[right as usize])
 }

@@ -3,4 +3,7 @@ pub mod InLine
 pub mod Joined
 pub mod Lengths
 pub mod ReadLines
+pub mod ReadReplies
+pub mod Revoked
 pub mod SpelledLines
+pub mod SpelledReplies

@@ -133,7 +133,7 @@ value_words_is first (s ∷ n ∷ a ∷ []) p h = place_is _ _ _ p h
 value_words_is first (s ∷ n ∷ a ∷ b ∷ ws) p h = absurd (refused h)
 
 -- a value that takes the rest of a line
-rest_is : (front : List Bytes) (line rest : Bytes) (v : Value) → line ≡ join (front ++ rest ∷ []) → value_in (drop (behind 0 front) line) ≡ Some v → value_spelling v ≡ rest
+pub rest_is : (front : List Bytes) (line rest : Bytes) (v : Value) → line ≡ join (front ++ rest ∷ []) → value_in (drop (behind 0 front) line) ≡ Some v → value_spelling v ≡ rest
 rest_is front line rest v is h = spelled_is _ v h ∙ ap (drop (behind 0 front)) is ∙ drop-join front rest
 
 set_is : (line first : Bytes) (ws : List Bytes) (c : Command) → codes "set" ≡ first → line ≡ join (first ∷ ws) → set_words line (placed 0 (first ∷ ws)) ≡ Ok c → join (command_words c) ≡ join (first ∷ ws)

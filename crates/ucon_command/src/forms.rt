@@ -13,7 +13,7 @@ use ucon_base::{Int, Name, Side};
 use ucon_model::Command;
 
 /// A word with the rest of the line.
-fn with_rest<'a>(line: &'a [u8], w: &Word<'a>) -> Word<'a>
+pub fn with_rest<'a>(line: &'a [u8], w: &Word<'a>) -> Word<'a>
     requires { w.now.at ≤ length line.now }
     ensures { word_of result ≡ with_rest line.now (word_of w.now) }
 {
@@ -23,6 +23,7 @@ fn with_rest<'a>(line: &'a [u8], w: &Word<'a>) -> Word<'a>
     }
 }
 
+/// `subject N` and `object N`.
 #[tactic(auto, unfolding(ucon_model::specs::CommandLine::one_word))]
 pub fn one_name(words: &[Word<'_>]) -> Result<Name, LineFault>
     ensures { MatchResult result (λ n. one_word name_in (map word_of words.now) ≡ Ok n) (IsRefusal (one_word name_in (map word_of words.now))) }
@@ -33,6 +34,7 @@ pub fn one_name(words: &[Word<'_>]) -> Result<Name, LineFault>
     }
 }
 
+/// `tick T`.
 #[tactic(auto, unfolding(ucon_model::specs::CommandLine::one_word))]
 pub fn one_integer(alloc: Global, words: &[Word<'_>]) -> Result<Int, LineFault>
     ensures { MatchResult result (λ n. one_word integer_in (map word_of words.now) ≡ Ok n) (IsRefusal (one_word integer_in (map word_of words.now))) }
@@ -43,6 +45,7 @@ pub fn one_integer(alloc: Global, words: &[Word<'_>]) -> Result<Int, LineFault>
     }
 }
 
+/// `again n`, `beat n`, `end n` and `look n`.
 #[tactic(auto, unfolding(ucon_model::specs::CommandLine::one_word))]
 pub fn one_number(alloc: Global, words: &[Word<'_>]) -> Result<u32, LineFault>
     ensures { MatchResult result (λ n. one_word number_in (map word_of words.now) ≡ Ok n) (IsRefusal (one_word number_in (map word_of words.now))) }
@@ -63,6 +66,7 @@ fn names_of(a: &Word<'_>, b: &Word<'_>, c: &Word<'_>) -> Result<(Name, Name, Nam
     Ok((a, b, c))
 }
 
+/// `act S ACT O` and `try S RIGHT O`.
 #[tactic(auto, unfolding(ucon_model::specs::CommandLine::three_names))]
 pub fn three_names(words: &[Word<'_>]) -> Result<(Name, Name, Name), LineFault>
     ensures { MatchResult result (λ t. three_names (map word_of words.now) ≡ Ok t) (IsRefusal (three_names (map word_of words.now))) }

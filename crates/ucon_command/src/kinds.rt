@@ -22,13 +22,15 @@ fn side_in(bytes: &[u8]) -> Option<Side>
     }
 }
 
-fn name_in(bytes: &[u8]) -> Option<Name>
+/// The name that the bytes are.
+pub fn name_in(bytes: &[u8]) -> Option<Name>
     ensures { result ≡ name_in bytes.now }
 {
     Name::read(bytes).ok()
 }
 
-fn value_in(alloc: Global, bytes: &[u8]) -> Result<Option<Value>, NoMemory>
+/// The value that the bytes spell.
+pub fn value_in(alloc: Global, bytes: &[u8]) -> Result<Option<Value>, NoMemory>
     ensures { IfOk result (λ v. v ≡ value_in bytes.now) }
 {
     match Value::read(alloc, bytes) {
@@ -62,7 +64,8 @@ fn number_of(n: Int) -> Option<u32>
     u32::try_from(n.get()).ok()
 }
 
-fn number_in(alloc: Global, bytes: &[u8]) -> Result<Option<u32>, NoMemory>
+/// The session's number that the bytes spell.
+pub fn number_in(alloc: Global, bytes: &[u8]) -> Result<Option<u32>, NoMemory>
     ensures { IfOk result (λ n. n ≡ number_in bytes.now) }
 {
     match integer_in(alloc, bytes)? {

@@ -8,12 +8,18 @@ mod kinds;
 mod laws;
 mod line_fault;
 mod lines;
+mod reading;
 mod replies;
+mod reply_fault;
 mod spelling;
+#[cfg(test)]
+mod tests;
 mod words;
 
 pub use commands::command_text;
-pub use laws::commands_are_read_back;
+pub use laws::{commands_are_read_back, replies_are_read_back};
 pub use line_fault::LineFault;
 pub use lines::read_command;
+pub use reading::read_reply;
 pub use replies::reply_text;
+pub use reply_fault::ReplyFault;

@@ -1,8 +1,9 @@
 //! Replies as text.
 
-ghost use Rattle.std.specs.Prelude.{◌≡◌, ◌++◌, ◌∷◌, IfOk, OnOk};
+ghost use Rattle.std.specs.Prelude.{◌≡◌, ◌++◌, ◌∷◌, IfOk, OnOk, Some};
 ghost use Rattle.std.specs.Fmt.{decimal};
 ghost use Rattle.ucon_model.specs.Output.{Lacks};
+ghost use Rattle.ucon_model.specs.ReplyText.{reply_read};
 ghost use Rattle.ucon_model.specs.Spelling.{refusal_words, state_word, head_spelling, revoked_spelling, reply_spelling};
 ghost use Rattle.ucon_model.specs.Views.{reply_of};
 
@@ -13,9 +14,10 @@ use ucon_base::{Name, NoMemory};
 use ucon_model::{Head, Refusal, Reply, Revoked, SessionState};
 
 /// The one text of a reply, which has no newline in it.
-#[tactic(auto, using(crate::proofs::InLine::reply_in_line))]
+#[tactic(auto, using(crate::proofs::InLine::reply_in_line, crate::proofs::ReadReplies::reply_back))]
 pub fn reply_text(alloc: Global, reply: &Reply) -> Result<Vec<u8>, NoMemory>
     ensures text { IfOk result (λ t. t.items ≡ reply_spelling (reply_of reply.now)) }
+    ensures read_back { reply_read (reply_spelling (reply_of reply.now)) ≡ Some (reply_of reply.now) }
     ensures one_line { Lacks 10 (reply_spelling (reply_of reply.now)) }
 {
     reply_in_form(reply);
@@ -45,7 +47,8 @@ fn put_reply(alloc: Global, out: &mut Vec<u8>, reply: &Reply) -> Result<(), NoMe
     }
 }
 
-fn refusal_words(r: Refusal) -> &'static [u8]
+/// The text of a refusal.
+pub fn refusal_words(r: Refusal) -> &'static [u8]
     ensures { result.now ≡ refusal_words r }
 {
     match r {
@@ -71,7 +74,8 @@ fn refusal_words(r: Refusal) -> &'static [u8]
     }
 }
 
-fn state_word(state: SessionState) -> &'static [u8]
+/// The word for a session's state.
+pub fn state_word(state: SessionState) -> &'static [u8]
     ensures { result.now ≡ state_word state }
 {
     match state {

@@ -1,12 +1,11 @@
 -- Adding a session, one place after another.
-use Rattle.std.proofs.Common.{◌≡◌, ◌≢◌, ℕ, zero, suc, ◌+◌, ◌-◌, ◌<◌, ◌≤◌, List, [], ◌∷◌, ◌++◌, length, set, map, min, take, drop, get_or, Some, None, Option, Bool, true, false, refl, sym, ap, ◌∙◌, subst, arith, length-set}
+use Rattle.std.proofs.Common.{◌≡◌, ◌≢◌, ℕ, zero, suc, ◌+◌, ◌-◌, ◌<◌, List, [], ◌∷◌, ◌++◌, length, set, min, take, get_or, None, false, refl, sym, ap, ◌∙◌, subst, arith, length-set}
 use Rattle.std.proofs.lemmas.List.{get_or-set_other}
-use Rattle.ucon_links.specs.Lists.{Item, Lists, first_or, list_at, link_behind, IsAbsent, IsDistinct}
-use Rattle.ucon_index.specs.Dependents.{Stood, Place, Dependents, EachPlace, place_at, empty_place, is_there, at_front, IsAdded}
-use Rattle.ucon_index.specs.Tables.{stood_at, places_from, sessions_of, seen, IsPaired, IsSound, IsGone, AreGone, IsOnce}
-use Rattle.ucon_index.proofs.Once.{absent_join, distinct_pull}
+use Rattle.ucon_links.specs.Lists.{Item, Lists, list_at, link_behind, IsAbsent, IsDistinct}
+use Rattle.ucon_index.specs.Dependents.{Place, Dependents, place_at, is_there, at_front, IsAdded}
+use Rattle.ucon_index.specs.Tables.{stood_at, places_from, sessions_of, seen, IsPaired, IsSound, AreGone}
 use Rattle.ucon_index.proofs.Rows.{seen_at, places-length, places-at, each_at}
-use Rattle.ucon_index.proofs.Standing.{sessions_in, sessions_out, Alone}
+use Rattle.ucon_index.proofs.Standing.{sessions_in, Alone}
 use Rattle.ucon_index.proofs.Steps.{place_once, places_come, paired_come, can_return-other}
 use Rattle.ucon_index.proofs.Stack.{owners_absent, stood_absent, lists_absent, are_gone_set, not_there-gone}
 

@@ -1,17 +1,15 @@
 -- Hiding a session, one node after another.
-use Rattle.std.proofs.Common.{◌≡◌, ◌≢◌, ℕ, zero, suc, ◌+◌, ◌<◌, ◌≤◌, List, [], ◌∷◌, ◌++◌, length, set, map, min, Some, None, Option, Bool, true, false, eqb, ◌⊎◌, inl, inr, refl, sym, ap, ◌∙◌, subst, arith, length-set}
+use Rattle.std.proofs.Common.{◌≡◌, ℕ, suc, ◌<◌, List, [], ◌∷◌, ◌++◌, length, set, map, Some, None, true, ◌⊎◌, inl, inr, refl, sym, ap, ◌∙◌, subst, length-set}
 use Rattle.std.proofs.lemmas.List.{get_or-set_same}
 use Rattle.std.proofs.Math.Seq.{map-set_same}
-use Rattle.std.proofs.lemmas.List.{map-append}
 use Rattle.ucon_links.specs.Lists.{Item, Lists, first_or, last_or, list_at, nodes_of, IsAbsent, IsDistinct, IsListed}
 use Rattle.ucon_links.specs.Lists as links
-use Rattle.ucon_links.proofs.Restoring.{absent_front, absent_back}
-use Rattle.ucon_index.specs.Dependents.{Stood, Place, Dependents, EachPlace, place_at, empty_place, is_there, hide_at, hide}
+use Rattle.ucon_index.specs.Dependents.{Place, place_at, empty_place, is_there, hide_at, hide}
 use Rattle.ucon_index.specs.Tables.{stood_at, places_from, on_top, sessions_of, seen, IsPaired, IsSound, IsGone, AreGone}
 use Rattle.ucon_index.proofs.Weights.{Spot, spot_of}
-use Rattle.ucon_index.proofs.Rows.{stood_of, places-length, each_set}
-use Rattle.ucon_index.proofs.Standing.{sessions_in, sessions_out, Alone, absent_left, hide_at-there, hide_at-absent}
-use Rattle.ucon_index.proofs.Steps.{item_of, place_is, hide_is, place_before, paired_hidden, places_hidden, alone_there}
+use Rattle.ucon_index.proofs.Rows.{stood_of, places-length}
+use Rattle.ucon_index.proofs.Standing.{sessions_in, Alone, absent_left, hide_at-there, hide_at-absent}
+use Rattle.ucon_index.proofs.Steps.{item_of, hide_is, place_before, paired_hidden, places_hidden, alone_there}
 use Rattle.ucon_index.proofs.Stack.{on_top-other, on_top-same, gone-not_there, there-not_hidden, are_gone_set, no_items-gone, there-within}
 
 -- nothing is hidden yet, or the session is on top of the stack

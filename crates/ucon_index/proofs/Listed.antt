@@ -1,14 +1,14 @@
 -- A node that stands in a list is listed, and its owner is found.
 use Rattle.std.proofs.Common.{◌≡◌, ℕ, zero, suc, ◌<◌, List, [], ◌∷◌, ◌++◌, length, map, Some, None, Option, Bool, true, false, eqb, cond, IsSome, is_some, option_map, refl, sym, ap, ◌∙◌, subst, arith}
 use Rattle.std.proofs.lemmas.Bool.{eq-eqb}
-use Rattle.ucon_links.specs.Lists.{Item, Lists, first_or, last_or, list_at, place_behind, place_from, place_of, or_else, hidden_at, owner_of, listed_nodes, nodes_of, newest, IsListed, IsAbsent, IsDistinct}
+use Rattle.ucon_links.specs.Lists.{Item, Lists, list_at, place_behind, place_from, or_else, hidden_at, owner_of, listed_nodes, nodes_of, newest, IsListed, IsAbsent, IsDistinct}
 use Rattle.ucon_links.proofs.Restoring.{absent_front, absent_back}
 use Rattle.ucon_links.proofs.Linked.{ids}
 use Rattle.ucon_links.proofs.Walking.{place_behind-absent}
 use Rattle.ucon_index.specs.Tables.{newest_owner}
 use Rattle.ucon_index.proofs.Once.{distinct_pull}
 use Rattle.ucon_index.proofs.Weights.{Spot}
-use Rattle.ucon_index.proofs.Steps.{place_is, item_of}
+use Rattle.ucon_index.proofs.Steps.{place_is}
 use Rattle.ucon_index.proofs.Hiding.{NextItem}
 
 or_first : (first second : Option Item) → IsSome first → IsSome (or_else first second)

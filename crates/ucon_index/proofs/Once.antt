@@ -1,5 +1,5 @@
 -- Numbers that stand in no list, or once in one.
-use Rattle.std.proofs.Common.{◌≡◌, ℕ, List, [], ◌∷◌, ◌++◌, sym}
+use Rattle.std.proofs.Common.{ℕ, List, [], ◌∷◌, ◌++◌, sym}
 use Rattle.ucon_links.specs.Lists.{IsAbsent, IsDistinct}
 use Rattle.ucon_links.proofs.Restoring.{absent_front, absent_back}
 

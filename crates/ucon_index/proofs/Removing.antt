@@ -1,5 +1,5 @@
 -- Removing a session, one node after another.
-use Rattle.std.proofs.Common.{◌≡◌, ◌≢◌, ℕ, zero, suc, ◌+◌, ◌<◌, List, [], ◌∷◌, ◌++◌, length, set, map, min, sum_by, Some, None, Option, Bool, true, false, refl, sym, ap, ◌∙◌, subst, arith, length-set}
+use Rattle.std.proofs.Common.{◌≡◌, ℕ, suc, ◌+◌, ◌<◌, List, [], ◌∷◌, ◌++◌, length, set, map, min, None, true, refl, sym, ap, ◌∙◌, subst, arith, length-set}
 use Rattle.std.proofs.lemmas.List.{get_or-set_same}
 use Rattle.std.proofs.lemmas.List.Sums.{sum_by-cons}
 use Rattle.std.proofs.Math.Seq.{map-set_same}
@@ -12,7 +12,7 @@ use Rattle.ucon_index.proofs.Rows.{places-length}
 use Rattle.ucon_index.proofs.Sums.{sum_set}
 use Rattle.ucon_index.proofs.Standing.{sessions_in, Alone, absent_left, without-there, without-absent, stands_in-there, stands_in-absent}
 use Rattle.ucon_index.proofs.Steps.{unlink_is, place_before, paired_unlinked, places_unlinked, alone_there}
-use Rattle.ucon_index.proofs.Stack.{owners_absent, lists_absent, there-not_hidden, are_gone_set, no_items-gone, there-within}
+use Rattle.ucon_index.proofs.Stack.{owners_absent, lists_absent, are_gone_set, no_items-gone, there-within}
 use Rattle.ucon_index.proofs.Hiding.{NextItem, no_first, fewer}
 
 -- while a session is removed: to remove what is left gives what removing at once gives

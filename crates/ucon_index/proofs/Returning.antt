@@ -1,5 +1,5 @@
 -- Putting the session that was hidden last back, one node after another.
-use Rattle.std.proofs.Common.{◌≡◌, ◌≢◌, ℕ, suc, ◌+◌, ◌<◌, List, [], ◌∷◌, ◌++◌, length, set, map, min, Some, None, Option, Bool, true, false, eqb, refl, sym, ap, ◌∙◌, subst, arith, length-set}
+use Rattle.std.proofs.Common.{◌≡◌, ◌≢◌, ℕ, suc, ◌<◌, List, [], ◌∷◌, ◌++◌, length, set, map, min, Some, None, Option, true, false, eqb, refl, sym, ap, ◌∙◌, subst, arith, length-set}
 use Rattle.std.proofs.Math.Seq.{map-set_same}
 use Rattle.std.proofs.lemmas.Bool.{ne_eqb, eqb-true, eqb-false}
 use Rattle.std.specs.Option.{option_eq}
@@ -8,11 +8,11 @@ use Rattle.ucon_links.specs.Lists as links
 use Rattle.ucon_links.proofs.Restoring.{distinct_front, distinct_at}
 use Rattle.ucon_links.proofs.Linked.{ids, distinct_parts}
 use Rattle.ucon_links.proofs.Places.{with_behind-last}
-use Rattle.ucon_index.specs.Dependents.{Stood, Place, Dependents, EachPlace, place_at, empty_place, unhide_at, unhide, unhide_first, Fits, CanUnhide, CanUnhideFirst}
+use Rattle.ucon_index.specs.Dependents.{Place, EachPlace, place_at, empty_place, unhide_at, unhide, unhide_first, Fits, CanUnhide, CanUnhideFirst}
 use Rattle.ucon_index.specs.Tables.{stood_at, places_from, on_top, sessions_of, seen, newest_owner, CanUnhideNewest, CanReturn, IsPaired, IsSound, AreGone}
 use Rattle.ucon_index.proofs.Rows.{seen_at, stood_of, stood_at-other, stood_at-same, places-length, places-at, each_set, each_at}
 use Rattle.ucon_index.proofs.Standing.{sessions_in, sessions_out, Alone, alone_hidden, unhide_at-gap, unhide_at-absent, fits_not}
-use Rattle.ucon_index.proofs.Steps.{place_once, come_lists, come_items, places_come, paired_come}
+use Rattle.ucon_index.proofs.Steps.{place_once, places_come, paired_come}
 use Rattle.ucon_index.proofs.Stack.{owners_of, owners_absent, stood_absent, on_top-other, on_top-twice, on_top-same, on_top-first, are_gone_set, below, NewestOf, newest_of, newest_is_first}
 
 -- while a session is put back: to put back what is left gives what putting back at once gives

@@ -1,5 +1,5 @@
 -- Several sessions hidden one after another.
-use Rattle.std.proofs.Common.{◌≡◌, ℕ, zero, suc, ◌+◌, ◌-◌, ◌<◌, List, [], ◌∷◌, length, take, get_or, true, refl, sym, ap, ◌∙◌, subst, arith, add-one}
+use Rattle.std.proofs.Common.{◌≡◌, ℕ, zero, suc, ◌+◌, ◌-◌, ◌<◌, List, [], ◌∷◌, length, take, get_or, true, refl, sym, subst, arith, add-one}
 use Rattle.ucon_index.specs.Dependents.{Dependents, is_there, hide, hide_all, unhide, CanUnhide, UnhideGives, AllThere}
 
 pub there_in_turn : (v : Dependents) (sessions : List ℕ) (i : ℕ) → i < length sessions → AllThere v sessions → is_there (get_or sessions i 0) (hide_all v (take i sessions)).places ≡ true

@@ -1,9 +1,9 @@
 -- Which sessions are hidden, and that none of them stands anywhere.
-use Rattle.std.proofs.Common.{◌≡◌, ◌≢◌, ℕ, zero, suc, ◌+◌, ◌<◌, ◌≤◌, List, [], ◌∷◌, ◌++◌, length, set, map, Some, None, Option, Bool, true, false, eqb, cond, ◌||◌, ◌⊎◌, inl, inr, refl, sym, ap, ◌∙◌, subst, arith}
+use Rattle.std.proofs.Common.{◌≡◌, ◌≢◌, ℕ, zero, suc, ◌+◌, ◌<◌, ◌≤◌, List, [], ◌∷◌, length, set, map, Some, Bool, true, false, eqb, cond, ◌||◌, refl, ap, ◌∙◌, subst, arith}
 use Rattle.std.proofs.lemmas.Bool.{eqb-true, eqb-false, ne_eqb, eq-eqb}
-use Rattle.ucon_links.specs.Lists.{Item, Lists, first_or, list_at, IsAbsent, IsDistinct}
-use Rattle.ucon_index.specs.Dependents.{Stood, Place, EachPlace, place_at, stands_in, is_there, one_if}
-use Rattle.ucon_index.specs.Tables.{stood_at, places_from, on_top, sessions_of, weight_from, weight_of, by_place, by_session, IsPaired, IsGone, AreGone, newest_owner}
+use Rattle.ucon_links.specs.Lists.{Item, Lists, list_at, IsAbsent}
+use Rattle.ucon_index.specs.Dependents.{Place, place_at, stands_in, is_there, one_if}
+use Rattle.ucon_index.specs.Tables.{stood_at, places_from, on_top, sessions_of, weight_from, weight_of, by_session, IsPaired, IsGone, AreGone, newest_owner}
 use Rattle.ucon_index.proofs.Weights.{weight_from-zero}
 use Rattle.ucon_index.proofs.Rows.{each_set, each_at}
 use Rattle.ucon_index.proofs.Standing.{sessions_in, sessions_out, stands_in-absent, absent_of}

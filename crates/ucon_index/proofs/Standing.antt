@@ -1,14 +1,13 @@
 -- A session at one place: where it stands, and what is left when it goes.
 use Rattle.std.proofs.Common.{◌≡◌, ℕ, List, [], ◌∷◌, ◌++◌, map, Some, None, Option, Bool, true, false, eqb, ◌||◌, refl, sym, ap, ◌∙◌, subst, append_assoc}
-use Rattle.std.proofs.lemmas.Bool.{eqb-true, eqb-false, ne_eqb, eq-eqb}
+use Rattle.std.proofs.lemmas.Bool.{eqb-false, ne_eqb, eq-eqb}
 use Rattle.std.proofs.lemmas.List.{map-append}
 use Rattle.ucon_links.specs.Lists.{first_or, last_or, with_behind, IsAbsent, IsDistinct}
 use Rattle.ucon_links.proofs.Restoring.{absent_front, absent_back}
 use Rattle.ucon_links.proofs.Linked.{ids}
 use Rattle.ucon_links.proofs.Places.{with_behind-last}
 use Rattle.ucon_index.specs.Dependents.{Stood, Place, stands_in, stands_behind, without_session, with_stood, hide_at, back_at, unhide_at, FitsAt}
-use Rattle.ucon_index.specs.Tables.{IsOnce}
-use Rattle.ucon_index.proofs.Once.{Pulled, distinct_pull, distinct_push, absent_join}
+use Rattle.ucon_index.proofs.Once.{distinct_pull, distinct_push, absent_join}
 
 abbrev pub sessions_in : List (ℕ × ℕ) → List ℕ
 sessions_in xs = map (λ x. x.1) xs

@@ -1,11 +1,11 @@
 -- Sums over the places.
-use Rattle.std.proofs.Common.{◌≡◌, ◌≢◌, ℕ, zero, suc, ◌+◌, ◌<◌, ◌≤◌, List, [], ◌∷◌, ◌++◌, length, set, map, sum_by, refl, sym, ap, ◌∙◌, subst, arith}
+use Rattle.std.proofs.Common.{◌≡◌, ℕ, zero, suc, ◌+◌, ◌<◌, List, [], ◌∷◌, length, set, map, sum_by, refl, ap, ◌∙◌, arith}
 use Rattle.std.proofs.lemmas.List.Sums.{sum_by-cons}
 use Rattle.ucon_links.specs.Lists.{Item, Lists, list_at}
 use Rattle.ucon_links.specs.Lists as links
-use Rattle.ucon_index.specs.Dependents.{Stood, Place, place_at, node_count}
-use Rattle.ucon_index.specs.Tables.{stood_at, places_from, weight_from, weight_of, by_place, by_session, InPlaces, IsPaired}
-use Rattle.ucon_index.proofs.Rows.{seen_at, stood_of, stood_at-other, stood_at-same, places-kept}
+use Rattle.ucon_index.specs.Dependents.{Place, place_at}
+use Rattle.ucon_index.specs.Tables.{stood_at, places_from, weight_from, weight_of, InPlaces, IsPaired}
+use Rattle.ucon_index.proofs.Rows.{seen_at, stood_at-other, stood_at-same, places-kept}
 
 pub sum_set : (f : Place → ℕ) (places : List Place) (i : ℕ) (place : Place) → i < length places → sum_by f (set places i place) + f (place_at places i) ≡ sum_by f places + f place
 sum_set f [] i place within = absurd (omega arith)

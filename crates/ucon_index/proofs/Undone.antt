@@ -1,11 +1,11 @@
 -- To put back is to undo a hide.
-use Rattle.std.proofs.Common.{◌≡◌, ◌≢◌, ℕ, suc, List, [], ◌∷◌, ◌++◌, map, Some, None, Option, Bool, true, false, eqb, ◌⊎◌, inl, inr, refl, sym, ap, ◌∙◌, subst}
+use Rattle.std.proofs.Common.{◌≡◌, ℕ, suc, List, [], ◌∷◌, ◌++◌, map, Bool, true, false, eqb, ◌⊎◌, inl, inr, refl, sym, ap, ◌∙◌, subst}
 use Rattle.std.proofs.lemmas.Bool.{eqb-true, eqb-false}
-use Rattle.ucon_links.specs.Lists.{Item, Lists, first_or, last_or, listed_nodes, nodes_of, IsAbsent, IsDistinct, IsGap}
+use Rattle.ucon_links.specs.Lists.{Item, Lists, listed_nodes, nodes_of, IsAbsent, IsDistinct}
 use Rattle.ucon_links.proofs.Restoring.{distinct_front, distinct_back}
 use Rattle.ucon_links.proofs.Linked.{ids, distinct_parts}
-use Rattle.ucon_index.specs.Dependents.{Stood, Place, Dependents, EachPlace, is_there, hide_at, unhide_at, hide, unhide, FitsAt, Fits, CanUnhide, UnhideGives}
-use Rattle.ucon_index.specs.Tables.{stood_at, places_from, sessions_of, seen, IsOnce, IsSound}
+use Rattle.ucon_index.specs.Dependents.{Stood, Place, EachPlace, is_there, hide_at, unhide_at, hide, Fits, UnhideGives}
+use Rattle.ucon_index.specs.Tables.{places_from, sessions_of, seen, IsOnce, IsSound}
 use Rattle.ucon_index.proofs.Standing.{sessions_in, sessions_out, alone, hide_at-there, hide_at-absent, unhide_at-there, unhide_at-absent, fits_not}
 use Rattle.ucon_index.proofs.Stack.{owners_of, owners_absent, stood_absent, there-not_hidden}
 

@@ -5,9 +5,9 @@ use Rattle.ucon_links.proofs.Walking.{place_there}
 use Rattle.std.proofs.lemmas.Bool.{eqb-true, eqb-false, ne_eqb, eq-eqb}
 use Rattle.ucon_links.specs.Lists.{Item, Lists, first_or, list_at, place_from, place_of, or_else, hidden_at, owner_of, listed_nodes, nodes_of, IsListed, IsAbsent, IsDistinct}
 use Rattle.ucon_links.proofs.Restoring.{distinct_front, distinct_back}
-use Rattle.ucon_index.specs.Dependents.{Stood, Place, Dependents, place_at, walked, stood_session, hidden_session, first_some, session_of}
+use Rattle.ucon_index.specs.Dependents.{Place, Dependents, place_at, walked, stood_session, hidden_session, first_some, session_of}
 use Rattle.ucon_index.specs.Tables.{stood_at, places_from, seen, InPlaces, IsPaired}
-use Rattle.ucon_index.proofs.Rows.{seen_at, stood_of, stood_at-other, stood_at-same, places-listed, places-length, places-at}
+use Rattle.ucon_index.proofs.Rows.{stood_at-other, stood_at-same, places-listed, places-length, places-at}
 
 module _ (places sessions : Lists) (v : Dependents) (is : seen places sessions ≡ v) where
   pub walked_is : (walked v).lists ≡ places.lists

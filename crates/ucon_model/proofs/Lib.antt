@@ -30,3 +30,6 @@ pub mod FirstFaults
 pub mod Written
 pub mod TypedParts
 pub mod SortsOfValues
+pub mod Meaningful
+pub mod Numbering
+mod Printed

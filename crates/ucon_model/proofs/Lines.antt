@@ -1,10 +1,13 @@
--- Command lines as they are read.
+-- Command lines and replies as they are read.
 use Rattle.std.proofs.Common.{◌≡◌, refl, [], ◌∷◌}
-use Rattle.std.specs.Prelude.{pos, negsuc, Ok, Err, codes, map}
+use Rattle.std.specs.Prelude.{pos, negsuc, Ok, Err, Some, None, codes, map}
 use Rattle.std.specs.Fmt.{digits}
 use Rattle.ucon_base.specs.declared.value.Side.TheVariants as sides
 use Rattle.ucon_base.specs.declared.value.Value.TheVariants as values
 use Rattle.ucon_model.specs.declared.command.Command.TheVariants as commands
+use Rattle.ucon_model.specs.declared.reply.Head.TheVariants as heads
+use Rattle.ucon_model.specs.Plain.{made, value_is}
+use Rattle.ucon_model.specs.ReplyText.{labelled_read, one_revoked, made_read, numbered_reply, labelled_reply, value_reply, told_read, reply_read}
 use Rattle.ucon_model.specs.CommandLine.{command_spelling, no_word, unknown_word, wrong_count, bad_word, one_word, names_of, three_names, place_of, value_words, set_of, set_words, env_of, env_words, command_read, line_read}
 
 none_or_unknown : map line_read ([] ∷ codes " end 7" ∷ codes "fly" ∷ codes "End 7" ∷ [])
@@ -36,3 +39,15 @@ rest_of_the_line = refl
 written : command_spelling (commands.Set sides.Subject (codes "a") (codes "credit") (values.Int (pos 10))) ≡ codes "set s a credit 10"
 unfolding command_spelling digits
 written = refl
+
+two_revoked : reply_read (codes "ok revoked 2 lb revoked 7 cap") ≡ Some (made heads.Ok (record { session = 2; label = codes "lb" } ∷ record { session = 7; label = codes "cap" } ∷ []))
+unfolding reply_read told_read made_read one_revoked labelled_read
+two_revoked = refl
+
+no_replies : map reply_read (codes "ok revoked 2" ∷ codes "ok " ∷ codes "denied 1" ∷ codes "ended 01" ∷ codes "not  admin" ∷ [] ∷ []) ≡ None ∷ None ∷ None ∷ None ∷ None ∷ None ∷ []
+unfolding reply_read told_read made_read numbered_reply labelled_reply
+no_replies = refl
+
+a_value : reply_read (codes "value \"a b\"") ≡ Some (value_is (values.Text (codes "a b")))
+unfolding reply_read told_read value_reply
+a_value = refl

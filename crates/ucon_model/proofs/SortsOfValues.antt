@@ -34,15 +34,15 @@ use Rattle.ucon_model.proofs.TypedParts.{typed_attr, typed_env, typed_updates}
 
 -- ---- tests that hold
 
-left_true : (a b : Bool) → (a && b) ≡ true → a ≡ true
+pub left_true : (a b : Bool) → (a && b) ≡ true → a ≡ true
 left_true true b h = refl
 left_true false b h = h
 
-right_true : (a b : Bool) → (a && b) ≡ true → b ≡ true
+pub right_true : (a b : Bool) → (a && b) ≡ true → b ≡ true
 right_true true b h = h
 right_true false b h = absurd cc
 
-both_true : (a b : Bool) → a ≡ true → b ≡ true → (a && b) ≡ true
+pub both_true : (a b : Bool) → a ≡ true → b ≡ true → (a && b) ≡ true
 both_true a b h k = rw (h, k) refl
 
 same_sort_is : (s t : Sort) → same_sort s t ≡ true → s ≡ t
@@ -56,11 +56,11 @@ same_sort_is Text Set h = absurd cc
 same_sort_is Set Integer h = absurd cc
 same_sort_is Set Text h = absurd cc
 
-is_of_some : (s : Sort) (k : Option Sort) → is_of s k ≡ true → k ≡ Some s
+pub is_of_some : (s : Sort) (k : Option Sort) → is_of s k ≡ true → k ≡ Some s
 is_of_some s None h = absurd cc
 is_of_some s (Some t) h = ap Some (sym (same_sort_is s t h))
 
-one_sort : (k l : Option Sort) → are_of_one_sort k l ≡ true → (s : Sort) × ((k ≡ Some s) × (l ≡ Some s))
+pub one_sort : (k l : Option Sort) → are_of_one_sort k l ≡ true → (s : Sort) × ((k ≡ Some s) × (l ≡ Some s))
 one_sort None l h = absurd cc
 one_sort (Some s) l h = (s, (refl, is_of_some s l h))
 
@@ -143,19 +143,19 @@ places_there P T row subject object (Env name) s declared =
     variable_value (declared_env P.envs name) (λ d. unwrap_or (assigned name T) d.start) s declared
 
 -- what is read at a place that is there is of the declared sort
-read_sort : (o : Option Value) (s : Sort) → is_some o ≡ true → ((v : Value) → o ≡ Some v → value_sort v ≡ s) → value_sort (read_or_zero o) ≡ s
+pub read_sort : (o : Option Value) (s : Sort) → is_some o ≡ true → ((v : Value) → o ≡ Some v → value_sort v ≡ s) → value_sort (read_or_zero o) ≡ s
 read_sort None s there each = absurd cc
 read_sort (Some v) s there each = each v refl
 
 -- ---- expressions
 
-sum_by : (ints sets : Bool) (s : Sort) → cond ints (Some Integer) (cond sets (Some Set) None) ≡ Some s
+pub sum_by : (ints sets : Bool) (s : Sort) → cond ints (Some Integer) (cond sets (Some Set) None) ≡ Some s
     → ((ints ≡ true) × (s ≡ Integer)) ⊎ ((sets ≡ true) × (s ≡ Set))
 sum_by true sets s h = inl (refl, cc)
 sum_by false true s h = inr (refl, cc)
 sum_by false false s h = absurd cc
 
-size_by : (b : Bool) (s : Sort) → cond b (Some Integer) None ≡ Some s → (b ≡ true) × (s ≡ Integer)
+pub size_by : (b : Bool) (s : Sort) → cond b (Some Integer) None ≡ Some s → (b ≡ true) × (s ≡ Integer)
 size_by true s h = (refl, cc)
 size_by false s h = absurd cc
 
@@ -279,7 +279,7 @@ result_fits P typed T h row subject object u ok =
     (λ d there. left_true (is_range d.kind) (admits d.kind d.start) (typed_attr P typed u.side u.attr d there))
     (sym (attr_place_sort P u.side u.attr) ∙ both.1.0) (value_sorted P at reads true u.value both.0 both.1.1)
 
-each_weaker : {T : Type 0} (Q R : T → Type 0) → ((x : T) → Q x → R x) → (xs : List T) → Each Q xs → Each R xs
+pub each_weaker : {T : Type 0} (Q R : T → Type 0) → ((x : T) → Q x → R x) → (xs : List T) → Each Q xs → Each R xs
 each_weaker Q R from [] h = tt
 each_weaker Q R from (x ∷ xs) h = (from x h.0, each_weaker Q R from xs h.1)
 

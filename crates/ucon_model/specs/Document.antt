@@ -65,6 +65,7 @@ number_spelled bytes = if is_number bytes then Some (number_of bytes) else None
 abbrev pub heading_number : Bytes → Option ℕ
 heading_number line = number_spelled (behind_first_word line)
 
+-- the client of this number
 abbrev pub caller_of : ℕ → Caller
 caller_of n = record { 0 = n }
 

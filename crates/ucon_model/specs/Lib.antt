@@ -1,6 +1,7 @@
 pub mod Plain
 pub mod Views
 pub mod Spelling
+pub mod Printing
 pub mod Comparison
 pub mod Action
 pub mod Readings
@@ -24,3 +25,8 @@ pub mod ReplyText
 pub mod Places
 pub mod Cores
 pub mod Typing
+pub mod Meaning
+pub mod Forms
+pub mod Grammar
+pub mod Spells
+pub mod Limits

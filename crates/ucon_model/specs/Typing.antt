@@ -1,5 +1,5 @@
 -- When a policy is well typed, and its first fault where it isn't.
-use Rattle.std.specs.Prelude.{ℕ, ◌+◌, int_le, nat_lt, Bool, true, false, ◌&&◌, ◌||◌, not, List, [], ◌∷◌, ◌++◌, length, find, codes, Option, Some, None, is_some, is_none, option_map, IsTrue, if◌then◌else◌}
+use Rattle.std.specs.Prelude.{ℕ, ◌+◌, ◌<◌, ◌≤◌, int_le, nat_lt, Bool, true, false, ◌&&◌, ◌||◌, not, List, [], ◌∷◌, ◌++◌, length, find, codes, Option, Some, None, is_some, is_none, option_map, IsTrue, if◌then◌else◌}
 use Rattle.std.specs.Option.{option_or}
 use Rattle.std.specs.List.{list_any}
 use Rattle.std.specs.Str.{bytes_eq}
@@ -260,3 +260,23 @@ is_typed P = is_none (type_fault P)
 
 abbrev pub IsTyped : PlainPolicy → Type 0
 IsTyped P = IsTrue (is_typed P)
+
+-- ---- the items of a policy
+
+-- how many items these are
+abbrev pub items_in : {T : Type 0} → (T → ℕ) → List T → ℕ
+items_in items [] = 0
+items_in items (x ∷ xs) = items x + items_in items xs
+
+-- how many items a policy is
+abbrev pub item_count : PlainPolicy → ℕ
+item_count P = length P.attrs + length P.envs + items_in items_of P.rights
+
+-- a fault that names an item names one from the first on and before the end
+abbrev pub NamesItem : ℕ → ℕ → TypeFault → Type 0
+NamesItem first end (twice name n) = (first ≤ n) × (n < end)
+NamesItem first end (no_name name n) = (first ≤ n) × (n < end)
+NamesItem first end (wrong_reader n) = (first ≤ n) × (n < end)
+NamesItem first end (wrong_kind n) = (first ≤ n) × (n < end)
+NamesItem first end (not_core right) = Unit {0}
+NamesItem first end (too_many_cells right count) = Unit {0}

@@ -1,6 +1,6 @@
 //! Laws of the definitions. A law is a function without parameters that does nothing: its contract is what is proved.
 
-ghost use Rattle.std.specs.Prelude.{◌≡◌, ◌<◌, ◌↔◌, ℕ, List, map, true, Some, None};
+ghost use Rattle.std.specs.Prelude.{◌≡◌, ◌+◌, ◌<◌, ◌↔◌, ℕ, List, map, true, Some, None};
 ghost use Rattle.ucon_model.specs.declared.command.Caller.{Caller};
 ghost use Rattle.ucon_model.specs.declared.command.Command.{Command};
 ghost use Rattle.ucon_model.specs.declared.reply.Head.{Head};
@@ -13,11 +13,13 @@ ghost use Rattle.ucon_model.specs.Fitting.{PlacesFit, UpdatesFit, ValuesFit};
 ghost use Rattle.ucon_model.specs.History.{History, trace};
 ghost use Rattle.ucon_model.specs.Legal.{AreLegal, IsCascade, RevocationsAreLegal};
 ghost use Rattle.ucon_model.specs.LegalRun.{Answered, Each, IsLegalRun, IsSerialRun, in_text_order};
+ghost use Rattle.ucon_model.specs.Meaning.{expr_means, test_means};
 ghost use Rattle.ucon_model.specs.Output.{FitsLine, answers_read, output};
 ghost use Rattle.ucon_model.specs.OwnActions.{make, own};
+ghost use Rattle.ucon_model.specs.Readings.{session};
 ghost use Rattle.ucon_model.specs.Settle.{fails_at, least_failing, settle};
 ghost use Rattle.ucon_model.specs.Truth.{place_of};
-ghost use Rattle.ucon_model.specs.Typing.{IsTyped, is_typed_test};
+ghost use Rattle.ucon_model.specs.Typing.{IsTyped, NamesItem, TypeFault, is_typed_test, item_count, type_fault};
 
 /// After settling no accessing session fails.
 pub fn settling_ends()
@@ -53,6 +55,20 @@ pub fn updates_fit()
 /// Under a well typed policy, where all values of a trace fit, each declared place holds a value of the declared sort, for any session.
 pub fn places_hold_their_sorts()
     ensures { (P : PlainPolicy) → IsTyped P → (T : Trace) → ValuesFit P T → (row : SessionRow) → PlacesFit P (place_of P T row) }
+{}
+
+/// Under a well typed policy, after every history, each predicate and each update of a session's right has a meaning: each place that
+/// it reads is there, and each of its sums, products, sizes and comparisons is one of the language's.
+pub fn predicates_and_updates_mean_something()
+    ensures predicates { (P : PlainPolicy) → IsTyped P → (H : History) (n : ℕ) (row : SessionRow) (r : PlainRight) → session (trace P H) n ≡ Some row
+        → right_named P.rights row.right ≡ Some r → Each (λ p. test_means (place_of P (trace P H) row) p.test ≡ true) r.preds }
+    ensures updates { (P : PlainPolicy) → IsTyped P → (H : History) (n : ℕ) (row : SessionRow) (r : PlainRight) → session (trace P H) n ≡ Some row
+        → right_named P.rights row.right ≡ Some r → Each (λ u. expr_means true (place_of P (trace P H) row) u.value ≡ true) r.updates }
+{}
+
+/// The item that a policy's first fault names is one of its items.
+pub fn faults_name_items()
+    ensures { (P : PlainPolicy) (f : TypeFault) → type_fault P ≡ Some f → NamesItem 1 (1 + item_count P) f }
 {}
 
 /// Each test of a well typed policy is typed.

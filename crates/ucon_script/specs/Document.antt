@@ -9,6 +9,7 @@ use Rattle.ucon_script.specs.declared.document.Document.{Document}
 use Rattle.ucon_script.specs.declared.document.DocFault.{DocFault}
 use Rattle.ucon_script.specs.declared.document.DocFault.TheVariants.{BadHeading, BadLine, TooManyClients, TooManyLines, NoMemory}
 
+-- a command line that was read, as the definition has it
 abbrev pub line_of : Line → ScriptLine
 line_of l = record { number = l.number; caller = l.caller; command = l.command }
 

@@ -6,3 +6,4 @@ pub mod Formulas
 pub mod Lists
 pub mod Items
 pub mod Policies
+pub mod Refusals

@@ -4,6 +4,7 @@
 mod expr;
 mod formula;
 mod items;
+mod laws;
 mod literal;
 mod policy;
 mod read;
@@ -13,4 +14,8 @@ mod starts;
 #[cfg(test)]
 mod tests;
 
+pub use laws::{
+    each_text_spells_or_is_refused, readings_are_what_texts_spell, refused_texts_spell_nothing,
+    spelled_policies_keep_the_limits, texts_have_one_fault, texts_spell_one_policy,
+};
 pub use read::{SyntaxFault, read_policy};

@@ -1,9 +1,13 @@
 //! Policies from texts.
 
-ghost use Rattle.std.specs.Prelude.{◌≡◌, length};
+ghost use Rattle.std.specs.Prelude.{◌≡◌, length, IfOk, IfErr};
+ghost use Rattle.ucon_model.specs.Plain.{PlainPolicy};
+ghost use Rattle.ucon_model.specs.Spells.{Spells};
 ghost use Rattle.ucon_model.specs.Tokens.{place_of};
+ghost use Rattle.ucon_model.specs.Views.{policy_of};
 ghost use Rattle.ucon_token.specs.Tokens.{first, flaw_at};
 ghost use Rattle.ucon_syntax.specs.Policies.{fault_of, reading_of, Reading};
+ghost use Rattle.ucon_syntax.specs.Refusals.{IsSyntaxFault, ReadsAs, RefusedFor, IsReason};
 
 use crate::policy::whole;
 use std::alloc::Global;
@@ -45,9 +49,8 @@ fn fault(reader: &Reader, cause: Cause) -> SyntaxFault
     }
 }
 
-/// The policy that the text spells, or the first fault, from left to right.
 #[tactic(auto, unfolding(crate::specs::Policies::reading_of))]
-pub fn read_policy(alloc: Global, text: &[u8]) -> Result<Policy, SyntaxFault>
+fn read(alloc: Global, text: &[u8]) -> Result<Policy, SyntaxFault>
     ensures { Reading result text.now }
 {
     if text.len() > LONGEST {
@@ -59,4 +62,15 @@ pub fn read_policy(alloc: Global, text: &[u8]) -> Result<Policy, SyntaxFault>
         Err(Stop::Memory) => Err(SyntaxFault::NoMemory),
         Err(Stop::At(cause)) => Err(fault(&reader, cause)),
     }
+}
+
+/// The policy that the text spells, or its first fault, from left to right.
+pub fn read_policy(alloc: Global, text: &[u8]) -> Result<Policy, SyntaxFault>
+    ensures found { IfOk result (λ p. Spells text.now (policy_of p)) }
+    ensures only { (q : PlainPolicy) → Spells text.now q → ReadsAs result q }
+    ensures reason { IfErr result (λ f. IsReason text.now f) }
+    ensures refuses { (f : SyntaxFault) → IsSyntaxFault text.now f → RefusedFor result f }
+    ensures reading { Reading result text.now }
+{
+    read(alloc, text)
 }

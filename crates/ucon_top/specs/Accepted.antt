@@ -1,9 +1,10 @@
 -- Which documents are accepted, and why others are refused.
-use Rattle.std.specs.Prelude.{◌≡◌, ◌≤◌, List, length, Some, option_map, Ok, Err}
+use Rattle.std.specs.Prelude.{◌≡◌, ◌≤◌, List, length, Some, option_map, Ok}
 use Rattle.ucon_model.specs.Plain.{Bytes, PlainPolicy}
 use Rattle.ucon_model.specs.Document.{ScriptLine, policy_part, document_read}
 use Rattle.ucon_model.specs.Typing.{IsTyped, type_fault}
-use Rattle.ucon_syntax.specs.Policies.{reading_of}
+use Rattle.ucon_model.specs.Spells.{Spells}
+use Rattle.ucon_syntax.specs.Refusals.{IsSyntaxFault}
 use Rattle.ucon_check.specs.Told.{told}
 use Rattle.ucon_check.specs.declared.fault.CheckFault.{CheckFault}
 use Rattle.ucon_check.specs.declared.fault.CheckFault.TheVariants as checks
@@ -19,7 +20,7 @@ use Rattle.ucon_top.specs.declared.outcome.Refused.TheVariants as refusals
 
 -- a document's policy part spells this policy, and it is well typed
 pub record HasPolicy (bytes : Bytes) (P : PlainPolicy) : Type 0 where
-  pub spelled : reading_of (policy_part bytes) ≡ Ok P
+  pub spelled : Spells (policy_part bytes) P
   pub typed : IsTyped P
 
 -- a document has a policy, and its script says these lines
@@ -33,12 +34,12 @@ pub record IsAccepted (bytes : Bytes) : Type 0 where
 -- a document's policy part spells a policy that has this typing fault first
 pub record HasTypeFault (bytes : Bytes) (fault : CheckFault) : Type 0 where
   pub policy : PlainPolicy
-  pub spelled : reading_of (policy_part bytes) ≡ Ok policy
+  pub spelled : Spells (policy_part bytes) policy
   pub first : option_map told (type_fault policy) ≡ Some fault
 
 -- the policy part is refused so
 abbrev pub IsPolicyFault : PolicyFault → Bytes → Type 0
-IsPolicyFault (Syntax f) bytes = reading_of (policy_part bytes) ≡ Err f
+IsPolicyFault (Syntax f) bytes = IsSyntaxFault (policy_part bytes) f
 IsPolicyFault (Typing checks.NoMemory) bytes = ⊥
 IsPolicyFault (Typing f) bytes = HasTypeFault bytes f
 

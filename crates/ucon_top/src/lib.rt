@@ -8,6 +8,8 @@ mod models;
 mod number;
 mod outcome;
 mod printing;
+#[cfg(test)]
+mod tests;
 mod top;
 
 pub use form::Form;

@@ -7,7 +7,7 @@ ghost use Rattle.ucon_top.specs.Models.{models_spelling, right_spelling, rights_
 
 use std::alloc::Global;
 use ucon_base::NoMemory;
-use ucon_check::{core_name, cores_of};
+use ucon_check::{core_models_of, core_name};
 use ucon_model::{Checked, Core, Right};
 
 /// One line for each right of the policy: its name and its core models.
@@ -34,8 +34,8 @@ fn put_right(alloc: Global, out: &mut Vec<u8>, right: &Right) -> Result<(), NoMe
 {
     out.extend_from_slice(b"right ")?;
     out.extend_from_slice(right.name.bytes())?;
-    let cores = cores_of(alloc, right)?;
-    put_cores(alloc, out, &cores)
+    let cores = core_models_of(alloc, right)?;
+    put_cores(alloc, out, cores.slice())
 }
 
 fn put_cores(alloc: Global, out: &mut Vec<u8>, cores: &[Core]) -> Result<(), NoMemory>

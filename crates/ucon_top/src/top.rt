@@ -13,7 +13,7 @@ use crate::form::read_form;
 use crate::outcome::{Ended, Outcome};
 use std::alloc::Global;
 use ucon_flow::{ReadFault, Sink, Source, read_all, write_all};
-use ucon_state::Engine;
+use ucon_plain::PlainMonitor;
 
 /// The most bytes of input.
 const LIMIT: usize = 4_194_304;
@@ -22,12 +22,7 @@ const LIMIT: usize = 4_194_304;
 ///
 /// `trial` runs the document that the input is, from the empty history, in the order of its lines, and writes one answer a line.
 /// `check` writes the core models of each right of the document's policy.
-pub fn run<E: Engine, S: Source, K: Sink>(
-    alloc: Global,
-    words: &[String],
-    input: &mut S,
-    out: &mut K,
-) -> Ended
+pub fn run<S: Source, K: Sink>(alloc: Global, words: &[String], input: &mut S, out: &mut K) -> Ended
     // Status and outcome agree.
     ensures status { result.status ≡ status_of result.outcome }
 
@@ -58,7 +53,7 @@ pub fn run<E: Engine, S: Source, K: Sink>(
         Err(ReadFault::TooLong) => return Ended::by(Outcome::TooLong),
         Err(ReadFault::NoMemory) => return Ended::by(Outcome::NoMemory),
     };
-    match output_of::<E>(alloc, form, &bytes) {
+    match output_of::<PlainMonitor>(alloc, form, &bytes) {
         Err(refused) => Ended::by(Outcome::from(refused)),
         Ok(text) => match write_all(out, &text) {
             Ok(()) => Ended::by(Outcome::Done),

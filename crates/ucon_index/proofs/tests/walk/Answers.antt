@@ -1,5 +1,5 @@
-use Rattle.std.proofs.Common.{◌≡◌, ◌∙◌, ◌++◌, ◌∷◌, [], ap, arith, is_some, length, subst, sym, Some}
-use Rattle.ucon_index.proofs.Walks.{IsWalked, walk_begins, walk_meets, walk_ends, session_is_met}
+use Rattle.std.proofs.Common.{ap, is_some, subst}
+use Rattle.ucon_index.proofs.Walks.{IsWalked, walk_meets, session_is_met}
 use Rattle.ucon_index.proofs.tests.walk.Goals as goal
 
 pub owner-requires : goal.owner-requires

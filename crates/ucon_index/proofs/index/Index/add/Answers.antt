@@ -1,8 +1,8 @@
-use Rattle.std.proofs.Common.{◌≡◌, ◌∙◌, ◌<◌, ap, arith, false, get_or, length, sym, subst, take}
+use Rattle.std.proofs.Common.{◌≡◌, ◌<◌, arith, false, get_or, sym, subst, take}
 use Rattle.std.proofs.lemmas.List.{take_more}
-use Rattle.ucon_links.specs.Lists.{IsAbsent, link_behind}
+use Rattle.ucon_links.specs.Lists.{IsAbsent}
 use Rattle.ucon_index.specs.Dependents.{Dependents, is_there}
-use Rattle.ucon_index.proofs.Adding.{IsAdding, adding_goes_on, place_is_new}
+use Rattle.ucon_index.proofs.Adding.{adding_goes_on, place_is_new}
 use Rattle.ucon_index.proofs.Walks.{within_seen}
 use Rattle.ucon_index.proofs.index.Index.add.Goals as goal
 

@@ -1,7 +1,5 @@
-use Rattle.std.proofs.Common.{◌∙◌, ap, arith, length, subst, sym, None}
+use Rattle.std.proofs.Common.{◌∙◌, ap, sym, None}
 use Rattle.ucon_links.specs.Lists.{first_or}
-use Rattle.ucon_index.specs.Dependents.{Dependents}
-use Rattle.ucon_index.proofs.Rows.{places-length}
 use Rattle.ucon_index.proofs.Walks.{distinct_seen, list_seen, within_seen}
 use Rattle.ucon_index.proofs.index.Index.first.Goals as goal
 

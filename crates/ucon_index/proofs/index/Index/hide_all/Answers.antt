@@ -1,5 +1,5 @@
 use Rattle.std.proofs.Common.{◌≡◌, ◌∙◌, ap, get_or, subst, sym, true}
-use Rattle.ucon_index.specs.Dependents.{Dependents, is_there, hide, UnhideGives}
+use Rattle.ucon_index.specs.Dependents.{Dependents, is_there, hide}
 use Rattle.ucon_index.proofs.Several.{there_in_turn, hide_all-more, gives_more}
 use Rattle.ucon_index.proofs.index.Index.hide_all.Goals as goal
 

@@ -1,4 +1,4 @@
-use Rattle.std.proofs.Common.{◌∙◌, sym}
+use Rattle.std.proofs.Common.{◌∙◌}
 use Rattle.ucon_index.proofs.Walks.{session_seen, session_has_owner}
 use Rattle.ucon_index.proofs.index.Index.owner.Goals as goal
 

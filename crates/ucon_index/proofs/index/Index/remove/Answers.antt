@@ -1,4 +1,4 @@
-use Rattle.std.proofs.Common.{◌≡◌, ◌∙◌, ap, arith, is_some, length, refl, subst, sym, Some, true, List}
+use Rattle.std.proofs.Common.{◌≡◌, ◌∙◌, ap, arith, is_some, length, subst, sym, true, List}
 use Rattle.ucon_links.specs.Lists.{list_at}
 use Rattle.ucon_links.specs.Lists as links
 use Rattle.ucon_links.specs.Lists.{Item, IsAbsent}

@@ -1,4 +1,4 @@
-use Rattle.std.proofs.Common.{◌∙◌, ap, arith, sym}
+use Rattle.std.proofs.Common.{ap, arith}
 use Rattle.ucon_index.specs.Dependents.{Dependents, node_count}
 use Rattle.ucon_index.proofs.Sums.{places_count, sessions_count}
 use Rattle.ucon_index.proofs.index.Index.reserve.Goals as goal

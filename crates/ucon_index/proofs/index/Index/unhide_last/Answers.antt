@@ -1,8 +1,8 @@
-use Rattle.std.proofs.Common.{◌≡◌, ◌∙◌, ap, arith, length, refl, subst, sym, Some}
-use Rattle.ucon_index.specs.Dependents.{Dependents, CanUnhide, unhide}
+use Rattle.std.proofs.Common.{◌∙◌, ap, sym}
+use Rattle.ucon_index.specs.Dependents.{unhide}
 use Rattle.ucon_index.specs.Tables.{sessions_of}
-use Rattle.ucon_index.proofs.Returning.{IsReturning, returning_begins, returning_ends, step, same_session, other_session, other_newest, apart_first}
-use Rattle.ucon_index.proofs.Stack.{below, newest_is_first}
+use Rattle.ucon_index.proofs.Returning.{returning_ends, step, same_session, other_session, other_newest, apart_first}
+use Rattle.ucon_index.proofs.Stack.{below}
 use Rattle.ucon_index.proofs.index.Index.unhide_last.Goals as goal
 
 pub unhide_newest-requires : goal.unhide_newest-requires

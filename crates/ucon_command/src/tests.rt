@@ -1,0 +1,229 @@
+use super::*;
+use std::test::Fail;
+use ucon_base::{Name, Rows, Side, Value};
+use ucon_model::{Command, Head, Refusal, Reply, Revoked, SessionState};
+
+#[test]
+fn each_line_is_read_and_written_back(rt: HostRuntime) -> Result<(), Fail> {
+    let lines: [&[u8]; 20] = [
+        b"subject ann",
+        b"object doc1",
+        b"set s ann credit -1000000000000000",
+        b"set o doc1 title \"two words \"",
+        b"set o doc1 tags {\"a\",\"a b\",\"b\"}",
+        b"set o doc1 tags {}",
+        b"env hour 0",
+        b"env zone \" a  b\"",
+        b"tick -3",
+        b"tick 1000000000000000",
+        b"act ann approve doc1",
+        b"try ann read doc1",
+        b"again 0",
+        b"beat 1",
+        b"end 7",
+        b"end 4294967295",
+        b"look 10",
+        b"value s ann credit",
+        b"value o doc1 tags",
+        b"subject a23456789_123456789_123456789_12",
+    ];
+    for line in lines {
+        let command = read_command(rt.alloc(), line)?;
+        let text = command_text(rt.alloc(), &command.copy(rt.alloc())?)?;
+        assert_eq!(rt; text.as_slice(), line);
+    }
+    Ok(())
+}
+
+#[test]
+fn words_stand_where_the_form_says(rt: HostRuntime) -> Result<(), Fail> {
+    let act = read_command(rt.alloc(), b"act ann approve doc1")?;
+    match &act {
+        Command::Act {
+            subject,
+            action,
+            object,
+        } => {
+            assert_eq!(rt; subject.bytes(), b"ann".as_slice());
+            assert_eq!(rt; action.bytes(), b"approve".as_slice());
+            assert_eq!(rt; object.bytes(), b"doc1".as_slice());
+        }
+        _ => assert!(rt; false, "an act"),
+    }
+    let set = read_command(rt.alloc(), b"set o doc1 title \"a b\"")?;
+    match &set {
+        Command::Set {
+            side,
+            name,
+            attr,
+            value: Value::Text(text),
+        } => {
+            assert_eq!(rt; *side, Side::Object);
+            assert_eq!(rt; name.bytes(), b"doc1".as_slice());
+            assert_eq!(rt; attr.bytes(), b"title".as_slice());
+            assert_eq!(rt; text.bytes(), b"a b".as_slice());
+        }
+        _ => assert!(rt; false, "a set of a text"),
+    }
+    Ok(())
+}
+
+#[test]
+fn each_refusal_has_its_place(rt: HostRuntime) -> Result<(), Fail> {
+    let refused: [(&[u8], LineFault); 40] = [
+        (&[b'a'; 8193], LineFault::TooLong(8193)),
+        (&[b'a'; 8192], LineFault::UnknownWord),
+        (b"", LineFault::NoWord),
+        (b" end 7", LineFault::NoWord),
+        (b"fly", LineFault::UnknownWord),
+        (b"End 7", LineFault::UnknownWord),
+        (b"ends 7", LineFault::UnknownWord),
+        (b"end", LineFault::WrongCount(1)),
+        (b"end 7 8", LineFault::WrongCount(3)),
+        (b"subject", LineFault::WrongCount(1)),
+        (b"object a b", LineFault::WrongCount(3)),
+        (b"set s ann credit", LineFault::WrongCount(4)),
+        (b"env hour", LineFault::WrongCount(2)),
+        (b"tick 1 2", LineFault::WrongCount(3)),
+        (b"act ann approve", LineFault::WrongCount(3)),
+        (b"try ann read doc1 now", LineFault::WrongCount(5)),
+        (b"value s ann", LineFault::WrongCount(3)),
+        (b"again x", LineFault::BadWord(6)),
+        (b"beat -1", LineFault::BadWord(5)),
+        (b"end ", LineFault::BadWord(4)),
+        (b"end x", LineFault::BadWord(4)),
+        (b"end 07", LineFault::BadWord(4)),
+        (b"end 4294967296", LineFault::BadWord(4)),
+        (b"end +7", LineFault::BadWord(4)),
+        (b"look {}", LineFault::BadWord(5)),
+        (b"subject Ann", LineFault::BadWord(8)),
+        (
+            b"subject a23456789_123456789_123456789_123",
+            LineFault::BadWord(8),
+        ),
+        (b"set x ann credit 1", LineFault::BadWord(4)),
+        (b"set s 1 credit 1", LineFault::BadWord(6)),
+        (b"set s ann - 1", LineFault::BadWord(10)),
+        (b"set s ann credit  1", LineFault::BadWord(17)),
+        (b"set s ann credit 1 ", LineFault::BadWord(17)),
+        (b"set s ann credit 1000000000000001", LineFault::BadWord(17)),
+        (b"set s  credit \"a b\"", LineFault::BadWord(6)),
+        (b"env Hour x", LineFault::BadWord(4)),
+        (b"env hour {\"b\",\"a\"}", LineFault::BadWord(9)),
+        (b"tick \"1\"", LineFault::BadWord(5)),
+        (b"act ann  doc1", LineFault::BadWord(8)),
+        (b"try ann read Doc1", LineFault::BadWord(13)),
+        (b"value o doc1 tags!", LineFault::BadWord(13)),
+    ];
+    for (line, fault) in refused {
+        assert_eq!(rt;
+            read_command(rt.alloc(), line).err(),
+            Some(fault),
+            "at {line:?}"
+        );
+    }
+    Ok(())
+}
+
+#[test]
+fn each_reply_is_read_and_written_back(rt: HostRuntime) -> Result<(), Fail> {
+    let texts: [&[u8]; 16] = [
+        b"ok",
+        b"ok revoked 2 lb",
+        b"ok revoked 1 a revoked 2 b revoked 4294967295 c",
+        b"permitted 1",
+        b"permitted 3 revoked 1 cap",
+        b"denied 2 funds",
+        b"waiting 0 signed",
+        b"ended 7 revoked 8 revoked",
+        b"value -5",
+        b"value \"a  b\"",
+        b"value {\"a b\",\"c\"}",
+        b"status 1 requesting",
+        b"status 2 denied",
+        b"status 3 accessing",
+        b"status 4 revoked",
+        b"status 5 ended",
+    ];
+    for text in texts {
+        let reply = read_reply(rt.alloc(), text)?;
+        assert_eq!(rt; reply_text(rt.alloc(), &reply)?.as_slice(), text);
+    }
+    let mut revoked = Rows::new(rt.alloc());
+    revoked.push(Revoked {
+        session: 2,
+        label: Name::read(b"lb")?,
+    })?;
+    let head = Head::Denied(1, Name::read(b"cap")?);
+    let made = Reply::Made { head, revoked };
+    assert_eq!(rt;
+        reply_text(rt.alloc(), &made)?.as_slice(),
+        b"denied 1 cap revoked 2 lb".as_slice()
+    );
+    let ended = Reply::Status(9, SessionState::Ended);
+    assert_eq!(rt;
+        reply_text(rt.alloc(), &ended)?.as_slice(),
+        b"status 9 ended".as_slice()
+    );
+    Ok(())
+}
+
+#[test]
+fn each_refusal_has_its_text(rt: HostRuntime) -> Result<(), Fail> {
+    let refusals: [(Refusal, &[u8]); 19] = [
+        (Refusal::NotAdmin, b"not admin"),
+        (Refusal::NoRight, b"no right"),
+        (Refusal::NoSubject, b"no subject"),
+        (Refusal::NoObject, b"no object"),
+        (Refusal::NoAttribute, b"no attribute"),
+        (Refusal::NoVariable, b"no variable"),
+        (Refusal::NoAct, b"no act"),
+        (Refusal::NoSession, b"no session"),
+        (Refusal::NotYours, b"not yours"),
+        (Refusal::NotAccessing, b"not accessing"),
+        (Refusal::NotRequesting, b"not requesting"),
+        (Refusal::AlreadyThere, b"already there"),
+        (Refusal::BadValue, b"bad value"),
+        (Refusal::TickBack, b"tick back"),
+        (Refusal::FullSubjects, b"full subjects"),
+        (Refusal::FullObjects, b"full objects"),
+        (Refusal::FullActs, b"full acts"),
+        (Refusal::FullSessions, b"full sessions"),
+        (Refusal::FullAccessing, b"full accessing"),
+    ];
+    for (refusal, text) in refusals {
+        let reply = Reply::Refused(refusal);
+        assert_eq!(rt; reply_text(rt.alloc(), &reply)?.as_slice(), text);
+        let read = read_reply(rt.alloc(), text)?;
+        assert_eq!(rt; reply_text(rt.alloc(), &read)?.as_slice(), text);
+    }
+    Ok(())
+}
+
+#[test]
+fn other_bytes_are_no_reply(rt: HostRuntime) -> Result<(), Fail> {
+    let texts: [&[u8]; 17] = [
+        b"",
+        b"OK",
+        b"ok ",
+        b" ok",
+        b"ok revoked",
+        b"ok revoked 2",
+        b"ok revoked 2 lb x",
+        b"ok revoke 2 lb",
+        b"ok revoked 02 lb",
+        b"permitted",
+        b"permitted 4294967296",
+        b"denied 1",
+        b"ended -1",
+        b"value",
+        b"value 1 ",
+        b"status 1 open",
+        b"not  admin",
+    ];
+    for text in texts {
+        let fault = read_reply(rt.alloc(), text).err();
+        assert_eq!(rt; fault, Some(ReplyFault::BadReply), "at {text:?}");
+    }
+    Ok(())
+}

@@ -1,0 +1,12 @@
+pub mod Writes
+pub mod Turns
+pub mod Blocks
+pub mod ReadOff
+pub mod Stepping
+pub mod Attributes
+pub mod LegalTraces
+pub mod Typed
+pub mod Updated
+pub mod Deciding
+pub mod Cascade
+pub mod Standing

@@ -1,0 +1,34 @@
+use Rattle.std.proofs.Common.{◌∙◌, ap, subst}
+use Rattle.ucon_model.specs.Plain.{PlainPolicy}
+use Rattle.ucon_model.specs.Action.{Trace, extended}
+use Rattle.ucon_model.specs.Settle.{settle, revoked_in}
+use Rattle.ucon_plain.specs.Follows.{Follows}
+use Rattle.ucon_state.specs.Shown.{shown}
+use Rattle.ucon_plain.proofs.Standing.{made_actions, made_reply, made_after}
+use Rattle.ucon_plain.proofs.step.take_step.Goals as goal
+
+pub settle-requires : goal.settle-requires
+settle-requires c =
+    let given = rw c.in-Make.is at (c.in_ok-r.ensures.given c.requires.trace c.requires.follows) in
+    let done = made_actions c.in-Make.head (shown c.own_actions.new.state) c.requires.trace _ given in
+    record { trace = extended c.requires.trace done.0; follows = done.2 }
+
+pub returns-in_ok-revoked-in-Make-clause-reply : goal.returns-in_ok-revoked-in-Make-clause-reply
+returns-in_ok-revoked-in-Make-clause-reply c = λ T h.
+    let s = shown c.args.state.now in
+    let s1 = shown c.own_actions.new.state in
+    let given = rw c.in-Make.is at (c.in_ok-r.ensures.given T h) in
+    let done = made_actions c.in-Make.head s1 T _ given in
+    made_reply s.policy T c.args.caller c.args.command.now c.in-Make.head done.0 c.in_ok-revoked-in-Make.revoked.items done.1
+    (c.in_ok-revoked-in-Make.ensures.revoked (extended T done.0) done.2 ∙ ap (λ (P : PlainPolicy). revoked_in (settle P (extended T done.0))) c.in_ok-r.ensures.base.policy)
+
+pub returns-in_ok-revoked-in-Make-clause-changed : goal.returns-in_ok-revoked-in-Make-clause-changed
+returns-in_ok-revoked-in-Make-clause-changed c _ = λ T h.
+    let s = shown c.args.state.now in
+    let s1 = shown c.own_actions.new.state in
+    let s2 = shown c.settle.new.state in
+    let given = rw c.in-Make.is at (c.in_ok-r.ensures.given T h) in
+    let done = made_actions c.in-Make.head s1 T _ given in
+    subst (λ (U : Trace). Follows s2 U)
+    (ap (λ (P : PlainPolicy). extended (extended T done.0) (settle P (extended T done.0))) c.in_ok-r.ensures.base.policy ∙ made_after s.policy T c.args.caller c.args.command.now c.in-Make.head done.0 done.1)
+    (c.in_ok-revoked-in-Make.ensures.leads (extended T done.0) done.2)

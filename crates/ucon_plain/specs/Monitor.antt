@@ -1,0 +1,23 @@
+-- What the plain monitor stands for.
+use Rattle.std.specs.Prelude.{◌≡◌}
+use Rattle.ucon_model.specs.declared.command.Entry.{Entry}
+use Rattle.ucon_model.specs.Plain.{PlainPolicy}
+use Rattle.ucon_model.specs.History.{History, trace, grown}
+use Rattle.ucon_model.specs.Typing.{IsTyped}
+use Rattle.ucon_state.specs.Shown.{shown}
+use Rattle.ucon_state.specs.Applied.{tables_of}
+use Rattle.ucon_plain.specs.declared.monitor.PlainMonitor.{PlainMonitor}
+
+-- its tables are those after the history under the policy, and so are those that undoing gives
+pub record StandsFor (m : PlainMonitor) (P : PlainPolicy) (H : History) : Type 0 where
+  pub typed : IsTyped P
+  pub policy : (shown m.state).policy ≡ P
+  pub tables : (shown m.state).tables ≡ tables_of P (trace P H)
+  pub opening : (shown m.state).opening ≡ tables_of P (trace P H)
+
+-- its tables are those after the history with the entry, and undoing gives those after the history
+pub record HasPending (m : PlainMonitor) (P : PlainPolicy) (H : History) (e : Entry) : Type 0 where
+  pub typed : IsTyped P
+  pub policy : (shown m.state).policy ≡ P
+  pub tables : (shown m.state).tables ≡ tables_of P (trace P (grown P H e))
+  pub opening : (shown m.state).opening ≡ tables_of P (trace P H)

@@ -1,0 +1,98 @@
+//! The smallest parts of the text.
+
+ghost use Rattle.std.specs.Prelude.{◌≡◌, ◌++◌, OnOk};
+ghost use Rattle.std.specs.List.{flat_map};
+ghost use Rattle.std.specs.Fmt.{signed_decimal};
+ghost use Rattle.ucon_base.specs.Spelling.{quoted};
+ghost use Rattle.ucon_model.specs.Printing.{only_if, further_text, set_printing, literal_printing, place_printing};
+
+use std::alloc::Global;
+use ucon_base::{Int, NoMemory, Text, Value};
+use ucon_model::Ref;
+
+pub fn put(out: &mut Vec<u8>, bytes: &[u8]) -> Result<(), NoMemory>
+    ensures { OnOk result (out.new.items ≡ out.old.items ++ bytes.now) }
+{
+    out.extend_from_slice(bytes)?;
+    Ok(())
+}
+
+pub fn put_if(out: &mut Vec<u8>, test: bool, bytes: &[u8]) -> Result<(), NoMemory>
+    ensures { OnOk result (out.new.items ≡ out.old.items ++ only_if test bytes.now) }
+{
+    if test {
+        return put(out, bytes);
+    }
+    Ok(())
+}
+
+pub fn put_integer(alloc: Global, out: &mut Vec<u8>, n: Int) -> Result<(), NoMemory>
+    ensures { OnOk result (out.new.items ≡ out.old.items ++ signed_decimal n) }
+{
+    let text = n.get().to_string(alloc)?;
+    out.extend_from_slice(text.as_bytes())?;
+    Ok(())
+}
+
+/// Between quotes.
+pub fn put_quoted(out: &mut Vec<u8>, bytes: &[u8]) -> Result<(), NoMemory>
+    ensures { OnOk result (out.new.items ≡ out.old.items ++ quoted bytes.now) }
+{
+    out.push(b'"')?;
+    out.extend_from_slice(bytes)?;
+    out.push(b'"')?;
+    Ok(())
+}
+
+fn put_further_texts(out: &mut Vec<u8>, texts: &[Text]) -> Result<(), NoMemory>
+    ensures { OnOk result (out.new.items ≡ out.old.items ++ flat_map further_text texts.now) }
+{
+    for t in texts {
+        put(out, b", ")?;
+        put_quoted(out, t.bytes())?;
+    }
+    Ok(())
+}
+
+fn put_set(out: &mut Vec<u8>, texts: &[Text]) -> Result<(), NoMemory>
+    ensures { OnOk result (out.new.items ≡ out.old.items ++ set_printing texts.now) }
+{
+    match texts {
+        [] => put(out, b"{}"),
+        [first, more @ ..] => {
+            put(out, b"{")?;
+            put_quoted(out, first.bytes())?;
+            put_further_texts(out, more)?;
+            put(out, b"}")
+        }
+    }
+}
+
+pub fn put_literal(alloc: Global, out: &mut Vec<u8>, v: &Value) -> Result<(), NoMemory>
+    ensures { OnOk result (out.new.items ≡ out.old.items ++ literal_printing v.now) }
+{
+    match v {
+        Value::Int(n) => put_integer(alloc, out, *n),
+        Value::Text(t) => put_quoted(out, t.bytes()),
+        Value::Set(s) => put_set(out, s.slice()),
+    }
+}
+
+pub fn put_place(out: &mut Vec<u8>, place: &Ref) -> Result<(), NoMemory>
+    ensures { OnOk result (out.new.items ≡ out.old.items ++ place_printing place.now) }
+{
+    match place {
+        Ref::Subject(name) => {
+            put(out, b"s.")?;
+            put(out, name.bytes())
+        }
+        Ref::Object(name) => {
+            put(out, b"o.")?;
+            put(out, name.bytes())
+        }
+        Ref::Env(name) => {
+            put(out, b"env.")?;
+            put(out, name.bytes())
+        }
+    }
+}

@@ -1,0 +1,104 @@
+use super::*;
+use std::alloc::Global;
+use std::test::Fail;
+use ucon_flow::{MemSink, MemSource};
+use ucon_vectors::{CAPPED, Example, Row, guide_examples, worked_rows};
+
+fn words(alloc: Global, all: &[&str]) -> Result<Vec<String>, Fail> {
+    let mut words = Vec::new(alloc);
+    for word in all {
+        words.push(String::from_str(alloc, word)?)?;
+    }
+    Ok(words)
+}
+
+fn numbers(alloc: Global, all: &[u64]) -> Result<Vec<u64>, Fail> {
+    Ok(Vec::from_slice(alloc, all)?)
+}
+
+/// How a form ends over a document, and what it writes.
+fn ran(alloc: Global, form: &str, document: &[u8]) -> Result<(Ended, Vec<u8>), Fail> {
+    let mut source = MemSource::new(Vec::from_slice(alloc, document)?, 7, Vec::new(alloc));
+    let mut sink = MemSink::new(alloc, 3, Vec::new(alloc));
+    let ended = run(alloc, &words(alloc, &[form])?, &mut source, &mut sink);
+    Ok((ended, Vec::from_slice(alloc, sink.bytes())?))
+}
+
+/// A row's policy, the divider and its script.
+fn document(alloc: Global, row: &Row) -> Result<Vec<u8>, Fail> {
+    let mut bytes = Vec::from_slice(alloc, row.policy)?;
+    bytes.extend_from_slice(b"%%\n")?;
+    bytes.extend_from_slice(row.script)?;
+    Ok(bytes)
+}
+
+/// With ample memory. The first run is what refuses a program that answers `no memory` to every line: no clause can.
+#[test]
+fn worked_rows_print_what_they_say(rt: HostRuntime) -> Result<(), Fail> {
+    for row in worked_rows() {
+        let found = ran(rt.alloc(), "trial", &document(rt.alloc(), &row)?)?;
+        assert_eq!(rt; found.0.status, 0, "{}", row.name);
+        assert_eq!(rt; found.1.as_slice(), row.output, "{}", row.name);
+    }
+    Ok(())
+}
+
+/// The user's pages tell the truth.
+#[test]
+fn examples_print_what_the_pages_say(rt: HostRuntime) -> Result<(), Fail> {
+    for example in guide_examples() {
+        let found = ran(rt.alloc(), example.form, example.document)?;
+        assert_eq!(rt; found.0.status, example.status, "{}", example.name);
+        let fault = fault_text(rt.alloc(), &found.0.outcome)?;
+        let text = if example.status == 0 {
+            &found.1
+        } else {
+            &fault
+        };
+        assert_eq!(rt; text.as_slice(), example.text, "{}", example.name);
+    }
+    Ok(())
+}
+
+/// Core models, a second refusal of each sort, and faults outside the document.
+#[test]
+fn other_ends(rt: HostRuntime) -> Result<(), Fail> {
+    let alloc = rt.alloc();
+    let capped = ran(alloc, "check", CAPPED)?;
+    assert_eq!(rt; capped.1.as_slice(), b"right use onA1 onA3\n".as_slice());
+    let refused = ran(alloc, "check", b"right r {")?;
+    assert_eq!(rt; refused.0.status, 2);
+    let script = ran(alloc, "check", b"%%\nclient 1\nlook\n")?;
+    assert_eq!(rt; script.0.status, 3);
+    let cases: [(&[&str], &[u64], &[u64], u8, &[u8], &[u8]); 5] = [
+        (&["trial"], &[], &[], 0, b"0 1 ok\n", b""),
+        (&["trial"], &[1], &[], 4, b"", b"ucon: source fault\n"),
+        (&["trial"], &[], &[2], 5, b"0 ", b"ucon: sink fault\n"),
+        (&[], &[], &[], 1, b"", b"ucon: usage\n"),
+        (&["trial", "j"], &[], &[], 1, b"", b"ucon: usage\n"),
+    ];
+    for (all, source_faults, sink_faults, status, output, text) in cases {
+        let bytes = Vec::from_slice(alloc, b"%%\nclient 0\nsubject a\n")?;
+        let mut source = MemSource::new(bytes, 4, numbers(alloc, source_faults)?);
+        let mut sink = MemSink::new(alloc, 1, numbers(alloc, sink_faults)?);
+        let ended = run(alloc, &words(alloc, all)?, &mut source, &mut sink);
+        assert_eq!(rt; ended.status, status);
+        assert_eq!(rt; sink.bytes(), output);
+        assert_eq!(rt; fault_text(alloc, &ended.outcome)?.as_slice(), text);
+    }
+    Ok(())
+}
+
+/// An input of one byte too many.
+#[test]
+fn long_input(rt: HostRuntime) -> Result<(), Fail> {
+    let alloc = rt.alloc();
+    let mut bytes = Vec::new(alloc);
+    bytes.resize(4_194_305, b'\n')?;
+    let mut source = MemSource::new(bytes, 4096, Vec::new(alloc));
+    let mut sink = MemSink::new(alloc, 1, Vec::new(alloc));
+    let ended = run(alloc, &words(alloc, &["trial"])?, &mut source, &mut sink);
+    assert_eq!(rt; ended.status, 11);
+    assert_eq!(rt; sink.bytes(), b"".as_slice());
+    Ok(())
+}
