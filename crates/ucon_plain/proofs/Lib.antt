@@ -10,3 +10,6 @@ pub mod Updated
 pub mod Deciding
 pub mod Cascade
 pub mod Standing
+pub mod Rising
+pub mod Watching
+pub mod Permits

@@ -11,5 +11,6 @@ mod step;
 mod told;
 mod update;
 mod usage;
+mod watched;
 
 pub use monitor::PlainMonitor;

@@ -2,7 +2,7 @@
 
 ghost use Rattle.std.specs.Prelude.{◌≡◌, ◌≤◌, ◌||◌, ℕ, length, slice_get, Some, nat_eq, nat_lt, true, false, OnOk, OnErr};
 ghost use Rattle.std.specs.List.{prefix_len};
-ghost use Rattle.ucon_watch.specs.Rising.{rises, has};
+ghost use Rattle.ucon_plain.specs.Rising.{rises, has};
 
 use std::alloc::Global;
 use ucon_base::NoMemory;
@@ -15,7 +15,7 @@ pub struct Watched {
 }
 
 impl Watched {
-    ghost use Rattle.ucon_watch.specs.Watched.{watched};
+    ghost use Rattle.ucon_plain.specs.Watched.{watched};
 
     pub fn new(alloc: Global) -> Watched
         ensures { (n : ℕ) → has (watched result) n ≡ false }

@@ -15,9 +15,9 @@ use Rattle.ucon_model.specs.LegalRun.{Each}
 use Rattle.ucon_model.specs.Settle.{fails_at, least_failing}
 use Rattle.ucon_model.proofs.Allowed.{IsNumbered}
 use Rattle.ucon_model.proofs.LeastFailing.{chosen_is_legal, nobody_fails}
-use Rattle.ucon_watch.specs.Rising.{rises, has}
-use Rattle.ucon_watch.proofs.Rising.{Rises, rises_so}
-use Rattle.ucon_watch.specs.Watching.{asks, may_fail, Covers, first_in}
+use Rattle.ucon_plain.specs.Rising.{rises, has}
+use Rattle.ucon_plain.proofs.Rising.{Rises, rises_so}
+use Rattle.ucon_plain.specs.Watching.{asks, may_fail, Covers, first_in}
 
 -- ---- only those that may fail do
 

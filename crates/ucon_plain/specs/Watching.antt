@@ -7,7 +7,7 @@ use Rattle.ucon_model.specs.Plain.{Bytes, PlainPolicy}
 use Rattle.ucon_model.specs.Action.{Trace}
 use Rattle.ucon_model.specs.Readings.{session, is_accessing_state}
 use Rattle.ucon_model.specs.Decision.{right_named, ongoing}
-use Rattle.ucon_watch.specs.Rising.{has}
+use Rattle.ucon_plain.specs.Rising.{has}
 
 -- whether the right of this name has an ongoing predicate
 abbrev pub asks : PlainPolicy → Bytes → Bool

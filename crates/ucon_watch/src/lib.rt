@@ -1,6 +1,0 @@
-//! Scratch.
-#![tactic(auto)]
-
-mod watched;
-
-pub use watched::Watched;
