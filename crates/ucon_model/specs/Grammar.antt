@@ -1,6 +1,6 @@
 -- The grammar of policies.
-use Rattle.std.specs.Prelude.{◌≡◌, ℕ, zero, suc, ◌+◌, ℤ, neg_ℤ, true, List, [], ◌∷◌, ◌++◌, take, Option, Some, None, is_none, codes}
-use Rattle.ucon_base.specs.Name.{first_fault}
+use Rattle.std.specs.Prelude.{◌≡◌, ℕ, zero, suc, ◌+◌, ℤ, neg_ℤ, true, List, [], ◌∷◌, ◌++◌, take, Option, Some, None, codes}
+use Rattle.ucon_base.specs.NameBytes.{is_name}
 use Rattle.ucon_base.specs.Value.{is_rising}
 use Rattle.ucon_base.specs.declared.value.Side.{Side}
 use Rattle.ucon_base.specs.declared.value.Side.TheVariants as sides
@@ -43,7 +43,7 @@ a_text = one_of text (λ t. None) (λ t. Unit {0})
 
 -- a text that is a name
 abbrev pub a_named_text : Form Bytes
-a_named_text = one_of text (λ t. None) (λ t. is_none (first_fault t) ≡ true)
+a_named_text = one_of text (λ t. None) (λ t. is_name t ≡ true)
 
 -- ---- literals
 

@@ -13,3 +13,4 @@ pub mod Standing
 pub mod Rising
 pub mod Watching
 pub mod Permits
+pub mod Typing

@@ -7,3 +7,4 @@ pub mod Monitor
 pub mod Rising
 pub mod Watching
 pub mod Watched
+pub mod Capped

@@ -2,15 +2,19 @@
 #![tactic(auto)]
 
 mod declared;
+mod laws;
 mod monitor;
 mod own;
 mod reading;
 mod scene;
 mod settle;
 mod step;
+#[cfg(test)]
+mod tests;
 mod told;
 mod update;
 mod usage;
 mod watched;
 
+pub use laws::monitors_stand_for_histories;
 pub use monitor::PlainMonitor;

@@ -9,6 +9,8 @@ mod engine;
 mod laws;
 mod state;
 mod tables;
+#[cfg(test)]
+mod tests;
 mod view;
 
 pub use counts::Counts;

@@ -1,7 +1,7 @@
 -- Chains keep to their form.
-use Rattle.std.proofs.Common.{◌≡◌, ℕ, zero, suc, ◌+◌, ◌-◌, ◌≤◌, Bool, true, false, cond, ◌⊎◌, inl, inr, List, [], ◌∷◌, ◌++◌, drop, Option, Some, None, Result, Ok, Err, refl, sym, ap, ◌∙◌, append_assoc, arith, nat_lt}
+use Rattle.std.proofs.Common.{◌≡◌, ℕ, zero, suc, ◌+◌, Bool, true, false, cond, inl, inr, List, [], ◌∷◌, ◌++◌, drop, Option, Some, None, Result, Ok, Err, refl, sym, ap, ◌∙◌, append_assoc, arith, nat_lt}
 use Rattle.ucon_model.specs.Tokens.{Token}
-use Rattle.ucon_model.specs.Forms.{Terminal, as_token, Limit, operand, Marked, beyond, Form, further_tokens, further_tree, AreProper, further, chain, bare, IsClean}
+use Rattle.ucon_model.specs.Forms.{Terminal, as_token, Limit, operand, Marked, beyond, Form, further_tokens, further_tree, AreProper, further, chain}
 use Rattle.ucon_model.specs.Spells.{Stands}
 use Rattle.ucon_token.specs.declared.stop.Cause.TheVariants.{TooMany}
 use Rattle.ucon_token.specs.Tokens.{first}
@@ -135,7 +135,10 @@ further_again : {O A : Type 0} {token : O → Terminal} {join : O → A → A �
 unfolding more
 further_again k x zero before is all [] proper = inl (record { clean = tt; on = λ rest e. rw e.2 refl })
 further_again {token = token} {ops = ops} {X = X} k x zero before is all (o ∷ ms) proper = inr (record {
-  front = []; last = token o.0; limit = operand; behind = X.tokens o.1 ++ further_tokens token X (suc before) ms;
+  front = [];
+  last = token o.0;
+  limit = operand;
+  behind = X.tokens o.1 ++ further_tokens token X (suc before) ms;
   whole = ap (λ (l : Option Limit). (token o.0, l) ∷ (X.tokens o.1 ++ further_tokens token X (suc before) ms)) (is_beyond operand 32 before (omega (arith, is)));
   clean = tt;
   stops = λ t r st. late_stop (ops.is_late t) (Err (TooMany, t ∷ r)) (outcome all (t ∷ r)) (k.late_again o.0 t st);

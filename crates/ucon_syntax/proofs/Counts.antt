@@ -1,5 +1,5 @@
 -- What a text spells keeps the limits.
-use Rattle.std.proofs.Common.{◌≡◌, ℕ, zero, suc, ◌+◌, ◌≤◌, ◌<◌, Bool, true, false, cond, List, [], ◌∷◌, ◌++◌, length, Option, Some, None, refl, sym, ap, ◌∙◌, subst, arith, codes}
+use Rattle.std.proofs.Common.{◌≡◌, ℕ, zero, suc, ◌+◌, ◌≤◌, ◌<◌, Bool, cond, List, [], ◌∷◌, ◌++◌, length, Option, Some, None, refl, sym, subst, arith, codes}
 use Rattle.std.proofs.lemmas.List.Sums.{sum_by-cons}
 use Rattle.std.specs.Prelude.{count_by}
 use Rattle.std.specs.List.{AllByRecursion}
@@ -10,14 +10,14 @@ use Rattle.ucon_model.specs.declared.policy.Phase.TheVariants as phases
 use Rattle.ucon_model.specs.declared.policy.When.{When}
 use Rattle.ucon_model.specs.declared.policy.When.TheVariants as whens
 use Rattle.ucon_model.specs.Plain.{Bytes, PlainPolicy}
-use Rattle.ucon_model.specs.Tokens.{open_curly, close_curly}
+use Rattle.ucon_model.specs.Tokens.{close_curly}
 use Rattle.ucon_model.specs.Forms.{Terminal, word, Limit, item, Marked, beyond, Form, Items, items_tokens, items_tree, IsClean}
 use Rattle.ucon_model.specs.Grammar.{sign, side_token, SideCount, of_side, count_side, an_attr, attrs, an_env, envs, phase_token, PhaseCount, of_phase, count_phase, a_pred, preds, when_token, WhenCount, of_when, count_when, an_update, updates, a_right, rights, a_policy}
 use Rattle.ucon_model.specs.Limits.{same_side, same_phase, same_when, IsRightWithin, IsWithin}
 use Rattle.ucon_model.specs.Spells.{Spells}
 use Rattle.ucon_syntax.proofs.Marks.{clean_front}
 use Rattle.ucon_syntax.proofs.Rooms.{clean_first, below_most}
-use Rattle.ucon_syntax.proofs.Parts.{attr_tail, env_rest, pred_rest, pred_phase, plain_rest}
+use Rattle.ucon_syntax.proofs.Parts.{attr_tail, pred_rest, pred_phase, plain_rest}
 
 clean_back : (a b : List Marked) → IsClean (a ++ b) → IsClean b
 clean_back [] b c = c

@@ -1,23 +1,22 @@
 -- Reading gives the policy that the tokens spell, or else the first fault.
 use Rattle.std.proofs.Common.{◌≡◌, ◌⊎◌, inl, inr, List, [], ◌∷◌, ◌++◌, length, length-append, Option, Some, None, Result, Ok, Err, refl, sym, ap, ◌∙◌, append_assoc, subst, arith}
-use Rattle.std.proofs.lemmas.List.{append-nil, append_cancel_right}
+use Rattle.std.proofs.lemmas.List.{append-nil}
 use Rattle.ucon_model.specs.Plain.{PlainPolicy}
-use Rattle.ucon_model.specs.Tokens.{Token, a_word, joined_word, the_end, Flaw}
-use Rattle.ucon_model.specs.Forms.{Terminal, word, as_token, Limit, operand, item, level, Marked, bare, IsClean}
+use Rattle.ucon_model.specs.Tokens.{Token, the_end, Flaw}
+use Rattle.ucon_model.specs.Forms.{Terminal, as_token, Limit, operand, item, level, Marked, bare, IsClean}
 use Rattle.ucon_model.specs.Grammar.{a_policy}
-use Rattle.ucon_model.specs.Spells.{Spelled, IsAlive, IsAliveWithin, IsJoined, Stands, Passes, TextFault, unknown_byte, overlong, too_many, too_deep, unexpected, flaw_in, fault_of_flaw, StopsAt, Stops, FirstFault}
+use Rattle.ucon_model.specs.Spells.{Spelled, IsAlive, IsAliveWithin, Stands, Passes, TextFault, too_many, too_deep, unexpected, flaw_in, fault_of_flaw, StopsAt, Stops, FirstFault}
 use Rattle.ucon_token.specs.declared.stop.Cause.{Cause}
 use Rattle.ucon_token.specs.declared.stop.Cause.TheVariants.{Unexpected, TooMany, TooDeep}
 use Rattle.ucon_token.specs.Tokens.{first, is_word}
-use Rattle.ucon_token.specs.Reading.{Halt, ◌>>=◌}
+use Rattle.ucon_token.specs.Reading.{Halt}
 use Rattle.ucon_syntax.specs.Policies.{policy_at, ended, whole_at}
-use Rattle.ucon_syntax.proofs.Marks.{clean_append, clean_front, not_clean, bare_append}
-use Rattle.ucon_syntax.proofs.Steps.{halted, bind_ok, bind_err, pair_is, bare_both}
-use Rattle.ucon_syntax.proofs.Keeping.{cause_of, Found, Beyond, Over, Stopped, Finds, Breaks, Repeats, Outcome}
-use Rattle.ucon_syntax.proofs.Local.{left, moved, is_local, Tail, leaves_tail}
-use Rattle.ucon_syntax.proofs.Sound.{Sound}
+use Rattle.ucon_syntax.proofs.Marks.{not_clean, bare_append}
+use Rattle.ucon_syntax.proofs.Steps.{halted, bind_ok, bind_err}
+use Rattle.ucon_syntax.proofs.Keeping.{cause_of, Beyond, Over, Finds, Breaks, Outcome}
+use Rattle.ucon_syntax.proofs.Local.{left, moved, is_local, leaves_tail}
 use Rattle.ucon_syntax.proofs.Wholes.{policy_ends, sound_policy}
-use Rattle.ucon_syntax.proofs.Firsts.{SameMark, same_mark, mark_behind, length-bare, Split, split_bare, bare_plain, Inside, Behind, apart}
+use Rattle.ucon_syntax.proofs.Firsts.{same_mark, mark_behind, length-bare, Inside, Behind, apart}
 
 pub policy_finds : Finds a_policy policy_at
 policy_finds = (sound_policy {P = Unit {0}}).finds tt
@@ -64,9 +63,9 @@ no_cause level e = cc
 
 dead_end : (s : a_policy.Written) → a_policy.IsProper s → (x : Read) → policy_at (bare (a_policy.tokens s)) ≡ x → Dead x → ⊥
 dead_end s proper x e d = elim (whole_again s proper) [
-    | inl w ↦ (let c : Dead (Ok (a_policy.tree s, [])) = subst Dead (sym e ∙ w.gives) d in c)
-    | inr b ↦ no_cause b.limit (let c : Dead (Err (cause_of b.limit, as_token b.last ∷ bare b.behind)) = subst Dead (sym e ∙ breaks_at s b) d in c)
-  ]
+  | inl w ↦ (let c : Dead (Ok (a_policy.tree s, [])) = subst Dead (sym e ∙ w.gives) d in c)
+  | inr b ↦ no_cause b.limit (let c : Dead (Err (cause_of b.limit, as_token b.last ∷ bare b.behind)) = subst Dead (sym e ∙ breaks_at s b) d in c)
+]
 
 -- ---- a policy for the tokens, and back
 
@@ -84,9 +83,9 @@ all_found ts p e =
 
 spelled_reads : (ts : List Token) (p : PlainPolicy) → Spelled ts p → policy_at ts ≡ Ok (p, [])
 spelled_reads ts p s = elim (whole_again s.written s.proper) [
-    | inl w ↦ ap policy_at (sym s.tokens) ∙ w.gives ∙ ap (λ (q : PlainPolicy). Ok (q, [])) s.tree
-    | inr b ↦ never_clean s.written b.front b.last b.limit b.behind b.whole s.clean
-  ]
+  | inl w ↦ ap policy_at (sym s.tokens) ∙ w.gives ∙ ap (λ (q : PlainPolicy). Ok (q, [])) s.tree
+  | inr b ↦ never_clean s.written b.front b.last b.limit b.behind b.whole s.clean
+]
 
 pub all_again : (ts : List Token) (p : PlainPolicy) → Spelled ts p → whole_at ts ≡ Ok p
 unfolding whole_at
@@ -97,13 +96,13 @@ all_again ts p s = let e = spelled_reads ts p s in rw e refl
 -- a token that passes a limit is where reading stops
 pub reads_mark : (limit : Limit) (used : List Token) (t : Token) (r : List Token) → Passes limit used t → policy_at (used ++ t ∷ r) ≡ Err (cause_of limit, t ∷ r)
 reads_mark limit used t r p = elim (whole_again p.written p.proper) [
-    | inl w ↦ never_clean p.written p.front p.last limit p.behind p.whole w.clean
-    | inr b ↦
-        let s = same_mark p.front b.front p.last b.last limit b.limit p.behind b.behind p.clean b.clean (sym p.whole ∙ b.whole) in
-        let stands : Stands b.limit b.last t = (let P : Limit → Type 0 = λ l. Stands l b.last t in subst P s.limits (let Q : Terminal → Type 0 = λ u. Stands limit u t in subst Q s.terminals p.stands)) in
-        let same : used ≡ bare b.front = sym p.tokens ∙ ap bare s.fronts in
-        ap (λ l. policy_at (l ++ t ∷ r)) same ∙ b.stops t r stands ∙ ap (λ l. Err (cause_of l, t ∷ r)) (sym s.limits)
-  ]
+  | inl w ↦ never_clean p.written p.front p.last limit p.behind p.whole w.clean
+  | inr b ↦
+      let s = same_mark p.front b.front p.last b.last limit b.limit p.behind b.behind p.clean b.clean (sym p.whole ∙ b.whole) in
+      let stands : Stands b.limit b.last t = (let P : Limit → Type 0 = λ l. Stands l b.last t in subst P s.limits (let Q : Terminal → Type 0 = λ u. Stands limit u t in subst Q s.terminals p.stands)) in
+      let same : used ≡ bare b.front = sym p.tokens ∙ ap bare s.fronts in
+      ap (λ l. policy_at (l ++ t ∷ r)) same ∙ b.stops t r stands ∙ ap (λ l. Err (cause_of l, t ∷ r)) (sym s.limits)
+]
 
 alive_goes_on : (used : List Token) (t : Token) (r : List Token) (x : Read) → policy_at (used ++ t ∷ r) ≡ x → left x ≡ t ∷ r → ((after : List Token) → Dead (moved x (t ∷ after))) → IsAlive (used ++ t ∷ []) → ⊥
 alive_goes_on used t r x e l dead a =
@@ -154,9 +153,10 @@ cause_same c d l r e = let i : halted c l ≡ halted d r = cc in ap (λ (h : Hal
 
 unexpected_here : (used : List Token) (t : Token) (r : List Token) → policy_at (used ++ t ∷ r) ≡ Err (Unexpected, t ∷ r) → StopsAt unexpected used t None
 unfolding failed
-unexpected_here used t r e =
-    (alive_goes_on used t r (Err (Unexpected, t ∷ r)) e refl (λ after. refl),
-     λ p. no_cause operand (cause_same (cause_of operand) Unexpected (t ∷ r) (t ∷ r) (sym (reads_mark operand used t r p) ∙ e)))
+unexpected_here used t r e = (
+  alive_goes_on used t r (Err (Unexpected, t ∷ r)) e refl (λ after. refl),
+  λ p. no_cause operand (cause_same (cause_of operand) Unexpected (t ∷ r) (t ∷ r) (sym (reads_mark operand used t r p) ∙ e)),
+)
 
 stop_by : (s : a_policy.Written) (front behind : List Marked) (t : Token) (r : List Token) (c : Cause) (o : Option Flaw) → a_policy.tokens s ≡ front ++ behind → a_policy.IsProper s → IsClean front → Over c behind (t ∷ r) → policy_at (bare front ++ t ∷ r) ≡ Err (c, t ∷ r) → StopsAt (fault_name o c) (bare front) t o
 stop_by s front behind t r c (Some flaw) whole proper clean over e = refl
@@ -192,9 +192,10 @@ stopped_fault ts h e =
 -- a token behind a whole policy
 trailing_by : (used : List Token) (t : Token) (r : List Token) (p : PlainPolicy) (o : Option Flaw) → policy_at (used ++ t ∷ r) ≡ Ok (p, t ∷ r) → StopsAt (fault_name o Unexpected) used t o
 trailing_by used t r p (Some flaw) e = refl
-trailing_by used t r p None e =
-    (alive_goes_on used t r (Ok (p, t ∷ r)) e refl (λ after. tt),
-     λ q. let g = reads_mark operand used t r q in cc)
+trailing_by used t r p None e = (
+  alive_goes_on used t r (Ok (p, t ∷ r)) e refl (λ after. tt),
+  λ q. let g = reads_mark operand used t r q in cc,
+)
 
 trailing : (ts : List Token) (p : PlainPolicy) (t : Token) (r : List Token) → policy_at ts ≡ Ok (p, t ∷ r) → FirstFault (fault_name (flaw_in t) Unexpected) ts (t ∷ r)
 trailing ts p t r e =

@@ -1,12 +1,12 @@
 -- Expressions keep to their form.
-use Rattle.std.proofs.Common.{◌≡◌, ℕ, zero, suc, ◌<◌, Bool, true, false, cond, ◌⊎◌, inl, inr, List, [], ◌∷◌, drop, Option, Some, None, Result, Ok, Err, pos, codes, refl, sym, ap, ◌∙◌, subst, arith}
+use Rattle.std.proofs.Common.{◌≡◌, ℕ, zero, suc, ◌<◌, Bool, true, false, cond, inl, inr, List, [], ◌∷◌, drop, Option, Some, None, Result, Ok, Err, pos, codes, refl, sym, ap, ◌∙◌, subst, arith}
 use Rattle.std.specs.Str.{bytes_eq}
 use Rattle.std.proofs.lemmas.Slice.Eq.{bytes_eq-Decides}
 use Rattle.ucon_model.specs.declared.formula.Ref.{Ref}
 use Rattle.ucon_model.specs.declared.formula.Ref.TheVariants as refs
 use Rattle.ucon_model.specs.Plain.{Bytes, PlainExpr, lit, read, size}
 use Rattle.ucon_model.specs.Tokens.{Token, a_word, a_number, a_text, a_symbol, joined_word, flawed, the_end, Symbol, dot, minus_sign, open_round, close_round, open_curly}
-use Rattle.ucon_model.specs.Forms.{Terminal, word, symbol, as_token, Limit, level, Marked, opening, Form, no_form, before, mapped, either_of, at_any_depth}
+use Rattle.ucon_model.specs.Forms.{Terminal, word, symbol, as_token, level, Marked, opening, Form, no_form, before, mapped, either_of}
 use Rattle.ucon_model.specs.Grammar.{sign, a_literal, a_place, closed, factor_with, expr_with, expr_of_depth, an_expr}
 use Rattle.ucon_model.specs.Spells.{Stands}
 use Rattle.ucon_token.specs.declared.stop.Cause.TheVariants.{Unexpected, TooDeep}
@@ -17,13 +17,12 @@ use Rattle.ucon_syntax.specs.declared.starts.FactorStart.TheVariants as factors
 use Rattle.ucon_syntax.specs.Starts.{sum_sign, symbol_factor, word_factor, factor_start}
 use Rattle.ucon_syntax.specs.Literals.{literal_at}
 use Rattle.ucon_syntax.specs.Expressions.{place_at, round_with, factor_from, level as below, factor_at, term_at, expr_at}
-use Rattle.ucon_syntax.specs.Expressions as reading
 use Rattle.ucon_syntax.proofs.Steps.{chosen}
 use Rattle.ucon_syntax.proofs.Keeping.{Meets, Example}
-use Rattle.ucon_syntax.proofs.Local.{Runs, taking}
-use Rattle.ucon_syntax.proofs.Sound.{Sound, Anything, Tests, barred, sound_same, sound_ending, sound_nothing, sound_mapped, sound_meeting, sound_before, sound_barred, sound_either, sound_at_any_depth, sound_no_form, sound_under}
+use Rattle.ucon_syntax.proofs.Local.{taking}
+use Rattle.ucon_syntax.proofs.Sound.{Sound, Anything, Tests, sound_same, sound_nothing, sound_mapped, sound_meeting, sound_before, sound_barred, sound_either, sound_at_any_depth, sound_no_form, sound_under}
 use Rattle.ucon_syntax.proofs.Chained.{sound_chain}
-use Rattle.ucon_syntax.proofs.Words.{is_symbol_is, symbol_tests, sound_name}
+use Rattle.ucon_syntax.proofs.Words.{symbol_tests, sound_name}
 use Rattle.ucon_syntax.proofs.Values.{sound_literal}
 use Rattle.ucon_syntax.proofs.Operators.{products_chain, sums_chain, expr_ends}
 
@@ -253,11 +252,11 @@ sound_closed s ends x = sound_meeting x (λ y. sound_before (symbol_tests s) (so
 
 sound_factor : {P : Type 0} (room : ℕ) (inner : Form PlainExpr) {sized rounded : Reads PlainExpr} → Sound P (sized_form room inner) Anything sized → Sound P (round_form room inner) Anything rounded
     → Sound P (factor_with room inner) Anything (λ ts.
-        cond (is_literal (factor_start (first ts))) (literal_at ts >>= λ v. Ok (lit v.0, v.1))
-        (cond (is_subject (factor_start (first ts))) (took (is_subject (factor_start (first ts))) ts >>= λ a. place_at a >>= λ n. Ok (read (refs.Subject n.0), n.1))
-        (cond (is_object (factor_start (first ts))) (took (is_object (factor_start (first ts))) ts >>= λ a. place_at a >>= λ n. Ok (read (refs.Object n.0), n.1))
-        (cond (is_env (factor_start (first ts))) (took (is_env (factor_start (first ts))) ts >>= λ a. place_at a >>= λ n. Ok (read (refs.Env n.0), n.1))
-        (cond (is_size (factor_start (first ts))) (sized ts) (rounded ts))))))
+    cond (is_literal (factor_start (first ts))) (literal_at ts >>= λ v. Ok (lit v.0, v.1))
+    (cond (is_subject (factor_start (first ts))) (took (is_subject (factor_start (first ts))) ts >>= λ a. place_at a >>= λ n. Ok (read (refs.Subject n.0), n.1))
+    (cond (is_object (factor_start (first ts))) (took (is_object (factor_start (first ts))) ts >>= λ a. place_at a >>= λ n. Ok (read (refs.Object n.0), n.1))
+    (cond (is_env (factor_start (first ts))) (took (is_env (factor_start (first ts))) ts >>= λ a. place_at a >>= λ n. Ok (read (refs.Env n.0), n.1))
+    (cond (is_size (factor_start (first ts))) (sized ts) (rounded ts))))))
 unfolding factor_start is_literal is_subject is_object is_env is_size
 sound_factor room inner x y =
     sound_either (λ t. is_literal (factor_start t)) (λ s proper. literal_first s) (λ s proper. subject_first (λ t. is_literal (factor_start t) ≡ false) Anything room inner s refl refl refl refl refl) (sound_mapped (λ v. lit v) sound_literal)
@@ -286,8 +285,8 @@ unfolding expr_at term_at factor_at below
 sound_last inner example =
     sound_chain sums_chain (sound_chain products_chain (sound_same (factor_at 0) (λ ts. split_last (factor_start (first ts)) ts)
     (sound_factor 0 inner
-      (sound_barred level size_tests size_bars (λ holds. let e = example holds in record { written = (e.written, tt); proper = (e.proper, tt) }))
-      (sound_barred level round_tests round_bars (λ holds. let e = example holds in record { written = (e.written, tt); proper = (e.proper, tt) })))))
+    (sound_barred level size_tests size_bars (λ holds. let e = example holds in record { written = (e.written, tt); proper = (e.proper, tt) }))
+    (sound_barred level round_tests round_bars (λ holds. let e = example holds in record { written = (e.written, tt); proper = (e.proper, tt) })))))
 
 -- above the last
 sound_above : {P : Type 0} (room : ℕ) (inner : Form PlainExpr) → Sound P inner expr_ends (expr_at room) → Sound P (expr_with (factor_with (suc room) inner)) expr_ends (expr_at (suc room))
@@ -295,8 +294,8 @@ unfolding expr_at term_at factor_at below
 sound_above room inner x =
     sound_chain sums_chain (sound_chain products_chain (sound_same (factor_at (suc room)) (λ ts. split (expr_at room) (factor_start (first ts)) ts (round_symbol ts))
     (sound_factor (suc room) inner
-      (sound_before size_tests (sound_mapped (λ e. size e) (sound_before (symbol_tests open_round) (sound_closed close_round round_ends x))))
-      (sound_before round_tests (sound_closed close_round round_ends x)))))
+    (sound_before size_tests (sound_mapped (λ e. size e) (sound_before (symbol_tests open_round) (sound_closed close_round round_ends x))))
+    (sound_before round_tests (sound_closed close_round round_ends x)))))
 
 pub sound_level : (room depth : ℕ) → Sound (room < depth) (expr_of_depth depth room) expr_ends (expr_at room)
 sound_level zero zero = sound_last no_form (λ lt. absurd (omega arith))

@@ -23,5 +23,5 @@ pub mod Wholes
 pub mod Firsts
 pub mod Exact
 pub mod Only
-pub mod Whole
+pub mod TextsRead
 pub mod Counts

@@ -1,5 +1,5 @@
 -- Lists of items keep to their form.
-use Rattle.std.proofs.Common.{◌≡◌, ℕ, zero, suc, Bool, true, false, cond, ◌⊎◌, inl, inr, List, [], ◌∷◌, ◌++◌, drop, Option, Some, None, Result, Ok, Err, refl, sym, ap, ◌∙◌, append_assoc, subst}
+use Rattle.std.proofs.Common.{◌≡◌, ℕ, zero, suc, Bool, true, false, cond, inl, inr, List, [], ◌∷◌, ◌++◌, drop, Some, Result, Ok, Err, refl, sym, ap, ◌∙◌, append_assoc, subst}
 use Rattle.ucon_model.specs.Tokens.{Token}
 use Rattle.ucon_model.specs.Forms.{Terminal, as_token, Limit, Marked, Form, mapped, listed, Items, items_tokens, items_tree, AreProperItems, bare, IsClean}
 use Rattle.ucon_model.specs.Spells.{Stands}
@@ -8,8 +8,8 @@ use Rattle.ucon_token.specs.Tokens.{first}
 use Rattle.ucon_token.specs.Reading.{Halt, Reads, ◌>>=◌}
 use Rattle.ucon_syntax.specs.Lists.{items_at}
 use Rattle.ucon_syntax.proofs.Marks.{clean_append}
-use Rattle.ucon_syntax.proofs.Steps.{halted, outcome, bind_ok, bind_err, pair_is, ok_is, chosen, two_texts}
-use Rattle.ucon_syntax.proofs.Keeping.{cause_of, Found, Stopped, Outcome, Meets, meets_any}
+use Rattle.ucon_syntax.proofs.Steps.{halted, outcome, bind_ok, bind_err, pair_is, chosen, two_texts}
+use Rattle.ucon_syntax.proofs.Keeping.{cause_of, Found, Stopped, Outcome, meets_any}
 use Rattle.ucon_syntax.proofs.Local.{Runs, gives, halts, by_first, andthen, either_way}
 use Rattle.ucon_syntax.proofs.Outcomes.{Led, led_meets, led_append, over_more, followed, in_sequence, outcome_mapped, outcome_when}
 use Rattle.ucon_syntax.proofs.Sound.{Sound, Anything, at_halt}
@@ -149,7 +149,10 @@ items_again {A = A} {form = form} {count = count} {begins = begins} k zero (suc 
     let o = k.full n s.0 fits in
     let more = items_tokens form count m (count n ((form n).tree s.0)) s.1 in
     inr (record {
-      front = []; last = o.last; limit = o.limit; behind = o.more ++ more;
+      front = [];
+      last = o.last;
+      limit = o.limit;
+      behind = o.more ++ more;
       whole = ap (λ (l : List Marked). l ++ more) o.whole;
       clean = tt;
       stops = λ t r st. over_stop {B = List A} (begins t) (outcome [] (t ∷ r)) o.limit (t ∷ r) (led_at (λ u. begins u ≡ true) ((form n).tokens s.0) o.last o.limit o.more o.whole (k.led n s.0 proper.0) t st) o.cause;

@@ -1,11 +1,11 @@
 -- Reading sees no more than the token at which it stops.
-use Rattle.std.proofs.Common.{◌≡◌, ℕ, ◌≤◌, Bool, true, false, cond, List, [], ◌∷◌, ◌++◌, length, drop, Option, Some, None, Result, Ok, Err, refl, sym, ap, ◌∙◌, arith, append_assoc}
+use Rattle.std.proofs.Common.{◌≡◌, ◌≤◌, Bool, true, false, cond, List, [], ◌∷◌, ◌++◌, length, drop, Result, Ok, Err, refl, sym, ap, ◌∙◌, arith}
 use Rattle.std.proofs.lemmas.List.{length-append}
 use Rattle.ucon_model.specs.Tokens.{Token}
 use Rattle.ucon_token.specs.declared.stop.Cause.{Cause}
 use Rattle.ucon_token.specs.declared.stop.Cause.TheVariants.{Unexpected}
 use Rattle.ucon_token.specs.Tokens.{first}
-use Rattle.ucon_token.specs.Reading.{Halt, Reads, ◌>>=◌, taken}
+use Rattle.ucon_token.specs.Reading.{Halt, Reads, ◌>>=◌}
 
 -- a reader that looks at one token at a time
 pub data Program (A : Type 0) : Type 0 where

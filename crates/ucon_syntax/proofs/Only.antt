@@ -1,5 +1,5 @@
 -- The first fault is where reading stops.
-use Rattle.std.proofs.Common.{◌≡◌, ◌⊎◌, inl, inr, List, [], ◌∷◌, ◌++◌, length, length-append, drop, Option, Some, None, Result, Ok, Err, refl, sym, ap, ◌∙◌, append_assoc, subst, arith}
+use Rattle.std.proofs.Common.{◌≡◌, inl, inr, List, [], ◌∷◌, ◌++◌, length, drop, Option, Some, None, Ok, Err, refl, sym, ap, ◌∙◌, append_assoc, subst, arith}
 use Rattle.std.proofs.lemmas.List.{append-nil, append_cancel_right}
 use Rattle.ucon_model.specs.Plain.{PlainPolicy}
 use Rattle.ucon_model.specs.Tokens.{Token, Flaw}
@@ -9,12 +9,12 @@ use Rattle.ucon_model.specs.Spells.{Spelled, IsAlive, IsAliveWithin, IsJoined, S
 use Rattle.ucon_token.specs.declared.stop.Cause.{Cause}
 use Rattle.ucon_token.specs.declared.stop.Cause.TheVariants.{Unexpected, TooMany, TooDeep}
 use Rattle.ucon_token.specs.Tokens.{first}
-use Rattle.ucon_token.specs.Reading.{Halt, ◌>>=◌}
-use Rattle.ucon_syntax.specs.Policies.{policy_at, ended, whole_at}
+use Rattle.ucon_token.specs.Reading.{Halt}
+use Rattle.ucon_syntax.specs.Policies.{policy_at, whole_at}
 use Rattle.ucon_syntax.proofs.Marks.{clean_front, bare_append}
-use Rattle.ucon_syntax.proofs.Keeping.{cause_of, Found, Beyond, Over, Stopped}
+use Rattle.ucon_syntax.proofs.Keeping.{Beyond, Over}
 use Rattle.ucon_syntax.proofs.Local.{left}
-use Rattle.ucon_syntax.proofs.Firsts.{Split, split_bare, bare_plain, Behind}
+use Rattle.ucon_syntax.proofs.Firsts.{split_bare, bare_plain, Behind}
 use Rattle.ucon_syntax.proofs.Exact.{Read, policy_finds, reads_mark, fault_name, passes_at, nil_over, goes_past}
 
 -- what reading said, for a fault of this name

@@ -1,9 +1,9 @@
 -- The operators of chains.
 use Rattle.std.proofs.Common.{◌≡◌, Bool, true, false, ◌||◌, ◌⊎◌, inl, inr, List, [], ◌∷◌, drop, Option, Some, None, is_some, codes, refl, sym, ap, ◌∙◌, subst}
 use Rattle.std.proofs.lemmas.Slice.Eq.{bytes_eq-Decides}
-use Rattle.ucon_model.specs.Plain.{Bytes, PlainExpr, PlainFormula, times, both, either}
+use Rattle.ucon_model.specs.Plain.{Bytes, PlainExpr, times, both, either}
 use Rattle.ucon_model.specs.Tokens.{Token, a_word, a_number, a_text, a_symbol, joined_word, flawed, the_end, Symbol, plus_sign, minus_sign, star}
-use Rattle.ucon_model.specs.Forms.{Terminal, word, symbol, as_token, operand}
+use Rattle.ucon_model.specs.Forms.{word, symbol, as_token, operand}
 use Rattle.ucon_model.specs.Grammar.{SumSign, adding, subtracting, sum_token, sum_tree}
 use Rattle.ucon_model.specs.Spells.{Stands}
 use Rattle.ucon_token.specs.Tokens.{first, is_symbol, is_word, is_joined}
@@ -14,7 +14,7 @@ use Rattle.ucon_syntax.specs.Expressions.{products, sums_and_differences}
 use Rattle.ucon_syntax.specs.Formulas.{conjunctions, disjunctions}
 use Rattle.ucon_syntax.proofs.Sound.{Anything}
 use Rattle.ucon_syntax.proofs.Chained.{Chaining, Ends}
-use Rattle.ucon_syntax.proofs.Words.{is_symbol_is, is_word_is, symbol_tests, word_tests}
+use Rattle.ucon_syntax.proofs.Words.{is_symbol_is, is_word_is, word_tests}
 
 symbol_stands : (s : Symbol) (u : Token) → Stands operand (symbol s) u → u ≡ a_symbol s
 symbol_stands s u (inl e) = e
@@ -115,9 +115,9 @@ is_joined_is [] w e = absurd cc
 
 late_at : (w : Bytes) (ts : List Token) → is_late w (first ts) ≡ true → (o : Unit {0}) × (u : Token) × (ts ≡ u ∷ drop 1 ts) × Stands operand (word w) u
 late_at w ts e = elim (either_true (is_word (first ts) w) (is_joined (first ts) w) e) [
-    | inl h ↦ (tt, a_word w, is_word_is ts w h, inl refl)
-    | inr h ↦ (tt, joined_word w, is_joined_is ts w h, inr refl)
-  ]
+  | inl h ↦ (tt, a_word w, is_word_is ts w h, inl refl)
+  | inr h ↦ (tt, joined_word w, is_joined_is ts w h, inr refl)
+]
 
 late_word : (w : Bytes) → is_late w (a_word w) ≡ true
 unfolding is_word is_joined

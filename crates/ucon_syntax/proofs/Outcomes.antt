@@ -1,16 +1,14 @@
 -- How outcomes pass from parts to the whole.
-use Rattle.std.proofs.Common.{◌≡◌, Bool, true, false, cond, inl, inr, List, [], ◌∷◌, ◌++◌, drop, Option, Some, None, Result, Ok, Err, refl, sym, ap, ◌∙◌, append_assoc, subst}
+use Rattle.std.proofs.Common.{◌≡◌, Bool, true, false, cond, inl, inr, List, [], ◌∷◌, ◌++◌, Option, Some, None, Result, Ok, refl, sym, ap, ◌∙◌, append_assoc, subst}
 use Rattle.ucon_model.specs.Tokens.{Token}
 use Rattle.ucon_model.specs.Forms.{Terminal, as_token, Limit, Marked, bare, IsClean}
 use Rattle.ucon_model.specs.Spells.{Stands}
 use Rattle.ucon_token.specs.declared.stop.Cause.{Cause}
-use Rattle.ucon_token.specs.declared.stop.Cause.TheVariants.{Unexpected}
 use Rattle.ucon_token.specs.Tokens.{first}
 use Rattle.ucon_token.specs.Reading.{Halt, Reads, ◌>>=◌}
 use Rattle.ucon_syntax.proofs.Marks.{clean_append, clean_head}
 use Rattle.ucon_syntax.proofs.Steps.{bare_both}
-use Rattle.ucon_syntax.proofs.Keeping.{cause_of, Beyond, Over, Breaks, Repeats, Outcome, Meets, meets_rest, meets_stop}
-use Rattle.ucon_syntax.proofs.Local.{taking}
+use Rattle.ucon_syntax.proofs.Keeping.{Over, Outcome, Meets, meets_rest, meets_stop}
 
 -- not empty, and what stands there first is one of these
 abbrev pub Led : (Token → Type 0) → List Marked → Type 0
@@ -44,7 +42,10 @@ goes_on {A} p q ts x rest e = ap (λ (r : Result (A × List Token) Halt). r >>= 
 
 pub in_sequence : {A B : Type 0} (first_part second_part : List Marked) (x : A) (y : B) (E F : Token → Type 0) (p : Reads A) (q : A → Reads B) → Outcome first_part x E p → (IsClean first_part → Outcome second_part y F (q x)) → Meets E second_part F → Outcome (first_part ++ second_part) y F (followed p q)
 in_sequence {A} {B} a b x y E F p q (inr s) second meets = inr (record {
-  front = s.front; last = s.last; limit = s.limit; behind = s.behind ++ b;
+  front = s.front;
+  last = s.last;
+  limit = s.limit;
+  behind = s.behind ++ b;
   whole = ap (λ (l : List Marked). l ++ b) s.whole ∙ append_assoc s.front ((s.last, Some s.limit) ∷ s.behind) b;
   clean = s.clean;
   stops = λ t r st. ap (λ (r : Result (A × List Token) Halt). r >>= λ z. q z.0 z.1) (s.stops t r st);
@@ -57,7 +58,10 @@ in_sequence {A} {B} a b x y E F p q (inl s) second meets = go (second s.clean)
       on = λ rest f. ap (followed p q) (bare_both a b rest) ∙ goes_on p q (bare a ++ (bare b ++ rest)) x (bare b ++ rest) (s.on (bare b ++ rest) (meets_rest E F b rest meets f u.clean)) ∙ u.on rest f;
     })
     go (inr u) = inr (record {
-      front = a ++ u.front; last = u.last; limit = u.limit; behind = u.behind;
+      front = a ++ u.front;
+      last = u.last;
+      limit = u.limit;
+      behind = u.behind;
       whole = ap (λ (l : List Marked). a ++ l) u.whole ∙ sym (append_assoc a u.front ((u.last, Some u.limit) ∷ u.behind));
       clean = clean_append a u.front s.clean u.clean;
       stops = λ t r st. ap (followed p q) (bare_both a u.front (t ∷ r)) ∙ goes_on p q (bare a ++ (bare u.front ++ t ∷ r)) x (bare u.front ++ t ∷ r) (s.on (bare u.front ++ t ∷ r) (meets_stop E F b u.front u.last u.limit u.behind u.whole u.clean meets t r st)) ∙ u.stops t r st;
@@ -88,14 +92,24 @@ at_false b x y e = rw e refl
 pub outcome_when : {A : Type 0} (test : Token → Bool) (ms : List Marked) (x : A) (E : Token → Type 0) (p q : Reads A) → Meets (λ t. test t ≡ true) ms E → Outcome ms x E p → Outcome ms x E (λ ts. cond (test (first ts)) (p ts) (q ts))
 outcome_when test ms x E p q m (inl s) = inl (record { clean = s.clean; on = λ rest e. at_true (test (first (bare ms ++ rest))) (p (bare ms ++ rest)) (q (bare ms ++ rest)) (meets_rest (λ t. test t ≡ true) E ms rest m e s.clean) ∙ s.on rest e })
 outcome_when test ms x E p q m (inr s) = inr (record {
-  front = s.front; last = s.last; limit = s.limit; behind = s.behind; whole = s.whole; clean = s.clean;
+  front = s.front;
+  last = s.last;
+  limit = s.limit;
+  behind = s.behind;
+  whole = s.whole;
+  clean = s.clean;
   stops = λ t r st. at_true (test (first (bare s.front ++ t ∷ r))) (p (bare s.front ++ t ∷ r)) (q (bare s.front ++ t ∷ r)) (meets_stop (λ t. test t ≡ true) E ms s.front s.last s.limit s.behind s.whole s.clean m t r st) ∙ s.stops t r st;
 })
 
 pub outcome_unless : {A : Type 0} (test : Token → Bool) (ms : List Marked) (x : A) (E : Token → Type 0) (p q : Reads A) → Meets (λ t. test t ≡ false) ms E → Outcome ms x E q → Outcome ms x E (λ ts. cond (test (first ts)) (p ts) (q ts))
 outcome_unless test ms x E p q m (inl s) = inl (record { clean = s.clean; on = λ rest e. at_false (test (first (bare ms ++ rest))) (p (bare ms ++ rest)) (q (bare ms ++ rest)) (meets_rest (λ t. test t ≡ false) E ms rest m e s.clean) ∙ s.on rest e })
 outcome_unless test ms x E p q m (inr s) = inr (record {
-  front = s.front; last = s.last; limit = s.limit; behind = s.behind; whole = s.whole; clean = s.clean;
+  front = s.front;
+  last = s.last;
+  limit = s.limit;
+  behind = s.behind;
+  whole = s.whole;
+  clean = s.clean;
   stops = λ t r st. at_false (test (first (bare s.front ++ t ∷ r))) (p (bare s.front ++ t ∷ r)) (q (bare s.front ++ t ∷ r)) (meets_stop (λ t. test t ≡ false) E ms s.front s.last s.limit s.behind s.whole s.clean m t r st) ∙ s.stops t r st;
 })
 
@@ -103,7 +117,10 @@ outcome_unless test ms x E p q m (inr s) = inr (record {
 pub outcome_behind : {A : Type 0} (t : Terminal) (o : Option Limit) (ms : List Marked) (x : A) (E : Token → Type 0) (p q : Reads A) → o ≡ None → ((ts : List Token) → q (as_token t ∷ ts) ≡ p ts) → Outcome ms x E p → Outcome ((t, o) ∷ ms) x E q
 outcome_behind t o ms x E p q e takes (inl s) = inl (record { clean = clean_head t o ms e s.clean; on = λ rest f. takes (bare ms ++ rest) ∙ s.on rest f })
 outcome_behind t o ms x E p q e takes (inr s) = inr (record {
-  front = (t, o) ∷ s.front; last = s.last; limit = s.limit; behind = s.behind;
+  front = (t, o) ∷ s.front;
+  last = s.last;
+  limit = s.limit;
+  behind = s.behind;
   whole = ap (λ (l : List Marked). (t, o) ∷ l) s.whole;
   clean = clean_head t o s.front e s.clean;
   stops = λ u r st. takes (bare s.front ++ u ∷ r) ∙ s.stops u r st;

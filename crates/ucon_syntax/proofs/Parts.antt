@@ -1,21 +1,18 @@
 -- Attributes, variables, predicates and updates keep to their forms.
-use Rattle.std.proofs.Common.{◌≡◌, ℕ, Bool, true, false, cond, ◌⊎◌, inl, inr, List, [], ◌∷◌, drop, Option, Some, None, Result, Ok, Err, codes, refl, sym, ap, ◌∙◌, subst}
+use Rattle.std.proofs.Common.{◌≡◌, Bool, true, false, cond, inl, inr, List, drop, Some, None, Result, Ok, Err, codes, refl}
 use Rattle.ucon_base.specs.declared.value.Side.{Side}
-use Rattle.ucon_base.specs.declared.value.Kind.{Kind}
 use Rattle.ucon_base.specs.declared.value.Kind.TheVariants as kinds
-use Rattle.ucon_model.specs.declared.formula.Form.{Form as DutyForm}
 use Rattle.ucon_model.specs.declared.formula.Form.TheVariants as forms
-use Rattle.ucon_model.specs.declared.formula.Obligation.{Obligation}
 use Rattle.ucon_model.specs.declared.policy.AttrDecl.{AttrDecl}
 use Rattle.ucon_model.specs.declared.policy.EnvDecl.{EnvDecl}
 use Rattle.ucon_model.specs.declared.policy.Phase.{Phase}
 use Rattle.ucon_model.specs.declared.policy.When.{When}
 use Rattle.ucon_model.specs.Plain.{Bytes, PlainTest, authorisation, duty, condition, PlainPredicate, PlainUpdate}
-use Rattle.ucon_model.specs.Tokens.{Token, a_word, a_symbol, colon, semicolon, dot, dots, equal_sign}
-use Rattle.ucon_model.specs.Forms.{Terminal, word, as_token, Limit, item, clear, beyond, Form, nothing, one_of, before, and_then, mapped, either_of}
-use Rattle.ucon_model.specs.Grammar.{keyword, sign, a_name, a_number, an_int, a_literal, an_expr, a_formula, a_kind, side_token, SideCount, of_side, count_side, an_attr, a_named_text, a_party, a_duty_form, a_duty, phase_token, PhaseCount, of_phase, count_phase, labelled, a_pred, when_token, WhenCount, of_when, count_when, a_side, an_update}
+use Rattle.ucon_model.specs.Tokens.{Token, a_symbol, colon, semicolon, dot, dots, equal_sign}
+use Rattle.ucon_model.specs.Forms.{item, beyond, Form, nothing, one_of, before, and_then, mapped, either_of}
+use Rattle.ucon_model.specs.Grammar.{keyword, sign, a_name, a_number, an_int, a_literal, an_expr, a_formula, a_kind, side_token, SideCount, of_side, count_side, an_attr, a_party, a_duty_form, a_duty, phase_token, PhaseCount, of_phase, count_phase, labelled, a_pred, when_token, WhenCount, of_when, count_when, a_side, an_update}
 use Rattle.ucon_token.specs.declared.stop.Cause.TheVariants.{Unexpected}
-use Rattle.ucon_token.specs.Tokens.{first, is_symbol, is_word, is_joined}
+use Rattle.ucon_token.specs.Tokens.{first, is_word}
 use Rattle.ucon_token.specs.Reading.{Halt, Reads, ◌>>=◌, expect, taken, name_at, number_at}
 use Rattle.ucon_syntax.specs.declared.room.SideRoom.{SideRoom}
 use Rattle.ucon_syntax.specs.declared.room.PhaseRoom.{PhaseRoom}
@@ -24,17 +21,15 @@ use Rattle.ucon_syntax.specs.declared.starts.KindWord.TheVariants as kind_words
 use Rattle.ucon_syntax.specs.declared.starts.TestSort.{TestSort}
 use Rattle.ucon_syntax.specs.declared.starts.TestSort.TheVariants as sorts
 use Rattle.ucon_syntax.specs.declared.starts.DutyWord.TheVariants as duties
-use Rattle.ucon_syntax.specs.Starts.{sum_sign, side_of, phase_of, when_of, kind_word, test_sort, duty_word, name_in}
+use Rattle.ucon_syntax.specs.Starts.{side_of, phase_of, when_of, kind_word, test_sort, duty_word, name_in}
 use Rattle.ucon_syntax.specs.Literals.{literal_at}
 use Rattle.ucon_syntax.specs.Expressions.{expr_at}
-use Rattle.ucon_syntax.specs.Formulas.{formula_at}
 use Rattle.ucon_syntax.specs.Items.{take_side, take_phase, take_when, range_at, kind_from, kind_at, attr_at, env_at, form_from, form_at, some_name, party_at, duty_at, test_from, pred_at, update_at}
 use Rattle.ucon_syntax.proofs.Keeping.{Meets, Example}
 use Rattle.ucon_syntax.proofs.Local.{Runs, andthen, takes}
 use Rattle.ucon_syntax.proofs.Sound.{Sound, Anything, sound_retree, sound_same, sound_ending, sound_nothing, sound_mapped, sound_meeting, sound_then, sound_before, sound_either}
 use Rattle.ucon_syntax.proofs.Words.{symbol_tests, word_tests, sound_name, sound_number, sound_named_text}
 use Rattle.ucon_syntax.proofs.Values.{when_taken, sound_int, sound_literal}
-use Rattle.ucon_syntax.proofs.Operators.{expr_ends, formula_ends}
 use Rattle.ucon_syntax.proofs.Factors.{sound_expr}
 use Rattle.ucon_syntax.proofs.Units.{sound_formula, semicolon_ends}
 use Rattle.ucon_syntax.proofs.Rooms.{side_room, phase_room, when_room, sound_side, sound_counted_side, sound_counted_phase, sound_counted_when, counted_runs}

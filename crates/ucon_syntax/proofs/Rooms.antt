@@ -1,5 +1,5 @@
 -- Rooms that are left, beside what was counted.
-use Rattle.std.proofs.Common.{◌≡◌, ℕ, zero, suc, ◌+◌, ◌-◌, ◌<◌, ◌≤◌, ◌==◌, Bool, true, false, cond, ◌⊎◌, inl, inr, List, [], ◌∷◌, drop, Option, Some, None, option_map, Result, Ok, Err, codes, refl, sym, ap, ◌∙◌, arith, nat_lt, subst}
+use Rattle.std.proofs.Common.{◌≡◌, ℕ, suc, ◌+◌, ◌-◌, ◌<◌, ◌≤◌, ◌==◌, Bool, true, false, cond, ◌⊎◌, inl, inr, List, ◌∷◌, drop, Option, Some, None, option_map, Ok, codes, refl, sym, ap, ◌∙◌, arith, nat_lt, subst}
 use Rattle.std.proofs.lemmas.Bool.Decides.{nat_tests}
 use Rattle.ucon_base.specs.declared.value.Side.{Side}
 use Rattle.ucon_base.specs.declared.value.Side.TheVariants as sides
@@ -7,14 +7,13 @@ use Rattle.ucon_model.specs.declared.policy.Phase.{Phase}
 use Rattle.ucon_model.specs.declared.policy.Phase.TheVariants as phases
 use Rattle.ucon_model.specs.declared.policy.When.{When}
 use Rattle.ucon_model.specs.declared.policy.When.TheVariants as whens
-use Rattle.ucon_model.specs.Plain.{Bytes}
-use Rattle.ucon_model.specs.Tokens.{Token, a_word}
-use Rattle.ucon_model.specs.Forms.{Terminal, as_token, Limit, item, Marked, beyond, Form, mapped, one_of, IsClean}
+use Rattle.ucon_model.specs.Tokens.{Token}
+use Rattle.ucon_model.specs.Forms.{Terminal, as_token, Limit, item, Marked, beyond, mapped, one_of, IsClean}
 use Rattle.ucon_model.specs.Grammar.{side_token, SideCount, of_side, count_side, phase_token, PhaseCount, of_phase, count_phase, when_token, WhenCount, of_when, count_when}
 use Rattle.ucon_model.specs.Spells.{Stands}
 use Rattle.ucon_token.specs.declared.stop.Cause.TheVariants.{Unexpected, TooMany}
 use Rattle.ucon_token.specs.Tokens.{first, is_word}
-use Rattle.ucon_token.specs.Reading.{Halt, Reads, ◌>>=◌, taken}
+use Rattle.ucon_token.specs.Reading.{◌>>=◌, taken}
 use Rattle.ucon_syntax.specs.declared.room.SideRoom.{SideRoom}
 use Rattle.ucon_syntax.specs.declared.room.PhaseRoom.{PhaseRoom}
 use Rattle.ucon_syntax.specs.declared.room.WhenRoom.{WhenRoom}
@@ -22,9 +21,9 @@ use Rattle.ucon_syntax.specs.Starts.{side_of, phase_of, when_of}
 use Rattle.ucon_syntax.specs.Items.{less, take_side, take_phase, take_when, with_room, counted}
 use Rattle.ucon_syntax.proofs.Steps.{chosen}
 use Rattle.ucon_syntax.proofs.Local.{Runs, gives, halts, past, by_first}
-use Rattle.ucon_syntax.proofs.Sound.{Sound, Anything, Picks, unless_passed, picked, sound_same, sound_mapped, sound_picked, sound_taken}
+use Rattle.ucon_syntax.proofs.Sound.{Sound, Anything, unless_passed, picked, sound_same, sound_mapped, sound_picked, sound_taken}
 use Rattle.ucon_syntax.proofs.Chained.{mark_is}
-use Rattle.ucon_syntax.proofs.Words.{is_word_is, word_tests, no_mark}
+use Rattle.ucon_syntax.proofs.Words.{is_word_is, no_mark}
 
 -- ---- marks
 
@@ -57,9 +56,9 @@ Room taken passes left = ((taken ≡ Some left) × (passes ≡ None)) ⊎ ((take
 counted_is : {B S : Type 0} (take : B → S → Option S) (room : S) (passes : B → Option Limit) (left : B → S) → ((b : B) → Room (take b room) (passes b) (left b)) → (o : Option B) (ts : List Token) → counted take room o ts ≡ (picked passes o ts >>= λ b. Ok ((b.0, left b.0), b.1))
 counted_is take room passes left rooms None ts = refl
 counted_is take room passes left rooms (Some b) ts = elim (rooms b) [
-    | inl (t, p) ↦ ap (λ z. with_room b z ts) t ∙ sym (ap (λ m. unless_passed m b ts >>= λ b. Ok ((b.0, left b.0), b.1)) p)
-    | inr (t, p) ↦ ap (λ z. with_room b z ts) t ∙ sym (ap (λ m. unless_passed m b ts >>= λ b. Ok ((b.0, left b.0), b.1)) p)
-  ]
+  | inl (t, p) ↦ ap (λ z. with_room b z ts) t ∙ sym (ap (λ m. unless_passed m b ts >>= λ b. Ok ((b.0, left b.0), b.1)) p)
+  | inr (t, p) ↦ ap (λ z. with_room b z ts) t ∙ sym (ap (λ m. unless_passed m b ts >>= λ b. Ok ((b.0, left b.0), b.1)) p)
+]
 
 not_zero : (k m : ℕ) → k ≡ suc m → (k == 0) ≡ false
 not_zero k m e = grind (arith, nat_tests)
@@ -91,9 +90,9 @@ rest_of n = rest_by n (nat_lt n 16) refl
 
 room_by : {S : Type 0} (n : ℕ) (left : ℕ → S) → Room (option_map left (less (16 - n))) (beyond item 16 n) (left (16 - (n + 1)))
 room_by n left = elim (rest_of n) [
-    | inl (a, b) ↦ inl (ap (option_map left) a, ap (λ c. cond c None (Some item)) b)
-    | inr (a, b) ↦ inr (ap (option_map left) a, ap (λ c. cond c None (Some item)) b)
-  ]
+  | inl (a, b) ↦ inl (ap (option_map left) a, ap (λ c. cond c None (Some item)) b)
+  | inr (a, b) ↦ inr (ap (option_map left) a, ap (λ c. cond c None (Some item)) b)
+]
 
 -- ---- sides
 

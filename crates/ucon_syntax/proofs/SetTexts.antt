@@ -1,27 +1,26 @@
 -- The texts of a set keep to their form.
-use Rattle.std.proofs.Common.{◌≡◌, ℕ, zero, suc, ◌+◌, ◌≤◌, Bool, true, false, cond, ◌⊎◌, inl, inr, List, [], ◌∷◌, ◌++◌, length, length-append, take, drop, Option, Some, None, Result, Ok, Err, codes, refl, sym, ap, ◌∙◌, append_assoc, arith}
+use Rattle.std.proofs.Common.{◌≡◌, ℕ, zero, suc, ◌+◌, ◌≤◌, Bool, true, false, cond, ◌⊎◌, inl, inr, List, [], ◌∷◌, ◌++◌, length, length-append, take, drop, Option, Some, None, Result, Ok, Err, refl, sym, ap, ◌∙◌, append_assoc, arith}
 use Rattle.std.proofs.lemmas.Bool.{and_parts}
 use Rattle.std.proofs.lemmas.List.{take_all}
 use Rattle.std.proofs.Math.Seq.{take-append-add, take-append_seam}
 use Rattle.std.specs.Cmp.{nat_cmp_is}
-use Rattle.std.specs.declared.cmp.Ordering.{Ordering}
 use Rattle.std.specs.declared.cmp.Ordering.TheVariants.{Less, Equal}
-use Rattle.std.specs.Ordering.{nat_cmp, is_lt, ordering_then}
+use Rattle.std.specs.Ordering.{nat_cmp, is_lt}
 use Rattle.std.specs.Cmp.Lexicographic.{slice_cmp}
 use Rattle.ucon_base.specs.Value.{is_rising}
 use Rattle.ucon_model.specs.Plain.{Bytes}
 use Rattle.ucon_model.specs.Tokens.{Token, a_text, a_symbol, comma, close_curly}
-use Rattle.ucon_model.specs.Forms.{Terminal, text, symbol, as_token, Limit, item, Marked, clear, beyond, Form, nothing, before, either_of, bare, IsClean}
+use Rattle.ucon_model.specs.Forms.{text, Limit, item, Marked, beyond, Form, nothing, before, either_of, bare}
 use Rattle.ucon_model.specs.Grammar.{sign, more_texts}
 use Rattle.ucon_model.specs.Grammar as grammar
 use Rattle.ucon_model.specs.Spells.{Stands}
 use Rattle.ucon_token.specs.declared.stop.Cause.TheVariants.{Unexpected, TooMany}
 use Rattle.ucon_token.specs.Tokens.{first, is_symbol, text_of}
-use Rattle.ucon_token.specs.Reading.{Halt, Reads, ◌>>=◌, expect}
+use Rattle.ucon_token.specs.Reading.{Halt, ◌>>=◌, expect}
 use Rattle.ucon_syntax.specs.Literals.{member_from, member_at, behind_member, one_too_many, texts_at, set_at}
 use Rattle.ucon_syntax.proofs.Marks.{clean_head, not_beyond, is_beyond}
 use Rattle.ucon_syntax.proofs.Steps.{halted, outcome, bind_ok, bind_err, ok_is, pair_is, chosen}
-use Rattle.ucon_syntax.proofs.Keeping.{Found, Stopped, Outcome, Example}
+use Rattle.ucon_syntax.proofs.Keeping.{Found, Stopped, Outcome}
 use Rattle.ucon_syntax.proofs.Local.{Runs, gives, halts, past, by_first, andthen, either_way, takes}
 use Rattle.ucon_syntax.proofs.Sound.{Sound, Anything, at_halt, stops_here, sound_same, sound_nothing, sound_before, sound_either, taking_ok, taking_stops}
 use Rattle.ucon_syntax.proofs.Words.{is_symbol_is, symbol_tests, text_of_is}
@@ -149,15 +148,15 @@ texts_stopped zero k us is long rises ts h e =
     elim (late_err ts (text_of (first ts)) h e) [
       | inl (o, z) ↦ stops_here (members k us) ts h z (record { written = ([], []); proper = full_rises us ([] ∷ []) (omega (arith, is, long)) rises })
       | inr (t, o, z) ↦ at_halt (members k us) ts (halted TooMany ts) h z (record {
-          written = (t, []);
-          front = [];
-          behind = (text t, beyond item 64 k) ∷ sign close_curly ∷ [];
-          whole = refl;
-          text = refl;
-          proper = full_rises us (t ∷ []) (omega (arith, is, long)) rises;
-          clean = tt;
-          over = inr (record { limit = item; last = text t; more = sign close_curly ∷ []; token = a_text t; after = drop 1 ts; is_behind = ap (λ (o : Option Limit). (text t, o) ∷ sign close_curly ∷ []) (is_beyond item 64 k (omega (arith, is))); is_rest = text_of_is ts t o; stands = inl refl; cause = refl });
-        })
+        written = (t, []);
+        front = [];
+        behind = (text t, beyond item 64 k) ∷ sign close_curly ∷ [];
+        whole = refl;
+        text = refl;
+        proper = full_rises us (t ∷ []) (omega (arith, is, long)) rises;
+        clean = tt;
+        over = inr (record { limit = item; last = text t; more = sign close_curly ∷ []; token = a_text t; after = drop 1 ts; is_behind = ap (λ (o : Option Limit). (text t, o) ∷ sign close_curly ∷ []) (is_beyond item 64 k (omega (arith, is))); is_rest = text_of_is ts t o; stands = inl refl; cause = refl });
+      })
     ]
 texts_stopped (suc n) k us is long rises ts h e =
     let mark : beyond item 64 k ≡ None = not_beyond item 64 k (omega (arith, is)) in
@@ -182,15 +181,15 @@ texts_stopped (suc n) k us is long rises ts h e =
                 }
             | inr (c, w) ↦ elim (bind_err (expect close_curly b.1) (λ after. outcome b.0 after) h w) [
               | inl y ↦ at_halt (members k us) ts (halted Unexpected b.1) h (taking_stops (is_symbol (first b.1) close_curly) b.1 h y) (record {
-                  written = (m.one, []);
-                  front = (text m.one, beyond item 64 k) ∷ [];
-                  behind = sign close_curly ∷ [];
-                  whole = refl;
-                  text = m.text;
-                  proper = all_rise (us ++ m.one ∷ []) (omega (arith, is, long, length-append us (m.one ∷ []))) m.rises;
-                  clean = clean_head (text m.one) (beyond item 64 k) [] mark tt;
-                  over = inl refl;
-                })
+                written = (m.one, []);
+                front = (text m.one, beyond item 64 k) ∷ [];
+                behind = sign close_curly ∷ [];
+                whole = refl;
+                text = m.text;
+                proper = all_rise (us ++ m.one ∷ []) (omega (arith, is, long, length-append us (m.one ∷ []))) m.rises;
+                clean = clean_head (text m.one) (beyond item 64 k) [] mark tt;
+                over = inl refl;
+              })
               | inr (a, y, u) ↦ absurd cc
             ]
           ]
@@ -214,7 +213,10 @@ late_text us t u ts (inr e) = absurd e
 texts_again : (n k : ℕ) (us : List Bytes) → n + k ≡ 64 → length us ≡ k → (t : Bytes) (more : List Bytes) → is_rising (take 64 (us ++ t ∷ more)) ≡ true → Outcome ((members k us).tokens (t, more)) (us ++ t ∷ more) Anything (texts_at n us)
 unfolding is_symbol
 texts_again zero k us is long t more proper = inr (record {
-  front = []; last = text t; limit = item; behind = more_texts (suc k) more ++ sign close_curly ∷ [];
+  front = [];
+  last = text t;
+  limit = item;
+  behind = more_texts (suc k) more ++ sign close_curly ∷ [];
   whole = ap (λ (o : Option Limit). (text t, o) ∷ (more_texts (suc k) more ++ sign close_curly ∷ [])) (is_beyond item 64 k (omega (arith, is)));
   clean = tt;
   stops = λ u r s. late_text us t u r s;
@@ -231,15 +233,18 @@ texts_again (suc n) k us is long t (u ∷ more) proper =
     let mark : beyond item 64 k ≡ None = not_beyond item 64 k (omega (arith, is)) in
     elim (texts_again n (suc k) (us ++ t ∷ []) (omega (arith, is)) (omega (arith, long, length-append us (t ∷ []))) u more (ap (λ (l : List Bytes). is_rising (take 64 l)) (sym same) ∙ proper)) [
       | inl g ↦ inl (record {
-          clean = clean_head (text t) (beyond item 64 k) (more_texts (suc k) (u ∷ more) ++ sign close_curly ∷ []) mark g.clean;
-          on = λ rest e. after_text n us t (a_symbol comma ∷ (bare ((members (suc k) (us ++ t ∷ [])).tokens (u, more)) ++ rest)) rises ∙ g.on rest e ∙ ap (λ (l : List Bytes). outcome l rest) (sym same);
-        })
+        clean = clean_head (text t) (beyond item 64 k) (more_texts (suc k) (u ∷ more) ++ sign close_curly ∷ []) mark g.clean;
+        on = λ rest e. after_text n us t (a_symbol comma ∷ (bare ((members (suc k) (us ++ t ∷ [])).tokens (u, more)) ++ rest)) rises ∙ g.on rest e ∙ ap (λ (l : List Bytes). outcome l rest) (sym same);
+      })
       | inr g ↦ inr (record {
-          front = (text t, beyond item 64 k) ∷ sign comma ∷ g.front; last = g.last; limit = g.limit; behind = g.behind;
-          whole = ap (λ (l : List Marked). (text t, beyond item 64 k) ∷ sign comma ∷ l) g.whole;
-          clean = clean_head (text t) (beyond item 64 k) (sign comma ∷ g.front) mark g.clean;
-          stops = λ v r s. after_text n us t (a_symbol comma ∷ (bare g.front ++ v ∷ r)) rises ∙ g.stops v r s;
-        })
+        front = (text t, beyond item 64 k) ∷ sign comma ∷ g.front;
+        last = g.last;
+        limit = g.limit;
+        behind = g.behind;
+        whole = ap (λ (l : List Marked). (text t, beyond item 64 k) ∷ sign comma ∷ l) g.whole;
+        clean = clean_head (text t) (beyond item 64 k) (sign comma ∷ g.front) mark g.clean;
+        stops = λ v r s. after_text n us t (a_symbol comma ∷ (bare g.front ++ v ∷ r)) rises ∙ g.stops v r s;
+      })
     ]
 
 member_runs : (us : List Bytes) → Runs (member_at us)

@@ -1,16 +1,14 @@
 -- A reader keeps to a form of the grammar, and how that passes from parts to the whole.
-use Rattle.std.proofs.Common.{◌≡◌, ℕ, Bool, true, false, cond, ◌⊎◌, inl, inr, List, [], ◌∷◌, ◌++◌, drop, Option, Some, None, Result, Ok, Err, refl, sym, ap, ◌∙◌, append_assoc, subst}
-use Rattle.std.proofs.lemmas.List.{append-nil}
+use Rattle.std.proofs.Common.{◌≡◌, ℕ, Bool, true, false, cond, inl, inr, List, [], ◌∷◌, ◌++◌, drop, Option, Some, None, Result, Ok, Err, refl, sym, ap, ◌∙◌, append_assoc, subst}
 use Rattle.ucon_model.specs.Tokens.{Token}
-use Rattle.ucon_model.specs.Forms.{Terminal, as_token, Limit, Marked, clear, Form, nothing, no_form, one_of, before, and_then, mapped, either_of, at_any_depth, bare, IsClean}
+use Rattle.ucon_model.specs.Forms.{Terminal, as_token, Limit, Marked, clear, Form, nothing, no_form, one_of, before, and_then, mapped, either_of, at_any_depth, bare}
 use Rattle.ucon_model.specs.Spells.{Stands}
-use Rattle.ucon_token.specs.declared.stop.Cause.{Cause}
 use Rattle.ucon_token.specs.declared.stop.Cause.TheVariants.{Unexpected}
 use Rattle.ucon_token.specs.Tokens.{first}
 use Rattle.ucon_token.specs.Reading.{Halt, Reads, ◌>>=◌, taken}
 use Rattle.ucon_syntax.proofs.Marks.{clean_append, clean_head}
 use Rattle.ucon_syntax.proofs.Steps.{halted, outcome, bind_ok, bind_err, pair_is, chosen, two_texts}
-use Rattle.ucon_syntax.proofs.Keeping.{cause_of, Found, Beyond, Over, Stopped, Example, Finds, Breaks, Repeats, Outcome, Again, Meets, meets_any}
+use Rattle.ucon_syntax.proofs.Keeping.{cause_of, Found, Stopped, Example, Finds, Outcome, Again, Meets, meets_any}
 use Rattle.ucon_syntax.proofs.Local.{Runs, gives, halts, past, by_first, andthen, either_way, taking, takes, runs_same}
 use Rattle.ucon_syntax.proofs.Outcomes.{over_more, followed, in_sequence, outcome_as, outcome_same, outcome_ending, outcome_mapped, outcome_when, outcome_unless, outcome_behind}
 
@@ -201,9 +199,15 @@ sound_barred {A} {P} {X} {E} {t} {test} limit k stands x = record {
     ];
     stopped = λ ts h e. elim (chosen (test (first ts)) (Err (cause_of limit, ts)) (Err (Unexpected, ts)) (failed h) e) [
       | inl (b, z) ↦ at_halt (before (t, Some limit) X) ts (halted (cause_of limit) ts) h (failure_is (halted (cause_of limit) ts) h z) (record {
-          written = (x holds).written; front = []; behind = (t, Some limit) ∷ X.tokens (x holds).written; whole = refl; text = refl; proper = (x holds).proper; clean = tt;
-          over = inr (record { limit = limit; last = t; more = X.tokens (x holds).written; token = as_token t; after = drop 1 ts; is_behind = refl; is_rest = k.is ts b; stands = inl refl; cause = refl });
-        })
+        written = (x holds).written;
+        front = [];
+        behind = (t, Some limit) ∷ X.tokens (x holds).written;
+        whole = refl;
+        text = refl;
+        proper = (x holds).proper;
+        clean = tt;
+        over = inr (record { limit = limit; last = t; more = X.tokens (x holds).written; token = as_token t; after = drop 1 ts; is_behind = refl; is_rest = k.is ts b; stands = inl refl; cause = refl });
+      })
       | inr (b, z) ↦ stops_here (before (t, Some limit) X) ts h (failure_is (halted Unexpected ts) h z) (record { written = (x holds).written; proper = (x holds).proper })
     ];
   };
@@ -257,7 +261,13 @@ picked_found {passes = passes} k ts x rest (Some b) is z = passed_found k ts x b
 passed_stopped : {B : Type 0} {token : B → Terminal} {passes : B → Option Limit} {IsAllowed : B → Type 0} {pick : Token → Option B} (k : Picks token passes IsAllowed pick) (ts : List Token) (b : B) (h : Halt) (o : Option Limit) → pick (first ts) ≡ Some b → passes b ≡ o → unless_passed o b ts ≡ Err h → Stopped (one_of token passes IsAllowed) ts h
 passed_stopped k ts b h None is e z = absurd cc
 passed_stopped {B} {token} {passes} {IsAllowed} k ts b h (Some l) is e z = at_halt (one_of token passes IsAllowed) ts (halted (cause_of l) ts) h (err_is {B = B} (halted (cause_of l) ts) h z) (record {
-  written = b; front = []; behind = (token b, passes b) ∷ []; whole = refl; text = refl; proper = k.allowed (first ts) b is; clean = tt;
+  written = b;
+  front = [];
+  behind = (token b, passes b) ∷ [];
+  whole = refl;
+  text = refl;
+  proper = k.allowed (first ts) b is;
+  clean = tt;
   over = inr (record { limit = l; last = token b; more = []; token = as_token (token b); after = drop 1 ts; is_behind = ap (λ (o : Option Limit). (token b, o) ∷ []) e; is_rest = k.is ts b is; stands = inl refl; cause = refl });
 })
 
@@ -271,7 +281,12 @@ picked_on passes pick t ts b o e f = ap (λ z. picked passes z (t ∷ ts)) e ∙
 picked_again : {B : Type 0} {token : B → Terminal} {passes : B → Option Limit} {IsAllowed : B → Type 0} {pick : Token → Option B} (k : Picks token passes IsAllowed pick) (b : B) (o : Option Limit) → passes b ≡ o → IsAllowed b → Outcome ((token b, passes b) ∷ []) b Anything (λ ts. picked passes (pick (first ts)) ts)
 picked_again {B} {token} {passes} {pick = pick} k b None e allowed = inl (record { clean = clean_head (token b) (passes b) [] e tt; on = λ rest f. picked_on passes pick (as_token (token b)) rest b None (k.again b allowed) e })
 picked_again {B} {token} {passes} {pick = pick} k b (Some l) e allowed = inr (record {
-  front = []; last = token b; limit = l; behind = []; whole = ap (λ (o : Option Limit). (token b, o) ∷ []) e; clean = tt;
+  front = [];
+  last = token b;
+  limit = l;
+  behind = [];
+  whole = ap (λ (o : Option Limit). (token b, o) ∷ []) e;
+  clean = tt;
   stops = λ u r st. let same = k.alone b l e u st in picked_on passes pick u r b (Some l) (ap pick same ∙ k.again b allowed) e;
 })
 

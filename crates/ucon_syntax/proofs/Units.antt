@@ -1,14 +1,13 @@
 -- Formulas keep to their form.
-use Rattle.std.proofs.Common.{◌≡◌, ℕ, zero, suc, ◌<◌, Bool, true, false, cond, ◌⊎◌, inl, inr, List, [], ◌∷◌, ◌++◌, drop, Option, Some, None, Result, Ok, Err, pos, codes, refl, sym, ap, ◌∙◌, arith}
+use Rattle.std.proofs.Common.{◌≡◌, ℕ, zero, suc, ◌<◌, Bool, true, false, cond, inl, inr, List, [], ◌∷◌, drop, Some, None, Result, Ok, Err, pos, codes, refl, ap, ◌∙◌, arith}
 use Rattle.std.specs.Str.{bytes_eq}
 use Rattle.std.proofs.lemmas.Slice.Eq.{bytes_eq-Decides}
 use Rattle.ucon_model.specs.declared.formula.Op.{Op}
 use Rattle.ucon_model.specs.declared.formula.Op.TheVariants as ops
-use Rattle.ucon_model.specs.declared.formula.Ref.TheVariants as refs
 use Rattle.ucon_model.specs.Plain.{Bytes, PlainExpr, PlainFormula, negation, compare, lasts}
 use Rattle.ucon_model.specs.Tokens.{Token, a_word, a_number, a_text, a_symbol, joined_word, flawed, the_end, Symbol, equal_sign, unequal_sign, less_sign, at_most_sign, greater_sign, at_least_sign, open_round, close_round, open_square, close_square, semicolon}
-use Rattle.ucon_model.specs.Forms.{Terminal, word, symbol, as_token, Limit, level, Marked, opening, Form, no_form, before, mapped, either_of, at_any_depth}
-use Rattle.ucon_model.specs.Grammar.{keyword, sign, a_number as numbers, a_literal, a_place, closed, factor_with, term_with, expr_with, expr_of_depth, op_token, an_op, comparison_of, formula_with, unit_with, unit_of_depth, a_formula, one_less}
+use Rattle.ucon_model.specs.Forms.{Terminal, word, symbol, as_token, level, Marked, opening, Form, no_form, before, mapped, either_of}
+use Rattle.ucon_model.specs.Grammar.{keyword, sign, a_number as numbers, a_literal, closed, factor_with, term_with, expr_with, expr_of_depth, op_token, an_op, comparison_of, formula_with, unit_with, unit_of_depth, a_formula, one_less}
 use Rattle.ucon_model.specs.Spells.{Stands}
 use Rattle.ucon_token.specs.declared.stop.Cause.TheVariants.{Unexpected, TooDeep}
 use Rattle.ucon_token.specs.Tokens.{first, is_symbol, is_word, is_joined}
@@ -22,9 +21,9 @@ use Rattle.ucon_syntax.specs.Formulas as reading
 use Rattle.ucon_syntax.proofs.Steps.{chosen}
 use Rattle.ucon_syntax.proofs.Keeping.{Meets, Example}
 use Rattle.ucon_syntax.proofs.Outcomes.{Led, led_meets, led_append}
-use Rattle.ucon_syntax.proofs.Sound.{Sound, Anything, Tests, Picks, sound_same, sound_ending, sound_mapped, sound_meeting, sound_then, sound_before, sound_barred, sound_taken, sound_either, sound_at_any_depth, sound_no_form, sound_under}
+use Rattle.ucon_syntax.proofs.Sound.{Sound, Anything, Tests, sound_same, sound_ending, sound_mapped, sound_meeting, sound_then, sound_before, sound_barred, sound_taken, sound_either, sound_at_any_depth, sound_no_form, sound_under}
 use Rattle.ucon_syntax.proofs.Chained.{sound_chain}
-use Rattle.ucon_syntax.proofs.Words.{is_symbol_is, is_word_is, symbol_tests, word_tests, no_mark, sound_number}
+use Rattle.ucon_syntax.proofs.Words.{is_symbol_is, is_word_is, no_mark, sound_number}
 use Rattle.ucon_syntax.proofs.Operators.{conjunctions_chain, disjunctions_chain, expr_ends, formula_ends, word_ends_expr}
 use Rattle.ucon_syntax.proofs.Factors.{meets_opening, sound_closed, sound_level}
 
@@ -238,9 +237,9 @@ from_square_first test depth room inner F (inr s) o a b = from_lasts_first test 
 
 sound_unit : {P : Type 0} (depth room : ℕ) (inner : Form PlainFormula) {inverted squared compared : Reads PlainFormula} → Sound P (inverted_form room inner) expr_ends inverted → Sound P (square_form room inner) Anything squared → Sound P (comparison_of (expr_of_depth depth room)) expr_ends compared
     → Sound P (unit_with room inner (comparison_of (expr_of_depth depth room))) expr_ends (λ ts.
-        cond (is_not (unit_start (first ts))) (inverted ts)
-        (cond (is_square (unit_start (first ts))) (squared ts)
-        (cond (is_lasts (unit_start (first ts))) (took (is_lasts (unit_start (first ts))) ts >>= λ a. number_at a >>= λ n. Ok (lasts n.0, n.1)) (compared ts))))
+    cond (is_not (unit_start (first ts))) (inverted ts)
+    (cond (is_square (unit_start (first ts))) (squared ts)
+    (cond (is_lasts (unit_start (first ts))) (took (is_lasts (unit_start (first ts))) ts >>= λ a. number_at a >>= λ n. Ok (lasts n.0, n.1)) (compared ts))))
 unfolding unit_start is_not is_square is_lasts is_word is_symbol
 sound_unit depth room inner x y z =
     sound_either (λ t. is_not (unit_start t)) (λ s proper. meets_opening (λ t. is_not (unit_start t) ≡ true) expr_ends room (word (codes "not")) (inner.tokens s) refl) (λ s proper. from_square_first is_not depth room inner expr_ends s refl refl refl) x
@@ -274,9 +273,9 @@ unfolding unit_at unit_level
 sound_last depth inner example compared =
     sound_same (unit_at 0) (λ ts. split_last (compare_at 0) (unit_start (first ts)) ts)
     (sound_unit depth 0 inner
-      (sound_barred level not_tests not_bars (λ holds. let e = example holds in record { written = e.written; proper = e.proper }))
-      (sound_barred level square_tests square_bars (λ holds. let e = example holds in record { written = (((e.written, []), []), tt); proper = (((e.proper, tt), tt), tt) }))
-      (sound_compare (expr_of_depth depth 0) 0 compared))
+    (sound_barred level not_tests not_bars (λ holds. let e = example holds in record { written = e.written; proper = e.proper }))
+    (sound_barred level square_tests square_bars (λ holds. let e = example holds in record { written = (((e.written, []), []), tt); proper = (((e.proper, tt), tt), tt) }))
+    (sound_compare (expr_of_depth depth 0) 0 compared))
 
 -- above the last
 sound_above : {P : Type 0} (depth room : ℕ) (inner : Form PlainFormula) → Sound P inner expr_ends (unit_at room) → Sound P (expr_of_depth depth (suc room)) expr_ends (expr_at (suc room)) → Sound P (unit_with (suc room) inner (comparison_of (expr_of_depth depth (suc room)))) expr_ends (unit_at (suc room))
@@ -284,9 +283,9 @@ unfolding unit_at unit_level
 sound_above depth room inner x compared =
     sound_same (unit_at (suc room)) (λ ts. split (unit_at room) (compare_at (suc room)) (unit_start (first ts)) ts (square_at ts))
     (sound_unit depth (suc room) inner
-      (sound_before not_tests (sound_mapped (λ f. negation f) x))
-      (sound_before square_tests (sound_closed close_square square_ends (sound_chains x)))
-      (sound_compare (expr_of_depth depth (suc room)) (suc room) compared))
+    (sound_before not_tests (sound_mapped (λ f. negation f) x))
+    (sound_before square_tests (sound_closed close_square square_ends (sound_chains x)))
+    (sound_compare (expr_of_depth depth (suc room)) (suc room) compared))
 
 unit_sound : (room depth : ℕ) → Sound (room < depth) (unit_of_depth depth room) expr_ends (unit_at room)
 unit_sound zero zero = sound_last 0 no_form (λ lt. absurd (omega arith)) (sound_level 0 0)

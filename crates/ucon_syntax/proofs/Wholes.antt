@@ -1,5 +1,5 @@
 -- Lists of items, rights and policies keep to their forms.
-use Rattle.std.proofs.Common.{◌≡◌, ℕ, zero, suc, ◌+◌, ◌<◌, ◌≤◌, Bool, true, false, ◌⊎◌, inl, inr, List, [], ◌∷◌, drop, Option, Some, None, is_some, Result, Ok, Err, codes, refl, sym, ap, ◌∙◌, subst, arith}
+use Rattle.std.proofs.Common.{◌≡◌, ℕ, zero, suc, ◌+◌, ◌<◌, ◌≤◌, Bool, true, false, List, ◌∷◌, drop, Option, Some, None, is_some, Result, codes, refl, sym, ap, ◌∙◌, subst, arith}
 use Rattle.ucon_base.specs.declared.value.Side.{Side}
 use Rattle.ucon_base.specs.declared.value.Side.TheVariants as sides
 use Rattle.ucon_model.specs.declared.policy.AttrDecl.{AttrDecl}
@@ -8,19 +8,19 @@ use Rattle.ucon_model.specs.declared.policy.Phase.{Phase}
 use Rattle.ucon_model.specs.declared.policy.Phase.TheVariants as phases
 use Rattle.ucon_model.specs.declared.policy.When.{When}
 use Rattle.ucon_model.specs.declared.policy.When.TheVariants as whens
-use Rattle.ucon_model.specs.Plain.{Bytes, PlainPredicate, PlainUpdate, PlainRight, PlainPolicy}
+use Rattle.ucon_model.specs.Plain.{Bytes, PlainPredicate, PlainRight, PlainPolicy}
 use Rattle.ucon_model.specs.Tokens.{Token, a_word, a_symbol, open_curly, close_curly}
-use Rattle.ucon_model.specs.Forms.{Terminal, word, as_token, Limit, item, Marked, beyond, Form, nothing, before, and_then, mapped, listed, IsClean}
+use Rattle.ucon_model.specs.Forms.{Terminal, word, as_token, Limit, item, Marked, beyond, Form, nothing, before, and_then, mapped}
 use Rattle.ucon_model.specs.Grammar.{keyword, sign, a_name, side_token, SideCount, of_side, count_side, an_attr, attrs, an_env, envs, phase_token, PhaseCount, of_phase, count_phase, a_pred, preds, when_token, WhenCount, of_when, count_when, an_update, updates, a_right, rights, a_policy}
-use Rattle.ucon_token.specs.Tokens.{first, is_symbol, is_word}
-use Rattle.ucon_token.specs.Reading.{Halt, Reads, ◌>>=◌, expect, name_at}
+use Rattle.ucon_token.specs.Tokens.{first, is_word}
+use Rattle.ucon_token.specs.Reading.{Halt}
 use Rattle.ucon_syntax.specs.Starts.{phase_of, when_of}
-use Rattle.ucon_syntax.specs.Lists.{items_at, alone}
+use Rattle.ucon_syntax.specs.Lists.{alone}
 use Rattle.ucon_syntax.specs.Items.{attr_at, env_at, pred_at, update_at, begins_pred, begins_update}
 use Rattle.ucon_syntax.specs.Policies.{preds_at, updates_at, right_at, attrs_at, envs_at, rights_at, policy_at}
 use Rattle.ucon_syntax.proofs.Marks.{not_beyond, is_beyond}
-use Rattle.ucon_syntax.proofs.Keeping.{Meets, Example}
-use Rattle.ucon_syntax.proofs.Local.{Runs, gives, andthen}
+use Rattle.ucon_syntax.proofs.Keeping.{Meets}
+use Rattle.ucon_syntax.proofs.Local.{gives, andthen}
 use Rattle.ucon_syntax.proofs.Outcomes.{Led, led_head}
 use Rattle.ucon_syntax.proofs.Sound.{Sound, Anything, sound_ending, sound_nothing, sound_mapped, sound_meeting, sound_then, sound_before}
 use Rattle.ucon_syntax.proofs.Listed.{Over, OverAt, Listing, sound_listed}

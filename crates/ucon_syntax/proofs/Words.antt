@@ -1,18 +1,20 @@
 -- Single tokens.
-use Rattle.std.proofs.Common.{◌≡◌, ℕ, zero, suc, Bool, true, false, cond, inl, inr, List, [], ◌∷◌, drop, Option, Some, None, Ok, is_none, ℤ, pos, codes, refl, sym, ap, ◌∙◌, eq-eqb}
-use Rattle.std.specs.Str.{bytes_eq}
+use Rattle.std.proofs.Common.{◌≡◌, ℕ, zero, suc, Bool, true, false, cond, not, ◌&&◌, ◌==◌, nat_lt, nat_le, List, [], ◌∷◌, length, drop, Option, Some, None, option_map, Ok, is_none, ℤ, pos, codes, refl, sym, ap, ◌∙◌, eq-eqb, arith}
 use Rattle.std.proofs.lemmas.Slice.Eq.{bytes_eq-Decides}
 use Rattle.std.proofs.lemmas.Bool.{eqb-true}
+use Rattle.std.proofs.lemmas.Bool.Decides.{nat_tests}
 use Rattle.ucon_base.specs.Name.{first_fault}
+use Rattle.ucon_base.specs.NameBytes.{bad_place, is_name}
+use Rattle.ucon_base.specs.declared.name.NameFault.TheVariants.{Empty, TooLong, BadByte}
 use Rattle.ucon_model.specs.Plain.{Bytes}
 use Rattle.ucon_model.specs.Tokens.{Token, a_word, a_number, a_text, a_symbol, joined_word, flawed, the_end, Symbol, colon, semicolon, comma, dot, dots, equal_sign, unequal_sign, less_sign, at_most_sign, greater_sign, at_least_sign, plus_sign, minus_sign, star, open_round, close_round, open_square, close_square, open_curly, close_curly}
-use Rattle.ucon_model.specs.Forms.{Terminal, word, number, text, symbol, mapped, as_token, Limit}
+use Rattle.ucon_model.specs.Forms.{word, symbol, mapped, Limit}
 use Rattle.ucon_model.specs.Grammar as grammar
 use Rattle.ucon_token.specs.Tokens.{code, first, is_symbol, is_word, word_of, number_of, text_of}
-use Rattle.ucon_token.specs.Reading.{Reads, ◌>>=◌, taken, name_at, number_at, text_at}
+use Rattle.ucon_token.specs.Reading.{◌>>=◌, taken, name_at, number_at, text_at}
 use Rattle.ucon_syntax.specs.Items.{some_name}
 use Rattle.ucon_syntax.specs.Starts.{if_name, name_in}
-use Rattle.ucon_syntax.proofs.Sound.{Sound, Anything, Tests, Picks, sound_same, sound_mapped, sound_taken}
+use Rattle.ucon_syntax.proofs.Sound.{Sound, Anything, Tests, sound_same, sound_mapped, sound_taken}
 
 -- which symbol has a code
 symbol_with : ℕ → Symbol
@@ -139,6 +141,27 @@ pub sound_text : {P : Type 0} → Sound P grammar.a_text Anything text_at
 unfolding text_of
 sound_text {P} = sound_taken {pick = text_of} (record { is = text_of_is; allowed = λ t b e. tt; again = λ b a. refl; alone = λ b l e u s. no_mark l e; one = []; one_allowed = tt })
 
+zero_test : (n : ℕ) (b : Bool) → (n == 0) ≡ b → nat_lt 0 n ≡ not b
+zero_test n true e = grind (arith, nat_tests)
+zero_test n false e = grind (arith, nat_tests)
+
+most_test : (n : ℕ) (b : Bool) → nat_lt 32 n ≡ b → nat_le n 32 ≡ not b
+most_test n true e = grind (arith, nat_tests)
+most_test n false e = grind (arith, nat_tests)
+
+tests_same : (a b : Bool) (n : ℕ) (o : Option ℕ) → (not a && not b && is_none o) ≡ is_none (cond a (Some Empty) (cond b (Some (TooLong n)) (option_map BadByte o)))
+tests_same true b n o = refl
+tests_same false true n o = refl
+tests_same false false n None = refl
+tests_same false false n (Some i) = refl
+
+-- what has no fault is a name
+name_test : (t : Bytes) → is_name t ≡ is_none (first_fault t)
+name_test t =
+    ap (λ (z : Bool). z && nat_le (length t) 32 && is_none (bad_place t)) (zero_test (length t) (length t == 0) refl)
+    ∙ ap (λ (z : Bool). not (length t == 0) && z && is_none (bad_place t)) (most_test (length t) (nat_lt 32 (length t)) refl)
+    ∙ tests_same (length t == 0) (nat_lt 32 (length t)) (length t) (bad_place t)
+
 if_name_is : (o : Option Bytes) (n : Bytes) → if_name o ≡ Some n → (o ≡ Some n) × (is_none (first_fault n) ≡ true)
 if_name_is None n e = absurd cc
 if_name_is (Some t) n e = go (is_none (first_fault t)) refl e
@@ -155,13 +178,13 @@ name_in_is : (ts : List Token) (n : Bytes) → name_in (first ts) ≡ Some n →
 unfolding name_in
 name_in_is ts n e = text_of_is ts n (if_name_is (text_of (first ts)) n e).0
 
-name_in_allowed : (t : Token) (n : Bytes) → name_in t ≡ Some n → is_none (first_fault n) ≡ true
+name_in_allowed : (t : Token) (n : Bytes) → name_in t ≡ Some n → is_name n ≡ true
 unfolding name_in
-name_in_allowed t n e = (if_name_is (text_of t) n e).1
+name_in_allowed t n e = name_test n ∙ (if_name_is (text_of t) n e).1
 
-name_in_again : (n : Bytes) → is_none (first_fault n) ≡ true → name_in (a_text n) ≡ Some n
+name_in_again : (n : Bytes) → is_name n ≡ true → name_in (a_text n) ≡ Some n
 unfolding name_in text_of
-name_in_again n e = name_on (is_none (first_fault n)) n e
+name_in_again n e = name_on (is_none (first_fault n)) n (sym (name_test n) ∙ e)
 
 some_name_is : (o : Option Bytes) (ts : List Token) → some_name o ts ≡ (taken o ts >>= λ x. Ok (Some x.0, x.1))
 some_name_is None ts = refl

@@ -11,10 +11,35 @@ fn fault(alloc: Global, text: &[u8]) -> Option<SyntaxFault> {
 
 #[test]
 fn faults_stand_at_their_places(rt: HostRuntime) {
-    let cases: [(&[u8], Option<SyntaxFault>); 41] = [
+    let cases: [(&[u8], Option<SyntaxFault>); 51] = [
         (b"", None),
         (b"?", Some(SyntaxFault::UnknownByte(0))),
         (b"x", Some(SyntaxFault::Unexpected(0))),
+        (b"_a", Some(SyntaxFault::UnknownByte(0))),
+        (b"\r", Some(SyntaxFault::UnknownByte(0))),
+        (b"# \xff\r\n", None),
+        (
+            b"aaaaaaaaaaaaaaaaaaaaaaaaaaaaaaaaa",
+            Some(SyntaxFault::TooLong(0)),
+        ),
+        (
+            b"right r {} aaaaaaaaaaaaaaaaaaaaaaaaaaaaaaaaa",
+            Some(SyntaxFault::TooLong(11)),
+        ),
+        (b"attr s a : int 5A", Some(SyntaxFault::UnknownByte(16))),
+        (
+            b"attr s a : int 0..01000000000000001 = 0;",
+            Some(SyntaxFault::TooLong(18)),
+        ),
+        (
+            b"attr s a : int 5aaaaaaaaaaaaaaaaaaaaaaaaaaaaaaaaa",
+            Some(SyntaxFault::TooLong(16)),
+        ),
+        (b"attr s a : int x", Some(SyntaxFault::Unexpected(15))),
+        (
+            b"right r { pre b d: within 5done; }",
+            Some(SyntaxFault::Unexpected(27)),
+        ),
         (b"attr x", Some(SyntaxFault::Unexpected(5))),
         (b"attr", Some(SyntaxFault::Unexpected(4))),
         (b"right r {", Some(SyntaxFault::Unexpected(9))),
@@ -164,7 +189,7 @@ fn repeated(
 
 #[test]
 fn limits_are_met_exactly(rt: HostRuntime) -> Result<(), Fail> {
-    let cases: [(&[u8], &[u8], u32, &[u8], Option<SyntaxFault>); 30] = [
+    let cases: [(&[u8], &[u8], u32, &[u8], Option<SyntaxFault>); 34] = [
         (
             b"right r { pre a f: ",
             b"(",
@@ -215,7 +240,29 @@ fn limits_are_met_exactly(rt: HostRuntime) -> Result<(), Fail> {
             b"1",
             Some(SyntaxFault::TooDeep(179)),
         ),
+        (
+            b"right r { pre a f: ",
+            b"(",
+            33,
+            b"",
+            Some(SyntaxFault::TooDeep(51)),
+        ),
+        (
+            b"right r { before s.a = ",
+            b"(",
+            33,
+            b"",
+            Some(SyntaxFault::TooDeep(55)),
+        ),
         (b"right r { pre a f: 1", b" - 1", 31, b" = 1; }", None),
+        (b"right r { pre a f: 1", b" * 1", 31, b" = 1; }", None),
+        (
+            b"",
+            b"attr s a : text = \"\"; ",
+            16,
+            b"attr s",
+            Some(SyntaxFault::TooMany(357)),
+        ),
         (
             b"right r { pre a f: 1",
             b" - 1",

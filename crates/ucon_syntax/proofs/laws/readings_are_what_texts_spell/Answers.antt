@@ -1,4 +1,4 @@
-use Rattle.ucon_syntax.proofs.Whole.{reading_spells, spells_reading, reading_fault, syntax_reads}
+use Rattle.ucon_syntax.proofs.TextsRead.{reading_spells, spells_reading, reading_fault, syntax_reads}
 use Rattle.ucon_syntax.proofs.laws.readings_are_what_texts_spell.Goals as goal
 
 pub returns-clause-policy : goal.returns-clause-policy

@@ -1,4 +1,4 @@
-use Rattle.ucon_syntax.proofs.Whole.{one_fault}
+use Rattle.ucon_syntax.proofs.TextsRead.{one_fault}
 use Rattle.ucon_syntax.proofs.laws.texts_have_one_fault.Goals as goal
 
 pub returns : goal.returns

@@ -1,4 +1,4 @@
-use Rattle.ucon_syntax.proofs.Whole.{one_policy}
+use Rattle.ucon_syntax.proofs.TextsRead.{one_policy}
 use Rattle.ucon_syntax.proofs.laws.texts_spell_one_policy.Goals as goal
 
 pub returns : goal.returns

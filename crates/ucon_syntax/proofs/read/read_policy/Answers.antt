@@ -1,4 +1,4 @@
-use Rattle.ucon_syntax.proofs.Whole.{reading_found, reading_only, reading_reason, reading_refuses}
+use Rattle.ucon_syntax.proofs.TextsRead.{reading_found, reading_only, reading_reason, reading_refuses}
 use Rattle.ucon_syntax.proofs.read.read_policy.Goals as goal
 
 pub returns-clause-found : goal.returns-clause-found

@@ -1,11 +1,11 @@
 -- What a text is read as, and what it spells.
-use Rattle.std.proofs.Common.{◌≡◌, ◌<◌, ◌≤◌, ℕ, Bool, true, false, cond, ◌⊎◌, inl, inr, List, [], ◌∷◌, length, Option, Some, None, Result, Ok, Err, refl, sym, ap, ◌∙◌, subst, arith, nat_lt}
+use Rattle.std.proofs.Common.{◌≡◌, ◌<◌, ◌≤◌, ℕ, true, false, ◌⊎◌, inl, inr, length, Option, Some, None, Result, Ok, Err, refl, sym, ap, ◌∙◌, subst, arith, nat_lt}
 use Rattle.std.proofs.lemmas.Bool.Decides.{nat_tests}
 use Rattle.std.specs.Prelude.{IfOk, IfErr}
 use Rattle.ucon_model.specs.declared.policy.Policy.{Policy}
 use Rattle.ucon_model.specs.Plain.{Bytes, PlainPolicy}
 use Rattle.ucon_model.specs.Tokens.{Token, a_word, a_number, a_text, a_symbol, joined_word, flawed, the_end, Flaw, unknown, too_long, misplaced, tokens_of, place_of}
-use Rattle.ucon_model.specs.Spells.{Spelled, Spells, TextFault, unknown_byte, overlong, too_many, too_deep, unexpected, flaw_in, FirstFault, FaultWithin, IsOverlong, IsTextFault}
+use Rattle.ucon_model.specs.Spells.{Spells, TextFault, unknown_byte, overlong, too_many, too_deep, unexpected, flaw_in, IsTextFault}
 use Rattle.ucon_model.specs.Views.{policy_of}
 use Rattle.ucon_token.specs.declared.stop.Cause.{Cause}
 use Rattle.ucon_token.specs.declared.stop.Cause.TheVariants.{Unexpected, TooMany, TooDeep}
@@ -17,7 +17,7 @@ use Rattle.ucon_syntax.specs.Policies.{whole_at, fault_of, placed, reading_of, R
 use Rattle.ucon_syntax.specs.Refusals.{IsSyntaxFault, ReadsAs, RefusedFor, IsReason}
 use Rattle.ucon_syntax.proofs.Steps.{chosen}
 use Rattle.ucon_syntax.proofs.Exact.{fault_name, all_found, all_again, all_fault}
-use Rattle.ucon_syntax.proofs.Only.{ReadsFault, fault_again}
+use Rattle.ucon_syntax.proofs.Only.{fault_again}
 
 -- ---- faults by their names
 
