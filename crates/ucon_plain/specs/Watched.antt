@@ -3,5 +3,5 @@ use Rattle.std.specs.Prelude.{ℕ, List}
 use Rattle.ucon_plain.specs.declared.watched.Watched.{Watched}
 
 -- their numbers, least first
-abbrev pub watched : Watched → List ℕ
-watched w = w.numbers.items
+abbrev pub numbers_of : Watched → List ℕ
+numbers_of w = w.numbers.items

@@ -1,4 +1,4 @@
-//! Which sessions may come to fail.
+//! The sessions that are rechecked.
 
 ghost use Rattle.std.specs.Prelude.{◌≡◌, ◌≤◌, ◌||◌, ℕ, length, slice_get, Some, nat_eq, nat_lt, true, false, OnOk, OnErr};
 ghost use Rattle.std.specs.List.{prefix_len};
@@ -15,10 +15,10 @@ pub struct Watched {
 }
 
 impl Watched {
-    ghost use Rattle.ucon_plain.specs.Watched.{watched};
+    ghost use Rattle.ucon_plain.specs.Watched.{numbers_of};
 
     pub fn new(alloc: Global) -> Watched
-        ensures { (n : ℕ) → has (watched result) n ≡ false }
+        ensures { (n : ℕ) → has (numbers_of result) n ≡ false }
     {
         Watched {
             numbers: Vec::new(alloc),
@@ -27,16 +27,16 @@ impl Watched {
 
     /// The numbers, least first.
     pub fn numbers(&self) -> &[u32]
-        ensures numbers { result.now ≡ watched self.now }
-        ensures rise { rises (watched self.now) ≡ true }
+        ensures numbers { result.now ≡ numbers_of self.now }
+        ensures rise { rises (numbers_of self.now) ≡ true }
     {
         &self.numbers
     }
 
     /// Adds a number, if it isn't there.
     pub fn add(&mut self, n: u32) -> Result<(), NoMemory>
-        ensures ok { OnOk result ((m : ℕ) → has (watched self.new) m ≡ (nat_eq m n || has (watched self.old) m)) }
-        ensures err { OnErr result (watched self.new ≡ watched self.old) }
+        ensures ok { OnOk result ((m : ℕ) → has (numbers_of self.new) m ≡ (nat_eq m n || has (numbers_of self.old) m)) }
+        ensures err { OnErr result (numbers_of self.new ≡ numbers_of self.old) }
     {
         put(&mut self.numbers, n)
     }
