@@ -68,6 +68,7 @@ impl Engine for PlainMonitor {
 
     fn keep(&mut self) {
         self.state.keep();
+        self.watched.forget_others(&self.state);
     }
 
     fn undo(&mut self) {

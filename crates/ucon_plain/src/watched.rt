@@ -1,11 +1,17 @@
 //! The sessions that are rechecked.
 
-ghost use Rattle.std.specs.Prelude.{◌≡◌, ◌≤◌, ◌||◌, ℕ, length, slice_get, Some, nat_eq, nat_lt, true, false, OnOk, OnErr};
+ghost use Rattle.std.specs.Prelude.{◌≡◌, ◌≤◌, ◌&&◌, ◌||◌, ℕ, length, slice_get, Some, nat_eq, nat_lt, true, false, OnOk, OnErr};
 ghost use Rattle.std.specs.List.{prefix_len};
+ghost use Rattle.ucon_model.specs.Readings.{is_accessing};
 ghost use Rattle.ucon_plain.specs.Rising.{rises, has};
+ghost use Rattle.ucon_state.specs.Shown.{shown};
+ghost use Rattle.ucon_state.specs.Tables.{session_in};
 
+use crate::reading::session;
+use crate::usage::is_accessing;
 use std::alloc::Global;
 use ucon_base::NoMemory;
+use ucon_state::State;
 
 /// Numbers of sessions, least first.
 #[derive(Drop)]
@@ -16,6 +22,7 @@ pub struct Watched {
 
 impl Watched {
     ghost use Rattle.ucon_plain.specs.Watched.{numbers_of};
+    ghost use Rattle.ucon_plain.specs.Watching.{Covers};
 
     pub fn new(alloc: Global) -> Watched
         ensures { (n : ℕ) → has (numbers_of result) n ≡ false }
@@ -39,6 +46,33 @@ impl Watched {
         ensures err { OnErr result (numbers_of self.new ≡ numbers_of self.old) }
     {
         put(&mut self.numbers, n)
+    }
+
+    /// Forgets the sessions that are no longer accessing.
+    pub fn forget_others(&mut self, state: &State)
+        ensures kept { (n : ℕ) → has (numbers_of self.new) n ≡ (has (numbers_of self.old) n && is_accessing (session_in (shown state.now).tables n)) }
+        ensures covers { Covers (shown state.now) (numbers_of self.old) → Covers (shown state.now) (numbers_of self.new) }
+    {
+        keep_accessing(&mut self.numbers, state);
+    }
+}
+
+/// Keeps the numbers of sessions that are accessing.
+fn keep_accessing(numbers: &mut Vec<u32>, state: &State)
+    requires { rises numbers.old.items ≡ true }
+    ensures rise { rises numbers.new.items ≡ true }
+    ensures kept { (n : ℕ) → has numbers.new.items n ≡ (has numbers.old.items n && is_accessing (session_in (shown state.now).tables n)) }
+{
+    numbers.retain(|n| goes_on(state, *n));
+}
+
+/// Whether a session is there and accessing.
+fn goes_on(state: &State, n: u32) -> bool
+    ensures { result ≡ is_accessing (session_in (shown state.now).tables n) }
+{
+    match session(state, n) {
+        Some(row) => is_accessing(row.state),
+        None => false,
     }
 }
 

@@ -45,7 +45,7 @@ settle-requires-clause-covers c =
     let given = rw c.in-Make.is at (c.in_ok-r.ensures.given T h) in
     let done = made_actions c.in-Make.head s1 T _ given in
     watched_still s s1 T c.args.caller c.args.command.now c.in-Make.head done.0 (numbers_of c.args.watched.now) (numbers_of c.watch_permitted.new.watched)
-        c.in_ok-r.ensures.base.policy h done.2 done.1 c.requires.covers c.watch_permitted.ensures.watched c.in_ok-watch_permitted-in-Make.ensures.head
+    c.in_ok-r.ensures.base.policy h done.2 done.1 c.requires.covers c.watch_permitted.ensures.watched c.in_ok-watch_permitted-in-Make.ensures.head
 
 pub returns-in_ok-revoked-in-Make-clause-covers : goal.returns-in_ok-revoked-in-Make-clause-covers
 returns-in_ok-revoked-in-Make-clause-covers c =
@@ -56,5 +56,5 @@ returns-in_ok-revoked-in-Make-clause-covers c =
     let given = rw c.in-Make.is at (c.in_ok-r.ensures.given T h) in
     let done = made_actions c.in-Make.head s1 T _ given in
     let still = watched_still s s1 T c.args.caller c.args.command.now c.in-Make.head done.0 (numbers_of c.args.watched.now) (numbers_of c.watch_permitted.new.watched)
-        c.in_ok-r.ensures.base.policy h done.2 done.1 c.requires.covers c.watch_permitted.ensures.watched c.in_ok-watch_permitted-in-Make.ensures.head in
+    c.in_ok-r.ensures.base.policy h done.2 done.1 c.requires.covers c.watch_permitted.ensures.watched c.in_ok-watch_permitted-in-Make.ensures.head in
     λ n may. still n (c.in_ok-revoked-in-Make.ensures.fewer n may)
