@@ -10,4 +10,7 @@ pub mod Updated
 pub mod Deciding
 pub mod Cascade
 pub mod Standing
+pub mod Rising
+pub mod Watching
+pub mod Permits
 pub mod Typing

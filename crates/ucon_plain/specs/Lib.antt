@@ -4,4 +4,7 @@ pub mod Gives
 pub mod Updating
 pub mod Sessions
 pub mod Monitor
+pub mod Rising
+pub mod Watching
+pub mod Watched
 pub mod Capped

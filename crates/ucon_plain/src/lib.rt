@@ -14,6 +14,7 @@ mod tests;
 mod told;
 mod update;
 mod usage;
+mod watched;
 
 pub use laws::monitors_stand_for_histories;
 pub use monitor::PlainMonitor;

@@ -11,16 +11,18 @@ ghost use Rattle.ucon_plain.specs.Cascading.{AreActionsOf};
 ghost use Rattle.ucon_state.specs.Engine.{IsIdle, StandsLike};
 
 use crate::step::take_step;
+use crate::watched::Watched;
 use std::alloc::Global;
 use ucon_base::{NoMemory, Steps};
 use ucon_model::{Caller, Checked, Command, Reply, SessionState, View};
 use ucon_state::{Drafted, Engine, State};
 
-/// It rechecks every accessing session after each change, as the definitions do.
+/// It rechecks every accessing session with ongoing predicates after each change, as the definitions do.
 #[derive(Drop)]
 pub struct PlainMonitor {
     alloc: Global,
     state: State,
+    watched: Watched,
 }
 
 impl Engine for PlainMonitor {
@@ -32,7 +34,11 @@ impl Engine for PlainMonitor {
 
     fn begin(alloc: Global, checked: Checked) -> Result<PlainMonitor, NoMemory> {
         let state = State::new(alloc, checked)?;
-        Ok(PlainMonitor { alloc, state })
+        Ok(PlainMonitor {
+            alloc,
+            state,
+            watched: Watched::new(alloc),
+        })
     }
 
     fn draft(
@@ -41,7 +47,14 @@ impl Engine for PlainMonitor {
         command: &Command,
         steps: &mut Steps,
     ) -> Result<Drafted, NoMemory> {
-        match take_step(self.alloc, &mut self.state, caller, command, steps) {
+        match take_step(
+            self.alloc,
+            &mut self.state,
+            caller,
+            command,
+            &mut self.watched,
+            steps,
+        ) {
             Ok(reply) => {
                 let changes = reply.changes();
                 Ok(Drafted { reply, changes })
@@ -55,6 +68,7 @@ impl Engine for PlainMonitor {
 
     fn keep(&mut self) {
         self.state.keep();
+        self.watched.forget_others(&self.state);
     }
 
     fn undo(&mut self) {

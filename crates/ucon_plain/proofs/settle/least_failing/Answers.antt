@@ -1,14 +1,23 @@
-use Rattle.std.proofs.Common.{◌∙◌, sym}
+use Rattle.std.proofs.Common.{◌≡◌, ◌∙◌, true, sym, ap, subst}
+use Rattle.ucon_model.specs.Settle.{fails_at}
+use Rattle.ucon_plain.specs.Rising.{rises}
+use Rattle.ucon_plain.specs.Watching.{Covers}
 use Rattle.ucon_state.specs.Shown.{shown}
-use Rattle.ucon_plain.proofs.Cascade.{passed_over, found_here}
+use Rattle.ucon_plain.proofs.Watching.{first_is_told, found_at, none_left}
 use Rattle.ucon_plain.proofs.settle.least_failing.Goals as goal
 
 pub returns-in-Some : goal.returns-in-Some
 returns-in-Some c = λ T h.
     let s = shown c.args.state.now in
-    sym (c.loop-before.invariant T h) ∙ found_here s.policy T c.loop-before.before c.sessions-count.result c.in-Some.label c.loop-before-test.true (c.fails_at.ensures T h ∙ c.in-Some.is)
+    let ns = c.numbers-numbers.result.now in
+    let same = sym c.numbers-numbers.ensures.numbers in
+    let told = first_is_told s T ns h (subst (λ xs. rises xs ≡ true) same c.numbers-numbers.ensures.rise) (subst (Covers s) same c.requires.covers) in
+    sym told ∙ sym (c.loop-n.invariant T h) ∙ found_at (fails_at s.policy T) ns c.loop-n.n-index c.in-Some.label c.loop-n-test.true (c.fails_at.ensures T h ∙ c.in-Some.is)
 
-pub loop-before-preserved : goal.loop-before-preserved
-loop-before-preserved c = λ T h.
+pub returns : goal.returns
+returns c = λ T h.
     let s = shown c.args.state.now in
-    passed_over s.policy T c.loop-before.before c.sessions-count.result c.loop-before-test.true (c.fails_at.ensures T h ∙ c.in_default.is) ∙ c.loop-before.invariant T h
+    let ns = c.numbers-numbers.result.now in
+    let same = sym c.numbers-numbers.ensures.numbers in
+    let told = first_is_told s T ns h (subst (λ xs. rises xs ≡ true) same c.numbers-numbers.ensures.rise) (subst (Covers s) same c.requires.covers) in
+    sym told ∙ sym (c.loop-n.invariant T h) ∙ none_left (fails_at s.policy T) ns c.loop-n.n-index c.loop-n-test.false

@@ -1,10 +1,12 @@
-use Rattle.std.proofs.Common.{◌≡◌, ◌+◌, ◌-◌}
+use Rattle.std.proofs.Common.{◌≡◌, drop}
 use Rattle.ucon_model.specs.Action.{Trace}
-use Rattle.ucon_model.specs.Settle.{least_from, least_failing}
+use Rattle.ucon_model.specs.Settle.{fails_at}
 use Rattle.ucon_plain.specs.Follows.{Follows}
+use Rattle.ucon_plain.specs.Watching.{first_in}
 use Rattle.ucon_state.specs.Shown.{shown}
 use Rattle.ucon_plain.proofs.settle.least_failing.Given as goal
 
 -- the sessions so far hold
-abbrev pub invariant-loop-before : goal.invariant-loop-before
-invariant-loop-before l = (T : Trace) → Follows (shown l.state) T → least_from (shown l.state).policy T (l.before + 1) (l.count - l.before) ≡ least_failing (shown l.state).policy T
+abbrev pub invariant-loop-n : goal.invariant-loop-n
+invariant-loop-n l = (T : Trace) → Follows (shown l.state) T
+    → first_in (fails_at (shown l.state).policy T) (drop l.n-index l.numbers) ≡ first_in (fails_at (shown l.state).policy T) l.numbers

@@ -47,6 +47,7 @@ turns-preserved c =
           rw c.in_ok-revoke-in-Some.ensures.revoked
           (ap (λ (rs : List Revoked). rs ++ record { session = found.0; label = found.1 } ∷ []) (c.turns.invariant.revoked T h)
           ∙ sym (revoked_in-more i s.policy T (found.0, found.1) (least T h)));
+      fewer = λ n may. c.turns.invariant.fewer n (c.in_ok-revoke-in-Some.ensures.fewer n may);
       base = record {
         policy = c.in_ok-revoke-in-Some.ensures.base.policy ∙ c.turns.invariant.base.policy;
         opening = c.in_ok-revoke-in-Some.ensures.base.opening ∙ c.turns.invariant.base.opening;

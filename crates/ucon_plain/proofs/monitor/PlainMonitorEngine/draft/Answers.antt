@@ -7,10 +7,11 @@ use Rattle.ucon_model.specs.Views.{reply_of}
 use Rattle.ucon_state.specs.Applied.{tables_of}
 use Rattle.ucon_state.specs.Shown.{shown}
 use Rattle.ucon_plain.proofs.Standing.{follows_history, trace-grown}
+use Rattle.ucon_plain.proofs.Watching.{opening_may}
 use Rattle.ucon_plain.proofs.monitor.PlainMonitorEngine.draft.Goals as goal
 
-pub take_step-requires : goal.take_step-requires
-take_step-requires c = record {
+pub take_step-requires-clause-following : goal.take_step-requires-clause-following
+take_step-requires-clause-following c = record {
   trace = trace c.requires.policy c.requires.history;
   follows = follows_history c.args.self.now c.requires.policy c.requires.history c.requires.stands;
 }
@@ -37,4 +38,6 @@ returns-in-Ok-clause-pending c changed = λ P H h.
           ∙ ap (λ (Q : PlainPolicy). tables_of P (after Q (trace P H) c.args.caller c.args.command.now)) h.policy
           ∙ ap (tables_of P) (sym (trace-grown P H e (ap changes (sym is) ∙ told)));
       opening = c.in-Ok.ensures.base.opening ∙ h.opening;
+      covers = c.in-Ok.ensures.covers;
+      covered = λ n may. c.in-Ok.ensures.watched n (h.covers n (opening_may s s1 n c.in-Ok.ensures.base.policy (c.in-Ok.ensures.base.opening ∙ h.opening ∙ sym h.tables) may));
     }

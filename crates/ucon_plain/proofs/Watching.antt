@@ -1,0 +1,178 @@
+-- The first of the watched sessions that fails is the least that fails, and only a permission makes one more to be watched.
+use Rattle.std.proofs.Common.{◌≡◌, ◌∙◌, ◌⊎◌, inl, inr, ℕ, zero, suc, ◌<◌, ◌≤◌, Bool, true, false, cond, List, [], ◌∷◌, length, drop, slice_index_or, refl, sym, ap, subst, arith}
+use Rattle.std.specs.Prelude.{◌≢◌, ◌&&◌, ◌||◌, not, nat_eq, Option, Some, None, IsSomeAnd, option_and_then}
+use Rattle.std.specs.List.{list_any}
+use Rattle.std.specs.Option.{option_map_or}
+use Rattle.std.proofs.lemmas.Bool.Decides.{eqb_tells}
+use Rattle.ucon_model.specs.declared.command.Caller.{Caller}
+use Rattle.ucon_model.specs.declared.command.Command.{Command}
+use Rattle.ucon_model.specs.declared.reply.Head.{Head}
+use Rattle.ucon_model.specs.OwnActions.{own, make}
+use Rattle.ucon_model.specs.declared.session.SessionRow.{SessionRow}
+use Rattle.ucon_model.specs.declared.session.SessionState.TheVariants.{Accessing}
+use Rattle.ucon_model.specs.Plain.{Bytes, PlainPredicate, PlainRight, PlainPolicy}
+use Rattle.ucon_model.specs.Action.{Action, Trace, extended}
+use Rattle.ucon_model.specs.Readings.{session, is_accessing, is_accessing_state}
+use Rattle.ucon_model.specs.Truth.{Readings, readings, truth}
+use Rattle.ucon_model.specs.Decision.{right_named, ongoing, first_false, first_false_of, failing}
+use Rattle.ucon_model.specs.LegalRun.{Each}
+use Rattle.ucon_model.specs.Settle.{fails_at, least_failing}
+use Rattle.ucon_model.proofs.Allowed.{IsNumbered}
+use Rattle.ucon_model.proofs.LeastFailing.{chosen_is_legal, nobody_fails}
+use Rattle.ucon_plain.specs.Rising.{rises, has}
+use Rattle.ucon_plain.proofs.Rising.{Rises, rises_so}
+use Rattle.ucon_state.specs.Shown.{Shown, changed_to}
+use Rattle.ucon_state.specs.Tables.{Tables, session_in}
+use Rattle.ucon_state.proofs.Following.Sound.{sound_if}
+use Rattle.ucon_plain.specs.Follows.{Follows}
+use Rattle.ucon_plain.specs.Watching.{asks, may_fail, may_fail_in, Covers, Includes, HeadIsWatched, NobodyMore, first_in}
+use Rattle.ucon_plain.proofs.Permits.{permits, more, permitted_is_told}
+use Rattle.ucon_plain.proofs.ReadOff.{session_same}
+
+-- ---- only those that may fail do
+
+-- where the first is not the one, it is a later one
+ongoing_by : (R : Readings) (row : SessionRow) (p : PlainPredicate) (ps : List PlainPredicate) (l : Bytes) (b : Bool) → ongoing p ≡ b
+    → (first_false R row ongoing ps ≡ Some l → list_any ongoing ps ≡ true) → first_false R row ongoing (p ∷ ps) ≡ Some l → list_any ongoing (p ∷ ps) ≡ true
+ongoing_by R row p ps l true is rest e = rw is refl
+ongoing_by R row p ps l false is rest e = rw is (rest (rw is at e))
+
+false_is_ongoing : (R : Readings) (row : SessionRow) (ps : List PlainPredicate) (l : Bytes) → first_false R row ongoing ps ≡ Some l → list_any ongoing ps ≡ true
+false_is_ongoing R row [] l e = absurd cc
+false_is_ongoing R row (p ∷ ps) l e = ongoing_by R row p ps l (ongoing p) refl (false_is_ongoing R row ps l) e
+
+asked_of : (R : Readings) (row : SessionRow) (o : Option PlainRight) (l : Bytes) → option_and_then (λ r. first_false R row ongoing r.preds) o ≡ Some l
+    → option_map_or (λ r. list_any ongoing r.preds) o false ≡ true
+asked_of R row None l e = absurd cc
+asked_of R row (Some r) l e = false_is_ongoing R row r.preds l e
+
+may_of : (P : PlainPolicy) (R : Readings) (o : Option SessionRow) (l : Bytes) → cond (is_accessing o) (option_and_then (first_false_of P R ongoing) o) None ≡ Some l
+    → may_fail P o ≡ true
+may_of P R None l e = absurd cc
+may_of P R (Some row) l e = by (is_accessing_state row.state) refl
+  where
+    by : (b : Bool) → is_accessing_state row.state ≡ b → may_fail P (Some row) ≡ true
+    by true is = rw is (asked_of R row (right_named P.rights row.right) l (rw is at e))
+    by false is = absurd (let none : None ≡ Some l = rw is at e in cc)
+
+pub who_fails_may : (P : PlainPolicy) (T : Trace) (n : ℕ) (l : Bytes) → fails_at P T n ≡ Some l → may_fail P (session T n) ≡ true
+who_fails_may P T n l e = may_of P (readings P T) (session T n) l e
+
+-- ---- the first is the least
+
+none_in : (fails : ℕ → Option Bytes) (ns : List ℕ) → ((n : ℕ) → fails n ≡ None) → first_in fails ns ≡ None
+none_in fails [] all = refl
+none_in fails (n ∷ ns) all = rw (all n) (none_in fails ns all)
+
+above_by : (n m k : ℕ) (ms : List ℕ) → n < k → k < m → has ms n ≡ false → ((nat_eq n m ≡ true) × (n ≡ m)) ⊎ ((nat_eq n m ≡ false) × (n ≢ m)) → has (m ∷ ms) n ≡ false
+above_by n m k ms lt above rest (inl same) = absurd (omega (arith, same.1, lt, above))
+above_by n m k ms lt above rest (inr other) = rw other.0 rest
+
+above_all : (n k : ℕ) (ns : List ℕ) → n < k → Each (λ m. k < m) ns → has ns n ≡ false
+above_all n k [] lt all = refl
+above_all n k (m ∷ ms) lt all = above_by n m k ms lt all.0 (above_all n k ms lt all.1) (eqb_tells n m)
+
+later_by : (n m x : ℕ) (xs : List ℕ) → m < x → (has xs n ≡ true → m < n) → has (x ∷ xs) n ≡ true
+    → ((nat_eq n x ≡ true) × (n ≡ x)) ⊎ ((nat_eq n x ≡ false) × (n ≢ x)) → m < n
+later_by n m x xs above rest found (inl same) = omega (arith, same.1, above)
+later_by n m x xs above rest found (inr other) = rest (rw other.0 at found)
+
+-- one of those that follow is above
+later : (n m : ℕ) (ms : List ℕ) → n ≢ m → Each (λ x. m < x) ms → has ms n ≡ true → m < n
+later n m [] other all found = absurd cc
+later n m (x ∷ xs) other all found = later_by n m x xs all.0 (later n m xs other all.1) found (eqb_tells n x)
+
+first_by : (fails : ℕ → Option Bytes) (m n : ℕ) (ms : List ℕ) (l : Bytes) → Each (λ x. m < x) ms → has (m ∷ ms) n ≡ true → fails n ≡ Some l
+    → ((k : ℕ) → k < n → fails k ≡ None) → (has ms n ≡ true → first_in fails ms ≡ Some (n, l))
+    → ((nat_eq n m ≡ true) × (n ≡ m)) ⊎ ((nat_eq n m ≡ false) × (n ≢ m)) → first_in fails (m ∷ ms) ≡ Some (n, l)
+first_by fails m n ms l all there is before rest (inl same) = subst (λ k. first_in fails (k ∷ ms) ≡ Some (n, l)) same.1 (rw is refl)
+first_by fails m n ms l all there is before rest (inr other) =
+    let found : has ms n ≡ true = rw other.0 at there in
+    rw (before m (later n m ms other.1 all found)) (rest found)
+
+first_of : (fails : ℕ → Option Bytes) (ns : List ℕ) (n : ℕ) (l : Bytes) → Rises ns → has ns n ≡ true → fails n ≡ Some l → ((m : ℕ) → m < n → fails m ≡ None)
+    → first_in fails ns ≡ Some (n, l)
+first_of fails [] n l rises there is before = absurd cc
+first_of fails (m ∷ ms) n l rises there is before =
+    first_by fails m n ms l rises.0 there is before (λ found. first_of fails ms n l rises.1 found is before) (eqb_tells n m)
+
+-- each session that may fail after a trace is one of these
+abbrev pub CoversAfter : PlainPolicy → Trace → List ℕ → Type 0
+CoversAfter P T ns = (n : ℕ) → may_fail P (session T n) ≡ true → has ns n ≡ true
+
+fails_so : (P : PlainPolicy) (T : Trace) (n : ℕ) (l : Bytes) (o : Option SessionRow) → session T n ≡ o → IsSomeAnd o (λ row. row.state ≡ Accessing)
+    → failing P (readings P T) n ≡ Some l → fails_at P T n ≡ Some l
+fails_so P T n l None at accessing is = absurd accessing
+fails_so P T n l (Some row) at accessing is =
+    let goes_on : is_accessing (session T n) ≡ true = ap is_accessing at ∙ ap is_accessing_state accessing in
+    rw goes_on is
+
+least_by : (P : PlainPolicy) (T : Trace) (ns : List ℕ) (o : Option (ℕ × Bytes)) → IsNumbered T → Rises ns → CoversAfter P T ns → least_failing P T ≡ o
+    → first_in (fails_at P T) ns ≡ o
+least_by P T ns None numbered rises covers e = none_in (fails_at P T) ns (nobody_fails P T numbered e)
+least_by P T ns (Some f) numbered rises covers e =
+    let legal = chosen_is_legal P T f numbered e in
+    let fails : fails_at P T f.0 ≡ Some f.1 = fails_so P T f.0 f.1 (session T f.0) refl legal.0 legal.1 in
+    first_of (fails_at P T) ns f.0 f.1 rises (covers f.0 (who_fails_may P T f.0 f.1 fails)) fails legal.2
+
+-- the first of the watched sessions that fails is the least that fails
+pub first_is_least : (P : PlainPolicy) (T : Trace) (ns : List ℕ) → IsNumbered T → rises ns ≡ true → CoversAfter P T ns → first_in (fails_at P T) ns ≡ least_failing P T
+first_is_least P T ns numbered rise covers = least_by P T ns (least_failing P T) numbered (rises_so ns rise) covers refl
+
+-- ---- of a state
+
+pub covers_after : (s : Shown) (T : Trace) (ns : List ℕ) → Follows s T → Covers s ns → CoversAfter s.policy T ns
+covers_after s T ns h covers = λ n may. covers n (ap (may_fail s.policy) (sym (session_same s T h n)) ∙ may)
+
+-- the first of the watched sessions that fails is the least that fails after the trace that the state follows
+pub first_is_told : (s : Shown) (T : Trace) (ns : List ℕ) → Follows s T → rises ns ≡ true → Covers s ns → first_in (fails_at s.policy T) ns ≡ least_failing s.policy T
+first_is_told s T ns h rise covers = first_is_least s.policy T ns (sound_if s.policy T h.legal).numbered rise (covers_after s T ns h covers)
+
+-- after actions that permit nobody, nobody more may fail
+pub nobody_more : (s s' : Shown) (T : Trace) (actions : List Action) → s'.policy ≡ s.policy → Follows s T → Follows s' (extended T actions)
+    → ((n : ℕ) → list_any (permits n) actions ≡ false) → NobodyMore s s'
+nobody_more s s' T actions same h h' nobody = λ n may. from_more n (session_same s T h n) (nobody n) (more s.policy T actions n (after n may))
+  where
+    after : (n : ℕ) → may_fail_in s' n ≡ true → may_fail s.policy (session (extended T actions) n) ≡ true
+    after n may = ap (λ (P : PlainPolicy). may_fail P (session (extended T actions) n)) (sym same) ∙ ap (may_fail s'.policy) (session_same s' (extended T actions) h' n) ∙ may
+
+    from_more : (n : ℕ) → session T n ≡ session_in s.tables n → list_any (permits n) actions ≡ false
+        → (may_fail s.policy (session T n) ≡ true) ⊎ (list_any (permits n) actions ≡ true) → may_fail_in s n ≡ true
+    from_more n at none (inl before) = ap (may_fail s.policy) (sym at) ∙ before
+    from_more n at none (inr permitted) = absurd (let never : false ≡ true = sym none ∙ permitted in cc)
+
+-- ---- one after the other
+
+pub found_at : (fails : ℕ → Option Bytes) (ns : List ℕ) (i : ℕ) (l : Bytes) → i < length ns → fails (slice_index_or ns i 0) ≡ Some l
+    → first_in fails (drop i ns) ≡ Some (slice_index_or ns i 0, l)
+found_at fails [] i l lt is = absurd (omega (arith, lt))
+found_at fails (n ∷ ns) zero l lt is = rw is refl
+found_at fails (n ∷ ns) (suc i) l lt is = found_at fails ns i l (omega (arith, lt)) is
+
+pub none_left : (fails : ℕ → Option Bytes) (ns : List ℕ) (i : ℕ) → length ns ≤ i → first_in fails (drop i ns) ≡ None
+none_left fails [] zero le = refl
+none_left fails [] (suc i) le = refl
+none_left fails (n ∷ ns) zero le = absurd (omega (arith, le))
+none_left fails (n ∷ ns) (suc i) le = none_left fails ns i (omega (arith, le))
+
+-- ---- after a command's own actions
+
+still_by : (s s1 : Shown) (T : Trace) (caller : Caller) (c : Command) (head : Head) (actions : List Action) (ns ms : List ℕ) (n : ℕ)
+    → Follows s T → own s.policy T caller c ≡ make head actions → Covers s ns → Includes ns ms → HeadIsWatched head s1 ms → may_fail_in s1 n ≡ true
+    → (may_fail s.policy (session T n) ≡ true) ⊎ (list_any (permits n) actions ≡ true) → has ms n ≡ true
+still_by s s1 T caller c head actions ns ms n h is covers includes told may (inl before) = includes n (covers_after s T ns h covers n before)
+still_by s s1 T caller c head actions ns ms n h is covers includes told may (inr permitted) =
+    told n (permitted_is_told s.policy T caller c head actions n is permitted) may
+
+-- the sessions that were watched, and whom the head permits, cover the state after a command's own actions
+pub watched_still : (s s1 : Shown) (T : Trace) (caller : Caller) (c : Command) (head : Head) (actions : List Action) (ns ms : List ℕ) → s1.policy ≡ s.policy
+    → Follows s T → Follows s1 (extended T actions) → own s.policy T caller c ≡ make head actions → Covers s ns → Includes ns ms → HeadIsWatched head s1 ms → Covers s1 ms
+watched_still s s1 T caller c head actions ns ms same h h1 is covers includes told = λ n may.
+    let after : may_fail s.policy (session (extended T actions) n) ≡ true =
+    ap (λ (P : PlainPolicy). may_fail P (session (extended T actions) n)) (sym same) ∙ ap (may_fail s1.policy) (session_same s1 (extended T actions) h1 n) ∙ may in
+    still_by s s1 T caller c head actions ns ms n h is covers includes told may (more s.policy T actions n after)
+
+-- who may fail in what undoing gives may fail in the tables that it gives back
+pub opening_may : (s s1 : Shown) (n : ℕ) → s1.policy ≡ s.policy → s1.opening ≡ s.tables → may_fail_in (changed_to s1 s1.opening) n ≡ true → may_fail_in s n ≡ true
+opening_may s s1 n policy tables may =
+    ap (λ (t : Tables). may_fail s.policy (session_in t n)) (sym tables) ∙ ap (λ (Q : PlainPolicy). may_fail Q (session_in s1.opening n)) (sym policy) ∙ may
