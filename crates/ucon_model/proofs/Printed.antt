@@ -133,4 +133,3 @@ a_whole_policy : policy_printing whole ≡
     ++ line (codes "}")
 unfolding digits
 a_whole_policy = refl
-
