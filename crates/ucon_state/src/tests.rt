@@ -80,15 +80,17 @@ fn add_entity(state: &mut State, side: Side, name: Name) -> Result<u32, Fail> {
     Ok(state.add_entity(side, name)?)
 }
 
-fn write(state: &mut State, name: &Name, attr: &Name, value: i64) -> Result<CellId, Fail> {
+/// Whether the cell held another value before.
+fn write(state: &mut State, name: &Name, attr: &Name, n: i64) -> Result<bool, Fail> {
     let entity = state.find(Side::Subject, name).ok_or("there")?;
     let cell = state.cell(Side::Subject, entity, attr).ok_or("declared")?;
-    let value = number(value)?;
+    let is_other = !is_number(Some(state.cell_value(cell)), n);
+    let value = number(n)?;
     if !attr_admits(state, Side::Subject, attr, &value) {
         return Err("not admitted".into());
     }
     state.write(cell, value)?;
-    Ok(cell)
+    Ok(is_other)
 }
 
 fn set_env(state: &mut State, name: &Name, value: i64) -> Result<(), Fail> {
@@ -214,8 +216,9 @@ fn undoing_gives_what_was_kept(rt: HostRuntime) -> Result<(), Fail> {
     let mut state = State::new(rt.alloc(), Checked::new(policy(rt.alloc())?))?;
     change_all(&mut state, &n)?;
     state.keep();
-    let cell = write(&mut state, &n.ann, &n.credit, 6)?;
-    assert_eq!(rt; write(&mut state, &n.ann, &n.credit, 7)?, cell);
+    assert!(rt; write(&mut state, &n.ann, &n.credit, 6)?);
+    assert!(rt; write(&mut state, &n.ann, &n.credit, 7)?);
+    assert!(rt; !write(&mut state, &n.ann, &n.credit, 7)?);
     set_tick(&mut state, 8)?;
     add_act(&mut state, n.ann, n.click, n.song)?;
     assert_eq!(rt; state.counts().acts, 1);
