@@ -1,6 +1,6 @@
--- The text of a reply has no newline.
+-- The texts of commands and replies have no newline.
 use Rattle.std.proofs.Common.{◌≡◌, ℕ, suc, ◌<◌, ◌^◌, true, false, List, [], ◌∷◌, ◌++◌, refl, ap, arith}
-use Rattle.std.specs.Prelude.{ℤ, pos, negsuc, codes}
+use Rattle.std.specs.Prelude.{ℤ, pos, negsuc, codes, not, ◌==◌}
 use Rattle.std.specs.Fmt.{decimal, signed_decimal}
 use Rattle.std.specs.List.{list_all}
 use Rattle.std.proofs.lemmas.Bool.{and_parts, ne_eqb}
@@ -11,6 +11,13 @@ use Rattle.ucon_base.specs.Numbers.{InRange}
 use Rattle.ucon_base.specs.Spelling.{quoted, more_texts, set_spelling, value_spelling, IsValue}
 use Rattle.ucon_base.specs.TextBytes.{is_text, is_text_byte}
 use Rattle.ucon_base.proofs.TextFront.{texty, texty_is}
+use Rattle.ucon_base.specs.declared.value.Side.{Side}
+use Rattle.ucon_base.specs.declared.value.Side.TheVariants as sides
+use Rattle.ucon_base.specs.NameBytes.{is_name}
+use Rattle.ucon_model.specs.declared.command.Command.{Command}
+use Rattle.ucon_model.specs.declared.command.Command.TheVariants as commands
+use Rattle.ucon_model.specs.CommandLine.{side_word, command_words, command_spelling, IsCommand}
+use Rattle.ucon_command.proofs.Joined.{join}
 use Rattle.ucon_model.specs.declared.reply.Head.{Head}
 use Rattle.ucon_model.specs.declared.reply.Head.TheVariants as heads
 use Rattle.ucon_model.specs.declared.reply.Refusal.{Refusal}
@@ -118,3 +125,38 @@ reply_in_line (made head revoked) h = lacks-append 10 (head_spelling head) (revo
 reply_in_line (value_is v) h = lacks-append 10 (codes "value ") (value_spelling v) (lacks-tested 10 (codes "value ") refl) (value_in_line v h)
 reply_in_line (status n state) h =
     lacks-append 10 (codes "status " ++ decimal n) (32 ∷ state_word state) (numbered (codes "status ") n (lacks-tested 10 (codes "status ") refl) h) (refl, state_in_line state)
+
+-- ---- commands
+
+joined_in_line : (ws : List Bytes) → Each (Lacks 10) ws → Lacks 10 (join ws)
+joined_in_line [] h = tt
+joined_in_line (w ∷ []) h = h.0
+joined_in_line (w ∷ v ∷ ws) h = lacks-append 10 w (32 ∷ join (v ∷ ws)) h.0 (refl, joined_in_line (v ∷ ws) h.1)
+
+word : (w : Bytes) → list_all (λ b. not (b == 10)) w ≡ true → Lacks 10 w
+word w h = lacks-tested 10 w h
+
+side_in_line : (side : Side) → Lacks 10 (side_word side)
+side_in_line sides.Subject = word (codes "s") refl
+side_in_line sides.Object = word (codes "o") refl
+
+name_in_line : (name : Bytes) → is_name name ≡ true → Lacks 10 name
+name_in_line name h = lacks-name 10 name refl h
+
+words_in_line : (c : Command) → IsCommand c → Each (Lacks 10) (command_words c)
+words_in_line (commands.Subject name) h = (word (codes "subject") refl, (name_in_line name h, tt))
+words_in_line (commands.Object name) h = (word (codes "object") refl, (name_in_line name h, tt))
+words_in_line (commands.Set side name attr v) h = (word (codes "set") refl, (side_in_line side, (name_in_line name h.0, (name_in_line attr h.1, (value_in_line v h.2, tt)))))
+words_in_line (commands.Env name v) h = (word (codes "env") refl, (name_in_line name h.0, (value_in_line v h.1, tt)))
+words_in_line (commands.Tick t) h = (word (codes "tick") refl, (integer_in_line t h, tt))
+words_in_line (commands.Act s a o) h = (word (codes "act") refl, (name_in_line s h.0, (name_in_line a h.1, (name_in_line o h.2, tt))))
+words_in_line (commands.Try s r o) h = (word (codes "try") refl, (name_in_line s h.0, (name_in_line r h.1, (name_in_line o h.2, tt))))
+words_in_line (commands.Again n) h = (word (codes "again") refl, (number_in_line n h, tt))
+words_in_line (commands.Beat n) h = (word (codes "beat") refl, (number_in_line n h, tt))
+words_in_line (commands.End n) h = (word (codes "end") refl, (number_in_line n h, tt))
+words_in_line (commands.Look n) h = (word (codes "look") refl, (number_in_line n h, tt))
+words_in_line (commands.Value side name attr) h = (word (codes "value") refl, (side_in_line side, (name_in_line name h.0, (name_in_line attr h.1, tt))))
+
+pub command_in_line : (c : Command) → IsCommand c → Lacks 10 (command_spelling c)
+unfolding command_spelling
+command_in_line c h = joined_in_line (command_words c) (words_in_line c h)

@@ -2,6 +2,7 @@
 
 ghost use Rattle.std.specs.Prelude.{◌≡◌, ◌≤◌, ◌++◌, ◌∷◌, length, IfOk, OnOk, Ok};
 ghost use Rattle.ucon_model.specs.CommandLine.{side_word, command_spelling, line_read};
+ghost use Rattle.ucon_model.specs.Output.{Lacks};
 
 use crate::in_form::command_in_form;
 use crate::spelling::{put_integer, put_name, put_session, put_value, put_word};
@@ -9,11 +10,12 @@ use std::alloc::Global;
 use ucon_base::{Name, NoMemory, Side};
 use ucon_model::Command;
 
-/// The one line that reads as the command.
-#[tactic(auto, using(crate::proofs::Lengths::short, crate::proofs::ReadLines::command_back))]
+/// The one line that reads as the command: at most 8192 bytes, without a newline.
+#[tactic(auto, using(crate::proofs::Lengths::short, crate::proofs::ReadLines::command_back, crate::proofs::InLine::command_in_line))]
 pub fn command_text(alloc: Global, command: &Command) -> Result<Vec<u8>, NoMemory>
     ensures text { IfOk result (λ t. t.items ≡ command_spelling command.now) }
     ensures read_back { line_read (command_spelling command.now) ≡ Ok command.now }
+    ensures one_line { Lacks 10 (command_spelling command.now) }
     ensures short { length (command_spelling command.now) ≤ 8192 }
 {
     command_in_form(command);
