@@ -2,7 +2,9 @@ use super::*;
 use std::alloc::Global;
 use std::test::Fail;
 use ucon_flow::{MemSink, MemSource};
-use ucon_vectors::{CAPPED, Example, Row, guide_examples, worked_rows};
+use ucon_vectors::{
+    CAPPED, Example, Row, guide_examples, language_examples, typing_examples, worked_rows,
+};
 
 fn words(alloc: Global, all: &[&str]) -> Result<Vec<String>, Fail> {
     let mut words = Vec::new(alloc);
@@ -43,19 +45,78 @@ fn worked_rows_print_what_they_say(rt: HostRuntime) -> Result<(), Fail> {
     Ok(())
 }
 
-/// The user's pages tell the truth.
-#[test]
-fn examples_print_what_the_pages_say(rt: HostRuntime) -> Result<(), Fail> {
-    for example in guide_examples() {
-        let found = ran(rt.alloc(), example.form, example.document)?;
-        assert_eq!(rt; found.0.status, example.status, "{}", example.name);
-        let fault = fault_text(rt.alloc(), &found.0.outcome)?;
+fn hold(alloc: Global, examples: &[Example]) -> Result<(), Fail> {
+    for example in examples {
+        let found = ran(alloc, example.form, example.document)?;
+        let fault = fault_text(alloc, &found.0.outcome)?;
         let text = if example.status == 0 {
             &found.1
         } else {
             &fault
         };
-        assert_eq!(rt; text.as_slice(), example.text, "{}", example.name);
+        if found.0.status != example.status || text.as_slice() != example.text {
+            return Err(example.name.into());
+        }
+    }
+    Ok(())
+}
+
+/// The user's pages tell the truth.
+#[test]
+fn examples_print_what_the_pages_say(rt: HostRuntime) -> Result<(), Fail> {
+    hold(rt.alloc(), &language_examples())?;
+    hold(rt.alloc(), &guide_examples())
+}
+
+#[test]
+fn typing_faults_come_in_order(rt: HostRuntime) -> Result<(), Fail> {
+    hold(rt.alloc(), &typing_examples())
+}
+
+/// A right whose ongoing predicates read all sixteen attributes of each side, and more predicates.
+fn reading_all(alloc: Global, more: &str) -> Result<Vec<u8>, Fail> {
+    let mut text = String::new(alloc);
+    for side in ["s", "o"] {
+        for i in 0..16u32 {
+            text.push_str(format!(in alloc; "attr {side} a{i} : int 0..9 = 0; ")?.as_str())?;
+        }
+    }
+    text.push_str("env e : int 0..9 = 0; right r { ")?;
+    for side in ["s", "o"] {
+        text.push_str(format!(in alloc; "on a {side}: {side}.a0 = {side}.a1")?.as_str())?;
+        for i in 2..16u32 {
+            text.push_str(format!(in alloc; " and {side}.a{i} = {side}.a0")?.as_str())?;
+        }
+        text.push_str("; ")?;
+    }
+    text.push_str(more)?;
+    text.push_str(" }")?;
+    Ok(Vec::from_slice(alloc, text.as_bytes())?)
+}
+
+/// 32 places, and one more.
+#[test]
+fn places_are_counted(rt: HostRuntime) -> Result<(), Fail> {
+    for (more, status, fault) in [
+        ("", 0, ""),
+        ("pre c e: env.e = 1;", 0, ""),
+        (
+            "on c e: env.e = 1;",
+            2,
+            "ucon: policy: too many cells r 33\n",
+        ),
+        (
+            "on c e: env.e = env.e;",
+            2,
+            "ucon: policy: too many cells r 33\n",
+        ),
+    ] {
+        let found = ran(rt.alloc(), "check", &reading_all(rt.alloc(), more)?)?;
+        assert_eq!(rt; found.0.status, status);
+        assert_eq!(rt;
+            fault_text(rt.alloc(), &found.0.outcome)?.as_slice(),
+            fault.as_bytes()
+        );
     }
     Ok(())
 }

@@ -2,9 +2,13 @@
 #![tactic(auto)]
 
 mod guide;
+mod language;
+mod typing;
 mod worked;
 
 pub use guide::guide_examples;
+pub use language::language_examples;
+pub use typing::typing_examples;
 pub use worked::{CAPPED, PAY_PER_USE, worked_rows};
 
 /// A document and what `trial` prints of it.
