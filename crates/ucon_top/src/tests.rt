@@ -3,7 +3,8 @@ use std::alloc::Global;
 use std::test::Fail;
 use ucon_flow::{MemSink, MemSource};
 use ucon_vectors::{
-    CAPPED, Example, Row, guide_examples, language_examples, typing_examples, worked_rows,
+    CAPPED, Example, Row, guide_examples, language_examples, typing_faults, well_typed_policies,
+    worked_rows,
 };
 
 fn words(alloc: Global, all: &[&str]) -> Result<Vec<String>, Fail> {
@@ -45,32 +46,55 @@ fn worked_rows_print_what_they_say(rt: HostRuntime) -> Result<(), Fail> {
     Ok(())
 }
 
-fn hold(alloc: Global, examples: &[Example]) -> Result<(), Fail> {
-    for example in examples {
-        let found = ran(alloc, example.form, example.document)?;
-        let fault = fault_text(alloc, &found.0.outcome)?;
-        let text = if example.status == 0 {
-            &found.1
-        } else {
-            &fault
-        };
-        if found.0.status != example.status || text.as_slice() != example.text {
-            return Err(example.name.into());
-        }
+/// What a form prints: the output, or with another status the line of the fault.
+fn printed(alloc: Global, form: &str, document: &[u8]) -> Result<(u8, Vec<u8>), Fail> {
+    let found = ran(alloc, form, document)?;
+    if found.0.status == 0 {
+        return Ok((0, found.1));
+    }
+    Ok((found.0.status, fault_text(alloc, &found.0.outcome)?))
+}
+
+/// The user's page of the policy language tells the truth.
+#[test]
+fn the_language_page_tells_what_is_printed(rt: HostRuntime) -> Result<(), Fail> {
+    for example in language_examples() {
+        let found = printed(rt.alloc(), example.form, example.document)?;
+        assert_eq!(rt; found.0, example.status, "{}", example.name);
+        assert_eq!(rt; found.1.as_slice(), example.text, "{}", example.name);
     }
     Ok(())
 }
 
-/// The user's pages tell the truth.
+/// So do the pages of commands and errors, and the examples to begin with.
 #[test]
-fn examples_print_what_the_pages_say(rt: HostRuntime) -> Result<(), Fail> {
-    hold(rt.alloc(), &language_examples())?;
-    hold(rt.alloc(), &guide_examples())
+fn the_other_pages_tell_what_is_printed(rt: HostRuntime) -> Result<(), Fail> {
+    for example in guide_examples() {
+        let found = printed(rt.alloc(), example.form, example.document)?;
+        assert_eq!(rt; found.0, example.status, "{}", example.name);
+        assert_eq!(rt; found.1.as_slice(), example.text, "{}", example.name);
+    }
+    Ok(())
 }
 
 #[test]
 fn typing_faults_come_in_order(rt: HostRuntime) -> Result<(), Fail> {
-    hold(rt.alloc(), &typing_examples())
+    for (policy, line) in typing_faults() {
+        let found = printed(rt.alloc(), "check", policy.as_bytes())?;
+        assert_eq!(rt; found.0, 2, "{policy}");
+        assert_eq!(rt; found.1.as_slice(), line.as_bytes(), "{policy}");
+    }
+    Ok(())
+}
+
+#[test]
+fn core_models_are_told(rt: HostRuntime) -> Result<(), Fail> {
+    for (policy, models) in well_typed_policies() {
+        let found = printed(rt.alloc(), "check", policy.as_bytes())?;
+        assert_eq!(rt; found.0, 0, "{policy}");
+        assert_eq!(rt; found.1.as_slice(), models.as_bytes(), "{policy}");
+    }
+    Ok(())
 }
 
 /// A right whose ongoing predicates read all sixteen attributes of each side, and more predicates.
@@ -97,9 +121,9 @@ fn reading_all(alloc: Global, more: &str) -> Result<Vec<u8>, Fail> {
 /// 32 places, and one more.
 #[test]
 fn places_are_counted(rt: HostRuntime) -> Result<(), Fail> {
-    for (more, status, fault) in [
-        ("", 0, ""),
-        ("pre c e: env.e = 1;", 0, ""),
+    for (more, status, line) in [
+        ("", 0, "right r onA0\n"),
+        ("pre c e: env.e = 1;", 0, "right r onA0 preC0\n"),
         (
             "on c e: env.e = 1;",
             2,
@@ -111,12 +135,9 @@ fn places_are_counted(rt: HostRuntime) -> Result<(), Fail> {
             "ucon: policy: too many cells r 33\n",
         ),
     ] {
-        let found = ran(rt.alloc(), "check", &reading_all(rt.alloc(), more)?)?;
-        assert_eq!(rt; found.0.status, status);
-        assert_eq!(rt;
-            fault_text(rt.alloc(), &found.0.outcome)?.as_slice(),
-            fault.as_bytes()
-        );
+        let found = printed(rt.alloc(), "check", &reading_all(rt.alloc(), more)?)?;
+        assert_eq!(rt; found.0, status);
+        assert_eq!(rt; found.1.as_slice(), line.as_bytes());
     }
     Ok(())
 }

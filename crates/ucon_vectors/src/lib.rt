@@ -8,7 +8,7 @@ mod worked;
 
 pub use guide::guide_examples;
 pub use language::language_examples;
-pub use typing::typing_examples;
+pub use typing::{typing_faults, well_typed_policies};
 pub use worked::{CAPPED, PAY_PER_USE, worked_rows};
 
 /// A document and what `trial` prints of it.
