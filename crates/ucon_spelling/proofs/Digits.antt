@@ -1,16 +1,16 @@
 -- Where digits stop being the beginning of a number.
-use Rattle.std.proofs.Common.{◌≡◌, ℕ, ◌+◌, ◌≤◌, Bool, true, false, ◌&&◌, List, [], ◌∷◌, ◌++◌, length, Option, None, Some, inl, inr, refl, sym, ap, ◌∙◌, arith, append-nil, length-append, subst}
+use Rattle.std.proofs.Common.{◌≡◌, ℕ, ◌+◌, Bool, true, false, ◌&&◌, List, [], ◌∷◌, ◌++◌, length, Option, None, Some, inl, inr, refl, sym, ap, ◌∙◌, arith, append-nil, length-append, subst}
 use Rattle.std.specs.Prelude.{nat_le, nat_lt, option_map, if◌then◌else◌}
 use Rattle.std.specs.List.{list_all}
-use Rattle.std.proofs.lemmas.Bool.{and_parts, and_from, cases_Bool, ne_eqb, leb-true, lt-ltb, le-ltb, true≢false, false≢true}
+use Rattle.std.proofs.lemmas.Bool.{and_parts, and_from, cases_Bool, lt-ltb, le-ltb, true≢false, false≢true}
 use Rattle.ucon_base.specs.Reading.{is_digit, bad_number_place}
-use Rattle.ucon_spelling.specs.Spellings.{is_number, open_text, counted}
-use Rattle.ucon_spelling.proofs.Fronts.{Found, Refused, EndsAt, Run, run, all_at, counted_none}
+use Rattle.ucon_spelling.specs.Spellings.{is_number}
+use Rattle.ucon_spelling.proofs.Fronts.{Found, Refused, EndsAt, Run, run, all_at}
 
 abbrev pub IsNumber : List ℕ → Type 0
 IsNumber l = is_number l ≡ true
 
--- bytes that stop behind a front without a `"`
+-- bytes that stop behind a front of this length
 pub record Short (P : List ℕ → Type 0) (bs : List ℕ) (p : ℕ) : Type 0 where
   pub front : List ℕ
   pub rest : List ℕ
@@ -18,26 +18,16 @@ pub record Short (P : List ℕ → Type 0) (bs : List ℕ) (p : ℕ) : Type 0 wh
   pub begun : (more : List ℕ) × P (front ++ more)
   pub refused : Refused P front rest
   pub len : p ≡ length front
-  pub shut : (at : ℕ) → open_text None at front ≡ None
 
-pub found_short : (P : List ℕ → Type 0) (at : ℕ) (bs : List ℕ) (p n : ℕ) → n ≡ at + p → Short P bs p → Found P None at bs n
-found_short P at bs p n e h = record {
+pub found_short : (P : List ℕ → Type 0) (W : List ℕ → ℕ → Type 0) (at : ℕ) (bs : List ℕ) (p n : ℕ) → n ≡ at + p → Short P bs p → Found P W at bs n
+found_short P W at bs p n e h = record {
   front = h.front;
   rest = h.rest;
   split = h.split;
   begun = h.begun;
   refused = h.refused;
-  place =
-      let here : n ≡ at + length h.front = omega (arith, e, h.len) in
-      here ∙ sym (ap (λ o. counted o (at + length h.front) h.rest) (h.shut at) ∙ counted_none (at + length h.front) h.rest);
+  why = inl (omega (arith, e, h.len));
 }
-
-digits_shut : (ds : List ℕ) (at : ℕ) → list_all is_digit ds ≡ true → open_text None at ds ≡ None
-digits_shut [] at h = refl
-digits_shut (d ∷ ds) at h =
-    let parts = and_parts (is_digit d) (list_all is_digit ds) h in
-    let low : 48 ≤ d = leb-true 48 d (and_parts (nat_le 48 d) (nat_le d 57) parts.0).0 in
-    rw (ne_eqb d 34 (λ e. omega (arith, low, e))) (digits_shut ds (at + 1) parts.1)
 
 -- whether a byte is 1 to 9
 abbrev leads : ℕ → Bool
@@ -51,13 +41,7 @@ not_leading b bs h = record {
   begun = (49 ∷ [], refl);
   refused = λ more k. true≢false (sym (and_parts (leads b) (list_all is_digit more) k).0 ∙ h);
   len = refl;
-  shut = λ at. refl;
 }
-
-leading_shut : (b : ℕ) (ds : List ℕ) (at : ℕ) → leads b ≡ true → list_all is_digit ds ≡ true → open_text None at (b ∷ ds) ≡ None
-leading_shut b ds at lead h =
-    let low : 49 ≤ b = leb-true 49 b (and_parts (nat_le 49 b) (nat_le b 57) lead).0 in
-    rw (ne_eqb b 34 (λ e. omega (arith, low, e))) (digits_shut ds (at + 1) h)
 
 -- digits that a byte stops
 stopped_by : (b : ℕ) (ds : List ℕ) (c : ℕ) (r : List ℕ) → leads b ≡ true → list_all is_digit ds ≡ true → is_digit c ≡ false → Short IsNumber (b ∷ ds ++ c ∷ r) (length ds + 1)
@@ -68,7 +52,6 @@ stopped_by b ds c r lead h isnt = record {
   begun = ([], ap is_number (append-nil (b ∷ ds)) ∙ and_from (leads b) (list_all is_digit ds) lead h);
   refused = λ more k. true≢false (sym (all_at is_digit ds c more (and_parts (leads b) (list_all is_digit (ds ++ c ∷ more)) k).1) ∙ isnt);
   len = omega arith;
-  shut = λ at. leading_shut b ds at lead h;
 }
 
 abbrev pub Numbered : List ℕ → Option ℕ → Type 0
@@ -87,7 +70,7 @@ place_from b ds (c ∷ r) lead h ends =
     rw (lt-ltb (length ds) (length (ds ++ c ∷ r)) (omega (arith, length-append ds (c ∷ r)))) (stopped_by b ds c r lead h ends)
 
 pub numbered : (bs : List ℕ) → Numbered bs (bad_number_place bs)
-numbered [] = record { front = []; rest = []; split = refl; begun = (49 ∷ [], refl); refused = false≢true; len = refl; shut = λ at. refl }
+numbered [] = record { front = []; rest = []; split = refl; begun = (49 ∷ [], refl); refused = false≢true; len = refl }
 numbered (b ∷ bs) =
     elim (cases_Bool (leads b)) [
       | inl lead ↦

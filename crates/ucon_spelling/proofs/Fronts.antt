@@ -1,68 +1,63 @@
 -- Bytes that are read as far as they can be: they are what is asked for, or stop being its beginning behind a front.
-use Rattle.std.proofs.Common.{◌≡◌, ℕ, suc, ◌+◌, Bool, true, false, not, List, [], ◌∷◌, ◌++◌, length, Option, Some, None, inl, inr, refl, ap, ◌∙◌, arith}
-use Rattle.std.specs.Prelude.{◌==◌, ◌||◌, if◌then◌else◌, ⊤}
+use Rattle.std.proofs.Common.{◌≡◌, ℕ, suc, ◌+◌, ◌⊎◌, Bool, true, false, not, List, [], ◌∷◌, ◌++◌, length, Option, Some, None, inl, inr, refl, ap, arith}
+use Rattle.std.specs.Prelude.{⊤}
 use Rattle.std.specs.List.{list_all, prefix_len}
 use Rattle.std.proofs.lemmas.Bool.{and_parts, and_from, cases_Bool}
-use Rattle.ucon_base.specs.TextBytes.{is_text_byte}
-use Rattle.ucon_spelling.specs.Spellings.{turned, open_text, counted}
 
 abbrev pub Refused : (List ℕ → Type 0) → List ℕ → List ℕ → Type 0
 Refused P front [] = P front → ⊥
 Refused P front (b ∷ rest) = (more : List ℕ) → P (front ++ b ∷ more) → ⊥
 
-pub record Found (P : List ℕ → Type 0) (quote : Option ℕ) (at : ℕ) (bs : List ℕ) (p : ℕ) : Type 0 where
+-- no reason but the place itself
+abbrev pub Never : List ℕ → ℕ → Type 0
+Never bs p = ⊥
+
+-- bytes stop behind a front, at a place that counts as itself or for this reason
+pub record Found (P : List ℕ → Type 0) (W : List ℕ → ℕ → Type 0) (at : ℕ) (bs : List ℕ) (p : ℕ) : Type 0 where
   pub front : List ℕ
   pub rest : List ℕ
   pub split : bs ≡ front ++ rest
   pub begun : (more : List ℕ) × P (front ++ more)
   pub refused : Refused P front rest
-  pub place : p ≡ counted (open_text quote at front) (at + length front) rest
+  pub why : (p ≡ at + length front) ⊎ W bs p
 
 -- what is told of bytes by the place where they are bad, if there is one
-abbrev pub Told : (List ℕ → Type 0) → Option ℕ → ℕ → List ℕ → Option ℕ → Type 0
-Told P quote at bs None = P bs
-Told P quote at bs (Some p) = Found P quote at bs p
+abbrev pub Told : (List ℕ → Type 0) → (List ℕ → ℕ → Type 0) → ℕ → List ℕ → Option ℕ → Type 0
+Told P W at bs None = P bs
+Told P W at bs (Some p) = Found P W at bs p
 
 behind_refused : (P Q : List ℕ → Type 0) (b : ℕ) (front rest : List ℕ) → ((l : List ℕ) → Q (b ∷ l) → P l) → Refused P front rest → Refused Q (b ∷ front) rest
 behind_refused P Q b front [] back h = λ q. h (back front q)
 behind_refused P Q b front (c ∷ rest) back h = λ more q. h more (back (front ++ c ∷ more) q)
 
+why_behind : (W V : List ℕ → ℕ → Type 0) (at b p n : ℕ) (bs : List ℕ) → ((q : ℕ) → W bs q → V (b ∷ bs) q) → (p ≡ at + 1 + n) ⊎ W bs p → (p ≡ at + suc n) ⊎ V (b ∷ bs) p
+why_behind W V at b p n bs carry (inl e) = inl (omega (arith, e))
+why_behind W V at b p n bs carry (inr w) = inr (carry p w)
+
 -- one byte more at the front
-pub told_behind : (P Q : List ℕ → Type 0) (quote turn : Option ℕ) (at b : ℕ) (bs : List ℕ) (o : Option ℕ)
-    → ((l : List ℕ) → P l → Q (b ∷ l)) → ((l : List ℕ) → Q (b ∷ l) → P l) → turn ≡ (if b == 34 then turned quote at else quote)
-    → Told P turn (at + 1) bs o → Told Q quote at (b ∷ bs) o
-told_behind P Q quote turn at b bs None there back e h = there bs h
-told_behind P Q quote turn at b bs (Some p) there back e h = record {
+pub told_behind : (P Q : List ℕ → Type 0) (W V : List ℕ → ℕ → Type 0) (at b : ℕ) (bs : List ℕ) (o : Option ℕ)
+    → ((l : List ℕ) → P l → Q (b ∷ l)) → ((l : List ℕ) → Q (b ∷ l) → P l) → ((p : ℕ) → W bs p → V (b ∷ bs) p)
+    → Told P W (at + 1) bs o → Told Q V at (b ∷ bs) o
+told_behind P Q W V at b bs None there back carry h = there bs h
+told_behind P Q W V at b bs (Some p) there back carry h = record {
   front = b ∷ h.front;
   rest = h.rest;
   split = ap (λ l. b ∷ l) h.split;
   begun = (h.begun.0, there (h.front ++ h.begun.0) h.begun.1);
   refused = behind_refused P Q b h.front h.rest back h.refused;
-  place =
-      let far : at + 1 + length h.front ≡ at + suc (length h.front) = omega arith in
-      h.place ∙ ap (λ o. counted (open_text o (at + 1) h.front) (at + 1 + length h.front) h.rest) e
-      ∙ ap (λ n. counted (open_text (if b == 34 then turned quote at else quote) (at + 1) h.front) n h.rest) far;
+  why = why_behind W V at b p (length h.front) bs carry h.why;
 }
 
 -- bytes that stop at once
-pub stops_here : (P : List ℕ → Type 0) (quote : Option ℕ) (at : ℕ) (bs : List ℕ) (p : ℕ) → (more : List ℕ) → P more → Refused P [] bs → p ≡ counted quote at bs → Found P quote at bs p
-stops_here P quote at bs p more ok stuck e = record {
+pub stops_here : (P : List ℕ → Type 0) (W : List ℕ → ℕ → Type 0) (at : ℕ) (bs : List ℕ) (p : ℕ) → (more : List ℕ) → P more → Refused P [] bs → (p ≡ at) ⊎ W bs p → Found P W at bs p
+stops_here P W at bs p more ok stuck why = record {
   front = [];
   rest = bs;
   split = refl;
   begun = (more, ok);
   refused = stuck;
-  place = let here : at + 0 ≡ at = omega arith in rw here e;
+  why = let here : at + 0 ≡ at = omega arith in rw here why;
 }
-
--- where no text is open, a place counts as itself
-pub counted_none : (at : ℕ) (bs : List ℕ) → counted None at bs ≡ at
-counted_none at [] = refl
-counted_none at (b ∷ bs) =
-    elim (cases_Bool (is_text_byte b || b == 34)) [
-      | inl is ↦ rw is refl
-      | inr isnt ↦ rw isnt refl
-    ]
 
 -- a byte that stands in bytes that all pass
 pub all_at : (p : ℕ → Bool) (front : List ℕ) (b : ℕ) (rest : List ℕ) → list_all p (front ++ b ∷ rest) ≡ true → p b ≡ true

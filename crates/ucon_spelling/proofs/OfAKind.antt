@@ -77,7 +77,7 @@ chain_above u (t ∷ ts) h =
     let parts = and_parts (below u t) (is_rising (t ∷ ts)) h in
     and_from (below u t) (chain (Some t) ts) parts.0 (chain_above t ts parts.1)
 
-chain_from_rising : (ts : List (List ℕ)) → is_rising ts ≡ true → chain None ts ≡ true
+pub chain_from_rising : (ts : List (List ℕ)) → is_rising ts ≡ true → chain None ts ≡ true
 chain_from_rising [] h = refl
 chain_from_rising (t ∷ ts) h = chain_above t ts h
 

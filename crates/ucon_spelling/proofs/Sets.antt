@@ -1,8 +1,8 @@
 -- Where the bytes of a set stop being the beginning of one.
-use Rattle.std.proofs.Common.{◌≡◌, ℕ, ◌+◌, ◌⊎◌, true, false, List, [], ◌∷◌, ◌++◌, length, Option, Some, None, Ok, Err, inl, inr, refl, sym, ap, ◌∙◌, arith, append_assoc, append-nil, subst}
-use Rattle.std.specs.Prelude.{Result, ◌==◌, ◌||◌, ⊤}
+use Rattle.std.proofs.Common.{◌≡◌, ℕ, ◌+◌, ◌⊎◌, true, false, List, [], ◌∷◌, ◌++◌, length, Option, Some, None, Ok, Err, inl, inr, refl, sym, ap, ◌∙◌, arith, append_assoc, append-nil, length-append, subst}
+use Rattle.std.specs.Prelude.{Result, ◌==◌, ⊤}
 use Rattle.std.specs.List.{list_all}
-use Rattle.std.proofs.lemmas.Bool.{and_parts, and_from, or_cases, or_left, or_right, or_from, cases_Bool, eqb-true, eqb-false, eq-eqb, ne_eqb, le-ltb, true≢false, false≢true, true_from_ne_false}
+use Rattle.std.proofs.lemmas.Bool.{and_parts, and_from, or_cases, or_left, cases_Bool, eqb-true, eqb-false, eq-eqb, le-ltb, true≢false, false≢true, true_from_ne_false, false_from_ne_true}
 use Rattle.ucon_base.specs.declared.value_fault.ValueFault.{ValueFault}
 use Rattle.ucon_base.specs.declared.value_fault.ValueFault.TheVariants.{BadSpelling, TooLong, TooMany, OutOfRange, NoMemory}
 use Rattle.ucon_base.specs.Reading.{Member, Stage, rises, can_rise, begins_with, inside, opened, behind, awaiting, closed, before, members}
@@ -11,8 +11,8 @@ use Rattle.ucon_base.specs.TextBytes.{is_text_byte}
 use Rattle.ucon_base.proofs.Rising.{below}
 use Rattle.ucon_base.proofs.Runs.{can_rise_more, can_rise_first}
 use Rattle.ucon_base.proofs.SetsRead.{chain, Fine, ending, regrouped}
-use Rattle.ucon_spelling.specs.Spellings.{is_plain, counted}
-use Rattle.ucon_spelling.proofs.Fronts.{Refused, Told, told_behind, stops_here, counted_none, all_at}
+use Rattle.ucon_spelling.specs.Spellings.{is_plain}
+use Rattle.ucon_spelling.proofs.Fronts.{Refused, Told, told_behind, stops_here, all_at}
 
 -- the place where a reading found a bad spelling
 abbrev pub bad : {A : Type 0} → Result A ValueFault → Option ℕ
@@ -39,26 +39,45 @@ Rest last awaiting l = (ts : List (List ℕ)) × Fine last ts × (44 ∷ l ≡ e
 Rest last (inside q t) l = (ts : List (List ℕ)) × Fine last ts × (44 ∷ 34 ∷ (t ++ l) ≡ ending ts)
 Rest last opened l = (ts : List (List ℕ)) × Fine last ts × (123 ∷ l ≡ set_spelling ts)
 
--- the place of the open text
-abbrev pub opening : Stage → Option ℕ
-opening (inside q t) = Some q
-opening opened = None
-opening behind = None
-opening awaiting = None
-opening closed = None
+-- the last text of some behind another
+abbrev pub last_of : Option (List ℕ) → List (List ℕ) → Option (List ℕ)
+last_of last [] = last
+last_of last (t ∷ ts) = last_of (Some t) ts
+
+-- no text that begins so rises, or a `"` closes it and it doesn't
+abbrev pub NoRise : Option (List ℕ) → List ℕ → List ℕ → Type 0
+NoRise last t rest = ((w : List ℕ) → rises last (t ++ w) ≡ false) ⊎ ((more : List ℕ) × (rest ≡ 34 ∷ more) × (rises last t ≡ false))
+
+-- a text behind others that doesn't rise, in bytes that begin with the `,` before the first, behind whose `,` this place lies
+pub record FallIn (last : Option (List ℕ)) (bs : List ℕ) (at p : ℕ) : Type 0 where
+  pub others : List (List ℕ)
+  pub text : List ℕ
+  pub rest : List ℕ
+  pub split : bs ≡ more_texts others ++ 44 ∷ 34 ∷ (text ++ rest)
+  pub fine : Fine last others
+  pub plain : is_plain text ≡ true
+  pub stuck : NoRise (last_of last others) text rest
+  pub place : p ≡ at + length (more_texts others)
+
+abbrev pub Fall : Option (List ℕ) → Stage → ℕ → List ℕ → ℕ → Type 0
+Fall last closed at l p = ⊥
+Fall last behind at l p = FallIn last l (at + 1) p
+Fall last awaiting at l p = FallIn last (44 ∷ l) at p
+Fall last (inside q t) at l p = FallIn last (44 ∷ 34 ∷ (t ++ l)) q p
+Fall last opened at l p = FallIn last (44 ∷ l) at p
 
 -- the last text is a text, and the open one can rise
 abbrev pub Plain : Option (List ℕ) → Type 0
 Plain None = ⊤
 Plain (Some u) = is_plain u ≡ true
 
--- the open text can rise
-abbrev pub Alive : Option (List ℕ) → Stage → Type 0
-Alive last (inside q t) = (is_plain t ≡ true) × (can_rise last t ≡ true)
-Alive last opened = ⊤
-Alive last behind = ⊤
-Alive last awaiting = ⊤
-Alive last closed = ⊤
+-- the open text can rise, and this is the place behind it
+abbrev pub Alive : Option (List ℕ) → Stage → ℕ → Type 0
+Alive last (inside q t) at = (is_plain t ≡ true) × (can_rise last t ≡ true) × (at ≡ q + 1 + length t)
+Alive last opened at = ⊤
+Alive last behind at = ⊤
+Alive last awaiting at = ⊤
+Alive last closed at = ⊤
 
 -- ---- texts that rise
 
@@ -90,7 +109,7 @@ past (a ∷ u) (c ∷ t) h plain =
     (r.0, (r.1.0, below_both a c u (t ++ r.0) parts.0 r.1.1))
 
 -- a text that can rise does with some more bytes
-risen : (last : Option (List ℕ)) (t : List ℕ) → Plain last → can_rise last t ≡ true → (w : List ℕ) × ((is_plain w ≡ true) × (rises last (t ++ w) ≡ true))
+pub risen : (last : Option (List ℕ)) (t : List ℕ) → Plain last → can_rise last t ≡ true → (w : List ℕ) × ((is_plain w ≡ true) × (rises last (t ++ w) ≡ true))
 risen None t plain h = ([], (refl, refl))
 risen (Some u) t plain h =
     elim (or_cases (below u t) (begins_with u t) h) [
@@ -102,7 +121,7 @@ can_rise_if : (last : Option (List ℕ)) (t : List ℕ) → rises last t ≡ tru
 can_rise_if None t h = refl
 can_rise_if (Some u) t h = or_left (below u t) (begins_with u t) h
 
-can_rise_front : (last : Option (List ℕ)) (t w : List ℕ) → rises last (t ++ w) ≡ true → can_rise last t ≡ true
+pub can_rise_front : (last : Option (List ℕ)) (t w : List ℕ) → rises last (t ++ w) ≡ true → can_rise last t ≡ true
 can_rise_front last t w h = true_from_ne_false (can_rise last t) (λ stopped. true≢false (sym (can_rise_if last (t ++ w) h) ∙ can_rise_more last t w stopped))
 
 -- ---- a text and what stands behind it
@@ -121,13 +140,13 @@ pub record Parts (last : Option (List ℕ)) (t : List ℕ) (ts : List (List ℕ)
   pub up : rises last t ≡ true
   pub others : Fine (Some t) ts
 
-fine_parts : (last : Option (List ℕ)) (t : List ℕ) (ts : List (List ℕ)) → Fine last (t ∷ ts) → Parts last t ts
+pub fine_parts : (last : Option (List ℕ)) (t : List ℕ) (ts : List (List ℕ)) → Fine last (t ∷ ts) → Parts last t ts
 fine_parts last t ts h =
     let rising = and_parts (rises last t) (chain (Some t) ts) h.rising in
     let each = and_parts (is_plain t) (list_all is_plain ts) h.plain in
     record { plain = each.0; up = rising.0; others = record { rising = rising.1; plain = each.1 } }
 
-text_then : (t : List ℕ) (ts : List (List ℕ)) → ending (t ∷ ts) ≡ 44 ∷ 34 ∷ (t ++ 34 ∷ ending ts)
+pub text_then : (t : List ℕ) (ts : List (List ℕ)) → ending (t ∷ ts) ≡ 44 ∷ 34 ∷ (t ++ 34 ∷ ending ts)
 text_then t ts = ap (λ l. 44 ∷ 34 ∷ l) (sym (regrouped t (more_texts ts)))
 
 -- what stands in an open text: it has a text whose bytes begin so, and what stands behind
@@ -178,7 +197,7 @@ goes (a ∷ t) b more (c ∷ u) rest h k e =
     subst (λ x. Goes (a ∷ t) b more (x ∷ u) rest) same (goes_more a t b more u rest further)
 
 -- an open text that can rise can be ended
-completed : (last : Option (List ℕ)) (q : ℕ) (t : List ℕ) → Plain last → Alive last (inside q t) → (more : List ℕ) × Rest last (inside q t) more
+completed : (last : Option (List ℕ)) (q : ℕ) (t : List ℕ) → Plain last → (is_plain t ≡ true) × (can_rise last t ≡ true) → (more : List ℕ) × Rest last (inside q t) more
 completed last q t plain alive =
     let r = risen last t plain alive.1 in (
       r.0 ++ 34 ∷ 125 ∷ [],
@@ -197,9 +216,9 @@ abbrev pub Next : (ℕ → List ℕ → Type 0) → List ℕ → Type 0
 Next F [] = ⊤
 Next F (b ∷ bs) = F b bs
 
-told_closed : (last : Option (List ℕ)) (at : ℕ) (bs : List ℕ) → Told (Rest last closed) None at bs (bad (members last closed at bs))
+told_closed : (last : Option (List ℕ)) (at : ℕ) (bs : List ℕ) → Told (Rest last closed) (Fall last closed at) at bs (bad (members last closed at bs))
 told_closed last at [] = refl
-told_closed last at (b ∷ bs) = stops_here (Rest last closed) None at (b ∷ bs) at [] refl (λ more e. omega (arith, ap length e)) (sym (counted_none at (b ∷ bs)))
+told_closed last at (b ∷ bs) = stops_here (Rest last closed) (Fall last closed at) at (b ∷ bs) at [] refl (λ more e. omega (arith, ap length e)) (inl refl)
 
 set_opens : (ts : List (List ℕ)) (l : List ℕ) → 123 ∷ l ≡ set_spelling ts → (44 ∷ l ≡ ending ts) ⊎ ((l ≡ 125 ∷ []) × (ts ≡ []))
 set_opens [] l h = inr (ap tail h, refl)
@@ -246,22 +265,22 @@ opened_refused last b bs isnt other = λ more h.
     ]
 
 told_opened : (last : Option (List ℕ)) (at : ℕ) (bs : List ℕ)
-    → Next (λ c l. Told (Rest last (inside at [])) (Some at) (at + 1) l (bad (members last (inside at []) (at + 1) l))) bs
-    → Told (Rest last opened) None at bs (bad (members last opened at bs))
-told_opened last at [] h = stops_here (Rest last opened) None at [] at (125 ∷ []) ([], fine_none last, refl) (λ r. opened_some last [] r refl) refl
+    → Next (λ c l. Told (Rest last (inside at [])) (Fall last (inside at []) (at + 1)) (at + 1) l (bad (members last (inside at []) (at + 1) l))) bs
+    → Told (Rest last opened) (Fall last opened at) at bs (bad (members last opened at bs))
+told_opened last at [] h = stops_here (Rest last opened) (Fall last opened at) at [] at (125 ∷ []) ([], fine_none last, refl) (λ r. opened_some last [] r refl) (inl refl)
 told_opened last at (b ∷ bs) h =
     elim (cases_Bool (b == 34)) [
       | inl is ↦
           let e : b ≡ 34 = eqb-true b 34 is in
-          rw e (told_behind (Rest last (inside at [])) (Rest last opened) None (Some at) at 34 bs (bad (members last (inside at []) (at + 1) bs))
-          (λ l r. (r.0, r.1, set_from r.0 l r.2)) (opened_text last at) refl h)
+          rw e (told_behind (Rest last (inside at [])) (Rest last opened) (Fall last (inside at []) (at + 1)) (Fall last opened at) at 34 bs (bad (members last (inside at []) (at + 1) bs))
+          (λ l r. (r.0, r.1, set_from r.0 l r.2)) (opened_text last at) (λ p w. w) h)
       | inr isnt ↦
           elim (cases_Bool (b == 125)) [
             | inl ends ↦
                 let e : b ≡ 125 = eqb-true b 125 ends in
-                rw e (told_behind (Rest last closed) (Rest last opened) None None at 125 bs (bad (members last closed (at + 1) bs))
-                (λ l none. ([], fine_none last, ap (λ x. 123 ∷ 125 ∷ x) none)) (opened_end last) refl (told_closed last (at + 1) bs))
-            | inr other ↦ rw (isnt, other) (stops_here (Rest last opened) None at (b ∷ bs) at (125 ∷ []) ([], fine_none last, refl) (opened_refused last b bs isnt other) (sym (counted_none at (b ∷ bs))))
+                rw e (told_behind (Rest last closed) (Rest last opened) (Fall last closed (at + 1)) (Fall last opened at) at 125 bs (bad (members last closed (at + 1) bs))
+                (λ l none. ([], fine_none last, ap (λ x. 123 ∷ 125 ∷ x) none)) (opened_end last) (λ p w. absurd w) (told_closed last (at + 1) bs))
+            | inr other ↦ rw (isnt, other) (stops_here (Rest last opened) (Fall last opened at) at (b ∷ bs) at (125 ∷ []) ([], fine_none last, refl) (opened_refused last b bs isnt other) (inl refl))
           ]
     ]
 
@@ -288,21 +307,21 @@ behind_refused last b bs isnt other = λ more h.
     ]
 
 told_behind_text : (last : Option (List ℕ)) (at : ℕ) (bs : List ℕ)
-    → Next (λ c l. Told (Rest last awaiting) None (at + 1) l (bad (members last awaiting (at + 1) l))) bs
-    → Told (Rest last behind) None at bs (bad (members last behind at bs))
-told_behind_text last at [] h = stops_here (Rest last behind) None at [] at (125 ∷ []) ([], fine_none last, refl) (λ r. behind_some r.0 r.2) refl
+    → Next (λ c l. Told (Rest last awaiting) (Fall last awaiting (at + 1)) (at + 1) l (bad (members last awaiting (at + 1) l))) bs
+    → Told (Rest last behind) (Fall last behind at) at bs (bad (members last behind at bs))
+told_behind_text last at [] h = stops_here (Rest last behind) (Fall last behind at) at [] at (125 ∷ []) ([], fine_none last, refl) (λ r. behind_some r.0 r.2) (inl refl)
 told_behind_text last at (b ∷ bs) h =
     elim (cases_Bool (b == 44)) [
       | inl is ↦
           let e : b ≡ 44 = eqb-true b 44 is in
-          rw e (told_behind (Rest last awaiting) (Rest last behind) None None at 44 bs (bad (members last awaiting (at + 1) bs)) (λ l r. r) (λ l r. r) refl h)
+          rw e (told_behind (Rest last awaiting) (Rest last behind) (Fall last awaiting (at + 1)) (Fall last behind at) at 44 bs (bad (members last awaiting (at + 1) bs)) (λ l r. r) (λ l r. r) (λ p w. w) h)
       | inr isnt ↦
           elim (cases_Bool (b == 125)) [
             | inl ends ↦
                 let e : b ≡ 125 = eqb-true b 125 ends in
-                rw e (told_behind (Rest last closed) (Rest last behind) None None at 125 bs (bad (members last closed (at + 1) bs))
-                (λ l none. ([], fine_none last, ap (λ x. 125 ∷ x) none)) (behind_end last) refl (told_closed last (at + 1) bs))
-            | inr other ↦ rw (isnt, other) (stops_here (Rest last behind) None at (b ∷ bs) at (125 ∷ []) ([], fine_none last, refl) (behind_refused last b bs isnt other) (sym (counted_none at (b ∷ bs))))
+                rw e (told_behind (Rest last closed) (Rest last behind) (Fall last closed (at + 1)) (Fall last behind at) at 125 bs (bad (members last closed (at + 1) bs))
+                (λ l none. ([], fine_none last, ap (λ x. 125 ∷ x) none)) (behind_end last) (λ p w. absurd w) (told_closed last (at + 1) bs))
+            | inr other ↦ rw (isnt, other) (stops_here (Rest last behind) (Fall last behind at) at (b ∷ bs) at (125 ∷ []) ([], fine_none last, refl) (behind_refused last b bs isnt other) (inl refl))
           ]
     ]
 
@@ -311,20 +330,20 @@ awaiting_refused last [] h = λ r. omega (arith, ap length (text_opened last [] 
 awaiting_refused last (b ∷ bs) h = λ more r. eqb-false b 34 (h b bs refl) (ap head (text_opened last (b ∷ more) r.0 r.1 r.2).1.0)
 
 told_awaiting : (last : Option (List ℕ)) (at : ℕ) (bs : List ℕ) → Plain last
-    → Next (λ c l. Told (Rest last (inside at [])) (Some at) (at + 1) l (bad (members last (inside at []) (at + 1) l))) bs
-    → Told (Rest last awaiting) None at bs (bad (members last awaiting at bs))
+    → Next (λ c l. Told (Rest last (inside at [])) (Fall last (inside at []) (at + 1)) (at + 1) l (bad (members last (inside at []) (at + 1) l))) bs
+    → Told (Rest last awaiting) (Fall last awaiting at) at bs (bad (members last awaiting at bs))
 told_awaiting last at [] plain h =
     let done = completed last at [] plain (refl, can_rise_first last) in
-    stops_here (Rest last awaiting) None at [] at (34 ∷ done.0) done.1 (awaiting_refused last [] (λ c l e. absurd (omega (arith, ap length e)))) refl
+    stops_here (Rest last awaiting) (Fall last awaiting at) at [] at (34 ∷ done.0) done.1 (awaiting_refused last [] (λ c l e. absurd (omega (arith, ap length e)))) (inl refl)
 told_awaiting last at (b ∷ bs) plain h =
     let done = completed last at [] plain (refl, can_rise_first last) in
     elim (cases_Bool (b == 34)) [
       | inl is ↦
           let e : b ≡ 34 = eqb-true b 34 is in
-          rw e (told_behind (Rest last (inside at [])) (Rest last awaiting) None (Some at) at 34 bs (bad (members last (inside at []) (at + 1) bs)) (λ l r. r) (λ l r. r) refl h)
+          rw e (told_behind (Rest last (inside at [])) (Rest last awaiting) (Fall last (inside at []) (at + 1)) (Fall last awaiting at) at 34 bs (bad (members last (inside at []) (at + 1) bs)) (λ l r. r) (λ l r. r) (λ p w. w) h)
       | inr isnt ↦
-          rw isnt (stops_here (Rest last awaiting) None at (b ∷ bs) at (34 ∷ done.0) done.1
-          (awaiting_refused last (b ∷ bs) (λ c l e. ap (λ x. head x == 34) (sym e) ∙ isnt)) (sym (counted_none at (b ∷ bs))))
+          rw isnt (stops_here (Rest last awaiting) (Fall last awaiting at) at (b ∷ bs) at (34 ∷ done.0) done.1
+          (awaiting_refused last (b ∷ bs) (λ c l e. ap (λ x. head x == 34) (sym e) ∙ isnt)) (inl refl))
     ]
 
 -- ---- in a text
@@ -349,15 +368,6 @@ inside_some last q t plain h =
     let r = in_text last q t [] h in
     let all : is_plain (r.text ++ 34 ∷ ending r.others) ≡ true = ap is_plain (sym r.bytes ∙ append-nil t) ∙ plain in
     false≢true (all_at is_text_byte r.text 34 (ending r.others) all)
-
-pub not_quote : (b : ℕ) → is_text_byte b ≡ true → (b == 34) ≡ false
-not_quote b is = ne_eqb b 34 (λ e. false≢true (sym (ap is_text_byte e) ∙ is))
-
-counted_in : (q at b : ℕ) (bs : List ℕ) → (is_text_byte b || b == 34) ≡ true → q ≡ counted (Some q) at (b ∷ bs)
-counted_in q at b bs h = rw h refl
-
-pub counted_out : (o : Option ℕ) (at b : ℕ) (bs : List ℕ) → (is_text_byte b || b == 34) ≡ false → at ≡ counted o at (b ∷ bs)
-counted_out o at b bs h = rw h refl
 
 bad_before : (m : Member) (r : Result (List Member) ValueFault) → bad (before m r) ≡ bad r
 bad_before m (Ok ms) = refl
@@ -403,26 +413,72 @@ other_refused last q t b bs plain isnt other = λ more h.
       | inr w ↦ true≢false (sym w.0 ∙ isnt)
     ]
 
-told_inside : (last : Option (List ℕ)) (q : ℕ) (t : List ℕ) (at : ℕ) (bs : List ℕ) → Plain last → Alive last (inside q t)
+fall_more : (last : Option (List ℕ)) (q : ℕ) (t : List ℕ) (b : ℕ) (bs : List ℕ) (p : ℕ) → FallIn last (44 ∷ 34 ∷ ((t ++ b ∷ []) ++ bs)) q p → FallIn last (44 ∷ 34 ∷ (t ++ b ∷ bs)) q p
+fall_more last q t b bs p h = subst (λ l. FallIn last (44 ∷ 34 ∷ l) q p) (append_assoc t (b ∷ []) bs) h
+
+fall_over : (last : Option (List ℕ)) (q at : ℕ) (t : List ℕ) (b : ℕ) (bs : List ℕ) → is_plain t ≡ true → b ≡ 34 → rises last t ≡ true → at ≡ q + 1 + length t
+    → (p : ℕ) → FallIn (Some t) bs (at + 1 + 1) p → FallIn last (44 ∷ 34 ∷ (t ++ b ∷ bs)) q p
+fall_over last q at t b bs plain e up here p h =
+    let more : List ℕ = more_texts h.others in
+    let z : List ℕ = 44 ∷ 34 ∷ (h.text ++ h.rest) in
+    record {
+      others = t ∷ h.others;
+      text = h.text;
+      rest = h.rest;
+      split =
+          ap (λ c. 44 ∷ 34 ∷ (t ++ c ∷ bs)) e ∙ ap (λ l. 44 ∷ 34 ∷ (t ++ 34 ∷ l)) h.split
+          ∙ ap (λ l. 44 ∷ 34 ∷ l) (sym (append_assoc (t ++ 34 ∷ []) more z ∙ append_assoc t (34 ∷ []) (more ++ z)));
+      fine = fine_more last t h.others plain up h.fine;
+      plain = h.plain;
+      stuck = h.stuck;
+      place = omega (arith, h.place, here, length-append (t ++ 34 ∷ []) more, length-append t (34 ∷ []));
+    }
+
+fall_stopped : (last : Option (List ℕ)) (q : ℕ) (t : List ℕ) (b : ℕ) (bs : List ℕ) → is_plain t ≡ true → is_text_byte b ≡ true → can_rise last (t ++ b ∷ []) ≡ false → FallIn last (44 ∷ 34 ∷ (t ++ b ∷ bs)) q q
+fall_stopped last q t b bs plain is stopped = record {
+  others = [];
+  text = t ++ b ∷ [];
+  rest = bs;
+  split = ap (λ l. 44 ∷ 34 ∷ l) (sym (append_assoc t (b ∷ []) bs));
+  fine = fine_none last;
+  plain = plain_more t b plain is;
+  stuck = inl (λ w. false_from_ne_true (rises last ((t ++ b ∷ []) ++ w)) (λ up. true≢false (sym (can_rise_front last (t ++ b ∷ []) w up) ∙ stopped)));
+  place = omega arith;
+}
+
+fall_down : (last : Option (List ℕ)) (q : ℕ) (t : List ℕ) (b : ℕ) (bs : List ℕ) → is_plain t ≡ true → b ≡ 34 → rises last t ≡ false → FallIn last (44 ∷ 34 ∷ (t ++ b ∷ bs)) q q
+fall_down last q t b bs plain e down = record {
+  others = [];
+  text = t;
+  rest = b ∷ bs;
+  split = refl;
+  fine = fine_none last;
+  plain = plain;
+  stuck = inr (bs, ap (λ c. c ∷ bs) e, down);
+  place = omega arith;
+}
+
+told_inside : (last : Option (List ℕ)) (q : ℕ) (t : List ℕ) (at : ℕ) (bs : List ℕ) → Plain last → Alive last (inside q t) at
     → Next (λ c l. is_text_byte c ≡ true → can_rise last (t ++ c ∷ []) ≡ true
-    → Told (Rest last (inside q (t ++ c ∷ []))) (Some q) (at + 1) l (bad (members last (inside q (t ++ c ∷ [])) (at + 1) l))) bs
-    → Next (λ c l. Told (Rest (Some t) behind) None (at + 1) l (bad (members (Some t) behind (at + 1) l))) bs
-    → Told (Rest last (inside q t)) (Some q) at bs (bad (members last (inside q t) at bs))
+    → Told (Rest last (inside q (t ++ c ∷ []))) (Fall last (inside q (t ++ c ∷ [])) (at + 1)) (at + 1) l (bad (members last (inside q (t ++ c ∷ [])) (at + 1) l))) bs
+    → Next (λ c l. Told (Rest (Some t) behind) (Fall (Some t) behind (at + 1)) (at + 1) l (bad (members (Some t) behind (at + 1) l))) bs
+    → Told (Rest last (inside q t)) (Fall last (inside q t) at) at bs (bad (members last (inside q t) at bs))
 told_inside last q t at [] plain alive within over =
-    let done = completed last q t plain alive in
-    stops_here (Rest last (inside q t)) (Some q) at [] at done.0 done.1 (inside_some last q t alive.0) refl
+    let done = completed last q t plain (alive.0, alive.1) in
+    stops_here (Rest last (inside q t)) (Fall last (inside q t) at) at [] at done.0 done.1 (inside_some last q t alive.0) (inl refl)
 told_inside last q t at (b ∷ bs) plain alive within over =
-    let done = completed last q t plain alive in
+    let done = completed last q t plain (alive.0, alive.1) in
     let P : List ℕ → Type 0 = Rest last (inside q t) in
+    let V : List ℕ → ℕ → Type 0 = Fall last (inside q t) at in
     elim (cases_Bool (is_text_byte b)) [
       | inl is ↦
           elim (cases_Bool (can_rise last (t ++ b ∷ []))) [
             | inl rising ↦
-                rw (is, rising) (told_behind (Rest last (inside q (t ++ b ∷ []))) P (Some q) (Some q) at b bs (bad (members last (inside q (t ++ b ∷ [])) (at + 1) bs))
-                (inside_more last q t b) (inside_less last q t b) (rw (not_quote b is) refl) (within is rising))
+                rw (is, rising) (told_behind (Rest last (inside q (t ++ b ∷ []))) P (Fall last (inside q (t ++ b ∷ [])) (at + 1)) V at b bs (bad (members last (inside q (t ++ b ∷ [])) (at + 1) bs))
+                (inside_more last q t b) (inside_less last q t b) (fall_more last q t b bs) (within is rising))
             | inr stopped ↦
-                rw (is, stopped) (stops_here P (Some q) at (b ∷ bs) q done.0 done.1 (stopped_refused last q t b bs alive.0 is stopped)
-                (counted_in q at b bs (or_left (is_text_byte b) (b == 34) is)))
+                rw (is, stopped) (stops_here P V at (b ∷ bs) q done.0 done.1 (stopped_refused last q t b bs alive.0 is stopped)
+                (inr (fall_stopped last q t b bs alive.0 is stopped)))
           ]
       | inr isnt ↦
           elim (cases_Bool (b == 34)) [
@@ -430,30 +486,30 @@ told_inside last q t at (b ∷ bs) plain alive within over =
                 elim (cases_Bool (rises last t)) [
                   | inl up ↦
                       let r : Result (List Member) ValueFault = members (Some t) behind (at + 1) bs in
-                      rw (isnt, ends, up, bad_before (record { at = q; text = t }) r) (told_behind (Rest (Some t) behind) P (Some q) None at b bs (bad r)
-                      (λ l. over_there last q t b l alive.0 (eqb-true b 34 ends) up) (λ l. over_back last q t b l alive.0 isnt) (rw ends refl) over)
+                      rw (isnt, ends, up, bad_before (record { at = q; text = t }) r) (told_behind (Rest (Some t) behind) P (Fall (Some t) behind (at + 1)) V at b bs (bad r)
+                      (λ l. over_there last q t b l alive.0 (eqb-true b 34 ends) up) (λ l. over_back last q t b l alive.0 isnt) (fall_over last q at t b bs alive.0 (eqb-true b 34 ends) up alive.2) over)
                   | inr down ↦
-                      rw (isnt, ends, down) (stops_here P (Some q) at (b ∷ bs) q done.0 done.1 (down_refused last q t b bs alive.0 isnt down)
-                      (counted_in q at b bs (or_right (is_text_byte b) (b == 34) ends)))
+                      rw (isnt, ends, down) (stops_here P V at (b ∷ bs) q done.0 done.1 (down_refused last q t b bs alive.0 isnt down)
+                      (inr (fall_down last q t b bs alive.0 (eqb-true b 34 ends) down)))
                 ]
             | inr other ↦
-                rw (isnt, other) (stops_here P (Some q) at (b ∷ bs) at done.0 done.1 (other_refused last q t b bs alive.0 isnt other)
-                (counted_out (Some q) at b bs (or_from (is_text_byte b) (b == 34) isnt other)))
+                rw (isnt, other) (stops_here P V at (b ∷ bs) at done.0 done.1 (other_refused last q t b bs alive.0 isnt other)
+                (inl refl))
           ]
     ]
 
 -- ---- the reading
 
-pub told_members : (last : Option (List ℕ)) (stage : Stage) (at : ℕ) (bs : List ℕ) → Plain last → Alive last stage → Told (Rest last stage) (opening stage) at bs (bad (members last stage at bs))
+pub told_members : (last : Option (List ℕ)) (stage : Stage) (at : ℕ) (bs : List ℕ) → Plain last → Alive last stage at → Told (Rest last stage) (Fall last stage at) at bs (bad (members last stage at bs))
 told_members last closed at bs plain alive = told_closed last at bs
 told_members last opened at [] plain alive = told_opened last at [] tt
-told_members last opened at (b ∷ bs) plain alive = told_opened last at (b ∷ bs) (told_members last (inside at []) (at + 1) bs plain (refl, can_rise_first last))
+told_members last opened at (b ∷ bs) plain alive = told_opened last at (b ∷ bs) (told_members last (inside at []) (at + 1) bs plain (refl, can_rise_first last, omega arith))
 told_members last behind at [] plain alive = told_behind_text last at [] tt
 told_members last behind at (b ∷ bs) plain alive = told_behind_text last at (b ∷ bs) (told_members last awaiting (at + 1) bs plain tt)
 told_members last awaiting at [] plain alive = told_awaiting last at [] plain tt
-told_members last awaiting at (b ∷ bs) plain alive = told_awaiting last at (b ∷ bs) plain (told_members last (inside at []) (at + 1) bs plain (refl, can_rise_first last))
+told_members last awaiting at (b ∷ bs) plain alive = told_awaiting last at (b ∷ bs) plain (told_members last (inside at []) (at + 1) bs plain (refl, can_rise_first last, omega arith))
 told_members last (inside q t) at [] plain alive = told_inside last q t at [] plain alive tt tt
 told_members last (inside q t) at (b ∷ bs) plain alive =
     told_inside last q t at (b ∷ bs) plain alive
-    (λ is rising. told_members last (inside q (t ++ b ∷ [])) (at + 1) bs plain (plain_more t b alive.0 is, rising))
+    (λ is rising. told_members last (inside q (t ++ b ∷ [])) (at + 1) bs plain (plain_more t b alive.0 is, rising, omega (arith, alive.2, length-append t (b ∷ []))))
     (told_members (Some t) behind (at + 1) bs alive.0 tt)

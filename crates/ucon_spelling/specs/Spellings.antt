@@ -1,6 +1,6 @@
 -- What a spelling of any length is, and where bytes stop being the beginning of one.
-use Rattle.std.specs.Prelude.{◌≡◌, ℕ, ◌+◌, Bool, false, ◌&&◌, ◌||◌, ◌==◌, nat_le, IsTrue, List, [], ◌∷◌, ◌++◌, length, codes, Option, Some, None, unwrap_or, if◌then◌else◌}
-use Rattle.std.specs.List.{list_all}
+use Rattle.std.specs.Prelude.{◌≡◌, ℕ, Bool, false, ◌&&◌, ◌⊎◌, nat_le, IsTrue, List, [], ◌∷◌, ◌++◌, length, codes}
+use Rattle.std.specs.List.{list_all, flat_map}
 use Rattle.ucon_base.specs.Spelling.{quoted, set_spelling}
 use Rattle.ucon_base.specs.TextBytes.{is_text_byte}
 use Rattle.ucon_base.specs.Value.{is_rising}
@@ -32,27 +32,39 @@ abbrev pub Stops : List ℕ → List ℕ → Type 0
 Stops front [] = ¬ IsSpelling front
 Stops front (b ∷ rest) = ¬ Begins (front ++ b ∷ [])
 
--- a `"` at a place opens a text, or closes the one that is open
-abbrev pub turned : Option ℕ → ℕ → Option ℕ
-turned None at = Some at
-turned (Some q) at = None
+-- the bytes of a set up to a text, given the texts before it
+abbrev pub up_to_text : List (List ℕ) → List ℕ
+up_to_text ts = 123 ∷ flat_map (λ t. quoted t ++ 44 ∷ []) ts
 
--- the place of the `"` whose text is still open behind bytes that begin at a place, given the one that is open before them
-abbrev pub open_text : Option ℕ → ℕ → List ℕ → Option ℕ
-open_text quote at [] = quote
-open_text quote at (b ∷ bs) = open_text (if b == 34 then turned quote at else quote) (at + 1) bs
+-- Behind the others a text doesn't rise of which these bytes stand before the rest: no text that begins so rises, or a `"` closes it and
+-- it doesn't rise.
+abbrev pub IsStuck : List (List ℕ) → List ℕ → List ℕ → Type 0
+IsStuck others t rest =
+    ((more : List ℕ) → is_rising (others ++ (t ++ more) ∷ []) ≡ false)
+    ⊎ ((more : List ℕ) × (rest ≡ 34 ∷ more) × (is_rising (others ++ t ∷ []) ≡ false))
 
--- As what a place counts that lies behind a front and before a rest: a byte that may stand in a text, or a `"`, is wrong in an open text
--- only where that text doesn't rise, and counts as the `"` that opens it. Any other byte counts as itself, and the end as the length.
-abbrev pub counted : Option ℕ → ℕ → List ℕ → ℕ
-counted quote at [] = at
-counted quote at (b ∷ rest) = if is_text_byte b || b == 34 then unwrap_or quote at else at
+-- a text of a set doesn't rise, and its `"` opens at this place
+pub record FallsAt (bytes : List ℕ) (p : ℕ) : Type 0 where
+  pub others : List (List ℕ)
+  pub text : List ℕ
+  pub rest : List ℕ
+  pub split : bytes ≡ up_to_text others ++ 34 ∷ (text ++ rest)
+  pub risen : IsTrue (is_rising others)
+  pub plain : IsTrue (list_all is_plain others)
+  pub plain_text : IsTrue (is_plain text)
+  pub stuck : IsStuck others text rest
+  pub place : p ≡ length (up_to_text others)
 
--- the place is where the bytes first stop being the beginning of a spelling, as it counts
-pub record IsBadPlace (bytes : List ℕ) (p : ℕ) : Type 0 where
+-- the bytes first stop being the beginning of a spelling at this place
+pub record StopsAt (bytes : List ℕ) (p : ℕ) : Type 0 where
   pub front : List ℕ
   pub rest : List ℕ
   pub split : bytes ≡ front ++ rest
   pub begun : Begins front
   pub stopped : Stops front rest
-  pub place : p ≡ counted (open_text None 0 front) (length front) rest
+  pub place : p ≡ length front
+
+-- The place of a bad spelling: the `"` of a text that doesn't rise, and where no text falls so, the first place where the bytes stop
+-- being the beginning of a spelling.
+abbrev pub IsBadPlace : List ℕ → ℕ → Type 0
+IsBadPlace bytes p = FallsAt bytes p ⊎ (StopsAt bytes p × ((q : ℕ) → ¬ FallsAt bytes q))
