@@ -23,7 +23,7 @@ abbrev pub lexed : Token → Bytes → Lexed
 lexed t rest = (t, rest)
 
 module _ (t : Token) (bs rest : Bytes) (ts : List Token) (plain : (more : Bool → Bytes → List Token) → with_next (lexed t rest) more ≡ t ∷ more false rest) (is : next_token false bs ≡ lexed t rest) (less : length rest < length bs) (lexes : Lexes rest ts) where
-  token_step : Lexes bs (t ∷ ts)
+  pub token_step : Lexes bs (t ∷ ts)
   unfolding tokens_within
   token_step zero enough = absurd (omega arith)
   token_step (suc n) enough = rw is (plain (tokens_within n) ∙ ap (λ all. t ∷ all) (lexes n (omega arith)))

@@ -1,11 +1,12 @@
 -- Pieces of printed text against the forms of the grammar: what a piece is read as, whatever follows it.
-use Rattle.std.proofs.Common.{◌≡◌, ℕ, zero, suc, ◌+◌, ◌<◌, ◌≤◌, Bool, true, false, ◌||◌, eqb, List, [], ◌∷◌, ◌++◌, length, Option, Some, None, refl, sym, ap, ◌∙◌, subst, arith, append_assoc, ◌⊎◌, inl, inr}
+use Rattle.std.proofs.Common.{◌≡◌, ℕ, zero, suc, ◌+◌, ◌<◌, ◌≤◌, Bool, true, false, ◌||◌, eqb, ltb, List, [], ◌∷◌, ◌++◌, length, Option, Some, None, refl, sym, ap, ◌∙◌, subst, arith, append_assoc, ◌⊎◌, inl, inr}
+use Rattle.std.proofs.lemmas.Bool.{lt-ltb}
 use Rattle.std.proofs.lemmas.List.{append-nil}
 use Rattle.std.specs.List.{prefix_len, flat_map}
 use Rattle.ucon_base.specs.NameBytes.{is_letter, is_word_byte}
 use Rattle.ucon_model.specs.Plain.{Bytes}
 use Rattle.ucon_model.specs.Tokens.{Token, is_digit, begins_word}
-use Rattle.ucon_model.specs.Forms.{Terminal, as_token, Limit, Marked, Form, nothing, one_of, before, and_then, mapped, either_of, listed, at_any_depth, bare, IsClean}
+use Rattle.ucon_model.specs.Forms.{Terminal, as_token, Limit, Marked, beyond, Form, nothing, one_of, before, and_then, mapped, either_of, listed, at_any_depth, bare, IsClean}
 use Rattle.ucon_print.proofs.Lexing.{Lexes}
 
 -- what may follow a word or a number
@@ -72,6 +73,9 @@ clean_append ((t, Some l) ∷ a) b p q = absurd p
 pub clean_one : (t : Terminal) (o : Option Limit) (a : List Marked) → o ≡ None → IsClean a → IsClean ((t, o) ∷ a)
 clean_one t None a e c = c
 clean_one t (Some l) a e c = absurd cc
+
+pub not_beyond : (l : Limit) (most n : ℕ) → n < most → beyond l most n ≡ None
+not_beyond l most n less = let h : ltb n most ≡ true = lt-ltb n most less in rw h refl
 
 module _ {A : Type 0} (E : Bytes → Type 0) where
   pub nothing_printed : (x : A) → Printed E (nothing x) x []
