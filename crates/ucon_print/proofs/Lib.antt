@@ -1,3 +1,4 @@
 pub mod Lexing
 pub mod Pieces
 pub mod Literals
+pub mod Chains
