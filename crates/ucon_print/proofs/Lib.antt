@@ -2,3 +2,4 @@ pub mod Lexing
 pub mod Pieces
 pub mod Literals
 pub mod Chains
+pub mod Expressions
