@@ -3,3 +3,4 @@ pub mod Pieces
 pub mod Literals
 pub mod Chains
 pub mod Expressions
+pub mod Formulas
