@@ -4,3 +4,4 @@ pub mod Literals
 pub mod Chains
 pub mod Expressions
 pub mod Formulas
+pub mod Declarations

@@ -149,3 +149,22 @@ module _ {N A : Type 0} (each : N → Form A) (count : N → A → N) (HasRoom :
         puts = subst (λ z. Puts Any (print a ++ flat_map print xs) z) (sym (bare_append ((each n).tokens p.written) ((listed each count m).tokens r.written)))
             (puts_both Any Any (print a) (flat_map print xs) (bare ((each n).tokens p.written)) (bare ((listed each count m).tokens r.written)) p.puts r.puts (λ rest e. tt));
       }
+
+-- bytes in a row, put together from either end
+pub in_row_3 : (a b c : Bytes) → a ++ (b ++ c) ≡ a ++ b ++ c
+in_row_3 a b c = sym (append_assoc a b c)
+
+pub in_row_4 : (a b c d : Bytes) → a ++ (b ++ (c ++ d)) ≡ a ++ b ++ c ++ d
+in_row_4 a b c d = sym (append_assoc a b (c ++ d)) ∙ in_row_3 (a ++ b) c d
+
+pub in_row_5 : (a b c d e : Bytes) → a ++ (b ++ (c ++ (d ++ e))) ≡ a ++ b ++ c ++ d ++ e
+in_row_5 a b c d e = sym (append_assoc a b (c ++ (d ++ e))) ∙ in_row_4 (a ++ b) c d e
+
+pub in_row_6 : (a b c d e f : Bytes) → a ++ (b ++ (c ++ (d ++ (e ++ f)))) ≡ a ++ b ++ c ++ d ++ e ++ f
+in_row_6 a b c d e f = sym (append_assoc a b (c ++ (d ++ (e ++ f)))) ∙ in_row_5 (a ++ b) c d e f
+
+pub in_row_7 : (a b c d e f g : Bytes) → a ++ (b ++ (c ++ (d ++ (e ++ (f ++ g))))) ≡ a ++ b ++ c ++ d ++ e ++ f ++ g
+in_row_7 a b c d e f g = sym (append_assoc a b (c ++ (d ++ (e ++ (f ++ g))))) ∙ in_row_6 (a ++ b) c d e f g
+
+pub in_row_8 : (a b c d e f g h : Bytes) → a ++ (b ++ (c ++ (d ++ (e ++ (f ++ (g ++ h)))))) ≡ a ++ b ++ c ++ d ++ e ++ f ++ g ++ h
+in_row_8 a b c d e f g h = sym (append_assoc a b (c ++ (d ++ (e ++ (f ++ (g ++ h)))))) ∙ in_row_7 (a ++ b) c d e f g h
