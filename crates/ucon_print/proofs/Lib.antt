@@ -5,3 +5,4 @@ pub mod Chains
 pub mod Expressions
 pub mod Formulas
 pub mod Declarations
+pub mod Entries
