@@ -6,3 +6,4 @@ pub mod Expressions
 pub mod Formulas
 pub mod Declarations
 pub mod Entries
+pub mod Policies
