@@ -1,8 +1,7 @@
 -- Chains as they are printed, one operand more at a time.
-use Rattle.std.proofs.Common.{◌≡◌, ℕ, zero, suc, ◌+◌, ◌<◌, ◌≤◌, List, [], ◌∷◌, ◌++◌, length, Option, Some, None, refl, sym, ap, ◌∙◌, subst, arith, length-append, append_assoc}
+use Rattle.std.proofs.Common.{◌≡◌, ℕ, suc, ◌+◌, ◌<◌, List, [], ◌∷◌, ◌++◌, length, None, refl, sym, ap, ◌∙◌, subst, arith, length-append, append_assoc}
 use Rattle.std.proofs.lemmas.List.{append-nil}
 use Rattle.ucon_model.specs.Plain.{Bytes}
-use Rattle.ucon_model.specs.Tokens.{Token}
 use Rattle.ucon_model.specs.Forms.{Terminal, as_token, operand, Marked, beyond, Form, further_tokens, further_tree, AreProper, chain, bare, IsClean}
 use Rattle.ucon_print.proofs.Pieces.{Any, Puts, puts_both, Printed, bare_append, clean_append, not_beyond}
 
@@ -25,7 +24,11 @@ module _ {O A : Type 0} (token : O → Terminal) (join : O → A → A → A) (X
 
   pub chain_one : (E : Bytes → Type 0) (x : A) (bs : Bytes) → Printed E X x bs → Chained E token join X x 1 bs
   chain_one E x bs p = record {
-    first = p.written; others = []; size = refl; tree = p.tree; proper = (p.proper, tt);
+    first = p.written;
+    others = [];
+    size = refl;
+    tree = p.tree;
+    proper = (p.proper, tt);
     clean = subst IsClean (sym (append-nil (X.tokens p.written))) p.clean;
     puts = subst (λ z. Puts E bs (bare z)) (sym (append-nil (X.tokens p.written))) p.puts;
   }
@@ -51,10 +54,11 @@ module _ {O A : Type 0} (token : O → Terminal) (join : O → A → A → A) (X
       let new : List Marked = (token o, None) ∷ X.tokens p.written in
       let others : List (O × X.Written) = c.others ++ (o, p.written) ∷ [] in
       let whole : X.tokens c.first ++ further_tokens token X 1 others ≡ old ++ new =
-          ap (λ z. X.tokens c.first ++ z) (tokens_more 1 c.others o p.written (omega (arith, c.size)))
-          ∙ sym (append_assoc (X.tokens c.first) (further_tokens token X 1 c.others) new) in
+      ap (λ z. X.tokens c.first ++ z) (tokens_more 1 c.others o p.written (omega (arith, c.size)))
+      ∙ sym (append_assoc (X.tokens c.first) (further_tokens token X 1 c.others) new) in
       record {
-        first = c.first; others = others;
+        first = c.first;
+        others = others;
         size = omega (arith, c.size, length-append c.others ((o, p.written) ∷ []));
         tree = tree_more (X.tree c.first) c.others o p.written ∙ ap (λ z. join o z (X.tree p.written)) c.tree ∙ ap (λ z. join o x z) p.tree;
         proper = (c.proper.0, proper_more c.others o p.written c.proper.1 p.proper);

@@ -1,42 +1,27 @@
 -- Declarations are read as they are printed.
-use Rattle.std.proofs.Common.{◌≡◌, ℕ, ℤ, pos, negsuc, zero, suc, ◌+◌, ◌<◌, ◌≤◌, Bool, true, false, cond, ◌||◌, ◌&&◌, eqb, not, List, [], ◌∷◌, ◌++◌, length, Option, Some, None, decimal, refl, sym, ap, ◌∙◌, subst, arith, append_assoc, ◌⊎◌, inl, inr}
-use Rattle.std.specs.Prelude.{codes, nat_le, count_by}
-use Rattle.std.specs.List.{list_all, flat_map, AllByRecursion}
+use Rattle.std.proofs.Common.{ℕ, ◌<◌, [], ◌∷◌, ◌++◌, None, refl, subst, arith, append_assoc}
+use Rattle.std.specs.Prelude.{codes}
 use Rattle.std.specs.Fmt.{signed_decimal}
 use Rattle.std.proofs.lemmas.List.{append-nil}
-use Rattle.std.proofs.lemmas.List.Sums.{sum_by-cons}
-use Rattle.std.proofs.lemmas.Bool.{and_parts, and_from, le-leb, leb-true, eqb-true, ne_eqb}
-use Rattle.ucon_base.specs.NameBytes.{is_name, is_letter, is_word_byte}
-use Rattle.ucon_base.specs.TextBytes.{is_text_byte}
-use Rattle.ucon_base.specs.Spelling.{quoted, IsValue}
+use Rattle.ucon_base.specs.Spelling.{IsValue}
 use Rattle.ucon_base.specs.declared.value.Side.{Side}
 use Rattle.ucon_base.specs.declared.value.Side.TheVariants as sides
 use Rattle.ucon_base.specs.declared.value.Kind.{Kind}
 use Rattle.ucon_base.specs.declared.value.Kind.TheVariants as kinds
 use Rattle.ucon_base.specs.declared.value.Value.{Value}
-use Rattle.ucon_model.specs.declared.formula.Form.{Form as DutyForm}
-use Rattle.ucon_model.specs.declared.formula.Form.TheVariants as forms
-use Rattle.ucon_model.specs.declared.formula.Obligation.{Obligation}
 use Rattle.ucon_model.specs.declared.policy.AttrDecl.{AttrDecl}
 use Rattle.ucon_model.specs.declared.policy.EnvDecl.{EnvDecl}
-use Rattle.ucon_model.specs.declared.policy.Phase.{Phase}
-use Rattle.ucon_model.specs.declared.policy.Phase.TheVariants as phases
-use Rattle.ucon_model.specs.declared.policy.When.{When}
-use Rattle.ucon_model.specs.declared.policy.When.TheVariants as whens
-use Rattle.ucon_model.specs.Plain.{Bytes, PlainExpr, PlainFormula, PlainTest, authorisation, duty, condition, PlainPredicate, PlainUpdate, PlainRight, PlainPolicy}
-use Rattle.ucon_model.specs.Printing.{literal_printing, expr_printing, formula_printing, kind_printing, side_word, declared_printing, attr_printing, env_printing, form_printing, party_printing, duty_printing, letter_printing, test_printing, phase_printing, predicate_printing, when_printing, update_printing, right_printing, policy_printing}
-use Rattle.ucon_model.specs.Tokens.{Token, a_word, a_text, a_symbol, Symbol, colon, semicolon, dot, dots, equal_sign, open_curly, close_curly, next_token, begin_of, skip, token_from, token_at, symbol_token, single}
-use Rattle.ucon_model.specs.Forms.{Terminal, as_token, word, text, symbol, item, Marked, beyond, Form, nothing, one_of, before, and_then, mapped, either_of, listed, bare, IsClean}
-use Rattle.ucon_model.specs.Limits.{same_side, same_phase, same_when, IsRightWithin}
+use Rattle.ucon_model.specs.Plain.{Bytes}
+use Rattle.ucon_model.specs.Printing.{literal_printing, kind_printing, side_word, declared_printing, attr_printing, env_printing}
+use Rattle.ucon_model.specs.Tokens.{a_word, a_symbol, Symbol, colon, semicolon, dots, equal_sign, next_token, begin_of, skip, token_from, token_at, symbol_token, single}
+use Rattle.ucon_model.specs.Forms.{as_token, word, symbol, item, beyond, Form, nothing, one_of, before, and_then, mapped, either_of, bare}
 use Rattle.ucon_model.specs.Grammar.{SideCount, of_side, count_side, side_token, PhaseCount, of_phase, count_phase, phase_token, WhenCount, of_when, count_when, when_token, expr_of_depth}
 use Rattle.ucon_model.specs.Grammar as grammar
-use Rattle.ucon_print.specs.Printable.{IsName, IsCount, IsKind, IsAttr, IsEnv, IsDutyForm, IsParty, IsDuty, IsTest, IsPredicate, IsUpdate, IsRight}
-use Rattle.ucon_print.proofs.Lexing.{IsWord, IsText}
-use Rattle.ucon_print.proofs.Lexing as lexing
-use Rattle.ucon_print.proofs.Pieces.{Ends, Any, Puts, puts_both, Printed, not_beyond, nothing_printed, one_printed, before_printed, and_then_printed, mapped_printed, left_printed, right_printed, same_printed, blank_printed, depth_printed, weaker, list_printed, in_row_5}
-use Rattle.ucon_print.proofs.Literals.{AtWord, word_of_name, word_puts, name_puts, name_printed, name_begins, number_printed, int_printed, literal_printed, blank_puts, new_line_puts, framed_puts, colon_puts, semicolon_puts, dot_puts, dots_puts, open_curly_puts, close_curly_puts}
-use Rattle.ucon_print.proofs.Expressions.{in_places, whole}
-use Rattle.ucon_print.proofs.Formulas.{framed_word, formula_printed}
+use Rattle.ucon_print.specs.Printable.{IsKind, IsAttr, IsEnv}
+use Rattle.ucon_print.proofs.Lexing.{IsWord}
+use Rattle.ucon_print.proofs.Pieces.{Ends, Any, Puts, puts_both, Printed, not_beyond, nothing_printed, one_printed, before_printed, and_then_printed, mapped_printed, left_printed, right_printed, same_printed, blank_printed, in_row_5}
+use Rattle.ucon_print.proofs.Literals.{word_puts, name_printed, int_printed, literal_printed, blank_puts, new_line_puts, framed_puts, semicolon_puts, dots_puts}
+use Rattle.ucon_print.proofs.Formulas.{framed_word}
 
 -- ---- words and ends of lines
 
@@ -50,7 +35,10 @@ indented w is = puts_both Any Any (32 ∷ []) (32 ∷ (w ++ 32 ∷ [])) [] (a_wo
 module _ {A : Type 0} where
   pub blank_behind : (X : Form A) (x : A) (bs : Bytes) → Printed Ends X x bs → Printed Any X x (bs ++ 32 ∷ [])
   blank_behind X x bs p = record {
-    written = p.written; tree = p.tree; proper = p.proper; clean = p.clean;
+    written = p.written;
+    tree = p.tree;
+    proper = p.proper;
+    clean = p.clean;
     puts = subst (λ z. Puts Any (bs ++ 32 ∷ []) z) (append-nil (bare (X.tokens p.written))) (puts_both Ends Any bs (32 ∷ []) (bare (X.tokens p.written)) [] p.puts blank_puts (λ rest e. refl));
   }
 

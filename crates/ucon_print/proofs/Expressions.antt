@@ -1,5 +1,5 @@
 -- Expressions are read as they are printed.
-use Rattle.std.proofs.Common.{◌≡◌, ℕ, zero, suc, ◌+◌, ◌<◌, ◌≤◌, false, List, [], ◌∷◌, ◌++◌, length, Option, Some, None, refl, sym, ap, ◌∙◌, subst, arith, append_assoc}
+use Rattle.std.proofs.Common.{◌≡◌, ℕ, zero, suc, ◌+◌, ◌<◌, ◌≤◌, [], ◌∷◌, ◌++◌, None, refl, arith, append_assoc}
 use Rattle.std.specs.Prelude.{codes, max}
 use Rattle.std.proofs.lemmas.List.{append-nil}
 use Rattle.ucon_base.specs.Spelling.{IsValue}
@@ -8,14 +8,14 @@ use Rattle.ucon_model.specs.declared.formula.Ref.{Ref}
 use Rattle.ucon_model.specs.declared.formula.Ref.TheVariants as refs
 use Rattle.ucon_model.specs.Plain.{Bytes, PlainExpr, lit, read, plus, minus, times, size}
 use Rattle.ucon_model.specs.Printing.{literal_printing, expr_printing}
-use Rattle.ucon_model.specs.Tokens.{Token, a_word, a_symbol, Symbol, dot, plus_sign, minus_sign, star, open_round, close_round, next_token, begin_of, skip, token_from, token_at, symbol_token, single}
-use Rattle.ucon_model.specs.Forms.{Terminal, as_token, word, symbol, Form, nothing, no_form, opening, before, and_then, mapped, either_of}
+use Rattle.ucon_model.specs.Tokens.{a_symbol, dot, plus_sign, minus_sign, star, open_round, close_round, next_token, begin_of, skip, token_from, token_at, symbol_token, single}
+use Rattle.ucon_model.specs.Forms.{Terminal, as_token, word, symbol, Form, nothing, no_form, opening, before, mapped, either_of}
 use Rattle.ucon_model.specs.Grammar.{SumSign, adding, subtracting, sum_token, sum_tree, one_less, expr_of_depth, factor_with, term_with, expr_with}
 use Rattle.ucon_model.specs.Grammar as grammar
 use Rattle.ucon_print.specs.Printable.{IsName, terms, factors, expr_levels, IsExpr}
 use Rattle.ucon_print.proofs.Lexing.{IsWord}
 use Rattle.ucon_print.proofs.Pieces.{Ends, Any, Puts, Printed, nothing_printed, before_printed, and_then_printed, mapped_printed, left_printed, right_printed, same_printed}
-use Rattle.ucon_print.proofs.Literals.{AtWord, name_puts, word_puts, name_printed, name_begins, dot_puts, framed_puts, open_round_puts, close_round_puts, literal_printed}
+use Rattle.ucon_print.proofs.Literals.{AtWord, word_puts, name_printed, name_begins, dot_puts, framed_puts, open_round_puts, close_round_puts, literal_printed}
 use Rattle.ucon_print.proofs.Chains.{Chained, chained_printed, same_chained, chain_one, chain_more}
 
 -- ---- the forms at a depth
@@ -255,9 +255,9 @@ in_places (times a b) is =
     let pb = in_places b is.2 in
     let n : ℕ = max (expr_levels 1 a) (expr_levels 2 b) in
     let product : (depth room : ℕ) → n ≤ depth → n ≤ room → ProductOf depth room (times a b) (factors (times a b)) (expr_printing 1 (times a b)) = λ depth room d r.
-        same_chained star_token product_tree (grammar.factor_with room (inner depth room)) Ends (times a b) (suc (factors a)) (factors (times a b)) _ (expr_printing 1 (times a b)) (omega arith) (simp (append_assoc, append-nil) refl) (product_more a b pa pb (omega (arith, is.0)) depth room d r) in
+    same_chained star_token product_tree (grammar.factor_with room (inner depth room)) Ends (times a b) (suc (factors a)) (factors (times a b)) _ (expr_printing 1 (times a b)) (omega arith) (simp (append_assoc, append-nil) refl) (product_more a b pa pb (omega (arith, is.0)) depth room d r) in
     let sum : (depth room : ℕ) → n ≤ depth → n ≤ room → SumOf depth room (times a b) 1 (expr_printing 0 (times a b)) = λ depth room d r.
-        sum_of_product depth room (times a b) (factors (times a b)) (expr_printing 0 (times a b)) (product depth room d r) in
+    sum_of_product depth room (times a b) (factors (times a b)) (expr_printing 0 (times a b)) (product depth room d r) in
     record {
       sum = λ depth room d r. sum depth room (omega (arith, d)) (omega (arith, r));
       product = λ depth room d r. product depth room (omega (arith, d)) (omega (arith, r));
@@ -271,11 +271,11 @@ in_places (plus a b) is =
     let n : ℕ = max (expr_levels 0 a) (expr_levels 1 b) in
     let e : PlainExpr = plus a b in
     let sum : (depth room : ℕ) → n ≤ depth → n ≤ room → SumOf depth room e (terms e) (expr_printing 0 e) = λ depth room d r.
-        same_chained sum_token sum_tree (term depth room) Ends e (suc (terms a)) (terms e) _ (expr_printing 0 e) (omega arith) (simp (append_assoc, append-nil) refl) (sum_more adding (codes "+ ") a b plus_puts pa pb (omega (arith, is.0)) depth room d r) in
+    same_chained sum_token sum_tree (term depth room) Ends e (suc (terms a)) (terms e) _ (expr_printing 0 e) (omega arith) (simp (append_assoc, append-nil) refl) (sum_more adding (codes "+ ") a b plus_puts pa pb (omega (arith, is.0)) depth room d r) in
     let factor : (depth room : ℕ) → 1 + n ≤ depth → 1 + n ≤ room → FactorOf depth room e (expr_printing 2 e) =
-        in_brackets e n (expr_printing 0 e) (expr_printing 2 e)
-        (λ depth room d r. whole_of_sum depth room e (terms e) (expr_printing 0 e) (sum depth room d r))
-        (simp (append_assoc, append-nil) refl) in
+    in_brackets e n (expr_printing 0 e) (expr_printing 2 e)
+    (λ depth room d r. whole_of_sum depth room e (terms e) (expr_printing 0 e) (sum depth room d r))
+    (simp (append_assoc, append-nil) refl) in
     record {
       sum = λ depth room d r. sum depth room (omega (arith, d)) (omega (arith, r));
       product = λ depth room d r. product_of_factor depth room e (expr_printing 1 e) (factor depth room d r);
@@ -287,11 +287,11 @@ in_places (minus a b) is =
     let n : ℕ = max (expr_levels 0 a) (expr_levels 1 b) in
     let e : PlainExpr = minus a b in
     let sum : (depth room : ℕ) → n ≤ depth → n ≤ room → SumOf depth room e (terms e) (expr_printing 0 e) = λ depth room d r.
-        same_chained sum_token sum_tree (term depth room) Ends e (suc (terms a)) (terms e) _ (expr_printing 0 e) (omega arith) (simp (append_assoc, append-nil) refl) (sum_more subtracting (codes "- ") a b minus_puts pa pb (omega (arith, is.0)) depth room d r) in
+    same_chained sum_token sum_tree (term depth room) Ends e (suc (terms a)) (terms e) _ (expr_printing 0 e) (omega arith) (simp (append_assoc, append-nil) refl) (sum_more subtracting (codes "- ") a b minus_puts pa pb (omega (arith, is.0)) depth room d r) in
     let factor : (depth room : ℕ) → 1 + n ≤ depth → 1 + n ≤ room → FactorOf depth room e (expr_printing 2 e) =
-        in_brackets e n (expr_printing 0 e) (expr_printing 2 e)
-        (λ depth room d r. whole_of_sum depth room e (terms e) (expr_printing 0 e) (sum depth room d r))
-        (simp (append_assoc, append-nil) refl) in
+    in_brackets e n (expr_printing 0 e) (expr_printing 2 e)
+    (λ depth room d r. whole_of_sum depth room e (terms e) (expr_printing 0 e) (sum depth room d r))
+    (simp (append_assoc, append-nil) refl) in
     record {
       sum = λ depth room d r. sum depth room (omega (arith, d)) (omega (arith, r));
       product = λ depth room d r. product_of_factor depth room e (expr_printing 1 e) (factor depth room d r);

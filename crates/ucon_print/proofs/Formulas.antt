@@ -1,16 +1,16 @@
 -- Formulas are read as they are printed.
-use Rattle.std.proofs.Common.{◌≡◌, ℕ, ℤ, pos, negsuc, zero, suc, ◌+◌, ◌<◌, ◌≤◌, false, List, [], ◌∷◌, ◌++◌, length, Option, Some, None, decimal, refl, sym, ap, ◌∙◌, subst, arith, append_assoc}
+use Rattle.std.proofs.Common.{◌≡◌, ℕ, pos, negsuc, zero, suc, ◌+◌, ◌<◌, ◌≤◌, [], ◌∷◌, ◌++◌, None, decimal, refl, arith, append_assoc}
 use Rattle.std.specs.Prelude.{codes, max}
 use Rattle.std.proofs.lemmas.List.{append-nil}
 use Rattle.ucon_model.specs.declared.formula.Op.{Op}
 use Rattle.ucon_model.specs.declared.formula.Op.TheVariants as ops
 use Rattle.ucon_model.specs.Plain.{Bytes, PlainExpr, PlainFormula, both, either, negation, compare, lasts}
 use Rattle.ucon_model.specs.Printing.{expr_printing, op_printing, formula_printing}
-use Rattle.ucon_model.specs.Tokens.{Token, a_word, a_symbol, Symbol, equal_sign, unequal_sign, less_sign, at_most_sign, greater_sign, at_least_sign, open_square, close_square, next_token, begin_of, skip, token_from, token_at, symbol_token, single}
+use Rattle.ucon_model.specs.Tokens.{a_word, equal_sign, unequal_sign, less_sign, at_most_sign, greater_sign, at_least_sign, open_square, close_square, next_token, begin_of, skip, token_from, token_at, symbol_token, single}
 use Rattle.ucon_model.specs.Forms.{Terminal, as_token, word, symbol, Form, nothing, no_form, opening, before, and_then, mapped, either_of}
 use Rattle.ucon_model.specs.Grammar.{one_less, expr_of_depth, op_token, an_op, comparison_of, conj_with, formula_with, unit_with, unit_of_depth}
 use Rattle.ucon_model.specs.Grammar as grammar
-use Rattle.ucon_print.specs.Printable.{IsCount, expr_levels, IsExpr, alternatives, conjuncts, formula_levels, IsFormula}
+use Rattle.ucon_print.specs.Printable.{expr_levels, IsExpr, alternatives, conjuncts, formula_levels, IsFormula}
 use Rattle.ucon_print.proofs.Lexing.{IsWord}
 use Rattle.ucon_print.proofs.Pieces.{Ends, Any, Puts, puts_both, Printed, nothing_printed, one_printed, before_printed, and_then_printed, mapped_printed, left_printed, right_printed, same_printed, blank_printed}
 use Rattle.ucon_print.proofs.Literals.{word_puts, number_printed, blank_puts, framed_puts, open_square_puts, close_square_puts}
@@ -217,7 +217,7 @@ in_places_formula (compare op a b) is =
     let f = compare op a b in let bs = formula_printing 0 f in
     let n : ℕ = max (expr_levels 0 a) (expr_levels 0 b) in
     let one : (depth room : ℕ) → n ≤ depth → n ≤ room → UnitOf depth room f bs = λ depth room d r.
-        same_printed Ends (unit_of_depth depth room) f (expr_printing 0 a ++ (op_printing op ++ expr_printing 0 b)) bs (simp append_assoc refl) (compare_unit op a b is.0 is.1 depth room d r) in
+    same_printed Ends (unit_of_depth depth room) f (expr_printing 0 a ++ (op_printing op ++ expr_printing 0 b)) bs (simp append_assoc refl) (compare_unit op a b is.0 is.1 depth room d r) in
     record {
       any = λ depth room d r. any_of_all depth room f 1 bs (all_of_unit depth room f bs (one depth room d r));
       all = λ depth room d r. all_of_unit depth room f bs (one depth room d r);
@@ -237,9 +237,9 @@ in_places_formula (both f g) is =
     let n : ℕ = max (formula_levels 1 f) (formula_levels 2 g) in
     let x : PlainFormula = both f g in
     let all : (depth room : ℕ) → n ≤ depth → n ≤ room → AllOf depth room x (conjuncts x) (formula_printing 1 x) = λ depth room d r.
-        same_chained and_token and_tree (unit_of_depth depth room) Ends x (suc (conjuncts f)) (conjuncts x) _ (formula_printing 1 x) (omega arith) (simp (append_assoc, append-nil) refl) (all_more f g pf pg (omega (arith, is.0)) depth room d r) in
+    same_chained and_token and_tree (unit_of_depth depth room) Ends x (suc (conjuncts f)) (conjuncts x) _ (formula_printing 1 x) (omega arith) (simp (append_assoc, append-nil) refl) (all_more f g pf pg (omega (arith, is.0)) depth room d r) in
     let any : (depth room : ℕ) → n ≤ depth → n ≤ room → AnyOf depth room x 1 (formula_printing 0 x) = λ depth room d r.
-        any_of_all depth room x (conjuncts x) (formula_printing 0 x) (all depth room d r) in
+    any_of_all depth room x (conjuncts x) (formula_printing 0 x) (all depth room d r) in
     record {
       any = λ depth room d r. any depth room (omega (arith, d)) (omega (arith, r));
       all = λ depth room d r. all depth room (omega (arith, d)) (omega (arith, r));
@@ -253,11 +253,11 @@ in_places_formula (either f g) is =
     let n : ℕ = max (formula_levels 0 f) (formula_levels 1 g) in
     let x : PlainFormula = either f g in
     let any : (depth room : ℕ) → n ≤ depth → n ≤ room → AnyOf depth room x (alternatives x) (formula_printing 0 x) = λ depth room d r.
-        same_chained or_token or_tree (conj_with (unit_of_depth depth room)) Ends x (suc (alternatives f)) (alternatives x) _ (formula_printing 0 x) (omega arith) (simp (append_assoc, append-nil) refl) (any_more f g pf pg (omega (arith, is.0)) depth room d r) in
+    same_chained or_token or_tree (conj_with (unit_of_depth depth room)) Ends x (suc (alternatives f)) (alternatives x) _ (formula_printing 0 x) (omega arith) (simp (append_assoc, append-nil) refl) (any_more f g pf pg (omega (arith, is.0)) depth room d r) in
     let one : (depth room : ℕ) → 1 + n ≤ depth → 1 + n ≤ room → UnitOf depth room x (formula_printing 2 x) =
-        in_brackets x n (formula_printing 0 x) (formula_printing 2 x)
-        (λ depth room d r. whole_of_any depth room x (alternatives x) (formula_printing 0 x) (any depth room d r))
-        (simp (append_assoc, append-nil) refl) in
+    in_brackets x n (formula_printing 0 x) (formula_printing 2 x)
+    (λ depth room d r. whole_of_any depth room x (alternatives x) (formula_printing 0 x) (any depth room d r))
+    (simp (append_assoc, append-nil) refl) in
     record {
       any = λ depth room d r. any depth room (omega (arith, d)) (omega (arith, r));
       all = λ depth room d r. all_of_unit depth room x (formula_printing 1 x) (one depth room d r);

@@ -1,9 +1,9 @@
 -- The tokens of a text that is put together: what is printed is read as the tokens that were meant.
-use Rattle.std.proofs.Common.{◌≡◌, ℕ, ℤ, pos, zero, suc, ◌+◌, ◌-◌, ◌*◌, ◌^◌, ◌<◌, ◌≤◌, true, false, Bool, not, nat_lt, eqb, cond, List, [], ◌∷◌, ◌++◌, length, take, drop, get_or, Option, Some, None, option_map, decimal, refl, sym, ap, ◌∙◌, subst, arith, length-append, append_assoc}
+use Rattle.std.proofs.Common.{◌≡◌, ℕ, ℤ, pos, zero, suc, ◌+◌, ◌-◌, ◌*◌, ◌^◌, ◌<◌, ◌≤◌, true, false, Bool, nat_lt, eqb, List, [], ◌∷◌, ◌++◌, length, take, drop, get_or, Option, Some, option_map, decimal, refl, sym, ap, ◌∙◌, subst, arith, length-append, append_assoc}
 use Rattle.std.specs.Prelude.{nat_le}
 use Rattle.std.specs.List.{list_all, prefix_len}
 use Rattle.std.proofs.Math.Seq.{take-append_seam, drop-append_seam}
-use Rattle.std.proofs.lemmas.Bool.{and_parts, and_from, eqb-true, ne_eqb, le-leb, leb-true}
+use Rattle.std.proofs.lemmas.Bool.{and_parts, and_from, ne_eqb, le-leb, leb-true}
 use Rattle.std.proofs.lemmas.Bool.Decides.{nat_tests}
 use Rattle.std.proofs.lemmas.Fmt.{decimal_digit, first_decimal, digits_decimal, digits_value-decimal}
 use Rattle.std.proofs.lemmas.Str.Parse.{IsNumeralModel, IsDigitsTest, FoldsDigits, numerals_by_fold}
@@ -12,7 +12,7 @@ use Rattle.ucon_base.specs.TextBytes.{is_text_byte}
 use Rattle.ucon_base.specs.Reading.{number_from, number_of as number_spelled}
 use Rattle.ucon_base.specs.Spelling.{quoted}
 use Rattle.ucon_model.specs.Plain.{Bytes}
-use Rattle.ucon_model.specs.Tokens.{Token, a_word, a_number, a_text, a_symbol, Symbol, Lexed, is_blank, is_digit, skip, word_len, digits_len, text_len, word_token, value_from, number_of, is_zero_led, number_with, number_token, closed_text, text_token, single, symbol_token, token_at, token_from, begins_word, begin_of, next_token, with_next, tokens_within, tokens_from, tokens_of}
+use Rattle.ucon_model.specs.Tokens.{Token, a_word, a_number, a_text, a_symbol, Symbol, Lexed, is_blank, is_digit, skip, digits_len, text_len, word_token, value_from, number_of, is_zero_led, number_with, number_token, text_token, token_at, token_from, begins_word, begin_of, next_token, with_next, tokens_within}
 
 -- the text has these tokens, and nothing in front of it joins its first
 abbrev pub Lexes : Bytes → List Token → Type 0

@@ -1,5 +1,5 @@
 -- Words, numbers, texts, symbols and literals as they are printed.
-use Rattle.std.proofs.Common.{◌≡◌, ℕ, ℤ, pos, negsuc, zero, suc, ◌+◌, ◌<◌, ◌≤◌, Bool, true, false, cond, not, ◌&&◌, List, [], ◌∷◌, ◌++◌, length, take, Option, Some, None, option_map, is_none, decimal, refl, sym, ap, ◌∙◌, subst, arith, length-append, append_assoc}
+use Rattle.std.proofs.Common.{◌≡◌, ℕ, ℤ, pos, negsuc, suc, ◌+◌, ◌<◌, ◌≤◌, Bool, true, false, cond, not, ◌&&◌, List, [], ◌∷◌, ◌++◌, length, Option, Some, None, option_map, is_none, decimal, refl, sym, ap, ◌∙◌, subst, arith, length-append, append_assoc}
 use Rattle.std.specs.Prelude.{neg_ℤ, nat_le, nat_lt, position, codes}
 use Rattle.std.specs.List.{list_all, flat_map}
 use Rattle.std.specs.Fmt.{signed_decimal}
@@ -7,18 +7,18 @@ use Rattle.std.proofs.lemmas.List.{take_all}
 use Rattle.std.proofs.lemmas.Bool.{and_parts, and_from, leb-true, ne_eqb}
 use Rattle.std.proofs.lemmas.Int.{ints}
 use Rattle.ucon_base.specs.NameBytes.{is_name, is_letter, is_word_byte, bad_place}
-use Rattle.ucon_base.specs.TextBytes.{is_text, is_text_byte, bad_text_place}
+use Rattle.ucon_base.specs.TextBytes.{is_text, bad_text_place}
 use Rattle.ucon_base.specs.Numbers.{InRange}
 use Rattle.ucon_base.specs.Value.{is_rising}
 use Rattle.ucon_base.specs.Spelling.{quoted, IsValue}
 use Rattle.ucon_base.specs.declared.value.Value.{Value}
 use Rattle.ucon_base.specs.declared.value.Value.TheVariants as values
-use Rattle.ucon_base.proofs.Passing.{all_pass, none_from}
+use Rattle.ucon_base.proofs.Passing.{all_pass}
 use Rattle.ucon_base.proofs.TextFront.{texty_is}
 use Rattle.ucon_model.specs.Plain.{Bytes}
 use Rattle.ucon_model.specs.Printing.{further_text, set_printing, literal_printing}
-use Rattle.ucon_model.specs.Tokens.{Token, a_word, a_number, a_text, a_symbol, Symbol, colon, semicolon, comma, dot, dots, minus_sign, open_round, close_round, open_square, close_square, open_curly, close_curly, next_token, begin_of, skip, token_from, token_at, symbol_token, single, begins_word}
-use Rattle.ucon_model.specs.Forms.{word, number, text, symbol, item, Marked, Form, nothing, before, mapped, either_of, beyond, bare, IsClean}
+use Rattle.ucon_model.specs.Tokens.{a_word, a_number, a_text, a_symbol, Symbol, colon, semicolon, comma, dot, dots, minus_sign, open_round, close_round, open_square, close_square, open_curly, close_curly, next_token, begin_of, skip, token_from, token_at, symbol_token, single, begins_word}
+use Rattle.ucon_model.specs.Forms.{word, number, text, symbol, item, Form, nothing, before, mapped, either_of, beyond, bare, IsClean}
 use Rattle.ucon_model.specs.Grammar as grammar
 use Rattle.ucon_print.proofs.Lexing.{Lexes, lexed, blank, new_line, symbol_byte, token_step, IsWord, IsText}
 use Rattle.ucon_print.proofs.Lexing as lexing

@@ -1,7 +1,6 @@
 -- Pieces of printed text against the forms of the grammar: what a piece is read as, whatever follows it.
-use Rattle.std.proofs.Common.{◌≡◌, ℕ, zero, suc, ◌+◌, ◌<◌, ◌≤◌, Bool, true, false, ◌||◌, eqb, ltb, List, [], ◌∷◌, ◌++◌, length, Option, Some, None, refl, sym, ap, ◌∙◌, subst, arith, append_assoc, ◌⊎◌, inl, inr}
+use Rattle.std.proofs.Common.{◌≡◌, ℕ, zero, suc, ◌<◌, Bool, true, false, ◌||◌, eqb, ltb, List, [], ◌∷◌, ◌++◌, Option, Some, None, refl, sym, ap, ◌∙◌, subst, append_assoc, inl, inr}
 use Rattle.std.proofs.lemmas.Bool.{lt-ltb}
-use Rattle.std.proofs.lemmas.List.{append-nil}
 use Rattle.std.specs.List.{prefix_len, flat_map}
 use Rattle.ucon_base.specs.NameBytes.{is_letter, is_word_byte}
 use Rattle.ucon_model.specs.Plain.{Bytes}
@@ -83,14 +82,18 @@ module _ {A : Type 0} (E : Bytes → Type 0) where
 
   pub one_printed : (token : A → Terminal) (passes : A → Option Limit) (IsAllowed : A → Type 0) (x : A) (bs : Bytes) → Puts E bs (as_token (token x) ∷ []) → passes x ≡ None → IsAllowed x → Printed E (one_of token passes IsAllowed) x bs
   one_printed token passes IsAllowed x bs puts none allowed = record {
-    written = x; tree = refl; proper = allowed;
+    written = x;
+    tree = refl;
+    proper = allowed;
     clean = clean_one (token x) (passes x) [] none tt;
     puts = puts;
   }
 
   pub before_printed : (F : Bytes → Type 0) (t : Terminal) (o : Option Limit) (X : Form A) (x : A) (ws bs : Bytes) → o ≡ None → Puts F ws (as_token t ∷ []) → Printed E X x bs → ((rest : Bytes) → E rest → F (bs ++ rest)) → Printed E (before (t, o) X) x (ws ++ bs)
   before_printed F t o X x ws bs none puts p seam = record {
-    written = p.written; tree = p.tree; proper = p.proper;
+    written = p.written;
+    tree = p.tree;
+    proper = p.proper;
     clean = clean_one t o (X.tokens p.written) none p.clean;
     puts = puts_both F E ws bs (as_token t ∷ []) (bare (X.tokens p.written)) puts p.puts seam;
   }
@@ -99,7 +102,9 @@ module _ {A : Type 0} (E : Bytes → Type 0) where
   and_then_printed F X Y x y bs cs p q seam =
       let r : Printed E (Y (X.tree p.written)) y cs = subst (λ z. Printed E (Y z) y cs) (sym p.tree) q in
       record {
-        written = (p.written, r.written); tree = r.tree; proper = (p.proper, r.proper);
+        written = (p.written, r.written);
+        tree = r.tree;
+        proper = (p.proper, r.proper);
         clean = clean_append (X.tokens p.written) ((Y (X.tree p.written)).tokens r.written) p.clean r.clean;
         puts = subst (λ z. Puts E (bs ++ cs) z) (sym (bare_append (X.tokens p.written) ((Y (X.tree p.written)).tokens r.written)))
             (puts_both F E bs cs (bare (X.tokens p.written)) (bare ((Y (X.tree p.written)).tokens r.written)) p.puts r.puts seam);
@@ -124,7 +129,10 @@ module _ {A : Type 0} (E : Bytes → Type 0) where
   -- blanks in front
   pub blank_printed : (X : Form A) (x : A) (bs ws : Bytes) → Puts Any ws [] → Printed E X x bs → Printed E X x (ws ++ bs)
   blank_printed X x bs ws blank p = record {
-    written = p.written; tree = p.tree; proper = p.proper; clean = p.clean;
+    written = p.written;
+    tree = p.tree;
+    proper = p.proper;
+    clean = p.clean;
     puts = puts_both Any E ws bs [] (bare (X.tokens p.written)) blank p.puts (λ rest e. tt);
   }
 
