@@ -7,3 +7,4 @@ pub mod Formulas
 pub mod Declarations
 pub mod Entries
 pub mod Policies
+pub mod Examples
