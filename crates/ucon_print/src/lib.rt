@@ -4,9 +4,11 @@
 mod expr;
 mod formula;
 mod items;
+mod laws;
 mod policy;
 #[cfg(test)]
 mod tests;
 mod words;
 
+pub use laws::printed_policies_are_read_back;
 pub use policy::policy_text;

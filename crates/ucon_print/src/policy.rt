@@ -4,6 +4,8 @@ ghost use Rattle.std.specs.Prelude.{◌≡◌, ◌++◌, map, IfOk, OnOk};
 ghost use Rattle.std.specs.List.{flat_map};
 ghost use Rattle.ucon_model.specs.Views.{predicate_of, update_of, right_of, policy_of};
 ghost use Rattle.ucon_model.specs.Printing.{attr_printing, env_printing, predicate_printing, update_printing, right_printing, policy_printing};
+ghost use Rattle.ucon_model.specs.Spells.{Spells};
+ghost use Rattle.ucon_print.specs.Printable.{IsPrintable};
 
 use crate::items::{put_attr, put_env, put_predicate, put_update};
 use crate::words::put;
@@ -69,7 +71,8 @@ fn put_rights(alloc: Global, out: &mut Vec<u8>, rights: &[Right]) -> Result<(), 
 
 /// The plain text of a policy.
 pub fn policy_text(alloc: Global, policy: &Policy) -> Result<Vec<u8>, NoMemory>
-    ensures { IfOk result (λ text. text.items ≡ policy_printing (policy_of policy.now)) }
+    ensures printing { IfOk result (λ text. text.items ≡ policy_printing (policy_of policy.now)) }
+    ensures read_back { IsPrintable (policy_of policy.now) → IfOk result (λ text. Spells text.items (policy_of policy.now)) }
 {
     let mut out = Vec::new(alloc);
     put_attrs(alloc, &mut out, policy.attrs.slice())?;

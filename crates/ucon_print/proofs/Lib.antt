@@ -1,0 +1,10 @@
+pub mod Lexing
+pub mod Pieces
+pub mod Literals
+pub mod Chains
+pub mod Expressions
+pub mod Formulas
+pub mod Declarations
+pub mod Entries
+pub mod Policies
+pub mod Examples
