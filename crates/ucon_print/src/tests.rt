@@ -4,6 +4,7 @@ use std::process::Abort;
 use std::test::Fail;
 use ucon_base::{Int, Name, NoMemory, Rows, Side, Value};
 use ucon_model::{Expr, Policy, Ref, Right, Update, When};
+use ucon_syntax::read_policy;
 
 fn name(rt: &impl Abort, bytes: &[u8]) -> Name {
     Name::read(bytes).ok().expect(rt, "the bytes are a name")
@@ -59,5 +60,49 @@ fn a_difference_on_the_right_has_brackets(rt: HostRuntime) -> Result<(), Fail> {
         text.as_slice(),
         b"right r {\n  before s.credit = s.credit - (2 - -3);\n}\n".as_slice()
     );
+    Ok(())
+}
+
+/// A condition, as it is written and as it is printed.
+const CONDITIONS: [(&str, &str); 16] = [
+    ("1 - 2 - 3 = 0", "1 - 2 - 3 = 0"),
+    ("1 - (2 - 3) = 0", "1 - (2 - 3) = 0"),
+    ("(1 - 2) - 3 = 0", "1 - 2 - 3 = 0"),
+    ("1 - (2 + 3) = 0", "1 - (2 + 3) = 0"),
+    ("2 * (3 * 4) = 0", "2 * (3 * 4) = 0"),
+    ("(2 * 3) * 4 = 0", "2 * 3 * 4 = 0"),
+    ("(1 + 2) * 3 = 0", "(1 + 2) * 3 = 0"),
+    ("1 + (2 * 3) = 0", "1 + 2 * 3 = 0"),
+    ("size((({}))) <= - 3", "size({}) <= -3"),
+    ("not [ 1 = 1 ]", "not 1 = 1"),
+    ("not not 1 = 1", "not not 1 = 1"),
+    ("not [ 1 = 1 and 2 = 2 ]", "not [ 1 = 1 and 2 = 2 ]"),
+    ("[ 1 = 1 and 2 = 2 ] or 3 = 3", "1 = 1 and 2 = 2 or 3 = 3"),
+    (
+        "1 = 1 and [ 2 = 2 or lasts 3 ]",
+        "1 = 1 and [ 2 = 2 or lasts 3 ]",
+    ),
+    ("1 = 1 or [ 2 = 2 or 3 = 3 ]", "1 = 1 or [ 2 = 2 or 3 = 3 ]"),
+    ("\"a\" in { \"a\" , \"b\" }", "\"a\" in {\"a\", \"b\"}"),
+];
+
+fn right_with(alloc: Global, condition: &str) -> Result<Vec<u8>, Fail> {
+    let mut text = Vec::from_slice(alloc, b"right r {\n  on c p: ")?;
+    text.extend_from_slice(condition.as_bytes())?;
+    text.extend_from_slice(b";\n}\n")?;
+    Ok(text)
+}
+
+/// What is printed is read and printed as it is.
+#[test]
+fn printings_are_read_and_printed_again(rt: HostRuntime) -> Result<(), Fail> {
+    let alloc = rt.alloc();
+    for (written, printed) in CONDITIONS {
+        let printed = right_with(alloc, printed)?;
+        let first = policy_text(alloc, &read_policy(alloc, &right_with(alloc, written)?)?)?;
+        assert_eq!(rt; first, printed, "{written}");
+        let again = policy_text(alloc, &read_policy(alloc, &first)?)?;
+        assert_eq!(rt; again, printed, "{written}");
+    }
     Ok(())
 }

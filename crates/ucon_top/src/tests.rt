@@ -58,10 +58,16 @@ fn printed(alloc: Global, form: &str, document: &[u8]) -> Result<(u8, Vec<u8>), 
 /// The user's page of the policy language tells the truth.
 #[test]
 fn the_language_page_tells_what_is_printed(rt: HostRuntime) -> Result<(), Fail> {
-    for example in language_examples() {
-        let found = printed(rt.alloc(), example.form, example.document)?;
-        assert_eq!(rt; found.0, example.status, "{}", example.name);
-        assert_eq!(rt; found.1.as_slice(), example.text, "{}", example.name);
+    for Example {
+        name,
+        form,
+        document,
+        status,
+        text,
+    } in language_examples() {
+        let found = printed(rt.alloc(), form, document)?;
+        assert_eq!(rt; found.0, status, "{name}");
+        assert_eq!(rt; found.1.as_slice(), text, "{name}");
     }
     Ok(())
 }
@@ -69,10 +75,16 @@ fn the_language_page_tells_what_is_printed(rt: HostRuntime) -> Result<(), Fail> 
 /// So do the pages of commands and errors, and the examples to begin with.
 #[test]
 fn the_other_pages_tell_what_is_printed(rt: HostRuntime) -> Result<(), Fail> {
-    for example in guide_examples() {
-        let found = printed(rt.alloc(), example.form, example.document)?;
-        assert_eq!(rt; found.0, example.status, "{}", example.name);
-        assert_eq!(rt; found.1.as_slice(), example.text, "{}", example.name);
+    for Example {
+        name,
+        form,
+        document,
+        status,
+        text,
+    } in guide_examples() {
+        let found = printed(rt.alloc(), form, document)?;
+        assert_eq!(rt; found.0, status, "{name}");
+        assert_eq!(rt; found.1.as_slice(), text, "{name}");
     }
     Ok(())
 }
