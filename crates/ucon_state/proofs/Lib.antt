@@ -6,3 +6,4 @@ pub mod Sounds
 pub mod Places
 pub mod Moved
 pub mod Following
+pub mod Typing

@@ -1,6 +1,8 @@
-ghost use Rattle.std.specs.Prelude.{IsTrue, IsSomeAnd};
+ghost use Rattle.std.specs.Prelude.{◌≡◌, pos, IfOk, IsTrue, IsSomeAnd};
 ghost use Rattle.ucon_base.specs.Admits.{admits};
 ghost use Rattle.ucon_model.specs.Readings.{declared_attr, declared_env};
+ghost use Rattle.ucon_model.specs.Views.{policy_of};
+ghost use Rattle.ucon_state.specs.Sample.{sample_policy};
 ghost use Rattle.ucon_state.specs.Shown.{shown};
 
 use super::*;
@@ -9,20 +11,43 @@ use std::test::Fail;
 use ucon_base::{Int, Kind, Name, Rows, Side, Value};
 use ucon_model::*;
 
+fn name(bytes: &[u8]) -> Result<Name, Fail>
+    ensures { IfOk result (λ n. n ≡ bytes.now) }
+{
+    Ok(Name::read(bytes)?)
+}
+
+fn int(n: i64) -> Result<Int, Fail>
+    ensures { IfOk result (λ m. m ≡ n) }
+{
+    Ok(Int::new(n).ok_or("in range")?)
+}
+
+fn up_to(most: i64) -> Result<Kind, Fail>
+    ensures { IfOk result (λ k. k ≡ Kind.Int (pos 0) most) }
+{
+    Ok(Kind::Int {
+        low: Int::zero(),
+        high: int(most)?,
+    })
+}
+
 /// Subjects have `credit`, from 0 to 100 and at first 0; the variable `hour` is at first 9.
-fn policy(alloc: Global) -> Result<Policy, Fail> {
+fn policy(alloc: Global) -> Result<Policy, Fail>
+    ensures { IfOk result (λ p. policy_of p ≡ sample_policy) }
+{
     let mut attrs = Rows::new(alloc);
     attrs.push(AttrDecl {
         side: Side::Subject,
-        name: Name::read(b"credit")?,
+        name: name(b"credit")?,
         kind: up_to(100)?,
-        start: number(0)?,
+        start: Value::Int(int(0)?),
     })?;
     let mut envs = Rows::new(alloc);
     envs.push(EnvDecl {
-        name: Name::read(b"hour")?,
+        name: name(b"hour")?,
         kind: up_to(23)?,
-        start: number(9)?,
+        start: Value::Int(int(9)?),
     })?;
     Ok(Policy {
         attrs,
@@ -31,11 +56,10 @@ fn policy(alloc: Global) -> Result<Policy, Fail> {
     })
 }
 
-fn up_to(most: i64) -> Result<Kind, Fail> {
-    Ok(Kind::Int {
-        low: Int::zero(),
-        high: Int::new(most).ok_or("in range")?,
-    })
+#[tactic(auto, using(crate::proofs::Typing::sample_is_typed))]
+fn checked(alloc: Global) -> Result<Checked, Fail> {
+    let policy = policy(alloc)?;
+    Ok(Checked::new(policy))
 }
 
 fn number(n: i64) -> Result<Value, Fail> {
@@ -184,7 +208,7 @@ fn change_all(state: &mut State, n: &Names) -> Result<(), Fail> {
 #[test]
 fn undoing_each_call_gives_the_opening_state(rt: HostRuntime) -> Result<(), Fail> {
     let n = Names::read()?;
-    let mut state = State::new(rt.alloc(), Checked::new(policy(rt.alloc())?))?;
+    let mut state = State::new(rt.alloc(), checked(rt.alloc())?)?;
     change_all(&mut state, &n)?;
     assert_eq!(rt; state.counts(), counts(1, 1, 1, 1, 1));
     assert_eq!(rt; state.find(Side::Subject, &n.ann), Some(0));
@@ -213,7 +237,7 @@ fn undoing_each_call_gives_the_opening_state(rt: HostRuntime) -> Result<(), Fail
 #[test]
 fn undoing_gives_what_was_kept(rt: HostRuntime) -> Result<(), Fail> {
     let n = Names::read()?;
-    let mut state = State::new(rt.alloc(), Checked::new(policy(rt.alloc())?))?;
+    let mut state = State::new(rt.alloc(), checked(rt.alloc())?)?;
     change_all(&mut state, &n)?;
     state.keep();
     assert!(rt; write(&mut state, &n.ann, &n.credit, 6)?);
