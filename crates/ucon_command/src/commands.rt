@@ -46,7 +46,7 @@ fn put_command(alloc: Global, out: &mut Vec<u8>, command: &Command) -> Result<()
         }
         Command::Tick(t) => {
             put_word(out, b"tick ")?;
-            put_integer(alloc, out, *t)
+            put_integer(out, *t)
         }
         Command::Act {
             subject,
@@ -58,10 +58,10 @@ fn put_command(alloc: Global, out: &mut Vec<u8>, command: &Command) -> Result<()
             right,
             object,
         } => put_names(out, b"try", subject, right, object),
-        Command::Again(n) => put_session(alloc, out, b"again ", *n),
-        Command::Beat(n) => put_session(alloc, out, b"beat ", *n),
-        Command::End(n) => put_session(alloc, out, b"end ", *n),
-        Command::Look(n) => put_session(alloc, out, b"look ", *n),
+        Command::Again(n) => put_session(out, b"again ", *n),
+        Command::Beat(n) => put_session(out, b"beat ", *n),
+        Command::End(n) => put_session(out, b"end ", *n),
+        Command::Look(n) => put_session(out, b"look ", *n),
         Command::Value { side, name, attr } => put_place(out, b"value ", *side, name, attr),
     }
 }

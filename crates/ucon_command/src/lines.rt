@@ -47,42 +47,50 @@ fn command<'a>(
     requires { BeginWithin line.now words.now }
     ensures { MatchResult result (λ c. command_read line.now first.now (map word_of words.now) ≡ Ok c) (IsRefusal (command_read line.now first.now (map word_of words.now))) }
 {
+    // Each form returns at once, since a chain of `else` keeps room for the results of all.
     if first == b"subject".as_slice() {
-        Ok(Command::Subject(one_name(words)?))
-    } else if first == b"object".as_slice() {
-        Ok(Command::Object(one_name(words)?))
-    } else if first == b"set".as_slice() {
-        set_words(alloc, line, words)
-    } else if first == b"env".as_slice() {
-        env_words(alloc, line, words)
-    } else if first == b"tick".as_slice() {
-        Ok(Command::Tick(one_integer(alloc, words)?))
-    } else if first == b"act".as_slice() {
-        let (subject, action, object) = three_names(words)?;
-        Ok(Command::Act {
+        return one_name(words).map(Command::Subject);
+    }
+    if first == b"object".as_slice() {
+        return one_name(words).map(Command::Object);
+    }
+    if first == b"set".as_slice() {
+        return set_words(alloc, line, words);
+    }
+    if first == b"env".as_slice() {
+        return env_words(alloc, line, words);
+    }
+    if first == b"tick".as_slice() {
+        return one_integer(alloc, words).map(Command::Tick);
+    }
+    if first == b"act".as_slice() {
+        return three_names(words).map(|(subject, action, object)| Command::Act {
             subject,
             action,
             object,
-        })
-    } else if first == b"try".as_slice() {
-        let (subject, right, object) = three_names(words)?;
-        Ok(Command::Try {
+        });
+    }
+    if first == b"try".as_slice() {
+        return three_names(words).map(|(subject, right, object)| Command::Try {
             subject,
             right,
             object,
-        })
-    } else if first == b"again".as_slice() {
-        Ok(Command::Again(one_number(alloc, words)?))
-    } else if first == b"beat".as_slice() {
-        Ok(Command::Beat(one_number(alloc, words)?))
-    } else if first == b"end".as_slice() {
-        Ok(Command::End(one_number(alloc, words)?))
-    } else if first == b"look".as_slice() {
-        Ok(Command::Look(one_number(alloc, words)?))
-    } else if first == b"value".as_slice() {
-        let (side, name, attr) = value_words(words)?;
-        Ok(Command::Value { side, name, attr })
-    } else {
-        Err(LineFault::UnknownWord)
+        });
     }
+    if first == b"again".as_slice() {
+        return one_number(alloc, words).map(Command::Again);
+    }
+    if first == b"beat".as_slice() {
+        return one_number(alloc, words).map(Command::Beat);
+    }
+    if first == b"end".as_slice() {
+        return one_number(alloc, words).map(Command::End);
+    }
+    if first == b"look".as_slice() {
+        return one_number(alloc, words).map(Command::Look);
+    }
+    if first == b"value".as_slice() {
+        return value_words(words).map(|(side, name, attr)| Command::Value { side, name, attr });
+    }
+    Err(LineFault::UnknownWord)
 }

@@ -13,6 +13,9 @@ use std::alloc::Global;
 use ucon_base::{Name, NoMemory};
 use ucon_model::{Head, Refusal, Reply, Revoked, SessionState};
 
+/// Most replies that revoke nobody have no more.
+const LIKELY_BYTES: usize = 48;
+
 /// The one text of a reply, which has no newline in it.
 #[tactic(auto, using(crate::proofs::InLine::reply_in_line, crate::proofs::ReadReplies::reply_back))]
 pub fn reply_text(alloc: Global, reply: &Reply) -> Result<Vec<u8>, NoMemory>
@@ -21,7 +24,7 @@ pub fn reply_text(alloc: Global, reply: &Reply) -> Result<Vec<u8>, NoMemory>
     ensures one_line { Lacks 10 (reply_spelling (reply_of reply.now)) }
 {
     reply_in_form(reply);
-    let mut text = Vec::new(alloc);
+    let mut text = Vec::with_capacity(alloc, LIKELY_BYTES)?;
     put_reply(alloc, &mut text, reply)?;
     Ok(text)
 }
@@ -32,15 +35,15 @@ fn put_reply(alloc: Global, out: &mut Vec<u8>, reply: &Reply) -> Result<(), NoMe
     match reply {
         Reply::Refused(r) => put_word(out, refusal_words(*r)),
         Reply::Made { head, revoked } => {
-            put_head(alloc, out, head)?;
-            put_revoked(alloc, out, revoked.slice())
+            put_head(out, head)?;
+            put_revoked(out, revoked.slice())
         }
         Reply::Value(v) => {
             put_word(out, b"value")?;
             put_value(alloc, out, v)
         }
         Reply::Status(n, state) => {
-            put_session(alloc, out, b"status ", *n)?;
+            put_session(out, b"status ", *n)?;
             put_word(out, b" ")?;
             put_word(out, state_word(*state))
         }
@@ -88,36 +91,30 @@ pub fn state_word(state: SessionState) -> &'static [u8]
 }
 
 /// Adds a word, a session's number, a space and a label.
-fn put_labelled(
-    alloc: Global,
-    out: &mut Vec<u8>,
-    word: &[u8],
-    n: u32,
-    label: &Name,
-) -> Result<(), NoMemory>
+fn put_labelled(out: &mut Vec<u8>, word: &[u8], n: u32, label: &Name) -> Result<(), NoMemory>
     ensures { OnOk result (out.new.items ≡ out.old.items ++ (word.now ++ decimal n ++ 32 ∷ label.now)) }
 {
-    put_session(alloc, out, word, n)?;
+    put_session(out, word, n)?;
     put_name(out, label)
 }
 
-fn put_head(alloc: Global, out: &mut Vec<u8>, head: &Head) -> Result<(), NoMemory>
+fn put_head(out: &mut Vec<u8>, head: &Head) -> Result<(), NoMemory>
     ensures { OnOk result (out.new.items ≡ out.old.items ++ head_spelling head.now) }
 {
     match head {
         Head::Ok => put_word(out, b"ok"),
-        Head::Permitted(n) => put_session(alloc, out, b"permitted ", *n),
-        Head::Denied(n, label) => put_labelled(alloc, out, b"denied ", *n, label),
-        Head::Waiting(n, label) => put_labelled(alloc, out, b"waiting ", *n, label),
-        Head::Ended(n) => put_session(alloc, out, b"ended ", *n),
+        Head::Permitted(n) => put_session(out, b"permitted ", *n),
+        Head::Denied(n, label) => put_labelled(out, b"denied ", *n, label),
+        Head::Waiting(n, label) => put_labelled(out, b"waiting ", *n, label),
+        Head::Ended(n) => put_session(out, b"ended ", *n),
     }
 }
 
-fn put_revoked(alloc: Global, out: &mut Vec<u8>, revoked: &[Revoked]) -> Result<(), NoMemory>
+fn put_revoked(out: &mut Vec<u8>, revoked: &[Revoked]) -> Result<(), NoMemory>
     ensures { OnOk result (out.new.items ≡ out.old.items ++ revoked_spelling revoked.now) }
 {
     for r in revoked {
-        put_labelled(alloc, out, b" revoked ", r.session, &r.label)?;
+        put_labelled(out, b" revoked ", r.session, &r.label)?;
     }
     Ok(())
 }

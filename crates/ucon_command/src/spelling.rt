@@ -4,6 +4,7 @@ ghost use Rattle.std.specs.Prelude.{◌≡◌, ◌++◌, ◌∷◌, OnOk};
 ghost use Rattle.std.specs.Fmt.{decimal, signed_decimal};
 ghost use Rattle.ucon_base.specs.Spelling.{value_spelling};
 
+use itoa::Buffer;
 use std::alloc::Global;
 use ucon_base::{Int, Name, NoMemory, Value};
 
@@ -14,19 +15,19 @@ pub fn put_word(out: &mut Vec<u8>, word: &[u8]) -> Result<(), NoMemory>
     Ok(())
 }
 
-fn put_number(alloc: Global, out: &mut Vec<u8>, n: u32) -> Result<(), NoMemory>
+fn put_number(out: &mut Vec<u8>, n: u32) -> Result<(), NoMemory>
     ensures { OnOk result (out.new.items ≡ out.old.items ++ decimal n) }
 {
-    let text = n.to_string(alloc)?;
-    out.extend_from_slice(text.as_bytes())?;
+    let mut digits = Buffer::new();
+    out.extend_from_slice(digits.format(n).as_bytes())?;
     Ok(())
 }
 
-pub fn put_integer(alloc: Global, out: &mut Vec<u8>, n: Int) -> Result<(), NoMemory>
+pub fn put_integer(out: &mut Vec<u8>, n: Int) -> Result<(), NoMemory>
     ensures { OnOk result (out.new.items ≡ out.old.items ++ signed_decimal n) }
 {
-    let text = n.get().to_string(alloc)?;
-    out.extend_from_slice(text.as_bytes())?;
+    let mut digits = Buffer::new();
+    out.extend_from_slice(digits.format(n.get()).as_bytes())?;
     Ok(())
 }
 
@@ -48,9 +49,9 @@ pub fn put_value(alloc: Global, out: &mut Vec<u8>, v: &Value) -> Result<(), NoMe
 }
 
 /// Adds a word and a session's number.
-pub fn put_session(alloc: Global, out: &mut Vec<u8>, word: &[u8], n: u32) -> Result<(), NoMemory>
+pub fn put_session(out: &mut Vec<u8>, word: &[u8], n: u32) -> Result<(), NoMemory>
     ensures { OnOk result (out.new.items ≡ out.old.items ++ (word.now ++ decimal n)) }
 {
     put_word(out, word)?;
-    put_number(alloc, out, n)
+    put_number(out, n)
 }

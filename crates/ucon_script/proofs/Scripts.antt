@@ -8,8 +8,8 @@ use Rattle.ucon_command.specs.declared.line_fault.LineFault.TheVariants as fault
 use Rattle.ucon_model.specs.declared.command.Caller.{Caller}
 use Rattle.ucon_model.specs.Plain.{Bytes}
 use Rattle.ucon_model.specs.Document.{ScriptLine, DocumentRefusal, client_below, command_lines, line_told, before_next, script_told, lines_of}
-use Rattle.ucon_script.specs.declared.document.DocFault.{DocFault}
-use Rattle.ucon_script.specs.declared.document.DocFault.TheVariants.{BadHeading, BadLine, TooManyClients, TooManyLines, NoMemory}
+use Rattle.ucon_script.specs.declared.doc_fault.DocFault.{DocFault}
+use Rattle.ucon_script.specs.declared.doc_fault.DocFault.TheVariants.{BadHeading, BadLine, TooManyClients, TooManyLines, NoMemory}
 use Rattle.ucon_script.specs.Document.{IsLineCause, IsCause}
 use Rattle.ucon_script.specs.Lines.{client_after, count_after, told_from}
 use Rattle.ucon_script.proofs.Cuts.{first_line, next_lines, cut_or_last}

@@ -2,20 +2,37 @@
 use Rattle.std.specs.Prelude.{◌≡◌, ℕ, List, map, Result, Ok, Err, ⊤}
 use Rattle.ucon_command.specs.declared.line_fault.LineFault.{LineFault}
 use Rattle.ucon_command.specs.declared.line_fault.LineFault.TheVariants as faults
-use Rattle.ucon_model.specs.CommandLine.{line_too_long, no_word, unknown_word, wrong_count, bad_word}
+use Rattle.ucon_model.specs.declared.command.Command.{Command}
+use Rattle.ucon_model.specs.declared.command.Command.TheVariants.{Look}
+use Rattle.ucon_model.specs.CommandLine.{LineRefusal, line_read, line_too_long, no_word, unknown_word, wrong_count, bad_word}
 use Rattle.ucon_model.specs.Document.{ScriptLine, DocumentRefusal, too_many_clients, bad_heading, too_many_lines, bad_line}
 use Rattle.ucon_script.specs.declared.document.Line.{Line}
 use Rattle.ucon_script.specs.declared.document.Document.{Document}
-use Rattle.ucon_script.specs.declared.document.DocFault.{DocFault}
-use Rattle.ucon_script.specs.declared.document.DocFault.TheVariants.{BadHeading, BadLine, TooManyClients, TooManyLines, NoMemory}
+use Rattle.ucon_script.specs.declared.line_text.LineText.{LineText}
+use Rattle.ucon_script.specs.declared.line_text.Script.{Script}
+use Rattle.ucon_script.specs.declared.doc_fault.DocFault.{DocFault}
+use Rattle.ucon_script.specs.declared.doc_fault.DocFault.TheVariants.{BadHeading, BadLine, TooManyClients, TooManyLines, NoMemory}
 
--- a command line that was read, as the definition has it
+-- a command line, as the definition has it
 abbrev pub line_of : Line → ScriptLine
 line_of l = record { number = l.number; caller = l.caller; command = l.command }
 
 -- the command lines of a document that was read
 abbrev pub lines_said : Document → List ScriptLine
 lines_said d = map line_of d.lines.items
+
+-- the command that bytes spell; those of a command line do, so that the last case never is
+abbrev pub spelled : Result Command LineRefusal → Command
+spelled (Ok command) = command
+spelled (Err refusal) = Look 0
+
+-- a command line where it stands, as the definition has it
+abbrev pub spelled_line : LineText → ScriptLine
+spelled_line l = record { number = l.number; caller = l.caller; command = spelled (line_read l.text.now) }
+
+-- the command lines of a script that was read where it stands
+abbrev pub lines_spelled : Script → List ScriptLine
+lines_spelled s = map spelled_line s.lines.items
 
 -- the document's fault where the line of this number has this one
 abbrev pub fault_of : ℕ → LineFault → DocFault

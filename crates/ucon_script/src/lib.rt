@@ -1,14 +1,18 @@
 //! Documents: the policy part, and the command lines of the script behind it.
 #![tactic(auto)]
 
+mod cursor;
+mod doc_fault;
 mod document;
 mod heading;
+mod line_text;
 mod part;
 mod read;
-mod script;
 #[cfg(test)]
 mod tests;
 
-pub use document::{DocFault, Document, Line};
+pub use doc_fault::DocFault;
+pub use document::{Document, Line};
+pub use line_text::{LineText, Script};
 pub use part::policy_part;
-pub use read::read_document;
+pub use read::{read_document, read_script};

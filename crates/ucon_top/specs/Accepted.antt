@@ -9,8 +9,8 @@ use Rattle.ucon_check.specs.Told.{told}
 use Rattle.ucon_check.specs.declared.fault.CheckFault.{CheckFault}
 use Rattle.ucon_check.specs.declared.fault.CheckFault.TheVariants as checks
 use Rattle.ucon_script.specs.Document.{IsCause}
-use Rattle.ucon_script.specs.declared.document.DocFault.{DocFault}
-use Rattle.ucon_script.specs.declared.document.DocFault.TheVariants as faults
+use Rattle.ucon_script.specs.declared.doc_fault.DocFault.{DocFault}
+use Rattle.ucon_script.specs.declared.doc_fault.DocFault.TheVariants as faults
 use Rattle.ucon_top.specs.declared.outcome.PolicyFault.{PolicyFault}
 use Rattle.ucon_top.specs.declared.outcome.PolicyFault.TheVariants.{Syntax, Typing}
 use Rattle.ucon_top.specs.declared.outcome.Outcome.{Outcome}

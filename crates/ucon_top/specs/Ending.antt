@@ -6,8 +6,8 @@ use Rattle.ucon_syntax.specs.declared.read.SyntaxFault.{SyntaxFault}
 use Rattle.ucon_syntax.specs.declared.read.SyntaxFault.TheVariants as syntax
 use Rattle.ucon_check.specs.declared.fault.CheckFault.{CheckFault}
 use Rattle.ucon_check.specs.declared.fault.CheckFault.TheVariants as checks
-use Rattle.ucon_script.specs.declared.document.DocFault.{DocFault}
-use Rattle.ucon_script.specs.declared.document.DocFault.TheVariants as scripts
+use Rattle.ucon_script.specs.declared.doc_fault.DocFault.{DocFault}
+use Rattle.ucon_script.specs.declared.doc_fault.DocFault.TheVariants as scripts
 use Rattle.ucon_top.specs.declared.outcome.PolicyFault.TheVariants.{Syntax, Typing}
 use Rattle.ucon_top.specs.declared.outcome.Refused.{Refused}
 use Rattle.ucon_top.specs.declared.outcome.Refused.TheVariants as refusals

@@ -7,12 +7,12 @@ use Rattle.ucon_model.specs.History.{History, said, changes, grown}
 use Rattle.ucon_model.specs.LegalRun.{Answer, Answered, no_memory, placed}
 use Rattle.ucon_model.specs.Output.{Lacks, answer_line}
 use Rattle.ucon_model.specs.Document.{entry_of as said_entry}
-use Rattle.ucon_script.specs.declared.document.Line.{Line}
-use Rattle.ucon_script.specs.Document.{line_of}
+use Rattle.ucon_script.specs.declared.line_text.LineText.{LineText}
+use Rattle.ucon_script.specs.Document.{spelled_line}
 
 -- what a line asks, and by whom
-abbrev pub entry_of : Line → Entry
-entry_of line = said_entry (line_of line)
+abbrev pub entry_of : LineText → Entry
+entry_of line = said_entry (spelled_line line)
 
 abbrev pub answered : Entry → Answer → Answered
 answered e a = record { line = e; answer = a }

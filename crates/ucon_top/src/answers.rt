@@ -8,6 +8,7 @@ ghost use Rattle.ucon_model.specs.Output.{Lacks, answer_line};
 ghost use Rattle.ucon_model.specs.Spelling.{reply_spelling};
 ghost use Rattle.ucon_model.specs.Plain.{PlainPolicy};
 ghost use Rattle.ucon_model.specs.Views.{reply_of};
+ghost use Rattle.ucon_script.specs.Document.{spelled_line};
 ghost use Rattle.ucon_state.specs.Engine.{IsIdle};
 ghost use Rattle.ucon_top.specs.OneAnswer.{Answers, answered, entry_of, replied};
 ghost use Rattle.ucon_top.specs.Printed.{IsRunOutput};
@@ -17,14 +18,14 @@ use std::alloc::Global;
 use ucon_base::{NoMemory, Steps};
 use ucon_command::reply_text;
 use ucon_model::Reply;
-use ucon_script::Line;
+use ucon_script::LineText;
 use ucon_state::{Drafted, Engine};
 
 /// The output of a run of the lines from the empty history: each is answered, and its answer is written, in the order of the lines.
 pub fn run_lines<E: Engine>(
     alloc: Global,
     mut engine: E,
-    lines: &[Line],
+    lines: &[LineText<'_>],
 ) -> Result<Vec<u8>, NoMemory>
     requires { IsIdle E.stands_for engine }
     ensures { IfOk result (λ text. (P : PlainPolicy) → E.stands_for engine P [] → IsRunOutput P (map entry_of lines.now) text.items) }
@@ -45,7 +46,7 @@ fn answer_one<E: Engine>(
     steps: &mut Steps,
     text: &mut Vec<u8>,
     place: u64,
-    line: &Line,
+    line: &LineText<'_>,
 ) -> Result<u64, NoMemory>
     requires { IsIdle E.stands_for engine.old }
     ensures idle { IsIdle E.stands_for engine.new }
@@ -53,9 +54,9 @@ fn answer_one<E: Engine>(
     ensures client { line.now.caller.0 < 256 }
 {
     let _client = line.caller.0;
-    match step(engine, steps, line) {
+    match step(alloc, engine, steps, line) {
         Err(NoMemory) => {
-            put_no_memory(alloc, text, line)?;
+            put_no_memory(text, line)?;
             Ok(place)
         }
         Ok(drafted) => {
@@ -67,14 +68,20 @@ fn answer_one<E: Engine>(
 }
 
 /// Lets the engine answer a line, and keeps the change where it makes one. Want of memory changes nothing.
-fn step<E: Engine>(engine: &mut E, steps: &mut Steps, line: &Line) -> Result<Drafted, NoMemory>
+fn step<E: Engine>(
+    alloc: Global,
+    engine: &mut E,
+    steps: &mut Steps,
+    line: &LineText<'_>,
+) -> Result<Drafted, NoMemory>
     requires { IsIdle E.stands_for engine.old }
     ensures idle { IsIdle E.stands_for engine.new }
-    ensures reply { IfOk result (λ d. (P : PlainPolicy) (H : History) → E.stands_for engine.old P H → reply_of d.reply ≡ said P H line.now.caller line.now.command) }
+    ensures reply { IfOk result (λ d. (P : PlainPolicy) (H : History) → E.stands_for engine.old P H → reply_of d.reply ≡ said P H line.now.caller (spelled_line line.now).command) }
     ensures changes { IfOk result (λ d. d.changes ≡ changes (reply_of d.reply)) }
     ensures stands { OnOk result ((P : PlainPolicy) (H : History) → E.stands_for engine.old P H → E.stands_for engine.new P (grown P H (entry_of line.now))) }
     ensures err { OnErr result ((P : PlainPolicy) (H : History) → E.stands_for engine.old P H → E.stands_for engine.new P H) }
 {
+    let line = line.line(alloc)?;
     let drafted = engine.draft(line.caller, &line.command, steps)?;
     if drafted.changes {
         engine.keep();
@@ -97,15 +104,15 @@ fn place_after(place: u64, changes: bool) -> u64
 fn put_placed(
     alloc: Global,
     out: &mut Vec<u8>,
-    line: &Line,
+    line: &LineText<'_>,
     place: u64,
     reply: &Reply,
 ) -> Result<(), NoMemory>
     ensures text { OnOk result (out.new.items ≡ out.old.items ++ answer_line (replied (entry_of line.now) place (reply_of reply.now))) }
     ensures one_line { OnOk result (Lacks 10 (reply_spelling (reply_of reply.now))) }
 {
-    put_client(alloc, out, line)?;
-    put_number(alloc, out, place)?;
+    put_client(out, line)?;
+    put_number(out, place)?;
     out.push(b' ')?;
     let reply = reply_text(alloc, reply)?;
     out.extend_from_slice(&reply)?;
@@ -114,20 +121,20 @@ fn put_placed(
 }
 
 /// Adds the line of an answer that says that there was no memory.
-fn put_no_memory(alloc: Global, out: &mut Vec<u8>, line: &Line) -> Result<(), NoMemory>
+fn put_no_memory(out: &mut Vec<u8>, line: &LineText<'_>) -> Result<(), NoMemory>
     ensures { OnOk result (out.new.items ≡ out.old.items ++ answer_line (answered (entry_of line.now) no_memory)) }
 {
-    put_client(alloc, out, line)?;
+    put_client(out, line)?;
     out.extend_from_slice(b"- no memory")?;
     out.push(b'\n')?;
     Ok(())
 }
 
 /// Adds the client's number and a space.
-fn put_client(alloc: Global, out: &mut Vec<u8>, line: &Line) -> Result<(), NoMemory>
+fn put_client(out: &mut Vec<u8>, line: &LineText<'_>) -> Result<(), NoMemory>
     ensures { OnOk result (out.new.items ≡ out.old.items ++ (decimal line.now.caller.0 ++ 32 ∷ [])) }
 {
-    put_number(alloc, out, line.caller.0 as u64)?;
+    put_number(out, line.caller.0 as u64)?;
     out.push(b' ')?;
     Ok(())
 }

@@ -3,7 +3,7 @@
 ghost use Rattle.std.specs.Prelude.{◌≡◌, ◌≤◌, length, Ok, IfOk, IfErr};
 ghost use Rattle.ucon_model.specs.Checked.{checked_policy};
 ghost use Rattle.ucon_model.specs.Document.{document_read, entries_of};
-ghost use Rattle.ucon_script.specs.Document.{lines_said};
+ghost use Rattle.ucon_script.specs.Document.{lines_spelled};
 ghost use Rattle.ucon_top.specs.Accepted.{HasPolicy, IsRefused};
 ghost use Rattle.ucon_top.specs.Printed.{IsFormOutput, IsOutputOf, IsRunOutput};
 
@@ -15,7 +15,7 @@ use std::alloc::Global;
 use ucon_base::NoMemory;
 use ucon_check::check;
 use ucon_model::Checked;
-use ucon_script::{Document, policy_part, read_document};
+use ucon_script::{Script, policy_part, read_script};
 use ucon_state::Engine;
 use ucon_syntax::read_policy;
 
@@ -26,8 +26,8 @@ pub fn output_of<E: Engine>(alloc: Global, form: Form, bytes: &[u8]) -> Result<V
     ensures err { IfErr result (λ r. IsRefused r bytes.now) }
 {
     let checked = read_checked(alloc, bytes)?;
-    let document = read_script(alloc, &checked, bytes)?;
-    let text = print::<E>(alloc, form, checked, &document)?;
+    let script = read_lines(alloc, &checked, bytes)?;
+    let text = print::<E>(alloc, form, checked, &script)?;
     Ok(text)
 }
 
@@ -42,15 +42,15 @@ fn read_checked(alloc: Global, bytes: &[u8]) -> Result<Checked, Refused>
 }
 
 /// The command lines of a document whose policy is accepted.
-fn read_script(alloc: Global, checked: &Checked, bytes: &[u8]) -> Result<Document, Refused>
+fn read_lines<'a>(alloc: Global, checked: &Checked, bytes: &'a [u8]) -> Result<Script<'a>, Refused>
     requires few { length bytes.now ≤ 4194304 }
     requires policy { HasPolicy bytes.now (checked_policy checked.now) }
-    ensures ok { IfOk result (λ d. document_read bytes.now ≡ Ok (lines_said d)) }
+    ensures ok { IfOk result (λ d. document_read bytes.now ≡ Ok (lines_spelled d)) }
     ensures err { IfErr result (λ r. IsRefused r bytes.now) }
 {
     let _ = checked;
-    let document = read_document(alloc, bytes)?;
-    Ok(document)
+    let script = read_script(alloc, bytes)?;
+    Ok(script)
 }
 
 /// What a form prints of a policy and lines.
@@ -58,12 +58,12 @@ fn print<E: Engine>(
     alloc: Global,
     form: Form,
     checked: Checked,
-    document: &Document,
+    script: &Script<'_>,
 ) -> Result<Vec<u8>, NoMemory>
-    ensures { IfOk result (λ text. IsFormOutput form (checked_policy checked) (entries_of (lines_said document.now)) text.items) }
+    ensures { IfOk result (λ text. IsFormOutput form (checked_policy checked) (entries_of (lines_spelled script.now)) text.items) }
 {
     match form {
-        Form::Trial => trial::<E>(alloc, checked, document),
+        Form::Trial => trial::<E>(alloc, checked, script),
         Form::Check => models_text(alloc, &checked),
     }
 }
@@ -72,11 +72,11 @@ fn print<E: Engine>(
 fn trial<E: Engine>(
     alloc: Global,
     checked: Checked,
-    document: &Document,
+    script: &Script<'_>,
 ) -> Result<Vec<u8>, NoMemory>
-    ensures { IfOk result (λ text. IsRunOutput (checked_policy checked) (entries_of (lines_said document.now)) text.items) }
+    ensures { IfOk result (λ text. IsRunOutput (checked_policy checked) (entries_of (lines_spelled script.now)) text.items) }
 {
     let engine = E::begin(alloc, checked)?;
-    let text = run_lines(alloc, engine, document.lines.slice())?;
+    let text = run_lines(alloc, engine, script.lines.slice())?;
     Ok(text)
 }

@@ -22,17 +22,17 @@ pub fn fault_text(alloc: Global, outcome: &Outcome) -> Result<Vec<u8>, NoMemory>
         return Ok(text);
     }
     text.extend_from_slice(b"ucon: ")?;
-    put_cause(alloc, &mut text, outcome)?;
+    put_cause(&mut text, outcome)?;
     text.push(b'\n')?;
     Ok(text)
 }
 
-fn put_cause(alloc: Global, out: &mut Vec<u8>, outcome: &Outcome) -> Result<(), NoMemory>
+fn put_cause(out: &mut Vec<u8>, outcome: &Outcome) -> Result<(), NoMemory>
     ensures { OnOk result (out.new.items ≡ out.old.items ++ cause_words outcome.now) }
 {
     match outcome {
-        Outcome::Policy(fault) => put_policy(alloc, out, fault),
-        Outcome::Script(fault) => put_script(alloc, out, fault),
+        Outcome::Policy(fault) => put_policy(out, fault),
+        Outcome::Script(fault) => put_script(out, fault),
         Outcome::Done => Ok(()),
         Outcome::Usage => put(out, b"usage"),
         Outcome::SourceFault => put(out, b"source fault"),
@@ -42,67 +42,62 @@ fn put_cause(alloc: Global, out: &mut Vec<u8>, outcome: &Outcome) -> Result<(), 
     }
 }
 
-fn put_policy(alloc: Global, out: &mut Vec<u8>, fault: &PolicyFault) -> Result<(), NoMemory>
+fn put_policy(out: &mut Vec<u8>, fault: &PolicyFault) -> Result<(), NoMemory>
     ensures { OnOk result (out.new.items ≡ out.old.items ++ cause_words (Outcome.Policy fault.now)) }
 {
     put(out, b"policy: ")?;
     match fault {
-        PolicyFault::Syntax(fault) => put_syntax(alloc, out, fault),
-        PolicyFault::Typing(fault) => put_typing(alloc, out, fault),
+        PolicyFault::Syntax(fault) => put_syntax(out, fault),
+        PolicyFault::Typing(fault) => put_typing(out, fault),
     }
 }
 
-fn put_syntax(alloc: Global, out: &mut Vec<u8>, fault: &SyntaxFault) -> Result<(), NoMemory>
+fn put_syntax(out: &mut Vec<u8>, fault: &SyntaxFault) -> Result<(), NoMemory>
     ensures { OnOk result (out.new.items ≡ out.old.items ++ syntax_words fault.now) }
 {
     match fault {
-        SyntaxFault::UnknownByte(place) => put_at(alloc, out, b"unknown byte at ", *place as u64),
-        SyntaxFault::Unexpected(place) => put_at(alloc, out, b"unexpected at ", *place as u64),
-        SyntaxFault::TooLong(place) => put_at(alloc, out, b"too long at ", *place as u64),
-        SyntaxFault::TooDeep(place) => put_at(alloc, out, b"too deep at ", *place as u64),
-        SyntaxFault::TooMany(place) => put_at(alloc, out, b"too many at ", *place as u64),
+        SyntaxFault::UnknownByte(place) => put_at(out, b"unknown byte at ", *place as u64),
+        SyntaxFault::Unexpected(place) => put_at(out, b"unexpected at ", *place as u64),
+        SyntaxFault::TooLong(place) => put_at(out, b"too long at ", *place as u64),
+        SyntaxFault::TooDeep(place) => put_at(out, b"too deep at ", *place as u64),
+        SyntaxFault::TooMany(place) => put_at(out, b"too many at ", *place as u64),
         SyntaxFault::NoMemory => put(out, b"no memory"),
     }
 }
 
-fn put_typing(alloc: Global, out: &mut Vec<u8>, fault: &CheckFault) -> Result<(), NoMemory>
+fn put_typing(out: &mut Vec<u8>, fault: &CheckFault) -> Result<(), NoMemory>
     ensures { OnOk result (out.new.items ≡ out.old.items ++ typing_words fault.now) }
 {
     match fault {
         CheckFault::Twice(name, item) => {
             put_name(out, b"twice ", name)?;
-            put_at(alloc, out, b" at item ", *item as u64)
+            put_at(out, b" at item ", *item as u64)
         }
         CheckFault::NoName(name, item) => {
             put_name(out, b"no name ", name)?;
-            put_at(alloc, out, b" at item ", *item as u64)
+            put_at(out, b" at item ", *item as u64)
         }
-        CheckFault::WrongReader(item) => put_at(alloc, out, b"wrong reader at item ", *item as u64),
-        CheckFault::WrongKind(item) => put_at(alloc, out, b"wrong kind at item ", *item as u64),
+        CheckFault::WrongReader(item) => put_at(out, b"wrong reader at item ", *item as u64),
+        CheckFault::WrongKind(item) => put_at(out, b"wrong kind at item ", *item as u64),
         CheckFault::NotCore(right) => put_name(out, b"not core ", right),
         CheckFault::TooManyCells(right, count) => {
-            put_counted(alloc, out, b"too many cells ", right, *count as u64)
+            put_counted(out, b"too many cells ", right, *count as u64)
         }
         CheckFault::NoMemory => put(out, b"no memory"),
     }
 }
 
-fn put_script(alloc: Global, out: &mut Vec<u8>, fault: &DocFault) -> Result<(), NoMemory>
+fn put_script(out: &mut Vec<u8>, fault: &DocFault) -> Result<(), NoMemory>
     ensures { OnOk result (out.new.items ≡ out.old.items ++ cause_words (Outcome.Script fault.now)) }
 {
     put(out, b"script: ")?;
     match fault {
-        DocFault::BadHeading(line) => put_at(alloc, out, b"bad heading at line ", *line as u64),
+        DocFault::BadHeading(line) => put_at(out, b"bad heading at line ", *line as u64),
         DocFault::TooManyClients(line) => {
-            put_at(alloc, out, b"too many clients at line ", *line as u64)
+            put_at(out, b"too many clients at line ", *line as u64)
         }
-        DocFault::TooManyLines(line) => put_at(
-            alloc,
-            out,
-            b"too many lines at line ",
-            *line as u64,
-        ),
-        DocFault::BadLine(line, fault) => put_at(alloc, out, line_words(fault), *line as u64),
+        DocFault::TooManyLines(line) => put_at(out, b"too many lines at line ", *line as u64),
+        DocFault::BadLine(line, fault) => put_at(out, line_words(fault), *line as u64),
         DocFault::NoMemory => put(out, b"no memory"),
     }
 }
@@ -136,24 +131,18 @@ fn put_name(out: &mut Vec<u8>, words: &[u8], name: &Name) -> Result<(), NoMemory
 }
 
 /// Adds words and the number of a place, an item or a line.
-fn put_at(alloc: Global, out: &mut Vec<u8>, words: &[u8], n: u64) -> Result<(), NoMemory>
+fn put_at(out: &mut Vec<u8>, words: &[u8], n: u64) -> Result<(), NoMemory>
     ensures { OnOk result (out.new.items ≡ out.old.items ++ told_at words.now n) }
 {
     put(out, words)?;
-    put_number(alloc, out, n)
+    put_number(out, n)
 }
 
 /// Adds words, a name, a space and a count.
-fn put_counted(
-    alloc: Global,
-    out: &mut Vec<u8>,
-    words: &[u8],
-    name: &Name,
-    count: u64,
-) -> Result<(), NoMemory>
+fn put_counted(out: &mut Vec<u8>, words: &[u8], name: &Name, count: u64) -> Result<(), NoMemory>
     ensures { OnOk result (out.new.items ≡ out.old.items ++ (words.now ++ name.now ++ 32 ∷ decimal count)) }
 {
     put_name(out, words, name)?;
     out.push(b' ')?;
-    put_number(alloc, out, count)
+    put_number(out, count)
 }

@@ -229,7 +229,7 @@ tick 01
             document: b"# A shared data room.
 #
 # A reader who has signed the agreement may open a file of a matter that they are cleared for, in opening hours. At most two read
-# one file at a time; when one more opens it, whoever has read for longest is shown out. A reader whose clearance is withdrawn is shown
+# one file at a time; when one more opens it, the reader who asked first is shown out. A reader whose clearance is withdrawn is shown
 # out of every file of that matter in the same step.
 
 attr s cleared : set = {};

@@ -2,13 +2,13 @@
 
 ghost use Rattle.std.specs.Prelude.{◌≡◌, ◌<◌, ◌+◌, Some, option_map, OnOk};
 ghost use Rattle.ucon_model.specs.Document.{is_skipped, said_told, line_told};
-ghost use Rattle.ucon_script.specs.Document.{Gives, line_of};
+ghost use Rattle.ucon_script.specs.Document.{Gives, spelled_line};
 ghost use Rattle.ucon_script.specs.Lines.{client_after, count_after};
 
-use crate::document::fault_of;
+use crate::doc_fault::fault_of;
 use crate::heading::heading;
 use crate::part::cut;
-use crate::{DocFault, Line};
+use crate::{DocFault, LineText};
 use std::alloc::Global;
 use ucon_command::read_command;
 use ucon_model::Caller;
@@ -18,7 +18,7 @@ const MOST_LINES: u32 = 262_144;
 
 /// How far a script is read.
 #[derive(Drop)]
-pub struct Script {
+pub struct Cursor {
     /// The number of the next line.
     pub number: u32,
     /// The client of the nearest heading above.
@@ -27,12 +27,12 @@ pub struct Script {
     pub said: u32,
 }
 
-impl Script {
+impl Cursor {
     /// The script whose first line has this number.
-    pub fn new(number: u32) -> Script
+    pub fn new(number: u32) -> Cursor
         ensures { result ≡ record { number = number; client = None; said = 0 } }
     {
-        Script {
+        Cursor {
             number,
             client: None,
             said: 0,
@@ -40,9 +40,13 @@ impl Script {
     }
 
     /// The command line that the next line is, if it is one.
-    pub fn line(&mut self, alloc: Global, line: &[u8]) -> Result<Option<Line>, DocFault>
+    pub fn line<'a>(
+        &mut self,
+        alloc: Global,
+        line: &'a [u8],
+    ) -> Result<Option<LineText<'a>>, DocFault>
         requires { self.old.number < u32.MAX }
-        ensures told { Gives (option_map line_of) result (line_told self.old.number self.old.client self.old.said line.now) }
+        ensures told { Gives (option_map spelled_line) result (line_told self.old.number self.old.client self.old.said line.now) }
         ensures number { self.new.number ≡ self.old.number + 1 }
         ensures client { OnOk result (self.new.client ≡ client_after self.old.client line.now) }
         ensures said { OnOk result (self.new.said ≡ count_after self.old.said line.now) }
@@ -65,14 +69,14 @@ impl Script {
 }
 
 /// The command line of this number, below a heading of this client, if any, and so many command lines.
-fn command_line(
+fn command_line<'a>(
     alloc: Global,
     number: u32,
     client: Option<Caller>,
     said: u32,
-    line: &[u8],
-) -> Result<Line, DocFault>
-    ensures told { Gives (λ l. Some (line_of l)) result (said_told number client said line.now) }
+    line: &'a [u8],
+) -> Result<LineText<'a>, DocFault>
+    ensures told { Gives (λ l. Some (spelled_line l)) result (said_told number client said line.now) }
     ensures room { OnOk result (said < 262144) }
 {
     let Some(caller) = client else {
@@ -82,10 +86,10 @@ fn command_line(
         return Err(DocFault::TooManyLines(number));
     }
     match read_command(alloc, line) {
-        Ok(command) => Ok(Line {
+        Ok(_) => Ok(LineText {
             number,
             caller,
-            command,
+            text: line,
         }),
         Err(fault) => Err(fault_of(number, fault)),
     }

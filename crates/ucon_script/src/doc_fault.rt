@@ -1,0 +1,48 @@
+//! Why a document is refused.
+
+ghost use Rattle.std.specs.Prelude.{◌≡◌};
+ghost use Rattle.ucon_script.specs.declared.doc_fault.DocFault.TheVariants as faults;
+ghost use Rattle.ucon_script.specs.Document.{fault_of};
+
+use ucon_base::NoMemory;
+use ucon_command::LineFault;
+
+/// Why a document is refused, with the number of the line, from 1 at the document's first.
+#[derive(Clone, Copy, Debug, PartialEq, Eq)]
+pub enum DocFault {
+    /// A heading that is not of its form, or a command line above the first heading.
+    BadHeading(u32),
+    /// The line is no command.
+    BadLine(u32, LineFault),
+    /// A heading of a client above 63.
+    TooManyClients(u32),
+    /// One command line more than 262,144.
+    TooManyLines(u32),
+    NoMemory,
+}
+
+impl<T: Drop> From<(T, NoMemory)> for DocFault {
+    ghost from_gives = { λ _ f. f ≡ faults.NoMemory };
+
+    fn from(_e: (T, NoMemory)) -> DocFault {
+        DocFault::NoMemory
+    }
+}
+
+impl From<NoMemory> for DocFault {
+    ghost from_gives = { λ _ f. f ≡ faults.NoMemory };
+
+    fn from(_e: NoMemory) -> DocFault {
+        DocFault::NoMemory
+    }
+}
+
+/// The document's fault where a line of this number has this one.
+pub fn fault_of(number: u32, fault: LineFault) -> DocFault
+    ensures { result ≡ fault_of number fault }
+{
+    match fault {
+        LineFault::NoMemory => DocFault::NoMemory,
+        _ => DocFault::BadLine(number, fault),
+    }
+}

@@ -1,0 +1,47 @@
+//! Command lines where they stand in a document.
+
+ghost use Rattle.std.specs.Prelude.{◌≡◌, IfOk, IsOk};
+ghost use Rattle.ucon_model.specs.CommandLine.{line_read};
+
+use crate::Line;
+use std::alloc::Global;
+use ucon_base::{NoMemory, Rows};
+use ucon_command::{LineFault, read_command};
+use ucon_model::Caller;
+
+/// The bytes of a command line, which are known to spell a command. They take 24 bytes of memory, and not the room of the longest
+/// command.
+#[derive(Clone, Copy, Debug)]
+pub struct LineText<'a> {
+    /// The line's number in the document, whose first line has number 1.
+    pub number: u32,
+    pub caller: Caller,
+    /// Without the newline.
+    pub text: &'a [u8],
+    ghost spelled: { IsOk (line_read text.now) },
+}
+
+impl<'a> LineText<'a> {
+    ghost use Rattle.ucon_script.specs.Document.{line_of, spelled_line};
+
+    /// The line with its command.
+    pub fn line(&self, alloc: Global) -> Result<Line, NoMemory>
+        ensures { IfOk result (λ line. line_of line ≡ spelled_line self.now) }
+    {
+        match read_command(alloc, self.text) {
+            Ok(command) => Ok(Line {
+                number: self.number,
+                caller: self.caller,
+                command,
+            }),
+            Err(LineFault::NoMemory) => Err(NoMemory),
+            Err(_) => unreachable!(),
+        }
+    }
+}
+
+/// The command lines of a document, in order, where they stand in its bytes.
+#[derive(Debug, Drop)]
+pub struct Script<'a> {
+    pub lines: Rows<LineText<'a>>,
+}
