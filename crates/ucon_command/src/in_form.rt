@@ -14,17 +14,17 @@ ghost use Rattle.ucon_model.specs.Views.{reply_of};
 use ucon_base::{Int, Name, Text, Value};
 use ucon_model::{Command, Head, Reply, Revoked};
 
-fn text_in_form(t: Text)
-    ensures { IsTrue (is_text t) }
+fn text_in_form(t: &Text)
+    ensures { IsTrue (is_text t.now) }
 {
-    let _ = t;
+    let _ = t.bytes();
 }
 
 fn texts_in_form(texts: &[Text])
     ensures { IsTrue (list_all is_text texts.now) }
 {
     for t in texts {
-        text_in_form(*t);
+        text_in_form(t);
     }
 }
 
@@ -33,7 +33,7 @@ fn value_in_form(v: &Value)
 {
     match v {
         Value::Int(n) => integer_in_form(*n),
-        Value::Text(t) => text_in_form(*t),
+        Value::Text(t) => text_in_form(t),
         Value::Set(s) => texts_in_form(s.slice()),
     }
 }

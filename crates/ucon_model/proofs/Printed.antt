@@ -1,5 +1,5 @@
 -- Printed policies.
-use Rattle.std.specs.Prelude.{◌≡◌, refl, ℤ, pos, negsuc, List, [], ◌∷◌, ◌++◌, codes, Option, Some, None}
+use Rattle.std.specs.Prelude.{◌≡◌, refl, pos, negsuc, [], ◌∷◌, ◌++◌, codes, Some, None}
 use Rattle.std.specs.Fmt.{digits}
 use Rattle.ucon_base.specs.declared.value.Side.TheVariants as sides
 use Rattle.ucon_base.specs.declared.value.Kind.TheVariants as kinds
@@ -9,7 +9,7 @@ use Rattle.ucon_model.specs.declared.formula.Ref.TheVariants as refs
 use Rattle.ucon_model.specs.declared.formula.Form.TheVariants as forms
 use Rattle.ucon_model.specs.declared.policy.Phase.TheVariants as phases
 use Rattle.ucon_model.specs.declared.policy.When.TheVariants as whens
-use Rattle.ucon_model.specs.Plain.{Bytes, PlainExpr, lit, read, plus, minus, times, size, PlainFormula, both, either, negation, compare, lasts, PlainTest, authorisation, duty, condition, PlainPolicy}
+use Rattle.ucon_model.specs.Plain.{Bytes, PlainExpr, lit, read, plus, minus, times, size, PlainFormula, both, either, negation, compare, lasts, authorisation, duty, condition, PlainPolicy}
 use Rattle.ucon_model.specs.Printing.{expr_printing, formula_printing, policy_printing}
 
 -- a right without items

@@ -2,29 +2,18 @@
 use Rattle.std.specs.Prelude.{◌≤◌, Bool, true, false, length, count_by}
 use Rattle.std.specs.List.{AllByRecursion}
 use Rattle.ucon_base.specs.declared.value.Side.{Side}
-use Rattle.ucon_base.specs.declared.value.Side.TheVariants as sides
 use Rattle.ucon_model.specs.declared.policy.Phase.{Phase}
 use Rattle.ucon_model.specs.declared.policy.Phase.TheVariants as phases
 use Rattle.ucon_model.specs.declared.policy.When.{When}
-use Rattle.ucon_model.specs.declared.policy.When.TheVariants as whens
 use Rattle.ucon_model.specs.Plain.{PlainRight, PlainPolicy}
+use Rattle.ucon_model.specs.Readings.{same_side}
+use Rattle.ucon_model.specs.Updates.{same_when}
 
-abbrev pub same_side : Side → Side → Bool
-same_side sides.Subject sides.Subject = true
-same_side sides.Object sides.Object = true
-same_side a b = false
-
+-- whether two phases are one
 abbrev pub same_phase : Phase → Phase → Bool
 same_phase phases.Pre phases.Pre = true
 same_phase phases.Ongoing phases.Ongoing = true
 same_phase a b = false
-
-abbrev pub same_when : When → When → Bool
-same_when whens.Before whens.Before = true
-same_when whens.During whens.During = true
-same_when whens.AfterEnd whens.AfterEnd = true
-same_when whens.AfterRevoke whens.AfterRevoke = true
-same_when a b = false
 
 -- at most 16 predicates of each phase, and 16 updates
 pub record IsRightWithin (r : PlainRight) : Type 0 where

@@ -1,5 +1,5 @@
 -- The plain printing of a policy: one item a line, with the brackets that its grouping needs and no others.
-use Rattle.std.specs.Prelude.{ℕ, ℤ, Bool, true, false, nat_lt, List, [], ◌∷◌, ◌++◌, Option, Some, None, codes}
+use Rattle.std.specs.Prelude.{ℕ, Bool, true, false, nat_lt, List, [], ◌∷◌, ◌++◌, Option, Some, None, codes}
 use Rattle.std.specs.List.{flat_map}
 use Rattle.std.specs.Fmt.{signed_decimal}
 use Rattle.ucon_base.specs.Spelling.{quoted}

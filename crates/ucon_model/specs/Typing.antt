@@ -233,7 +233,7 @@ one_item x = 1
 abbrev pub items_of : PlainRight → ℕ
 items_of r = 1 + length r.preds + length r.updates
 
--- a right as a whole: it makes no core model; or its ongoing predicates read more than 32 places
+-- a right as a whole: it has updates that no core model has; or its ongoing predicates read more than 32 places
 abbrev pub whole_fault : PlainRight → Option TypeFault
 whole_fault r =
     if not (is_core r) then Some (not_core r.name) else

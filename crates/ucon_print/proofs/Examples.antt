@@ -14,7 +14,9 @@ use Rattle.ucon_model.specs.declared.policy.Phase.TheVariants as phases
 use Rattle.ucon_model.specs.declared.policy.When.{When}
 use Rattle.ucon_model.specs.declared.policy.When.TheVariants as whens
 use Rattle.ucon_model.specs.Plain.{PlainExpr, read, minus, times, size, either, negation, compare, lasts, authorisation, duty, PlainPredicate, PlainUpdate, PlainRight, PlainPolicy}
-use Rattle.ucon_model.specs.Limits.{same_side, same_phase, same_when}
+use Rattle.ucon_model.specs.Limits.{same_phase}
+use Rattle.ucon_model.specs.Readings.{same_side}
+use Rattle.ucon_model.specs.Updates.{same_when}
 use Rattle.ucon_model.specs.declared.policy.AttrDecl.{AttrDecl}
 use Rattle.ucon_model.specs.Printing.{policy_printing}
 use Rattle.ucon_model.specs.Spells.{Spells}

@@ -16,7 +16,9 @@ use Rattle.ucon_model.specs.Plain.{Bytes, PlainPredicate, PlainUpdate, PlainRigh
 use Rattle.ucon_model.specs.Printing.{attr_printing, env_printing, predicate_printing, update_printing, right_printing, policy_printing}
 use Rattle.ucon_model.specs.Tokens.{Token, a_symbol, open_curly, close_curly}
 use Rattle.ucon_model.specs.Forms.{word, symbol, item, beyond, Form, nothing, before, and_then, mapped, bare}
-use Rattle.ucon_model.specs.Limits.{same_side, same_phase, same_when, IsRightWithin}
+use Rattle.ucon_model.specs.Limits.{same_phase, IsRightWithin}
+use Rattle.ucon_model.specs.Readings.{same_side}
+use Rattle.ucon_model.specs.Updates.{same_when}
 use Rattle.ucon_model.specs.Grammar.{SideCount, of_side, count_side, side_token, PhaseCount, of_phase, count_phase, phase_token, WhenCount, of_when, count_when, when_token, expr_of_depth}
 use Rattle.ucon_model.specs.Grammar as grammar
 use Rattle.ucon_print.specs.Printable.{IsAttr, IsEnv, IsPredicate, IsUpdate, IsRight}

@@ -3,7 +3,7 @@ use std::alloc::Global;
 use std::process::Abort;
 use std::test::Fail;
 use ucon_command::LineFault;
-use ucon_model::Command;
+use ucon_model::{Caller, Command};
 
 /// What a document may have.
 const MOST_BYTES: usize = 4_194_304;
@@ -46,6 +46,32 @@ fn all_seen(alloc: Global, document: &Document) -> Result<Vec<(u32, u8, u32)>, F
     Ok(all)
 }
 
+fn all_seen_in_place(alloc: Global, script: &Script<'_>) -> Result<Vec<(u32, u8, u32)>, Fail> {
+    let mut all = Vec::new(alloc);
+    for text in script.lines.slice() {
+        all.push(seen(&text.line(alloc)?))?;
+    }
+    Ok(all)
+}
+
+#[test]
+fn lines_stand_where_they_are(rt: HostRuntime) -> Result<(), Fail> {
+    let text = b"right r {}\n%%\n\nclient 3\nlook 7\n# look 8\nend 1".as_slice();
+    match read_script(rt.alloc(), text) {
+        Ok(script) => match script.lines.slice() {
+            [first, second] => {
+                assert!(rt; first.text == b"look 7".as_slice());
+                assert!(rt; second.text == b"end 1".as_slice());
+                assert_eq!(rt; (first.number, second.number), (5, 7));
+                assert_eq!(rt; (first.caller, second.caller), (Caller(3), Caller(3)));
+            }
+            lines => assert!(rt; false, "{lines:?}"),
+        },
+        Err(fault) => assert!(rt; false, "{fault:?}"),
+    }
+    Ok(())
+}
+
 #[test]
 fn lines_have_their_numbers_and_clients(rt: HostRuntime) -> Result<(), Fail> {
     let alloc = rt.alloc();
@@ -75,6 +101,15 @@ fn lines_have_their_numbers_and_clients(rt: HostRuntime) -> Result<(), Fail> {
         match read_document(alloc, text) {
             Ok(document) => {
                 assert!(rt; all_seen(alloc, &document)?.as_slice() == lines, "{text:?}");
+            }
+            Err(fault) => assert!(rt; false, "{text:?} {fault:?}"),
+        }
+        match read_script(alloc, text) {
+            Ok(script) => {
+                assert!(rt;
+                    all_seen_in_place(alloc, &script)?.as_slice() == lines,
+                    "{text:?}"
+                );
             }
             Err(fault) => assert!(rt; false, "{text:?} {fault:?}"),
         }

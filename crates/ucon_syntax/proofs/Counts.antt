@@ -13,7 +13,9 @@ use Rattle.ucon_model.specs.Plain.{Bytes, PlainPolicy}
 use Rattle.ucon_model.specs.Tokens.{close_curly}
 use Rattle.ucon_model.specs.Forms.{Terminal, word, Limit, item, Marked, beyond, Form, Items, items_tokens, items_tree, IsClean}
 use Rattle.ucon_model.specs.Grammar.{sign, side_token, SideCount, of_side, count_side, an_attr, attrs, an_env, envs, phase_token, PhaseCount, of_phase, count_phase, a_pred, preds, when_token, WhenCount, of_when, count_when, an_update, updates, a_right, rights, a_policy}
-use Rattle.ucon_model.specs.Limits.{same_side, same_phase, same_when, IsRightWithin, IsWithin}
+use Rattle.ucon_model.specs.Limits.{same_phase, IsRightWithin, IsWithin}
+use Rattle.ucon_model.specs.Readings.{same_side}
+use Rattle.ucon_model.specs.Updates.{same_when}
 use Rattle.ucon_model.specs.Spells.{Spells}
 use Rattle.ucon_syntax.proofs.Marks.{clean_front}
 use Rattle.ucon_syntax.proofs.Rooms.{clean_first, below_most}
