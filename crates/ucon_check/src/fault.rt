@@ -17,7 +17,7 @@ pub enum CheckFault {
     WrongReader(u32),
     /// An item that isn't typed.
     WrongKind(u32),
-    /// The right of this name makes no core model.
+    /// The right of this name has updates that no core model has.
     NotCore(Name),
     /// The ongoing predicates of the right of this name read so many distinct places, more than 32.
     TooManyCells(Name, u32),
@@ -38,8 +38,7 @@ impl From<NoMemory> for CheckFault {
 pub fn after(item: u32, n: usize) -> u32
     ensures { result ≡ told_number (item + n) }
 {
-    let left = u32::MAX - item;
-    if n < left as usize {
+    if n < (u32::MAX - item) as usize {
         item + n as u32
     } else {
         u32::MAX

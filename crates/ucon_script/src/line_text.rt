@@ -9,7 +9,7 @@ use ucon_base::{NoMemory, Rows};
 use ucon_command::{LineFault, read_command};
 use ucon_model::Caller;
 
-/// The bytes of a command line, which are known to spell a command. They take 24 bytes of memory, and not the room of the longest
+/// A command line by its bytes, which are known to spell a command. So it takes 24 bytes of memory, and not the room of the longest
 /// command.
 #[derive(Clone, Copy, Debug)]
 pub struct LineText<'a> {
