@@ -76,7 +76,7 @@ def build() -> bool:
     order = crates_below("ucon_main")
     jobs = ["--jobs", str(os.cpu_count() or 1)]
     say(f"proving {len(order)} crates and building the program: a first build {how_long()} (docs/gate-times.md)")
-    say(f"its log is {LOG}; for a reply within a minute: ./ucon quick FORM")
+    say(f"its log is {LOG}; for a reply in about a minute, unproved: ./ucon quick FORM")
     LOG.parent.mkdir(exist_ok=True)
     with open(LOG, "wb") as log:
         began = LOG.stat().st_mtime

@@ -31,7 +31,7 @@ COMING = [
 
 # What the launcher itself does.
 OWN = [
-    Form("quick FORM ..", "runs the program as it is written, unproved: a reply within a minute", "./ucon quick trial < examples/first.ucon"),
+    Form("quick FORM ..", "runs the program as it is written, unproved: a reply in about a minute", "./ucon quick trial < examples/first.ucon"),
     Form("test DIR ..", "runs each NAME.ucon of a folder, and compares with NAME.out", "./ucon test examples"),
     Form("--help", "this page", ""),
     Form("--version", "the commit, and the kit that it is proved with", ""),

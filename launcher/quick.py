@@ -11,7 +11,7 @@ from launcher.program import Ended
 
 ENDED = re.compile(rb"^run=ended status=(\d+) ", re.M)
 CASE = re.compile(rb"^case=(\w+) run=ended status=(\d+) ")
-WAITING = "ucon: compiling the unproved program, which takes up to a minute .."
+WAITING = "ucon: compiling the unproved program, which takes about a minute .."
 
 
 class NoAnswer(Exception):
