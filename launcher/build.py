@@ -74,7 +74,7 @@ def build() -> bool:
         say("rt, the command of the Rattle kit, is not on the PATH")
         return False
     order = crates_below("ucon_main")
-    jobs = ["--jobs", str(os.cpu_count() or 1)]
+    jobs = ["--jobs", str(len(os.sched_getaffinity(0)))]
     say(f"proving {len(order)} crates and building the program: a first build {how_long()} (docs/gate-times.md)")
     say(f"its log is {LOG}; for a reply in about a minute, unproved: ./ucon quick FORM")
     LOG.parent.mkdir(exist_ok=True)

@@ -17,9 +17,9 @@ def explained(said: bytes, name: str, raw: bytes) -> str:
     """What a person needs beside the program's line. Empty where the line names no place, or one that isn't in the document."""
     document = Document(name, raw)
     try:
-        return "".join(part for part in parts(said, document))
-    except (IndexError, StopIteration, KeyError):
-        # The document isn't the one that was refused: the file was changed meanwhile.
+        return "".join(parts(said, document))
+    except Exception:  # pylint: disable=broad-except
+        # The program's line has been said. Where a hint can't be found, as in a file that was changed meanwhile, there is none.
         return ""
 
 

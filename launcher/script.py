@@ -162,7 +162,9 @@ def bad_word(line: bytes, at: int):
     words = words_of(line, at, len(kinds) + 1)[1:]
     kind, word = next((kind, word) for kind, word in zip(kinds, words) if not fits(kind, word.raw))
     mark = Span(word.at, max(word.at + len(word.raw), word.at + 1))
-    return mark, [*reasons(kind, word.raw), f"{form_text(first)}, and {kind} is {ALLOWED.get(kind, ALLOWED['NAME'])}"]
+    is_last = word.raw == b"" and word.at == at + len(line)
+    why = ["a space (invisible) stands at the end of the line, and no word behind it"] if is_last else reasons(kind, word.raw)
+    return mark, [*why, f"{form_text(first)}, and {kind} is {ALLOWED.get(kind, ALLOWED['NAME'])}"]
 
 
 def reasons(kind: str, raw: bytes) -> List[str]:

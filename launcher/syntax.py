@@ -125,8 +125,9 @@ def divider(fault: Fault) -> Hint:
         behind = name_of_byte(line[2:])
         return Hint(f"{alone}; behind it stands {behind + ' (invisible)' if behind else '`' + shown(line[2:]) + '`'}", Span(start + 2, end))
     if fault.at > start:
-        before = name_of_byte(line)
-        return Hint(f"{alone}; before it stands {before + ' (invisible)' if before else '`' + shown(fault.document.raw[start:fault.at]) + '`'}")
+        before = fault.document.raw[start : fault.at]
+        unseen = name_of_byte(line) if before.isspace() else None
+        return Hint(f"{alone}; before it stands {unseen + ' (invisible)' if unseen else '`' + shown(before) + '`'}")
     return Hint(alone)
 
 
@@ -151,6 +152,8 @@ def unexpected(fault: Fault) -> Optional[Hint]:
         missing_brace,
         missing_divider,
         number_spelling,
+        range_dots,
+        missing_operand,
         text_rule,
         hyphen,
         square_in_expression,
@@ -193,11 +196,18 @@ def around_formula(fault: Fault) -> Optional[Hint]:
     return Hint("formulas group with `[ ]`; `( )` groups within an expression", bracket.span) if bracket else None
 
 
-ENDS = ("number", "text", "word")
-
-
-def can_end(token: Token) -> bool:
-    return token.kind in ENDS or token.raw in (b"]", b")", b"}")
+def is_whole(item: List[Token]) -> bool:
+    """Whether an item might end here, but for its `;`."""
+    last = item[-1]
+    if last.kind not in ("number", "text", "word") and last.raw not in (b"]", b")", b"}"):
+        return False
+    if item[0].raw not in PREDICATES:
+        return any(token.raw == b"=" for token in item)
+    asked = [token.raw for token in item[4:]]
+    if item[1].raw == b"b":
+        return len(asked) >= 2
+    begins = max((n + 1 for n, raw in enumerate(asked) if raw in (b"and", b"or", b"not", b"[")), default=0)
+    return last.raw == b"]" or any(raw in OPERATORS + (b"lasts",) for raw in asked[begins:-1])
 
 
 def starters(fault: Fault) -> tuple:
@@ -212,7 +222,7 @@ def missing_semicolon(fault: Fault) -> Optional[Hint]:
     reads_on = tokens[-1].raw == b"on" and len(item.tokens) > 1 and fault.token.raw in (b"a", b"b", b"c")
     last, starts = (tokens[-2], tokens[-1]) if reads_on else (tokens[-1], fault.token)
     begins = reads_on or fault.is_at_end or fault.token.raw in starters(fault)
-    if not begins or not can_end(last):
+    if not begins or not is_whole(item.tokens[:-1] if reads_on else item.tokens):
         return None
     where = "at the end of the line before" if fault.is_at_end or fault.is_first_on_line(starts) else "before it"
     return Hint(f"a `;` is missing {where}", Span(last.end, last.end + 1))
@@ -240,6 +250,21 @@ def number_spelling(fault: Fault) -> Optional[Hint]:
         return Hint("a name begins with a letter, and a number is followed by a blank or a sign")
     if fault.token.kind == "number" and len(fault.token.raw) > 1 and fault.token.raw.startswith(b"0"):
         return Hint("a number has no needless zeros")
+    return None
+
+
+def range_dots(fault: Fault) -> Optional[Hint]:
+    item = fault.items.open_item
+    if fault.token.raw == b"." and fault.last and fault.last.kind == "number" and item and item.kind in ("attr", "env"):
+        return Hint("a range is `LOW..HIGH`, with two dots; numbers have no fractions")
+    return None
+
+
+def missing_operand(fault: Fault) -> Optional[Hint]:
+    item, signs = fault.items.open_item, OPERATORS + (b"+", b"-", b"*")
+    wanted = item and item.kind in ("predicate", "update") and fault.last.raw in signs
+    if wanted and fault.token.raw in signs + JOINING + (b";", b")", b"]", b"}"):
+        return Hint(f"behind `{fault.last.raw.decode()}` a value or a place is missing", Span(fault.last.end, fault.last.end + 1))
     return None
 
 
