@@ -18,16 +18,21 @@ class Form(NamedTuple):
     example: str
     keeps: bool = False
 
+    @property
+    def name(self) -> str:
+        return self.words.split()[0]
 
-# One line a form that the program has. A form that comes is switched on by moving its line here from COMING.
-FORMS = [
+
+# One line a form.
+KNOWN = [
     Form("trial", "runs the script under the policy, and prints a reply for each command", "./ucon trial < examples/first.ucon"),
     Form("check", "prints which core models of usage control each right makes", "./ucon check < examples/music.ucon"),
-]
-COMING = [
     Form("gen SEED SIZE", "makes a document of SIZE commands from a number, runs it, and prints what happened", "./ucon gen 1 1000"),
     Form("play JOURNAL", "runs the script over a journal, a file that keeps each step", "./ucon play door.journal < door.ucon", keeps=True),
 ]
+# Forms that the program doesn't have yet. A name goes from here when its form comes.
+COMING = ("gen", "play")
+FORMS = [form for form in KNOWN if form.name not in COMING]
 
 # What the launcher itself does.
 OWN = [
@@ -80,7 +85,7 @@ INSTALLED = "The manual page: man ucon\n"
 
 
 def help_text() -> str:
-    own = [form for form in OWN if program.has_sources() or not form.words.startswith("quick")]
+    own = [form for form in OWN if program.has_sources() or form.name != "quick"]
     return (
         "ucon: a usage control monitor. A document comes on standard input: a policy, a line %%, and a script.\n\n"
         f"{''.join(map(row, FORMS))}\n{''.join(map(row, own))}\n{OF_SOURCES if program.has_sources() else INSTALLED}"
@@ -93,7 +98,7 @@ def usage_hint(words: List[str]) -> str:
     """What stands behind the program's own line where the words are no form."""
     names = ", ".join(form.words for form in FORMS + OWN[:2])
     first = words[0] if words else ""
-    near = next((form for form in FORMS if form.words.split()[0] == first), None)
+    near = next((form for form in FORMS if form.name == first), None)
     if not words:
         why = "no words were given"
     elif near and len(near.words.split()) == 1:
