@@ -204,7 +204,7 @@ def is_whole(item: List[Token]) -> bool:
     if item[0].raw not in PREDICATES:
         return any(token.raw == b"=" for token in item)
     asked = [token.raw for token in item[4:]]
-    if item[1].raw == b"b":
+    if len(item) > 1 and item[1].raw == b"b":
         return len(asked) >= 2
     begins = max((n + 1 for n, raw in enumerate(asked) if raw in (b"and", b"or", b"not", b"[")), default=0)
     return last.raw == b"]" or any(raw in OPERATORS + (b"lasts",) for raw in asked[begins:-1])
