@@ -74,7 +74,14 @@ def row(form: Form) -> str:
 
 def in_place(example: str) -> str:
     """An example as it is typed here: an installed command is found on the PATH, and has no examples beside it."""
-    return example if program.has_sources() else re.sub(r"\S+\.ucon\b", "DOCUMENT", example.replace("./ucon", "ucon"))
+    if program.has_sources():
+        return example
+    return re.sub(r"\S+\.ucon\b", "DOCUMENT", example.replace("./ucon", "ucon")).replace("test examples", "test DIR")
+
+
+def own_forms() -> List[Form]:
+    """What the launcher does here: an installed copy has no sources for `quick`."""
+    return [form for form in OWN if program.has_sources() or form.name != "quick"]
 
 
 OF_SOURCES = """\
@@ -85,10 +92,9 @@ INSTALLED = "The manual page: man ucon\n"
 
 
 def help_text() -> str:
-    own = [form for form in OWN if program.has_sources() or form.name != "quick"]
     return (
         "ucon: a usage control monitor. A document comes on standard input: a policy, a line %%, and a script.\n\n"
-        f"{''.join(map(row, FORMS))}\n{''.join(map(row, own))}\n{OF_SOURCES if program.has_sources() else INSTALLED}"
+        f"{''.join(map(row, FORMS))}\n{''.join(map(row, own_forms()))}\n{OF_SOURCES if program.has_sources() else INSTALLED}"
         "After a fault of a document that is a file, the place, the line and a hint follow the program's own line.\n"
         "UCON_PROGRAM=FILE runs that program in place of the proved one.\n"
     )
@@ -96,7 +102,7 @@ def help_text() -> str:
 
 def usage_hint(words: List[str]) -> str:
     """What stands behind the program's own line where the words are no form."""
-    names = ", ".join(form.words for form in FORMS + OWN[:2])
+    names = ", ".join(form.words for form in FORMS + own_forms() if form.example)
     first = words[0] if words else ""
     near = next((form for form in FORMS if form.name == first), None)
     if not words:
