@@ -44,7 +44,7 @@ impl Plan {
         match kept {
             Ok(()) if done => return Ok(()),
             Ok(()) => {}
-            Err(NoMemory) => self.short = self.short.saturating_add(1),
+            Err(_) => self.short = self.short.saturating_add(1),
         }
         self.faults = self.faults.saturating_add(1);
         Err(Failed)

@@ -142,8 +142,7 @@ impl<D: Disk> Journal<D> {
         ensures gate { gate_of self.new ≡ gate_of self.old }
         ensures closed { IsClosed D.contents self.old → IsClosed D.contents self.new }
     {
-        let all = n.checked_add(5).ok_or(NoMemory)?;
-        self.buffer.reserve(all)?;
+        self.buffer.reserve(n.saturating_add(5))?;
         Ok(())
     }
 

@@ -4,7 +4,7 @@ use Rattle.ucon_model.specs.declared.policy.AttrDecl.{AttrDecl}
 use Rattle.ucon_model.specs.declared.policy.EnvDecl.{EnvDecl}
 use Rattle.ucon_model.specs.declared.policy.Policy.{Policy}
 use Rattle.ucon_model.specs.Plain.{Bytes, PlainPredicate, PlainUpdate, PlainRight, PlainPolicy}
-use Rattle.ucon_model.specs.Tokens.{Token, tokens_of, place_of, Flaw, unknown, too_long, misplaced, open_curly, close_curly}
+use Rattle.ucon_base.specs.Tokens.{Token, tokens_of, place_of, Flaw, unknown, too_long, misplaced, open_curly, close_curly}
 use Rattle.ucon_model.specs.Views.{policy_of}
 use Rattle.ucon_token.specs.declared.stop.Cause.{Cause}
 use Rattle.ucon_token.specs.declared.stop.Cause.TheVariants as causes
@@ -77,5 +77,5 @@ reading_of text = if nat_lt 65536 (length text) then Err (faults.TooLong 65536) 
 -- a text is read as its reading says, unless memory ran out
 abbrev pub Reading : Result Policy SyntaxFault → Bytes → Type 0
 Reading (Ok p) text = reading_of text ≡ Ok (policy_of p)
-Reading (Err faults.NoMemory) text = Unit {0}
+Reading (Err (faults.NoMemory e)) text = Unit {0}
 Reading (Err f) text = reading_of text ≡ Err f

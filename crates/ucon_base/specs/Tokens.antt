@@ -1,9 +1,9 @@
 -- The tokens of a policy's text, and where they stand.
-use Rattle.std.specs.Prelude.{ℕ, zero, suc, ◌+◌, ◌-◌, ◌*◌, ℤ, pos, Bool, true, false, ◌&&◌, ◌||◌, not, ◌==◌, nat_lt, nat_le, List, [], ◌∷◌, length, take, drop, Option, Some, None, option_map, if◌then◌else◌}
+use Rattle.std.specs.Prelude.{ℕ, zero, suc, ◌+◌, ◌-◌, ◌*◌, ℤ, pos, Bool, true, false, ◌&&◌, ◌||◌, not, ◌==◌, nat_lt, List, [], ◌∷◌, length, take, drop, Option, Some, None, option_map, if◌then◌else◌}
 use Rattle.std.specs.List.{prefix_len}
+use Rattle.ucon_base.specs.Bytes.{Bytes}
 use Rattle.ucon_base.specs.NameBytes.{is_letter, is_word_byte}
-use Rattle.ucon_base.specs.TextBytes.{is_text_byte}
-use Rattle.ucon_model.specs.Plain.{Bytes}
+use Rattle.ucon_base.specs.Reading.{is_digit, text_len}
 
 -- `:` `;` `,` `.` `..` `=` `!=` `<` `<=` `>` `>=` `+` `-` `*` `(` `)` `[` `]` `{` `}`
 pub data Symbol : Type 0 where
@@ -29,9 +29,6 @@ pub data Token : Type 0 where
 abbrev pub is_blank : ℕ → Bool
 is_blank b = b == 32 || (b == 9 || b == 10)
 
-abbrev pub is_digit : ℕ → Bool
-is_digit b = nat_le 48 b && nat_le b 57
-
 -- what is left behind blanks and comments; the test says whether a comment has begun
 unfoldable pub skip : Bool → Bytes → Bytes
 skip inside [] = []
@@ -42,15 +39,12 @@ skip false (b ∷ bs) = if is_blank b then skip false bs else if b == 35 then sk
 abbrev pub Lexed : Type 0
 Lexed = Token × Bytes
 
--- how long the run of a word's bytes is, of digits, and of bytes that may stand in a text
+-- how long the run of a word's bytes is, and of digits
 abbrev pub word_len : Bytes → ℕ
 word_len bs = prefix_len is_word_byte bs
 
 abbrev pub digits_len : Bytes → ℕ
 digits_len bs = prefix_len is_digit bs
-
-abbrev pub text_len : Bytes → ℕ
-text_len bs = prefix_len is_text_byte bs
 
 -- a word has at most 32 bytes
 unfoldable pub word_token : Bytes → Lexed

@@ -1,14 +1,13 @@
 -- How the texts of a set go on.
 use Rattle.std.proofs.Common.{◌≡◌, ℕ, zero, suc, ◌-◌, ◌+◌, ◌<◌, ◌≢◌, Bool, true, false, cond, List, [], ◌∷◌, ◌++◌, length, length-append, drop, Option, Some, None, Result, Ok, Err, refl, sym, ap, ◌∙◌, arith}
 use Rattle.ucon_base.specs.Value.{is_rising}
-use Rattle.ucon_model.specs.Plain.{Bytes}
-use Rattle.ucon_model.specs.Tokens.{Token, comma, close_curly}
+use Rattle.ucon_base.specs.Bytes.{Bytes}
+use Rattle.ucon_base.specs.Tokens.{Token, comma, close_curly}
 use Rattle.ucon_token.specs.declared.stop.Cause.TheVariants.{TooMany, Unexpected}
 use Rattle.ucon_token.specs.declared.stop.Stop.{Stop}
 use Rattle.ucon_token.specs.Tokens.{first, is_symbol, text_of}
-use Rattle.ucon_token.specs.Reading.{Halt, ◌>>=◌, Fails, expect}
-use Rattle.ucon_syntax.specs.Literals.{member_from, member_at, behind_member, texts_at}
-use Rattle.ucon_syntax.proofs.Chains.{stops_whole}
+use Rattle.ucon_token.specs.Reading.{Halt, ◌>>=◌, Fails, expect, stops_whole}
+use Rattle.ucon_token.specs.Literals.{member_from, member_at, behind_member, texts_at}
 
 texts_on : (n : ℕ) (texts : List Bytes) (ts : List Token) → n ≢ 0 → texts_at n texts ts ≡ (member_at texts ts >>= λ more. behind_member (texts_at (n - 1) more.0) more.0 more.1)
 unfolding texts_at

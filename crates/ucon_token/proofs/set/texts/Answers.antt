@@ -1,11 +1,10 @@
 use Rattle.std.proofs.Common.{rules, ◌≡◌, ◌-◌, true, false, None, Some, Ok, refl, sym, ◌∙◌, arith}
 use Rattle.std.proofs.lemmas.Result.{err_from_is_err_and}
-use Rattle.ucon_model.specs.Tokens.{comma, close_curly}
+use Rattle.ucon_base.specs.Tokens.{comma, close_curly}
 use Rattle.ucon_token.specs.Tokens.{first, is_symbol, text_of}
-use Rattle.ucon_token.specs.Reading.{expect}
-use Rattle.ucon_syntax.proofs.Chains.{stops_whole}
-use Rattle.ucon_syntax.proofs.Texts.{texts_stop, texts_go, texts_end, texts_over, texts_missing, member_grows}
-use Rattle.ucon_syntax.proofs.set.texts.Goals as goal
+use Rattle.ucon_token.specs.Reading.{expect, stops_whole}
+use Rattle.ucon_token.proofs.Texts.{texts_stop, texts_go, texts_end, texts_over, texts_missing, member_grows}
+use Rattle.ucon_token.proofs.set.texts.Goals as goal
 
 pub returns-in_err-set-clause-read : goal.returns-in_err-set-clause-read
 returns-in_err-set-clause-read c =

@@ -3,14 +3,25 @@ use Rattle.std.specs.Prelude.{ℕ, zero, suc, ℤ, neg_ℤ, List, [], ◌∷◌,
 use Rattle.ucon_base.specs.Value.{is_rising}
 use Rattle.ucon_base.specs.declared.value.Value.{Value}
 use Rattle.ucon_base.specs.declared.value.Value.TheVariants as values
-use Rattle.ucon_model.specs.Plain.{Bytes}
-use Rattle.ucon_model.specs.Tokens.{minus_sign, comma, close_curly}
+use Rattle.ucon_base.specs.Bytes.{Bytes}
+use Rattle.ucon_base.specs.Tokens.{Token, a_number, a_text, a_symbol, Symbol, minus_sign, comma, open_curly, close_curly}
 use Rattle.ucon_token.specs.declared.stop.Cause.TheVariants.{Unexpected, TooMany}
 use Rattle.ucon_token.specs.Tokens.{first, is_symbol, text_of}
 use Rattle.ucon_token.specs.Reading.{Reads, ◌>>=◌, expect, number_at, text_at}
-use Rattle.ucon_syntax.specs.Starts.{literal_start}
-use Rattle.ucon_syntax.specs.declared.starts.LiteralStart.{LiteralStart}
-use Rattle.ucon_syntax.specs.declared.starts.LiteralStart.TheVariants as literals
+use Rattle.ucon_token.specs.declared.literal.LiteralStart.{LiteralStart}
+use Rattle.ucon_token.specs.declared.literal.LiteralStart.TheVariants as literals
+
+abbrev pub symbol_literal : Symbol → Option LiteralStart
+symbol_literal minus_sign = Some literals.Int
+symbol_literal open_curly = Some literals.Set
+symbol_literal s = None
+
+-- what sort of literal begins with it
+unfoldable pub literal_start : Token → Option LiteralStart
+literal_start (a_number n) = Some literals.Int
+literal_start (a_text t) = Some literals.Text
+literal_start (a_symbol s) = symbol_literal s
+literal_start t = None
 
 -- the number behind a `-`
 unfoldable pub negative_at : Reads ℤ

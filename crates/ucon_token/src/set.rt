@@ -1,15 +1,16 @@
 //! Sets of texts.
 
-ghost use Rattle.std.specs.Prelude.{◌≡◌, ◌<◌, [], ◌∷◌, ◌++◌, length, true, MatchResult};
+ghost use Rattle.std.specs.Prelude.{◌≡◌, ◌<◌, [], ◌∷◌, ◌++◌, length, true, IfOk};
 ghost use Rattle.std.specs.Ordering.{nat_cmp, is_lt};
 ghost use Rattle.std.specs.Cmp.Lexicographic.{slice_cmp};
 ghost use Rattle.ucon_base.specs.Value.{is_rising};
 ghost use Rattle.ucon_token.specs.Reading.{Gives};
-ghost use Rattle.ucon_token.specs.declared.stop.Stop.TheVariants.{Memory};
-ghost use Rattle.ucon_syntax.specs.Literals.{member_at, texts_at, set_at};
+ghost use Rattle.ucon_token.specs.Literals.{member_at, texts_at, set_at};
 
-use ucon_base::{Text, TextSet};
-use ucon_token::{Cause, Reader, Stop, Symbol};
+use crate::reader::Reader;
+use crate::stop::{Cause, Stop};
+use crate::token::Symbol;
+use ucon_base::{NoMemory, Text, TextSet};
 
 const MOST_TEXTS: usize = 64;
 
@@ -33,10 +34,10 @@ fn rises(set: &TextSet, text: &Text) -> bool
 
 /// The set with a text that is above all of it.
 #[tactic(auto, using(crate::proofs::Rises::with_text_last))]
-fn longer(reader: &Reader, set: &TextSet, text: &Text) -> Result<TextSet, Stop>
+fn longer(reader: &Reader, set: &TextSet, text: &Text) -> Result<TextSet, NoMemory>
     requires rises { is_rising (set.now ++ text.now ∷ []) ≡ true }
     requires room { length set.now < 64 }
-    ensures { MatchResult result (λ s. s ≡ set.now ++ text.now ∷ []) (λ e. e ≡ Memory) }
+    ensures { IfOk result (λ s. s ≡ set.now ++ text.now ∷ []) }
 {
     Ok(set.with(reader.alloc, text)?)
 }
