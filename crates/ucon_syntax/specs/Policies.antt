@@ -5,7 +5,7 @@ use Rattle.ucon_model.specs.declared.policy.AttrDecl.{AttrDecl}
 use Rattle.ucon_model.specs.declared.policy.EnvDecl.{EnvDecl}
 use Rattle.ucon_model.specs.declared.policy.Policy.{Policy}
 use Rattle.ucon_model.specs.Plain.{Bytes, PlainPredicate, PlainUpdate, PlainRight, PlainPolicy}
-use Rattle.ucon_model.specs.Tokens.{Token, tokens_of, place_of, Flaw, unknown, too_long, misplaced, open_curly, close_curly}
+use Rattle.ucon_base.specs.Tokens.{Token, tokens_of, place_of, Flaw, unknown, too_long, misplaced, open_curly, close_curly}
 use Rattle.ucon_model.specs.Typing.{is_typed}
 use Rattle.ucon_model.specs.Views.{policy_of}
 use Rattle.ucon_token.specs.declared.stop.Cause.{Cause}
@@ -87,5 +87,5 @@ accepted text = option_and_then if_typed (result_ok (reading_of text))
 -- a text is read as its reading says, unless memory ran out
 abbrev pub Reading : Result Policy SyntaxFault → Bytes → Type 0
 Reading (Ok p) text = reading_of text ≡ Ok (policy_of p)
-Reading (Err faults.NoMemory) text = Unit {0}
+Reading (Err (faults.NoMemory e)) text = Unit {0}
 Reading (Err f) text = reading_of text ≡ Err f

@@ -5,11 +5,9 @@ mod expr;
 mod formula;
 mod items;
 mod laws;
-mod literal;
 mod policy;
 mod read;
 mod room;
-mod set;
 mod starts;
 #[cfg(test)]
 mod tests;
