@@ -113,7 +113,7 @@ fn command_at(alloc: Global, place: usize, line: &[u8]) -> Result<Command, Paylo
 {
     match read_command(alloc, line) {
         Ok(command) => Ok(command),
-        Err(LineFault::NoMemory) => Err(PayloadFault::NoMemory),
+        Err(LineFault::NoMemory(refused)) => Err(PayloadFault::NoMemory(refused)),
         Err(_) => Err(PayloadFault::BadPlace(place)),
     }
 }
@@ -124,7 +124,7 @@ fn reply_at(alloc: Global, place: usize, text: &[u8]) -> Result<Reply, PayloadFa
 {
     match read_reply(alloc, text) {
         Ok(reply) => Ok(reply),
-        Err(ReplyFault::NoMemory) => Err(PayloadFault::NoMemory),
+        Err(ReplyFault::NoMemory(refused)) => Err(PayloadFault::NoMemory(refused)),
         Err(ReplyFault::BadReply) => Err(PayloadFault::BadPlace(place)),
     }
 }
