@@ -28,8 +28,8 @@ pub mod WithinAndLasts
 pub mod Lines
 pub mod Documents
 pub mod FirstFaults
-pub mod Written
 pub mod TypedParts
+pub mod ValuesStayFit
 pub mod SortsOfValues
 pub mod Meaningful
 pub mod Numbering
