@@ -36,7 +36,8 @@ pub fn payload_text(
     reply: &Reply,
 ) -> Result<Vec<u8>, NoMemory>
     ensures text { IfOk result (λ t. t.items ≡ payload_spelling (told_of caller command.now reply.now)) }
-    ensures read_back { caller.0 < 64 → payload_read (payload_spelling (told_of caller command.now reply.now)) ≡ Ok (told_of caller command.now reply.now) }
+    ensures read_back { caller.0 < 64
+        → payload_read (payload_spelling (told_of caller command.now reply.now)) ≡ Ok (told_of caller command.now reply.now) }
     ensures short { length (payload_spelling (told_of caller command.now reply.now)) ≤ most_told (reply_of reply.now) }
 {
     command_in_form(command);
@@ -112,7 +113,7 @@ fn command_at(alloc: Global, place: usize, line: &[u8]) -> Result<Command, Paylo
 {
     match read_command(alloc, line) {
         Ok(command) => Ok(command),
-        Err(LineFault::NoMemory) => Err(PayloadFault::NoMemory),
+        Err(LineFault::NoMemory(refused)) => Err(PayloadFault::NoMemory(refused)),
         Err(_) => Err(PayloadFault::BadPlace(place)),
     }
 }
@@ -123,7 +124,7 @@ fn reply_at(alloc: Global, place: usize, text: &[u8]) -> Result<Reply, PayloadFa
 {
     match read_reply(alloc, text) {
         Ok(reply) => Ok(reply),
-        Err(ReplyFault::NoMemory) => Err(PayloadFault::NoMemory),
+        Err(ReplyFault::NoMemory(refused)) => Err(PayloadFault::NoMemory(refused)),
         Err(ReplyFault::BadReply) => Err(PayloadFault::BadPlace(place)),
     }
 }
