@@ -131,7 +131,8 @@ pub fn put_predicate(out: &mut Vec<u8>, predicate: &Predicate) -> Result<(), NoM
     put(out, predicate.label.bytes())?;
     put(out, b": ")?;
     put_test(out, &predicate.test)?;
-    put(out, b";\n")
+    put(out, b";\n")?;
+    Ok(())
 }
 
 fn when_text(when: When) -> &'static [u8]
@@ -154,5 +155,6 @@ pub fn put_update(out: &mut Vec<u8>, update: &Update) -> Result<(), NoMemory>
     put(out, update.attr.bytes())?;
     put(out, b" = ")?;
     put_expr(out, &update.value, 0)?;
-    put(out, b";\n")
+    put(out, b";\n")?;
+    Ok(())
 }

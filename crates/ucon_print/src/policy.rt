@@ -56,7 +56,8 @@ fn put_right(out: &mut Vec<u8>, right: &Right) -> Result<(), NoMemory>
     put(out, b" {\n")?;
     put_predicates(out, right.preds.slice())?;
     put_updates(out, right.updates.slice())?;
-    put(out, b"}\n")
+    put(out, b"}\n")?;
+    Ok(())
 }
 
 fn put_rights(out: &mut Vec<u8>, rights: &[Right]) -> Result<(), NoMemory>
