@@ -22,6 +22,7 @@ pub mod AllowedWrites
 pub mod LeastFailing
 pub mod AllowedOwn
 pub mod Histories
+pub mod GrownHistories
 pub mod Cascades
 pub mod WithinAndLasts
 pub mod Lines

@@ -3,14 +3,15 @@
 ghost use Rattle.std.specs.Prelude.{◌≡◌, ◌+◌, ◌<◌, ◌↔◌, ℕ, List, map, true, Some, None};
 ghost use Rattle.ucon_model.specs.declared.command.Caller.{Caller};
 ghost use Rattle.ucon_model.specs.declared.command.Command.{Command};
+ghost use Rattle.ucon_model.specs.declared.command.Entry.{Entry};
 ghost use Rattle.ucon_model.specs.declared.reply.Head.{Head};
 ghost use Rattle.ucon_model.specs.declared.session.SessionRow.{SessionRow};
 ghost use Rattle.ucon_model.specs.Plain.{Bytes, PlainPolicy, PlainRight};
 ghost use Rattle.ucon_model.specs.Action.{Action, Trace, extended};
-ghost use Rattle.ucon_model.specs.Block.{block};
+ghost use Rattle.ucon_model.specs.Block.{after, block};
 ghost use Rattle.ucon_model.specs.Decision.{right_named};
 ghost use Rattle.ucon_model.specs.Fitting.{PlacesFit, UpdatesFit, ValuesFit};
-ghost use Rattle.ucon_model.specs.History.{History, trace};
+ghost use Rattle.ucon_model.specs.History.{History, grown, trace};
 ghost use Rattle.ucon_model.specs.Legal.{AreLegal, IsCascade, RevocationsAreLegal};
 ghost use Rattle.ucon_model.specs.LegalRun.{Answered, Each, IsLegalRun, IsSerialRun, in_text_order};
 ghost use Rattle.ucon_model.specs.Meaning.{expr_means, test_means};
@@ -30,6 +31,11 @@ pub fn settling_ends()
 /// label of its first false ongoing predicate.
 pub fn revocations_are_legal()
     ensures { (P : PlainPolicy) (H : History) (caller : Caller) (c : Command) → RevocationsAreLegal P (trace P H) (block P (trace P H) caller c) }
+{}
+
+/// The trace of a history that an entry has grown is the one after the entry's command.
+pub fn grown_histories_go_on()
+    ensures { (P : PlainPolicy) (H : History) (e : Entry) → trace P (grown P H e) ≡ after P (trace P H) e.caller e.command }
 {}
 
 /// After every history no accessing session fails.
