@@ -26,6 +26,8 @@ pub mod GrownHistories
 pub mod Cascades
 pub mod WithinAndLasts
 pub mod Lines
+pub mod Payloads
+pub mod FoundOn
 pub mod Documents
 pub mod FirstFaults
 pub mod Written

@@ -30,3 +30,5 @@ pub mod Forms
 pub mod Grammar
 pub mod Spells
 pub mod Limits
+pub mod Payload
+pub mod Found
