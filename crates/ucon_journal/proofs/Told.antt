@@ -1,9 +1,9 @@
 -- What holds of the bytes as read, where the disk tells.
-use Rattle.std.proofs.Common.{◌≡◌, ◌≢◌, ℕ, ◌+◌, ◌^◌, ◌<◌, List, [], ◌∷◌, ◌++◌, length, take, drop, Option, None, Some, IfSome, refl, sym, ◌∙◌, ap, subst}
+use Rattle.std.proofs.Common.{◌≡◌, ℕ, ◌+◌, ◌^◌, ◌<◌, List, [], ◌∷◌, ◌++◌, length, take, drop, Option, None, Some, IfSome, refl, sym, ◌∙◌, ap, subst}
 use Rattle.std.specs.Option.{option_map}
 use Rattle.ucon_disk.specs.Disk.{overwritten, Only}
 use Rattle.ucon_disk.specs.Run.{IsAtRest}
-use Rattle.ucon_journal.specs.Found.{NotJournal, found, version_told, counted, payloads_from, StandsAt}
+use Rattle.ucon_journal.specs.Found.{version_told, counted, payloads_from, StandsAt}
 use Rattle.ucon_journal.specs.Opened.{opened, shut_at, with_payload}
 use Rattle.ucon_journal.specs.Journal.{told_payloads}
 use Rattle.ucon_journal.proofs.Openings.{opened_stands, stands_first, counted-opened}

@@ -4,7 +4,7 @@ ghost use Rattle.std.specs.Prelude.{◌≡◌, ◌≢◌, ◌+◌, ◌-◌, ◌<
 ghost use Rattle.std.specs.Int.{w32, to_be_bytes};
 ghost use Rattle.std.specs.List.{sum_by};
 ghost use Rattle.std.specs.Option.{option_map};
-ghost use Rattle.ucon_disk.specs.Causes.{HasCause, Rose};
+ghost use Rattle.ucon_disk.specs.Causes.{HasCause, raised};
 ghost use Rattle.ucon_disk.specs.Disk.{Only, SameImages};
 ghost use Rattle.ucon_disk.specs.Run.{LeavesOnly, LeavesAfter};
 ghost use Rattle.ucon_journal.specs.JournalBytes.{IsVersion, AreShort, records, journal_bytes};
@@ -15,7 +15,7 @@ ghost use Rattle.ucon_journal.specs.Opened.{opened, shut_at, with_payload, Untou
 use crate::fault::{DiskFault, OpenFault, TakeFault};
 use crate::opening::begin;
 use crate::phase::Phase;
-use crate::synced::{cut_synced, write_synced};
+use crate::synced::{cut_synced, write_gate, write_synced};
 use std::alloc::Global;
 use ucon_base::NoMemory;
 use ucon_disk::Disk;
@@ -55,14 +55,14 @@ impl<D: Disk> Journal<D> {
         ensures all { IfOk result (λ j. IfSome (D.contents (disk_of j)) (λ file. payloads_from file 8 ≡ counted file)) }
         ensures only { IfOk result (λ j. Only (D.contents (disk_of j)) (D.images (disk_of j))) }
         ensures images { IfOk result (λ j. LeavesAfter D.contents D.images D.moment D.images_since disk (disk_of j) Untouched) }
-        ensures later { IfOk result (λ j. D.faults disk ≤ D.faults (disk_of j)) }
+        ensures unfailed { IfOk result (λ j. D.faults (disk_of j) ≡ D.faults disk) }
 
         ensures is_journal { IfOk result (λ _. IfSome (D.contents disk) (λ file. found file ≢ finding.NotJournal)) }
         ensures not_journal { IfErr result (λ e. e.1 ≡ OpenFault.NotJournal
             → IfSome (D.contents disk) (λ file. (found file ≡ finding.NotJournal) × (D.contents e.0 ≡ Some file))) }
         ensures images_err { IfErr result (λ e. LeavesAfter D.contents D.images D.moment D.images_since disk e.0 Untouched) }
-        ensures later_err { IfErr result (λ e. D.faults disk ≤ D.faults e.0) }
-        ensures failed { IfErr result (λ e. e.1 ≡ OpenFault.DiskFault → Rose (D.faults disk) (D.faults e.0)) }
+        ensures failed { IfErr result (λ e. e.1 ≡ OpenFault.DiskFault → D.faults e.0 ≡ raised (D.faults disk)) }
+        ensures unfailed_err { IfErr result (λ e. e.1 ≢ OpenFault.DiskFault → D.faults e.0 ≡ D.faults disk) }
     {
         match begin(&mut disk) {
             Ok(opened) => Ok(Journal {
@@ -103,8 +103,8 @@ impl<D: Disk> Journal<D> {
         ensures contents { D.contents (disk_of self.new) ≡ D.contents (disk_of self.old) }
         ensures images { SameImages (D.images (disk_of self.old)) (D.images (disk_of self.new)) }
         ensures run { LeavesOnly D.moment D.images_since (disk_of self.old) (disk_of self.new) (D.images (disk_of self.old)) }
-        ensures later { D.faults (disk_of self.old) ≤ D.faults (disk_of self.new) }
-        ensures failed { IsErrOf result TakeFault.DiskFault → Rose (D.faults (disk_of self.old)) (D.faults (disk_of self.new)) }
+        ensures failed { IsErrOf result TakeFault.DiskFault → D.faults (disk_of self.new) ≡ raised (D.faults (disk_of self.old)) }
+        ensures unfailed { result ≢ Err TakeFault.DiskFault → D.faults (disk_of self.new) ≡ D.faults (disk_of self.old) }
     {
         let mut header = [0; 5];
         let got = self.disk.read_at(self.gate, &mut header)?;
@@ -118,6 +118,8 @@ impl<D: Disk> Journal<D> {
         }
         self.buffer.resize(len as usize, 0)?;
         let got = self.disk.read_at(self.gate + HEADER, &mut self.buffer)?;
+        // A disk that tells its content reads whole here. A real file may have got shorter since its length was taken: then
+        // the record doesn't lie within it, and doesn't count. No clause can say so, since no clause speaks of a real file.
         if got < self.buffer.len() {
             self.phase = Phase::Ended;
             return Ok(false);
@@ -170,14 +172,13 @@ impl<D: Disk> Journal<D> {
         ensures cause { HasCause (D.faults (disk_of self.old)) (D.faults (disk_of self.new)) result }
     {
         self.phase = Phase::Broken;
-        // The cut has to be on the disk first: behind a gate that is torn open, what was there would count.
         cut_synced(&mut self.disk, self.gate + 1)?;
-        write_synced(&mut self.disk, self.gate, &[0])?;
+        write_gate(&mut self.disk, self.gate, 0)?;
         self.phase = Phase::Closed;
         Ok(())
     }
 
-    /// Makes room for a payload of so many bytes.
+    /// Makes room for a payload of so many bytes. The payload that was taken stays.
     pub fn reserve(&mut self, n: usize) -> Result<(), NoMemory>
         ensures room { OnOk result (HasRoomFor self.new n) }
         ensures disk { disk_of self.new ≡ disk_of self.old }
@@ -188,8 +189,8 @@ impl<D: Disk> Journal<D> {
         ensures ended { HasEnded D.contents self.old → HasEnded D.contents self.new }
         ensures closed { IsClosed D.contents self.old → IsClosed D.contents self.new }
     {
-        let all = n.checked_add(5).ok_or(NoMemory)?;
-        self.buffer.reserve(all)?;
+        // Where the sum passes the last number there is no such room.
+        self.buffer.reserve(n.saturating_add(5))?;
         Ok(())
     }
 
@@ -218,8 +219,7 @@ impl<D: Disk> Journal<D> {
         self.phase = Phase::Broken;
         stage(&mut self.buffer, payload);
         write_synced(&mut self.disk, self.gate + 1, &self.buffer)?;
-        // The gate is opened once what it shows is on the disk.
-        write_synced(&mut self.disk, self.gate, &[1])?;
+        write_gate(&mut self.disk, self.gate, 1)?;
         self.gate += HEADER + payload.len() as u64;
         self.phase = Phase::Closed;
         Ok(())

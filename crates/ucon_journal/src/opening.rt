@@ -1,8 +1,8 @@
 //! How the file of a journal is found or made.
 
-ghost use Rattle.std.specs.Prelude.{◌≡◌, ◌≢◌, ◌<◌, ◌≤◌, ◌^◌, length, take, Some, IfSome, IfOk, IfErr, OnOk};
+ghost use Rattle.std.specs.Prelude.{◌≡◌, ◌≢◌, ◌<◌, ◌≤◌, ◌^◌, length, take, Some, IfSome, IfOk, IfErr, OnOk, IsErrOf};
 ghost use Rattle.std.specs.Option.{option_map};
-ghost use Rattle.ucon_disk.specs.Causes.{Rose};
+ghost use Rattle.ucon_disk.specs.Causes.{raised};
 ghost use Rattle.ucon_disk.specs.Disk.{Only};
 ghost use Rattle.ucon_disk.specs.Run.{LeavesAfter};
 ghost use Rattle.ucon_journal.specs.JournalBytes.{IsVersion, newest};
@@ -40,8 +40,8 @@ pub(crate) fn begin<D: Disk>(disk: &mut D) -> Result<Opened, OpenFault>
     ensures not_journal { IfErr result (λ e. e ≡ OpenFault.NotJournal
         → IfSome (D.contents disk.old) (λ file. (found file ≡ finding.NotJournal) × (D.contents disk.new ≡ Some file))) }
     ensures images { LeavesAfter D.contents D.images D.moment D.images_since disk.old disk.new Untouched }
-    ensures later { D.faults disk.old ≤ D.faults disk.new }
-    ensures failed { IfErr result (λ e. e ≡ OpenFault.DiskFault → Rose (D.faults disk.old) (D.faults disk.new)) }
+    ensures failed { IsErrOf result OpenFault.DiskFault → D.faults disk.new ≡ raised (D.faults disk.old) }
+    ensures unfailed { result ≢ Err OpenFault.DiskFault → D.faults disk.new ≡ D.faults disk.old }
 {
     disk.sync()?;
     let len = disk.len()?;

@@ -1,4 +1,4 @@
-use Rattle.std.proofs.Common.{◌≡◌, ℕ, List, length, inl, inr, Some, ◌∙◌, ap, arith}
+use Rattle.std.proofs.Common.{◌≡◌, ℕ, List, length, inl, inr, Some, ◌∙◌, arith}
 use Rattle.ucon_disk.specs.Disk.{Torn}
 use Rattle.ucon_disk.specs.Run.{started, goes_on, weaker, joined}
 use Rattle.ucon_journal.specs.Opened.{Untouched}
