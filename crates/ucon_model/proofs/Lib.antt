@@ -30,8 +30,8 @@ pub mod Payloads
 pub mod FoundOn
 pub mod Documents
 pub mod FirstFaults
-pub mod Written
 pub mod TypedParts
+pub mod ValuesStayFit
 pub mod SortsOfValues
 pub mod Meaningful
 pub mod Numbering
