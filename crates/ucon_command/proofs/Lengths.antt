@@ -18,7 +18,7 @@ use Rattle.ucon_base.specs.Value.{is_rising}
 use Rattle.ucon_model.specs.declared.command.Command.{Command}
 use Rattle.ucon_model.specs.declared.command.Command.TheVariants.{Subject, Object, Set as Set', Env, Tick, Act, Try, Again, Beat, End, Look, Value as Value'}
 use Rattle.ucon_model.specs.CommandLine.{side_word, command_spelling, IsCommand}
-use Rattle.ucon_model.specs.LegalRun.{Each}
+use Rattle.ucon_base.specs.Elements.{Each}
 use Rattle.ucon_model.specs.declared.reply.Head.{Head}
 use Rattle.ucon_model.specs.declared.reply.Head.TheVariants as heads
 use Rattle.ucon_model.specs.declared.reply.Refusal.{Refusal}

@@ -55,7 +55,7 @@ fn answer_one<E: Engine>(
 {
     let _client = line.caller.0;
     match step(alloc, engine, steps, line) {
-        Err(NoMemory) => {
+        Err(_) => {
             put_no_memory(text, line)?;
             Ok(place)
         }
