@@ -226,7 +226,7 @@ preds_without P R row fits (p ∷ ps) h =
 
 -- each declared place holds a value of the declared sort
 abbrev pub PlacesHold : Type 0
-PlacesHold = (P : PlainPolicy) → IsTyped P → (T : Trace) → ValuesFit P T → (row : SessionRow) → PlacesFit P (place_of P T row)
+PlacesHold = (P : PlainPolicy) (T : Trace) → ValuesFit P T → (row : SessionRow) → PlacesFit P (place_of P T row)
 
 -- each test is typed
 abbrev pub TestsTyped : Type 0
@@ -244,7 +244,7 @@ tests_of_trace : PlacesHold → TestsTyped → (P : PlainPolicy) (T : Trace) →
 tests_of_trace hold typed_tests P T typed fit n =
     of_row _ ((readings P T).row n)
     (λ row. of_right (λ right. preds_make_no_set (readings P T) row right.preds) (right_named P.rights row.right)
-    (λ r is. preds_without P (readings P T) row (hold P typed T fit row) r.preds (typed_tests P typed row.right r is)))
+    (λ r is. preds_without P (readings P T) row (hold P T fit row) r.preds (typed_tests P typed row.right r is)))
 
 -- ---- one predicate by its place
 
@@ -267,7 +267,7 @@ test_of_trace : PlacesHold → TestsTyped → (P : PlainPolicy) (T : Trace) → 
 test_of_trace hold typed_tests P T typed fit n i =
     of_row _ ((readings P T).row n)
     (λ row. at_right (λ p. test_makes_no_set ((readings P T).at row) p.test) (right_named P.rights row.right) i
-    (λ r is. each_without P ((readings P T).at row) (hold P typed T fit row) r.preds (typed_tests P typed row.right r is)))
+    (λ r is. each_without P ((readings P T).at row) (hold P T fit row) r.preds (typed_tests P typed row.right r is)))
 
 -- ---- over readings that agree with a trace's
 

@@ -17,12 +17,11 @@ impl From<Failed> for DiskFault {
     }
 }
 
-/// Why a journal could not be opened.
+/// Why a journal could not be opened. Opening takes no memory.
 #[derive(Clone, Copy, Debug, PartialEq, Eq)]
 pub enum OpenFault {
     NotJournal,
     DiskFault,
-    NoMemory,
 }
 
 impl From<Failed> for OpenFault {

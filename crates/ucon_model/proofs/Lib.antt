@@ -22,13 +22,16 @@ pub mod AllowedWrites
 pub mod LeastFailing
 pub mod AllowedOwn
 pub mod Histories
+pub mod GrownHistories
 pub mod Cascades
 pub mod WithinAndLasts
 pub mod Lines
+pub mod Payloads
+pub mod FoundOn
 pub mod Documents
 pub mod FirstFaults
-pub mod Written
 pub mod TypedParts
+pub mod ValuesStayFit
 pub mod SortsOfValues
 pub mod Meaningful
 pub mod Numbering

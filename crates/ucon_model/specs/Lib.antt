@@ -15,6 +15,7 @@ pub mod Block
 pub mod History
 pub mod LegalRun
 pub mod Fitting
+pub mod Sound
 pub mod Output
 pub mod Document
 pub mod Tokens
@@ -30,3 +31,5 @@ pub mod Forms
 pub mod Grammar
 pub mod Spells
 pub mod Limits
+pub mod Payload
+pub mod Found
