@@ -1,7 +1,7 @@
 use Rattle.std.proofs.Common.{ap, arith}
 use Rattle.ucon_index.specs.Dependents.{Dependents, node_count}
 use Rattle.ucon_index.proofs.Sums.{places_count, sessions_count}
-use Rattle.ucon_index.proofs.index.Index.reserve.Goals as goal
+use Rattle.ucon_index.proofs.index.Index.reserve_nodes.Goals as goal
 
 pub reserve-requires : goal.reserve-requires
 reserve-requires c =
