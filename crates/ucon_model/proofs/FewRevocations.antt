@@ -1,5 +1,5 @@
 -- At most 65,536 sessions are accessing after a history and a command's own actions, and a reply revokes each of them at most once.
-use Rattle.std.proofs.Common.{◌≡◌, ◌⊎◌, inl, inr, ℕ, zero, suc, ◌+◌, ◌<◌, ◌≤◌, Bool, true, false, cond, List, [], ◌∷◌, ◌++◌, length, refl, sym, ap, subst, ◌∙◌, arith}
+use Rattle.std.proofs.Common.{◌≡◌, ◌⊎◌, inl, inr, ℕ, zero, suc, ◌+◌, ◌≤◌, Bool, true, false, cond, List, [], ◌∷◌, ◌++◌, length, refl, sym, ap, subst, arith}
 use Rattle.std.specs.Prelude.{◌≢◌, Option, Some, None, nat_eq}
 use Rattle.std.specs.Option.{option_map_or}
 use Rattle.std.proofs.lemmas.Bool.{ne_eqb}
@@ -12,9 +12,9 @@ use Rattle.ucon_model.specs.declared.session.SessionRow.{SessionRow}
 use Rattle.ucon_model.specs.Plain.{Bytes, PlainPolicy, PlainUpdate}
 use Rattle.ucon_model.specs.Action.{Action, Trace, tries, permit, deny, ends, revoke, extended, followed_by}
 use Rattle.ucon_model.specs.Readings.{session, sessions, changed_if, is_accessing_state, is_accessing, accessing_up_to, accessing}
-use Rattle.ucon_model.specs.Updates.{same_when, write_of, writes, updates_of, session_writes}
+use Rattle.ucon_model.specs.Updates.{same_when, write_of, writes, updates_of}
 use Rattle.ucon_model.specs.OwnActions.{Own, refuse, tell, make, own}
-use Rattle.ucon_model.specs.Settle.{least_failing, revocation, settle_within, settle, revoked_in}
+use Rattle.ucon_model.specs.Settle.{least_failing, revocation, settle_within, revoked_in}
 use Rattle.ucon_model.specs.Block.{own_reply, after, block}
 use Rattle.ucon_model.specs.History.{History, trace_from, trace, said}
 use Rattle.ucon_model.specs.Payload.{revocations_in}

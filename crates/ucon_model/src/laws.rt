@@ -77,7 +77,8 @@ pub fn legal_actions_keep_traces_sound()
 /// revoked.
 pub fn the_least_failing_is_found()
     ensures nobody { (P : PlainPolicy) (T : Trace) → IsNumbered T → least_failing P T ≡ None → (n : ℕ) → fails_at P T n ≡ None }
-    ensures somebody { (P : PlainPolicy) (T : Trace) (n : ℕ) (label : Bytes) → IsNumbered T → least_failing P T ≡ Some (n, label) → IsLegal P T (revoke n label) }
+    ensures somebody { (P : PlainPolicy) (T : Trace) (n : ℕ) (label : Bytes) → IsNumbered T → least_failing P T ≡ Some (n, label)
+        → IsLegal P T (revoke n label) }
 {}
 
 /// Under a well typed policy, where all values of a trace fit, the result of each update fits.
