@@ -22,6 +22,7 @@ pub mod AllowedWrites
 pub mod LeastFailing
 pub mod AllowedOwn
 pub mod Histories
+pub mod FewRevocations
 pub mod GrownHistories
 pub mod Cascades
 pub mod WithinAndLasts
