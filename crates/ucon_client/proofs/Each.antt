@@ -9,6 +9,10 @@ module _ {T : Type 0} where
   each_append P [] ys p q = q
   each_append P (x ∷ xs) ys p q = (p.0, each_append P xs ys p.1 q)
 
+  pub each_parts : (P : T → Type 0) (xs ys : List T) → Each P (xs ++ ys) → Each P xs × Each P ys
+  each_parts P [] ys p = (tt, p)
+  each_parts P (x ∷ xs) ys p = let q = each_parts P xs ys p.1 in ((p.0, q.0), q.1)
+
   pub each_both : (P Q R : T → Type 0) → ((x : T) → P x → Q x → R x) → (xs : List T) → Each P xs → Each Q xs → Each R xs
   each_both P Q R f [] p q = tt
   each_both P Q R f (x ∷ xs) p q = (f x p.0 q.0, each_both P Q R f xs p.1 q.1)

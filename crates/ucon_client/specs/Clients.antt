@@ -97,16 +97,16 @@ abbrev pub told_by : List Served → List Answered
 told_by [] = []
 told_by (c ∷ clients) = c.told ++ told_by clients
 
--- the clients' numbers rise
-abbrev pub AreRising : List Served → Type 0
+-- numbers that rise
+abbrev pub AreRising : List ℕ → Type 0
 AreRising [] = Unit {0}
-AreRising (c ∷ clients) = Each (λ d. c.number < d.number) clients × AreRising clients
+AreRising (n ∷ numbers) = Each (λ m. n < m) numbers × AreRising numbers
 
 -- The first seat has taken back the seats of these clients, which have these numbers, and the answers of each are right for the list that
 -- the first seat has seen by then.
 pub record AreJoined (P : PlainPolicy) (G : History) (seen : List Event) (taken : List ℕ) (clients : List Served) : Type 0 where
   pub ends : EndsAtMark seen
   pub right : Each (λ c. AreRight P c.number G seen c.told) clients
-  pub rising : AreRising clients
+  pub rising : AreRising (map (λ c. c.number) clients)
   pub back : Each (λ c. Has taken (c.number + 1)) clients
   pub known : EachOf (Has (map (λ c. c.number + 1) clients)) taken
