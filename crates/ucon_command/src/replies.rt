@@ -1,27 +1,29 @@
 //! Replies as text.
 
-ghost use Rattle.std.specs.Prelude.{◌≡◌, ◌++◌, ◌∷◌, IfOk, OnOk, Some};
+ghost use Rattle.std.specs.Prelude.{◌≡◌, ◌≤◌, ◌++◌, ◌∷◌, length, IfOk, OnOk, Some};
 ghost use Rattle.std.specs.Fmt.{decimal};
 ghost use Rattle.ucon_model.specs.Output.{Lacks};
 ghost use Rattle.ucon_model.specs.ReplyText.{reply_read};
 ghost use Rattle.ucon_model.specs.Spelling.{refusal_words, state_word, head_spelling, revoked_spelling, reply_spelling};
 ghost use Rattle.ucon_model.specs.Views.{reply_of};
+ghost use Rattle.ucon_command.specs.Payloads.{most_reply};
 
 use crate::in_form::reply_in_form;
-use crate::spelling::{put_name, put_session, put_value, put_word};
+use crate::spelling::{put_name, put_session, put_value};
 use std::alloc::Global;
-use ucon_base::{Name, NoMemory};
+use ucon_base::{Name, NoMemory, put};
 use ucon_model::{Head, Refusal, Reply, Revoked, SessionState};
 
 /// Most replies that revoke nobody have no more.
 const LIKELY_BYTES: usize = 48;
 
-/// The one text of a reply, which has no newline in it.
-#[tactic(auto, using(crate::proofs::InLine::reply_in_line, crate::proofs::ReadReplies::reply_back))]
+/// The one text of a reply, which has no newline in it: at most 4306 bytes, and 52 for each revocation.
+#[tactic(auto, using(crate::proofs::InLine::reply_in_line, crate::proofs::Lengths::reply_short, crate::proofs::ReadReplies::reply_back))]
 pub fn reply_text(alloc: Global, reply: &Reply) -> Result<Vec<u8>, NoMemory>
     ensures text { IfOk result (λ t. t.items ≡ reply_spelling (reply_of reply.now)) }
     ensures read_back { reply_read (reply_spelling (reply_of reply.now)) ≡ Some (reply_of reply.now) }
     ensures one_line { Lacks 10 (reply_spelling (reply_of reply.now)) }
+    ensures short { length (reply_spelling (reply_of reply.now)) ≤ most_reply (reply_of reply.now) }
 {
     reply_in_form(reply);
     let mut text = Vec::with_capacity(alloc, LIKELY_BYTES)?;
@@ -29,23 +31,23 @@ pub fn reply_text(alloc: Global, reply: &Reply) -> Result<Vec<u8>, NoMemory>
     Ok(text)
 }
 
-fn put_reply(alloc: Global, out: &mut Vec<u8>, reply: &Reply) -> Result<(), NoMemory>
+pub fn put_reply(alloc: Global, out: &mut Vec<u8>, reply: &Reply) -> Result<(), NoMemory>
     ensures { OnOk result (out.new.items ≡ out.old.items ++ reply_spelling (reply_of reply.now)) }
 {
     match reply {
-        Reply::Refused(r) => put_word(out, refusal_words(*r)),
+        Reply::Refused(r) => put(out, refusal_words(*r)),
         Reply::Made { head, revoked } => {
             put_head(out, head)?;
             put_revoked(out, revoked.slice())
         }
         Reply::Value(v) => {
-            put_word(out, b"value")?;
+            put(out, b"value")?;
             put_value(alloc, out, v)
         }
         Reply::Status(n, state) => {
             put_session(out, b"status ", *n)?;
-            put_word(out, b" ")?;
-            put_word(out, state_word(*state))
+            put(out, b" ")?;
+            put(out, state_word(*state))
         }
     }
 }
@@ -102,7 +104,7 @@ fn put_head(out: &mut Vec<u8>, head: &Head) -> Result<(), NoMemory>
     ensures { OnOk result (out.new.items ≡ out.old.items ++ head_spelling head.now) }
 {
     match head {
-        Head::Ok => put_word(out, b"ok"),
+        Head::Ok => put(out, b"ok"),
         Head::Permitted(n) => put_session(out, b"permitted ", *n),
         Head::Denied(n, label) => put_labelled(out, b"denied ", *n, label),
         Head::Waiting(n, label) => put_labelled(out, b"waiting ", *n, label),

@@ -15,7 +15,7 @@ use Rattle.ucon_model.specs.Plain.{Bytes, PlainExpr, lit, read, plus, minus, tim
 use Rattle.ucon_model.specs.Action.{Trace}
 use Rattle.ucon_model.specs.Truth.{Readings, readings, place_of, value_of, read_or_zero}
 use Rattle.ucon_model.specs.Decision.{right_named}
-use Rattle.ucon_model.specs.LegalRun.{Each}
+use Rattle.ucon_base.specs.Elements.{Each}
 use Rattle.ucon_model.specs.History.{Agree}
 use Rattle.ucon_model.specs.Fitting.{ValuesFit, PlacesFit}
 use Rattle.ucon_model.specs.Typing.{value_sort, same_sort, is_of, are_of_one_sort, expr_sort, takes, is_typed_formula, is_typed_test, IsTyped}

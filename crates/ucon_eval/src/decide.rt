@@ -101,7 +101,7 @@ fn first_false_of<V: View>(view: &V, session: u32, row: &SessionRow, sort: Sort)
 
 /// The verdict on a session. It takes no memory.
 pub fn verdict<V: View>(view: &V, session: u32) -> Verdict
-    requires there { IsSome (right_of_session (V.policy view.now) (V.readings view.now) session) }
+    requires there { IsSome ((V.readings view.now).row session) }
     requires no_set { tests_make_no_set (V.policy view.now) (V.readings view.now) session ≡ true }
     ensures { result ≡ verdict (V.policy view.now) (V.readings view.now) session }
 {

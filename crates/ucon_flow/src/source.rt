@@ -3,12 +3,14 @@
 ghost use Rattle.std.specs.Prelude.{◌≡◌, ◌≢◌, ◌+◌, ◌≤◌, List, ℕ, length, Option, IfOk, OnOk, OnErr, IsErrOf};
 ghost use Rattle.std.specs.Io.{ReadsAtMost};
 ghost use Rattle.std.specs.Io.KnownBytes.{ReadConsumes};
+ghost use Rattle.ucon_base.specs.Memory.{out_of_memory};
 ghost use Rattle.ucon_flow.specs.Causes.{HasCause, raised};
 ghost use Rattle.ucon_flow.specs.Reading.{ReadsWhole, ReadsFront, HasMoreThan, HasAtMost};
 ghost use Rattle.ucon_flow.specs.declared.source.ReadFault.TheVariants as faults_of_reading;
 
 use std::alloc::{AllocError, Global};
 use thiserror::Error;
+use ucon_base::NoMemory;
 
 /// A call failed, and its object has counted it.
 #[derive(Clone, Copy, Debug, PartialEq, Eq)]
@@ -40,7 +42,7 @@ pub enum ReadFault {
     #[error("the source has too many bytes")]
     TooLong,
     #[error("no memory")]
-    NoMemory,
+    NoMemory(NoMemory),
 }
 
 impl From<Failed> for ReadFault {
@@ -52,10 +54,10 @@ impl From<Failed> for ReadFault {
 }
 
 impl From<AllocError> for ReadFault {
-    ghost from_gives = { λ _ e. e ≡ faults_of_reading.NoMemory };
+    ghost from_gives = { λ _ e. e ≡ faults_of_reading.NoMemory out_of_memory };
 
-    fn from(_e: AllocError) -> ReadFault {
-        ReadFault::NoMemory
+    fn from(e: AllocError) -> ReadFault {
+        ReadFault::NoMemory(NoMemory::from(e))
     }
 }
 

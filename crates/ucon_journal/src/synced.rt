@@ -26,6 +26,7 @@ pub(crate) fn write_synced<D: Disk>(disk: &mut D, at: u64, bytes: &[u8]) -> Resu
 pub(crate) fn write_gate<D: Disk>(disk: &mut D, gate: u64, byte: u8) -> Result<(), Failed>
     requires place { HasPlace (D.contents disk.old) gate 1 }
     requires on_disk { Only (D.contents disk.old) (D.images disk.old) }
+    ensures tells { is_some (D.contents disk.new) ≡ is_some (D.contents disk.old) }
     ensures written { OnOk result (D.contents disk.new ≡ option_map (overwritten gate (byte ∷ [])) (D.contents disk.old)) }
     ensures only { OnOk result (Only (D.contents disk.new) (D.images disk.new)) }
     ensures images { LeavesAfter D.contents D.images D.moment D.images_since disk.old disk.new (Torn gate 1) }

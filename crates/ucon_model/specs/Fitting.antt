@@ -11,7 +11,7 @@ use Rattle.ucon_model.specs.Plain.{Bytes, PlainUpdate, PlainPolicy}
 use Rattle.ucon_model.specs.Action.{Trace}
 use Rattle.ucon_model.specs.Readings.{in_force, has_entity, declared_attr, attribute, declared_env, variable}
 use Rattle.ucon_model.specs.Updates.{updates_of, result}
-use Rattle.ucon_model.specs.LegalRun.{Each}
+use Rattle.ucon_base.specs.Elements.{Each}
 use Rattle.ucon_model.specs.Typing.{value_sort, place_sort}
 
 -- the attribute is declared, and its declaration admits the value

@@ -18,7 +18,6 @@ pub mod Fitting
 pub mod Sound
 pub mod Output
 pub mod Document
-pub mod Tokens
 pub mod Checked
 pub mod Lookup
 pub mod CommandLine

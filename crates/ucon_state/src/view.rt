@@ -9,7 +9,8 @@ use ucon_base::{Int, Name, Side, Value};
 use ucon_model::{Checked, Ref, SessionRow, View};
 
 impl State {
-    fn attribute(&self, side: Side, name: &Name, attr: &Name) -> Option<&Value>
+    /// The value of an attribute of an entity. None where one of them isn't there.
+    pub fn attribute(&self, side: Side, name: &Name, attr: &Name) -> Option<&Value>
         ensures { option_copied result ≡ attribute_in (shown self.now).policy (shown self.now).tables side name.now attr.now }
     {
         let entity = self.tables.entity_number(side, name)?;

@@ -1,26 +1,28 @@
 -- Reading rights and whole policies.
-use Rattle.std.specs.Prelude.{◌≡◌, ℕ, nat_lt, if◌then◌else◌, List, [], ◌∷◌, length, Option, Some, None, Result, Ok, Err, codes}
+use Rattle.std.specs.Prelude.{◌≡◌, ℕ, nat_lt, if◌then◌else◌, List, [], ◌∷◌, length, Option, Some, None, option_and_then, Result, Ok, Err, codes}
+use Rattle.std.specs.Result.{result_ok}
 use Rattle.ucon_model.specs.declared.policy.AttrDecl.{AttrDecl}
 use Rattle.ucon_model.specs.declared.policy.EnvDecl.{EnvDecl}
 use Rattle.ucon_model.specs.declared.policy.Policy.{Policy}
 use Rattle.ucon_model.specs.Plain.{Bytes, PlainPredicate, PlainUpdate, PlainRight, PlainPolicy}
-use Rattle.ucon_model.specs.Tokens.{Token, tokens_of, place_of, Flaw, unknown, too_long, misplaced, open_curly, close_curly}
+use Rattle.ucon_base.specs.Tokens.{Token, tokens_of, place_of, Flaw, unknown, too_long, misplaced, open_curly, close_curly}
+use Rattle.ucon_model.specs.Typing.{is_typed}
 use Rattle.ucon_model.specs.Views.{policy_of}
 use Rattle.ucon_token.specs.declared.stop.Cause.{Cause}
 use Rattle.ucon_token.specs.declared.stop.Cause.TheVariants as causes
 use Rattle.ucon_token.specs.Tokens.{first, is_word, flaw_at}
 use Rattle.ucon_token.specs.Reading.{Halt, Reads, ◌>>=◌, expect, expect_word, name_at}
 use Rattle.ucon_syntax.specs.Lists.{items_at, alone}
-use Rattle.ucon_syntax.specs.Items.{full_sides, full_phases, full_whens, attr_at, env_at, pred_at, update_at, begins_pred, begins_update}
+use Rattle.ucon_syntax.specs.Items.{full, attr_at, env_at, pred_at, update_at, begins_pred, begins_update}
 use Rattle.ucon_syntax.specs.declared.read.SyntaxFault.{SyntaxFault}
 use Rattle.ucon_syntax.specs.declared.read.SyntaxFault.TheVariants as faults
 
 -- at most 16 of each phase
 unfoldable pub preds_at : Reads (List PlainPredicate)
-preds_at ts = items_at begins_pred pred_at 32 full_phases ts
+preds_at ts = items_at begins_pred pred_at 32 full ts
 
 unfoldable pub updates_at : Reads (List PlainUpdate)
-updates_at ts = items_at begins_update update_at 64 full_whens ts
+updates_at ts = items_at begins_update update_at 64 full ts
 
 unfoldable pub right_at : Reads PlainRight
 right_at ts = do
@@ -34,7 +36,7 @@ right_at ts = do
 
 -- At most 16 of each side. The 33rd is one too many of its side, which its side word tells.
 unfoldable pub attrs_at : Reads (List AttrDecl)
-attrs_at ts = items_at (λ t. is_word t (codes "attr")) attr_at 33 full_sides ts
+attrs_at ts = items_at (λ t. is_word t (codes "attr")) attr_at 33 full ts
 
 unfoldable pub envs_at : Reads (List EnvDecl)
 envs_at ts = items_at (λ t. is_word t (codes "env")) (alone env_at) 32 tt ts
@@ -74,8 +76,16 @@ placed text (Err h) = Err (fault_of (flaw_at (first h.1)) h.0 (place_of text (le
 unfoldable pub reading_of : Bytes → Result PlainPolicy SyntaxFault
 reading_of text = if nat_lt 65536 (length text) then Err (faults.TooLong 65536) else placed text (whole_at (tokens_of text))
 
+-- the policy, if it is well typed
+abbrev pub if_typed : PlainPolicy → Option PlainPolicy
+if_typed p = if is_typed p then Some p else None
+
+-- the policy that a text gives without a syntax fault or a typing fault
+abbrev pub accepted : Bytes → Option PlainPolicy
+accepted text = option_and_then if_typed (result_ok (reading_of text))
+
 -- a text is read as its reading says, unless memory ran out
 abbrev pub Reading : Result Policy SyntaxFault → Bytes → Type 0
 Reading (Ok p) text = reading_of text ≡ Ok (policy_of p)
-Reading (Err faults.NoMemory) text = Unit {0}
+Reading (Err (faults.NoMemory e)) text = Unit {0}
 Reading (Err f) text = reading_of text ≡ Err f

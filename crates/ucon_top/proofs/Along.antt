@@ -6,7 +6,8 @@ use Rattle.ucon_model.specs.declared.command.Entry.{Entry}
 use Rattle.ucon_model.specs.Plain.{Bytes, PlainPolicy, PlainReply}
 use Rattle.ucon_model.specs.Spelling.{reply_spelling}
 use Rattle.ucon_model.specs.History.{History, said, changes, grown}
-use Rattle.ucon_model.specs.LegalRun.{Answer, Answered, no_memory, placed, Each, tells_change, IsNext, IsSerialRun, history_after}
+use Rattle.ucon_base.specs.Elements.{Each, each_append}
+use Rattle.ucon_model.specs.LegalRun.{Answer, Answered, no_memory, placed, tells_change, IsNext, IsSerialRun, history_after}
 use Rattle.ucon_model.specs.Output.{FitsLine, Lacks, answer_line, output, answers_read}
 use Rattle.ucon_model.proofs.TellsChange.{tells_change-reply_spelling}
 use Rattle.ucon_model.proofs.SerialRuns.{serial-legal}
@@ -18,10 +19,6 @@ abbrev line_of : Answered → Entry
 line_of t = t.line
 
 -- ---- one answer more
-
-each-snoc : {A : Type 0} (P : A → Type 0) (xs : List A) (x : A) → Each P xs → P x → Each P (xs ++ x ∷ [])
-each-snoc P [] x all one = (one, tt)
-each-snoc P (y ∷ xs) x all one = (all.0, each-snoc P xs x all.1 one)
 
 output-snoc : (told : List Answered) (t : Answered) → output (told ++ t ∷ []) ≡ output told ++ answer_line t
 output-snoc [] t = append-nil (answer_line t)
@@ -70,8 +67,8 @@ with_answer P stood stands_for lines i place place' text e a so_far lt is client
       lines_are = map-append line_of so_far.told (t ∷ []) ∙ ap (λ (es : List Entry). es ++ e ∷ []) so_far.lines_are
           ∙ ap (λ (x : Entry). take i lines ++ x ∷ []) is ∙ sym (take_more lines i e lt);
       text_is = ap (λ (bs : Bytes). bs ++ answer_line t) so_far.text_is ∙ sym (output-snoc so_far.told t);
-      fits = each-snoc (λ t. FitsLine t.answer) so_far.told t so_far.fits fits;
-      clients = each-snoc (λ t. t.line.caller.0 < 256) so_far.told t so_far.clients client;
+      fits = each_append (λ t. FitsLine t.answer) so_far.told (t ∷ []) so_far.fits (fits, tt);
+      clients = each_append (λ t. t.line.caller.0 < 256) so_far.told (t ∷ []) so_far.clients (client, tt);
       place_is = place_is;
       few = few;
       goes_on = λ others run. rw append_assoc (so_far.goes_on (t ∷ others) (next, run));

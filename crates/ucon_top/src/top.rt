@@ -51,7 +51,7 @@ pub fn run<S: Source, K: Sink>(alloc: Global, words: &[String], input: &mut S, o
         Ok(bytes) => bytes,
         Err(ReadFault::SourceFault) => return Ended::by(Outcome::SourceFault),
         Err(ReadFault::TooLong) => return Ended::by(Outcome::TooLong),
-        Err(ReadFault::NoMemory) => return Ended::by(Outcome::NoMemory),
+        Err(ReadFault::NoMemory(refused)) => return Ended::by(Outcome::NoMemory(refused)),
     };
     match output_of::<PlainMonitor>(alloc, form, &bytes) {
         Err(refused) => Ended::by(Outcome::from(refused)),
