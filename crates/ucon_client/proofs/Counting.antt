@@ -1,10 +1,10 @@
 -- One answer more, and the parts of all clients.
 use Rattle.std.proofs.Common.{◌≡◌, ◌↔◌, ℕ, zero, suc, ◌<◌, List, [], ◌∷◌, ◌++◌, Option, Some, None, Result, Ok, Err, map, length, get_or, refl, sym, ap, ◌∙◌, subst, arith}
 use Rattle.std.specs.Prelude.{IsSome, IfOk, IsErrOf}
+use Rattle.ucon_base.specs.Elements.{Each}
 use Rattle.ucon_model.specs.declared.command.Entry.{Entry}
 use Rattle.ucon_model.specs.Plain.{PlainPolicy}
 use Rattle.ucon_model.specs.Spelling.{reply_spelling}
-use Rattle.ucon_model.specs.LegalRun.{Each}
 use Rattle.ucon_script.specs.declared.document.Line.{Line}
 use Rattle.ucon_client.specs.declared.store.Placed.{Placed}
 use Rattle.ucon_client.specs.declared.store.StepFault.{StepFault}

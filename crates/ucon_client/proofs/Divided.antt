@@ -3,13 +3,12 @@ use Rattle.std.proofs.Common.{◌≡◌, ℕ, zero, suc, ◌+◌, ◌<◌, List,
 use Rattle.std.specs.Prelude.{nat_eq}
 use Rattle.std.proofs.lemmas.List.{append_assoc, map-append}
 use Rattle.std.proofs.lemmas.List.Elements.{filter-append}
-use Rattle.ucon_model.specs.LegalRun.{Each}
 use Rattle.ucon_script.specs.declared.line_text.LineText.{LineText}
 use Rattle.ucon_client.specs.declared.part.Part.{Part}
 use Rattle.ucon_client.specs.Answers.{entry_of, lines_in}
 use Rattle.ucon_client.specs.Clients.{AreRising}
 use Rattle.ucon_client.specs.Dividing.{own_lines, spelled_entry}
-use Rattle.ucon_client.proofs.Each.{each_append, each_map}
+use Rattle.ucon_base.specs.Elements.{Each, each_append, each_map}
 
 pub take_next : {X : Type 0} (xs : List X) (i : ℕ) (x : X) → i < length xs → x ≡ get_or xs i x → take (suc i) xs ≡ take i xs ++ x ∷ []
 take_next [] i x lt is = absurd (omega arith)

@@ -1,11 +1,11 @@
 -- The parts of all clients, once they are answered and their seats are back.
 use Rattle.std.proofs.Common.{◌≡◌, ℕ, ◌+◌, ◌<◌, List, [], ◌∷◌, ◌++◌, None, map, length, get_or, suc, arith, refl, sym, ap, ◌∙◌, subst}
 use Rattle.std.specs.Option.{option_to_list}
-use Rattle.ucon_turn.specs.Lists.{Each as EachOf, Has, Continues}
+use Rattle.ucon_turn.specs.Lists.{Has, Continues}
 use Rattle.ucon_model.specs.Plain.{PlainPolicy}
 use Rattle.std.proofs.lemmas.List.{length-map, map-append}
 use Rattle.ucon_model.specs.declared.command.Entry.{Entry}
-use Rattle.ucon_model.specs.LegalRun.{Answer as Told, Answered, Each, IsLegalRun, own_answers, history_made}
+use Rattle.ucon_model.specs.LegalRun.{Answer as Told, Answered, IsLegalRun, own_answers, history_made}
 use Rattle.ucon_script.specs.declared.document.Line.{Line}
 use Rattle.ucon_client.specs.declared.event.Event.{Event}
 use Rattle.ucon_client.specs.declared.part.Part.{Part}
@@ -13,7 +13,7 @@ use Rattle.ucon_client.specs.Kept.{Kept}
 use Rattle.ucon_client.specs.Events.{events, events_of, number_of}
 use Rattle.ucon_client.specs.Answers.{IsAnswered, IsPart, Keeps, answer_of, asked, entry_of, lines_in, number, told_in, told_of}
 use Rattle.ucon_client.specs.Clients.{AreRising, AreJoined, Served, answered, told_by, faulted}
-use Rattle.ucon_client.proofs.Each.{each_append}
+use Rattle.ucon_base.specs.Elements.{Each, each_append}
 use Rattle.ucon_client.proofs.Counting.{same_by_place}
 use Rattle.ucon_client.proofs.Parts.{seat_number, all_back}
 use Rattle.ucon_client.proofs.Together.{legal_together}
@@ -45,11 +45,11 @@ seats_of : (parts : List Part) → map seat_number parts ≡ map (λ n. n + 1) (
 seats_of parts = sym (map_map (λ n. n + 1) number parts)
 
 -- all that was given is back, where the parts are still those
-pub back_still : (xs ys : List Part) (given taken : List ℕ) → map asked xs ≡ map asked ys → EachOf (Has (map seat_number ys)) given
-    → Each (λ p. Has taken (p.number + 1)) xs → EachOf (Has taken) given
+pub back_still : (xs ys : List Part) (given taken : List ℕ) → map asked xs ≡ map asked ys → Each (Has (map seat_number ys)) given
+    → Each (λ p. Has taken (p.number + 1)) xs → Each (Has taken) given
 back_still xs ys given taken same g back =
     let seats : map seat_number ys ≡ map seat_number xs = seats_of ys ∙ (ap (map (λ n. n + 1)) (sym (same_numbers xs ys same)) ∙ sym (seats_of xs)) in
-    all_back xs given taken (subst (λ l. EachOf (Has l) given) seats g) back
+    all_back xs given taken (subst (λ l. Each (Has l) given) seats g) back
 
 -- what holds of each client's part, by its place
 pub each_part : {C : Type 0} (Q : Part → Type 0) (part_of : C → Part) (xs : List C)

@@ -1,16 +1,15 @@
 -- The clients whose seats were taken back.
 use Rattle.std.proofs.Common.{◌≡◌, ◌⊎◌, ℕ, ◌+◌, ◌<◌, List, [], ◌∷◌, ◌++◌, map, refl, sym, subst, inl, inr, ⊎_elim}
 use Rattle.std.proofs.lemmas.List.{map-append}
-use Rattle.ucon_turn.specs.Lists.{Each as EachOf, Has, Continues, ByOthers}
-use Rattle.ucon_client.proofs.Seats.{each_of-map, has_front, has_last}
+use Rattle.ucon_turn.specs.Lists.{Has, Continues, ByOthers}
+use Rattle.ucon_client.proofs.Seats.{has_front, has_last}
 use Rattle.ucon_model.specs.Plain.{PlainPolicy}
 use Rattle.ucon_model.specs.History.{History}
-use Rattle.ucon_model.specs.LegalRun.{Each}
 use Rattle.ucon_client.specs.declared.event.Event.{Event}
 use Rattle.ucon_client.specs.declared.event.Event.TheVariants.{Done}
 use Rattle.ucon_client.specs.Events.{EndsAtMark, number_of}
 use Rattle.ucon_client.specs.Clients.{AreRight, Served, AreRising, AreJoined}
-use Rattle.ucon_client.proofs.Each.{each_append, each_both, each_map}
+use Rattle.ucon_base.specs.Elements.{Each, each_append, each_both, each_map}
 use Rattle.ucon_client.proofs.Listing.{ends_done}
 use Rattle.ucon_client.proofs.OneClient.{others_change_nothing}
 
@@ -57,8 +56,8 @@ stays_joined P G seen own now taken clients c j r below longer ours theirs =
       back = each_append (λ d. Has ((c.number + 1) ∷ taken) (d.number + 1)) clients (c ∷ [])
           (each_map (λ d. Has taken (d.number + 1)) (λ d. Has ((c.number + 1) ∷ taken) (d.number + 1)) (λ d back. inr back) clients j.back)
           (inl refl, tt);
-      known = subst (λ l. EachOf (Has l) ((c.number + 1) ∷ taken)) (sym numbers) (
+      known = subst (λ l. Each (Has l) ((c.number + 1) ∷ taken)) (sym numbers) (
         has_last (map seat clients) (c.number + 1),
-        each_of-map (Has (map seat clients)) (Has (map seat clients ++ ((c.number + 1) ∷ []))) (λ k h. has_front (map seat clients) ((c.number + 1) ∷ []) k h) taken j.known,
+        each_map (Has (map seat clients)) (Has (map seat clients ++ ((c.number + 1) ∷ []))) (λ k h. has_front (map seat clients) ((c.number + 1) ∷ []) k h) taken j.known,
       );
     }

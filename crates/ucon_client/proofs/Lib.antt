@@ -1,4 +1,3 @@
-pub mod Each
 pub mod Seats
 pub mod Placing
 pub mod Listing

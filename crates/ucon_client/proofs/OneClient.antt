@@ -6,19 +6,19 @@ use Rattle.std.proofs.Math.Seq.{drop-length}
 use Rattle.std.proofs.lemmas.Bool.{eq-eqb, ne_eqb}
 use Rattle.std.proofs.lemmas.List.{append-nil, length-append, map-append, take-append-le, take_at}
 use Rattle.std.proofs.lemmas.List.Elements.{filter-append}
-use Rattle.ucon_turn.specs.Lists.{Each as EachOf, Has, Begins, Continues, ByOthers}
+use Rattle.ucon_turn.specs.Lists.{Has, Begins, Continues, ByOthers}
 use Rattle.ucon_client.proofs.Seats.{has_each, continues_map}
 use Rattle.ucon_model.specs.declared.command.Caller.{Caller}
 use Rattle.ucon_model.specs.declared.command.Entry.{Entry}
 use Rattle.ucon_model.specs.Plain.{PlainPolicy}
 use Rattle.ucon_model.specs.Spelling.{reply_spelling}
 use Rattle.ucon_model.specs.History.{History, said, changes}
-use Rattle.ucon_model.specs.LegalRun.{Answer, no_memory, disk_fault, stopped, placed, Answered, tells_change, with_record, recorded, Each, stands_on, IsSaid, Saw, StaysStopped, AreInOrder, own_answers, is_disk_fault}
+use Rattle.ucon_model.specs.LegalRun.{Answer, no_memory, disk_fault, stopped, placed, Answered, tells_change, with_record, recorded, stands_on, IsSaid, Saw, StaysStopped, AreInOrder, own_answers, is_disk_fault}
 use Rattle.ucon_client.specs.declared.event.Event.{Event}
 use Rattle.ucon_client.specs.declared.event.Event.TheVariants.{Done, Failed}
 use Rattle.ucon_client.specs.Events.{entries_in, marks_in, EndsAtMark, number_of, appended}
 use Rattle.ucon_client.specs.Clients.{Tells, Steps, answered, numbered_from, behind, faulted, Shows, IsSaidIn, WouldChange, AreRight}
-use Rattle.ucon_client.proofs.Each.{each_append, each_both, each_map}
+use Rattle.ucon_base.specs.Elements.{Each, each_append, each_both, each_map}
 use Rattle.ucon_client.proofs.Listing.{entries_append, marks_append, entries_done, marks_done, ends_done, ends_more, no_front, no_rest, nothing_more, behind_append}
 
 -- whether a line is the client's
@@ -140,12 +140,12 @@ goes_on P client G log more told later r ends n = record {
 not_own : (client : ℕ) (e : Entry) → e.caller.0 + 1 ≢ client + 1 → own_line client e ≡ false
 not_own client e h = ne_eqb client e.caller.0 (λ same. h (ap (λ k. k + 1) (sym same)))
 
-no_own_records : (client n : ℕ) (more : List Event) → EachOf (λ i. number_of i ≢ client + 1) more → filter (own_record client) (numbered_from n (entries_in more)) ≡ []
+no_own_records : (client n : ℕ) (more : List Event) → Each (λ i. number_of i ≢ client + 1) more → filter (own_record client) (numbered_from n (entries_in more)) ≡ []
 no_own_records client n [] h = refl
 no_own_records client n (Done e ∷ more) h = rw (not_own client e h.0) (no_own_records client (n + 1) more h.1)
 no_own_records client n (Failed e ∷ more) h = no_own_records client n more h.1
 
-no_own_marks : (client : ℕ) (more : List Event) → EachOf (λ i. number_of i ≢ client + 1) more → filter (own_line client) (marks_in more) ≡ []
+no_own_marks : (client : ℕ) (more : List Event) → Each (λ i. number_of i ≢ client + 1) more → filter (own_line client) (marks_in more) ≡ []
 no_own_marks client [] h = refl
 no_own_marks client (Done e ∷ more) h = no_own_marks client more h.1
 no_own_marks client (Failed e ∷ more) h = rw (not_own client e h.0) (no_own_marks client more h.1)

@@ -3,7 +3,8 @@ use Rattle.std.proofs.Common.{◌≡◌, ◌≢◌, ◌↔◌, ◌+◌, Bool, tr
 use Rattle.std.specs.Prelude.{IsSome, if◌then◌else◌}
 use Rattle.std.specs.Option.{option_to_list}
 use Rattle.std.proofs.lemmas.List.{append-nil, append_cancel_left, map-append}
-use Rattle.ucon_turn.specs.Lists.{Each as EachOf, Continues}
+use Rattle.ucon_base.specs.Elements.{Each}
+use Rattle.ucon_turn.specs.Lists.{Continues}
 use Rattle.ucon_model.specs.declared.command.Entry.{Entry}
 use Rattle.ucon_model.specs.Plain.{PlainPolicy, PlainReply}
 use Rattle.ucon_model.specs.Spelling.{reply_spelling}
@@ -81,11 +82,11 @@ faults_are_marked P line before after a s = (
   λ e. marks_by_fault line a (append_cancel_left before (appended line a) (Failed line ∷ []) (sym s.appends ∙ e)),
 )
 
-own_by : (b : Bool) (line : Entry) → EachOf (λ i. number_of i ≡ line.caller.0 + 1) (if b then Done line ∷ [] else [])
+own_by : (b : Bool) (line : Entry) → Each (λ i. number_of i ≡ line.caller.0 + 1) (if b then Done line ∷ [] else [])
 own_by true line = (refl, tt)
 own_by false line = tt
 
-appended_own : (line : Entry) (a : Answer) → EachOf (λ i. number_of i ≡ line.caller.0 + 1) (appended line a)
+appended_own : (line : Entry) (a : Answer) → Each (λ i. number_of i ≡ line.caller.0 + 1) (appended line a)
 appended_own line no_memory = tt
 appended_own line disk_fault = (refl, tt)
 appended_own line stopped = tt

@@ -1,5 +1,6 @@
 -- What a client's lines are answered.
 use Rattle.std.specs.Prelude.{◌≡◌, ℕ, ◌+◌, ◌<◌, ◌≤◌, List, [], ◌∷◌, ◌++◌, map, length, Option, Some, Result, Ok, Err, slice_index_or}
+use Rattle.ucon_base.specs.Elements.{Each}
 use Rattle.ucon_turn.specs.Lists.{Continues, ByOthers}
 use Rattle.ucon_turn.specs.Turns.{Opening, Knowledge, IsSeatOf}
 use Rattle.ucon_model.specs.declared.command.Entry.{Entry}
@@ -7,7 +8,7 @@ use Rattle.ucon_model.specs.Plain.{PlainPolicy}
 use Rattle.ucon_model.specs.Spelling.{reply_spelling}
 use Rattle.ucon_model.specs.Views.{reply_of}
 use Rattle.ucon_model.specs.History.{History}
-use Rattle.ucon_model.specs.LegalRun.{Answer as Told, placed, no_memory, disk_fault, stopped, Answered, Each}
+use Rattle.ucon_model.specs.LegalRun.{Answer as Told, placed, no_memory, disk_fault, stopped, Answered}
 use Rattle.ucon_script.specs.declared.document.Line.{Line}
 use Rattle.ucon_client.specs.declared.store.Placed.{Placed}
 use Rattle.ucon_client.specs.declared.store.StepFault.{StepFault}

@@ -39,7 +39,8 @@ impl<K: Keeper> Client<K> {
         ensures serves { Serves (K.accepted turn.now.opened.policy) turn.now.opened.entries turn.now self.new.part self.new.seat }
         ensures ends { (result ≡ false) ↔ IsAnswered self.old.part }
         ensures still { result ≡ false → self.new ≡ self.old }
-        ensures answers { result ≡ true → AnswersOne (K.accepted turn.now.opened.policy) self.old.part self.new.part self.old.seat self.new.seat.seen }
+        ensures answers { result ≡ true
+            → AnswersOne (K.accepted turn.now.opened.policy) self.old.part self.new.part self.old.seat self.new.seat.seen }
         ensures kept { Keeps self.old.part self.new.part }
     {
         if self.part.is_answered() {

@@ -1,7 +1,7 @@
 //! The parts of a script: the lines of each client.
 
 ghost use Rattle.std.specs.Prelude.{◌≡◌, ◌+◌, ◌<◌, [], ◌∷◌, ◌++◌, map, IfOk, OnOk};
-ghost use Rattle.ucon_model.specs.LegalRun.{Each};
+ghost use Rattle.ucon_base.specs.Elements.{Each};
 ghost use Rattle.ucon_client.specs.Answers.{IsPart, entry_of, lines_in, number};
 ghost use Rattle.ucon_client.specs.Clients.{AreRising};
 ghost use Rattle.ucon_client.specs.Dividing.{by_client, own_lines, spelled_entry};

@@ -1,7 +1,7 @@
 //! A client's part of a document.
 
 ghost use Rattle.std.specs.Prelude.{◌≡◌, ◌+◌, ◌<◌, ◌≤◌, ◌==◌, ◌∷◌, [], ◌++◌, length, IfOk, IfErr};
-ghost use Rattle.ucon_model.specs.LegalRun.{Each};
+ghost use Rattle.ucon_base.specs.Elements.{Each};
 ghost use Rattle.ucon_client.specs.Answers.{IsPart, Keeps};
 
 use crate::answer::Answer;
@@ -33,7 +33,7 @@ impl Part {
                 lines,
                 answers,
             }),
-            Err(NoMemory) => Err((lines, NoMemory)),
+            Err(want) => Err((lines, want)),
         }
     }
 

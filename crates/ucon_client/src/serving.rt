@@ -2,10 +2,11 @@
 
 ghost use Rattle.std.specs.Prelude.{◌≡◌, ℕ, ◌+◌, ◌<◌, ◌≤◌, All, List, [], None, Some, map, length, slice_index_or, IfOk, IfErr, vec_len, vec_capacity};
 ghost use Rattle.std.specs.Option.{option_to_list};
-ghost use Rattle.ucon_turn.specs.Lists.{Each as EachOf, Has};
+ghost use Rattle.ucon_base.specs.Elements.{Each};
+ghost use Rattle.ucon_turn.specs.Lists.{Has};
 ghost use Rattle.ucon_turn.specs.Turns.{IsSeatOf};
 ghost use Rattle.ucon_model.specs.Plain.{PlainPolicy};
-ghost use Rattle.ucon_model.specs.LegalRun.{Each, IsLegalRun, own_answers, history_made};
+ghost use Rattle.ucon_model.specs.LegalRun.{IsLegalRun, own_answers, history_made};
 ghost use Rattle.ucon_client.specs.Answers.{IsPart, IsAnswered, Serves, Keeps, asked, lines_in, number, served_of, told_in};
 ghost use Rattle.ucon_client.specs.Clients.{AreRising, AreJoined, faulted};
 ghost use Rattle.ucon_client.specs.Events.{events_of};
@@ -57,7 +58,7 @@ fn seat_all<K: Keeper>(
     requires rising { AreRising (map number parts.items) }
     requires room { (clients.old.items ≡ []) × (vec_len parts ≤ vec_capacity clients.old) }
     ensures turn { IsSeatOf turn.now seat.new × (seat.new.number ≡ 0) × (seat.new.taken ≡ seat.old.taken) × (seat.new.seen ≡ seat.old.seen) }
-    ensures given { EachOf (Has (map (λ p. p.number + 1) parts.items)) seat.new.given }
+    ensures given { Each (Has (map (λ p. p.number + 1) parts.items)) seat.new.given }
     ensures serves { All (λ c. Serves (K.accepted turn.now.opened.policy) turn.now.opened.entries turn.now c.part c.seat) clients.new.items }
     ensures parts { map (λ c. c.part) clients.new.items ≡ parts.items }
 {
@@ -111,27 +112,30 @@ pub fn serve<K: Keeper + Send, G: Gate + Sync, R: Threads + Wait + Sync>(
     ensures all { IfOk result (λ r. Each IsAnswered r.1.items) }
     ensures lines { IfOk result (λ r. map (λ t. t.line) (told_in r.1.items) ≡ lines_in parts.items) }
     ensures clients { IfOk result (λ r. Each (λ t. t.line.caller.0 < 64) (told_in r.1.items)) }
-    ensures legal { IfOk result (λ r. (P : PlainPolicy) → K.accepted store.policy ≡ Some P → IsLegalRun P own_answers store.entries (told_in r.1.items)) }
-    ensures made { IfOk result (λ r. (P : PlainPolicy) → K.accepted store.policy ≡ Some P → history_made store.entries (told_in r.1.items) ≡ r.0.entries) }
-    ensures fault { IfOk result (λ r. (P : PlainPolicy) → K.accepted store.policy ≡ Some P → faulted (told_in r.1.items) ≡ option_to_list r.0.mark) }
+    ensures legal { IfOk result (λ r. (P : PlainPolicy) → K.accepted store.policy ≡ Some P
+        → IsLegalRun P own_answers store.entries (told_in r.1.items)) }
+    ensures made { IfOk result (λ r. (P : PlainPolicy) → K.accepted store.policy ≡ Some P
+        → history_made store.entries (told_in r.1.items) ≡ r.0.entries) }
+    ensures fault { IfOk result (λ r. (P : PlainPolicy) → K.accepted store.policy ≡ Some P
+        → faulted (told_in r.1.items) ≡ option_to_list r.0.mark) }
 {
     let count = parts.len();
     let mut clients = match Vec::with_capacity(alloc, count) {
         Ok(clients) => clients,
-        Err(_) => return Err((store, NoMemory)),
+        Err(want) => return Err((store, want.into())),
     };
     let mut answered = match Vec::with_capacity(alloc, count) {
         Ok(answered) => answered,
-        Err(_) => {
+        Err(want) => {
             clients.destroy_empty();
-            return Err((store, NoMemory));
+            return Err((store, want.into()));
         }
     };
     let (turn, mut seat) = match Turn::open(alloc, store) {
         Ok(opened) => opened,
-        Err((store, NoMemory)) => {
+        Err(refused) => {
             clients.destroy_empty();
-            return Err((store, NoMemory));
+            return Err(refused);
         }
     };
     seat_all(&turn, &mut seat, parts, &mut clients);

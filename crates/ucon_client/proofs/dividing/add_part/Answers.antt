@@ -1,10 +1,9 @@
 use Rattle.std.proofs.Common.{rules, ◌≡◌, ◌+◌, ◌<◌, [], ◌∷◌, ◌++◌, List, map, arith, ap, sym, ◌∙◌, subst}
 use Rattle.std.proofs.lemmas.List.{append-nil, map-append}
-use Rattle.ucon_model.specs.LegalRun.{Each}
 use Rattle.ucon_client.specs.declared.part.Part.{Part}
 use Rattle.ucon_client.specs.Answers.{entry_of, lines_in, number}
 use Rattle.ucon_client.specs.Clients.{AreRising}
-use Rattle.ucon_client.proofs.Each.{each_append}
+use Rattle.ucon_base.specs.Elements.{Each, each_append}
 use Rattle.ucon_client.proofs.Divided.{below_more, lines_append, rising_last}
 use Rattle.ucon_client.proofs.dividing.add_part.Goals as goal
 

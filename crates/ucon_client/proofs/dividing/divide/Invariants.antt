@@ -1,5 +1,5 @@
 use Rattle.std.proofs.Common.{◌≡◌, ◌<◌, [], map}
-use Rattle.ucon_model.specs.LegalRun.{Each}
+use Rattle.ucon_base.specs.Elements.{Each}
 use Rattle.ucon_client.specs.Answers.{IsPart, lines_in, number}
 use Rattle.ucon_client.specs.Clients.{AreRising}
 use Rattle.ucon_client.specs.Dividing.{lines_below, spelled_entry}

@@ -1,5 +1,5 @@
 use Rattle.std.proofs.Common.{◌≡◌, map, take}
-use Rattle.ucon_model.specs.LegalRun.{Each}
+use Rattle.ucon_base.specs.Elements.{Each}
 use Rattle.ucon_client.specs.Answers.{entry_of}
 use Rattle.ucon_client.specs.Dividing.{own_lines, spelled_entry}
 use Rattle.ucon_client.proofs.dividing.lines_of.Given as goal

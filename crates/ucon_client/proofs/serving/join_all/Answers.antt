@@ -1,14 +1,13 @@
 use Rattle.std.proofs.Common.{rules, ◌≡◌, ℕ, ◌+◌, ◌<◌, List, [], ◌∷◌, ◌++◌, map, length, get_or, arith, ap, refl, sym, ◌∙◌, subst, inl, inr}
 use Rattle.std.proofs.lemmas.List.{append_assoc, get_or_at, length-append, length_push, map-append}
 use Rattle.ucon_turn.specs.Lists.{Has, Continues, ByOthers}
-use Rattle.ucon_model.specs.LegalRun.{Each}
 use Rattle.ucon_client.specs.declared.client.Client.{Client}
 use Rattle.ucon_client.specs.declared.event.Event.{Event}
 use Rattle.ucon_client.specs.declared.part.Part.{Part}
 use Rattle.ucon_client.specs.Answers.{Serves, number, served_of}
 use Rattle.ucon_client.specs.Clients.{AreJoined, AreRising, Served}
 use Rattle.ucon_client.specs.Events.{events, number_of}
-use Rattle.ucon_client.proofs.Each.{each_append, each_map}
+use Rattle.ucon_base.specs.Elements.{Each, each_append, each_map}
 use Rattle.ucon_client.proofs.Joining.{begins_joined, stays_joined}
 use Rattle.ucon_client.proofs.Parts.{rising_parts, below_served}
 use Rattle.ucon_client.proofs.serving.join_all.Goals as goal

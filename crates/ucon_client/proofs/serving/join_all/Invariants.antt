@@ -1,8 +1,8 @@
 use Rattle.std.proofs.Common.{◌≡◌, ◌+◌, ◌≤◌, ◌++◌, Some, map, length, vec_len}
 use Rattle.std.specs.Prelude.{vec_capacity}
+use Rattle.ucon_base.specs.Elements.{Each}
 use Rattle.ucon_turn.specs.Lists.{Has}
 use Rattle.ucon_turn.specs.Turns.{IsSeatOf}
-use Rattle.ucon_model.specs.LegalRun.{Each}
 use Rattle.ucon_model.specs.Plain.{PlainPolicy}
 use Rattle.ucon_client.specs.Answers.{served_of}
 use Rattle.ucon_client.specs.Clients.{AreJoined}

@@ -1,14 +1,13 @@
 use Rattle.std.proofs.Common.{rules, ◌≡◌, ◌+◌, All, [], ◌∷◌, ◌++◌, map, length, arith, ap, sym, ◌∙◌, subst}
 use Rattle.std.proofs.lemmas.List.{append_assoc, length_push, map-append}
 use Rattle.std.proofs.lemmas.List.Elements.{All-push}
-use Rattle.ucon_turn.specs.Lists.{Each as EachOf, Has}
-use Rattle.ucon_model.specs.LegalRun.{Each}
+use Rattle.ucon_turn.specs.Lists.{Has}
 use Rattle.ucon_client.specs.declared.client.Client.{Client}
 use Rattle.ucon_client.specs.declared.part.Part.{Part}
 use Rattle.ucon_client.specs.Answers.{IsPart, Serves, number}
 use Rattle.ucon_client.specs.Clients.{AreRising}
 use Rattle.ucon_client.proofs.Parts.{seat_number, below_next, given_more}
-use Rattle.ucon_client.proofs.Each.{each_parts}
+use Rattle.ucon_base.specs.Elements.{Each, each_parts}
 use Rattle.ucon_client.proofs.serving.seat_all.Goals as goal
 
 pub split-token-requires-clause-above : goal.split-token-requires-clause-above
@@ -45,7 +44,7 @@ loop-part-preserved g c =
     let items : c.push_reserved.new.self.items ≡ c.loop-part.clients.items ++ client ∷ [] = c.push_reserved.ensures.items in
     record {
       turn = (s.turn.0, s.kept.0, s.kept.2 ∙ i.turn.2, s.kept.1 ∙ i.turn.3);
-      given = subst (EachOf (Has (map seat_number (done ++ part ∷ [])))) (sym s.given) (given_more done part c.loop-part.seat.given i.given);
+      given = subst (Each (Has (map seat_number (done ++ part ∷ [])))) (sym s.given) (given_more done part c.loop-part.seat.given i.given);
       serves = subst (All Fair) (sym items) (All-push Fair c.loop-part.clients.items client i.serves c.new.ensures.serves);
       seated = ap (map (λ (d : C). d.part)) items ∙ (map-append (λ (d : C). d.part) c.loop-part.clients.items (client ∷ []) ∙ (λ j. i.seated j ++ c.new.ensures.client.0 j ∷ []));
       parts = parts ∙ sym (append_assoc done (part ∷ []) rest);

@@ -1,7 +1,7 @@
 use Rattle.std.proofs.Common.{rules, ◌≡◌, ◌++◌, List, map, length, take, drop, ap, sym, ◌∙◌, subst}
 use Rattle.std.proofs.lemmas.List.{take_at}
-use Rattle.ucon_turn.specs.Lists.{Each as EachOf, Has}
-use Rattle.ucon_model.specs.LegalRun.{Each}
+use Rattle.ucon_base.specs.Elements.{Each}
+use Rattle.ucon_turn.specs.Lists.{Has}
 use Rattle.ucon_client.specs.declared.client.Client.{Client}
 use Rattle.ucon_client.specs.declared.part.Part.{Part}
 use Rattle.ucon_client.specs.Answers.{IsAnswered, IsPart, asked, number, served_of}
@@ -58,7 +58,7 @@ close-requires-clause-joined g c =
     let same : map asked c.join_all.new.parts.items ≡ map asked c.args.parts.items = ap (map asked) (c.join_all.ensures.parts ∙ ap (map part_of) whole)
     ∙ asked_still part_of old now c.args.parts.items long (λ k d lt. search rules) c.seat_all.ensures.parts in
     let taken = c.join_all.new.seat.taken in
-    subst (EachOf (Has taken)) (sym c.join_all.ensures.turn.2)
+    subst (Each (Has taken)) (sym c.join_all.ensures.turn.2)
     (back_still c.join_all.new.parts.items c.args.parts.items c.seat_all.new.seat.given taken same c.seat_all.ensures.given c.join_all.ensures.back)
 
 pub returns-clause-legal : goal.returns-clause-legal

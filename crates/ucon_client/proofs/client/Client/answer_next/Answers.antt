@@ -1,6 +1,7 @@
 use Rattle.std.proofs.Common.{rules, ◌≡◌, ℕ, ◌+◌, List, [], ◌∷◌, ◌++◌, map, length, get_or, inl, ap, sym, ◌∙◌, subst}
 use Rattle.std.proofs.lemmas.List.{length_push}
-use Rattle.ucon_model.specs.LegalRun.{Answered, Each}
+use Rattle.ucon_base.specs.Elements.{Each}
+use Rattle.ucon_model.specs.LegalRun.{Answered}
 use Rattle.ucon_script.specs.declared.document.Line.{Line}
 use Rattle.ucon_client.specs.declared.answer.Answer.{Answer}
 use Rattle.ucon_client.specs.declared.part.Part.{Part}
