@@ -1,0 +1,9 @@
+//! The parts of a live feed: an inbox between two threads.
+#![tactic(auto)]
+
+mod ends;
+mod item;
+mod rule;
+
+pub use ends::{Feeder, Taker, inbox, rejoin};
+pub use item::Item;
