@@ -5,6 +5,8 @@ mod ends;
 mod item;
 mod line_reader;
 mod rule;
+#[cfg(test)]
+mod tests;
 
 pub use ends::{Feeder, Taker, inbox, rejoin};
 pub use item::Item;
