@@ -82,8 +82,9 @@ def sqlite(folder: pathlib.Path, steps: int) -> None:
 
 def casbin(folder: pathlib.Path) -> None:
     missing = lacks("go", "dpkg")
-    listed = "" if missing else subprocess.run(["dpkg", "-L", CASBIN_PACKAGE], stdout=subprocess.PIPE, stderr=subprocess.DEVNULL, check=False).stdout.decode()
-    source = next((line for line in listed.splitlines() if line.endswith("casbin/enforcer.go")), None)
+    words = ["dpkg", "-L", CASBIN_PACKAGE]
+    listed = b"" if missing else subprocess.run(words, stdout=subprocess.PIPE, stderr=subprocess.DEVNULL, check=False).stdout
+    source = next((line for line in listed.decode().splitlines() if line.endswith("casbin/enforcer.go")), None)
     if source is None:
         print(f"Casbin: skipped, the packages golang-go and {CASBIN_PACKAGE} aren't both installed")
         return
@@ -94,6 +95,6 @@ def casbin(folder: pathlib.Path) -> None:
     (place / "main.go").write_text(program)
     env = {**os.environ, "GO111MODULE": "off", "GOPATH": go_path, "GOCACHE": str(folder / "go"), "GOMAXPROCS": "1"}
     subprocess.run(["go", "build", "-o", "decide", "main.go"], cwd=place, env=env, check=True)
-    version = subprocess.run(["dpkg-query", "-W", "-f", "${Version}", CASBIN_PACKAGE], stdout=subprocess.PIPE, check=True).stdout.decode()
-    print(f"Casbin {version}, on one processor:", flush=True)
+    version = subprocess.run(["dpkg-query", "-W", "-f", "${Version}", CASBIN_PACKAGE], stdout=subprocess.PIPE, check=True).stdout
+    print(f"Casbin {version.decode()}, on one processor:", flush=True)
     subprocess.run([str(place / "decide")], env=env, check=True)
