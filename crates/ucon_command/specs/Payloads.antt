@@ -19,7 +19,7 @@ told_of caller command reply = record { caller = caller; command = command; repl
 -- what is read is refused at this place, unless it is want of memory
 abbrev pub IsBadAt : {A : Type 0} → Result A ℕ → PayloadFault → Type 0
 IsBadAt read (BadPlace place) = read ≡ Err place
-IsBadAt read NoMemory = ⊤
+IsBadAt read (NoMemory e) = ⊤
 
 -- no reply's text is longer, by the number of its revocations
 abbrev pub most_reply : PlainReply → ℕ

@@ -18,10 +18,10 @@ use crate::payload_fault::PayloadFault;
 use crate::reading::read_reply;
 use crate::replies::put_reply;
 use crate::reply_fault::ReplyFault;
-use crate::spelling::{put_session, put_word};
+use crate::spelling::put_session;
 use itoa::Buffer;
 use std::alloc::Global;
-use ucon_base::NoMemory;
+use ucon_base::{NoMemory, put};
 use ucon_model::{Caller, Command, Reply};
 
 /// Most payloads have no more.
@@ -36,7 +36,8 @@ pub fn payload_text(
     reply: &Reply,
 ) -> Result<Vec<u8>, NoMemory>
     ensures text { IfOk result (λ t. t.items ≡ payload_spelling (told_of caller command.now reply.now)) }
-    ensures read_back { caller.0 < 64 → payload_read (payload_spelling (told_of caller command.now reply.now)) ≡ Ok (told_of caller command.now reply.now) }
+    ensures read_back { caller.0 < 64
+        → payload_read (payload_spelling (told_of caller command.now reply.now)) ≡ Ok (told_of caller command.now reply.now) }
     ensures short { length (payload_spelling (told_of caller command.now reply.now)) ≤ most_told (reply_of reply.now) }
 {
     command_in_form(command);
@@ -56,9 +57,9 @@ fn put_payload(
     ensures { OnOk result (out.new.items ≡ out.old.items ++ payload_spelling (told_of caller command.now reply.now)) }
 {
     put_session(out, b"", u32::from(caller.0))?;
-    put_word(out, b" ")?;
+    put(out, b" ")?;
     put_command(alloc, out, command)?;
-    put_word(out, b"\n")?;
+    put(out, b"\n")?;
     put_reply(alloc, out, reply)
 }
 
@@ -112,7 +113,7 @@ fn command_at(alloc: Global, place: usize, line: &[u8]) -> Result<Command, Paylo
 {
     match read_command(alloc, line) {
         Ok(command) => Ok(command),
-        Err(LineFault::NoMemory) => Err(PayloadFault::NoMemory),
+        Err(LineFault::NoMemory(refused)) => Err(PayloadFault::NoMemory(refused)),
         Err(_) => Err(PayloadFault::BadPlace(place)),
     }
 }
@@ -123,7 +124,7 @@ fn reply_at(alloc: Global, place: usize, text: &[u8]) -> Result<Reply, PayloadFa
 {
     match read_reply(alloc, text) {
         Ok(reply) => Ok(reply),
-        Err(ReplyFault::NoMemory) => Err(PayloadFault::NoMemory),
+        Err(ReplyFault::NoMemory(refused)) => Err(PayloadFault::NoMemory(refused)),
         Err(ReplyFault::BadReply) => Err(PayloadFault::BadPlace(place)),
     }
 }

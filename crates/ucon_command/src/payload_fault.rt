@@ -9,15 +9,15 @@ use ucon_base::NoMemory;
 pub enum PayloadFault {
     /// The place, from 0, of the first part that is none: the caller, the command or the reply.
     BadPlace(usize),
-    NoMemory,
+    NoMemory(NoMemory),
 }
 
 impl From<NoMemory> for PayloadFault {
     ghost use Rattle.ucon_command.specs.declared.payload_fault.PayloadFault.TheVariants as faults;
 
-    ghost from_gives = { λ _ f. f ≡ faults.NoMemory };
+    ghost from_gives = { λ e f. f ≡ faults.NoMemory e };
 
-    fn from(_e: NoMemory) -> PayloadFault {
-        PayloadFault::NoMemory
+    fn from(e: NoMemory) -> PayloadFault {
+        PayloadFault::NoMemory(e)
     }
 }

@@ -32,7 +32,7 @@ fn read_all<D: Disk>(alloc: Global, journal: &mut Journal<D>) -> Result<Vec<u8>,
         all.extend_from_slice(journal.payload())?;
         all.extend_from_slice(b"|")?;
     }
-    Err(TakeFault::NoMemory)
+    Err(TakeFault::TooLong(u64::MAX))
 }
 
 fn add<D: Disk>(journal: &mut Journal<D>, payload: &[u8]) -> Result<(), DiskFault>

@@ -22,6 +22,8 @@ pub mod AllowedWrites
 pub mod LeastFailing
 pub mod AllowedOwn
 pub mod Histories
+pub mod FewRevocations
+pub mod GrownHistories
 pub mod Cascades
 pub mod WithinAndLasts
 pub mod Lines
@@ -29,8 +31,8 @@ pub mod Payloads
 pub mod FoundOn
 pub mod Documents
 pub mod FirstFaults
-pub mod Written
 pub mod TypedParts
+pub mod ValuesStayFit
 pub mod SortsOfValues
 pub mod Meaningful
 pub mod Numbering

@@ -9,7 +9,7 @@ ghost use Rattle.ucon_model.specs.Spelling.{reply_spelling};
 ghost use Rattle.ucon_model.specs.Plain.{PlainPolicy};
 ghost use Rattle.ucon_model.specs.Views.{reply_of};
 ghost use Rattle.ucon_script.specs.Document.{spelled_line};
-ghost use Rattle.ucon_state.specs.Engine.{IsIdle};
+ghost use Rattle.ucon_state.specs.Engine.{FollowsLike, IsIdle, StandsFor};
 ghost use Rattle.ucon_top.specs.OneAnswer.{Answers, answered, entry_of, replied};
 ghost use Rattle.ucon_top.specs.Printed.{IsRunOutput};
 
@@ -17,7 +17,7 @@ use crate::number::put_number;
 use std::alloc::Global;
 use ucon_base::{NoMemory, Steps};
 use ucon_command::reply_text;
-use ucon_model::Reply;
+use ucon_model::{Reply, grown_histories_go_on};
 use ucon_script::LineText;
 use ucon_state::{Drafted, Engine};
 
@@ -27,8 +27,8 @@ pub fn run_lines<E: Engine>(
     mut engine: E,
     lines: &[LineText<'_>],
 ) -> Result<Vec<u8>, NoMemory>
-    requires { IsIdle E.stands_for engine }
-    ensures { IfOk result (λ text. (P : PlainPolicy) → E.stands_for engine P [] → IsRunOutput P (map entry_of lines.now) text.items) }
+    requires { IsIdle E.follows engine }
+    ensures { IfOk result (λ text. (P : PlainPolicy) → StandsFor E.follows engine P [] → IsRunOutput P (map entry_of lines.now) text.items) }
 {
     let mut text = Vec::new(alloc);
     let mut steps = Steps::new();
@@ -48,9 +48,9 @@ fn answer_one<E: Engine>(
     place: u64,
     line: &LineText<'_>,
 ) -> Result<u64, NoMemory>
-    requires { IsIdle E.stands_for engine.old }
-    ensures idle { IsIdle E.stands_for engine.new }
-    ensures answers { IfOk result (λ next. (P : PlainPolicy) (H : History) → E.stands_for engine.old P H → Answers P (E.stands_for engine.new P) H place next text.old.items text.new.items (entry_of line.now)) }
+    requires { IsIdle E.follows engine.old }
+    ensures idle { IsIdle E.follows engine.new }
+    ensures answers { IfOk result (λ next. (P : PlainPolicy) (H : History) → StandsFor E.follows engine.old P H → Answers P (StandsFor E.follows engine.new P) H place next text.old.items text.new.items (entry_of line.now)) }
     ensures client { line.now.caller.0 < 256 }
 {
     let _client = line.caller.0;
@@ -74,13 +74,14 @@ fn step<E: Engine>(
     steps: &mut Steps,
     line: &LineText<'_>,
 ) -> Result<Drafted, NoMemory>
-    requires { IsIdle E.stands_for engine.old }
-    ensures idle { IsIdle E.stands_for engine.new }
-    ensures reply { IfOk result (λ d. (P : PlainPolicy) (H : History) → E.stands_for engine.old P H → reply_of d.reply ≡ said P H line.now.caller (spelled_line line.now).command) }
+    requires { IsIdle E.follows engine.old }
+    ensures idle { IsIdle E.follows engine.new }
+    ensures reply { IfOk result (λ d. (P : PlainPolicy) (H : History) → StandsFor E.follows engine.old P H → reply_of d.reply ≡ said P H line.now.caller (spelled_line line.now).command) }
     ensures changes { IfOk result (λ d. d.changes ≡ changes (reply_of d.reply)) }
-    ensures stands { OnOk result ((P : PlainPolicy) (H : History) → E.stands_for engine.old P H → E.stands_for engine.new P (grown P H (entry_of line.now))) }
-    ensures err { OnErr result ((P : PlainPolicy) (H : History) → E.stands_for engine.old P H → E.stands_for engine.new P H) }
+    ensures stands { OnOk result ((P : PlainPolicy) (H : History) → StandsFor E.follows engine.old P H → StandsFor E.follows engine.new P (grown P H (entry_of line.now))) }
+    ensures err { OnErr result (FollowsLike E.follows engine.old engine.new) }
 {
+    grown_histories_go_on();
     let line = line.line(alloc)?;
     let drafted = engine.draft(line.caller, &line.command, steps)?;
     if drafted.changes {
