@@ -5,9 +5,9 @@ use Rattle.std.specs.List.{filter}
 use Rattle.std.proofs.lemmas.Bool.{le-leb, lt-leb}
 use Rattle.ucon_model.specs.declared.command.Entry.{Entry}
 use Rattle.ucon_model.specs.History.{History}
-use Rattle.ucon_model.specs.LegalRun.{Each, AreNumberedFrom, put_by_place, by_place}
+use Rattle.ucon_model.specs.LegalRun.{AreNumberedFrom, put_by_place, by_place}
 use Rattle.ucon_client.specs.Clients.{numbered_from}
-use Rattle.ucon_client.proofs.Each.{each_filter}
+use Rattle.ucon_base.specs.Elements.{Each, each_filter}
 
 -- all places lie above this one
 abbrev IsBelow : ℕ → List (ℕ × Entry) → Type 0

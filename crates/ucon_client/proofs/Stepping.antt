@@ -3,13 +3,13 @@ use Rattle.std.proofs.Common.{◌≡◌, ◌≢◌, ◌↔◌, ◌+◌, Bool, tr
 use Rattle.std.specs.Prelude.{IsSome, if◌then◌else◌}
 use Rattle.std.specs.Option.{option_to_list}
 use Rattle.std.proofs.lemmas.List.{append-nil, append_cancel_left, map-append}
-use Rattle.ucon_turn.specs.Lists.{Each as EachOf, Continues}
+use Rattle.ucon_base.specs.Elements.{Each}
+use Rattle.ucon_turn.specs.Lists.{Continues}
 use Rattle.ucon_model.specs.declared.command.Entry.{Entry}
-use Rattle.ucon_model.specs.Plain.{PlainPolicy}
+use Rattle.ucon_model.specs.Plain.{PlainPolicy, PlainReply}
 use Rattle.ucon_model.specs.Spelling.{reply_spelling}
 use Rattle.ucon_model.specs.History.{History, said, changes}
 use Rattle.ucon_model.specs.LegalRun.{Answer, no_memory, disk_fault, stopped, placed, tells_change}
-use Rattle.ucon_model.proofs.TellsChange.{tells_change-reply_spelling}
 use Rattle.ucon_client.specs.declared.event.Event.{Event}
 use Rattle.ucon_client.specs.declared.event.Event.TheVariants.{Done, Failed}
 use Rattle.ucon_client.specs.Events.{events, marks_in, number_of, appended}
@@ -22,14 +22,18 @@ done_grown : (b : Bool) (H : History) (line : Entry) → map Done (if b then H +
 done_grown true H line = map-append Done H (line ∷ [])
 done_grown false H line = sym (append-nil (map Done H))
 
-appends : (P : PlainPolicy) (line : Entry) (H : History) (mark : Option Entry) (later : History) (next : Option Entry) (a : Answer)
+-- what a reply's text tells
+abbrev pub TextsTell : Type 0
+TextsTell = (r : PlainReply) → tells_change (reply_spelling r) ≡ changes r
+
+appends : TextsTell → (P : PlainPolicy) (line : Entry) (H : History) (mark : Option Entry) (later : History) (next : Option Entry) (a : Answer)
     → Stepped P line H mark later next a → events later next ≡ events H mark ++ appended line a
-appends P line H mark later next no_memory s = (λ i. events (s.1 i) ((s.2 ∙ sym s.0) i)) ∙ sym (append-nil (events H mark))
-appends P line H mark later next stopped s = (λ i. events (s.1 i) (s.2 i)) ∙ sym (append-nil (events H mark))
-appends P line H mark later next disk_fault s = (λ i. events (s.2 i) (s.3 i)) ∙ ap (λ m. events H m ++ Failed line ∷ []) (sym s.0)
-appends P line H mark later next (placed place text) s =
+appends texts P line H mark later next no_memory s = (λ i. events (s.1 i) ((s.2 ∙ sym s.0) i)) ∙ sym (append-nil (events H mark))
+appends texts P line H mark later next stopped s = (λ i. events (s.1 i) (s.2 i)) ∙ sym (append-nil (events H mark))
+appends texts P line H mark later next disk_fault s = (λ i. events (s.2 i) (s.3 i)) ∙ ap (λ m. events H m ++ Failed line ∷ []) (sym s.0)
+appends texts P line H mark later next (placed place text) s =
     let tells : changes (said P H line.caller line.command) ≡ tells_change text =
-    sym (ap tells_change s.1 ∙ tells_change-reply_spelling (said P H line.caller line.command)) in
+    sym (ap tells_change s.1 ∙ texts (said P H line.caller line.command)) in
     (λ i. events (s.3 i) (s.4 i)) ∙ (done_grown (changes (said P H line.caller line.command)) H line
     ∙ (ap (λ b. map Done H ++ (if b then Done line ∷ [] else [])) tells ∙ ap (λ m. events H m ++ appended line (placed place text)) (sym s.0)))
 
@@ -54,10 +58,10 @@ tells P line H mark later next (placed place text) s = (
   s.2 ∙ ap length (sym (entries_in-events later next)),
 )
 
-pub stepped : (P : PlainPolicy) (line : Entry) (H : History) (mark : Option Entry) (later : History) (next : Option Entry) (a : Answer)
+pub stepped : TextsTell → (P : PlainPolicy) (line : Entry) (H : History) (mark : Option Entry) (later : History) (next : Option Entry) (a : Answer)
     → Stepped P line H mark later next a → Steps P line (events H mark) (events later next) a
-stepped P line H mark later next a s =
-    record { ends = ends_events H mark; appends = appends P line H mark later next a s; tells = tells P line H mark later next a s }
+stepped texts P line H mark later next a s =
+    record { ends = ends_events H mark; appends = appends texts P line H mark later next a s; tells = tells P line H mark later next a s }
 
 -- ---- what is appended
 
@@ -78,11 +82,11 @@ faults_are_marked P line before after a s = (
   λ e. marks_by_fault line a (append_cancel_left before (appended line a) (Failed line ∷ []) (sym s.appends ∙ e)),
 )
 
-own_by : (b : Bool) (line : Entry) → EachOf (λ i. number_of i ≡ line.caller.0 + 1) (if b then Done line ∷ [] else [])
+own_by : (b : Bool) (line : Entry) → Each (λ i. number_of i ≡ line.caller.0 + 1) (if b then Done line ∷ [] else [])
 own_by true line = (refl, tt)
 own_by false line = tt
 
-appended_own : (line : Entry) (a : Answer) → EachOf (λ i. number_of i ≡ line.caller.0 + 1) (appended line a)
+appended_own : (line : Entry) (a : Answer) → Each (λ i. number_of i ≡ line.caller.0 + 1) (appended line a)
 appended_own line no_memory = tt
 appended_own line disk_fault = (refl, tt)
 appended_own line stopped = tt

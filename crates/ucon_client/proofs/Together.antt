@@ -1,26 +1,26 @@
 -- The answers of all clients, over the list of the closed store.
 use Rattle.std.proofs.Common.{◌≡◌, ◌≢◌, ℕ, ◌+◌, ◌<◌, ◌≤◌, Bool, true, false, true≢false, List, [], ◌∷◌, ◌++◌, Option, None, map, length, drop, refl, sym, ap, ◌∙◌, subst, ⊎_elim, arith}
-use Rattle.std.specs.Prelude.{◌||◌, IsTrue, nat_eq, count_by, Some, if◌then◌else◌}
+use Rattle.std.specs.Prelude.{◌||◌, IsTrue, nat_eq, count_by, if◌then◌else◌}
 use Rattle.std.specs.List.{filter, list_any}
 use Rattle.std.proofs.lemmas.Bool.{eq-eqb, eqb-true, ne_eqb, or_cases, or_from, or_left, or_right}
 use Rattle.std.proofs.lemmas.List.{length-map}
 use Rattle.std.proofs.lemmas.List.Sums.{length-filter}
-use Rattle.ucon_turn.specs.Lists.{Each as EachOf, Has, Continues}
-use Rattle.ucon_turn.proofs.Lists.{has_each}
+use Rattle.ucon_turn.specs.Lists.{Has, Continues}
+use Rattle.std.specs.Option.{option_to_list}
+use Rattle.ucon_client.proofs.Seats.{has_each}
 use Rattle.ucon_model.specs.declared.command.Entry.{Entry}
 use Rattle.ucon_model.specs.Plain.{PlainPolicy}
 use Rattle.ucon_model.specs.History.{History, said, changes}
-use Rattle.ucon_model.specs.LegalRun.{Answer, no_memory, disk_fault, stopped, placed, Answered, recorded, by_place, history_made, Each, AreNumberedFrom, IsSaid, AreInOrder, own_answers, is_disk_fault, is_stopped, IsLegalRun}
-use Rattle.ucon_model.specs.Output.{FitsLine, answers_read, output}
-use Rattle.ucon_model.proofs.ReadBack.{answers_read-output}
+use Rattle.ucon_model.specs.LegalRun.{Answer, no_memory, disk_fault, stopped, placed, Answered, recorded, by_place, history_made, AreNumberedFrom, IsSaid, AreInOrder, own_answers, is_disk_fault, is_stopped, IsLegalRun}
 use Rattle.ucon_client.specs.declared.event.Event.{Event}
 use Rattle.ucon_client.specs.declared.event.Event.TheVariants.{Done, Failed}
 use Rattle.ucon_client.specs.Events.{events, entries_in, marks_in, EndsAtMark, number_of}
 use Rattle.ucon_client.specs.Clients.{numbered_from, behind, faulted, Shows, IsSaidIn, WouldChange, AreRight, Served, told_by, AreRising, AreJoined}
-use Rattle.ucon_client.proofs.Each.{each_append, each_both, each_map, each_always, filter_none, filter_all}
+use Rattle.ucon_base.specs.Elements.{Each, each_always, each_append, each_both, each_map, filter_all, filter_none}
 use Rattle.ucon_client.proofs.Placing.{put_all, by_place-append, are_numbered, numbered_entries, joined_numbered}
-use Rattle.ucon_client.proofs.Listing.{entries_append, marks_append, entries_done, marks_done, entries_in-events, one_mark, behind_done}
-use Rattle.ucon_client.proofs.Client.{recorded-append, faulted-append, SeenFollows, in_order-append}
+use Rattle.ucon_client.proofs.Listing.{entries_append, marks_append, entries_done, marks_done, entries_in-events, marks_in-events, one_mark, behind_done}
+use Rattle.ucon_client.proofs.Joining.{number}
+use Rattle.ucon_client.proofs.OneClient.{recorded-append, faulted-append, SeenFollows, in_order-append}
 
 -- ---- whose lines
 
@@ -51,19 +51,19 @@ is_listed (c ∷ clients) k h = ⊎_elim
     (λ (e : k + 1 ≡ c.number + 1). or_left (nat_eq c.number k) (listed clients k) (eq-eqb c.number k (omega arith)))
     (λ (later : Has (map (λ d. d.number + 1) clients) (k + 1)). or_right (nat_eq c.number k) (listed clients k) (is_listed clients k later)) h
 
-module _ (clients : List Served) (taken : List ℕ) (ours : EachOf (Has (map (λ c. c.number + 1) clients)) taken) where
+module _ (clients : List Served) (taken : List ℕ) (ours : Each (Has (map (λ c. c.number + 1) clients)) taken) where
   -- nobody has the number 0
   taken_listed : (k : ℕ) → Has (0 ∷ taken) (k + 1) → listed clients k ≡ true
   taken_listed k h = ⊎_elim
       (λ (e : k + 1 ≡ 0). absurd (omega arith))
       (λ (t : Has taken (k + 1)). is_listed clients k (has_each (λ j. Has (map (λ c. c.number + 1) clients) j) (k + 1) taken ours t)) h
 
-  records_listed : (n : ℕ) (rest : List Event) → EachOf (λ i. Has (0 ∷ taken) (number_of i)) rest → Each (λ x. listed_record clients x ≡ true) (numbered_from n (entries_in rest))
+  records_listed : (n : ℕ) (rest : List Event) → Each (λ i. Has (0 ∷ taken) (number_of i)) rest → Each (λ x. listed_record clients x ≡ true) (numbered_from n (entries_in rest))
   records_listed n [] h = tt
   records_listed n (Done e ∷ rest) h = (taken_listed e.caller.0 h.0, records_listed (n + 1) rest h.1)
   records_listed n (Failed e ∷ rest) h = records_listed n rest h.1
 
-  marks_listed : (rest : List Event) → EachOf (λ i. Has (0 ∷ taken) (number_of i)) rest → Each (λ e. listed_line clients e ≡ true) (marks_in rest)
+  marks_listed : (rest : List Event) → Each (λ i. Has (0 ∷ taken) (number_of i)) rest → Each (λ e. listed_line clients e ≡ true) (marks_in rest)
   marks_listed [] h = tt
   marks_listed (Done e ∷ rest) h = marks_listed rest h.1
   marks_listed (Failed e ∷ rest) h = (taken_listed e.caller.0 h.0, marks_listed rest h.1)
@@ -73,9 +73,13 @@ abbrev AreApart : List Served → Type 0
 AreApart [] = Unit {0}
 AreApart (c ∷ clients) = Each (λ d. c.number ≢ d.number) clients × AreApart clients
 
-rising_apart : (clients : List Served) → AreRising clients → AreApart clients
+above_apart : (n : ℕ) (clients : List Served) → Each (λ m. n < m) (map number clients) → Each (λ d. n ≢ d.number) clients
+above_apart n [] up = tt
+above_apart n (d ∷ clients) up = (λ same. absurd (let lt : n < d.number = up.0 in omega (arith, lt, same)), above_apart n clients up.1)
+
+rising_apart : (clients : List Served) → AreRising (map number clients) → AreApart clients
 rising_apart [] up = tt
-rising_apart (c ∷ clients) up = (each_map (λ d. c.number < d.number) (λ d. c.number ≢ d.number) (λ d lt same. absurd (omega arith)) clients up.0, rising_apart clients up.1)
+rising_apart (c ∷ clients) up = (above_apart c.number clients up.0, rising_apart clients up.1)
 
 -- ---- one mark
 
@@ -158,8 +162,9 @@ module _ (P : PlainPolicy) (G : History) (log : List Event) where
 -- the list begins with the opening history, and behind it stand log of clients
 legal_behind : (P : PlainPolicy) (G : History) (rest : List Event) (clients : List Served) (taken : List ℕ)
     → Each (λ c. AreRight P c.number G (map Done G ++ rest) c.told) clients → AreApart clients → EndsAtMark (map Done G ++ rest)
-    → EachOf (λ i. Has (0 ∷ taken) (number_of i)) rest → EachOf (Has (map (λ c. c.number + 1) clients)) taken
+    → Each (λ i. Has (0 ∷ taken) (number_of i)) rest → Each (Has (map (λ c. c.number + 1) clients)) taken
     → IsLegalRun P own_answers G (told_by clients) × (history_made G (told_by clients) ≡ entries_in (map Done G ++ rest))
+    × (faulted (told_by clients) ≡ marks_in (map Done G ++ rest))
 legal_behind P G rest clients taken right apart ends theirs ours =
     let log : List Event = map Done G ++ rest in
     let told : List Answered = told_by clients in
@@ -189,25 +194,14 @@ legal_behind P G rest clients taken right apart ends theirs ours =
         };
       },
       made,
+      faults,
     )
 
 pub legal_together : (P : PlainPolicy) (G H : History) (mark : Option Entry) (taken : List ℕ) (clients : List Served)
     → AreJoined P G (events H mark) taken clients
     → Continues (λ i. Has (0 ∷ taken) (number_of i)) (events G None) (events H mark)
-    → IsLegalRun P own_answers G (told_by clients) × (history_made G (told_by clients) ≡ H)
+    → IsLegalRun P own_answers G (told_by clients) × (history_made G (told_by clients) ≡ H) × (faulted (told_by clients) ≡ option_to_list mark)
 legal_together P G H mark taken clients j c =
     let legal = legal_behind P G c.0 clients taken
     (subst (λ l. Each (λ d. AreRight P d.number G l d.told) clients) (sym c.1) j.right) (rising_apart clients j.rising) (subst EndsAtMark (sym c.1) j.ends) c.2 j.known in
-    (legal.0, legal.1 ∙ (ap entries_in c.1 ∙ entries_in-events H mark))
-
--- ---- the output
-
-pub read_back : (P : PlainPolicy) (G : History) (log : List Event) (clients : List Served) → Each (λ c. AreRight P c.number G log c.told) clients
-    → Each (λ c. c.number < 256) clients → Each (λ c. Each (λ t. FitsLine t.answer) c.told) clients
-    → answers_read (map (λ t. t.line) (told_by clients)) (output (told_by clients)) ≡ Some (told_by clients)
-read_back P G log clients right small fits =
-    answers_read-output (told_by clients) (each_told (λ t. FitsLine t.answer) clients fits)
-    (each_told (λ t. t.line.caller.0 < 256) clients
-    (each_both (λ c. c.number < 256) (λ c. AreRight P c.number G log c.told) (λ c. Each (λ t. t.line.caller.0 < 256) c.told)
-    (λ c lt r. each_map (λ t. t.line.caller.0 ≡ c.number) (λ t. t.line.caller.0 < 256) (λ t e. omega (arith, e, lt)) c.told r.callers)
-    clients small right))
+    (legal.0, legal.1 ∙ (ap entries_in c.1 ∙ entries_in-events H mark), legal.2 ∙ (ap marks_in c.1 ∙ marks_in-events H mark))

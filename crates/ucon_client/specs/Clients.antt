@@ -1,12 +1,13 @@
 -- What one client's answers say of the list that its seat has seen, and what all clients were told.
 use Rattle.std.specs.Prelude.{◌≡◌, ◌≢◌, ℕ, ◌+◌, ◌<◌, ◌≤◌, IsTrue, IsSome, Option, Some, None, nat_eq, List, [], ◌∷◌, ◌++◌, length, drop, map}
 use Rattle.std.specs.List.{filter}
-use Rattle.ucon_turn.specs.Lists.{Each as EachOf, Has}
+use Rattle.ucon_base.specs.Elements.{Each}
+use Rattle.ucon_turn.specs.Lists.{Has}
 use Rattle.ucon_model.specs.declared.command.Entry.{Entry}
 use Rattle.ucon_model.specs.Plain.{PlainPolicy}
 use Rattle.ucon_model.specs.Spelling.{reply_spelling}
 use Rattle.ucon_model.specs.History.{History, said, changes, grown}
-use Rattle.ucon_model.specs.LegalRun.{Answer, no_memory, disk_fault, stopped, placed, Answered, Each, IsSaid, AreInOrder, own_answers, recorded, is_disk_fault}
+use Rattle.ucon_model.specs.LegalRun.{Answer, no_memory, disk_fault, stopped, placed, Answered, IsSaid, AreInOrder, own_answers, recorded, is_disk_fault}
 use Rattle.ucon_client.specs.declared.event.Event.{Event}
 use Rattle.ucon_client.specs.Events.{entries_in, marks_in, EndsAtMark, appended}
 
@@ -97,16 +98,16 @@ abbrev pub told_by : List Served → List Answered
 told_by [] = []
 told_by (c ∷ clients) = c.told ++ told_by clients
 
--- the clients' numbers rise
-abbrev pub AreRising : List Served → Type 0
+-- numbers that rise
+abbrev pub AreRising : List ℕ → Type 0
 AreRising [] = Unit {0}
-AreRising (c ∷ clients) = Each (λ d. c.number < d.number) clients × AreRising clients
+AreRising (n ∷ numbers) = Each (λ m. n < m) numbers × AreRising numbers
 
 -- The first seat has taken back the seats of these clients, which have these numbers, and the answers of each are right for the list that
 -- the first seat has seen by then.
 pub record AreJoined (P : PlainPolicy) (G : History) (seen : List Event) (taken : List ℕ) (clients : List Served) : Type 0 where
   pub ends : EndsAtMark seen
   pub right : Each (λ c. AreRight P c.number G seen c.told) clients
-  pub rising : AreRising clients
+  pub rising : AreRising (map (λ c. c.number) clients)
   pub back : Each (λ c. Has taken (c.number + 1)) clients
-  pub known : EachOf (Has (map (λ c. c.number + 1) clients)) taken
+  pub known : Each (Has (map (λ c. c.number + 1) clients)) taken

@@ -5,11 +5,16 @@ use Rattle.ucon_model.specs.History.{History}
 use Rattle.ucon_model.specs.LegalRun.{Answer, no_memory, disk_fault, stopped, placed, tells_change}
 use Rattle.ucon_client.specs.declared.event.Event.{Event}
 use Rattle.ucon_client.specs.declared.event.Event.TheVariants.{Done, Failed}
+use Rattle.ucon_client.specs.Kept.{Kept}
 
 -- the list of a store with this history and this mark
 abbrev pub events : History → Option Entry → List Event
 events H None = map Done H
 events H (Some e) = map Done H ++ Failed e ∷ []
+
+-- the list of a store
+abbrev pub events_of : Kept → List Event
+events_of s = events s.entries s.mark
 
 -- the entries of the history
 abbrev pub entries_in : List Event → History

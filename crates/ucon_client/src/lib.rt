@@ -1,13 +1,23 @@
-//! The lists of many clients of one store, and what follows from them: all answers together are a legal run.
+//! The clients of one store behind a turn, each in a thread of its own, and what follows for their answers: all together are a legal run.
 #![tactic(auto)]
 
+mod answer;
+mod client;
+mod dividing;
 mod event;
+mod gate;
 mod laws;
+mod part;
+mod serving;
+mod step;
+mod store;
 
-pub use event::Event;
-pub use laws::{
-    a_seen_mark_stops, a_step_appends_its_own, a_stores_step_is_one, all_answers_are_a_legal_run,
-    all_answers_are_read_back, faults_are_marked, new_clients_have_no_answers,
-    no_seat_is_taken_back_yet, one_more_line_is_answered, one_more_seat_is_taken_back,
-    others_change_no_answer, the_next_line_is_answered,
-};
+pub use answer::Answer;
+pub use client::Client;
+pub use dividing::divide;
+pub use event::{Base, Event};
+pub use gate::{Gate, OpenGate};
+pub use laws::{a_seen_mark_stops, faults_are_marked};
+pub use part::Part;
+pub use serving::{serve, serve_all};
+pub use store::{Keeper, Placed, StepFault, Store};
