@@ -12,7 +12,7 @@ use crate::watched::Watched;
 use std::alloc::Global;
 use ucon_actions::{accessing, is_accessing, revoke, session};
 use ucon_base::{Name, NoMemory, Rows, Steps};
-use ucon_eval::failing;
+use ucon_eval::{failing, typed_tests_make_no_set};
 use ucon_model::Revoked;
 use ucon_state::State;
 
@@ -21,6 +21,7 @@ fn fails_at(state: &State, n: u32, steps: &mut Steps) -> Option<Name>
     requires { IsFollowing (shown state.now) }
     ensures { AfterEach (shown state.now) (λ P T. fails_at P T n ≡ result) }
 {
+    typed_tests_make_no_set();
     let row = session(state, n)?;
     if !is_accessing(row.state) {
         return None;
