@@ -26,6 +26,7 @@ pub mod Cascades
 pub mod WithinAndLasts
 pub mod Lines
 pub mod Documents
+mod GeneratedDocument
 pub mod FirstFaults
 pub mod Written
 pub mod TypedParts

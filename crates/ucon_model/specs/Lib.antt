@@ -30,3 +30,4 @@ pub mod Forms
 pub mod Grammar
 pub mod Spells
 pub mod Limits
+pub mod Generated
