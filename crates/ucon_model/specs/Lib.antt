@@ -31,3 +31,4 @@ pub mod Grammar
 pub mod Spells
 pub mod Limits
 pub mod Generated
+pub mod Summary
