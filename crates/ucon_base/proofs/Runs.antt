@@ -182,7 +182,7 @@ cause told (BadSpelling p) h = h
 cause told (TooLong p) h = h
 cause told (TooMany n) h = h
 cause told OutOfRange h = h
-cause told NoMemory h = tt
+cause told (NoMemory e) h = tt
 
 pub told_is : {A : Type 0} (r told : Result A ValueFault) → r ≡ told → MatchResult r (λ v. told ≡ Ok v) (IsCause told)
 told_is (Ok v) told h = sym h

@@ -1,7 +1,8 @@
 -- The members of a set as its reader keeps them.
-use Rattle.std.specs.Prelude.{ℕ, ◌+◌, List, [], ◌∷◌, Option, Some, None, Result, Ok, IsTrue, ⊤, map, ◌==◌, if◌then◌else◌}
+use Rattle.std.specs.Prelude.{ℕ, ◌+◌, List, [], ◌∷◌, Option, Some, None, Result, Ok, IsTrue, map, ◌==◌, if◌then◌else◌}
 use Rattle.ucon_base.specs.declared.members.Quoted.{Quoted}
 use Rattle.ucon_base.specs.declared.value_fault.ValueFault.{ValueFault}
+use Rattle.ucon_base.specs.Elements.{Each}
 use Rattle.ucon_base.specs.TextBytes.{is_text}
 use Rattle.ucon_base.specs.Reading.{Member, awaiting, members}
 
@@ -25,5 +26,4 @@ awaited last at (Some more) = members last awaiting (at + 1) more
 
 -- the bytes of each are a text
 abbrev pub EachIsText : List Quoted → Type 0
-EachIsText [] = ⊤
-EachIsText (q ∷ qs) = IsTrue (is_text q.text.now) × EachIsText qs
+EachIsText qs = Each (λ q. IsTrue (is_text q.text.now)) qs

@@ -160,5 +160,5 @@ value_read (b ∷ bs) = if b == 34 then text_read bs else if b == 123 then set_r
 
 -- what is said is the fault, unless it is want of memory
 abbrev pub IsCause : {A : Type 0} → Result A ValueFault → ValueFault → Type 0
-IsCause said NoMemory = ⊤
+IsCause said (NoMemory e) = ⊤
 IsCause said f = said ≡ Err f

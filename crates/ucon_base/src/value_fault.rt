@@ -17,25 +17,26 @@ pub enum ValueFault {
     TooMany(usize),
     /// An integer outside -10^15 to 10^15.
     OutOfRange,
-    NoMemory,
+    NoMemory(NoMemory),
 }
 
 impl From<NoMemory> for ValueFault {
     ghost use Rattle.ucon_base.specs.declared.value_fault.ValueFault.TheVariants as faults;
 
-    ghost from_gives = { λ _ f. f ≡ faults.NoMemory };
+    ghost from_gives = { λ e f. f ≡ faults.NoMemory e };
 
-    fn from(_e: NoMemory) -> ValueFault {
-        ValueFault::NoMemory
+    fn from(e: NoMemory) -> ValueFault {
+        ValueFault::NoMemory(e)
     }
 }
 
 impl<T: Drop> From<AllocFailed<T>> for ValueFault {
     ghost use Rattle.ucon_base.specs.declared.value_fault.ValueFault.TheVariants as faults;
+    ghost use Rattle.ucon_base.specs.Memory.{out_of_memory};
 
-    ghost from_gives = { λ _ f. f ≡ faults.NoMemory };
+    ghost from_gives = { λ _ f. f ≡ faults.NoMemory out_of_memory };
 
-    fn from(_e: AllocFailed<T>) -> ValueFault {
-        ValueFault::NoMemory
+    fn from(e: AllocFailed<T>) -> ValueFault {
+        ValueFault::NoMemory(NoMemory::from(e))
     }
 }

@@ -27,7 +27,7 @@ told_first (Some f) b c is = is
 
 -- an answer of the first fault is one of the whole
 pub answers_first : (a b : Option TypeFault) (e : CheckFault) → IsTold (option_map told a) e → IsTold (option_map told (option_or a b)) e
-answers_first a b NoMemory h = tt
+answers_first a b (NoMemory e) h = tt
 answers_first a b (Twice name n) h = told_first a b (Twice name n) h
 answers_first a b (NoName name n) h = told_first a b (NoName name n) h
 answers_first a b (WrongReader n) h = told_first a b (WrongReader n) h

@@ -16,7 +16,7 @@ told (too_many_cells right count) = TooManyCells right (told_number count)
 
 -- where this is the fault as it is told, an answer other than want of memory is that fault
 abbrev pub IsTold : Option CheckFault → CheckFault → Type 0
-IsTold fault NoMemory = Unit {0}
+IsTold fault (NoMemory e) = Unit {0}
 IsTold fault answer = fault ≡ Some answer
 
 -- where this is the fault, or there is none: Ok where there is none, else the fault as it is told, or want of memory

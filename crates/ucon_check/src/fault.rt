@@ -21,16 +21,16 @@ pub enum CheckFault {
     NotCore(Name),
     /// The ongoing predicates of the right of this name read so many distinct places, more than 32.
     TooManyCells(Name, u32),
-    NoMemory,
+    NoMemory(NoMemory),
 }
 
 impl From<NoMemory> for CheckFault {
     ghost use Rattle.ucon_check.specs.declared.fault.CheckFault.TheVariants.{NoMemory as Memory};
 
-    ghost from_gives = { λ e fault. fault ≡ Memory };
+    ghost from_gives = { λ e fault. fault ≡ Memory e };
 
-    fn from(_e: NoMemory) -> CheckFault {
-        CheckFault::NoMemory
+    fn from(e: NoMemory) -> CheckFault {
+        CheckFault::NoMemory(e)
     }
 }
 

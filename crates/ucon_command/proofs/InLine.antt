@@ -25,7 +25,7 @@ use Rattle.ucon_model.specs.declared.reply.Refusal.TheVariants.{NotAdmin, NoRigh
 use Rattle.ucon_model.specs.declared.reply.Revoked.{Revoked}
 use Rattle.ucon_model.specs.declared.session.SessionState.{SessionState}
 use Rattle.ucon_model.specs.declared.session.SessionState.TheVariants as states
-use Rattle.ucon_model.specs.LegalRun.{Each}
+use Rattle.ucon_base.specs.Elements.{Each}
 use Rattle.ucon_model.specs.Output.{Lacks}
 use Rattle.ucon_model.specs.Plain.{Bytes, PlainReply, refused, made, value_is, status}
 use Rattle.ucon_model.specs.ReplyText.{IsLabelled, IsHead, IsReply}

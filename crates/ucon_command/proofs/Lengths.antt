@@ -1,4 +1,4 @@
--- How long a command's text is at the most.
+-- How long the texts of a command and of a reply are at the most.
 use Rattle.std.proofs.Common.{◌≡◌, ℕ, suc, ◌+◌, ◌*◌, ◌≤◌, ◌<◌, ◌^◌, true, List, [], ◌∷◌, ◌++◌, length, refl, arith, length-append}
 use Rattle.std.specs.Prelude.{ℤ, pos, negsuc, nat_le, nat_lt, ◌&&◌, is_none, codes}
 use Rattle.std.specs.Fmt.{decimal, signed_decimal}
@@ -18,8 +18,18 @@ use Rattle.ucon_base.specs.Value.{is_rising}
 use Rattle.ucon_model.specs.declared.command.Command.{Command}
 use Rattle.ucon_model.specs.declared.command.Command.TheVariants.{Subject, Object, Set as Set', Env, Tick, Act, Try, Again, Beat, End, Look, Value as Value'}
 use Rattle.ucon_model.specs.CommandLine.{side_word, command_spelling, IsCommand}
-use Rattle.ucon_model.specs.LegalRun.{Each}
-use Rattle.ucon_model.specs.Plain.{Bytes}
+use Rattle.ucon_base.specs.Elements.{Each}
+use Rattle.ucon_model.specs.declared.reply.Head.{Head}
+use Rattle.ucon_model.specs.declared.reply.Head.TheVariants as heads
+use Rattle.ucon_model.specs.declared.reply.Refusal.{Refusal}
+use Rattle.ucon_model.specs.declared.reply.Refusal.TheVariants.{NotAdmin, NoRight, NoSubject, NoObject, NoAttribute, NoVariable, NoAct, NoSession, NotYours, NotAccessing, NotRequesting, AlreadyThere, BadValue, TickBack, FullSubjects, FullObjects, FullActs, FullSessions, FullAccessing}
+use Rattle.ucon_model.specs.declared.reply.Revoked.{Revoked}
+use Rattle.ucon_model.specs.declared.session.SessionState.{SessionState}
+use Rattle.ucon_model.specs.declared.session.SessionState.TheVariants as states
+use Rattle.ucon_model.specs.Plain.{Bytes, PlainReply, refused, made, value_is, status}
+use Rattle.ucon_model.specs.ReplyText.{IsLabelled, IsHead, IsReply}
+use Rattle.ucon_model.specs.Spelling.{refusal_words, state_word, head_spelling, revoked_spelling, reply_spelling}
+use Rattle.ucon_command.specs.Payloads.{most_reply}
 use Rattle.ucon_command.proofs.Joined.{join}
 
 length-name : (name : Bytes) → is_name name ≡ true → length name ≤ 32
@@ -95,3 +105,66 @@ short (Beat n) h = one (codes "beat") (decimal n) refl (omega (arith, length-num
 short (End n) h = one (codes "end") (decimal n) refl (omega (arith, length-number n h))
 short (Look n) h = one (codes "look") (decimal n) refl (omega (arith, length-number n h))
 short (Value' side name attr) h = three (codes "value") (side_word side) name attr refl (length-side side) (length-name name h.0) (length-name attr h.1)
+
+-- ---- replies
+
+length-refusal : (r : Refusal) → length (refusal_words r) ≤ 15
+length-refusal NotAdmin = omega arith
+length-refusal NoRight = omega arith
+length-refusal NoSubject = omega arith
+length-refusal NoObject = omega arith
+length-refusal NoAttribute = omega arith
+length-refusal NoVariable = omega arith
+length-refusal NoAct = omega arith
+length-refusal NoSession = omega arith
+length-refusal NotYours = omega arith
+length-refusal NotAccessing = omega arith
+length-refusal NotRequesting = omega arith
+length-refusal AlreadyThere = omega arith
+length-refusal BadValue = omega arith
+length-refusal TickBack = omega arith
+length-refusal FullSubjects = omega arith
+length-refusal FullObjects = omega arith
+length-refusal FullActs = omega arith
+length-refusal FullSessions = omega arith
+length-refusal FullAccessing = omega arith
+
+length-state : (s : SessionState) → length (state_word s) ≤ 10
+length-state states.Requesting = omega arith
+length-state states.Denied = omega arith
+length-state states.Accessing = omega arith
+length-state states.Revoked = omega arith
+length-state states.Ended = omega arith
+
+length-session : (n : ℕ) → n < 2 ^ 32 → length (decimal n) ≤ 10
+length-session n lt = length-decimal-le 10 n (omega arith) (omega (arith, lt)) (omega (arith, lt))
+
+length-numbered : (word : Bytes) (n : ℕ) → n < 2 ^ 32 → length (word ++ decimal n) ≤ length word + 10
+length-numbered word n lt = omega (arith, length-session n lt, length-append word (decimal n))
+
+length-labelled : (word : Bytes) (n : ℕ) (label : Bytes) → IsLabelled n label → length (word ++ decimal n ++ 32 ∷ label) ≤ length word + 43
+length-labelled word n label h = omega (arith, length-numbered word n h.0, length-name label h.1, length-append (word ++ decimal n) (32 ∷ label))
+
+length-head : (head : Head) → IsHead head → length (head_spelling head) ≤ 51
+length-head heads.Ok h = omega arith
+length-head (heads.Permitted n) h = omega (arith, length-numbered (codes "permitted ") n h)
+length-head (heads.Denied n label) h = omega (arith, length-labelled (codes "denied ") n label h)
+length-head (heads.Waiting n label) h = omega (arith, length-labelled (codes "waiting ") n label h)
+length-head (heads.Ended n) h = omega (arith, length-numbered (codes "ended ") n h)
+
+length-revoked : (rs : List Revoked) → Each (λ r. IsLabelled r.session r.label) rs → length (revoked_spelling rs) ≤ 52 * length rs
+length-revoked [] h = omega arith
+length-revoked (r ∷ rs) h =
+    omega (
+      arith,
+      length-labelled (codes " revoked ") r.session r.label h.0,
+      length-revoked rs h.1,
+      length-append (codes " revoked " ++ decimal r.session ++ 32 ∷ r.label) (revoked_spelling rs),
+    )
+
+pub reply_short : (r : PlainReply) → IsReply r → length (reply_spelling r) ≤ most_reply r
+reply_short (refused r) h = omega (arith, length-refusal r)
+reply_short (made head revoked) h = omega (arith, length-head head h.0, length-revoked revoked h.1, length-append (head_spelling head) (revoked_spelling revoked))
+reply_short (value_is v) h = omega (arith, length-value v h, length-append (codes "value ") (value_spelling v))
+reply_short (status n state) h =
+    omega (arith, length-numbered (codes "status ") n h, length-state state, length-append (codes "status " ++ decimal n) (32 ∷ state_word state))

@@ -1,7 +1,9 @@
 pub mod Cuts
+pub mod Histories
 pub mod InLine
 pub mod Joined
 pub mod Lengths
+pub mod Payloads
 pub mod ReadLines
 pub mod ReadReplies
 pub mod Revoked

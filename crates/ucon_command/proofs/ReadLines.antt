@@ -15,7 +15,7 @@ use Rattle.ucon_base.proofs.Values.{value_back}
 use Rattle.ucon_model.specs.declared.command.Command.{Command}
 use Rattle.ucon_model.specs.declared.command.Command.TheVariants.{Subject, Object, Set, Env, Tick, Act, Try, Again, Beat, End, Look, Value as Value'}
 use Rattle.ucon_model.specs.CommandLine.{side_word, command_spelling, IsCommand, placed, side_in, name_in, value_in, integer_in, number_in, one_word, names_of, three_names, place_of, value_words, set_of, set_words, env_of, env_words, command_read, words_read, line_read}
-use Rattle.ucon_model.specs.LegalRun.{Each}
+use Rattle.ucon_base.specs.Elements.{Each}
 use Rattle.ucon_model.specs.Output.{Lacks}
 use Rattle.ucon_model.specs.Plain.{Bytes}
 use Rattle.ucon_model.proofs.Lacking.{lacks-tested, lacks-decimal, lacks-name}

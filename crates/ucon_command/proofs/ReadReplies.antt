@@ -16,7 +16,7 @@ use Rattle.ucon_model.specs.declared.reply.Revoked.{Revoked}
 use Rattle.ucon_model.specs.declared.session.SessionState.{SessionState}
 use Rattle.ucon_model.specs.declared.session.SessionState.TheVariants as states
 use Rattle.ucon_model.specs.CommandLine.{placed}
-use Rattle.ucon_model.specs.LegalRun.{Each}
+use Rattle.ucon_base.specs.Elements.{Each, each_append}
 use Rattle.ucon_model.specs.Output.{Lacks}
 use Rattle.ucon_model.specs.Plain.{Bytes, PlainReply, refused, made, value_is, status}
 use Rattle.ucon_model.specs.ReplyText.{IsLabelled, IsHead, IsReply, refusal_read, state_read, labelled_read, one_revoked, revoked_read, made_read, numbered_reply, labelled_reply, value_reply, status_of, status_reply, told_read, reply_read}
@@ -120,19 +120,15 @@ head_lacks (heads.Denied n label) h = (lacks-tested 32 (codes "denied") refl, (n
 head_lacks (heads.Waiting n label) h = (lacks-tested 32 (codes "waiting") refl, (number_lacks n h.0, (name_lacks label h.1, tt)))
 head_lacks (heads.Ended n) h = (lacks-tested 32 (codes "ended") refl, (number_lacks n h, tt))
 
-each_append : (ws vs : List Bytes) → Each (Lacks 32) ws → Each (Lacks 32) vs → Each (Lacks 32) (ws ++ vs)
-each_append [] vs h k = k
-each_append (w ∷ ws) vs h k = (h.0, each_append ws vs h.1 k)
-
 cut : (w : Bytes) (ws : List Bytes) (bytes : Bytes) → join (w ∷ ws) ≡ bytes → Each (Lacks 32) (w ∷ ws) → split bytes ≡ w ∷ ws
 cut w ws bytes is h = ap split (sym is) ∙ split-join w ws h
 
 made_split : (head : Head) (rs : List Revoked) → IsHead head → Each (λ r. IsLabelled r.session r.label) rs → split (head_spelling head ++ revoked_spelling rs) ≡ head_words head ++ revoked_words rs
-made_split heads.Ok rs h k = cut _ _ _ (made_joined heads.Ok rs) (each_append (head_words heads.Ok) (revoked_words rs) (head_lacks heads.Ok h) (revoked_lack rs k))
-made_split (heads.Permitted n) rs h k = cut _ _ _ (made_joined (heads.Permitted n) rs) (each_append (head_words (heads.Permitted n)) (revoked_words rs) (head_lacks (heads.Permitted n) h) (revoked_lack rs k))
-made_split (heads.Denied n label) rs h k = cut _ _ _ (made_joined (heads.Denied n label) rs) (each_append (head_words (heads.Denied n label)) (revoked_words rs) (head_lacks (heads.Denied n label) h) (revoked_lack rs k))
-made_split (heads.Waiting n label) rs h k = cut _ _ _ (made_joined (heads.Waiting n label) rs) (each_append (head_words (heads.Waiting n label)) (revoked_words rs) (head_lacks (heads.Waiting n label) h) (revoked_lack rs k))
-made_split (heads.Ended n) rs h k = cut _ _ _ (made_joined (heads.Ended n) rs) (each_append (head_words (heads.Ended n)) (revoked_words rs) (head_lacks (heads.Ended n) h) (revoked_lack rs k))
+made_split heads.Ok rs h k = cut _ _ _ (made_joined heads.Ok rs) (each_append (Lacks 32) (head_words heads.Ok) (revoked_words rs) (head_lacks heads.Ok h) (revoked_lack rs k))
+made_split (heads.Permitted n) rs h k = cut _ _ _ (made_joined (heads.Permitted n) rs) (each_append (Lacks 32) (head_words (heads.Permitted n)) (revoked_words rs) (head_lacks (heads.Permitted n) h) (revoked_lack rs k))
+made_split (heads.Denied n label) rs h k = cut _ _ _ (made_joined (heads.Denied n label) rs) (each_append (Lacks 32) (head_words (heads.Denied n label)) (revoked_words rs) (head_lacks (heads.Denied n label) h) (revoked_lack rs k))
+made_split (heads.Waiting n label) rs h k = cut _ _ _ (made_joined (heads.Waiting n label) rs) (each_append (Lacks 32) (head_words (heads.Waiting n label)) (revoked_words rs) (head_lacks (heads.Waiting n label) h) (revoked_lack rs k))
+made_split (heads.Ended n) rs h k = cut _ _ _ (made_joined (heads.Ended n) rs) (each_append (Lacks 32) (head_words (heads.Ended n)) (revoked_words rs) (head_lacks (heads.Ended n) h) (revoked_lack rs k))
 
 made_told : (bytes : Bytes) (head : Head) (rs : List Revoked) → IsHead head → Each (λ r. IsLabelled r.session r.label) rs → told_read bytes (placed 0 (head_words head ++ revoked_words rs)) ≡ Some (made head rs)
 unfolding told_read made_read numbered_reply labelled_reply
@@ -180,4 +176,4 @@ reply_back (status n state) h = status_back n state h
 -- bytes that aren't read are no reply's text
 pub unread : (bytes : Bytes) (f : ReplyFault) → IsUnread (reply_read bytes) f → IsNoReply bytes f
 unread bytes BadReply none = λ (r, told). false≢true (ap is_some (sym none ∙ ap reply_read (sym told.1) ∙ reply_back r told.0))
-unread bytes NoMemory h = tt
+unread bytes (NoMemory e) h = tt

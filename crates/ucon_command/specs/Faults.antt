@@ -15,14 +15,14 @@ IsRefusal said NoWord = said ≡ Err no_word
 IsRefusal said UnknownWord = said ≡ Err unknown_word
 IsRefusal said (WrongCount n) = said ≡ Err (wrong_count n)
 IsRefusal said (BadWord place) = said ≡ Err (bad_word place)
-IsRefusal said NoMemory = ⊤
+IsRefusal said (NoMemory e) = ⊤
 
 -- nothing is read, unless it is want of memory
 abbrev pub IsUnread : {A : Type 0} → Option A → ReplyFault → Type 0
 IsUnread read replies.BadReply = read ≡ None
-IsUnread read replies.NoMemory = ⊤
+IsUnread read (replies.NoMemory e) = ⊤
 
 -- the bytes are no reply's text, unless it is want of memory
 abbrev pub IsNoReply : Bytes → ReplyFault → Type 0
 IsNoReply bytes replies.BadReply = IsReplyText bytes → ⊥
-IsNoReply bytes replies.NoMemory = ⊤
+IsNoReply bytes (replies.NoMemory e) = ⊤

@@ -25,7 +25,7 @@ pub fn command_text(alloc: Global, command: &Command) -> Result<Vec<u8>, NoMemor
 }
 
 #[tactic(auto, unfolding(ucon_model::specs::CommandLine::command_spelling))]
-fn put_command(alloc: Global, out: &mut Vec<u8>, command: &Command) -> Result<(), NoMemory>
+pub fn put_command(alloc: Global, out: &mut Vec<u8>, command: &Command) -> Result<(), NoMemory>
     ensures { OnOk result (out.new.items ≡ out.old.items ++ command_spelling command.now) }
 {
     match command {

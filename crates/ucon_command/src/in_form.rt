@@ -7,7 +7,7 @@ ghost use Rattle.ucon_base.specs.NameBytes.{is_name};
 ghost use Rattle.ucon_base.specs.Numbers.{InRange};
 ghost use Rattle.ucon_base.specs.TextBytes.{is_text};
 ghost use Rattle.ucon_model.specs.CommandLine.{IsCommand};
-ghost use Rattle.ucon_model.specs.LegalRun.{Each};
+ghost use Rattle.ucon_base.specs.Elements.{Each};
 ghost use Rattle.ucon_model.specs.ReplyText.{IsLabelled, IsHead, IsReply};
 ghost use Rattle.ucon_model.specs.Views.{reply_of};
 

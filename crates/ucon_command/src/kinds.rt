@@ -35,7 +35,7 @@ pub fn value_in(alloc: Global, bytes: &[u8]) -> Result<Option<Value>, NoMemory>
 {
     match Value::read(alloc, bytes) {
         Ok(v) => Ok(Some(v)),
-        Err(ValueFault::NoMemory) => Err(NoMemory),
+        Err(ValueFault::NoMemory(refused)) => Err(refused),
         Err(_) => Ok(None),
     }
 }

@@ -1,12 +1,20 @@
 //! Laws of the definitions. A law is a function without parameters that does nothing: its contract is what is proved.
 
-ghost use Rattle.std.specs.Prelude.{◌≡◌, ◌≤◌, ℕ, List, length, Ok, Some};
+ghost use Rattle.std.specs.Prelude.{◌≡◌, ◌<◌, ◌≤◌, ◌∷◌, [], ◌++◌, ◌&&◌, ℕ, List, Option, length, Ok, Err, Some, None, IsTrue, if◌then◌else◌};
+ghost use Rattle.std.specs.Str.{bytes_eq};
+ghost use Rattle.ucon_model.specs.declared.command.Entry.{Entry};
 ghost use Rattle.ucon_model.specs.declared.command.Command.{Command};
 ghost use Rattle.ucon_model.specs.CommandLine.{IsCommand, command_spelling, line_read};
+ghost use Rattle.ucon_model.specs.Found.{found_in, first_gate, gate_behind, holds, payloads_of, taken};
+ghost use Rattle.ucon_model.specs.History.{History, IsProper, changes, said};
 ghost use Rattle.ucon_model.specs.Output.{Lacks};
-ghost use Rattle.ucon_model.specs.Plain.{PlainReply};
+ghost use Rattle.ucon_model.specs.Payload.{Told, entry_told, most_payload, payload_read, payload_spelling, told};
+ghost use Rattle.ucon_model.specs.Plain.{Bytes, PlainPolicy, PlainReply};
 ghost use Rattle.ucon_model.specs.ReplyText.{IsReply, reply_read};
 ghost use Rattle.ucon_model.specs.Spelling.{reply_spelling};
+ghost use Rattle.ucon_command.specs.Payloads.{AreSteps, IsStep, most_told};
+
+use ucon_model::texts_tell_changes;
 
 /// Each command's text is read as the command, and a line that is read is the text of the command read. No text of a command has a
 /// newline.
@@ -22,3 +30,36 @@ pub fn replies_are_read_back()
     ensures written { (r : PlainReply) → IsReply r → reply_read (reply_spelling r) ≡ Some r }
     ensures read { (bytes : List ℕ) (r : PlainReply) → reply_read bytes ≡ Some r → reply_spelling r ≡ bytes }
 {}
+
+/// Each step's payload is read as the step, and bytes that are read are the payload of the step read. Every payload fits its record.
+pub fn payloads_are_read_back()
+    ensures written { (t : Told) → IsStep t → payload_read (payload_spelling t) ≡ Ok t }
+    ensures read { (bytes : Bytes) (t : Told) → payload_read bytes ≡ Ok t → (payload_spelling t ≡ bytes) × (t.caller.0 < 64) }
+    ensures short { (t : Told) → IsStep t → length (payload_spelling t) ≤ most_told t.reply }
+    ensures fits { (t : Told) → IsStep t → length (payload_spelling t) ≤ most_payload }
+{}
+
+/// A payload is taken exactly where it is the one that the serial run spells, and its reply changes something.
+pub fn steps_are_taken_as_spelled()
+    ensures taken { (P : PlainPolicy) (H : History) (payload : Bytes) (t : Told) → length payload ≤ most_payload → payload_read payload ≡ Ok t
+        → let reply = said P H t.caller t.command in
+        taken P H payload ≡ (if changes reply && bytes_eq (payload_spelling (told (entry_told t) reply)) payload then Some (H ++ entry_told t ∷ []) else None) }
+    ensures unread { (P : PlainPolicy) (H : History) (payload : Bytes) (place : ℕ) → payload_read payload ≡ Err place → taken P H payload ≡ None }
+    ensures long { (P : PlainPolicy) (H : History) (payload : Bytes) → most_payload < length payload → taken P H payload ≡ None }
+    ensures next { (P : PlainPolicy) (H : History) (e : Entry) → IsStep (told e (said P H e.caller e.command)) → IsTrue (changes (said P H e.caller e.command))
+        → taken P H (payload_spelling (told e (said P H e.caller e.command))) ≡ Some (H ++ e ∷ []) }
+{
+    texts_tell_changes();
+}
+
+/// What is found in a proper history's payloads is that history, and payloads in which a history is found are that history's.
+pub fn histories_are_found()
+    ensures written { (reads : Bytes → Option PlainPolicy) (text : Bytes) (P : PlainPolicy) (H : History)
+        → reads text ≡ Some P → length text ≤ most_payload → IsProper P H → AreSteps P [] H
+        → found_in reads (payloads_of text P H) ≡ holds text P H (gate_behind first_gate (payloads_of text P H)) }
+    ensures read { (reads : Bytes → Option PlainPolicy) (payloads : List Bytes) (text : Bytes) (P : PlainPolicy) (H : History) (gate : ℕ)
+        → found_in reads payloads ≡ holds text P H gate
+        → (payloads ≡ payloads_of text P H) × (gate ≡ gate_behind first_gate payloads) × (reads text ≡ Some P) × IsProper P H }
+{
+    texts_tell_changes();
+}

@@ -8,6 +8,8 @@ mod kinds;
 mod laws;
 mod line_fault;
 mod lines;
+mod payload;
+mod payload_fault;
 mod reading;
 mod replies;
 mod reply_fault;
@@ -17,9 +19,14 @@ mod tests;
 mod words;
 
 pub use commands::command_text;
-pub use laws::{commands_are_read_back, replies_are_read_back};
+pub use laws::{
+    commands_are_read_back, histories_are_found, payloads_are_read_back, replies_are_read_back,
+    steps_are_taken_as_spelled,
+};
 pub use line_fault::LineFault;
 pub use lines::read_command;
+pub use payload::{payload_text, read_payload};
+pub use payload_fault::PayloadFault;
 pub use reading::read_reply;
 pub use replies::reply_text;
 pub use reply_fault::ReplyFault;

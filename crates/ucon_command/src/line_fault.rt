@@ -18,25 +18,26 @@ pub enum LineFault {
     WrongCount(usize),
     /// The leftmost word that is refused, with its place.
     BadWord(usize),
-    NoMemory,
+    NoMemory(NoMemory),
 }
 
 impl From<NoMemory> for LineFault {
     ghost use Rattle.ucon_command.specs.declared.line_fault.LineFault.TheVariants as faults;
 
-    ghost from_gives = { λ _ f. f ≡ faults.NoMemory };
+    ghost from_gives = { λ e f. f ≡ faults.NoMemory e };
 
-    fn from(_e: NoMemory) -> LineFault {
-        LineFault::NoMemory
+    fn from(e: NoMemory) -> LineFault {
+        LineFault::NoMemory(e)
     }
 }
 
 impl<T: Drop> From<AllocFailed<T>> for LineFault {
     ghost use Rattle.ucon_command.specs.declared.line_fault.LineFault.TheVariants as faults;
+    ghost use Rattle.ucon_base.specs.Memory.{out_of_memory};
 
-    ghost from_gives = { λ _ f. f ≡ faults.NoMemory };
+    ghost from_gives = { λ _ f. f ≡ faults.NoMemory out_of_memory };
 
-    fn from(_e: AllocFailed<T>) -> LineFault {
-        LineFault::NoMemory
+    fn from(e: AllocFailed<T>) -> LineFault {
+        LineFault::NoMemory(NoMemory::from(e))
     }
 }

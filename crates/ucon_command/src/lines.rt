@@ -1,6 +1,6 @@
 //! Reads a command from its line.
 
-ghost use Rattle.std.specs.Prelude.{◌≡◌, map, IfOk, MatchResult};
+ghost use Rattle.std.specs.Prelude.{◌≡◌, ◌<◌, length, map, Err, IfOk, MatchResult};
 ghost use Rattle.ucon_model.specs.CommandLine.{command_spelling, command_read, line_read};
 ghost use Rattle.ucon_command.specs.Words.{word_of, BeginWithin};
 ghost use Rattle.ucon_command.specs.Faults.{IsRefusal};
@@ -13,18 +13,20 @@ use crate::words::{Word, words};
 use std::alloc::Global;
 use ucon_model::Command;
 
-/// The command whose text a line is, or the first refusal.
+/// The command whose text a line is, or the first refusal. A line of more than 8192 bytes is refused before any memory is taken.
 #[tactic(auto, using(crate::proofs::SpelledLines::command_is))]
 pub fn read_command(alloc: Global, line: &[u8]) -> Result<Command, LineFault>
     ensures read { MatchResult result (λ c. line_read line.now ≡ Ok c) (IsRefusal (line_read line.now)) }
     ensures spelled { IfOk result (λ c. command_spelling c ≡ line.now) }
+    ensures long { 8192 < length line.now → result ≡ Err (LineFault.TooLong (length line.now)) }
 {
     line_command(alloc, line)
 }
 
 #[tactic(auto, unfolding(ucon_model::specs::CommandLine::line_read))]
 fn line_command(alloc: Global, line: &[u8]) -> Result<Command, LineFault>
-    ensures { MatchResult result (λ c. line_read line.now ≡ Ok c) (IsRefusal (line_read line.now)) }
+    ensures long { 8192 < length line.now → result ≡ Err (LineFault.TooLong (length line.now)) }
+    ensures read { MatchResult result (λ c. line_read line.now ≡ Ok c) (IsRefusal (line_read line.now)) }
 {
     if line.len() > 8192 {
         return Err(LineFault::TooLong(line.len()));

@@ -1,11 +1,12 @@
 //! Replies as text.
 
-ghost use Rattle.std.specs.Prelude.{◌≡◌, ◌++◌, ◌∷◌, IfOk, OnOk, Some};
+ghost use Rattle.std.specs.Prelude.{◌≡◌, ◌≤◌, ◌++◌, ◌∷◌, length, IfOk, OnOk, Some};
 ghost use Rattle.std.specs.Fmt.{decimal};
 ghost use Rattle.ucon_model.specs.Output.{Lacks};
 ghost use Rattle.ucon_model.specs.ReplyText.{reply_read};
 ghost use Rattle.ucon_model.specs.Spelling.{refusal_words, state_word, head_spelling, revoked_spelling, reply_spelling};
 ghost use Rattle.ucon_model.specs.Views.{reply_of};
+ghost use Rattle.ucon_command.specs.Payloads.{most_reply};
 
 use crate::in_form::reply_in_form;
 use crate::spelling::{put_name, put_session, put_value, put_word};
@@ -16,12 +17,13 @@ use ucon_model::{Head, Refusal, Reply, Revoked, SessionState};
 /// Most replies that revoke nobody have no more.
 const LIKELY_BYTES: usize = 48;
 
-/// The one text of a reply, which has no newline in it.
-#[tactic(auto, using(crate::proofs::InLine::reply_in_line, crate::proofs::ReadReplies::reply_back))]
+/// The one text of a reply, which has no newline in it: at most 4306 bytes, and 52 for each revocation.
+#[tactic(auto, using(crate::proofs::InLine::reply_in_line, crate::proofs::Lengths::reply_short, crate::proofs::ReadReplies::reply_back))]
 pub fn reply_text(alloc: Global, reply: &Reply) -> Result<Vec<u8>, NoMemory>
     ensures text { IfOk result (λ t. t.items ≡ reply_spelling (reply_of reply.now)) }
     ensures read_back { reply_read (reply_spelling (reply_of reply.now)) ≡ Some (reply_of reply.now) }
     ensures one_line { Lacks 10 (reply_spelling (reply_of reply.now)) }
+    ensures short { length (reply_spelling (reply_of reply.now)) ≤ most_reply (reply_of reply.now) }
 {
     reply_in_form(reply);
     let mut text = Vec::with_capacity(alloc, LIKELY_BYTES)?;
@@ -29,7 +31,7 @@ pub fn reply_text(alloc: Global, reply: &Reply) -> Result<Vec<u8>, NoMemory>
     Ok(text)
 }
 
-fn put_reply(alloc: Global, out: &mut Vec<u8>, reply: &Reply) -> Result<(), NoMemory>
+pub fn put_reply(alloc: Global, out: &mut Vec<u8>, reply: &Reply) -> Result<(), NoMemory>
     ensures { OnOk result (out.new.items ≡ out.old.items ++ reply_spelling (reply_of reply.now)) }
 {
     match reply {

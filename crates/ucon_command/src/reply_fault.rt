@@ -9,25 +9,26 @@ use ucon_base::NoMemory;
 pub enum ReplyFault {
     /// The bytes are no reply's text.
     BadReply,
-    NoMemory,
+    NoMemory(NoMemory),
 }
 
 impl From<NoMemory> for ReplyFault {
     ghost use Rattle.ucon_command.specs.declared.reply_fault.ReplyFault.TheVariants as faults;
 
-    ghost from_gives = { λ _ f. f ≡ faults.NoMemory };
+    ghost from_gives = { λ e f. f ≡ faults.NoMemory e };
 
-    fn from(_e: NoMemory) -> ReplyFault {
-        ReplyFault::NoMemory
+    fn from(e: NoMemory) -> ReplyFault {
+        ReplyFault::NoMemory(e)
     }
 }
 
 impl<T: Drop> From<AllocFailed<T>> for ReplyFault {
     ghost use Rattle.ucon_command.specs.declared.reply_fault.ReplyFault.TheVariants as faults;
+    ghost use Rattle.ucon_base.specs.Memory.{out_of_memory};
 
-    ghost from_gives = { λ _ f. f ≡ faults.NoMemory };
+    ghost from_gives = { λ _ f. f ≡ faults.NoMemory out_of_memory };
 
-    fn from(_e: AllocFailed<T>) -> ReplyFault {
-        ReplyFault::NoMemory
+    fn from(e: AllocFailed<T>) -> ReplyFault {
+        ReplyFault::NoMemory(NoMemory::from(e))
     }
 }

@@ -1,7 +1,7 @@
 use super::*;
 use std::test::Fail;
 use ucon_base::{Name, Rows, Side, Value};
-use ucon_model::{Command, Head, Refusal, Reply, Revoked, SessionState};
+use ucon_model::{Caller, Command, Head, Refusal, Reply, Revoked, SessionState};
 
 #[test]
 fn each_line_is_read_and_written_back(rt: HostRuntime) -> Result<(), Fail> {
@@ -224,6 +224,42 @@ fn other_bytes_are_no_reply(rt: HostRuntime) -> Result<(), Fail> {
     for text in texts {
         let fault = read_reply(rt.alloc(), text).err();
         assert_eq!(rt; fault, Some(ReplyFault::BadReply), "at {text:?}");
+    }
+    Ok(())
+}
+
+#[test]
+fn a_payload_is_written_and_read_back(rt: HostRuntime) -> Result<(), Fail> {
+    let command = read_command(rt.alloc(), b"subject a")?;
+    let reply = read_reply(rt.alloc(), b"ok")?;
+    let text = payload_text(rt.alloc(), Caller(0), &command, &reply)?;
+    assert_eq!(rt; text.as_slice(), b"0 subject a\nok".as_slice());
+    let (caller, command, reply) = read_payload(rt.alloc(), &text)?;
+    assert_eq!(rt; caller, Caller(0));
+    let again = payload_text(rt.alloc(), caller, &command, &reply)?;
+    assert_eq!(rt; again.as_slice(), text.as_slice());
+    Ok(())
+}
+
+#[test]
+fn the_first_part_that_is_none_is_told(rt: HostRuntime) -> Result<(), Fail> {
+    let payloads: [(&[u8], usize); 8] = [
+        (b"", 0),
+        (b"7", 0),
+        (b"64 end 7", 0),
+        (b"07 end 7\nok", 0),
+        (b"63 end 7", 3),
+        (b"0 end x\nok", 2),
+        (b"63 end 7\noj", 9),
+        (b"0 end 7\n", 8),
+    ];
+    for (payload, place) in payloads {
+        let fault = read_payload(rt.alloc(), payload).err();
+        assert_eq!(rt;
+            fault,
+            Some(PayloadFault::BadPlace(place)),
+            "at {payload:?}"
+        );
     }
     Ok(())
 }

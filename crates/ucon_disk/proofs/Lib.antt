@@ -3,5 +3,6 @@ mod Elapsed
 mod Filled
 mod Histories
 mod Kept
+mod Portions
 mod Settled
 mod Writes

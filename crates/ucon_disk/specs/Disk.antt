@@ -15,6 +15,12 @@ pub record Reads (file : List ℕ) (at n : ℕ) (buf : List ℕ) : Type 0 where
   pub count : n ≡ min (length buf) (length file - at)
   pub bytes : take n buf ≡ take n (drop at file)
 
+-- the first n bytes of a buffer are those of the file at a place: at least one where the buffer has room and the file more bytes
+pub record ReadsPart (file : List ℕ) (at n : ℕ) (buf : List ℕ) : Type 0 where
+  pub within : n ≤ length file - at
+  pub some : 0 < length buf → at < length file → 0 < n
+  pub bytes : take n buf ≡ take n (drop at file)
+
 -- after a write of n bytes that a crash cuts short: any bytes in the range, the same elsewhere, any length up to its end
 pub record Torn (at n : ℕ) (old new : List ℕ) : Type 0 where
   pub before : take at new ≡ take at old

@@ -1,9 +1,10 @@
 -- A disk in memory, and what each of its calls does.
 use Rattle.std.specs.Prelude.{◌≡◌, ◌⊎◌, ℕ, Bool, false, not, if◌then◌else◌, List, Option}
 use Rattle.ucon_disk.specs.declared.memory.MemDisk.{MemDisk}
+use Rattle.ucon_disk.specs.Causes.{raised}
 use Rattle.ucon_disk.specs.Image.{State, Change}
 use Rattle.ucon_disk.specs.History.{History, recorded, state_now}
-use Rattle.ucon_disk.specs.Recorded.{counted, is_failing}
+use Rattle.ucon_disk.specs.Recorded.{is_failing}
 
 -- the bytes at first and each call since
 abbrev pub history_of : MemDisk → History
@@ -38,18 +39,18 @@ pub record IsRecorded (old new : MemDisk) (done : Bool) (call : Bool → Change)
   pub planned : done ≡ not (fails_next old)
   pub history : history_of new ≡ recorded (history_of old) (call done)
   pub short : short_of new ≡ short_of old
-  pub faults : new.plan.faults ≡ (if done then old.plan.faults else counted old.plan.faults)
+  pub faults : new.plan.faults ≡ (if done then old.plan.faults else raised old.plan.faults)
 
 -- the call found no memory, which is counted apart, and left all as it was
 pub record IsShort (old new : MemDisk) (done : Bool) : Type 0 where
   pub failed : done ≡ false
   pub history : history_of new ≡ history_of old
-  pub short : short_of new ≡ counted (short_of old)
-  pub faults : new.plan.faults ≡ counted old.plan.faults
+  pub short : short_of new ≡ raised (short_of old)
+  pub faults : new.plan.faults ≡ raised old.plan.faults
 
 -- a call that succeeds or fails as planned, or finds no memory; the next call has the next number
 pub record Makes (old new : MemDisk) (done : Bool) (call : Bool → Change) : Type 0 where
   pub outcome : IsRecorded old new done call ⊎ IsShort old new done
-  pub number : new.plan.number ≡ counted old.plan.number
+  pub number : new.plan.number ≡ raised old.plan.number
   pub failing : new.plan.failing ≡ old.plan.failing
   pub stop_after : new.plan.stop_after ≡ old.plan.stop_after

@@ -1,5 +1,5 @@
 -- Calls as a disk in memory records them, and which of them fail.
-use Rattle.std.specs.Prelude.{ℕ, ◌+◌, ◌-◌, ◌^◌, min, ◌==◌, nat_le, Bool, false, ◌||◌, Option, None, Some}
+use Rattle.std.specs.Prelude.{ℕ, ◌==◌, nat_le, Bool, false, ◌||◌, Option, None, Some}
 use Rattle.std.specs.List.{list_any}
 use Rattle.ucon_disk.specs.declared.log.Call.{Call}
 use Rattle.ucon_disk.specs.declared.log.Call.TheVariants.{Look, Write, Cut, Sync}
@@ -12,10 +12,6 @@ change_of Look = looked
 change_of (Write at bytes done) = wrote at bytes.items done
 change_of (Cut len done) = cut_to len done
 change_of (Sync done) = synced_all done
-
--- a count with one more, which stays at its last value
-abbrev pub counted : ℕ → ℕ
-counted n = min (n + 1) (2 ^ 64 - 1)
 
 -- so many calls came before, that all calls fail now
 abbrev pub is_stopped : Option ℕ → ℕ → Bool

@@ -3,14 +3,12 @@
 ghost use Rattle.std.specs.Prelude.{◌≡◌, ◌+◌, ◌^◌, ◌<◌, ◌≤◌, ⊤, None, length, MatchResult, IfOk, OnOk, IsErr};
 ghost use Rattle.ucon_disk.specs.Causes.{HasCause};
 
+use crate::parts::{MAX_END, read_whole, write_whole};
 use crate::{Disk, Failed};
 use std::fs::{File, OpenFile, OpenOptions};
 use std::io;
-use std::os::unix::fs::FileExt;
 use std::path::Path;
 use std::rt::Files;
-
-const MAX_END: u64 = (1 << 63) - 1;
 
 /// A file at a path, which is opened, and made where it isn't there, at the first call.
 #[derive(Drop)]
@@ -77,8 +75,8 @@ impl<R: Files<File = File>> Disk for FileDisk<R> {
 
     fn read_at(&mut self, at: u64, buf: &mut [u8]) -> Result<usize, Failed> {
         self.open()?;
-        let answer = match &self.file {
-            Some(file) => read(file, at, buf),
+        let answer = match &mut self.file {
+            Some(file) => read_whole(file, at, buf),
             None => Err(not_open()),
         };
         counted(&mut self.faults, answer)
@@ -86,8 +84,8 @@ impl<R: Files<File = File>> Disk for FileDisk<R> {
 
     fn write_at(&mut self, at: u64, bytes: &[u8]) -> Result<(), Failed> {
         self.open()?;
-        let answer = match &self.file {
-            Some(file) => write(file, at, bytes),
+        let answer = match &mut self.file {
+            Some(file) => write_whole(file, at, bytes),
             None => Err(not_open()),
         };
         counted(&mut self.faults, answer)
@@ -152,31 +150,4 @@ fn measure(file: &File) -> io::Result<u64>
         return Err(io::ErrorKind::InvalidData.into());
     }
     Ok(len)
-}
-
-// Reads until the buffer is full or the file ends, so that fewer bytes mean the end.
-fn read(file: &File, at: u64, buf: &mut [u8]) -> io::Result<usize>
-    ensures { IfOk result (λ n. n ≤ length buf.new) }
-{
-    let mut done = 0;
-    while done < buf.len() {
-        let place = at
-            .checked_add(done as u64)
-            .ok_or(io::ErrorKind::InvalidInput)?;
-        let n = file.read_at(&mut buf[done..], place)?;
-        if n == 0 {
-            break;
-        }
-        done += n;
-    }
-    Ok(done)
-}
-
-fn write(file: &File, at: u64, bytes: &[u8]) -> io::Result<()>
-    ensures { OnOk result (at + length bytes.now < 2 ^ 63) }
-{
-    if at > MAX_END || bytes.len() as u64 > MAX_END - at {
-        return Err(io::ErrorKind::InvalidInput.into());
-    }
-    file.write_all_at(bytes, at)
 }

@@ -5,6 +5,7 @@ mod disk;
 mod file;
 mod log;
 mod memory;
+mod parts;
 mod plan;
 mod replay;
 

@@ -1,6 +1,7 @@
 //! Which calls of a disk in memory fail.
 
-ghost use Rattle.std.specs.Prelude.{◌≡◌, ◌≤◌, not, ◌&&◌, if◌then◌else◌, is_ok};
+ghost use Rattle.std.specs.Prelude.{◌≡◌, not, ◌&&◌, if◌then◌else◌, is_ok};
+ghost use Rattle.ucon_disk.specs.Causes.{HasCause, raised};
 
 use crate::Failed;
 use ucon_base::NoMemory;
@@ -16,12 +17,12 @@ pub(crate) struct Plan {
 }
 
 impl Plan {
-    ghost use Rattle.ucon_disk.specs.Recorded.{counted, is_failing};
+    ghost use Rattle.ucon_disk.specs.Recorded.{is_failing};
 
     /// Counts a call that begins, and tells whether it is one that succeeds.
     pub fn begin(&mut self) -> bool
         ensures outcome { result ≡ not (is_failing self.old self.old.number) }
-        ensures counted { self.new ≡ record self.old { number = counted self.old.number } }
+        ensures counted { self.new ≡ record self.old { number = raised self.old.number } }
     {
         let number = self.number;
         self.number = number.saturating_add(1);
@@ -36,15 +37,15 @@ impl Plan {
     pub fn end(&mut self, done: bool, kept: Result<(), NoMemory>) -> Result<(), Failed>
         ensures outcome { is_ok result ≡ (done && is_ok kept) }
         ensures counted { self.new ≡ record self.old {
-          faults = if done && is_ok kept then self.old.faults else counted self.old.faults;
-          short = if is_ok kept then self.old.short else counted self.old.short;
+          faults = if done && is_ok kept then self.old.faults else raised self.old.faults;
+          short = if is_ok kept then self.old.short else raised self.old.short;
         } }
-        ensures later { self.old.faults ≤ self.new.faults }
+        ensures cause { HasCause self.old.faults self.new.faults result }
     {
         match kept {
             Ok(()) if done => return Ok(()),
             Ok(()) => {}
-            Err(NoMemory) => self.short = self.short.saturating_add(1),
+            Err(_) => self.short = self.short.saturating_add(1),
         }
         self.faults = self.faults.saturating_add(1);
         Err(Failed)

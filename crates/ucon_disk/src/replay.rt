@@ -15,7 +15,8 @@ pub(crate) struct Replay {
     file: Vec<u8>,
     synced: Vec<u8>,
     least: usize,
-    greatest: usize,
+    /// A write that failed may have ended past what a `usize` counts.
+    greatest: u128,
     /// The ranges that writes touched since the last sync that succeeded.
     touched: Vec<(usize, usize)>,
 }
@@ -31,7 +32,7 @@ impl Replay {
             file: bytes.to_vec(alloc)?,
             synced: bytes.to_vec(alloc)?,
             least: bytes.len(),
-            greatest: bytes.len(),
+            greatest: bytes.len() as u128,
             touched: Vec::new(alloc),
         })
     }
@@ -61,7 +62,7 @@ impl Replay {
     fn write(&mut self, at: usize, bytes: &[u8], done: bool) -> Result<(), NoMemory>
         ensures { OnOk result (state_of self.new ≡ step (state_of self.old) (wrote at bytes.now done)) }
     {
-        let end = at.checked_add(bytes.len()).ok_or(NoMemory)?;
+        let end = at as u128 + bytes.len() as u128;
         self.greatest = self.greatest.max(end);
         self.touched.push((at, bytes.len()))?;
         if done {
@@ -82,7 +83,7 @@ impl Replay {
     pub fn image(&self, alloc: Global, len: usize, fill: &[u8]) -> Result<Option<Vec<u8>>, NoMemory>
         ensures { IfOk result (λ image. option_map (λ v. v.items) image ≡ image_of (state_of self.now) len fill.now) }
     {
-        if len < self.least || self.greatest < len {
+        if len < self.least || self.greatest < len as u128 {
             return Ok(None);
         }
         let mut image = Vec::new(alloc);

@@ -1,5 +1,5 @@
 -- Counts of calls and faults.
-use Rattle.std.specs.Prelude.{ℕ, ◌+◌, ◌-◌, ◌^◌, ◌≤◌, min, Result, OnErr}
+use Rattle.std.specs.Prelude.{◌≡◌, ℕ, ◌+◌, ◌-◌, ◌^◌, ◌≤◌, min, Result, MatchResult}
 
 -- a count after one more, in 64 bits: at the last value it stands still
 abbrev pub raised : ℕ → ℕ
@@ -9,7 +9,6 @@ raised n = min (n + 1) (2 ^ 64 - 1)
 abbrev pub Rose : ℕ → ℕ → Type 0
 Rose before now = raised before ≤ now
 
--- the count does not fall, and has risen where the call failed
-pub record HasCause {T E : Type 0} (before now : ℕ) (result : Result T E) : Type 0 where
-  pub later : before ≤ now
-  pub failed : OnErr result (Rose before now)
+-- the count is one more where the call failed, and as it was where it did not
+abbrev pub HasCause : {T E : Type 0} → ℕ → ℕ → Result T E → Type 0
+HasCause before now result = MatchResult result (λ _. now ≡ before) (λ _. now ≡ raised before)

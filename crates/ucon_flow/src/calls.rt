@@ -48,6 +48,13 @@ impl FailingCalls {
         fails
     }
 
+    /// Counts one more call, which doesn't fail whatever its number.
+    pub fn count_call(&mut self)
+        ensures counted { self.new ≡ one_more self.old }
+    {
+        self.made.tick();
+    }
+
     /// Counts the call that was counted last as one that failed.
     pub fn count_fault(&mut self)
         ensures counted { self.new ≡ record self.old { faults = raised self.old.faults } }

@@ -102,7 +102,7 @@ impl Model for MemSink {
 }
 
 impl MemSink {
-    /// Takes at most `piece` bytes a call. The calls whose numbers, from 0, stand in `faults` fail.
+    /// Takes at most `piece` bytes a call. The calls whose numbers, from 0, stand in `faults` fail, where they have some bytes.
     pub fn new(alloc: Global, piece: usize, faults: Vec<u64>) -> MemSink
         requires { 1 ≤ piece }
         ensures { result ≡ record { bytes = []; piece = piece; calls = no_calls faults.items; short = 0 } }
@@ -139,19 +139,24 @@ impl Sink for MemSink {
 
     fn write(&mut self, bytes: &[u8]) -> Result<usize, Failed>
         ensures bound { IfOk result (λ n. n ≤ length bytes.now) }
+        ensures empty { length bytes.now ≡ 0 → result ≡ Ok 0 }
         ensures some { IfOk result (λ n. 0 < length bytes.now → 0 < n) }
         ensures bytes { WriteAppends (Some self.old.bytes) (Some self.new.bytes) result bytes.now }
         ensures cause { HasCause self.old.calls.faults self.new.calls.faults result }
         ensures counted { self.new.calls.made ≡ raised self.old.calls.made }
 
-        // The calls whose numbers were given fail, and others only for want of memory, which `short` counts.
-        ensures fails { IsTrue (fails_next self.old.calls) → IsErr result }
+        // The calls with some bytes whose numbers were given fail, and others only for want of memory, which `short` counts.
+        ensures fails { 0 < length bytes.now → IsTrue (fails_next self.old.calls) → IsErr result }
         ensures err { OnErr result (self.new ≡ not_taken self.old) }
 
         // All others take a piece.
         ensures count { IfOk result (λ n. n ≡ min self.old.piece (length bytes.now)) }
         ensures ok { IfOk result (λ n. self.new ≡ taken self.old (take n bytes.now)) }
     {
+        if bytes.is_empty() {
+            self.calls.count_call();
+            return Ok(0);
+        }
         if self.calls.next_fails() {
             return Err(Failed);
         }

@@ -1,6 +1,6 @@
 //! Sources over std's readers, and sinks over its writers.
 
-ghost use Rattle.std.specs.Prelude.{◌≡◌, ◌≤◌, ◌<◌, length, IfOk, is_ok, if◌then◌else◌};
+ghost use Rattle.std.specs.Prelude.{◌≡◌, ◌≤◌, ◌<◌, length, IfOk};
 ghost use Rattle.std.specs.Io.{ReadsAtMost};
 ghost use Rattle.std.specs.Io.KnownBytes.{ReadConsumes, WriteAppends};
 ghost use Rattle.ucon_flow.specs.Causes.{HasCause, raised};
@@ -50,9 +50,6 @@ impl<R: Read> Source for ReadSource<R> {
         ensures bytes { ReadConsumes (R.remaining self.old.inner) (R.remaining self.new.inner) result buf.new }
         ensures cause { HasCause self.old.faults self.new.faults result }
         ensures counted { self.new.calls ≡ raised self.old.calls }
-
-        // The count of faults rises at an error, and then alone.
-        ensures faults { self.new.faults ≡ (if is_ok result then self.old.faults else raised self.old.faults) }
     {
         self.calls.tick();
         match self.inner.read(buf) {
@@ -102,13 +99,11 @@ impl<W: Write> Sink for WriteSink<W> {
 
     fn write(&mut self, bytes: &[u8]) -> Result<usize, Failed>
         ensures bound { IfOk result (λ n. n ≤ length bytes.now) }
+        ensures empty { length bytes.now ≡ 0 → result ≡ Ok 0 }
         ensures some { IfOk result (λ n. 0 < length bytes.now → 0 < n) }
         ensures bytes { WriteAppends (W.contents self.old.inner) (W.contents self.new.inner) result bytes.now }
         ensures cause { HasCause self.old.faults self.new.faults result }
         ensures counted { self.new.calls ≡ raised self.old.calls }
-
-        // The count of faults rises at an error, and then alone.
-        ensures faults { self.new.faults ≡ (if is_ok result then self.old.faults else raised self.old.faults) }
     {
         self.calls.tick();
         if bytes.is_empty() {

@@ -19,9 +19,10 @@ pub trait Sink {
     ghost writes: { Self → ℕ };
 
     /// Takes bytes from the front of a piece, and tells how many, at least one of a piece that isn't empty. Where it fails
-    /// it has taken none.
+    /// it has taken none. An empty piece is taken by every sink.
     fn write(&mut self, bytes: &[u8]) -> Result<usize, Failed>
         ensures bound { IfOk result (λ n. n ≤ length bytes.now) }
+        ensures empty { length bytes.now ≡ 0 → result ≡ Ok 0 }
         ensures some { IfOk result (λ n. 0 < length bytes.now → 0 < n) }
         ensures bytes { WriteAppends (contents self.old) (contents self.new) result bytes.now }
         ensures cause { HasCause (faults self.old) (faults self.new) result }

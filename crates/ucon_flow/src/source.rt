@@ -1,14 +1,16 @@
 //! Sources of bytes.
 
-ghost use Rattle.std.specs.Prelude.{◌≡◌, ◌+◌, ◌≤◌, List, ℕ, length, Option, IfOk, OnOk, OnErr, IsErrOf};
+ghost use Rattle.std.specs.Prelude.{◌≡◌, ◌≢◌, ◌+◌, ◌≤◌, List, ℕ, length, Option, IfOk, OnOk, OnErr, IsErrOf};
 ghost use Rattle.std.specs.Io.{ReadsAtMost};
 ghost use Rattle.std.specs.Io.KnownBytes.{ReadConsumes};
-ghost use Rattle.ucon_flow.specs.Causes.{Rose, HasCause, raised};
+ghost use Rattle.ucon_base.specs.Memory.{out_of_memory};
+ghost use Rattle.ucon_flow.specs.Causes.{HasCause, raised};
 ghost use Rattle.ucon_flow.specs.Reading.{ReadsWhole, ReadsFront, HasMoreThan, HasAtMost};
 ghost use Rattle.ucon_flow.specs.declared.source.ReadFault.TheVariants as faults_of_reading;
 
 use std::alloc::{AllocError, Global};
 use thiserror::Error;
+use ucon_base::NoMemory;
 
 /// A call failed, and its object has counted it.
 #[derive(Clone, Copy, Debug, PartialEq, Eq)]
@@ -40,7 +42,7 @@ pub enum ReadFault {
     #[error("the source has too many bytes")]
     TooLong,
     #[error("no memory")]
-    NoMemory,
+    NoMemory(NoMemory),
 }
 
 impl From<Failed> for ReadFault {
@@ -52,10 +54,10 @@ impl From<Failed> for ReadFault {
 }
 
 impl From<AllocError> for ReadFault {
-    ghost from_gives = { λ _ e. e ≡ faults_of_reading.NoMemory };
+    ghost from_gives = { λ _ e. e ≡ faults_of_reading.NoMemory out_of_memory };
 
-    fn from(_e: AllocError) -> ReadFault {
-        ReadFault::NoMemory
+    fn from(e: AllocError) -> ReadFault {
+        ReadFault::NoMemory(NoMemory::from(e))
     }
 }
 
@@ -72,8 +74,8 @@ pub fn read_all<S: Source>(
 
     // The cause of each fault.
     ensures too_long { IsErrOf result ReadFault.TooLong → HasMoreThan (S.left source.old) limit }
-    ensures failed { IsErrOf result ReadFault.SourceFault → Rose (S.faults source.old) (S.faults source.new) }
-    ensures later { S.faults source.old ≤ S.faults source.new }
+    ensures failed { IsErrOf result ReadFault.SourceFault → S.faults source.new ≡ raised (S.faults source.old) }
+    ensures unfailed { result ≢ Err ReadFault.SourceFault → S.faults source.new ≡ S.faults source.old }
 
     // At most one read for each byte within the limit, and one more.
     ensures reads { S.reads source.new ≤ S.reads source.old + limit + 1 }

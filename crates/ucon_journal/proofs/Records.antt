@@ -1,11 +1,22 @@
 -- What counts behind a gate.
 use Rattle.std.proofs.Common.{◌≡◌, ◌≢◌, inl, inr, ℕ, zero, suc, ◌+◌, ◌-◌, ◌^◌, ◌<◌, ◌≤◌, true, false, cond, List, [], ◌∷◌, ◌++◌, length, get_or, take, drop, refl, sym, ◌∙◌, ap, arith, append_assoc, length-append, length-take, w32}
-use Rattle.std.specs.Int.{from_be_bytes}
+use Rattle.std.specs.List.{sum_by}
+use Rattle.std.specs.Int.{to_be_bytes, from_be_bytes}
 use Rattle.std.proofs.lemmas.Bool.{cases_Bool, and_parts, and_from, eqb-true, eq-eqb, ltb-true, lt-ltb, both_ways, true≢false}
+use Rattle.std.proofs.lemmas.List.Sums.{sum_by-cons}
 use Rattle.std.proofs.lemmas.List.{take-take, take_at, drop_at, drop-drop, drop-take, get_or-take}
 use Rattle.std.proofs.lemmas.Nat.{from_be_bytes-to_be_bytes_4}
-use Rattle.ucon_journal.specs.JournalBytes.{record_bytes}
+use Rattle.ucon_journal.specs.JournalBytes.{record_bytes, records}
 use Rattle.ucon_journal.specs.Found.{length_told, counts, payload_at, payloads_after, ReadsAs}
+
+-- how long records are
+pub length-records : (ps : List (List ℕ)) → length (records ps) ≡ sum_by (λ p. 5 + length p) ps
+length-records [] = refl
+length-records (p ∷ ps) = omega (arith, length-append p (records ps), length-records ps, sum_by-cons (λ (q : List ℕ). 5 + length q) p ps)
+
+pub length-records-append : (ps : List (List ℕ)) (p : List ℕ) → length (records (ps ++ p ∷ [])) ≡ length (records ps) + 5 + length p
+length-records-append [] p = omega (arith, length-append (record_bytes p) [], length-append (1 ∷ to_be_bytes w32 (length p)) p)
+length-records-append (q ∷ ps) p = omega (arith, length-append (record_bytes q) (records ps), length-append (record_bytes q) (records (ps ++ p ∷ [])), length-records-append ps p)
 
 pub payloads_after-skip : (n : ℕ) (xs : List ℕ) → payloads_after n xs ≡ payloads_after 0 (drop n xs)
 payloads_after-skip zero xs = refl

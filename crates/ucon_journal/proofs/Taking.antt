@@ -4,24 +4,24 @@ use Rattle.std.proofs.lemmas.List.{take_min, take_all, drop-drop, append-nil}
 use Rattle.ucon_disk.specs.Disk.{Reads}
 use Rattle.ucon_journal.specs.JournalBytes.{magic}
 use Rattle.ucon_journal.specs.Found.{length_told, counts, payload_at, payloads_after, payloads_from, counted, StandsAt}
-use Rattle.ucon_journal.proofs.Records.{payloads_after-more, counts_within, reads_more}
+use Rattle.ucon_journal.proofs.Records.{length-records-append, payloads_after-more, counts_within, reads_more}
 use Rattle.ucon_journal.proofs.Files.{drop-gate, counted-stands}
 
--- a header as read is the first five bytes behind the gate
-pub header_is : (file : List ℕ) (gate got : ℕ) (header : List ℕ) → length header ≡ 5 → Reads file gate got header → take got header ≡ take 5 (drop gate file)
-header_is file gate got header five reads =
-    let tail = drop gate file in
-    let count : got ≡ min 5 (length tail) = omega (arith, reads.count, five, length-drop gate file) in
-    reads.bytes ∙ ap (λ k. take k tail) count ∙ take_min 5 tail
+-- what is read into n places of a buffer is the first n bytes behind the place
+pub front_is : (file : List ℕ) (n at got : ℕ) (buf : List ℕ) → length buf ≡ n → Reads file at got buf → take got buf ≡ take n (drop at file)
+front_is file n at got buf size reads =
+    let tail = drop at file in
+    let count : got ≡ min n (length tail) = omega (arith, reads.count, size, length-drop at file) in
+    reads.bytes ∙ ap (λ k. take k tail) count ∙ take_min n tail
 
 pub left_is : (file : List ℕ) (gate len left : ℕ) → left ≡ len - gate → len ≡ length file → left ≡ length (drop gate file)
 left_is file gate len left is is_len = omega (arith, is, is_len, length-drop gate file)
 
 -- where nothing counts behind the gate, all that is found stands before it
-pub ends_at : (file : List ℕ) (gate : ℕ) → ((ps : List (List ℕ)) × StandsAt file gate ps) → payloads_from file gate ≡ [] → StandsAt file gate (counted file) × (payloads_from file gate ≡ [])
-ends_at file gate stands none =
-    let all : counted file ≡ stands.0 = counted-stands file gate stands.0 stands.1 ∙ ap (λ (qs : List (List ℕ)). stands.0 ++ qs) none ∙ append-nil stands.0 in
-    (subst (λ (ps : List (List ℕ)). StandsAt file gate ps) (sym all) stands.1, none)
+pub ends_at : (file : List ℕ) (version gate : ℕ) → ((ps : List (List ℕ)) × StandsAt file version gate ps) → payloads_from file gate ≡ [] → StandsAt file version gate (counted file) × (payloads_from file gate ≡ [])
+ends_at file version gate stands none =
+    let all : counted file ≡ stands.0 = counted-stands file version gate stands.0 stands.1 ∙ ap (λ (qs : List (List ℕ)). stands.0 ++ qs) none ∙ append-nil stands.0 in
+    (subst (λ (ps : List (List ℕ)). StandsAt file version gate ps) (sym all) stands.1, none)
 
 module _ (file : List ℕ) (gate n : ℕ) (counted : counts (drop gate file) ≡ true) (told : n ≡ length_told (drop gate file)) where
   within : gate + (5 + n) < length file
@@ -48,17 +48,19 @@ module _ (file : List ℕ) (gate n : ℕ) (counted : counts (drop gate file) ≡
       ∙ sym reads.bytes
       ∙ take_all got buf (omega (arith, all, size))
 
-  pub stands_more : (ps : List (List ℕ)) → StandsAt file gate ps → StandsAt file (gate + (5 + n)) (ps ++ payload_at (drop gate file) ∷ [])
-  stands_more ps stands =
+  pub stands_more : (version : ℕ) (ps : List (List ℕ)) → StandsAt file version gate ps → StandsAt file version (gate + (5 + n)) (ps ++ payload_at (drop gate file) ∷ [])
+  stands_more version ps stands =
       let tail = drop gate file in
       let m = 5 + length_told tail in
-      let split : stands.rest ≡ take m tail ++ drop m tail = sym (drop-gate file gate ps stands) ∙ sym (take-append-drop m tail) in
+      let split : stands.rest ≡ take m tail ++ drop m tail = sym (drop-gate file version gate ps stands) ∙ sym (take-append-drop m tail) in
       let long : length (take m tail) ≡ 5 + n = omega (arith, length-take m tail, counts_within tail counted, told) in
       record {
         front = stands.front ++ take m tail;
         rest = drop m tail;
-        is = stands.is ∙ ap (λ (l : List ℕ). magic ++ stands.front ++ l) split ∙ sym (append_assoc (magic ++ stands.front) (take m tail) (drop m tail)) ∙ ap (λ (l : List ℕ). l ++ drop m tail) (append_assoc magic stands.front (take m tail));
+        known = stands.known;
+        is = stands.is ∙ ap (λ (l : List ℕ). magic version ++ stands.front ++ l) split ∙ sym (append_assoc (magic version ++ stands.front) (take m tail) (drop m tail)) ∙ ap (λ (l : List ℕ). l ++ drop m tail) (append_assoc (magic version) stands.front (take m tail));
         place = omega (arith, stands.place, length-append stands.front (take m tail), long);
+        size = omega (arith, stands.size, length-append stands.front (take m tail), long, length-records-append ps (payload_at tail), length-payload);
         some = omega (arith, length-drop m tail, counts_within tail counted);
         reads = reads_more stands.front tail ps stands.reads counted;
       }

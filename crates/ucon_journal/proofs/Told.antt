@@ -1,12 +1,12 @@
 -- What holds of the bytes as read, where the disk tells.
-use Rattle.std.proofs.Common.{◌≡◌, ◌≢◌, ℕ, ◌+◌, ◌^◌, ◌<◌, List, [], ◌∷◌, ◌++◌, length, take, drop, Option, None, Some, IfSome, refl, sym, ◌∙◌, ap, subst}
+use Rattle.std.proofs.Common.{◌≡◌, ℕ, ◌+◌, ◌^◌, ◌<◌, List, [], ◌∷◌, ◌++◌, length, take, drop, Option, None, Some, IfSome, refl, sym, ◌∙◌, ap, subst}
 use Rattle.std.specs.Option.{option_map}
 use Rattle.ucon_disk.specs.Disk.{overwritten, Only}
 use Rattle.ucon_disk.specs.Run.{IsAtRest}
-use Rattle.ucon_journal.specs.Found.{NotJournal, found, counted, payloads_from, StandsAt}
+use Rattle.ucon_journal.specs.Found.{version_told, counted, payloads_from, StandsAt}
 use Rattle.ucon_journal.specs.Opened.{opened, shut_at, with_payload}
 use Rattle.ucon_journal.specs.Journal.{told_payloads}
-use Rattle.ucon_journal.proofs.Openings.{opened_stands, counted-opened}
+use Rattle.ucon_journal.proofs.Openings.{opened_stands, stands_first, counted-opened}
 use Rattle.ucon_journal.proofs.Files.{counted-stands, shut_file, stands_closed, counted-closed, drop-front}
 use Rattle.ucon_journal.proofs.Added.{staged, staged_file, opened_file, added_stands, added_shut, counted-added}
 
@@ -24,68 +24,73 @@ rests_after old new images f file made only is =
     record { told = told; only = subst (λ o. Only o images) told only }
 
 -- read to the end; its last byte is a closed gate
-abbrev pub EndsAt : ℕ → List ℕ → Type 0
-EndsAt gate file = StandsAt file gate (counted file) × (payloads_from file gate ≡ [])
+abbrev pub EndsAt : ℕ → ℕ → List ℕ → Type 0
+EndsAt version gate file = StandsAt file version gate (counted file) × (payloads_from file gate ≡ [])
 
-abbrev pub ClosesAt : ℕ → List ℕ → Type 0
-ClosesAt gate file = StandsAt file gate (counted file) × (drop gate file ≡ 0 ∷ [])
+abbrev pub ClosesAt : ℕ → ℕ → List ℕ → Type 0
+ClosesAt version gate file = StandsAt file version gate (counted file) × (drop gate file ≡ 0 ∷ [])
 
-pub record Mended (gate : ℕ) (old new : Option (List ℕ)) : Type 0 where
-  pub closed : IfSome new (ClosesAt gate)
+pub record Mended (version gate : ℕ) (old new : Option (List ℕ)) : Type 0 where
+  pub closed : IfSome new (ClosesAt version gate)
   pub same : told_payloads new ≡ told_payloads old
   pub bytes : new ≡ option_map (shut_at gate) old
 
-mended_file : (file : List ℕ) (gate : ℕ) → EndsAt gate file → Mended gate (Some file) (Some (overwritten gate (0 ∷ []) (take (gate + 1) file)))
-mended_file file gate ends =
+mended_file : (file : List ℕ) (version gate : ℕ) → EndsAt version gate file → Mended version gate (Some file) (Some (overwritten gate (0 ∷ []) (take (gate + 1) file)))
+mended_file file version gate ends =
     let shut = take gate file ++ 0 ∷ [] in
-    let same : counted shut ≡ counted file = counted-closed file gate (counted file) ends.0 in
-    let closed : Mended gate (Some file) (Some shut) =
+    let same : counted shut ≡ counted file = counted-closed file version gate (counted file) ends.0 in
+    let closed : Mended version gate (Some file) (Some shut) =
     record {
-      closed = (subst (λ (ps : List (List ℕ)). StandsAt shut gate ps) (sym same) (stands_closed file gate (counted file) ends.0), drop-front file gate (counted file) ends.0 (0 ∷ []));
+      closed = (subst (λ (ps : List (List ℕ)). StandsAt shut version gate ps) (sym same) (stands_closed file version gate (counted file) ends.0), drop-front file version gate (counted file) ends.0 (0 ∷ []));
       same = same;
       bytes = refl;
     } in
-    subst (λ (l : List ℕ). Mended gate (Some file) (Some l)) (sym (shut_file file gate (counted file) ends.0 ends.1)) closed
+    subst (λ (l : List ℕ). Mended version gate (Some file) (Some l)) (sym (shut_file file version gate (counted file) ends.0 ends.1)) closed
 
-pub mended : (gate : ℕ) (o cut shut : Option (List ℕ)) → IfSome o (EndsAt gate) → cut ≡ option_map (take (gate + 1)) o → shut ≡ option_map (overwritten gate (0 ∷ [])) cut → Mended gate o shut
-mended gate None cut shut ends is_cut is_shut = subst (Mended gate None) (sym (is_shut ∙ ap (option_map (overwritten gate (0 ∷ []))) is_cut)) (record { closed = tt; same = refl; bytes = refl })
-mended gate (Some file) cut shut ends is_cut is_shut = subst (Mended gate (Some file)) (sym (is_shut ∙ ap (option_map (overwritten gate (0 ∷ []))) is_cut)) (mended_file file gate ends)
+pub mended : (version gate : ℕ) (o cut shut : Option (List ℕ)) → IfSome o (EndsAt version gate) → cut ≡ option_map (take (gate + 1)) o → shut ≡ option_map (overwritten gate (0 ∷ [])) cut → Mended version gate o shut
+mended version gate None cut shut ends is_cut is_shut = subst (Mended version gate None) (sym (is_shut ∙ ap (option_map (overwritten gate (0 ∷ []))) is_cut)) (record { closed = tt; same = refl; bytes = refl })
+mended version gate (Some file) cut shut ends is_cut is_shut = subst (Mended version gate (Some file)) (sym (is_shut ∙ ap (option_map (overwritten gate (0 ∷ []))) is_cut)) (mended_file file version gate ends)
 
-pub record Appended (gate : ℕ) (p : List ℕ) (old new : Option (List ℕ)) : Type 0 where
-  pub closed : IfSome new (ClosesAt (gate + 5 + length p))
+pub record Appended (version gate : ℕ) (p : List ℕ) (old new : Option (List ℕ)) : Type 0 where
+  pub closed : IfSome new (ClosesAt version (gate + 5 + length p))
   pub bytes : new ≡ option_map (with_payload gate p) old
   pub added : IfSome old (λ file. told_payloads new ≡ told_payloads old ++ p ∷ [])
 
-appended_file : (file : List ℕ) (gate : ℕ) (p : List ℕ) → length p < 2 ^ 32 → ClosesAt gate file → Appended gate p (Some file) (Some (with_payload gate p file))
-appended_file file gate p short closes =
-    let same : counted (with_payload gate p file) ≡ counted file ++ p ∷ [] = counted-added file gate (counted file) closes.0 closes.1 p short in
+appended_file : (file : List ℕ) (version gate : ℕ) (p : List ℕ) → length p < 2 ^ 32 → ClosesAt version gate file → Appended version gate p (Some file) (Some (with_payload gate p file))
+appended_file file version gate p short closes =
+    let same : counted (with_payload gate p file) ≡ counted file ++ p ∷ [] = counted-added file version gate (counted file) closes.0 closes.1 p short in
     record {
       closed = (
-        subst (λ (ps : List (List ℕ)). StandsAt (with_payload gate p file) (gate + 5 + length p) ps) (sym same) (added_stands file gate (counted file) closes.0 closes.1 p short),
-        added_shut file gate (counted file) closes.0 closes.1 p short,
+        subst (λ (ps : List (List ℕ)). StandsAt (with_payload gate p file) version (gate + 5 + length p) ps) (sym same) (added_stands file version gate (counted file) closes.0 closes.1 p short),
+        added_shut file version gate (counted file) closes.0 closes.1 p short,
       );
       bytes = refl;
       added = same;
     }
 
-pub appended : (gate : ℕ) (p : List ℕ) (o one two : Option (List ℕ)) → length p < 2 ^ 32 → IfSome o (ClosesAt gate) → one ≡ option_map (overwritten (gate + 1) (staged p)) o → two ≡ option_map (overwritten gate (1 ∷ [])) one → Appended gate p o two
-appended gate p None one two short closes is_one is_two = subst (Appended gate p None) (sym (is_two ∙ ap (option_map (overwritten gate (1 ∷ []))) is_one)) (record { closed = tt; bytes = refl; added = tt })
-appended gate p (Some file) one two short closes is_one is_two =
+pub appended : (version gate : ℕ) (p : List ℕ) (o one two : Option (List ℕ)) → length p < 2 ^ 32 → IfSome o (ClosesAt version gate) → one ≡ option_map (overwritten (gate + 1) (staged p)) o → two ≡ option_map (overwritten gate (1 ∷ [])) one → Appended version gate p o two
+appended version gate p None one two short closes is_one is_two = subst (Appended version gate p None) (sym (is_two ∙ ap (option_map (overwritten gate (1 ∷ []))) is_one)) (record { closed = tt; bytes = refl; added = tt })
+appended version gate p (Some file) one two short closes is_one is_two =
     let written : overwritten gate (1 ∷ []) (overwritten (gate + 1) (staged p) file) ≡ with_payload gate p file =
-    ap (λ (l : List ℕ). overwritten gate (1 ∷ []) l) (staged_file file gate (counted file) closes.0 closes.1 p short) ∙ opened_file file gate (counted file) closes.0 closes.1 p short in
-    subst (Appended gate p (Some file)) (sym (is_two ∙ ap (option_map (overwritten gate (1 ∷ []))) is_one ∙ ap Some written)) (appended_file file gate p short closes)
+    ap (λ (l : List ℕ). overwritten gate (1 ∷ []) l) (staged_file file version gate (counted file) closes.0 closes.1 p short) ∙ opened_file file version gate (counted file) closes.0 closes.1 p short in
+    subst (Appended version gate p (Some file)) (sym (is_two ∙ ap (option_map (overwritten gate (1 ∷ []))) is_one ∙ ap Some written)) (appended_file file version gate p short closes)
 
 -- what is opened can be read from the first gate on
-pub opened_told : (old new : Option (List ℕ)) → new ≡ option_map opened old → IfSome old (λ file. found file ≢ NotJournal) → IfSome new (λ file. (ps : List (List ℕ)) × StandsAt file 8 ps)
-opened_told None new is journal = subst (λ o. IfSome o (λ file. (ps : List (List ℕ)) × StandsAt file 8 ps)) (sym is) tt
-opened_told (Some file) new is journal = subst (λ o. IfSome o (λ file. (ps : List (List ℕ)) × StandsAt file 8 ps)) (sym is) ([], opened_stands file journal)
+pub opened_told : (version : ℕ) (old new : Option (List ℕ)) → new ≡ option_map opened old → IfSome new (λ file. version_told file ≡ Some version) → IfSome new (λ file. (ps : List (List ℕ)) × StandsAt file version 8 ps)
+opened_told version None new is told = subst (λ o. IfSome o (λ file. (ps : List (List ℕ)) × StandsAt file version 8 ps)) (sym is) tt
+opened_told version (Some file) new is told = subst (λ o. IfSome o (λ file. (ps : List (List ℕ)) × StandsAt file version 8 ps)) (sym is) ([], opened_stands file version (subst (λ o. IfSome o (λ file. version_told file ≡ Some version)) is told))
 
 -- and all that counts in it is read from there
-pub opened_all : (old new : Option (List ℕ)) → new ≡ option_map opened old → IfSome old (λ file. found file ≢ NotJournal) → IfSome new (λ file. payloads_from file 8 ≡ counted file)
-opened_all None new is journal = subst (λ o. IfSome o (λ file. payloads_from file 8 ≡ counted file)) (sym is) tt
-opened_all (Some file) new is journal = subst (λ o. IfSome o (λ file. payloads_from file 8 ≡ counted file)) (sym is) (sym (counted-stands (opened file) 8 [] (opened_stands file journal)))
+pub all_read : (version : ℕ) (o : Option (List ℕ)) → IfSome o (λ file. (ps : List (List ℕ)) × StandsAt file version 8 ps) → IfSome o (λ file. payloads_from file 8 ≡ counted file)
+all_read version None stands = tt
+all_read version (Some file) stands = sym (counted-stands file version 8 [] (stands_first file version 8 stands.0 stands.1))
 
 -- the same payloads are found in it
 pub opened_same : (old new : Option (List ℕ)) → new ≡ option_map opened old → told_payloads new ≡ told_payloads old
 opened_same None new is = ap told_payloads is
 opened_same (Some file) new is = ap told_payloads is ∙ counted-opened file
+
+-- a journal that is being read can be read from the first gate on
+pub rewound : (version gate : ℕ) (o : Option (List ℕ)) → IfSome o (λ file. (ps : List (List ℕ)) × StandsAt file version gate ps) → IfSome o (λ file. (ps : List (List ℕ)) × StandsAt file version 8 ps)
+rewound version gate None stands = tt
+rewound version gate (Some file) stands = ([], stands_first file version gate stands.0 stands.1)

@@ -1,7 +1,11 @@
 -- What is found in bytes, whoever wrote them.
-use Rattle.std.specs.Prelude.{◌≡◌, ℕ, zero, suc, ◌+◌, ◌<◌, nat_lt, nat_le, Bool, ◌==◌, ◌&&◌, if◌then◌else◌, bytes_eq, List, [], ◌∷◌, ◌++◌, length, take, drop, slice_index}
+use Rattle.std.specs.Prelude.{◌≡◌, ℕ, zero, suc, ◌+◌, ◌<◌, nat_lt, nat_le, Bool, ◌==◌, ◌&&◌, if◌then◌else◌, bytes_eq, List, [], ◌∷◌, ◌++◌, length, take, drop, slice_index, Option, None, Some, is_some}
 use Rattle.std.specs.Int.{w32, from_be_bytes}
-use Rattle.ucon_journal.specs.JournalBytes.{magic, records}
+use Rattle.ucon_journal.specs.JournalBytes.{IsVersion, magic, records}
+
+-- the version that the first 8 bytes tell, if they are a magic
+abbrev pub version_told : List ℕ → Option ℕ
+version_told bytes = if bytes_eq (take 8 bytes) (magic 2) then Some 2 else if bytes_eq (take 8 bytes) (magic 1) then Some 1 else None
 
 -- the length that the four bytes behind a gate tell
 abbrev pub length_told : List ℕ → ℕ
@@ -32,7 +36,7 @@ pub data Found : Type 0 where
 -- At most 9 bytes are a journal whose making was stopped. Otherwise the payloads that count, and the place of the first gate whose record doesn't count.
 abbrev pub found : List ℕ → Found
 found file =
-    if nat_le (length file) 9 then Fresh else if bytes_eq (take 8 file) magic then Holds (payloads_from file 8) (8 + length (records (payloads_from file 8))) else NotJournal
+    if nat_le (length file) 9 then Fresh else if is_some (version_told file) then Holds (payloads_from file 8) (8 + length (records (payloads_from file 8))) else NotJournal
 
 -- the payloads that were found
 abbrev pub payloads_found : Found → List (List ℕ)
@@ -47,11 +51,13 @@ counted file = payloads_found (found file)
 abbrev pub ReadsAs : List ℕ → List (List ℕ) → Type 0
 ReadsAs front payloads = (rest : List ℕ) → 0 < length rest → payloads_after 0 (front ++ rest) ≡ payloads ++ payloads_after 0 rest
 
--- the file is the magic, the records of these payloads, and more bytes from the gate on
-pub record StandsAt (file : List ℕ) (gate : ℕ) (payloads : List (List ℕ)) : Type 0 where
+-- the file is the magic of this version, the records of these payloads, and more bytes from the gate on
+pub record StandsAt (file : List ℕ) (version gate : ℕ) (payloads : List (List ℕ)) : Type 0 where
   pub front : List ℕ
   pub rest : List ℕ
-  pub is : file ≡ magic ++ front ++ rest
+  pub known : IsVersion version
+  pub is : file ≡ magic version ++ front ++ rest
   pub place : gate ≡ 8 + length front
+  pub size : length front ≡ length (records payloads)
   pub some : 0 < length rest
   pub reads : ReadsAs front payloads

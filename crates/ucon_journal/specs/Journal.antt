@@ -1,11 +1,16 @@
 -- A journal over a disk.
-use Rattle.std.specs.Prelude.{◌≡◌, ◌≢◌, ℕ, ◌+◌, ◌≤◌, List, [], ◌∷◌, length, drop, Option, None, Some, IfSome, vec_capacity}
+use Rattle.std.specs.Prelude.{◌≡◌, ◌⊎◌, ℕ, ◌+◌, ◌≤◌, List, [], ◌∷◌, length, drop, Option, None, Some, IfSome, vec_capacity}
 use Rattle.ucon_journal.specs.declared.journal.Journal.{Journal}
-use Rattle.ucon_journal.specs.declared.phase.Phase.TheVariants.{Ended, Closed}
+use Rattle.ucon_journal.specs.declared.phase.Phase.{Phase}
+use Rattle.ucon_journal.specs.declared.phase.Phase.TheVariants.{Reading, Ended, Closed, Broken}
 use Rattle.ucon_journal.specs.Found.{counted, payloads_from, StandsAt}
 
 abbrev pub disk_of : {D : Type 0} → Journal D → D
 disk_of j = j.disk
+
+-- the version of its file
+abbrev pub version_of : {D : Type 0} → Journal D → ℕ
+version_of j = j.version
 
 -- the place of the gate that comes next
 abbrev pub gate_of : {D : Type 0} → Journal D → ℕ
@@ -24,18 +29,26 @@ abbrev pub told_payloads : Option (List ℕ) → List (List ℕ)
 told_payloads None = []
 told_payloads (Some file) = counted file
 
+-- it is being read, or was read to the end
+abbrev pub IsUnmended : Phase → Type 0
+IsUnmended phase = (phase ≡ Reading) ⊎ (phase ≡ Ended)
+
 -- it is being read, up to the gate
 pub record IsReading {D : Type 0} (contents : D → Option (List ℕ)) (j : Journal D) : Type 0 where
-  pub phase : j.phase ≢ Closed
-  pub told : IfSome (contents j.disk) (λ file. (payloads : List (List ℕ)) × StandsAt file j.gate payloads)
+  pub phase : IsUnmended j.phase
+  pub told : IfSome (contents j.disk) (λ file. (payloads : List (List ℕ)) × StandsAt file j.version j.gate payloads)
   pub len : IfSome (contents j.disk) (λ file. j.len ≡ length file)
 
 -- it was read to the first gate whose record doesn't count
 pub record HasEnded {D : Type 0} (contents : D → Option (List ℕ)) (j : Journal D) : Type 0 where
   pub phase : j.phase ≡ Ended
-  pub told : IfSome (contents j.disk) (λ file. StandsAt file j.gate (counted file) × (payloads_from file j.gate ≡ []))
+  pub told : IfSome (contents j.disk) (λ file. StandsAt file j.version j.gate (counted file) × (payloads_from file j.gate ≡ []))
 
 -- its last byte is a closed gate, behind the records of all its payloads
 pub record IsClosed {D : Type 0} (contents : D → Option (List ℕ)) (j : Journal D) : Type 0 where
   pub phase : j.phase ≡ Closed
-  pub told : IfSome (contents j.disk) (λ file. StandsAt file j.gate (counted file) × (drop j.gate file ≡ 0 ∷ []))
+  pub told : IfSome (contents j.disk) (λ file. StandsAt file j.version j.gate (counted file) × (drop j.gate file ≡ 0 ∷ []))
+
+-- a device call that changes the file failed, and the file has to be opened again
+abbrev pub IsBroken : {D : Type 0} → Journal D → Type 0
+IsBroken j = j.phase ≡ Broken

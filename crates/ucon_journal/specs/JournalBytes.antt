@@ -1,10 +1,18 @@
 -- The bytes of a journal.
-use Rattle.std.specs.Prelude.{ℕ, ◌^◌, ◌<◌, List, [], ◌∷◌, ◌++◌, length}
+use Rattle.std.specs.Prelude.{ℕ, ◌+◌, ◌^◌, ◌<◌, ◌≤◌, List, [], ◌∷◌, ◌++◌, length}
 use Rattle.std.specs.Int.{w32, to_be_bytes}
 
--- `UCONJR01`: what every journal begins with. Nothing else tells its version.
-abbrev pub magic : List ℕ
-magic = 85 ∷ 67 ∷ 79 ∷ 78 ∷ 74 ∷ 82 ∷ 48 ∷ 49 ∷ []
+-- the versions that there are
+abbrev pub IsVersion : ℕ → Type 0
+IsVersion version = (1 ≤ version) × (version ≤ 2)
+
+-- that of a new journal
+abbrev pub newest : ℕ
+newest = 2
+
+-- `UCONJR01` or `UCONJR02`: what a journal of this version begins with
+abbrev pub magic : ℕ → List ℕ
+magic version = 85 ∷ 67 ∷ 79 ∷ 78 ∷ 74 ∷ 82 ∷ 48 ∷ (48 + version) ∷ []
 
 -- an open gate, four bytes of length, and the payload
 abbrev pub record_bytes : List ℕ → List ℕ
@@ -15,8 +23,8 @@ records [] = []
 records (payload ∷ payloads) = record_bytes payload ++ records payloads
 
 -- the magic, a record for each payload, and a closed gate
-abbrev pub journal_bytes : List (List ℕ) → List ℕ
-journal_bytes payloads = magic ++ records payloads ++ 0 ∷ []
+abbrev pub journal_bytes : ℕ → List (List ℕ) → List ℕ
+journal_bytes version payloads = magic version ++ records payloads ++ 0 ∷ []
 
 -- four bytes can tell each length
 abbrev pub AreShort : List (List ℕ) → Type 0

@@ -1,11 +1,11 @@
--- What the calls of a journal do to the payloads that are found.
-use Rattle.std.specs.Prelude.{◌≡◌, ◌⊎◌, nat_le, if◌then◌else◌, ℕ, List, [], ◌∷◌, ◌++◌, length, take}
-use Rattle.ucon_journal.specs.JournalBytes.{record_bytes, journal_bytes}
-use Rattle.ucon_journal.specs.Found.{counted}
+-- What the calls of a journal do to the bytes, and to the payloads that are found in them.
+use Rattle.std.specs.Prelude.{◌≡◌, ◌≢◌, ◌⊎◌, ◌≤◌, nat_le, if◌then◌else◌, ℕ, List, [], ◌∷◌, ◌++◌, length, take}
+use Rattle.ucon_journal.specs.JournalBytes.{newest, record_bytes, journal_bytes}
+use Rattle.ucon_journal.specs.Found.{NotJournal, found, counted}
 
--- what opening makes of the bytes: a journal with no record, where its making was stopped
+-- what opening makes of the bytes: a new journal with no record, where its making was stopped
 abbrev pub opened : List ℕ → List ℕ
-opened file = if nat_le (length file) 9 then journal_bytes [] else file
+opened file = if nat_le (length file) 9 then journal_bytes newest [] else file
 
 -- what mending makes of them: a closed gate, and nothing behind it
 abbrev pub shut_at : ℕ → List ℕ → List ℕ
@@ -15,10 +15,20 @@ shut_at gate file = take gate file ++ 0 ∷ []
 abbrev pub with_payload : ℕ → List ℕ → List ℕ → List ℕ
 with_payload gate payload file = take gate file ++ record_bytes payload ++ 0 ∷ []
 
+-- the file as it was, or a journal whose making was stopped, where the file was one
+abbrev pub Untouched : List ℕ → List ℕ → Type 0
+Untouched file c = (c ≡ file) ⊎ ((length file ≤ 9) × (length c ≤ 9))
+
+-- it begins as the file does, is a journal, and these payloads are found in it
+pub record StillHolds (file : List ℕ) (held : List (List ℕ)) (c : List ℕ) : Type 0 where
+  pub magic : take 8 c ≡ take 8 file
+  pub journal : found c ≢ NotJournal
+  pub payloads : counted c ≡ held
+
 -- the same payloads are found
 abbrev pub SamePayloads : List ℕ → List ℕ → Type 0
-SamePayloads file c = counted c ≡ counted file
+SamePayloads file c = StillHolds file (counted file) c
 
 -- the same payloads are found, or those with one more
 abbrev pub PerhapsAdded : List ℕ → List ℕ → List ℕ → Type 0
-PerhapsAdded payload file c = (counted c ≡ counted file) ⊎ (counted c ≡ counted file ++ payload ∷ [])
+PerhapsAdded payload file c = StillHolds file (counted file) c ⊎ StillHolds file (counted file ++ payload ∷ []) c

@@ -3,8 +3,10 @@
 ghost use Rattle.ucon_journal.specs.declared.fault.OpenFault.TheVariants as open_faults;
 ghost use Rattle.ucon_journal.specs.declared.fault.TakeFault.TheVariants as take_faults;
 ghost use Rattle.std.specs.Prelude.{◌≡◌};
+ghost use Rattle.ucon_base.specs.Memory.{out_of_memory};
 
 use std::alloc::AllocError;
+use ucon_base::NoMemory;
 use ucon_disk::Failed;
 
 /// The disk failed.
@@ -17,12 +19,11 @@ impl From<Failed> for DiskFault {
     }
 }
 
-/// Why a journal could not be opened.
+/// Why a journal could not be opened. Opening takes no memory.
 #[derive(Clone, Copy, Debug, PartialEq, Eq)]
 pub enum OpenFault {
     NotJournal,
     DiskFault,
-    NoMemory,
 }
 
 impl From<Failed> for OpenFault {
@@ -39,7 +40,7 @@ pub enum TakeFault {
     /// A whole record is too long. It has the place of its gate.
     TooLong(u64),
     DiskFault,
-    NoMemory,
+    NoMemory(NoMemory),
 }
 
 impl From<Failed> for TakeFault {
@@ -51,9 +52,9 @@ impl From<Failed> for TakeFault {
 }
 
 impl From<AllocError> for TakeFault {
-    ghost from_gives = { λ _ e. e ≡ take_faults.NoMemory };
+    ghost from_gives = { λ _ e. e ≡ take_faults.NoMemory out_of_memory };
 
-    fn from(_e: AllocError) -> TakeFault {
-        TakeFault::NoMemory
+    fn from(e: AllocError) -> TakeFault {
+        TakeFault::NoMemory(NoMemory::from(e))
     }
 }

@@ -1,20 +1,21 @@
 //! A journal: payloads of bytes in records, each on the disk before it is acknowledged.
 
-ghost use Rattle.std.specs.Prelude.{◌≡◌, ◌≢◌, ◌+◌, ◌-◌, ◌<◌, ◌≤◌, ◌^◌, false, List, ℕ, Some, [], ◌∷◌, ◌++◌, length, take, Ok, IsSome, IfSome, IfOk, IfErr, OnOk, IsErrOf, MatchBool, MatchOption, true, vec_capacity};
+ghost use Rattle.std.specs.Prelude.{◌≡◌, ◌≢◌, ◌+◌, ◌-◌, ◌<◌, ◌≤◌, ◌^◌, false, List, ℕ, Some, [], ◌∷◌, ◌++◌, length, take, Ok, IsSome, IfSome, IfOk, IfErr, OnOk, OnErr, IsErrOf, MatchBool, MatchOption, true, vec_capacity};
 ghost use Rattle.std.specs.Int.{w32, to_be_bytes};
+ghost use Rattle.std.specs.List.{sum_by};
 ghost use Rattle.std.specs.Option.{option_map};
-ghost use Rattle.ucon_disk.specs.Causes.{HasCause, Rose};
+ghost use Rattle.ucon_disk.specs.Causes.{HasCause, raised};
 ghost use Rattle.ucon_disk.specs.Disk.{Only, SameImages};
 ghost use Rattle.ucon_disk.specs.Run.{LeavesOnly, LeavesAfter};
-ghost use Rattle.ucon_journal.specs.JournalBytes.{AreShort, journal_bytes};
-ghost use Rattle.ucon_journal.specs.Found.{found, counted, payloads_from, counts, length_told};
+ghost use Rattle.ucon_journal.specs.JournalBytes.{IsVersion, AreShort, records, journal_bytes};
+ghost use Rattle.ucon_journal.specs.Found.{found, version_told, counted, payloads_from, counts, length_told};
 ghost use Rattle.ucon_journal.specs.Found as finding;
-ghost use Rattle.ucon_journal.specs.Opened.{opened, shut_at, with_payload, SamePayloads, PerhapsAdded};
+ghost use Rattle.ucon_journal.specs.Opened.{opened, shut_at, with_payload, Untouched, SamePayloads, PerhapsAdded};
 
 use crate::fault::{DiskFault, OpenFault, TakeFault};
 use crate::opening::begin;
 use crate::phase::Phase;
-use crate::synced::{cut_synced, write_synced};
+use crate::synced::{cut_synced, write_gate, write_synced};
 use std::alloc::Global;
 use ucon_base::NoMemory;
 use ucon_disk::Disk;
@@ -31,39 +32,44 @@ pub const MAX_PAYLOAD: u64 = 16_777_215;
 #[derive(Drop)]
 pub struct Journal<D> {
     disk: D,
+    version: u8,
     gate: u64,
     len: u64,
     buffer: Vec<u8>,
     phase: Phase,
+    ghost version_known: { IsVersion version },
     ghost gate_small: { gate < 2 ^ 63 },
     ghost len_small: { len < 2 ^ 63 },
 }
 
 impl<D: Disk> Journal<D> {
-    ghost use Rattle.ucon_journal.specs.Journal.{disk_of, gate_of, payload_of, told_payloads, HasRoomFor, IsReading, HasEnded, IsClosed};
+    ghost use Rattle.ucon_journal.specs.Journal.{disk_of, version_of, gate_of, payload_of, told_payloads, HasRoomFor, IsReading, HasEnded, IsClosed, IsBroken};
 
-    /// Opens the journal in a file, and makes it in a file of at most 9 bytes. A refusal hands the disk back.
+    /// Opens the journal in a file, and makes a new one, of version 2, in a file of at most 9 bytes. A longer file isn't
+    /// written. A refusal hands the disk back.
     pub fn open(alloc: Global, mut disk: D) -> Result<Journal<D>, (D, OpenFault)>
         ensures reading { IfOk result (λ j. IsReading D.contents j × (gate_of j ≡ 8)) }
+        ensures version { IfOk result (λ j. IfSome (D.contents (disk_of j)) (λ file. version_told file ≡ Some (version_of j))) }
         ensures bytes { IfOk result (λ j. D.contents (disk_of j) ≡ option_map opened (D.contents disk)) }
         ensures same { IfOk result (λ j. told_payloads (D.contents (disk_of j)) ≡ told_payloads (D.contents disk)) }
         ensures all { IfOk result (λ j. IfSome (D.contents (disk_of j)) (λ file. payloads_from file 8 ≡ counted file)) }
         ensures only { IfOk result (λ j. Only (D.contents (disk_of j)) (D.images (disk_of j))) }
-        ensures images { IfOk result (λ j. LeavesAfter D.contents D.images D.moment D.images_since disk (disk_of j) SamePayloads) }
-        ensures later { IfOk result (λ j. D.faults disk ≤ D.faults (disk_of j)) }
+        ensures images { IfOk result (λ j. LeavesAfter D.contents D.images D.moment D.images_since disk (disk_of j) Untouched) }
+        ensures unfailed { IfOk result (λ j. D.faults (disk_of j) ≡ D.faults disk) }
 
         ensures is_journal { IfOk result (λ _. IfSome (D.contents disk) (λ file. found file ≢ finding.NotJournal)) }
         ensures not_journal { IfErr result (λ e. e.1 ≡ OpenFault.NotJournal
             → IfSome (D.contents disk) (λ file. (found file ≡ finding.NotJournal) × (D.contents e.0 ≡ Some file))) }
-        ensures images_err { IfErr result (λ e. LeavesAfter D.contents D.images D.moment D.images_since disk e.0 SamePayloads) }
-        ensures later_err { IfErr result (λ e. D.faults disk ≤ D.faults e.0) }
-        ensures failed { IfErr result (λ e. e.1 ≡ OpenFault.DiskFault → Rose (D.faults disk) (D.faults e.0)) }
+        ensures images_err { IfErr result (λ e. LeavesAfter D.contents D.images D.moment D.images_since disk e.0 Untouched) }
+        ensures failed { IfErr result (λ e. e.1 ≡ OpenFault.DiskFault → D.faults e.0 ≡ raised (D.faults disk)) }
+        ensures unfailed_err { IfErr result (λ e. e.1 ≢ OpenFault.DiskFault → D.faults e.0 ≡ D.faults disk) }
     {
         match begin(&mut disk) {
-            Ok(len) => Ok(Journal {
+            Ok(opened) => Ok(Journal {
                 disk,
+                version: opened.version,
                 gate: FIRST_GATE,
-                len,
+                len: opened.len,
                 buffer: Vec::new(alloc),
                 phase: Phase::Reading,
             }),
@@ -71,23 +77,34 @@ impl<D: Disk> Journal<D> {
         }
     }
 
+    /// The version of the file's format, 1 or 2.
+    pub fn version(&self) -> u8
+        ensures value { result ≡ version_of self.now }
+        ensures known { IsVersion result }
+    {
+        self.version
+    }
+
     /// Takes the next record, whose payload `payload` gives then, and tells whether there was one.
     pub fn next(&mut self) -> Result<bool, TakeFault>
         requires { IsReading D.contents self.old }
         ensures reading { IsReading D.contents self.new }
         ensures taken { IfOk result (λ more. IfSome (D.contents (disk_of self.old)) (λ file. MatchBool more
-            ((payloads_from file (gate_of self.old) ≡ payload_of self.new ∷ payloads_from file (gate_of self.new)) × (length (payload_of self.new) ≤ MAX_PAYLOAD))
+            (payloads_from file (gate_of self.old) ≡ payload_of self.new ∷ payloads_from file (gate_of self.new))
             (payloads_from file (gate_of self.old) ≡ []))) }
+        ensures short { result ≡ Ok true → length (payload_of self.new) ≤ MAX_PAYLOAD }
+        ensures advance { result ≡ Ok true → gate_of self.new ≡ gate_of self.old + 5 + length (payload_of self.new) }
         ensures ended { IfOk result (λ more. more ≡ false → HasEnded D.contents self.new) }
         ensures too_long { IfErr result (λ e. (place : ℕ) → e ≡ TakeFault.TooLong place → (place ≡ gate_of self.old)
             × IfSome (D.contents (disk_of self.old)) (λ file. ((p : List ℕ) × (ps : List (List ℕ)) × (payloads_from file place ≡ p ∷ ps) × (MAX_PAYLOAD < length p)))) }
         ensures stays { result ≢ Ok true → gate_of self.new ≡ gate_of self.old }
+        ensures version { version_of self.new ≡ version_of self.old }
 
         ensures contents { D.contents (disk_of self.new) ≡ D.contents (disk_of self.old) }
         ensures images { SameImages (D.images (disk_of self.old)) (D.images (disk_of self.new)) }
         ensures run { LeavesOnly D.moment D.images_since (disk_of self.old) (disk_of self.new) (D.images (disk_of self.old)) }
-        ensures later { D.faults (disk_of self.old) ≤ D.faults (disk_of self.new) }
-        ensures failed { IsErrOf result TakeFault.DiskFault → Rose (D.faults (disk_of self.old)) (D.faults (disk_of self.new)) }
+        ensures failed { IsErrOf result TakeFault.DiskFault → D.faults (disk_of self.new) ≡ raised (D.faults (disk_of self.old)) }
+        ensures unfailed { result ≢ Err TakeFault.DiskFault → D.faults (disk_of self.new) ≡ D.faults (disk_of self.old) }
     {
         let mut header = [0; 5];
         let got = self.disk.read_at(self.gate, &mut header)?;
@@ -101,11 +118,14 @@ impl<D: Disk> Journal<D> {
         }
         self.buffer.resize(len as usize, 0)?;
         let got = self.disk.read_at(self.gate + HEADER, &mut self.buffer)?;
+        // A disk that tells its content reads whole here. A real file may have got shorter since its length was taken: then
+        // the record doesn't lie within it, and doesn't count. No clause can say so, since no clause speaks of a real file.
         if got < self.buffer.len() {
             self.phase = Phase::Ended;
             return Ok(false);
         }
         self.gate += HEADER + len;
+        self.phase = Phase::Reading;
         Ok(true)
     }
 
@@ -116,34 +136,52 @@ impl<D: Disk> Journal<D> {
         &self.buffer
     }
 
+    /// Goes back before the first record, which `next` takes then.
+    pub fn rewind(&mut self)
+        requires { IsReading D.contents self.old }
+        ensures reading { IsReading D.contents self.new }
+        ensures gate { gate_of self.new ≡ 8 }
+        ensures all { IfSome (D.contents (disk_of self.new)) (λ file. payloads_from file 8 ≡ counted file) }
+        ensures version { version_of self.new ≡ version_of self.old }
+        ensures disk { disk_of self.new ≡ disk_of self.old }
+    {
+        self.gate = FIRST_GATE;
+        self.phase = Phase::Reading;
+    }
+
     /// Takes away what stands behind the last whole record, and closes the gate there. After a fault, open the file again.
     pub fn mend(&mut self) -> Result<(), DiskFault>
         requires { HasEnded D.contents self.old }
         ensures closed { OnOk result (IsClosed D.contents self.new) }
+        ensures broken { OnErr result (IsBroken self.new) }
         ensures same { OnOk result (told_payloads (D.contents (disk_of self.new)) ≡ told_payloads (D.contents (disk_of self.old))) }
         ensures bytes { OnOk result (D.contents (disk_of self.new) ≡ option_map (shut_at (gate_of self.old)) (D.contents (disk_of self.old))) }
         ensures gate { gate_of self.new ≡ gate_of self.old }
+        ensures version { version_of self.new ≡ version_of self.old }
         ensures only { OnOk result (Only (D.contents (disk_of self.new)) (D.images (disk_of self.new))) }
         ensures images { LeavesAfter D.contents D.images D.moment D.images_since (disk_of self.old) (disk_of self.new) SamePayloads }
         ensures cause { HasCause (D.faults (disk_of self.old)) (D.faults (disk_of self.new)) result }
     {
         self.phase = Phase::Broken;
-        // The cut has to be on the disk first: behind a gate that is torn open, what was there would count.
         cut_synced(&mut self.disk, self.gate + 1)?;
-        write_synced(&mut self.disk, self.gate, &[0])?;
+        write_gate(&mut self.disk, self.gate, 0)?;
         self.phase = Phase::Closed;
         Ok(())
     }
 
-    /// Makes room for a payload of so many bytes.
+    /// Makes room for a payload of so many bytes. The payload that was taken stays.
     pub fn reserve(&mut self, n: usize) -> Result<(), NoMemory>
         ensures room { OnOk result (HasRoomFor self.new n) }
         ensures disk { disk_of self.new ≡ disk_of self.old }
         ensures gate { gate_of self.new ≡ gate_of self.old }
+        ensures version { version_of self.new ≡ version_of self.old }
+        ensures payload { payload_of self.new ≡ payload_of self.old }
+        ensures reading { IsReading D.contents self.old → IsReading D.contents self.new }
+        ensures ended { HasEnded D.contents self.old → HasEnded D.contents self.new }
         ensures closed { IsClosed D.contents self.old → IsClosed D.contents self.new }
     {
-        let all = n.checked_add(5).ok_or(NoMemory)?;
-        self.buffer.reserve(all)?;
+        // Where the sum passes the last number there is no such room.
+        self.buffer.reserve(n.saturating_add(5))?;
         Ok(())
     }
 
@@ -154,12 +192,14 @@ impl<D: Disk> Journal<D> {
         requires short { length payload.now ≤ MAX_PAYLOAD }
         requires room { HasRoomFor self.old (length payload.now) }
         ensures closed { OnOk result (IsClosed D.contents self.new) }
+        ensures broken { OnErr result (IsBroken self.new) }
         ensures room { (n : ℕ) → HasRoomFor self.old n → HasRoomFor self.new n }
         ensures added { OnOk result (IfSome (D.contents (disk_of self.old)) (λ file.
             told_payloads (D.contents (disk_of self.new)) ≡ told_payloads (D.contents (disk_of self.old)) ++ payload.now ∷ [])) }
         ensures bytes { OnOk result (D.contents (disk_of self.new)
             ≡ option_map (with_payload (gate_of self.old) payload.now) (D.contents (disk_of self.old))) }
         ensures gate { OnOk result (gate_of self.new ≡ gate_of self.old + 5 + length payload.now) }
+        ensures version { version_of self.new ≡ version_of self.old }
         ensures only { OnOk result (Only (D.contents (disk_of self.new)) (D.images (disk_of self.new))) }
 
         // A crash at any moment of the call leaves the payloads from before it, with the new one or without.
@@ -169,8 +209,7 @@ impl<D: Disk> Journal<D> {
         self.phase = Phase::Broken;
         stage(&mut self.buffer, payload);
         write_synced(&mut self.disk, self.gate + 1, &self.buffer)?;
-        // The gate is opened once what it shows is on the disk.
-        write_synced(&mut self.disk, self.gate, &[1])?;
+        write_gate(&mut self.disk, self.gate, 1)?;
         self.gate += HEADER + payload.len() as u64;
         self.phase = Phase::Closed;
         Ok(())
@@ -181,6 +220,7 @@ impl<D: Disk> Journal<D> {
     {
         let Journal {
             disk,
+            version: _,
             gate: _,
             len: _,
             buffer: _,
@@ -192,10 +232,16 @@ impl<D: Disk> Journal<D> {
 
 /// The law of reading back: what counts in the bytes of payloads is those payloads, up to the last gate.
 pub fn reads_back()
-    ensures payloads { (ps : List (List ℕ)) → AreShort ps → counted (journal_bytes ps) ≡ ps }
-    ensures gate { (p : List ℕ) (ps : List (List ℕ)) → AreShort (p ∷ ps)
-        → found (journal_bytes (p ∷ ps)) ≡ finding.Holds (p ∷ ps) (length (journal_bytes (p ∷ ps)) - 1) }
-    ensures fresh { found (journal_bytes []) ≡ finding.Fresh }
+    ensures payloads { (v : ℕ) (ps : List (List ℕ)) → IsVersion v → AreShort ps → counted (journal_bytes v ps) ≡ ps }
+    ensures gate { (v : ℕ) (p : List ℕ) (ps : List (List ℕ)) → IsVersion v → AreShort (p ∷ ps)
+        → found (journal_bytes v (p ∷ ps)) ≡ finding.Holds (p ∷ ps) (length (journal_bytes v (p ∷ ps)) - 1) }
+    ensures fresh { (v : ℕ) → found (journal_bytes v []) ≡ finding.Fresh }
+    ensures version { (v : ℕ) (ps : List (List ℕ)) → IsVersion v → version_told (journal_bytes v ps) ≡ Some v }
+{}
+
+/// The law of places: records are as long as their payloads and five bytes for each together.
+pub fn records_are_a_sum()
+    ensures { (ps : List (List ℕ)) → length (records ps) ≡ sum_by (λ p. 5 + length p) ps }
 {}
 
 // The length of the payload of the record at the front of so many bytes, of which these are the first five,

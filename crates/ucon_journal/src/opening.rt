@@ -1,44 +1,76 @@
 //! How the file of a journal is found or made.
 
-ghost use Rattle.std.specs.Prelude.{◌≡◌, ◌≢◌, ◌<◌, ◌≤◌, ◌^◌, length, Some, IfSome, IfOk, IfErr, OnOk};
+ghost use Rattle.std.specs.Prelude.{◌≡◌, ◌≢◌, ◌<◌, ◌≤◌, ◌^◌, length, take, Some, IfSome, IfOk, IfErr, OnOk, IsErrOf};
 ghost use Rattle.std.specs.Option.{option_map};
-ghost use Rattle.ucon_disk.specs.Causes.{Rose};
+ghost use Rattle.ucon_disk.specs.Causes.{raised};
 ghost use Rattle.ucon_disk.specs.Disk.{Only};
 ghost use Rattle.ucon_disk.specs.Run.{LeavesAfter};
-ghost use Rattle.ucon_journal.specs.Found.{found, counted};
+ghost use Rattle.ucon_journal.specs.JournalBytes.{IsVersion, newest};
+ghost use Rattle.ucon_journal.specs.Found.{found, version_told};
 ghost use Rattle.ucon_journal.specs.Found as finding;
-ghost use Rattle.ucon_journal.specs.Opened.{opened, SamePayloads};
+ghost use Rattle.ucon_journal.specs.Opened.{opened, Untouched};
 
 use crate::fault::OpenFault;
 use crate::synced::write_synced;
 use ucon_disk::Disk;
 
-/// A journal with no record: what every journal begins with, and a closed gate. Nothing else tells its version.
-const EMPTY: [u8; 9] = *b"UCONJR01\0";
+/// A journal of version 2 with no record: its magic, and a closed gate.
+const EMPTY: [u8; 9] = *b"UCONJR02\0";
 
-/// Syncs the file, and sees that it is a journal, or makes it one. Gives its length.
-pub(crate) fn begin<D: Disk>(disk: &mut D) -> Result<u64, OpenFault>
-    ensures small { IfOk result (λ len. len < 2 ^ 63) }
-    ensures len { IfOk result (λ len. IfSome (D.contents disk.new) (λ file. len ≡ length file)) }
+const FIRST_MAGIC: [u8; 8] = *b"UCONJR01";
+
+const SECOND_MAGIC: [u8; 8] = *b"UCONJR02";
+
+/// What was found in a file, or made there: its length in bytes, and its version.
+#[derive(Clone, Copy)]
+pub(crate) struct Opened {
+    pub len: u64,
+    pub version: u8,
+}
+
+/// Syncs the file, and sees that it is a journal, or makes it one.
+pub(crate) fn begin<D: Disk>(disk: &mut D) -> Result<Opened, OpenFault>
+    ensures small { IfOk result (λ o. o.len < 2 ^ 63) }
+    ensures len { IfOk result (λ o. IfSome (D.contents disk.new) (λ file. o.len ≡ length file)) }
+    ensures known { IfOk result (λ o. IsVersion o.version) }
+    ensures version { IfOk result (λ o. IfSome (D.contents disk.new) (λ file. version_told file ≡ Some o.version)) }
     ensures bytes { OnOk result (D.contents disk.new ≡ option_map opened (D.contents disk.old)) }
     ensures only { OnOk result (Only (D.contents disk.new) (D.images disk.new)) }
     ensures is_journal { OnOk result (IfSome (D.contents disk.old) (λ file. found file ≢ finding.NotJournal)) }
     ensures not_journal { IfErr result (λ e. e ≡ OpenFault.NotJournal
         → IfSome (D.contents disk.old) (λ file. (found file ≡ finding.NotJournal) × (D.contents disk.new ≡ Some file))) }
-    ensures images { LeavesAfter D.contents D.images D.moment D.images_since disk.old disk.new SamePayloads }
-    ensures later { D.faults disk.old ≤ D.faults disk.new }
-    ensures failed { IfErr result (λ e. e ≡ OpenFault.DiskFault → Rose (D.faults disk.old) (D.faults disk.new)) }
+    ensures images { LeavesAfter D.contents D.images D.moment D.images_since disk.old disk.new Untouched }
+    ensures failed { IsErrOf result OpenFault.DiskFault → D.faults disk.new ≡ raised (D.faults disk.old) }
+    ensures unfailed { result ≢ Err OpenFault.DiskFault → D.faults disk.new ≡ D.faults disk.old }
 {
     disk.sync()?;
     let len = disk.len()?;
     if len <= EMPTY.len() as u64 {
         write_synced(disk, 0, &EMPTY)?;
-        return Ok(EMPTY.len() as u64);
+        return Ok(Opened {
+            len: EMPTY.len() as u64,
+            version: 2,
+        });
     }
     let mut magic = [0; 8];
     let got = disk.read_at(0, &mut magic)?;
-    if got < 8 || !EMPTY.starts_with(&magic) {
-        return Err(OpenFault::NotJournal);
+    match version(&magic[..got]) {
+        Some(version) => Ok(Opened { len, version }),
+        None => Err(OpenFault::NotJournal),
     }
-    Ok(len)
+}
+
+// The version that the first 8 bytes of a file tell, or those of a shorter one.
+fn version(front: &[u8]) -> Option<u8>
+    requires { length front.now ≤ 8 }
+    ensures told { result ≡ version_told front.now }
+    ensures known { IfSome result IsVersion }
+{
+    if front == SECOND_MAGIC.as_slice() {
+        return Some(2);
+    }
+    if front == FIRST_MAGIC.as_slice() {
+        return Some(1);
+    }
+    None
 }

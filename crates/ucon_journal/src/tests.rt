@@ -12,7 +12,7 @@ const FIRST: &[u8] = b"right r {}\n";
 
 const SECOND: &[u8] = b"0 subject a\nok";
 
-const BYTES: &[u8] = b"UCONJR01\x01\0\0\0\x0bright r {}\n\x01\0\0\0\x0e0 subject a\nok\0";
+const BYTES: &[u8] = b"UCONJR02\x01\0\0\0\x0bright r {}\n\x01\0\0\0\x0e0 subject a\nok\0";
 
 fn at_rest(alloc: Global, bytes: &[u8], stop_after: Option<u64>) -> Result<MemDisk, Fail> {
     Ok(MemDisk::new(alloc, bytes.to_vec(alloc)?, Vec::new(alloc), stop_after))
@@ -21,7 +21,8 @@ fn at_rest(alloc: Global, bytes: &[u8], stop_after: Option<u64>) -> Result<MemDi
 // The payloads that are read, each ended by a bar.
 fn read_all<D: Disk>(alloc: Global, journal: &mut Journal<D>) -> Result<Vec<u8>, TakeFault>
     requires { IsReading D.contents journal.old }
-    ensures { OnOk result (HasEnded D.contents journal.new) }
+    ensures reading { IsReading D.contents journal.new }
+    ensures ended { OnOk result (HasEnded D.contents journal.new) }
 {
     let mut all = Vec::new(alloc);
     'records: for _ in 0..u64::MAX {
@@ -31,7 +32,7 @@ fn read_all<D: Disk>(alloc: Global, journal: &mut Journal<D>) -> Result<Vec<u8>,
         all.extend_from_slice(journal.payload())?;
         all.extend_from_slice(b"|")?;
     }
-    Err(TakeFault::NoMemory)
+    Err(TakeFault::TooLong(u64::MAX))
 }
 
 fn add<D: Disk>(journal: &mut Journal<D>, payload: &[u8]) -> Result<(), DiskFault>
@@ -69,7 +70,15 @@ fn run(alloc: Global, disk: MemDisk) -> (MemDisk, bool) {
 
 fn found(alloc: Global, bytes: &[u8]) -> Result<Vec<u8>, Fail> {
     match Journal::open(alloc, at_rest(alloc, bytes, None)?) {
-        Ok(mut journal) => Ok(read_all(alloc, &mut journal)?),
+        Ok(mut journal) => {
+            let first = read_all(alloc, &mut journal)?;
+            journal.rewind();
+            let again = read_all(alloc, &mut journal)?;
+            if first != again {
+                return Err(Fail::from(DiskFault));
+            }
+            Ok(again)
+        }
         Err((_disk, fault)) => Err(Fail::from(fault)),
     }
 }
@@ -117,7 +126,36 @@ fn small(alloc: Global, disk: MemDisk) -> Result<MemDisk, DiskFault> {
 fn an_empty_file_gets_one_record(rt: HostRuntime) -> Result<(), Fail> {
     let alloc = rt.alloc();
     let disk = small(alloc, at_rest(alloc, b"", None)?)?;
-    assert_eq!(rt; disk.contents(), b"UCONJR01\x01\0\0\0\x03abc\0".as_slice());
+    assert_eq!(rt; disk.contents(), b"UCONJR02\x01\0\0\0\x03abc\0".as_slice());
+    Ok(())
+}
+
+// What is in a file after its opening, and the version.
+fn after_opening(alloc: Global, bytes: &[u8]) -> Result<(Vec<u8>, u8), Fail> {
+    match Journal::open(alloc, at_rest(alloc, bytes, None)?) {
+        Ok(journal) => {
+            let version = journal.version();
+            let disk = journal.close();
+            Ok((disk.contents().to_vec(alloc)?, version))
+        }
+        Err((_disk, fault)) => Err(Fail::from(fault)),
+    }
+}
+
+#[test]
+fn nine_bytes_become_version_2_and_ten_stay(rt: HostRuntime) -> Result<(), Fail> {
+    let alloc = rt.alloc();
+    let rows: [(&[u8], &[u8], u8); 4] = [
+        (b"", b"UCONJR02\0", 2),
+        (b"UCONJR01\0", b"UCONJR02\0", 2),
+        (b"UCONJR01\0\0", b"UCONJR01\0\0", 1),
+        (b"UCONJR02\x01\0", b"UCONJR02\x01\0", 2),
+    ];
+    for (bytes, want, version) in rows {
+        let (after, told) = after_opening(alloc, bytes)?;
+        assert_eq!(rt; after.as_slice(), want);
+        assert_eq!(rt; told, version);
+    }
     Ok(())
 }
 
@@ -140,7 +178,7 @@ fn refusals(rt: HostRuntime) -> Result<(), Fail> {
         refusal(alloc, at_rest(alloc, b"", Some(0))?),
         Some(OpenFault::DiskFault)
     );
-    let mut long = b"UCONJR01\x01\x01\0\0\0".to_vec(alloc)?;
+    let mut long = b"UCONJR02\x01\x01\0\0\0".to_vec(alloc)?;
     long.resize(16_777_216 + 14, 0)?;
     match Journal::open(alloc, at_rest(alloc, &long, None)?) {
         Ok(mut journal) => {
@@ -192,7 +230,7 @@ fn images_after_a_stop(rt: HostRuntime) -> Result<(), Fail> {
     check_images(
         alloc,
         &rt,
-        b"UCONJR01\x01\0\0\0\x03abc\x01\0\0\0\x09xy\x01",
+        b"UCONJR02\x01\0\0\0\x03abc\x01\0\0\0\x09xy\x01",
         &torn,
     )?;
     Ok(())

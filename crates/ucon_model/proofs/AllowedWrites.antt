@@ -10,7 +10,7 @@ use Rattle.ucon_model.specs.Plain.{PlainPolicy, PlainUpdate}
 use Rattle.ucon_model.specs.Action.{Trace, followed_by}
 use Rattle.ucon_model.specs.Readings.{has_entity, session}
 use Rattle.ucon_model.specs.Updates.{same_when, entity_of, write_of, writes, updates_of, session_writes}
-use Rattle.ucon_model.specs.LegalRun.{Each}
+use Rattle.ucon_base.specs.Elements.{Each}
 use Rattle.ucon_model.specs.Fitting.{ValuesFit, ResultFits, UpdatesFit}
 use Rattle.ucon_model.proofs.Allowed.{IsAllowed, AreAllowed, IsGrounded, IsSound}
 

@@ -25,6 +25,8 @@ pub mod Histories
 pub mod Cascades
 pub mod WithinAndLasts
 pub mod Lines
+pub mod Payloads
+pub mod FoundOn
 pub mod Documents
 mod GeneratedDocument
 pub mod FirstFaults

@@ -16,14 +16,14 @@ use Rattle.ucon_model.specs.Readings.{has_entity, session}
 use Rattle.ucon_model.specs.Truth.{place_of, value_of, read_or_zero}
 use Rattle.ucon_model.specs.Decision.{right_named}
 use Rattle.ucon_model.specs.History.{History, trace}
-use Rattle.ucon_model.specs.LegalRun.{Each}
+use Rattle.ucon_base.specs.Elements.{Each, each_map}
 use Rattle.ucon_model.specs.Places.{attr_place}
 use Rattle.ucon_model.specs.Typing.{value_sort, is_of, are_of_one_sort, place_sort, expr_sort, takes, is_typed_formula, is_typed_test, is_typed_update, IsTyped}
 use Rattle.ucon_model.specs.Meaning.{are_integers, adds, has_size, are_of_one_kind, is_text_and_set, may_compare, expr_means, formula_means, test_means}
 use Rattle.ucon_model.proofs.Allowed.{IsGrounded}
 use Rattle.ucon_model.proofs.Histories.{sound_after, values_fit_after}
 use Rattle.ucon_model.proofs.TypedParts.{typed_predicates, typed_updates}
-use Rattle.ucon_model.proofs.SortsOfValues.{left_true, right_true, both_true, is_of_some, one_sort, sum_by, size_by, read_sort, each_weaker, places_fit, places_there, value_sorted}
+use Rattle.ucon_model.proofs.SortsOfValues.{left_true, right_true, both_true, is_of_some, one_sort, sum_by, size_by, read_sort, places_fit, places_there, value_sorted}
 
 -- ---- values of their sorts
 
@@ -208,11 +208,11 @@ reads_of P typed H n row is =
 pub predicates_mean : (P : PlainPolicy) → IsTyped P → (H : History) (n : ℕ) (row : SessionRow) (r : PlainRight) → session (trace P H) n ≡ Some row
     → right_named P.rights row.right ≡ Some r → Each (λ p. test_means (place_of P (trace P H) row) p.test ≡ true) r.preds
 predicates_mean P typed H n row r is named =
-    each_weaker (λ p. is_typed_test P p.test ≡ true) (λ p. test_means (place_of P (trace P H) row) p.test ≡ true)
+    each_map (λ p. is_typed_test P p.test ≡ true) (λ p. test_means (place_of P (trace P H) row) p.test ≡ true)
     (λ p h. test_has_meaning P (place_of P (trace P H) row) (reads_of P typed H n row is) p.test h) r.preds (typed_predicates P typed row.right r named)
 
 pub updates_mean : (P : PlainPolicy) → IsTyped P → (H : History) (n : ℕ) (row : SessionRow) (r : PlainRight) → session (trace P H) n ≡ Some row
     → right_named P.rights row.right ≡ Some r → Each (λ u. expr_means true (place_of P (trace P H) row) u.value ≡ true) r.updates
 updates_mean P typed H n row r is named =
-    each_weaker (λ u. is_typed_update P u ≡ true) (λ u. expr_means true (place_of P (trace P H) row) u.value ≡ true)
+    each_map (λ u. is_typed_update P u ≡ true) (λ u. expr_means true (place_of P (trace P H) row) u.value ≡ true)
     (λ u h. update_has_meaning P (place_of P (trace P H) row) (reads_of P typed H n row is) u h) r.updates (typed_updates P typed row.right r named)

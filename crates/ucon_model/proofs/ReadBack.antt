@@ -7,7 +7,8 @@ use Rattle.std.proofs.lemmas.Bool.{eq-eqb}
 use Rattle.std.proofs.lemmas.Fmt.{decimal_is_IsNumeral}
 use Rattle.std.proofs.lemmas.Slice.Eq.{bytes_eq-Decides}
 use Rattle.ucon_model.specs.Plain.{Bytes}
-use Rattle.ucon_model.specs.LegalRun.{Answer, no_memory, disk_fault, stopped, placed, Answered, Each}
+use Rattle.ucon_base.specs.Elements.{Each}
+use Rattle.ucon_model.specs.LegalRun.{Answer, no_memory, disk_fault, stopped, placed, Answered}
 use Rattle.ucon_model.proofs.Lacking.{lacks-append, lacks-decimal, lacks-tested}
 use Rattle.ucon_model.specs.Output.{Lacks, answer_spelling, answer_line, output, FitsLine, cut_at, number_read, answer_read, line_read, answers_read}
 

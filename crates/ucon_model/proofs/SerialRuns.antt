@@ -8,7 +8,8 @@ use Rattle.ucon_model.specs.declared.command.Entry.{Entry}
 use Rattle.ucon_model.specs.Plain.{PlainPolicy}
 use Rattle.ucon_model.specs.Spelling.{reply_spelling}
 use Rattle.ucon_model.specs.History.{History, said, changes}
-use Rattle.ucon_model.specs.LegalRun.{Answer, no_memory, disk_fault, stopped, placed, Answered, tells_change, with_record, recorded, put_by_place, by_place, history_made, Each, AreNumberedFrom, stands_on, IsSaid, Saw, StaysStopped, AreInOrder, is_disk_fault, is_stopped, IsLegalRun, in_text_order, history_after, IsNext, IsSerialRun}
+use Rattle.ucon_base.specs.Elements.{Each}
+use Rattle.ucon_model.specs.LegalRun.{Answer, no_memory, disk_fault, stopped, placed, Answered, tells_change, with_record, recorded, put_by_place, by_place, history_made, AreNumberedFrom, stands_on, IsSaid, Saw, StaysStopped, AreInOrder, is_disk_fault, is_stopped, IsLegalRun, in_text_order, history_after, IsNext, IsSerialRun}
 
 -- ---- the places
 

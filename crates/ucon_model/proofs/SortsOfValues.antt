@@ -25,7 +25,7 @@ use Rattle.ucon_model.specs.Readings.{has_entity, written, declared_attr, attrib
 use Rattle.ucon_model.specs.Truth.{place_of, value_of, read_or_zero}
 use Rattle.ucon_model.specs.Decision.{right_named}
 use Rattle.ucon_model.specs.Updates.{fitted_to}
-use Rattle.ucon_model.specs.LegalRun.{Each}
+use Rattle.ucon_base.specs.Elements.{Each, each_map}
 use Rattle.ucon_model.specs.Places.{attr_place}
 use Rattle.ucon_model.specs.Fitting.{ValuesFit, ResultFits, UpdatesFit, PlacesFit}
 use Rattle.ucon_model.specs.Typing.{sort_of, value_sort, same_sort, is_of, are_of_one_sort, sum_sort, product_sort, size_sort, place_sort, expr_sort, is_range, is_typed_update, IsTyped}
@@ -279,10 +279,6 @@ result_fits P typed T h row subject object u ok =
     (λ d there. left_true (is_range d.kind) (admits d.kind d.start) (typed_attr P typed u.side u.attr d there))
     (sym (attr_place_sort P u.side u.attr) ∙ both.1.0) (value_sorted P at reads true u.value both.0 both.1.1)
 
-pub each_weaker : {T : Type 0} (Q R : T → Type 0) → ((x : T) → Q x → R x) → (xs : List T) → Each Q xs → Each R xs
-each_weaker Q R from [] h = tt
-each_weaker Q R from (x ∷ xs) h = (from x h.0, each_weaker Q R from xs h.1)
-
 each_update : (Q : PlainUpdate → Type 0) (o : Option PlainRight) → ((r : PlainRight) → o ≡ Some r → Each Q r.updates)
     → Each Q (option_map_or (λ (right : PlainRight). right.updates) o [])
 each_update Q None h = tt
@@ -292,5 +288,5 @@ each_update Q (Some r) h = h r refl
 pub typed_updates_fit : (P : PlainPolicy) → IsTyped P → UpdatesFit P
 typed_updates_fit P typed T row h subject object =
     each_update (ResultFits P T row) (right_named P.rights row.right)
-    (λ r is. each_weaker (λ u. is_typed_update P u ≡ true) (ResultFits P T row) (result_fits P typed T h row subject object) r.updates
+    (λ r is. each_map (λ u. is_typed_update P u ≡ true) (ResultFits P T row) (result_fits P typed T h row subject object) r.updates
     (typed_updates P typed row.right r is))

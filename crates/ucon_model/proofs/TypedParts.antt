@@ -9,7 +9,7 @@ use Rattle.ucon_model.specs.declared.policy.EnvDecl.{EnvDecl}
 use Rattle.ucon_model.specs.Plain.{Bytes, PlainPredicate, PlainUpdate, PlainRight, PlainPolicy}
 use Rattle.ucon_model.specs.Readings.{declared_attr, declared_env}
 use Rattle.ucon_model.specs.Decision.{right_named}
-use Rattle.ucon_model.specs.LegalRun.{Each}
+use Rattle.ucon_base.specs.Elements.{Each}
 use Rattle.ucon_model.specs.Places.{test_places, update_places}
 use Rattle.ucon_model.specs.Typing.{TypeFault, undeclared, name_if, is_variable, is_wrong_reader, is_label_taken, is_typed_start, is_typed_test, is_typed_update, item_fault, attr_fault, env_fault, heading_fault, predicate_fault, update_fault, first_fault_of, one_item, items_of, whole_fault, right_fault, type_fault, IsTyped}
 

@@ -10,7 +10,7 @@ use Rattle.ucon_model.specs.Plain.{PlainUpdate, PlainPolicy}
 use Rattle.ucon_model.specs.Action.{Trace, write, env}
 use Rattle.ucon_model.specs.Readings.{has_entity, declared_attr, declared_env}
 use Rattle.ucon_model.specs.Updates.{updates_of, result}
-use Rattle.ucon_model.specs.LegalRun.{Each}
+use Rattle.ucon_base.specs.Elements.{Each}
 use Rattle.ucon_model.specs.Typing.{value_sort, place_sort}
 
 -- each value that the trace gave to an attribute or a variable is one that its declaration admits

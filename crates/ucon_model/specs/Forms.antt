@@ -2,7 +2,7 @@
 use Rattle.std.specs.Prelude.{ℕ, zero, suc, ℤ, nat_lt, if◌then◌else◌, List, [], ◌∷◌, ◌++◌, Option, Some, None}
 use Rattle.std.proofs.Common.{◌⊎◌, inl, inr}
 use Rattle.ucon_model.specs.Plain.{Bytes}
-use Rattle.ucon_model.specs.Tokens.{Token, a_word, a_number, a_text, a_symbol, Symbol}
+use Rattle.ucon_base.specs.Tokens.{Token, a_word, a_number, a_text, a_symbol, Symbol}
 
 -- a token that a grammar names
 pub data Terminal : Type 0 where

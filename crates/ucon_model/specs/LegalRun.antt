@@ -1,6 +1,7 @@
 -- Legal runs: which answers the lines of a run may have.
 use Rattle.std.specs.Prelude.{◌≡◌, ℕ, ◌+◌, ◌-◌, ◌≤◌, Bool, true, false, ◌||◌, IsTrue, nat_eq, nat_le, List, [], ◌∷◌, ◌++◌, length, take, map, count_by, codes, if◌then◌else◌}
 use Rattle.std.specs.List.{list_any, starts_with}
+pub use Rattle.ucon_base.specs.Elements.{Each}
 use Rattle.ucon_model.specs.declared.command.Caller.{Caller}
 use Rattle.ucon_model.specs.declared.command.Entry.{Entry}
 use Rattle.ucon_model.specs.Plain.{Bytes, PlainPolicy}
@@ -54,11 +55,6 @@ abbrev pub history_made : History → List Answered → History
 history_made G told = G ++ map (λ x. x.1) (by_place (recorded told))
 
 -- ---- the parts of a legal run
-
--- of each element
-abbrev pub Each : {T : Type 0} → (T → Type 0) → List T → Type 0
-Each P [] = Unit {0}
-Each P (x ∷ xs) = P x × Each P xs
 
 -- the places are those after this one, each once
 abbrev pub AreNumberedFrom : ℕ → List (ℕ × Entry) → Type 0

@@ -17,7 +17,6 @@ pub mod LegalRun
 pub mod Fitting
 pub mod Output
 pub mod Document
-pub mod Tokens
 pub mod Checked
 pub mod Lookup
 pub mod CommandLine
@@ -32,3 +31,5 @@ pub mod Spells
 pub mod Limits
 pub mod Generated
 pub mod Summary
+pub mod Payload
+pub mod Found

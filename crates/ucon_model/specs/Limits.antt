@@ -1,6 +1,6 @@
 -- The limits of a policy.
 use Rattle.std.specs.Prelude.{◌≤◌, Bool, true, false, length, count_by}
-use Rattle.std.specs.List.{AllByRecursion}
+use Rattle.ucon_base.specs.Elements.{Each}
 use Rattle.ucon_base.specs.declared.value.Side.{Side}
 use Rattle.ucon_model.specs.declared.policy.Phase.{Phase}
 use Rattle.ucon_model.specs.declared.policy.Phase.TheVariants as phases
@@ -25,4 +25,4 @@ pub record IsWithin (p : PlainPolicy) : Type 0 where
   pub attrs : (side : Side) → count_by (λ a. same_side side a.side) p.attrs ≤ 16
   pub envs : length p.envs ≤ 32
   pub rights : length p.rights ≤ 64
-  pub each : AllByRecursion IsRightWithin p.rights
+  pub each : Each IsRightWithin p.rights

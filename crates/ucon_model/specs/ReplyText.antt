@@ -11,7 +11,7 @@ use Rattle.ucon_model.specs.declared.reply.Revoked.{Revoked}
 use Rattle.ucon_model.specs.declared.session.SessionState.{SessionState}
 use Rattle.ucon_model.specs.declared.session.SessionState.TheVariants as states
 use Rattle.ucon_model.specs.CommandLine.{Word, words_of, with_rest, name_in, value_in, number_in}
-use Rattle.ucon_model.specs.LegalRun.{Each}
+use Rattle.ucon_base.specs.Elements.{Each}
 use Rattle.ucon_model.specs.Plain.{Bytes, PlainReply, refused, made, value_is, status}
 use Rattle.ucon_model.specs.Spelling.{refusal_words, state_word, reply_spelling}
 

@@ -2,7 +2,7 @@
 use Rattle.std.specs.Prelude.{◌≡◌, ◌<◌, ◌≤◌, ℕ, List, [], ◌∷◌, ◌++◌, length, Option, Some, None}
 use Rattle.std.proofs.Common.{◌⊎◌}
 use Rattle.ucon_model.specs.Plain.{Bytes, PlainPolicy}
-use Rattle.ucon_model.specs.Tokens.{Token, joined_word, flawed, Flaw, unknown, too_long, misplaced, tokens_of, place_of}
+use Rattle.ucon_base.specs.Tokens.{Token, joined_word, flawed, Flaw, unknown, too_long, misplaced, tokens_of, place_of}
 use Rattle.ucon_model.specs.Forms.{Terminal, word, as_token, Limit, operand, item, level, Marked, bare, IsClean}
 use Rattle.ucon_model.specs.Grammar.{a_policy}
 

@@ -4,6 +4,7 @@
 mod checked;
 mod command;
 mod core_model;
+mod finding;
 mod formula;
 mod laws;
 mod policy;
@@ -14,6 +15,7 @@ mod view;
 pub use checked::Checked;
 pub use command::{Caller, Command, Entry};
 pub use core_model::{Core, CoreKind};
+pub use finding::{payloads_are_found_one_by_one, texts_tell_changes};
 pub use formula::{Expr, Form, Formula, Obligation, Op, Ref, Sort};
 pub use laws::{
     blocks_are_legal, faults_name_items, no_usage_goes_on_failing, outputs_are_read_back,

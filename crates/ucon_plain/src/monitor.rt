@@ -59,9 +59,9 @@ impl Engine for PlainMonitor {
                 let changes = reply.changes();
                 Ok(Drafted { reply, changes })
             }
-            Err(NoMemory) => {
+            Err(refused) => {
                 self.state.undo_all();
-                Err(NoMemory)
+                Err(refused)
             }
         }
     }

@@ -11,7 +11,7 @@ ghost use Rattle.ucon_plain.specs.Updating.{written_out, update_at};
 
 use crate::declared::right_named;
 use crate::scene::write;
-use std::alloc::Global;
+use std::alloc::{AllocError, Global};
 use ucon_base::{Name, NoMemory, Side};
 use ucon_eval::result;
 use ucon_model::{Policy, SessionRow, Update, View, When};
@@ -84,7 +84,7 @@ pub fn run_updates(alloc: Global, state: &mut State, n: u32, when: When) -> Resu
     };
     let count = updates_of(state.checked().policy(), &row).len();
     let Ok(count) = u32::try_from(count) else {
-        return Err(NoMemory);
+        return Err(NoMemory::from(AllocError));
     };
     for at in 0..count {
         run_update(alloc, state, n, &row, when, at)?;

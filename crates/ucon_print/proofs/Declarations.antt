@@ -13,7 +13,7 @@ use Rattle.ucon_model.specs.declared.policy.AttrDecl.{AttrDecl}
 use Rattle.ucon_model.specs.declared.policy.EnvDecl.{EnvDecl}
 use Rattle.ucon_model.specs.Plain.{Bytes}
 use Rattle.ucon_model.specs.Printing.{literal_printing, kind_printing, side_word, declared_printing, attr_printing, env_printing}
-use Rattle.ucon_model.specs.Tokens.{a_word, a_symbol, Symbol, colon, semicolon, dots, equal_sign, next_token, begin_of, skip, token_from, token_at, symbol_token, single}
+use Rattle.ucon_base.specs.Tokens.{a_word, a_symbol, Symbol, colon, semicolon, dots, equal_sign, next_token, begin_of, skip, token_from, token_at, symbol_token, single}
 use Rattle.ucon_model.specs.Forms.{as_token, word, symbol, item, beyond, Form, nothing, one_of, before, and_then, mapped, either_of, bare}
 use Rattle.ucon_model.specs.Grammar.{SideCount, of_side, count_side, side_token, PhaseCount, of_phase, count_phase, phase_token, WhenCount, of_when, count_when, when_token, expr_of_depth}
 use Rattle.ucon_model.specs.Grammar as grammar

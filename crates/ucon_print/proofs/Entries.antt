@@ -16,7 +16,7 @@ use Rattle.ucon_model.specs.declared.policy.When.{When}
 use Rattle.ucon_model.specs.declared.policy.When.TheVariants as whens
 use Rattle.ucon_model.specs.Plain.{Bytes, PlainExpr, PlainTest, authorisation, duty, condition, PlainPredicate, PlainUpdate}
 use Rattle.ucon_model.specs.Printing.{expr_printing, formula_printing, side_word, form_printing, party_printing, duty_printing, letter_printing, test_printing, phase_printing, predicate_printing, when_printing, update_printing}
-use Rattle.ucon_model.specs.Tokens.{a_text, a_symbol, colon, semicolon, dot, equal_sign}
+use Rattle.ucon_base.specs.Tokens.{a_text, a_symbol, colon, semicolon, dot, equal_sign}
 use Rattle.ucon_model.specs.Forms.{as_token, word, text, symbol, item, beyond, Form, nothing, one_of, before, and_then, mapped, either_of}
 use Rattle.ucon_model.specs.Grammar.{SideCount, of_side, count_side, side_token, PhaseCount, of_phase, count_phase, phase_token, WhenCount, of_when, count_when, when_token, expr_of_depth}
 use Rattle.ucon_model.specs.Grammar as grammar

@@ -8,7 +8,7 @@ use Rattle.ucon_model.specs.declared.formula.Ref.{Ref}
 use Rattle.ucon_model.specs.declared.formula.Ref.TheVariants as refs
 use Rattle.ucon_model.specs.Plain.{Bytes, PlainExpr, lit, read, plus, minus, times, size}
 use Rattle.ucon_model.specs.Printing.{literal_printing, expr_printing}
-use Rattle.ucon_model.specs.Tokens.{a_symbol, dot, plus_sign, minus_sign, star, open_round, close_round, next_token, begin_of, skip, token_from, token_at, symbol_token, single}
+use Rattle.ucon_base.specs.Tokens.{a_symbol, dot, plus_sign, minus_sign, star, open_round, close_round, next_token, begin_of, skip, token_from, token_at, symbol_token, single}
 use Rattle.ucon_model.specs.Forms.{Terminal, as_token, word, symbol, Form, nothing, no_form, opening, before, mapped, either_of}
 use Rattle.ucon_model.specs.Grammar.{SumSign, adding, subtracting, sum_token, sum_tree, one_less, expr_of_depth, factor_with, term_with, expr_with}
 use Rattle.ucon_model.specs.Grammar as grammar

@@ -6,7 +6,7 @@ use Rattle.ucon_model.specs.declared.formula.Op.{Op}
 use Rattle.ucon_model.specs.declared.formula.Op.TheVariants as ops
 use Rattle.ucon_model.specs.Plain.{Bytes, PlainExpr, PlainFormula, both, either, negation, compare, lasts}
 use Rattle.ucon_model.specs.Printing.{expr_printing, op_printing, formula_printing}
-use Rattle.ucon_model.specs.Tokens.{a_word, equal_sign, unequal_sign, less_sign, at_most_sign, greater_sign, at_least_sign, open_square, close_square, next_token, begin_of, skip, token_from, token_at, symbol_token, single}
+use Rattle.ucon_base.specs.Tokens.{a_word, equal_sign, unequal_sign, less_sign, at_most_sign, greater_sign, at_least_sign, open_square, close_square, next_token, begin_of, skip, token_from, token_at, symbol_token, single}
 use Rattle.ucon_model.specs.Forms.{Terminal, as_token, word, symbol, Form, nothing, no_form, opening, before, and_then, mapped, either_of}
 use Rattle.ucon_model.specs.Grammar.{one_less, expr_of_depth, op_token, an_op, comparison_of, conj_with, formula_with, unit_with, unit_of_depth}
 use Rattle.ucon_model.specs.Grammar as grammar

@@ -12,7 +12,8 @@ use Rattle.ucon_base.specs.TextBytes.{is_text_byte}
 use Rattle.ucon_base.specs.Reading.{number_from, number_of as number_spelled}
 use Rattle.ucon_base.specs.Spelling.{quoted}
 use Rattle.ucon_model.specs.Plain.{Bytes}
-use Rattle.ucon_model.specs.Tokens.{Token, a_word, a_number, a_text, a_symbol, Symbol, Lexed, is_blank, is_digit, skip, digits_len, text_len, word_token, value_from, number_of, is_zero_led, number_with, number_token, text_token, token_at, token_from, begins_word, begin_of, next_token, with_next, tokens_within}
+use Rattle.ucon_base.specs.Reading.{is_digit, text_len}
+use Rattle.ucon_base.specs.Tokens.{Token, a_word, a_number, a_text, a_symbol, Symbol, Lexed, is_blank, skip, digits_len, word_token, value_from, number_of, is_zero_led, number_with, number_token, text_token, token_at, token_from, begins_word, begin_of, next_token, with_next, tokens_within}
 
 -- the text has these tokens, and nothing in front of it joins its first
 abbrev pub Lexes : Bytes → List Token → Type 0

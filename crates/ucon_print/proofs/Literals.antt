@@ -17,7 +17,7 @@ use Rattle.ucon_base.proofs.Passing.{all_pass}
 use Rattle.ucon_base.proofs.TextFront.{texty_is}
 use Rattle.ucon_model.specs.Plain.{Bytes}
 use Rattle.ucon_model.specs.Printing.{further_text, set_printing, literal_printing}
-use Rattle.ucon_model.specs.Tokens.{a_word, a_number, a_text, a_symbol, Symbol, colon, semicolon, comma, dot, dots, minus_sign, open_round, close_round, open_square, close_square, open_curly, close_curly, next_token, begin_of, skip, token_from, token_at, symbol_token, single, begins_word}
+use Rattle.ucon_base.specs.Tokens.{a_word, a_number, a_text, a_symbol, Symbol, colon, semicolon, comma, dot, dots, minus_sign, open_round, close_round, open_square, close_square, open_curly, close_curly, next_token, begin_of, skip, token_from, token_at, symbol_token, single, begins_word}
 use Rattle.ucon_model.specs.Forms.{word, number, text, symbol, item, Form, nothing, before, mapped, either_of, beyond, bare, IsClean}
 use Rattle.ucon_model.specs.Grammar as grammar
 use Rattle.ucon_print.proofs.Lexing.{Lexes, lexed, blank, new_line, symbol_byte, token_step, IsWord, IsText}

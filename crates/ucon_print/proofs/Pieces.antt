@@ -4,7 +4,8 @@ use Rattle.std.proofs.lemmas.Bool.{lt-ltb}
 use Rattle.std.specs.List.{prefix_len, flat_map}
 use Rattle.ucon_base.specs.NameBytes.{is_letter, is_word_byte}
 use Rattle.ucon_model.specs.Plain.{Bytes}
-use Rattle.ucon_model.specs.Tokens.{Token, is_digit, begins_word}
+use Rattle.ucon_base.specs.Reading.{is_digit}
+use Rattle.ucon_base.specs.Tokens.{Token, begins_word}
 use Rattle.ucon_model.specs.Forms.{Terminal, as_token, Limit, Marked, beyond, Form, nothing, one_of, before, and_then, mapped, either_of, listed, at_any_depth, bare, IsClean}
 use Rattle.ucon_print.proofs.Lexing.{Lexes}
 

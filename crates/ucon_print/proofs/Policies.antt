@@ -1,7 +1,8 @@
 -- Rights and policies are read as they are printed.
 use Rattle.std.proofs.Common.{◌≡◌, ℕ, suc, ◌+◌, ◌<◌, ◌≤◌, cond, List, [], ◌∷◌, ◌++◌, length, None, refl, sym, subst, arith}
 use Rattle.std.specs.Prelude.{codes, count_by}
-use Rattle.std.specs.List.{flat_map, AllByRecursion}
+use Rattle.std.specs.List.{flat_map}
+use Rattle.ucon_base.specs.Elements.{Each}
 use Rattle.std.proofs.lemmas.List.{append-nil}
 use Rattle.std.proofs.lemmas.List.Sums.{sum_by-cons}
 use Rattle.ucon_base.specs.declared.value.Side.{Side}
@@ -14,7 +15,7 @@ use Rattle.ucon_model.specs.declared.policy.When.{When}
 use Rattle.ucon_model.specs.declared.policy.When.TheVariants as whens
 use Rattle.ucon_model.specs.Plain.{Bytes, PlainPredicate, PlainUpdate, PlainRight, PlainPolicy}
 use Rattle.ucon_model.specs.Printing.{attr_printing, env_printing, predicate_printing, update_printing, right_printing, policy_printing}
-use Rattle.ucon_model.specs.Tokens.{Token, a_symbol, open_curly, close_curly}
+use Rattle.ucon_base.specs.Tokens.{Token, a_symbol, open_curly, close_curly}
 use Rattle.ucon_model.specs.Forms.{word, symbol, item, beyond, Form, nothing, before, and_then, mapped, bare}
 use Rattle.ucon_model.specs.Limits.{same_phase, IsRightWithin}
 use Rattle.ucon_model.specs.Readings.{same_side}
@@ -24,7 +25,7 @@ use Rattle.ucon_model.specs.Grammar as grammar
 use Rattle.ucon_print.specs.Printable.{IsAttr, IsEnv, IsPredicate, IsUpdate, IsRight}
 use Rattle.ucon_print.proofs.Pieces.{Ends, Any, Puts, puts_both, Printed, not_beyond, before_printed, and_then_printed, mapped_printed, same_printed, list_printed, in_row_3, in_row_8}
 use Rattle.ucon_print.proofs.Literals.{name_printed, blank_puts, new_line_puts, open_curly_puts, close_curly_puts}
-use Rattle.ucon_model.specs.Tokens.{tokens_from, tokens_of}
+use Rattle.ucon_base.specs.Tokens.{tokens_from, tokens_of}
 use Rattle.ucon_model.specs.Spells.{Spells}
 use Rattle.ucon_print.specs.Printable.{IsPrintable}
 use Rattle.ucon_print.proofs.Lexing.{Lexes, nothing_left}
@@ -77,7 +78,7 @@ when_moved whens.AfterRevoke whens.AfterRevoke n k c h e = omega (arith, h, e)
 
 -- room for so many more behind so many
 abbrev attrs_room : SideCount → List AttrDecl → Type 0
-attrs_room n xs = ((t : Side) → of_side n t + count_by (λ (y : AttrDecl). same_side t y.side) xs ≤ 16) × AllByRecursion IsAttr xs
+attrs_room n xs = ((t : Side) → of_side n t + count_by (λ (y : AttrDecl). same_side t y.side) xs ≤ 16) × Each IsAttr xs
 
 attrs_step : (n : SideCount) (x : AttrDecl) (xs : List AttrDecl) → attrs_room n (x ∷ xs) → Printed Any (grammar.an_attr n) x (attr_printing x) × attrs_room (count_side n x.side) xs
 attrs_step n x xs room =
@@ -88,7 +89,7 @@ attrs_step n x xs room =
 
 -- room for so many more behind so many
 abbrev preds_room : PhaseCount → List PlainPredicate → Type 0
-preds_room n xs = ((t : Phase) → of_phase n t + count_by (λ (y : PlainPredicate). same_phase t y.phase) xs ≤ 16) × AllByRecursion IsPredicate xs
+preds_room n xs = ((t : Phase) → of_phase n t + count_by (λ (y : PlainPredicate). same_phase t y.phase) xs ≤ 16) × Each IsPredicate xs
 
 preds_step : (n : PhaseCount) (x : PlainPredicate) (xs : List PlainPredicate) → preds_room n (x ∷ xs) → Printed Any (grammar.a_pred n) x (predicate_printing x) × preds_room (count_phase n x.phase) xs
 preds_step n x xs room =
@@ -99,7 +100,7 @@ preds_step n x xs room =
 
 -- room for so many more behind so many
 abbrev updates_room : WhenCount → List PlainUpdate → Type 0
-updates_room n xs = ((t : When) → of_when n t + count_by (λ (y : PlainUpdate). same_when t y.when) xs ≤ 16) × AllByRecursion IsUpdate xs
+updates_room n xs = ((t : When) → of_when n t + count_by (λ (y : PlainUpdate). same_when t y.when) xs ≤ 16) × Each IsUpdate xs
 
 updates_step : (n : WhenCount) (x : PlainUpdate) (xs : List PlainUpdate) → updates_room n (x ∷ xs) → Printed Any (grammar.an_update n) x (update_printing x) × updates_room (count_when n x.when) xs
 updates_step n x xs room =
@@ -108,7 +109,7 @@ updates_step n x xs room =
     let split : (t : When) → all t ≡ cond (same_when t x.when) 1 0 + rest t = λ t. sum_by-cons (λ (y : PlainUpdate). cond (same_when t y.when) 1 0) x xs in
     (update_printed n x (when_own x.when n (all x.when) (rest x.when) (room.0 x.when) (split x.when)) room.1.0, ((λ t. when_moved x.when t n (all t) (rest t) (room.0 t) (split t)), room.1.1))
 
-attrs_printed : (xs : List AttrDecl) → ((side : Side) → count_by (λ (a : AttrDecl). same_side side a.side) xs ≤ 16) → AllByRecursion IsAttr xs → Printed Any grammar.attrs xs (flat_map attr_printing xs)
+attrs_printed : (xs : List AttrDecl) → ((side : Side) → count_by (λ (a : AttrDecl). same_side side a.side) xs ≤ 16) → Each IsAttr xs → Printed Any grammar.attrs xs (flat_map attr_printing xs)
 attrs_printed xs few each =
     let none : SideCount = record { subject = 0; object = 0 } in
     list_printed grammar.an_attr (λ n a. count_side n a.side) attrs_room attr_printing attrs_step none xs ((λ t. from_none t (count_by (λ (a : AttrDecl). same_side t a.side) xs) (few t)), each)
@@ -117,7 +118,7 @@ attrs_printed xs few each =
     from_none sides.Subject k h = omega (arith, h)
     from_none sides.Object k h = omega (arith, h)
 
-preds_printed : (xs : List PlainPredicate) → ((phase : Phase) → count_by (λ (p : PlainPredicate). same_phase phase p.phase) xs ≤ 16) → AllByRecursion IsPredicate xs → Printed Any grammar.preds xs (flat_map predicate_printing xs)
+preds_printed : (xs : List PlainPredicate) → ((phase : Phase) → count_by (λ (p : PlainPredicate). same_phase phase p.phase) xs ≤ 16) → Each IsPredicate xs → Printed Any grammar.preds xs (flat_map predicate_printing xs)
 preds_printed xs few each =
     let none : PhaseCount = record { pre = 0; ongoing = 0 } in
     list_printed grammar.a_pred (λ n p. count_phase n p.phase) preds_room predicate_printing preds_step none xs ((λ t. from_none t (count_by (λ (p : PlainPredicate). same_phase t p.phase) xs) (few t)), each)
@@ -126,7 +127,7 @@ preds_printed xs few each =
     from_none phases.Pre k h = omega (arith, h)
     from_none phases.Ongoing k h = omega (arith, h)
 
-updates_printed : (xs : List PlainUpdate) → ((when : When) → count_by (λ (u : PlainUpdate). same_when when u.when) xs ≤ 16) → AllByRecursion IsUpdate xs → Printed Any grammar.updates xs (flat_map update_printing xs)
+updates_printed : (xs : List PlainUpdate) → ((when : When) → count_by (λ (u : PlainUpdate). same_when when u.when) xs ≤ 16) → Each IsUpdate xs → Printed Any grammar.updates xs (flat_map update_printing xs)
 updates_printed xs few each =
     let none : WhenCount = record { before_usage = 0; during_usage = 0; after_end = 0; after_revoke = 0 } in
     list_printed grammar.an_update (λ n u. count_when n u.when) updates_room update_printing updates_step none xs ((λ t. from_none t (count_by (λ (u : PlainUpdate). same_when t u.when) xs) (few t)), each)
@@ -140,12 +141,12 @@ updates_printed xs few each =
 -- ---- variables and rights
 
 abbrev envs_room : ℕ → List EnvDecl → Type 0
-envs_room n xs = (n + length xs ≤ 32) × AllByRecursion IsEnv xs
+envs_room n xs = (n + length xs ≤ 32) × Each IsEnv xs
 
 envs_step : (n : ℕ) (x : EnvDecl) (xs : List EnvDecl) → envs_room n (x ∷ xs) → Printed Any (grammar.an_env n) x (env_printing x) × envs_room (suc n) xs
 envs_step n x xs room = (env_printed n x (omega (arith, room.0)) room.1.0, (omega (arith, room.0), room.1.1))
 
-envs_printed : (xs : List EnvDecl) → length xs ≤ 32 → AllByRecursion IsEnv xs → Printed Any grammar.envs xs (flat_map env_printing xs)
+envs_printed : (xs : List EnvDecl) → length xs ≤ 32 → Each IsEnv xs → Printed Any grammar.envs xs (flat_map env_printing xs)
 envs_printed xs few each = list_printed grammar.an_env (λ n v. suc n) envs_room env_printing envs_step 0 xs (omega (arith, few), each)
 
 abbrev right_made : Bytes → List PlainPredicate → List PlainUpdate → PlainRight
@@ -185,12 +186,12 @@ right_printed_whole n r less within is =
     (λ rest e. tt))
 
 abbrev rights_room : ℕ → List PlainRight → Type 0
-rights_room n xs = (n + length xs ≤ 64) × AllByRecursion IsRightWithin xs × AllByRecursion IsRight xs
+rights_room n xs = (n + length xs ≤ 64) × Each IsRightWithin xs × Each IsRight xs
 
 rights_step : (n : ℕ) (x : PlainRight) (xs : List PlainRight) → rights_room n (x ∷ xs) → Printed Any (grammar.a_right n) x (right_printing x) × rights_room (suc n) xs
 rights_step n x xs room = (right_printed_whole n x (omega (arith, room.0)) room.1.0 room.2.0, (omega (arith, room.0), room.1.1, room.2.1))
 
-rights_printed : (xs : List PlainRight) → length xs ≤ 64 → AllByRecursion IsRightWithin xs → AllByRecursion IsRight xs → Printed Any grammar.rights xs (flat_map right_printing xs)
+rights_printed : (xs : List PlainRight) → length xs ≤ 64 → Each IsRightWithin xs → Each IsRight xs → Printed Any grammar.rights xs (flat_map right_printing xs)
 rights_printed xs few within each = list_printed grammar.a_right (λ n r. suc n) rights_room right_printing rights_step 0 xs (omega (arith, few), within, each)
 
 -- ---- policies

@@ -1,6 +1,6 @@
 -- Which policies are read back from their printing.
 use Rattle.std.specs.Prelude.{◌≡◌, ◌≤◌, ℕ, ◌+◌, max, ℤ, pos, negsuc, Bool, true, false, nat_lt, length, Option, Some, None}
-use Rattle.std.specs.List.{AllByRecursion}
+use Rattle.ucon_base.specs.Elements.{Each}
 use Rattle.ucon_base.specs.NameBytes.{is_name}
 use Rattle.ucon_base.specs.Numbers.{InRange}
 use Rattle.ucon_base.specs.Spelling.{IsValue}
@@ -144,14 +144,14 @@ pub record IsUpdate (u : PlainUpdate) : Type 0 where
 
 pub record IsRight (r : PlainRight) : Type 0 where
   pub name : IsName r.name
-  pub preds : AllByRecursion IsPredicate r.preds
-  pub updates : AllByRecursion IsUpdate r.updates
+  pub preds : Each IsPredicate r.preds
+  pub updates : Each IsUpdate r.updates
 
 -- A policy within the limits as it is printed, in at most 65,536 bytes. The mirror of a policy says of no list of bytes that it
 -- is a name or a text and of no integer that it is in range, so that is said here.
 pub record IsPrintable (p : PlainPolicy) : Type 0 where
   pub within : IsWithin p
-  pub attrs : AllByRecursion IsAttr p.attrs
-  pub envs : AllByRecursion IsEnv p.envs
-  pub rights : AllByRecursion IsRight p.rights
+  pub attrs : Each IsAttr p.attrs
+  pub envs : Each IsEnv p.envs
+  pub rights : Each IsRight p.rights
   pub short : length (policy_printing p) ≤ 65536

@@ -13,7 +13,7 @@ use Rattle.ucon_model.specs.declared.command.Command.TheVariants.{Subject, Objec
 use Rattle.ucon_model.specs.declared.command.Entry.{Entry}
 use Rattle.ucon_model.specs.CommandLine.{IsCommand, command_spelling}
 use Rattle.ucon_model.specs.Generated.{Generator, Drawn, next_x, below, user, video, credit_set, by, first, opening, stepped, drawn_try, drawn_at_session, drawn_tick, drawn_credit, drawn_by, drawn, all_drawn}
-use Rattle.ucon_model.specs.LegalRun.{Each}
+use Rattle.ucon_base.specs.Elements.{Each}
 
 -- ---- small numbers
 

@@ -14,7 +14,7 @@ use Rattle.ucon_model.specs.Plain.{Bytes}
 use Rattle.ucon_model.specs.CommandLine.{IsCommand, command_spelling, line_read}
 use Rattle.ucon_model.specs.Document.{ScriptLine, DocumentRefusal, too_many_clients, lines_of, is_divider, before_divider, policy_part, is_skipped, is_heading, heading_number, caller_of, heading_told, command_told, said_told, line_told, before_next, script_lines, script_number, script_told, document_read, entry_of, entries_of}
 use Rattle.ucon_model.specs.Generated.{Generator, user, video, credit_set, drawn, by, first, opening, seeded, all_drawn, part_lines, entry_lines, text_of, generated_policy, generated_head, generated, generated_entries}
-use Rattle.ucon_model.specs.LegalRun.{Each}
+use Rattle.ucon_base.specs.Elements.{Each}
 use Rattle.ucon_model.specs.Output.{Lacks}
 use Rattle.ucon_script.specs.Lines.{client_after, count_after, told_from}
 use Rattle.ucon_script.proofs.Scripts.{told_below}

@@ -66,7 +66,7 @@ bad_line_stays n faults.NoWord a b stays h = stays _ h
 bad_line_stays n faults.UnknownWord a b stays h = stays _ h
 bad_line_stays n (faults.WrongCount k) a b stays h = stays _ h
 bad_line_stays n (faults.BadWord p) a b stays h = stays _ h
-bad_line_stays n faults.NoMemory a b stays h = absurd h
+bad_line_stays n (faults.NoMemory e) a b stays h = absurd h
 
 -- a cause stays where each refusal does
 pub cause_stays : {A B : Type 0} (f : DocFault) (a : Result A DocumentRefusal) (b : Result B DocumentRefusal) → ((r : DocumentRefusal) → a ≡ Err r → b ≡ Err r) → IsCause a f → IsCause b f
@@ -74,7 +74,7 @@ cause_stays (BadHeading n) a b stays h = stays _ h
 cause_stays (BadLine n f) a b stays h = bad_line_stays n f a b stays h
 cause_stays (TooManyClients n) a b stays h = stays _ h
 cause_stays (TooManyLines n) a b stays h = stays _ h
-cause_stays NoMemory a b stays h = tt
+cause_stays (NoMemory e) a b stays h = tt
 
 -- the fault of a line is that of the whole script
 pub line_refused : (told : List ScriptLine) (n : ℕ) (client : Option Caller) (said : ℕ) (text : Bytes) (number : ℕ) (whole : Bytes) (f : DocFault)

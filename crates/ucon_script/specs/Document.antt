@@ -36,7 +36,7 @@ lines_spelled s = map spelled_line s.lines.items
 
 -- the document's fault where the line of this number has this one
 abbrev pub fault_of : ℕ → LineFault → DocFault
-fault_of n faults.NoMemory = NoMemory
+fault_of n (faults.NoMemory e) = NoMemory e
 fault_of n f = BadLine n f
 
 -- the refusal is that the line of this number is no command, by the cause that the line's fault says
@@ -46,7 +46,7 @@ IsLineCause n read faults.NoWord = read ≡ Err (bad_line n no_word)
 IsLineCause n read faults.UnknownWord = read ≡ Err (bad_line n unknown_word)
 IsLineCause n read (faults.WrongCount k) = read ≡ Err (bad_line n (wrong_count k))
 IsLineCause n read (faults.BadWord p) = read ≡ Err (bad_line n (bad_word p))
-IsLineCause n read faults.NoMemory = ⊥
+IsLineCause n read (faults.NoMemory e) = ⊥
 
 -- the refusal is what the fault says, unless memory ran out
 abbrev pub IsCause : {A : Type 0} → Result A DocumentRefusal → DocFault → Type 0
@@ -54,7 +54,7 @@ IsCause read (BadHeading n) = read ≡ Err (bad_heading n)
 IsCause read (BadLine n f) = IsLineCause n read f
 IsCause read (TooManyClients n) = read ≡ Err (too_many_clients n)
 IsCause read (TooManyLines n) = read ≡ Err (too_many_lines n)
-IsCause read NoMemory = ⊤
+IsCause read (NoMemory e) = ⊤
 
 -- what was returned, seen by a view, is what is read, unless memory ran out
 abbrev pub Gives : {X A : Type 0} → (X → A) → Result X DocFault → Result A DocumentRefusal → Type 0

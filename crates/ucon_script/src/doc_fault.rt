@@ -18,22 +18,22 @@ pub enum DocFault {
     TooManyClients(u32),
     /// One command line more than 262,144.
     TooManyLines(u32),
-    NoMemory,
+    NoMemory(NoMemory),
 }
 
 impl<T: Drop> From<(T, NoMemory)> for DocFault {
-    ghost from_gives = { λ _ f. f ≡ faults.NoMemory };
+    ghost from_gives = { λ e f. f ≡ faults.NoMemory e.1 };
 
-    fn from(_e: (T, NoMemory)) -> DocFault {
-        DocFault::NoMemory
+    fn from(e: (T, NoMemory)) -> DocFault {
+        DocFault::NoMemory(e.1)
     }
 }
 
 impl From<NoMemory> for DocFault {
-    ghost from_gives = { λ _ f. f ≡ faults.NoMemory };
+    ghost from_gives = { λ e f. f ≡ faults.NoMemory e };
 
-    fn from(_e: NoMemory) -> DocFault {
-        DocFault::NoMemory
+    fn from(e: NoMemory) -> DocFault {
+        DocFault::NoMemory(e)
     }
 }
 
@@ -42,7 +42,7 @@ pub fn fault_of(number: u32, fault: LineFault) -> DocFault
     ensures { result ≡ fault_of number fault }
 {
     match fault {
-        LineFault::NoMemory => DocFault::NoMemory,
+        LineFault::NoMemory(refused) => DocFault::NoMemory(refused),
         _ => DocFault::BadLine(number, fault),
     }
 }

@@ -34,7 +34,7 @@ impl<'a> LineText<'a> {
                 caller: self.caller,
                 command,
             }),
-            Err(LineFault::NoMemory) => Err(NoMemory),
+            Err(LineFault::NoMemory(refused)) => Err(refused),
             Err(_) => unreachable!(),
         }
     }

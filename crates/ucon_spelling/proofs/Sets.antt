@@ -21,7 +21,7 @@ bad (Err (BadSpelling p)) = Some p
 bad (Err (TooLong p)) = None
 bad (Err (TooMany n)) = None
 bad (Err OutOfRange) = None
-bad (Err NoMemory) = None
+bad (Err (NoMemory e)) = None
 
 abbrev pub tail : List ℕ → List ℕ
 tail [] = []
@@ -375,7 +375,7 @@ bad_before m (Err (BadSpelling p)) = refl
 bad_before m (Err (TooLong p)) = refl
 bad_before m (Err (TooMany n)) = refl
 bad_before m (Err OutOfRange) = refl
-bad_before m (Err NoMemory) = refl
+bad_before m (Err (NoMemory e)) = refl
 
 over_there : (last : Option (List ℕ)) (q : ℕ) (t : List ℕ) (b : ℕ) (l : List ℕ) → is_plain t ≡ true → b ≡ 34 → rises last t ≡ true → Rest (Some t) behind l → Rest last (inside q t) (b ∷ l)
 over_there last q t b l plain e up h = from_text last q t (b ∷ l) (record {

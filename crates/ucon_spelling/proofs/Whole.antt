@@ -71,7 +71,7 @@ bad_set_of (Err (BadSpelling p)) = refl
 bad_set_of (Err (TooLong p)) = refl
 bad_set_of (Err (TooMany n)) = refl
 bad_set_of (Err OutOfRange) = refl
-bad_set_of (Err NoMemory) = refl
+bad_set_of (Err (NoMemory e)) = refl
 
 -- ---- integers
 
@@ -263,7 +263,7 @@ read_so bs (Err (BadSpelling q)) h none = (q, (refl, h))
 read_so bs (Err (TooLong q)) h none = absurd (none h)
 read_so bs (Err (TooMany q)) h none = absurd (none h)
 read_so bs (Err OutOfRange) h none = absurd (none h)
-read_so bs (Err NoMemory) h none = absurd (none h)
+read_so bs (Err (NoMemory e)) h none = absurd (none h)
 
 pub refused_somewhere : (bs : List ℕ) → (IsSpelling bs → ⊥) → (p : ℕ) × (value_read bs ≡ Err (BadSpelling p))
 refused_somewhere bs none = let r = read_so bs (value_read bs) (told bs) none in (r.0, r.1.0)

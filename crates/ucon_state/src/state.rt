@@ -15,7 +15,7 @@ use crate::change::Change;
 use crate::counts::Counts;
 use crate::defaults::{attr_defaults, attr_place, env_defaults, env_place};
 use crate::tables::Tables;
-use std::alloc::Global;
+use std::alloc::{AllocError, Global};
 use ucon_base::{Int, Name, NoMemory, Side, Value};
 use ucon_model::{Caller, Checked, SessionRow, SessionState};
 
@@ -89,7 +89,7 @@ impl State {
         let number = self.tables.entities(side).len() as u32;
         let defaults = attr_defaults(self.alloc, &self.checked, side)?;
         if self.tables.cells.len() + defaults.len() > u32::MAX as usize {
-            return Err(NoMemory);
+            return Err(NoMemory::from(AllocError));
         }
         self.changes.reserve(1)?;
         let change = self.tables.add_entity(side, name, defaults)?;

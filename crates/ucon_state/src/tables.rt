@@ -107,9 +107,9 @@ impl Tables {
     {
         let first = self.cells.len();
         self.cells.append(&mut defaults)?;
-        if self.add_name(side, name, first).is_err() {
+        if let Err(refused) = self.add_name(side, name, first) {
             self.cells.truncate(first);
-            return Err(NoMemory);
+            return Err(refused);
         }
         Ok(Change::Entity(side, first))
     }

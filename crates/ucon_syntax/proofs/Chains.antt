@@ -1,11 +1,10 @@
 -- How chains go on.
 use Rattle.std.proofs.Common.{◌≡◌, ℕ, zero, suc, ◌-◌, ◌+◌, ◌<◌, ◌≢◌, true, false, List, drop, Result, Ok, Err, refl, sym, ◌∙◌, arith}
-use Rattle.ucon_model.specs.Tokens.{Token}
+use Rattle.ucon_base.specs.Tokens.{Token}
 use Rattle.ucon_token.specs.declared.stop.Cause.TheVariants.{TooMany}
 use Rattle.ucon_token.specs.declared.stop.Stop.{Stop}
-use Rattle.ucon_token.specs.declared.stop.Stop.TheVariants as stops
 use Rattle.ucon_token.specs.Tokens.{first}
-use Rattle.ucon_token.specs.Reading.{Halt, Reads, ◌>>=◌, Fails}
+use Rattle.ucon_token.specs.Reading.{Halt, Reads, ◌>>=◌, Fails, stops_whole}
 use Rattle.ucon_syntax.specs.Chains.{Operators, more}
 
 pub more_on : {A : Type 0} (ops : Operators A) (operand : Reads A) (n : ℕ) (all : A) (ts : List Token) → n ≢ 0 → ops.goes_on (first ts) ≡ true
@@ -26,11 +25,6 @@ more_over ops operand n all ts e is = rw (e, is) refl
 pub more_done : {A : Type 0} (ops : Operators A) (operand : Reads A) (n : ℕ) (all : A) (ts : List Token) → n ≡ 0 → ops.is_late (first ts) ≡ false → more ops operand n all ts ≡ Ok (all, ts)
 unfolding more
 more_done ops operand n all ts e is = rw (e, is) refl
-
--- a part that stops stops the whole
-pub stops_whole : {Y Z : Type 0} (e : Stop) (left : List Token) (part : Result Z Halt) (f : Z → Result Y Halt) (whole : Result Y Halt) → Fails e left part → (part >>= f) ≡ whole → Fails e left whole
-stops_whole stops.Memory left part f whole fails so_far = tt
-stops_whole (stops.At c) left part f whole fails so_far = sym so_far ∙ rw fails refl
 
 -- one more operand
 pub chain_go : {A : Type 0} (ops : Operators A) (operand : Reads A) (i : ℕ) (all next joined : A) (ts after : List Token) (whole : Result (A × List Token) Halt) → i < 32 → ops.goes_on (first ts) ≡ true → operand (drop 1 ts) ≡ Ok (next, after) → joined ≡ ops.join (first ts) all next

@@ -2,7 +2,7 @@
 use Rattle.std.proofs.Common.{◌≡◌, ℕ, zero, suc, ◌+◌, ◌≤◌, ◌<◌, Bool, cond, List, [], ◌∷◌, ◌++◌, length, Option, Some, None, refl, sym, subst, arith, codes}
 use Rattle.std.proofs.lemmas.List.Sums.{sum_by-cons}
 use Rattle.std.specs.Prelude.{count_by}
-use Rattle.std.specs.List.{AllByRecursion}
+use Rattle.ucon_base.specs.Elements.{Each}
 use Rattle.ucon_base.specs.declared.value.Side.{Side}
 use Rattle.ucon_base.specs.declared.value.Side.TheVariants as sides
 use Rattle.ucon_model.specs.declared.policy.Phase.{Phase}
@@ -10,7 +10,7 @@ use Rattle.ucon_model.specs.declared.policy.Phase.TheVariants as phases
 use Rattle.ucon_model.specs.declared.policy.When.{When}
 use Rattle.ucon_model.specs.declared.policy.When.TheVariants as whens
 use Rattle.ucon_model.specs.Plain.{Bytes, PlainPolicy}
-use Rattle.ucon_model.specs.Tokens.{close_curly}
+use Rattle.ucon_base.specs.Tokens.{close_curly}
 use Rattle.ucon_model.specs.Forms.{Terminal, word, Limit, item, Marked, beyond, Form, Items, items_tokens, items_tree, IsClean}
 use Rattle.ucon_model.specs.Grammar.{sign, side_token, SideCount, of_side, count_side, an_attr, attrs, an_env, envs, phase_token, PhaseCount, of_phase, count_phase, a_pred, preds, when_token, WhenCount, of_when, count_when, an_update, updates, a_right, rights, a_policy}
 use Rattle.ucon_model.specs.Limits.{same_phase, IsRightWithin, IsWithin}
@@ -44,7 +44,7 @@ counted form count of is most grows (suc k) n s clean le =
     let split : count_by is (x ∷ trees) ≡ one (is x) + count_by is trees = sum_by-cons (λ y. one (is y)) x trees in
     omega (arith, g.1, r, split)
 
-each_item : {N A : Type 0} (form : N → Form A) (count : N → A → N) (Q : A → Type 0) → ((n : N) (s : (form n).Written) → IsClean ((form n).tokens s) → Q ((form n).tree s)) → (k : ℕ) (n : N) (s : Items form count k n) → IsClean (items_tokens form count k n s) → AllByRecursion Q (items_tree form count k n s)
+each_item : {N A : Type 0} (form : N → Form A) (count : N → A → N) (Q : A → Type 0) → ((n : N) (s : (form n).Written) → IsClean ((form n).tokens s) → Q ((form n).tree s)) → (k : ℕ) (n : N) (s : Items form count k n) → IsClean (items_tokens form count k n s) → Each Q (items_tree form count k n s)
 each_item form count Q holds zero n s clean = tt
 each_item form count Q holds (suc k) n s clean =
     let more = items_tokens form count k (count n ((form n).tree s.0)) s.1 in

@@ -2,7 +2,7 @@
 use Rattle.std.proofs.Common.{◌≡◌, ◌⊎◌, inl, inr, List, [], ◌∷◌, ◌++◌, length, length-append, Option, Some, None, Result, Ok, Err, refl, sym, ap, ◌∙◌, append_assoc, subst, arith}
 use Rattle.std.proofs.lemmas.List.{append-nil}
 use Rattle.ucon_model.specs.Plain.{PlainPolicy}
-use Rattle.ucon_model.specs.Tokens.{Token, the_end, Flaw}
+use Rattle.ucon_base.specs.Tokens.{Token, the_end, Flaw}
 use Rattle.ucon_model.specs.Forms.{Terminal, as_token, Limit, operand, item, level, Marked, bare, IsClean}
 use Rattle.ucon_model.specs.Grammar.{a_policy}
 use Rattle.ucon_model.specs.Spells.{Spelled, IsAlive, IsAliveWithin, Stands, Passes, TextFault, too_many, too_deep, unexpected, flaw_in, fault_of_flaw, StopsAt, Stops, FirstFault}

@@ -5,7 +5,7 @@ use Rattle.std.proofs.lemmas.Slice.Eq.{bytes_eq-Decides}
 use Rattle.ucon_model.specs.declared.formula.Ref.{Ref}
 use Rattle.ucon_model.specs.declared.formula.Ref.TheVariants as refs
 use Rattle.ucon_model.specs.Plain.{Bytes, PlainExpr, lit, read, size}
-use Rattle.ucon_model.specs.Tokens.{Token, a_word, a_number, a_text, a_symbol, joined_word, flawed, the_end, Symbol, dot, minus_sign, open_round, close_round, open_curly}
+use Rattle.ucon_base.specs.Tokens.{Token, a_word, a_number, a_text, a_symbol, joined_word, flawed, the_end, Symbol, dot, minus_sign, open_round, close_round, open_curly}
 use Rattle.ucon_model.specs.Forms.{Terminal, word, symbol, as_token, level, Marked, opening, Form, no_form, before, mapped, either_of}
 use Rattle.ucon_model.specs.Grammar.{sign, a_literal, a_place, closed, factor_with, expr_with, expr_of_depth, an_expr}
 use Rattle.ucon_model.specs.Spells.{Stands}
@@ -15,7 +15,7 @@ use Rattle.ucon_token.specs.Reading.{Halt, Reads, ◌>>=◌, expect}
 use Rattle.ucon_syntax.specs.declared.starts.FactorStart.{FactorStart}
 use Rattle.ucon_syntax.specs.declared.starts.FactorStart.TheVariants as factors
 use Rattle.ucon_syntax.specs.Starts.{sum_sign, symbol_factor, word_factor, factor_start}
-use Rattle.ucon_syntax.specs.Literals.{literal_at}
+use Rattle.ucon_token.specs.Literals.{literal_at}
 use Rattle.ucon_syntax.specs.Expressions.{place_at, round_with, factor_from, level as below, factor_at, term_at, expr_at}
 use Rattle.ucon_syntax.proofs.Steps.{chosen}
 use Rattle.ucon_syntax.proofs.Keeping.{Meets, Example}

@@ -1,6 +1,6 @@
 -- The first mark, and lists of marks beside lists of tokens.
 use Rattle.std.proofs.Common.{◌≡◌, ◌<◌, suc, ◌⊎◌, inl, inr, List, [], ◌∷◌, ◌++◌, length, length-append, drop, Option, Some, None, refl, sym, ap, ◌∙◌, arith}
-use Rattle.ucon_model.specs.Tokens.{Token}
+use Rattle.ucon_base.specs.Tokens.{Token}
 use Rattle.ucon_model.specs.Forms.{Terminal, word, number, text, symbol, as_token, Limit, Marked, bare, IsClean}
 use Rattle.ucon_model.specs.Spells.{flaw_in}
 

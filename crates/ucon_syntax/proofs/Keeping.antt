@@ -1,6 +1,6 @@
 -- What holds of a reader and of a form of the grammar.
 use Rattle.std.proofs.Common.{◌≡◌, ◌⊎◌, List, [], ◌∷◌, ◌++◌, Some, None, Ok, Err, subst}
-use Rattle.ucon_model.specs.Tokens.{Token}
+use Rattle.ucon_base.specs.Tokens.{Token}
 use Rattle.ucon_model.specs.Forms.{Terminal, as_token, Limit, operand, item, level, Marked, Form, bare, IsClean}
 use Rattle.ucon_model.specs.Spells.{Stands}
 use Rattle.ucon_token.specs.declared.stop.Cause.{Cause}

@@ -1,6 +1,6 @@
 -- What reads one level below.
 use Rattle.std.proofs.Common.{◌≡◌, ℕ, zero, suc, ◌-◌, ◌≢◌, List, Some, None, refl, arith}
-use Rattle.ucon_model.specs.Tokens.{Token}
+use Rattle.ucon_base.specs.Tokens.{Token}
 use Rattle.ucon_syntax.specs.Expressions.{level, factor_at, term_at, expr_at}
 use Rattle.ucon_syntax.specs.Formulas.{unit_level, unit_at, conj_at, formula_at, square_at, square_with, formula_with}
 

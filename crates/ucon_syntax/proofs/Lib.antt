@@ -1,8 +1,7 @@
+pub mod Accepted
 pub mod Chains
 pub mod Levels
 pub mod Lists
-pub mod Rises
-pub mod Texts
 pub mod Marks
 pub mod Keeping
 pub mod Local

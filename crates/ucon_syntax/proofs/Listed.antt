@@ -1,6 +1,6 @@
 -- Lists of items keep to their form.
 use Rattle.std.proofs.Common.{◌≡◌, ℕ, zero, suc, Bool, true, false, cond, inl, inr, List, [], ◌∷◌, ◌++◌, drop, Some, Result, Ok, Err, refl, sym, ap, ◌∙◌, append_assoc, subst}
-use Rattle.ucon_model.specs.Tokens.{Token}
+use Rattle.ucon_base.specs.Tokens.{Token}
 use Rattle.ucon_model.specs.Forms.{Terminal, as_token, Limit, Marked, Form, mapped, listed, Items, items_tokens, items_tree, AreProperItems, bare, IsClean}
 use Rattle.ucon_model.specs.Spells.{Stands}
 use Rattle.ucon_token.specs.declared.stop.Cause.TheVariants.{TooMany}

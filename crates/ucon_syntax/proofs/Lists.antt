@@ -1,13 +1,12 @@
 -- Lists of items, read one after the other.
 use Rattle.std.proofs.Common.{◌≡◌, ℕ, zero, suc, ◌-◌, ◌+◌, ◌<◌, ◌≢◌, Bool, true, false, List, [], ◌∷◌, ◌++◌, Result, Ok, Err, refl, sym, ap, ◌∙◌, append_assoc, arith}
 use Rattle.std.proofs.lemmas.List.{append-nil}
-use Rattle.ucon_model.specs.Tokens.{Token}
+use Rattle.ucon_base.specs.Tokens.{Token}
 use Rattle.ucon_token.specs.declared.stop.Cause.TheVariants.{TooMany}
 use Rattle.ucon_token.specs.declared.stop.Stop.{Stop}
 use Rattle.ucon_token.specs.Tokens.{first}
-use Rattle.ucon_token.specs.Reading.{Halt, Reads, ◌>>=◌, Fails}
+use Rattle.ucon_token.specs.Reading.{Halt, Reads, ◌>>=◌, Fails, stops_whole}
 use Rattle.ucon_syntax.specs.Lists.{items_at}
-use Rattle.ucon_syntax.proofs.Chains.{stops_whole}
 
 -- what was read before, and what is still read
 abbrev pub with_front : {A : Type 0} → List A → Result (List A × List Token) Halt → Result (List A × List Token) Halt

@@ -1,7 +1,7 @@
 -- Reading sees no more than the token at which it stops.
 use Rattle.std.proofs.Common.{◌≡◌, ◌≤◌, Bool, true, false, cond, List, [], ◌∷◌, ◌++◌, length, drop, Result, Ok, Err, refl, sym, ap, ◌∙◌, arith}
 use Rattle.std.proofs.lemmas.List.{length-append}
-use Rattle.ucon_model.specs.Tokens.{Token}
+use Rattle.ucon_base.specs.Tokens.{Token}
 use Rattle.ucon_token.specs.declared.stop.Cause.{Cause}
 use Rattle.ucon_token.specs.declared.stop.Cause.TheVariants.{Unexpected}
 use Rattle.ucon_token.specs.Tokens.{first}

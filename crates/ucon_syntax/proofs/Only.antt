@@ -2,7 +2,7 @@
 use Rattle.std.proofs.Common.{◌≡◌, inl, inr, List, [], ◌∷◌, ◌++◌, length, drop, Option, Some, None, Ok, Err, refl, sym, ap, ◌∙◌, append_assoc, subst, arith}
 use Rattle.std.proofs.lemmas.List.{append-nil, append_cancel_right}
 use Rattle.ucon_model.specs.Plain.{PlainPolicy}
-use Rattle.ucon_model.specs.Tokens.{Token, Flaw}
+use Rattle.ucon_base.specs.Tokens.{Token, Flaw}
 use Rattle.ucon_model.specs.Forms.{Terminal, word, number, text, symbol, as_token, Limit, operand, item, level, Marked, bare, IsClean}
 use Rattle.ucon_model.specs.Grammar.{a_policy}
 use Rattle.ucon_model.specs.Spells.{Spelled, IsAlive, IsAliveWithin, IsJoined, Stands, Passes, TextFault, unknown_byte, overlong, too_many, too_deep, unexpected, flaw_in, fault_of_flaw, StopsAt, Stops, FirstFault}

@@ -2,7 +2,7 @@
 use Rattle.std.proofs.Common.{◌≡◌, Bool, true, false, ◌||◌, ◌⊎◌, inl, inr, List, [], ◌∷◌, drop, Option, Some, None, is_some, codes, refl, sym, ap, ◌∙◌, subst}
 use Rattle.std.proofs.lemmas.Slice.Eq.{bytes_eq-Decides}
 use Rattle.ucon_model.specs.Plain.{Bytes, PlainExpr, times, both, either}
-use Rattle.ucon_model.specs.Tokens.{Token, a_word, a_number, a_text, a_symbol, joined_word, flawed, the_end, Symbol, plus_sign, minus_sign, star}
+use Rattle.ucon_base.specs.Tokens.{Token, a_word, a_number, a_text, a_symbol, joined_word, flawed, the_end, Symbol, plus_sign, minus_sign, star}
 use Rattle.ucon_model.specs.Forms.{word, symbol, as_token, operand}
 use Rattle.ucon_model.specs.Grammar.{SumSign, adding, subtracting, sum_token, sum_tree}
 use Rattle.ucon_model.specs.Spells.{Stands}

@@ -8,7 +8,7 @@ use Rattle.ucon_model.specs.declared.policy.EnvDecl.{EnvDecl}
 use Rattle.ucon_model.specs.declared.policy.Phase.{Phase}
 use Rattle.ucon_model.specs.declared.policy.When.{When}
 use Rattle.ucon_model.specs.Plain.{Bytes, PlainTest, authorisation, duty, condition, PlainPredicate, PlainUpdate}
-use Rattle.ucon_model.specs.Tokens.{Token, a_symbol, colon, semicolon, dot, dots, equal_sign}
+use Rattle.ucon_base.specs.Tokens.{Token, a_symbol, colon, semicolon, dot, dots, equal_sign}
 use Rattle.ucon_model.specs.Forms.{item, beyond, Form, nothing, one_of, before, and_then, mapped, either_of}
 use Rattle.ucon_model.specs.Grammar.{keyword, sign, a_name, a_number, an_int, a_literal, an_expr, a_formula, a_kind, side_token, SideCount, of_side, count_side, an_attr, a_party, a_duty_form, a_duty, phase_token, PhaseCount, of_phase, count_phase, labelled, a_pred, when_token, WhenCount, of_when, count_when, a_side, an_update}
 use Rattle.ucon_token.specs.declared.stop.Cause.TheVariants.{Unexpected}
@@ -22,7 +22,7 @@ use Rattle.ucon_syntax.specs.declared.starts.TestSort.{TestSort}
 use Rattle.ucon_syntax.specs.declared.starts.TestSort.TheVariants as sorts
 use Rattle.ucon_syntax.specs.declared.starts.DutyWord.TheVariants as duties
 use Rattle.ucon_syntax.specs.Starts.{side_of, phase_of, when_of, kind_word, test_sort, duty_word, name_in}
-use Rattle.ucon_syntax.specs.Literals.{literal_at}
+use Rattle.ucon_token.specs.Literals.{literal_at}
 use Rattle.ucon_syntax.specs.Expressions.{expr_at}
 use Rattle.ucon_syntax.specs.Items.{take_side, take_phase, take_when, range_at, kind_from, kind_at, attr_at, env_at, form_from, form_at, some_name, party_at, duty_at, test_from, pred_at, update_at}
 use Rattle.ucon_syntax.proofs.Keeping.{Meets, Example}

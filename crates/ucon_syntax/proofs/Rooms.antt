@@ -7,7 +7,7 @@ use Rattle.ucon_model.specs.declared.policy.Phase.{Phase}
 use Rattle.ucon_model.specs.declared.policy.Phase.TheVariants as phases
 use Rattle.ucon_model.specs.declared.policy.When.{When}
 use Rattle.ucon_model.specs.declared.policy.When.TheVariants as whens
-use Rattle.ucon_model.specs.Tokens.{Token}
+use Rattle.ucon_base.specs.Tokens.{Token}
 use Rattle.ucon_model.specs.Forms.{Terminal, as_token, Limit, item, Marked, beyond, mapped, one_of, IsClean}
 use Rattle.ucon_model.specs.Grammar.{side_token, SideCount, of_side, count_side, phase_token, PhaseCount, of_phase, count_phase, when_token, WhenCount, of_when, count_when}
 use Rattle.ucon_model.specs.Spells.{Stands}

@@ -9,7 +9,7 @@ use Rattle.std.specs.Ordering.{nat_cmp, is_lt}
 use Rattle.std.specs.Cmp.Lexicographic.{slice_cmp}
 use Rattle.ucon_base.specs.Value.{is_rising}
 use Rattle.ucon_model.specs.Plain.{Bytes}
-use Rattle.ucon_model.specs.Tokens.{Token, a_text, a_symbol, comma, close_curly}
+use Rattle.ucon_base.specs.Tokens.{Token, a_text, a_symbol, comma, close_curly}
 use Rattle.ucon_model.specs.Forms.{text, Limit, item, Marked, beyond, Form, nothing, before, either_of, bare}
 use Rattle.ucon_model.specs.Grammar.{sign, more_texts}
 use Rattle.ucon_model.specs.Grammar as grammar
@@ -17,7 +17,7 @@ use Rattle.ucon_model.specs.Spells.{Stands}
 use Rattle.ucon_token.specs.declared.stop.Cause.TheVariants.{Unexpected, TooMany}
 use Rattle.ucon_token.specs.Tokens.{first, is_symbol, text_of}
 use Rattle.ucon_token.specs.Reading.{Halt, ◌>>=◌, expect}
-use Rattle.ucon_syntax.specs.Literals.{member_from, member_at, behind_member, one_too_many, texts_at, set_at}
+use Rattle.ucon_token.specs.Literals.{member_from, member_at, behind_member, one_too_many, texts_at, set_at}
 use Rattle.ucon_syntax.proofs.Marks.{clean_head, not_beyond, is_beyond}
 use Rattle.ucon_syntax.proofs.Steps.{halted, outcome, bind_ok, bind_err, ok_is, pair_is, chosen}
 use Rattle.ucon_syntax.proofs.Keeping.{Found, Stopped, Outcome}

@@ -1,6 +1,6 @@
 -- A reader keeps to a form of the grammar, and how that passes from parts to the whole.
 use Rattle.std.proofs.Common.{◌≡◌, ℕ, Bool, true, false, cond, inl, inr, List, [], ◌∷◌, ◌++◌, drop, Option, Some, None, Result, Ok, Err, refl, sym, ap, ◌∙◌, append_assoc, subst}
-use Rattle.ucon_model.specs.Tokens.{Token}
+use Rattle.ucon_base.specs.Tokens.{Token}
 use Rattle.ucon_model.specs.Forms.{Terminal, as_token, Limit, Marked, clear, Form, nothing, no_form, one_of, before, and_then, mapped, either_of, at_any_depth, bare}
 use Rattle.ucon_model.specs.Spells.{Stands}
 use Rattle.ucon_token.specs.declared.stop.Cause.TheVariants.{Unexpected}

@@ -1,6 +1,6 @@
 -- Steps of reading, one after the other.
 use Rattle.std.proofs.Common.{◌≡◌, Bool, true, false, cond, ◌⊎◌, inl, inr, List, ◌++◌, Result, Ok, Err, refl, sym, ap, ◌∙◌, append_assoc}
-use Rattle.ucon_model.specs.Tokens.{Token}
+use Rattle.ucon_base.specs.Tokens.{Token}
 use Rattle.ucon_model.specs.Forms.{Marked, bare}
 use Rattle.ucon_token.specs.declared.stop.Cause.{Cause}
 use Rattle.ucon_token.specs.Reading.{Halt, ◌>>=◌}

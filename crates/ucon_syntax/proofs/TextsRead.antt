@@ -4,7 +4,7 @@ use Rattle.std.proofs.lemmas.Bool.Decides.{nat_tests}
 use Rattle.std.specs.Prelude.{IfOk, IfErr}
 use Rattle.ucon_model.specs.declared.policy.Policy.{Policy}
 use Rattle.ucon_model.specs.Plain.{Bytes, PlainPolicy}
-use Rattle.ucon_model.specs.Tokens.{Token, a_word, a_number, a_text, a_symbol, joined_word, flawed, the_end, Flaw, unknown, too_long, misplaced, tokens_of, place_of}
+use Rattle.ucon_base.specs.Tokens.{Token, a_word, a_number, a_text, a_symbol, joined_word, flawed, the_end, Flaw, unknown, too_long, misplaced, tokens_of, place_of}
 use Rattle.ucon_model.specs.Spells.{Spells, TextFault, unknown_byte, overlong, too_many, too_deep, unexpected, flaw_in, IsTextFault}
 use Rattle.ucon_model.specs.Views.{policy_of}
 use Rattle.ucon_token.specs.declared.stop.Cause.{Cause}
@@ -68,7 +68,7 @@ by_name text (faults.TooLong p) f = record { fault = overlong; place = p; same =
 by_name text (faults.TooMany p) f = record { fault = too_many; place = p; same = refl; first = f }
 by_name text (faults.TooDeep p) f = record { fault = too_deep; place = p; same = refl; first = f }
 by_name text (faults.Unexpected p) f = record { fault = unexpected; place = p; same = refl; first = f }
-by_name text faults.NoMemory f = absurd f
+by_name text (faults.NoMemory e) f = absurd f
 
 -- ---- long texts
 
@@ -164,7 +164,7 @@ name_back (faults.TooLong p) = overlong
 name_back (faults.TooMany p) = too_many
 name_back (faults.TooDeep p) = too_deep
 name_back (faults.Unexpected p) = unexpected
-name_back faults.NoMemory = unexpected
+name_back (faults.NoMemory e) = unexpected
 
 place_back : SyntaxFault → ℕ
 place_back (faults.UnknownByte p) = p
@@ -172,7 +172,7 @@ place_back (faults.TooLong p) = p
 place_back (faults.TooMany p) = p
 place_back (faults.TooDeep p) = p
 place_back (faults.Unexpected p) = p
-place_back faults.NoMemory = 0
+place_back (faults.NoMemory e) = 0
 
 name_of_fault : (fault : TextFault) (place : ℕ) → (name_back (as_fault fault place) ≡ fault) × (place_back (as_fault fault place) ≡ place)
 unfolding as_fault name_back place_back
@@ -210,7 +210,7 @@ reading_found (Err f) text e = tt
 
 pub reading_only : (r : Result Policy SyntaxFault) (text : Bytes) → Reading r text → (q : PlainPolicy) → Spells text q → ReadsAs r q
 reading_only (Ok p) text e q s = one_policy text (policy_of p) q (reading_spells text (policy_of p) e) s
-reading_only (Err faults.NoMemory) text e q s = refl
+reading_only (Err (faults.NoMemory m)) text e q s = refl
 reading_only (Err f) text e q s = absurd (contradiction (sym (spells_reading text q s) ∙ e))
   where
     contradiction : {g : SyntaxFault} → accepted q ≡ failed g → ⊥
@@ -218,7 +218,7 @@ reading_only (Err f) text e q s = absurd (contradiction (sym (spells_reading tex
 
 pub reading_reason : (r : Result Policy SyntaxFault) (text : Bytes) → Reading r text → IfErr r (λ f. IsReason text f)
 reading_reason (Ok p) text e = tt
-reading_reason (Err faults.NoMemory) text e = inl refl
+reading_reason (Err (faults.NoMemory m)) text e = inl refl
 reading_reason (Err f) text e = inr (reading_fault text f e)
 
 pub reading_refuses : (r : Result Policy SyntaxFault) (text : Bytes) → Reading r text → (f : SyntaxFault) → IsSyntaxFault text f → RefusedFor r f
@@ -226,5 +226,5 @@ reading_refuses (Ok p) text e f is = contradiction (sym e ∙ syntax_reads text 
   where
     contradiction : accepted (policy_of p) ≡ failed f → ⊥
     contradiction e = cc
-reading_refuses (Err faults.NoMemory) text e f is = inr refl
+reading_refuses (Err (faults.NoMemory m)) text e f is = inr refl
 reading_refuses (Err g) text e f is = inl (failed_is g f (sym e ∙ syntax_reads text f is))

@@ -5,7 +5,7 @@ use Rattle.std.proofs.lemmas.Slice.Eq.{bytes_eq-Decides}
 use Rattle.ucon_model.specs.declared.formula.Op.{Op}
 use Rattle.ucon_model.specs.declared.formula.Op.TheVariants as ops
 use Rattle.ucon_model.specs.Plain.{Bytes, PlainExpr, PlainFormula, negation, compare, lasts}
-use Rattle.ucon_model.specs.Tokens.{Token, a_word, a_number, a_text, a_symbol, joined_word, flawed, the_end, Symbol, equal_sign, unequal_sign, less_sign, at_most_sign, greater_sign, at_least_sign, open_round, close_round, open_square, close_square, semicolon}
+use Rattle.ucon_base.specs.Tokens.{Token, a_word, a_number, a_text, a_symbol, joined_word, flawed, the_end, Symbol, equal_sign, unequal_sign, less_sign, at_most_sign, greater_sign, at_least_sign, open_round, close_round, open_square, close_square, semicolon}
 use Rattle.ucon_model.specs.Forms.{Terminal, word, symbol, as_token, level, Marked, opening, Form, no_form, before, mapped, either_of}
 use Rattle.ucon_model.specs.Grammar.{keyword, sign, a_number as numbers, a_literal, closed, factor_with, term_with, expr_with, expr_of_depth, op_token, an_op, comparison_of, formula_with, unit_with, unit_of_depth, a_formula, one_less}
 use Rattle.ucon_model.specs.Spells.{Stands}

@@ -1,16 +1,15 @@
 -- Integers and literals keep to their forms.
 use Rattle.std.proofs.Common.{◌≡◌, Bool, true, false, cond, inl, inr, List, [], ◌∷◌, drop, Option, Some, None, Result, Ok, Err, neg_ℤ, refl, ap}
 use Rattle.ucon_base.specs.declared.value.Value.TheVariants as values
-use Rattle.ucon_model.specs.Tokens.{Token, a_word, a_number, a_text, a_symbol, joined_word, flawed, the_end, Symbol, minus_sign, open_curly}
+use Rattle.ucon_base.specs.Tokens.{Token, a_word, a_number, a_text, a_symbol, joined_word, flawed, the_end, Symbol, minus_sign, open_curly}
 use Rattle.ucon_model.specs.Forms.{symbol, mapped, either_of}
 use Rattle.ucon_model.specs.Grammar as grammar
 use Rattle.ucon_token.specs.declared.stop.Cause.TheVariants.{Unexpected}
 use Rattle.ucon_token.specs.Tokens.{first, is_symbol}
 use Rattle.ucon_token.specs.Reading.{Halt, Reads, ◌>>=◌, number_at, text_at}
-use Rattle.ucon_syntax.specs.declared.starts.LiteralStart.{LiteralStart}
-use Rattle.ucon_syntax.specs.declared.starts.LiteralStart.TheVariants as literals
-use Rattle.ucon_syntax.specs.Starts.{literal_start, symbol_literal}
-use Rattle.ucon_syntax.specs.Literals.{negative_at, int_at, set_at, literal_from, literal_at}
+use Rattle.ucon_token.specs.declared.literal.LiteralStart.{LiteralStart}
+use Rattle.ucon_token.specs.declared.literal.LiteralStart.TheVariants as literals
+use Rattle.ucon_token.specs.Literals.{symbol_literal, literal_start, negative_at, int_at, set_at, literal_from, literal_at}
 use Rattle.ucon_syntax.proofs.Keeping.{Meets}
 use Rattle.ucon_syntax.proofs.Sound.{Sound, Anything, Tests, sound_same, sound_mapped, sound_before, sound_either}
 use Rattle.ucon_syntax.proofs.Words.{symbol_tests, sound_number, sound_text}

@@ -9,7 +9,7 @@ use Rattle.ucon_model.specs.declared.policy.Phase.TheVariants as phases
 use Rattle.ucon_model.specs.declared.policy.When.{When}
 use Rattle.ucon_model.specs.declared.policy.When.TheVariants as whens
 use Rattle.ucon_model.specs.Plain.{Bytes, PlainPredicate, PlainRight, PlainPolicy}
-use Rattle.ucon_model.specs.Tokens.{Token, a_word, a_symbol, open_curly, close_curly}
+use Rattle.ucon_base.specs.Tokens.{Token, a_word, a_symbol, open_curly, close_curly}
 use Rattle.ucon_model.specs.Forms.{Terminal, word, as_token, Limit, item, Marked, beyond, Form, nothing, before, and_then, mapped}
 use Rattle.ucon_model.specs.Grammar.{keyword, sign, a_name, side_token, SideCount, of_side, count_side, an_attr, attrs, an_env, envs, phase_token, PhaseCount, of_phase, count_phase, a_pred, preds, when_token, WhenCount, of_when, count_when, an_update, updates, a_right, rights, a_policy}
 use Rattle.ucon_token.specs.Tokens.{first, is_word}

@@ -7,7 +7,7 @@ use Rattle.ucon_base.specs.Name.{first_fault}
 use Rattle.ucon_base.specs.NameBytes.{bad_place, is_name}
 use Rattle.ucon_base.specs.declared.name.NameFault.TheVariants.{Empty, TooLong, BadByte}
 use Rattle.ucon_model.specs.Plain.{Bytes}
-use Rattle.ucon_model.specs.Tokens.{Token, a_word, a_number, a_text, a_symbol, joined_word, flawed, the_end, Symbol, colon, semicolon, comma, dot, dots, equal_sign, unequal_sign, less_sign, at_most_sign, greater_sign, at_least_sign, plus_sign, minus_sign, star, open_round, close_round, open_square, close_square, open_curly, close_curly}
+use Rattle.ucon_base.specs.Tokens.{Token, a_word, a_number, a_text, a_symbol, joined_word, flawed, the_end, Symbol, colon, semicolon, comma, dot, dots, equal_sign, unequal_sign, less_sign, at_most_sign, greater_sign, at_least_sign, plus_sign, minus_sign, star, open_round, close_round, open_square, close_square, open_curly, close_curly}
 use Rattle.ucon_model.specs.Forms.{word, symbol, mapped, Limit}
 use Rattle.ucon_model.specs.Grammar as grammar
 use Rattle.ucon_token.specs.Tokens.{code, first, is_symbol, is_word, word_of, number_of, text_of}

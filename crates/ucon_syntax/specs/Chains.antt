@@ -1,6 +1,6 @@
 -- Chains of operands: each groups to the left, and has at most 32.
 use Rattle.std.specs.Prelude.{ℕ, zero, suc, Bool, drop, Ok, Err, if◌then◌else◌}
-use Rattle.ucon_model.specs.Tokens.{Token}
+use Rattle.ucon_base.specs.Tokens.{Token}
 use Rattle.ucon_token.specs.declared.stop.Cause.TheVariants.{TooMany}
 use Rattle.ucon_token.specs.Tokens.{first}
 use Rattle.ucon_token.specs.Reading.{Reads, ◌>>=◌}

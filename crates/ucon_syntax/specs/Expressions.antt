@@ -2,12 +2,12 @@
 use Rattle.std.specs.Prelude.{ℕ, zero, suc, drop, Option, Some, None, Ok, Err}
 use Rattle.ucon_model.specs.declared.formula.Ref.TheVariants as refs
 use Rattle.ucon_model.specs.Plain.{Bytes, PlainExpr, lit, read, plus, minus, times, size}
-use Rattle.ucon_model.specs.Tokens.{dot, star, open_round, close_round}
+use Rattle.ucon_base.specs.Tokens.{dot, star, open_round, close_round}
 use Rattle.ucon_token.specs.declared.stop.Cause.TheVariants.{Unexpected, TooDeep}
 use Rattle.ucon_token.specs.Tokens.{first, is_symbol}
 use Rattle.ucon_token.specs.Reading.{Reads, ◌>>=◌, expect, name_at}
 use Rattle.ucon_syntax.specs.Chains.{Operators, chain}
-use Rattle.ucon_syntax.specs.Literals.{literal_at}
+use Rattle.ucon_token.specs.Literals.{literal_at}
 use Rattle.ucon_syntax.specs.Starts.{factor_start, sum_sign, is_sum_sign}
 use Rattle.ucon_syntax.specs.declared.starts.FactorStart.{FactorStart}
 use Rattle.ucon_syntax.specs.declared.starts.FactorStart.TheVariants as factors

@@ -1,7 +1,7 @@
 -- Reading formulas.
 use Rattle.std.specs.Prelude.{ℕ, zero, suc, drop, Option, Some, None, Ok, Err, codes}
 use Rattle.ucon_model.specs.Plain.{PlainFormula, both, either, negation, compare, lasts}
-use Rattle.ucon_model.specs.Tokens.{open_square, close_square}
+use Rattle.ucon_base.specs.Tokens.{open_square, close_square}
 use Rattle.ucon_token.specs.declared.stop.Cause.TheVariants.{TooDeep}
 use Rattle.ucon_token.specs.Tokens.{first, is_word}
 use Rattle.ucon_token.specs.Reading.{Reads, ◌>>=◌, expect, taken, number_at}

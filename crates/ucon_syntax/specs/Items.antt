@@ -14,12 +14,12 @@ use Rattle.ucon_model.specs.declared.policy.Phase.TheVariants as phases
 use Rattle.ucon_model.specs.declared.policy.When.{When}
 use Rattle.ucon_model.specs.declared.policy.When.TheVariants as whens
 use Rattle.ucon_model.specs.Plain.{Bytes, PlainTest, authorisation, duty, condition, PlainPredicate, PlainUpdate}
-use Rattle.ucon_model.specs.Tokens.{Token, colon, semicolon, dot, dots, equal_sign}
+use Rattle.ucon_base.specs.Tokens.{Token, colon, semicolon, dot, dots, equal_sign}
 use Rattle.ucon_token.specs.declared.stop.Cause.TheVariants.{Unexpected, TooMany}
 use Rattle.ucon_token.specs.Tokens.{first, is_word}
 use Rattle.ucon_token.specs.Reading.{Reads, ◌>>=◌, expect, expect_word, taken, name_at, number_at}
 use Rattle.ucon_syntax.specs.Starts.{side_of, kind_word, phase_of, test_sort, duty_word, when_of, name_in}
-use Rattle.ucon_syntax.specs.Literals.{int_at, literal_at}
+use Rattle.ucon_token.specs.Literals.{int_at, literal_at}
 use Rattle.ucon_syntax.specs.Expressions.{expr_at}
 use Rattle.ucon_syntax.specs.Formulas.{formula_at}
 use Rattle.ucon_syntax.specs.declared.room.SideRoom.{SideRoom}

@@ -1,6 +1,5 @@
 pub mod Starts
 pub mod Chains
-pub mod Literals
 pub mod Expressions
 pub mod Formulas
 pub mod Lists

@@ -1,6 +1,6 @@
 -- Reading items one after the other.
 use Rattle.std.specs.Prelude.{ℕ, zero, suc, Bool, List, [], ◌∷◌, Ok, Err, if◌then◌else◌}
-use Rattle.ucon_model.specs.Tokens.{Token}
+use Rattle.ucon_base.specs.Tokens.{Token}
 use Rattle.ucon_token.specs.declared.stop.Cause.TheVariants.{TooMany}
 use Rattle.ucon_token.specs.Tokens.{first}
 use Rattle.ucon_token.specs.Reading.{Reads, ◌>>=◌}

@@ -1,10 +1,12 @@
 -- Reading rights and whole policies.
-use Rattle.std.specs.Prelude.{◌≡◌, ℕ, nat_lt, if◌then◌else◌, List, [], ◌∷◌, length, Option, Some, None, Result, Ok, Err, codes}
+use Rattle.std.specs.Prelude.{◌≡◌, ℕ, nat_lt, if◌then◌else◌, List, [], ◌∷◌, length, Option, Some, None, option_and_then, Result, Ok, Err, codes}
+use Rattle.std.specs.Result.{result_ok}
 use Rattle.ucon_model.specs.declared.policy.AttrDecl.{AttrDecl}
 use Rattle.ucon_model.specs.declared.policy.EnvDecl.{EnvDecl}
 use Rattle.ucon_model.specs.declared.policy.Policy.{Policy}
 use Rattle.ucon_model.specs.Plain.{Bytes, PlainPredicate, PlainUpdate, PlainRight, PlainPolicy}
-use Rattle.ucon_model.specs.Tokens.{Token, tokens_of, place_of, Flaw, unknown, too_long, misplaced, open_curly, close_curly}
+use Rattle.ucon_base.specs.Tokens.{Token, tokens_of, place_of, Flaw, unknown, too_long, misplaced, open_curly, close_curly}
+use Rattle.ucon_model.specs.Typing.{is_typed}
 use Rattle.ucon_model.specs.Views.{policy_of}
 use Rattle.ucon_token.specs.declared.stop.Cause.{Cause}
 use Rattle.ucon_token.specs.declared.stop.Cause.TheVariants as causes
@@ -74,8 +76,16 @@ placed text (Err h) = Err (fault_of (flaw_at (first h.1)) h.0 (place_of text (le
 unfoldable pub reading_of : Bytes → Result PlainPolicy SyntaxFault
 reading_of text = if nat_lt 65536 (length text) then Err (faults.TooLong 65536) else placed text (whole_at (tokens_of text))
 
+-- the policy, if it is well typed
+abbrev pub if_typed : PlainPolicy → Option PlainPolicy
+if_typed p = if is_typed p then Some p else None
+
+-- the policy that a text gives without a syntax fault or a typing fault
+abbrev pub accepted : Bytes → Option PlainPolicy
+accepted text = option_and_then if_typed (result_ok (reading_of text))
+
 -- a text is read as its reading says, unless memory ran out
 abbrev pub Reading : Result Policy SyntaxFault → Bytes → Type 0
 Reading (Ok p) text = reading_of text ≡ Ok (policy_of p)
-Reading (Err faults.NoMemory) text = Unit {0}
+Reading (Err (faults.NoMemory e)) text = Unit {0}
 Reading (Err f) text = reading_of text ≡ Err f

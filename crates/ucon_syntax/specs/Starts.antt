@@ -11,10 +11,8 @@ use Rattle.ucon_model.specs.declared.policy.Phase.TheVariants as phases
 use Rattle.ucon_model.specs.declared.policy.When.{When}
 use Rattle.ucon_model.specs.declared.policy.When.TheVariants as whens
 use Rattle.ucon_model.specs.Plain.{Bytes}
-use Rattle.ucon_model.specs.Tokens.{Token, a_word, a_number, a_text, a_symbol, Symbol, equal_sign, unequal_sign, less_sign, at_most_sign, greater_sign, at_least_sign, plus_sign, minus_sign, open_round, open_square, open_curly}
+use Rattle.ucon_base.specs.Tokens.{Token, a_word, a_number, a_text, a_symbol, Symbol, equal_sign, unequal_sign, less_sign, at_most_sign, greater_sign, at_least_sign, plus_sign, minus_sign, open_round, open_square, open_curly}
 use Rattle.ucon_token.specs.Tokens.{is_symbol, is_word, is_joined, text_of}
-use Rattle.ucon_syntax.specs.declared.starts.LiteralStart.{LiteralStart}
-use Rattle.ucon_syntax.specs.declared.starts.LiteralStart.TheVariants as literals
 use Rattle.ucon_syntax.specs.declared.starts.FactorStart.{FactorStart}
 use Rattle.ucon_syntax.specs.declared.starts.FactorStart.TheVariants as factors
 use Rattle.ucon_syntax.specs.declared.starts.SumSign.{SumSign}
@@ -27,18 +25,6 @@ use Rattle.ucon_syntax.specs.declared.starts.DutyWord.{DutyWord}
 use Rattle.ucon_syntax.specs.declared.starts.DutyWord.TheVariants as duties
 use Rattle.ucon_syntax.specs.declared.starts.KindWord.{KindWord}
 use Rattle.ucon_syntax.specs.declared.starts.KindWord.TheVariants as kinds
-
-abbrev pub symbol_literal : Symbol → Option LiteralStart
-symbol_literal minus_sign = Some literals.Int
-symbol_literal open_curly = Some literals.Set
-symbol_literal s = None
-
--- what sort of literal begins with it
-unfoldable pub literal_start : Token → Option LiteralStart
-literal_start (a_number n) = Some literals.Int
-literal_start (a_text t) = Some literals.Text
-literal_start (a_symbol s) = symbol_literal s
-literal_start t = None
 
 abbrev pub symbol_factor : Symbol → Option FactorStart
 symbol_factor minus_sign = Some factors.Literal

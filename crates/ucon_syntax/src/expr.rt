@@ -1,16 +1,14 @@
 //! Expressions.
 
-ghost use Rattle.std.specs.Prelude.{◌≡◌, Some, MatchResult};
+ghost use Rattle.std.specs.Prelude.{◌≡◌, Some, IfOk};
 ghost use Rattle.ucon_model.specs.Plain.{times};
 ghost use Rattle.ucon_model.specs.Views.{expr_of};
 ghost use Rattle.ucon_token.specs.Reading.{Gives};
-ghost use Rattle.ucon_token.specs.declared.stop.Stop.TheVariants.{Memory};
 ghost use Rattle.ucon_syntax.specs.Expressions.{place_at, factor_at, round_at, term_at, expr_at, signed};
 
-use crate::literal::literal;
 use crate::starts::{FactorStart, SumSign, factor_start, sum_sign};
 use std::alloc::Global;
-use ucon_base::Name;
+use ucon_base::{Name, NoMemory};
 use ucon_model::{Expr, Ref};
 use ucon_token::{Cause, Reader, Stop, Symbol};
 
@@ -38,7 +36,7 @@ fn factor(reader: &mut Reader, room: usize) -> Result<Expr, Stop>
     };
     match start {
         FactorStart::Literal => {
-            let value = literal(reader)?;
+            let value = reader.literal()?;
             Ok(Expr::Lit(value))
         }
         FactorStart::Subject => {
@@ -86,16 +84,16 @@ fn round(reader: &mut Reader, room: usize) -> Result<Expr, Stop>
     Ok(e)
 }
 
-fn product(alloc: Global, a: Expr, b: Expr) -> Result<Expr, Stop>
-    ensures { MatchResult result (λ e. expr_of e ≡ times (expr_of a) (expr_of b)) (λ e. e ≡ Memory) }
+fn product(alloc: Global, a: Expr, b: Expr) -> Result<Expr, NoMemory>
+    ensures { IfOk result (λ e. expr_of e ≡ times (expr_of a) (expr_of b)) }
 {
     let left = Box::new(alloc, a)?;
     let right = Box::new(alloc, b)?;
     Ok(Expr::Mul(left, right))
 }
 
-fn signed(alloc: Global, sign: SumSign, a: Expr, b: Expr) -> Result<Expr, Stop>
-    ensures { MatchResult result (λ e. expr_of e ≡ signed (Some sign) (expr_of a) (expr_of b)) (λ e. e ≡ Memory) }
+fn signed(alloc: Global, sign: SumSign, a: Expr, b: Expr) -> Result<Expr, NoMemory>
+    ensures { IfOk result (λ e. expr_of e ≡ signed (Some sign) (expr_of a) (expr_of b)) }
 {
     let left = Box::new(alloc, a)?;
     let right = Box::new(alloc, b)?;

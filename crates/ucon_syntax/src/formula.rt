@@ -1,11 +1,10 @@
 //! Formulas.
 
-ghost use Rattle.std.specs.Prelude.{◌≡◌, MatchResult};
+ghost use Rattle.std.specs.Prelude.{◌≡◌, IfOk};
 ghost use Rattle.ucon_model.specs.Plain.{both, either, negation};
 ghost use Rattle.ucon_model.specs.Views.{formula_of};
 ghost use Rattle.ucon_token.specs.Reading.{Gives, taken};
 ghost use Rattle.ucon_token.specs.Tokens.{first};
-ghost use Rattle.ucon_token.specs.declared.stop.Stop.TheVariants.{Memory};
 ghost use Rattle.ucon_token.specs.Seen.{token_of};
 ghost use Rattle.ucon_syntax.specs.Starts.{op_of, is_late};
 ghost use Rattle.ucon_syntax.specs.Formulas.{compare_at, unit_at, conj_at, formula_at, square_at};
@@ -13,6 +12,7 @@ ghost use Rattle.ucon_syntax.specs.Formulas.{compare_at, unit_at, conj_at, formu
 use crate::expr::read_expr;
 use crate::starts::{UnitStart, op_of, unit_start};
 use std::alloc::Global;
+use ucon_base::NoMemory;
 use ucon_model::{Formula, Op};
 use ucon_token::{Cause, Reader, Stop, Symbol, Token};
 
@@ -43,23 +43,23 @@ fn compare(reader: &mut Reader, room: usize) -> Result<Formula, Stop>
     Ok(Formula::Compare(op, left, right))
 }
 
-fn negated(alloc: Global, f: Formula) -> Result<Formula, Stop>
-    ensures { MatchResult result (λ g. formula_of g ≡ negation (formula_of f)) (λ e. e ≡ Memory) }
+fn negated(alloc: Global, f: Formula) -> Result<Formula, NoMemory>
+    ensures { IfOk result (λ g. formula_of g ≡ negation (formula_of f)) }
 {
     let inner = Box::new(alloc, f)?;
     Ok(Formula::Not(inner))
 }
 
-fn conjoined(alloc: Global, f: Formula, g: Formula) -> Result<Formula, Stop>
-    ensures { MatchResult result (λ h. formula_of h ≡ both (formula_of f) (formula_of g)) (λ e. e ≡ Memory) }
+fn conjoined(alloc: Global, f: Formula, g: Formula) -> Result<Formula, NoMemory>
+    ensures { IfOk result (λ h. formula_of h ≡ both (formula_of f) (formula_of g)) }
 {
     let left = Box::new(alloc, f)?;
     let right = Box::new(alloc, g)?;
     Ok(Formula::And(left, right))
 }
 
-fn disjoined(alloc: Global, f: Formula, g: Formula) -> Result<Formula, Stop>
-    ensures { MatchResult result (λ h. formula_of h ≡ either (formula_of f) (formula_of g)) (λ e. e ≡ Memory) }
+fn disjoined(alloc: Global, f: Formula, g: Formula) -> Result<Formula, NoMemory>
+    ensures { IfOk result (λ h. formula_of h ≡ either (formula_of f) (formula_of g)) }
 {
     let left = Box::new(alloc, f)?;
     let right = Box::new(alloc, g)?;
@@ -79,7 +79,7 @@ fn unit(reader: &mut Reader, room: usize) -> Result<Formula, Stop>
             }
             reader.advance();
             let f = unit(reader, room - 1)?;
-            negated(reader.alloc, f)
+            Ok(negated(reader.alloc, f)?)
         }
         UnitStart::Bracket => {
             if room == 0 {

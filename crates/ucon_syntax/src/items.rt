@@ -9,7 +9,6 @@ ghost use Rattle.ucon_syntax.specs.Items.{take_side, take_phase, take_when, coun
 
 use crate::expr::read_expr;
 use crate::formula::read_formula;
-use crate::literal::{int, literal};
 use crate::room::{PhaseRoom, SideRoom, WhenRoom};
 use crate::starts::{
     DutyWord, KindWord, TestSort, duty_word, kind_word, name_in, phase_of, side_of, test_sort,
@@ -42,9 +41,9 @@ fn range(reader: &mut Reader) -> Result<Kind, Stop>
     ensures read { Gives (λ k. (k, reader.new.tokens)) result reader.new.tokens (range_at reader.old.tokens) }
     ensures text { reader.new.text ≡ reader.old.text }
 {
-    let low = int(reader)?;
+    let low = reader.int()?;
     reader.expect(Symbol::Dots)?;
-    let high = int(reader)?;
+    let high = reader.int()?;
     Ok(Kind::Int { low, high })
 }
 
@@ -76,7 +75,7 @@ pub fn attr(reader: &mut Reader, room: SideRoom) -> Result<(AttrDecl, SideRoom),
     reader.expect(Symbol::Colon)?;
     let kind = kind(reader)?;
     reader.expect(Symbol::Equal)?;
-    let start = literal(reader)?;
+    let start = reader.literal()?;
     reader.expect(Symbol::Semicolon)?;
     let attr = AttrDecl {
         side,
@@ -97,7 +96,7 @@ pub fn env(reader: &mut Reader) -> Result<EnvDecl, Stop>
     reader.expect(Symbol::Colon)?;
     let kind = kind(reader)?;
     reader.expect(Symbol::Equal)?;
-    let start = literal(reader)?;
+    let start = reader.literal()?;
     reader.expect(Symbol::Semicolon)?;
     Ok(EnvDecl { name, kind, start })
 }

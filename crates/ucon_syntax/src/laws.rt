@@ -1,10 +1,11 @@
 //! Laws of the grammar. A law is a function without parameters that does nothing: its contract is what is proved.
 
-ghost use Rattle.std.specs.Prelude.{◌≡◌, ◌⊎◌, ◌↔◌, ℕ, Ok, Err};
+ghost use Rattle.std.specs.Prelude.{◌≡◌, ◌⊎◌, ◌↔◌, ℕ, Ok, Err, Some};
 ghost use Rattle.ucon_model.specs.Limits.{IsWithin};
 ghost use Rattle.ucon_model.specs.Plain.{Bytes, PlainPolicy};
 ghost use Rattle.ucon_model.specs.Spells.{Spells, TextFault, IsTextFault};
-ghost use Rattle.ucon_syntax.specs.Policies.{reading_of};
+ghost use Rattle.ucon_model.specs.Typing.{IsTyped};
+ghost use Rattle.ucon_syntax.specs.Policies.{accepted, reading_of};
 ghost use Rattle.ucon_syntax.specs.Refusals.{IsSyntaxFault};
 ghost use Rattle.ucon_syntax.specs.declared.read.SyntaxFault.{SyntaxFault};
 
@@ -32,6 +33,11 @@ pub fn each_text_spells_or_is_refused()
 pub fn readings_are_what_texts_spell()
     ensures policy { (text : Bytes) (p : PlainPolicy) → (reading_of text ≡ Ok p) ↔ Spells text p }
     ensures fault { (text : Bytes) (f : SyntaxFault) → (reading_of text ≡ Err f) ↔ IsSyntaxFault text f }
+{}
+
+/// A text is accepted as a policy exactly where it spells that policy and the policy is well typed.
+pub fn accepted_texts_spell_typed_policies()
+    ensures { (text : Bytes) (p : PlainPolicy) → (accepted text ≡ Some p) ↔ (Spells text p × IsTyped p) }
 {}
 
 /// A policy that a text spells keeps the limits.

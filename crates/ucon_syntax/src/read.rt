@@ -3,7 +3,7 @@
 ghost use Rattle.std.specs.Prelude.{◌≡◌, length, IfOk, IfErr};
 ghost use Rattle.ucon_model.specs.Plain.{PlainPolicy};
 ghost use Rattle.ucon_model.specs.Spells.{Spells};
-ghost use Rattle.ucon_model.specs.Tokens.{place_of};
+ghost use Rattle.ucon_base.specs.Tokens.{place_of};
 ghost use Rattle.ucon_model.specs.Views.{policy_of};
 ghost use Rattle.ucon_token.specs.Tokens.{first, flaw_at};
 ghost use Rattle.ucon_syntax.specs.Policies.{fault_of, reading_of, Reading};
@@ -11,6 +11,7 @@ ghost use Rattle.ucon_syntax.specs.Refusals.{IsSyntaxFault, ReadsAs, RefusedFor,
 
 use crate::policy::whole;
 use std::alloc::Global;
+use ucon_base::NoMemory;
 use ucon_model::Policy;
 use ucon_token::{Cause, Flaw, Reader, Stop};
 
@@ -30,7 +31,7 @@ pub enum SyntaxFault {
     TooDeep(usize),
     /// One item, operand or text too many.
     TooMany(usize),
-    NoMemory,
+    NoMemory(NoMemory),
 }
 
 fn fault(reader: &Reader, cause: Cause) -> SyntaxFault
@@ -59,7 +60,7 @@ fn read(alloc: Global, text: &[u8]) -> Result<Policy, SyntaxFault>
     let mut reader = Reader::new(alloc, text);
     match whole(&mut reader) {
         Ok(policy) => Ok(policy),
-        Err(Stop::Memory) => Err(SyntaxFault::NoMemory),
+        Err(Stop::Memory(refused)) => Err(SyntaxFault::NoMemory(refused)),
         Err(Stop::At(cause)) => Err(fault(&reader, cause)),
     }
 }

@@ -2,18 +2,11 @@
 
 ghost use Rattle.std.specs.Prelude.{◌≡◌, Some};
 ghost use Rattle.ucon_token.specs.Seen.{symbol_of, token_of};
-ghost use Rattle.ucon_syntax.specs.Starts.{symbol_literal, literal_start, symbol_factor, word_factor, factor_start, symbol_sum, sum_sign, unit_start, symbol_op, word_op, op_of, side_of, kind_word, phase_of, test_sort, duty_word, when_of, if_name, name_in};
+ghost use Rattle.ucon_syntax.specs.Starts.{symbol_factor, word_factor, factor_start, symbol_sum, sum_sign, unit_start, symbol_op, word_op, op_of, side_of, kind_word, phase_of, test_sort, duty_word, when_of, if_name, name_in};
 
 use ucon_base::{Name, Side};
 use ucon_model::{Op, Phase, When};
 use ucon_token::{Symbol, Token};
-
-#[derive(Clone, Copy)]
-pub enum LiteralStart {
-    Int,
-    Text,
-    Set,
-}
 
 #[derive(Clone, Copy)]
 pub enum FactorStart {
@@ -58,28 +51,6 @@ pub enum DutyWord {
     Done,
     Within,
     Every,
-}
-
-fn symbol_literal(s: Symbol) -> Option<LiteralStart>
-    ensures { result ≡ symbol_literal (symbol_of s) }
-{
-    match s {
-        Symbol::Minus => Some(LiteralStart::Int),
-        Symbol::OpenCurly => Some(LiteralStart::Set),
-        _ => None,
-    }
-}
-
-#[tactic(auto, unfolding(crate::specs::Starts::literal_start))]
-pub fn literal_start(token: &Token) -> Option<LiteralStart>
-    ensures { result ≡ literal_start (token_of token.now) }
-{
-    match token {
-        Token::Number(_) => Some(LiteralStart::Int),
-        Token::Text(_) => Some(LiteralStart::Text),
-        Token::Symbol(s) => symbol_literal(*s),
-        _ => None,
-    }
 }
 
 fn symbol_factor(s: Symbol) -> Option<FactorStart>

@@ -2,7 +2,8 @@
 use Rattle.std.proofs.Common.{◌≡◌, ℕ, zero, suc, ◌+◌, ◌-◌, ◌<◌, ◌≤◌, ℤ, Bool, true, false, cond, not, ◌==◌, ◌&&◌, List, [], ◌∷◌, length, take, drop, Option, Some, None, refl, sym, ap, ◌∙◌, arith, length-drop, nat_lt}
 use Rattle.std.specs.List.{prefix_len}
 use Rattle.ucon_base.specs.NameBytes.{is_letter, is_word_byte}
-use Rattle.ucon_model.specs.Tokens.{Token, a_word, a_number, a_text, a_symbol, joined_word, flawed, the_end, too_long, unknown, Symbol, dot, dots, at_most_sign, less_sign, at_least_sign, greater_sign, unequal_sign, Lexed, is_blank, is_digit, skip, word_len, digits_len, text_len, word_token, joined_token, number_of, is_zero_led, number_with, number_token, closed_text, text_token, single, symbol_with, longest, unequal, symbol_token, token_at, token_from, begins_word, next_token, begin_of, fault_from, with_next, with_next_span, tokens_within, tokens_from, spans_within, spans_from, left_at}
+use Rattle.ucon_base.specs.Reading.{is_digit, text_len}
+use Rattle.ucon_base.specs.Tokens.{Token, a_word, a_number, a_text, a_symbol, joined_word, flawed, the_end, too_long, unknown, Symbol, dot, dots, at_most_sign, less_sign, at_least_sign, greater_sign, unequal_sign, Lexed, is_blank, skip, word_len, digits_len, word_token, joined_token, number_of, is_zero_led, number_with, number_token, closed_text, text_token, single, symbol_with, longest, unequal, symbol_token, token_at, token_from, begins_word, next_token, begin_of, fault_from, with_next, with_next_span, tokens_within, tokens_from, spans_within, spans_from, left_at}
 use Rattle.ucon_token.specs.Reader.{tokens_on, spans_on, IsTail, goes_on}
 use Rattle.ucon_token.specs.Seen.{token_of}
 use Rattle.ucon_token.specs.declared.token.Token.{Token as CodeToken}

@@ -1,2 +1,4 @@
 pub mod Runs
 pub mod Fuel
+pub mod Rises
+pub mod Texts

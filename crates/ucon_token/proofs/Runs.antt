@@ -12,7 +12,8 @@ use Rattle.ucon_base.specs.Name.{first_fault}
 use Rattle.ucon_base.specs.NameBytes.{is_word_byte, bad_place}
 use Rattle.ucon_base.specs.Text.{first_text_fault}
 use Rattle.ucon_base.specs.TextBytes.{is_text_byte, bad_text_place}
-use Rattle.ucon_model.specs.Tokens.{word_len, text_len, begins_word}
+use Rattle.ucon_base.specs.Reading.{text_len}
+use Rattle.ucon_base.specs.Tokens.{word_len, begins_word}
 
 one_more : (m n : ℕ) → m ≡ n → 1 + m ≡ suc n
 one_more m n e = omega arith

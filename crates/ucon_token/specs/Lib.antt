@@ -1,3 +1,4 @@
+pub mod Literals
 pub mod Reader
 pub mod Seen
 pub mod Tokens

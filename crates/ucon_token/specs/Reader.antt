@@ -1,7 +1,7 @@
 -- A reader: the tokens of a text that are left.
 use Rattle.std.specs.Prelude.{◌≡◌, ◌-◌, ◌≤◌, ℕ, Bool, true, false, List, length, drop, Option, Some, None}
-use Rattle.ucon_model.specs.Plain.{Bytes}
-use Rattle.ucon_model.specs.Tokens.{Token, a_word, a_number, a_text, a_symbol, tokens_from, spans_from, with_next, with_next_span}
+use Rattle.ucon_base.specs.Bytes.{Bytes}
+use Rattle.ucon_base.specs.Tokens.{Token, a_word, a_number, a_text, a_symbol, tokens_from, spans_from, with_next, with_next_span}
 
 -- a text, and those of its tokens that are left
 pub record Remaining : Type 0 where

@@ -1,7 +1,8 @@
 -- Reading tokens from left to right, up to the first that does not fit.
 use Rattle.std.specs.Prelude.{◌≡◌, ℤ, List, drop, Option, Some, None, Result, Ok, Err, if◌then◌else◌}
-use Rattle.ucon_model.specs.Plain.{Bytes}
-use Rattle.ucon_model.specs.Tokens.{Token, Symbol}
+use Rattle.std.proofs.Common.{sym, ap, ◌∙◌}
+use Rattle.ucon_base.specs.Bytes.{Bytes}
+use Rattle.ucon_base.specs.Tokens.{Token, Symbol}
 use Rattle.ucon_token.specs.declared.stop.Cause.{Cause}
 use Rattle.ucon_token.specs.declared.stop.Cause.TheVariants.{Unexpected}
 use Rattle.ucon_token.specs.declared.stop.Stop.{Stop}
@@ -23,12 +24,17 @@ abbrev pub ◌>>=◌ : {A B : Type 0} → Result A Halt → (A → Result B Halt
 
 -- What a function returned, seen by view, and the tokens that it left are what reading gives, unless memory ran out.
 abbrev pub Fails : {Y : Type 0} → Stop → List Token → Result Y Halt → Type 0
-Fails stops.Memory left reading = Unit {0}
+Fails (stops.Memory e) left reading = Unit {0}
 Fails (stops.At c) left reading = reading ≡ Err (c, left)
 
 abbrev pub Gives : {X Y : Type 0} → (X → Y) → Result X Stop → List Token → Result Y Halt → Type 0
 Gives view (Ok x) left reading = reading ≡ Ok (view x)
 Gives view (Err e) left reading = Fails e left reading
+
+-- a part that stops stops the whole
+pub stops_whole : {Y Z : Type 0} (e : Stop) (left : List Token) (part : Result Z Halt) (f : Z → Result Y Halt) (whole : Result Y Halt) → Fails e left part → (part >>= f) ≡ whole → Fails e left whole
+stops_whole (stops.Memory e) left part f whole fails so_far = tt
+stops_whole (stops.At c) left part f whole fails so_far = sym so_far ∙ ap (λ r. r >>= f) fails
 
 -- past this symbol, past this word
 abbrev pub expect : Symbol → List Token → Result (List Token) Halt

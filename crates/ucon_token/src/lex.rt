@@ -3,7 +3,8 @@
 ghost use Rattle.std.specs.Prelude.{◌≡◌, ◌≤◌, ◌&&◌, true, false, length, option_map, IfSome, drop};
 ghost use Rattle.ucon_base.specs.NameBytes.{is_letter, is_word_byte};
 ghost use Rattle.ucon_base.specs.TextBytes.{is_text_byte};
-ghost use Rattle.ucon_model.specs.Tokens.{is_blank, is_digit, skip, word_len, digits_len, text_len, word_token, joined_token, value_from, number_of, is_zero_led, number_token, closed_text, text_token, single, symbol_with, longest, unequal, symbol_token, token_at, begins_word, begin_of, token_from, unless_closed, fault_from};
+ghost use Rattle.ucon_base.specs.Reading.{is_digit, text_len};
+ghost use Rattle.ucon_base.specs.Tokens.{is_blank, skip, word_len, digits_len, word_token, joined_token, value_from, number_of, is_zero_led, number_token, closed_text, text_token, single, symbol_with, longest, unequal, symbol_token, token_at, begins_word, begin_of, token_from, unless_closed, fault_from};
 ghost use Rattle.ucon_token.specs.Seen.{symbol_of, token_of};
 
 use crate::token::{Flaw, Symbol, Token};
@@ -42,7 +43,7 @@ fn is_text_byte(b: u8) -> bool
 }
 
 /// What is left behind blanks and comments.
-#[tactic(auto, unfolding(ucon_model::specs::Tokens::skip))]
+#[tactic(auto, unfolding(ucon_base::specs::Tokens::skip))]
 fn skip(bytes: &[u8]) -> &[u8]
     ensures { result.now ≡ skip false bytes.now }
 {
@@ -82,7 +83,7 @@ fn text_len(bytes: &[u8]) -> usize
     bytes.iter().take_while(|b| is_text_byte(**b)).count()
 }
 
-#[tactic(auto, unfolding(ucon_model::specs::Tokens::single))]
+#[tactic(auto, unfolding(ucon_base::specs::Tokens::single))]
 fn single(b: u8) -> Option<Symbol>
     ensures { option_map symbol_of result ≡ single b }
 {
@@ -104,7 +105,7 @@ fn single(b: u8) -> Option<Symbol>
     }
 }
 
-#[tactic(auto, using(crate::proofs::Runs::short_word, crate::proofs::Runs::long_word), unfolding(ucon_model::specs::Tokens::word_token))]
+#[tactic(auto, using(crate::proofs::Runs::short_word, crate::proofs::Runs::long_word), unfolding(ucon_base::specs::Tokens::word_token))]
 fn word_token(bytes: &[u8]) -> (Token, &[u8])
     requires { begins_word bytes.now ≡ true }
     ensures { (token_of result.0, result.1.now) ≡ word_token bytes.now }
@@ -117,7 +118,7 @@ fn word_token(bytes: &[u8]) -> (Token, &[u8])
 }
 
 /// A word directly behind a number.
-#[tactic(auto, using(crate::proofs::Runs::short_word, crate::proofs::Runs::long_word), unfolding(ucon_model::specs::Tokens::joined_token))]
+#[tactic(auto, using(crate::proofs::Runs::short_word, crate::proofs::Runs::long_word), unfolding(ucon_base::specs::Tokens::joined_token))]
 fn joined_token(bytes: &[u8]) -> (Token, &[u8])
     requires { begins_word bytes.now ≡ true }
     ensures { (token_of result.0, result.1.now) ≡ joined_token bytes.now }
@@ -129,7 +130,7 @@ fn joined_token(bytes: &[u8]) -> (Token, &[u8])
     }
 }
 
-#[tactic(auto, unfolding(ucon_model::specs::Tokens::value_from))]
+#[tactic(auto, unfolding(ucon_base::specs::Tokens::value_from))]
 fn value(digits: &[u8]) -> Option<u64>
     ensures value { result ≡ value_from 0 digits.now }
     ensures small { IfSome result (λ v. v ≤ 1000000000000000) }
@@ -166,7 +167,7 @@ fn is_zero_led(digits: &[u8]) -> bool
     }
 }
 
-#[tactic(auto, unfolding(ucon_model::specs::Tokens::number_token))]
+#[tactic(auto, unfolding(ucon_base::specs::Tokens::number_token))]
 fn number_token(bytes: &[u8]) -> (Token, &[u8])
     ensures { (token_of result.0, result.1.now) ≡ number_token bytes.now }
 {
@@ -199,7 +200,7 @@ fn closed_text(text: Text, after: &[u8]) -> (Token, &[u8])
 }
 
 /// The text behind a quote.
-#[tactic(auto, using(crate::proofs::Runs::short_text, crate::proofs::Runs::long_text), unfolding(ucon_model::specs::Tokens::text_token))]
+#[tactic(auto, using(crate::proofs::Runs::short_text, crate::proofs::Runs::long_text), unfolding(ucon_base::specs::Tokens::text_token))]
 fn text_token(bytes: &[u8]) -> (Token, &[u8])
     ensures { (token_of result.0, result.1.now) ≡ text_token bytes.now }
 {
@@ -251,7 +252,7 @@ fn single_token(first: u8, rest: &[u8]) -> (Token, &[u8])
     }
 }
 
-#[tactic(auto, unfolding(ucon_model::specs::Tokens::symbol_token))]
+#[tactic(auto, unfolding(ucon_base::specs::Tokens::symbol_token))]
 fn symbol_token(first: u8, rest: &[u8]) -> (Token, &[u8])
     ensures { (token_of result.0, result.1.now) ≡ symbol_token first rest.now }
 {
@@ -264,7 +265,7 @@ fn symbol_token(first: u8, rest: &[u8]) -> (Token, &[u8])
     }
 }
 
-#[tactic(auto, unfolding(ucon_model::specs::Tokens::token_at))]
+#[tactic(auto, unfolding(ucon_base::specs::Tokens::token_at))]
 fn token_at(bytes: &[u8]) -> (Token, &[u8])
     ensures { (token_of result.0, result.1.now) ≡ token_at bytes.now }
 {
@@ -301,7 +302,7 @@ pub fn is_joined(behind: bool, bytes: &[u8]) -> bool
 }
 
 /// What is left from the next token's first byte on.
-#[tactic(auto, unfolding(ucon_model::specs::Tokens::begin_of))]
+#[tactic(auto, unfolding(ucon_base::specs::Tokens::begin_of))]
 pub fn begin_of(behind: bool, bytes: &[u8]) -> &[u8]
     ensures { result.now ≡ begin_of behind bytes.now }
 {
@@ -313,7 +314,7 @@ pub fn begin_of(behind: bool, bytes: &[u8]) -> &[u8]
 }
 
 /// The token that begins here, and what is left behind it.
-#[tactic(auto, unfolding(ucon_model::specs::Tokens::token_from))]
+#[tactic(auto, unfolding(ucon_base::specs::Tokens::token_from))]
 pub fn token_from(joined: bool, bytes: &[u8]) -> (Token, &[u8])
     requires { joined ≡ true → begins_word bytes.now ≡ true }
     ensures { (token_of result.0, result.1.now) ≡ token_from joined bytes.now }
@@ -326,7 +327,7 @@ pub fn token_from(joined: bool, bytes: &[u8]) -> (Token, &[u8])
 }
 
 /// What is left from the fault in the token on that begins here.
-#[tactic(auto, unfolding(ucon_model::specs::Tokens::fault_from))]
+#[tactic(auto, unfolding(ucon_base::specs::Tokens::fault_from))]
 pub fn fault_from(bytes: &[u8]) -> &[u8]
     ensures { result.now ≡ fault_from bytes.now }
 {

@@ -1,7 +1,7 @@
 //! The tokens of a text that are left.
 
 ghost use Rattle.std.specs.Prelude.{◌≡◌, ◌-◌, drop, length, false};
-ghost use Rattle.ucon_model.specs.Tokens.{tokens_of, place_of};
+ghost use Rattle.ucon_base.specs.Tokens.{tokens_of, place_of};
 ghost use Rattle.ucon_token.specs.Seen.{symbol_of, token_of};
 ghost use Rattle.ucon_token.specs.Tokens.{first, is_nil};
 ghost use Rattle.ucon_token.specs.Reader.{goes_on};
@@ -26,7 +26,7 @@ pub struct Reader<'a> {
 
 impl<'a> Model for Reader<'a> {
     ghost use Rattle.std.specs.Prelude.{length, false};
-    ghost use Rattle.ucon_model.specs.Tokens.{fault_from, spans_from};
+    ghost use Rattle.ucon_base.specs.Tokens.{fault_from, spans_from};
     ghost use Rattle.ucon_token.specs.Seen.{token_of};
     ghost use Rattle.ucon_token.specs.Reader.{Remaining, IsTail, tokens_on, spans_on};
 

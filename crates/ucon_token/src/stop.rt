@@ -1,6 +1,7 @@
 //! Why reading stopped.
 
 ghost use Rattle.std.specs.Prelude.{◌≡◌};
+ghost use Rattle.ucon_base.specs.Memory.{out_of_memory};
 ghost use Rattle.ucon_token.specs.declared.stop.Stop.TheVariants.{Memory};
 
 use std::alloc::{AllocError, AllocFailed};
@@ -15,38 +16,38 @@ pub enum Cause {
 
 #[derive(Clone, Copy, Debug, PartialEq, Eq)]
 pub enum Stop {
-    Memory,
+    Memory(NoMemory),
     At(Cause),
 }
 
 impl From<AllocError> for Stop {
-    ghost from_gives = { λ _ e. e ≡ Memory };
+    ghost from_gives = { λ _ stop. stop ≡ Memory out_of_memory };
 
-    fn from(_e: AllocError) -> Stop {
-        Stop::Memory
+    fn from(e: AllocError) -> Stop {
+        Stop::Memory(NoMemory::from(e))
     }
 }
 
 impl<T: Drop> From<AllocFailed<T>> for Stop {
-    ghost from_gives = { λ _ e. e ≡ Memory };
+    ghost from_gives = { λ _ stop. stop ≡ Memory out_of_memory };
 
-    fn from(_e: AllocFailed<T>) -> Stop {
-        Stop::Memory
+    fn from(e: AllocFailed<T>) -> Stop {
+        Stop::Memory(NoMemory::from(e))
     }
 }
 
 impl From<NoMemory> for Stop {
-    ghost from_gives = { λ _ e. e ≡ Memory };
+    ghost from_gives = { λ e stop. stop ≡ Memory e };
 
-    fn from(_e: NoMemory) -> Stop {
-        Stop::Memory
+    fn from(e: NoMemory) -> Stop {
+        Stop::Memory(e)
     }
 }
 
 impl<T: Drop> From<(T, NoMemory)> for Stop {
-    ghost from_gives = { λ _ e. e ≡ Memory };
+    ghost from_gives = { λ e stop. stop ≡ Memory e.1 };
 
-    fn from(_e: (T, NoMemory)) -> Stop {
-        Stop::Memory
+    fn from(e: (T, NoMemory)) -> Stop {
+        Stop::Memory(e.1)
     }
 }

@@ -6,7 +6,8 @@ use Rattle.ucon_model.specs.declared.reply.Head.TheVariants as heads
 use Rattle.ucon_model.specs.Plain.{Bytes, PlainPolicy, PlainReply, refused, made, value_is, status}
 use Rattle.ucon_model.specs.Spelling.{reply_spelling}
 use Rattle.ucon_model.specs.History.{History, said, changes, grown}
-use Rattle.ucon_model.specs.LegalRun.{Answered, Each, placed, no_memory, tells_change, history_after, IsNext, IsSerialRun, is_disk_fault, is_stopped}
+use Rattle.ucon_base.specs.Elements.{Each}
+use Rattle.ucon_model.specs.LegalRun.{Answered, placed, no_memory, tells_change, history_after, IsNext, IsSerialRun, is_disk_fault, is_stopped}
 use Rattle.ucon_model.specs.Summary.{LineReply, answer_of, answered, history_behind, IsReplyNext, IsReplyRun, whole_run, Counts, with_line, with_reply, counted_from, counts}
 use Rattle.ucon_model.proofs.TellsChange.{tells_change-reply_spelling}
 use Rattle.ucon_top.specs.Hearing.{line_of}

@@ -5,7 +5,8 @@ use Rattle.std.proofs.lemmas.List.{append-nil, map-append}
 use Rattle.std.proofs.lemmas.Simd.{map-map}
 use Rattle.ucon_model.specs.declared.command.Entry.{Entry}
 use Rattle.ucon_model.specs.Plain.{Bytes, PlainPolicy}
-use Rattle.ucon_model.specs.LegalRun.{Answered, Each}
+use Rattle.ucon_base.specs.Elements.{Each}
+use Rattle.ucon_model.specs.LegalRun.{Answered}
 use Rattle.ucon_model.specs.Output.{FitsLine, answer_line, output, answers_read}
 use Rattle.ucon_model.specs.Summary.{LineReply, answer_of, answered}
 use Rattle.ucon_model.proofs.ReadBack.{answers_read-output}

@@ -40,7 +40,7 @@ pub record HasTypeFault (bytes : Bytes) (fault : CheckFault) : Type 0 where
 -- the policy part is refused so
 abbrev pub IsPolicyFault : PolicyFault → Bytes → Type 0
 IsPolicyFault (Syntax f) bytes = IsSyntaxFault (policy_part bytes) f
-IsPolicyFault (Typing checks.NoMemory) bytes = ⊥
+IsPolicyFault (Typing (checks.NoMemory e)) bytes = ⊥
 IsPolicyFault (Typing f) bytes = HasTypeFault bytes f
 
 -- the policy is accepted, and the script is refused so
@@ -50,14 +50,14 @@ pub record HasScriptFault (bytes : Bytes) (fault : DocFault) : Type 0 where
   pub cause : IsCause (document_read bytes) fault
 
 abbrev pub IsScriptFault : DocFault → Bytes → Type 0
-IsScriptFault faults.NoMemory bytes = ⊥
+IsScriptFault (faults.NoMemory e) bytes = ⊥
 IsScriptFault f bytes = HasScriptFault bytes f
 
 -- the document is refused so; want of memory may come at any moment
 abbrev pub IsRefused : Refused → Bytes → Type 0
 IsRefused (refusals.Policy f) bytes = IsPolicyFault f bytes
 IsRefused (refusals.Script f) bytes = IsScriptFault f bytes
-IsRefused refusals.NoMemory bytes = Unit {0}
+IsRefused (refusals.NoMemory e) bytes = Unit {0}
 
 -- a run that ended so was refused its document by this cause, which is of at most 4,194,304 bytes
 abbrev pub IsRefusedBy : Outcome → Bytes → Type 0

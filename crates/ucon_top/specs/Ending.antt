@@ -22,33 +22,33 @@ status_of (Policy f) = 2
 status_of (Script f) = 3
 status_of SourceFault = 4
 status_of SinkFault = 5
-status_of NoMemory = 9
+status_of (NoMemory e) = 9
 status_of TooLong = 11
 
 -- what refuses a document whose policy part has this fault, whose policy has this one, or whose script has this one
 abbrev pub by_syntax : SyntaxFault → Refused
-by_syntax syntax.NoMemory = refusals.NoMemory
+by_syntax (syntax.NoMemory e) = refusals.NoMemory e
 by_syntax f = refusals.Policy (Syntax f)
 
 abbrev pub by_typing : CheckFault → Refused
-by_typing checks.NoMemory = refusals.NoMemory
+by_typing (checks.NoMemory e) = refusals.NoMemory e
 by_typing f = refusals.Policy (Typing f)
 
 abbrev pub by_script : DocFault → Refused
-by_script scripts.NoMemory = refusals.NoMemory
+by_script (scripts.NoMemory e) = refusals.NoMemory e
 by_script f = refusals.Script f
 
 -- how a run ends whose document is refused
 abbrev pub outcome_of : Refused → Outcome
 outcome_of (refusals.Policy f) = Policy f
 outcome_of (refusals.Script f) = Script f
-outcome_of refusals.NoMemory = NoMemory
+outcome_of (refusals.NoMemory e) = NoMemory e
 
 -- how a run ends whose input could not be read
 abbrev pub by_reading : ReadFault → Outcome
 by_reading reads.SourceFault = SourceFault
 by_reading reads.TooLong = TooLong
-by_reading reads.NoMemory = NoMemory
+by_reading (reads.NoMemory e) = NoMemory e
 
 -- how a run ends that wrote nothing
 abbrev pub IsUnwritten : Outcome → Type 0
@@ -58,7 +58,7 @@ IsUnwritten Usage = Unit {0}
 IsUnwritten (Policy f) = Unit {0}
 IsUnwritten (Script f) = Unit {0}
 IsUnwritten SourceFault = Unit {0}
-IsUnwritten NoMemory = Unit {0}
+IsUnwritten (NoMemory e) = Unit {0}
 IsUnwritten TooLong = Unit {0}
 
 -- how a run ends whose document was not refused

@@ -25,7 +25,7 @@ syntax_words (syntax.Unexpected place) = told_at (codes "unexpected at ") place
 syntax_words (syntax.TooLong place) = told_at (codes "too long at ") place
 syntax_words (syntax.TooDeep place) = told_at (codes "too deep at ") place
 syntax_words (syntax.TooMany place) = told_at (codes "too many at ") place
-syntax_words syntax.NoMemory = codes "no memory"
+syntax_words (syntax.NoMemory e) = codes "no memory"
 
 abbrev pub typing_words : CheckFault → Bytes
 typing_words (typing.Twice name item) = codes "twice " ++ name ++ told_at (codes " at item ") item
@@ -34,7 +34,7 @@ typing_words (typing.WrongReader item) = told_at (codes "wrong reader at item ")
 typing_words (typing.WrongKind item) = told_at (codes "wrong kind at item ") item
 typing_words (typing.NotCore right) = codes "not core " ++ right
 typing_words (typing.TooManyCells right count) = codes "too many cells " ++ right ++ 32 ∷ decimal count
-typing_words typing.NoMemory = codes "no memory"
+typing_words (typing.NoMemory e) = codes "no memory"
 
 abbrev pub policy_words : PolicyFault → Bytes
 policy_words (Syntax f) = syntax_words f
@@ -46,14 +46,14 @@ line_words lines.NoWord = codes "no word at line "
 line_words lines.UnknownWord = codes "unknown word at line "
 line_words (lines.WrongCount n) = codes "wrong count at line "
 line_words (lines.BadWord place) = codes "bad word at line "
-line_words lines.NoMemory = codes "no memory at line "
+line_words (lines.NoMemory e) = codes "no memory at line "
 
 abbrev pub script_words : DocFault → Bytes
 script_words (scripts.BadHeading n) = told_at (codes "bad heading at line ") n
 script_words (scripts.TooManyClients n) = told_at (codes "too many clients at line ") n
 script_words (scripts.TooManyLines n) = told_at (codes "too many lines at line ") n
 script_words (scripts.BadLine n f) = told_at (line_words f) n
-script_words scripts.NoMemory = codes "no memory"
+script_words (scripts.NoMemory e) = codes "no memory"
 
 abbrev pub cause_words : Outcome → Bytes
 cause_words Done = []
@@ -62,7 +62,7 @@ cause_words (Policy f) = codes "policy: " ++ policy_words f
 cause_words (Script f) = codes "script: " ++ script_words f
 cause_words SourceFault = codes "source fault"
 cause_words SinkFault = codes "sink fault"
-cause_words NoMemory = codes "no memory"
+cause_words (NoMemory e) = codes "no memory"
 cause_words TooLong = codes "input too long"
 
 -- a line behind the program's name

@@ -3,7 +3,8 @@ use Rattle.std.specs.Prelude.{◌≡◌, ◌+◌, false, List, [], ◌++◌, len
 use Rattle.ucon_model.specs.declared.command.Entry.{Entry}
 use Rattle.ucon_model.specs.Plain.{Bytes, PlainPolicy}
 use Rattle.ucon_model.specs.Document.{ScriptLine, entries_of, document_read}
-use Rattle.ucon_model.specs.LegalRun.{Answered, Each, IsLegalRun, in_text_order, is_disk_fault, is_stopped}
+use Rattle.ucon_base.specs.Elements.{Each}
+use Rattle.ucon_model.specs.LegalRun.{Answered, IsLegalRun, in_text_order, is_disk_fault, is_stopped}
 use Rattle.ucon_model.specs.Generated.{generated}
 use Rattle.ucon_model.specs.Output.{output, answers_read}
 use Rattle.ucon_model.specs.Summary.{LineReply, IsReplyRun, whole_run, answered, counts, summary}

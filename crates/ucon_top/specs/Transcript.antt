@@ -1,7 +1,7 @@
 -- The output of a run as it is written.
 use Rattle.std.specs.Prelude.{◌≡◌, ◌<◌, List, map}
 use Rattle.ucon_model.specs.Plain.{Bytes}
-use Rattle.ucon_model.specs.LegalRun.{Each}
+use Rattle.ucon_base.specs.Elements.{Each}
 use Rattle.ucon_model.specs.Output.{FitsLine, output}
 use Rattle.ucon_model.specs.Summary.{LineReply, answer_of, answered}
 

@@ -9,5 +9,5 @@ use Rattle.ucon_top.specs.declared.outcome.Outcome.TheVariants.{SourceFault, NoM
 abbrev pub IsUnread : Option Bytes → ℕ → ℕ → Outcome → Type 0
 IsUnread input before now SourceFault = Rose before now
 IsUnread input before now TooLong = IfSome input (λ bytes. 4194304 < length bytes)
-IsUnread input before now NoMemory = Unit {0}
+IsUnread input before now (NoMemory e) = Unit {0}
 IsUnread input before now outcome = ⊥

@@ -51,7 +51,7 @@ fn answer_one<E: Engine, R: Hearer>(
         → Answers P (E.stands_for engine.new P) (λ reply. HearsMore R.hears hearer.old hearer.new (replied (entry_of line.now) reply)) H place next (entry_of line.now)) }
 {
     match step(alloc, engine, steps, line) {
-        Err(NoMemory) => {
+        Err(_) => {
             hearer.no_memory(line)?;
             Ok(place)
         }

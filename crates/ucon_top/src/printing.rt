@@ -37,7 +37,7 @@ fn put_cause(out: &mut Vec<u8>, outcome: &Outcome) -> Result<(), NoMemory>
         Outcome::Usage => put(out, b"usage"),
         Outcome::SourceFault => put(out, b"source fault"),
         Outcome::SinkFault => put(out, b"sink fault"),
-        Outcome::NoMemory => put(out, b"no memory"),
+        Outcome::NoMemory(_) => put(out, b"no memory"),
         Outcome::TooLong => put(out, b"input too long"),
     }
 }
@@ -61,7 +61,7 @@ fn put_syntax(out: &mut Vec<u8>, fault: &SyntaxFault) -> Result<(), NoMemory>
         SyntaxFault::TooLong(place) => put_at(out, b"too long at ", *place as u64),
         SyntaxFault::TooDeep(place) => put_at(out, b"too deep at ", *place as u64),
         SyntaxFault::TooMany(place) => put_at(out, b"too many at ", *place as u64),
-        SyntaxFault::NoMemory => put(out, b"no memory"),
+        SyntaxFault::NoMemory(_) => put(out, b"no memory"),
     }
 }
 
@@ -83,7 +83,7 @@ fn put_typing(out: &mut Vec<u8>, fault: &CheckFault) -> Result<(), NoMemory>
         CheckFault::TooManyCells(right, count) => {
             put_counted(out, b"too many cells ", right, *count as u64)
         }
-        CheckFault::NoMemory => put(out, b"no memory"),
+        CheckFault::NoMemory(_) => put(out, b"no memory"),
     }
 }
 
@@ -98,7 +98,7 @@ fn put_script(out: &mut Vec<u8>, fault: &DocFault) -> Result<(), NoMemory>
         }
         DocFault::TooManyLines(line) => put_at(out, b"too many lines at line ", *line as u64),
         DocFault::BadLine(line, fault) => put_at(out, line_words(fault), *line as u64),
-        DocFault::NoMemory => put(out, b"no memory"),
+        DocFault::NoMemory(_) => put(out, b"no memory"),
     }
 }
 
@@ -111,7 +111,7 @@ fn line_words(fault: &LineFault) -> &'static [u8]
         LineFault::UnknownWord => b"unknown word at line ",
         LineFault::WrongCount(_) => b"wrong count at line ",
         LineFault::BadWord(_) => b"bad word at line ",
-        LineFault::NoMemory => b"no memory at line ",
+        LineFault::NoMemory(_) => b"no memory at line ",
     }
 }
 

@@ -42,10 +42,10 @@ impl<E: Turned> Turn<E> {
         let about = Snapshot::of(&value);
         let mut slots = Vec::new(alloc);
         if let Err(failed) = slots.push(Some(value)) {
-            let AllocFailed { value } = failed;
+            let (value, refused) = NoMemory::handed_back(failed);
             slots.destroy_empty();
             let Some(value) = value else { unreachable!() };
-            return Err((value, NoMemory));
+            return Err((value, refused));
         }
         match Table::new(alloc, &[0, 0, 0], slots, &about) {
             Ok((table, place)) => Ok((Turn { table }, SeatToken { place, number: 0 })),
@@ -55,7 +55,8 @@ impl<E: Turned> Turn<E> {
                 let Some(Some(value)) = value else {
                     unreachable!()
                 };
-                Err((value, NoMemory))
+                // The table's refusal is want of memory, and hands back its slots alone.
+                Err(NoMemory::handed_back(AllocFailed { value }))
             }
         }
     }

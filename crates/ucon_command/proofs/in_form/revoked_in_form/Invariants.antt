@@ -1,5 +1,5 @@
 use Rattle.std.proofs.Common.{drop}
-use Rattle.ucon_model.specs.LegalRun.{Each}
+use Rattle.ucon_base.specs.Elements.{Each}
 use Rattle.ucon_model.specs.ReplyText.{IsLabelled}
 use Rattle.ucon_command.proofs.in_form.revoked_in_form.Given as goal
 

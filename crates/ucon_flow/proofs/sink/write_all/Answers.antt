@@ -7,6 +7,6 @@ pub loop-at-preserved : goal.loop-at-preserved
 loop-at-preserved g c = record {
   within = omega (arith, c.in-Ok.ensures.bound, c.split_at.ensures.back_len);
   sent = rw (take-add, ← c.split_at.ensures.back) (Appends-trans _ _ _ _ _ c.loop-at.invariant.sent c.in-Ok.ensures.bytes);
-  later = omega (arith, c.in-Ok.ensures.cause.later);
+  unfailed = omega (arith, c.in-Ok.ensures.cause);
   writes = omega (arith, c.in-Ok.ensures.counted, c.in-Ok.ensures.some, c.split_at.ensures.back_len);
 }

@@ -1,4 +1,4 @@
-use Rattle.std.proofs.Common.{length, ◌+◌, ◌-◌, ◌≤◌, min}
+use Rattle.std.proofs.Common.{◌≡◌, length, ◌+◌, ◌-◌, ◌≤◌, min}
 use Rattle.std.specs.Io.KnownBytes.{Consumes}
 use Rattle.ucon_flow.proofs.source.read_all.Given as goal
 
@@ -6,7 +6,7 @@ use Rattle.ucon_flow.proofs.source.read_all.Given as goal
 abbrev pub invariant-loop-buf : goal.invariant-loop-buf
 invariant-loop-buf g l = record {
   read : Consumes (g.S.Source.left l.fn.source) (g.S.Source.left l.source) l.bytes.items;
-  later : g.S.Source.faults l.fn.source ≤ g.S.Source.faults l.source;
+  unfailed : g.S.Source.faults l.source ≡ g.S.Source.faults l.fn.source;
   reads : g.S.Source.reads l.source ≤ g.S.Source.reads l.fn.source + min (length l.bytes.items) (l.limit + 1);
 }
 

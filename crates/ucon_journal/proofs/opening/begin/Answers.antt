@@ -1,20 +1,18 @@
-use Rattle.std.proofs.Common.{◌≡◌, ℕ, List, length, Some, ◌∙◌, ap, arith}
+use Rattle.std.proofs.Common.{◌≡◌, ℕ, List, length, inl, inr, Some, ◌∙◌, arith}
 use Rattle.ucon_disk.specs.Disk.{Torn}
 use Rattle.ucon_disk.specs.Run.{started, goes_on, weaker, joined}
-use Rattle.ucon_journal.specs.Found.{counted}
-use Rattle.ucon_journal.specs.Opened.{SamePayloads}
-use Rattle.ucon_journal.proofs.Openings.{making_same}
+use Rattle.ucon_journal.specs.Opened.{Untouched}
 use Rattle.ucon_journal.proofs.Told.{told_at}
 use Rattle.ucon_journal.proofs.opening.begin.Goals as goal
 
 pub returns-in_err-write_synced-clause-images : goal.returns-in_err-write_synced-clause-images
 returns-in_err-write_synced-clause-images g c = record {
   each = λ file rest.
-      let P = SamePayloads file in
+      let P = Untouched file in
       let M = g.D.Disk.moment in
       let S = g.D.Disk.images_since in
       let old = c.args.disk.now in
-      let same : (x : List ℕ) → x ≡ file → P x = λ x is. ap counted is in
+      let same : (x : List ℕ) → x ≡ file → P x = λ x is. inl is in
       let at_start = started M S old P (λ x since. same x (rest.only x (g.met.D.Disk.only_now old x since))) in
       let synced = goes_on M S old old c.sync.new.self P _ at_start c.sync.ensures.time (λ x now. same x (rest.only x (c.sync.ensures.images x now))) in
       let only : (x : List ℕ) → g.D.Disk.images c.len.new.self x → x ≡ file = λ x now. rest.only x (c.sync.ensures.images x (c.len.ensures.images.no_more x now)) in
@@ -22,18 +20,18 @@ returns-in_err-write_synced-clause-images g c = record {
       let is_synced : g.D.Disk.contents c.sync.new.self ≡ Some file = c.in_ok-sync.ensures.contents ∙ rest.told in
       let is_measured : g.D.Disk.contents c.len.new.self ≡ Some file = c.len.ensures.contents ∙ is_synced in
       let size = told_at (λ (l : List ℕ). c.in_ok-len.len ≡ length l) file is_synced c.in_ok-len.ensures.length in
-      let making = weaker M S c.len.new.self c.write_synced.new.disk (Torn 0 9 file) P (making_same file (omega (arith, size))) (c.write_synced.ensures.images.each file (record { told = is_measured; only = only })) in
+      let making = weaker M S c.len.new.self c.write_synced.new.disk (Torn 0 9 file) P (λ x torn. inr (omega (arith, size), omega (arith, torn.no_longer, size))) (c.write_synced.ensures.images.each file (record { told = is_measured; only = only })) in
       joined M S old c.len.new.self c.write_synced.new.disk P measured making;
 }
 
 pub returns-then-len-clause-images : goal.returns-then-len-clause-images
 returns-then-len-clause-images g c = record {
   each = λ file rest.
-      let P = SamePayloads file in
+      let P = Untouched file in
       let M = g.D.Disk.moment in
       let S = g.D.Disk.images_since in
       let old = c.args.disk.now in
-      let same : (x : List ℕ) → x ≡ file → P x = λ x is. ap counted is in
+      let same : (x : List ℕ) → x ≡ file → P x = λ x is. inl is in
       let at_start = started M S old P (λ x since. same x (rest.only x (g.met.D.Disk.only_now old x since))) in
       let synced = goes_on M S old old c.sync.new.self P _ at_start c.sync.ensures.time (λ x now. same x (rest.only x (c.sync.ensures.images x now))) in
       let only : (x : List ℕ) → g.D.Disk.images c.len.new.self x → x ≡ file = λ x now. rest.only x (c.sync.ensures.images x (c.len.ensures.images.no_more x now)) in
@@ -41,6 +39,6 @@ returns-then-len-clause-images g c = record {
       let is_synced : g.D.Disk.contents c.sync.new.self ≡ Some file = c.in_ok-sync.ensures.contents ∙ rest.told in
       let is_measured : g.D.Disk.contents c.len.new.self ≡ Some file = c.len.ensures.contents ∙ is_synced in
       let size = told_at (λ (l : List ℕ). c.in_ok-len.len ≡ length l) file is_synced c.in_ok-len.ensures.length in
-      let making = weaker M S c.len.new.self c.write_synced.new.disk (Torn 0 9 file) P (making_same file (omega (arith, size))) (c.write_synced.ensures.images.each file (record { told = is_measured; only = only })) in
+      let making = weaker M S c.len.new.self c.write_synced.new.disk (Torn 0 9 file) P (λ x torn. inr (omega (arith, size), omega (arith, torn.no_longer, size))) (c.write_synced.ensures.images.each file (record { told = is_measured; only = only })) in
       joined M S old c.len.new.self c.write_synced.new.disk P measured making;
 }

@@ -1,6 +1,6 @@
 use Rattle.std.proofs.Common.{rules, ◌≡◌, true, Some, drop, refl, sym, ◌∙◌, Ok}
 use Rattle.ucon_model.specs.Views.{expr_of}
-use Rattle.ucon_model.specs.Tokens.{star}
+use Rattle.ucon_base.specs.Tokens.{star}
 use Rattle.ucon_token.specs.Tokens.{first, is_symbol}
 use Rattle.ucon_syntax.specs.Starts.{sum_sign, is_sum_sign}
 use Rattle.ucon_syntax.specs.Expressions.{factor_at, term_at, products, sums_and_differences, signed}

@@ -3,7 +3,7 @@ use Rattle.std.proofs.lemmas.Result.{err_from_is_err_and}
 use Rattle.ucon_token.specs.Tokens.{first, is_word}
 use Rattle.ucon_syntax.specs.Lists.{alone}
 use Rattle.ucon_syntax.specs.Items.{env_at}
-use Rattle.ucon_syntax.proofs.Chains.{stops_whole}
+use Rattle.ucon_token.specs.Reading.{stops_whole}
 use Rattle.ucon_syntax.proofs.Lists.{items_go, items_stop, items_end, items_over}
 use Rattle.ucon_syntax.proofs.policy.envs.Goals as goal
 

@@ -5,7 +5,7 @@ use Rattle.ucon_model.specs.Views.{right_of}
 use Rattle.ucon_token.specs.Tokens.{first, is_word}
 use Rattle.ucon_syntax.specs.Lists.{alone}
 use Rattle.ucon_syntax.specs.Policies.{right_at}
-use Rattle.ucon_syntax.proofs.Chains.{stops_whole}
+use Rattle.ucon_token.specs.Reading.{stops_whole}
 use Rattle.ucon_syntax.proofs.Lists.{items_go, items_stop, items_end, items_over}
 use Rattle.ucon_syntax.proofs.policy.rights.Goals as goal
 

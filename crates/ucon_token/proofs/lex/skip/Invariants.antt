@@ -1,5 +1,5 @@
 use Rattle.std.proofs.Common.{◌≡◌, length, false}
-use Rattle.ucon_model.specs.Tokens.{skip}
+use Rattle.ucon_base.specs.Tokens.{skip}
 use Rattle.ucon_token.proofs.lex.skip.Given as goal
 
 abbrev pub invariant-loop-left : goal.invariant-loop-left

@@ -1,5 +1,5 @@
 use Rattle.std.proofs.Common.{◌≡◌, ◌≤◌, length}
-use Rattle.ucon_model.specs.Tokens.{value_from}
+use Rattle.ucon_base.specs.Tokens.{value_from}
 use Rattle.ucon_token.proofs.lex.value.Given as goal
 
 abbrev pub invariant-loop-left : goal.invariant-loop-left

@@ -13,30 +13,32 @@ returns-in_err-write_synced-clause-images g c = record {
   each = λ file rest.
       let old = c.args.self.now.disk in
       let gate = c.args.self.now.gate in
+      let version = c.args.self.now.version in
       let p = c.args.payload.now in
-      let closes = told_at (ClosesAt gate) file rest.told c.requires.closed.told in
+      let closes = told_at (ClosesAt version gate) file rest.told c.requires.closed.told in
       let n = length c.deref.result.now in
-      weaker g.D.Disk.moment g.D.Disk.images_since old c.write_synced.new.disk (Torn (gate + 1) n file) (PerhapsAdded p file) (λ x torn. inl (stage_same file gate (counted file) closes.0 closes.1 n x torn)) (c.write_synced.ensures.images.each file rest);
+      weaker g.D.Disk.moment g.D.Disk.images_since old c.write_synced.new.disk (Torn (gate + 1) n file) (PerhapsAdded p file) (λ x torn. inl (stage_same file version gate (counted file) closes.0 closes.1 n x torn)) (c.write_synced.ensures.images.each file rest);
 }
 
-pub returns-in_err-write_synced-2-clause-images : goal.returns-in_err-write_synced-2-clause-images
-returns-in_err-write_synced-2-clause-images g c = record {
+pub returns-in_err-write_gate-clause-images : goal.returns-in_err-write_gate-clause-images
+returns-in_err-write_gate-clause-images g c = record {
   each = λ file rest.
       let old = c.args.self.now.disk in
       let mid = c.write_synced.new.disk in
-      let new = c.write_synced-2.new.disk in
+      let new = c.write_gate.new.disk in
       let gate = c.args.self.now.gate in
+      let version = c.args.self.now.version in
       let p = c.args.payload.now in
       let short : length p < 2 ^ 32 = omega arith in
-      let closes = told_at (ClosesAt gate) file rest.told c.requires.closed.told in
+      let closes = told_at (ClosesAt version gate) file rest.told c.requires.closed.told in
       let n = length c.deref.result.now in
-      let staging = weaker g.D.Disk.moment g.D.Disk.images_since old mid (Torn (gate + 1) n file) (PerhapsAdded p file) (λ x torn. inl (stage_same file gate (counted file) closes.0 closes.1 n x torn)) (c.write_synced.ensures.images.each file rest) in
+      let staging = weaker g.D.Disk.moment g.D.Disk.images_since old mid (Torn (gate + 1) n file) (PerhapsAdded p file) (λ x torn. inl (stage_same file version gate (counted file) closes.0 closes.1 n x torn)) (c.write_synced.ensures.images.each file rest) in
       let bytes : c.deref.result.now ≡ staged p = c.deref.ensures.value ∙ c.stage.ensures.staged in
       let written : g.D.Disk.contents c.write_synced.new.disk ≡ option_map (overwritten (gate + 1) (staged p)) (g.D.Disk.contents c.args.self.now.disk) = c.in_ok-write_synced.ensures.written ∙ ap (λ (l : List ℕ). option_map (overwritten (gate + 1) l) (g.D.Disk.contents old)) bytes in
-      let is_staged = staged_file file gate (counted file) closes.0 closes.1 p short in
+      let is_staged = staged_file file version gate (counted file) closes.0 closes.1 p short in
       let rest_staged = rests_after _ _ (g.D.Disk.images mid) (overwritten (gate + 1) (staged p)) file written c.in_ok-write_synced.ensures.only rest.told in
-      let opens = λ (x : List ℕ) (torn : Torn gate 1 (overwritten (gate + 1) (staged p) file) x). open_perhaps file gate (counted file) closes.0 closes.1 p short x (subst (λ (l : List ℕ). Torn gate 1 l x) is_staged torn) in
-      let opening = weaker g.D.Disk.moment g.D.Disk.images_since mid new (Torn gate 1 (overwritten (gate + 1) (staged p) file)) (PerhapsAdded p file) opens (c.write_synced-2.ensures.images.each (overwritten (gate + 1) (staged p) file) rest_staged) in
+      let opens = λ (x : List ℕ) (torn : Torn gate 1 (overwritten (gate + 1) (staged p) file) x). open_perhaps file version gate (counted file) closes.0 closes.1 p short x (subst (λ (l : List ℕ). Torn gate 1 l x) is_staged torn) in
+      let opening = weaker g.D.Disk.moment g.D.Disk.images_since mid new (Torn gate 1 (overwritten (gate + 1) (staged p) file)) (PerhapsAdded p file) opens (c.write_gate.ensures.images.each (overwritten (gate + 1) (staged p) file) rest_staged) in
       joined g.D.Disk.moment g.D.Disk.images_since old mid new (PerhapsAdded p file) staging opening;
 }
 
@@ -45,19 +47,20 @@ returns-clause-images g c = record {
   each = λ file rest.
       let old = c.args.self.now.disk in
       let mid = c.write_synced.new.disk in
-      let new = c.write_synced-2.new.disk in
+      let new = c.write_gate.new.disk in
       let gate = c.args.self.now.gate in
+      let version = c.args.self.now.version in
       let p = c.args.payload.now in
       let short : length p < 2 ^ 32 = omega arith in
-      let closes = told_at (ClosesAt gate) file rest.told c.requires.closed.told in
+      let closes = told_at (ClosesAt version gate) file rest.told c.requires.closed.told in
       let n = length c.deref.result.now in
-      let staging = weaker g.D.Disk.moment g.D.Disk.images_since old mid (Torn (gate + 1) n file) (PerhapsAdded p file) (λ x torn. inl (stage_same file gate (counted file) closes.0 closes.1 n x torn)) (c.write_synced.ensures.images.each file rest) in
+      let staging = weaker g.D.Disk.moment g.D.Disk.images_since old mid (Torn (gate + 1) n file) (PerhapsAdded p file) (λ x torn. inl (stage_same file version gate (counted file) closes.0 closes.1 n x torn)) (c.write_synced.ensures.images.each file rest) in
       let bytes : c.deref.result.now ≡ staged p = c.deref.ensures.value ∙ c.stage.ensures.staged in
       let written : g.D.Disk.contents c.write_synced.new.disk ≡ option_map (overwritten (gate + 1) (staged p)) (g.D.Disk.contents c.args.self.now.disk) = c.in_ok-write_synced.ensures.written ∙ ap (λ (l : List ℕ). option_map (overwritten (gate + 1) l) (g.D.Disk.contents old)) bytes in
-      let is_staged = staged_file file gate (counted file) closes.0 closes.1 p short in
+      let is_staged = staged_file file version gate (counted file) closes.0 closes.1 p short in
       let rest_staged = rests_after _ _ (g.D.Disk.images mid) (overwritten (gate + 1) (staged p)) file written c.in_ok-write_synced.ensures.only rest.told in
-      let opens = λ (x : List ℕ) (torn : Torn gate 1 (overwritten (gate + 1) (staged p) file) x). open_perhaps file gate (counted file) closes.0 closes.1 p short x (subst (λ (l : List ℕ). Torn gate 1 l x) is_staged torn) in
-      let opening = weaker g.D.Disk.moment g.D.Disk.images_since mid new (Torn gate 1 (overwritten (gate + 1) (staged p) file)) (PerhapsAdded p file) opens (c.write_synced-2.ensures.images.each (overwritten (gate + 1) (staged p) file) rest_staged) in
+      let opens = λ (x : List ℕ) (torn : Torn gate 1 (overwritten (gate + 1) (staged p) file) x). open_perhaps file version gate (counted file) closes.0 closes.1 p short x (subst (λ (l : List ℕ). Torn gate 1 l x) is_staged torn) in
+      let opening = weaker g.D.Disk.moment g.D.Disk.images_since mid new (Torn gate 1 (overwritten (gate + 1) (staged p) file)) (PerhapsAdded p file) opens (c.write_gate.ensures.images.each (overwritten (gate + 1) (staged p) file) rest_staged) in
       joined g.D.Disk.moment g.D.Disk.images_since old mid new (PerhapsAdded p file) staging opening;
 }
 
@@ -68,9 +71,9 @@ returns-clause-closed g c =
     let short : length p < 2 ^ 32 = omega arith in
     let bytes : c.deref.result.now ≡ staged p = c.deref.ensures.value ∙ c.stage.ensures.staged in
     let written : g.D.Disk.contents c.write_synced.new.disk ≡ option_map (overwritten (gate + 1) (staged p)) (g.D.Disk.contents c.args.self.now.disk) = c.in_ok-write_synced.ensures.written ∙ ap (λ (l : List ℕ). option_map (overwritten (gate + 1) l) (g.D.Disk.contents c.args.self.now.disk)) bytes in
-    let done = appended gate p _ _ _ short c.requires.closed.told written c.in_ok-write_synced-2.ensures.written in
+    let done = appended c.args.self.now.version gate p _ _ _ short c.requires.closed.told written c.in_ok-write_gate.ensures.written in
     let place : gate + 5 + length p ≡ gate + (5 + length p) = omega arith in
-    record { phase = refl; told = subst (λ k. IfSome (g.D.Disk.contents c.write_synced-2.new.disk) (ClosesAt k)) place done.closed }
+    record { phase = refl; told = subst (λ k. IfSome (g.D.Disk.contents c.write_gate.new.disk) (ClosesAt c.args.self.now.version k)) place done.closed }
 
 pub returns-clause-added : goal.returns-clause-added
 returns-clause-added g c =
@@ -79,7 +82,7 @@ returns-clause-added g c =
     let short : length p < 2 ^ 32 = omega arith in
     let bytes : c.deref.result.now ≡ staged p = c.deref.ensures.value ∙ c.stage.ensures.staged in
     let written : g.D.Disk.contents c.write_synced.new.disk ≡ option_map (overwritten (gate + 1) (staged p)) (g.D.Disk.contents c.args.self.now.disk) = c.in_ok-write_synced.ensures.written ∙ ap (λ (l : List ℕ). option_map (overwritten (gate + 1) l) (g.D.Disk.contents c.args.self.now.disk)) bytes in
-    let done = appended gate p _ _ _ short c.requires.closed.told written c.in_ok-write_synced-2.ensures.written in
+    let done = appended c.args.self.now.version gate p _ _ _ short c.requires.closed.told written c.in_ok-write_gate.ensures.written in
     done.added
 
 pub returns-clause-bytes : goal.returns-clause-bytes
@@ -89,5 +92,5 @@ returns-clause-bytes g c =
     let short : length p < 2 ^ 32 = omega arith in
     let bytes : c.deref.result.now ≡ staged p = c.deref.ensures.value ∙ c.stage.ensures.staged in
     let written : g.D.Disk.contents c.write_synced.new.disk ≡ option_map (overwritten (gate + 1) (staged p)) (g.D.Disk.contents c.args.self.now.disk) = c.in_ok-write_synced.ensures.written ∙ ap (λ (l : List ℕ). option_map (overwritten (gate + 1) l) (g.D.Disk.contents c.args.self.now.disk)) bytes in
-    let done = appended gate p _ _ _ short c.requires.closed.told written c.in_ok-write_synced-2.ensures.written in
+    let done = appended c.args.self.now.version gate p _ _ _ short c.requires.closed.told written c.in_ok-write_gate.ensures.written in
     done.bytes

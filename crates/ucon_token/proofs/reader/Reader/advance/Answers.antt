@@ -1,5 +1,5 @@
 use Rattle.std.proofs.Common.{◌≡◌, false, length, drop, refl, sym, ◌∙◌, Some}
-use Rattle.ucon_model.specs.Tokens.{tokens_from, spans_from, fault_from, next_token}
+use Rattle.ucon_base.specs.Tokens.{tokens_from, spans_from, fault_from, next_token}
 use Rattle.ucon_token.specs.Seen.{token_of}
 use Rattle.ucon_token.specs.Reader.{goes_on, tokens_on, spans_on}
 use Rattle.ucon_token.proofs.Fuel.{tokens_step, spans_step, tokens_after, tail_after}

@@ -1,5 +1,5 @@
 use Rattle.std.proofs.Common.{false, length, refl, sym, ◌∙◌}
-use Rattle.ucon_model.specs.Tokens.{spans_from, fault_from, next_token}
+use Rattle.ucon_base.specs.Tokens.{spans_from, fault_from, next_token}
 use Rattle.ucon_token.specs.Seen.{token_of}
 use Rattle.ucon_token.specs.Reader.{spans_on}
 use Rattle.ucon_token.proofs.Fuel.{tokens_step, spans_step, tail_all}

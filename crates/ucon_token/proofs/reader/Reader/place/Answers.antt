@@ -1,5 +1,5 @@
 use Rattle.std.proofs.Common.{ℕ, ◌-◌, length, sym, ◌∙◌, ap}
-use Rattle.ucon_model.specs.Tokens.{fault_from}
+use Rattle.ucon_base.specs.Tokens.{fault_from}
 use Rattle.ucon_token.specs.Seen.{token_of}
 use Rattle.ucon_token.proofs.Fuel.{place_here, left_here, not_ended}
 use Rattle.ucon_token.proofs.reader.Reader.place.Goals as goal

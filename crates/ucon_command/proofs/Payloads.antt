@@ -1,0 +1,268 @@
+-- A step's payload is read as the step, and bytes that are read are the step's payload.
+use Rattle.std.proofs.Common.{◌≡◌, ℕ, suc, ◌+◌, ◌-◌, ◌*◌, ◌/◌, ◌%◌, ◌<◌, ◌≤◌, ◌^◌, Bool, true, false, cond, [], ◌∷◌, ◌++◌, length, take, drop, get_or, Some, None, Ok, Err, is_ok, is_some, subst, refl, sym, ap, ◌∙◌, arith, length-append, length-drop, inl, inr, ⊎_elim}
+use Rattle.std.specs.Prelude.{◌⊎◌, not, IfOk, MatchResult, Option, Result, option_map, option_and_then, ok_or, unwrap_or, nat_lt, ◌==◌, position}
+use Rattle.std.specs.Fmt.{decimal}
+use Rattle.std.specs.List.{position_or_len}
+use Rattle.std.specs.Result.{result_ok, result_err, result_unwrap_or}
+use Rattle.std.specs.Str.{bytes_eq}
+use Rattle.std.specs.Str.Parse.{digits_value}
+use Rattle.std.proofs.lemmas.Bool.{lt-ltb, ltb-true, ltb-false, cases_lt, eq-eqb, eqb-true, false≢true}
+use Rattle.std.proofs.lemmas.Fmt.{decimal_digit, decimal_step, decimal_is_IsNumeral, length-decimal-le}
+use Rattle.std.proofs.lemmas.List.{take_all}
+use Rattle.std.proofs.lemmas.Slice.Eq.{bytes_eq-Decides}
+use Rattle.ucon_model.specs.declared.command.Caller.{Caller}
+use Rattle.ucon_model.specs.declared.command.Command.{Command}
+use Rattle.ucon_model.specs.CommandLine.{command_spelling, line_read, IsCommand, LineRefusal}
+use Rattle.ucon_model.specs.Document.{caller_of}
+use Rattle.ucon_model.specs.Output.{Lacks, cut_at, number_read}
+use Rattle.ucon_model.specs.Payload.{Told, payload_spelling, caller_read, client_numbered, step_read, payload_read, ◌>>=◌}
+use Rattle.ucon_model.specs.Plain.{Bytes}
+use Rattle.ucon_model.specs.ReplyText.{IsReply, reply_read}
+use Rattle.ucon_model.specs.Spelling.{reply_spelling}
+use Rattle.ucon_model.specs.declared.reply.Reply.{Reply}
+use Rattle.ucon_model.specs.Views.{reply_of}
+use Rattle.ucon_command.specs.declared.payload_fault.PayloadFault.{PayloadFault}
+use Rattle.ucon_command.specs.Payloads.{IsBadAt, most_told, told_of}
+use Rattle.ucon_command.proofs.Lengths.{short, reply_short}
+use Rattle.ucon_command.proofs.SpelledLines.{command_is, same_bytes}
+use Rattle.ucon_command.proofs.SpelledReplies.{reply_is}
+use Rattle.ucon_command.proofs.InLine.{command_in_line}
+use Rattle.ucon_command.proofs.ReadLines.{command_back, number_lacks}
+use Rattle.ucon_command.proofs.ReadReplies.{reply_back}
+
+-- ---- what is written is read
+
+cut_at-append : (byte : ℕ) (xs ys : Bytes) → Lacks byte xs → cut_at byte (xs ++ byte ∷ ys) ≡ Some (xs, ys)
+cut_at-append byte [] ys h = rw (eq-eqb byte byte refl) refl
+cut_at-append byte (x ∷ xs) ys h = rw (h.0, cut_at-append byte xs ys h.1) refl
+
+number_back : (n : ℕ) → n < 64 → number_read (decimal n) ≡ Some n
+number_back n lt = rw ((decimal_is_IsNumeral n (omega (arith, lt))).1, (bytes_eq-Decides (decimal n) (decimal n)).1 refl) refl
+
+pub caller_back : (n : ℕ) → n < 64 → caller_read (decimal n) ≡ Some (caller_of n)
+caller_back n lt = rw (number_back n lt, lt-ltb n 64 lt) refl
+
+step_back : (place : ℕ) (t : Told) → IsCommand t.command → IsReply t.reply → step_read place t.caller (command_spelling t.command ++ 10 ∷ reply_spelling t.reply) ≡ Ok t
+unfolding step_read
+step_back place t is_command is_reply =
+    rw (cut_at-append 10 (command_spelling t.command) (reply_spelling t.reply) (command_in_line t.command is_command), command_back t.command is_command, reply_back t.reply is_reply) refl
+
+pub payload_back : (t : Told) → t.caller.0 < 64 → IsCommand t.command → IsReply t.reply → payload_read (payload_spelling t) ≡ Ok t
+unfolding payload_read
+payload_back t lt is_command is_reply =
+    rw (
+      cut_at-append 32 (decimal t.caller.0) (command_spelling t.command ++ 10 ∷ reply_spelling t.reply) (number_lacks t.caller.0 (omega (arith, lt))),
+      caller_back t.caller.0 lt,
+      step_back (length (decimal t.caller.0) + 1) t is_command is_reply,
+    ) refl
+
+pub payload_short : (t : Told) → t.caller.0 < 2 ^ 8 → IsCommand t.command → IsReply t.reply → length (payload_spelling t) ≤ most_told t.reply
+payload_short t lt is_command is_reply =
+    omega (
+      arith,
+      length-decimal-le 3 t.caller.0 (omega arith) (omega (arith, lt)) (omega (arith, lt)),
+      short t.command is_command,
+      reply_short t.reply is_reply,
+      length-append (decimal t.caller.0) (32 ∷ (command_spelling t.command ++ 10 ∷ reply_spelling t.reply)),
+      length-append (command_spelling t.command) (10 ∷ reply_spelling t.reply),
+    )
+
+-- the same, of what the code holds
+pub text_back : (caller : Caller) (command : Command) (reply : Reply) → IsCommand command → IsReply (reply_of reply)
+    → caller.0 < 64 → payload_read (payload_spelling (told_of caller command reply)) ≡ Ok (told_of caller command reply)
+text_back caller command reply is_command is_reply lt = payload_back (told_of caller command reply) lt is_command is_reply
+
+pub text_short : (caller : Caller) (command : Command) (reply : Reply) → caller.0 < 2 ^ 8 → IsCommand command → IsReply (reply_of reply)
+    → length (payload_spelling (told_of caller command reply)) ≤ most_told (reply_of reply)
+text_short caller command reply lt is_command is_reply = payload_short (told_of caller command reply) lt is_command is_reply
+
+-- ---- what is read is what is written
+
+refused : {A : Type 0} {place : ℕ} {x : A} → Err place ≡ Ok x → ⊥
+refused h = false≢true (ap is_ok h)
+
+nothing : {A : Type 0} {x : A} → None ≡ Some x → ⊥
+nothing h = false≢true (ap is_some h)
+
+bind_is : {A B : Type 0} (r : Result A ℕ) (f : A → Result B ℕ) (y : B) → (r >>= f) ≡ Ok y → (x : A) × ((r ≡ Ok x) × (f x ≡ Ok y))
+bind_is (Ok x) f y h = (x, (refl, h))
+bind_is (Err place) f y h = absurd (refused h)
+
+said_is : {A : Type 0} (o : Option A) (place : ℕ) (x : A) → ok_or o place ≡ Ok x → o ≡ Some x
+said_is None place x h = absurd (refused h)
+said_is (Some y) place x h = ap result_ok h
+
+command_ok : (r : Result Command LineRefusal) (c : Command) → result_ok r ≡ Some c → r ≡ Ok c
+command_ok (Ok d) c h = ap (λ o. Ok (unwrap_or o d)) h
+command_ok (Err f) c h = absurd (nothing h)
+
+cut_kept : (o : Option (Bytes × Bytes)) (b : ℕ) (p : Bytes × Bytes) → option_map (λ q. (b ∷ q.0, q.1)) o ≡ Some p → (q : Bytes × Bytes) × ((o ≡ Some q) × ((b ∷ q.0, q.1) ≡ p))
+cut_kept None b p h = absurd (nothing h)
+cut_kept (Some q) b p h = (q, (refl, ap (λ o. unwrap_or o p) h))
+
+mutual_cut : (byte b : ℕ) (bs : Bytes) (p : Bytes × Bytes) → ((q : Bytes × Bytes) → cut_at byte bs ≡ Some q → q.0 ++ byte ∷ q.1 ≡ bs)
+    → (same : Bool) → (b == byte) ≡ same → cond {A = Option (Bytes × Bytes)} same (Some ([], bs)) (option_map (λ q. (b ∷ q.0, q.1)) (cut_at byte bs)) ≡ Some p → p.0 ++ byte ∷ p.1 ≡ b ∷ bs
+mutual_cut byte b bs p next true is h =
+    let e : ([], bs) ≡ p = ap (λ o. unwrap_or o p) h in
+    ap (λ (q : Bytes × Bytes). q.0 ++ byte ∷ q.1) (sym e) ∙ ap (λ (n : ℕ). n ∷ bs) (sym (eqb-true b byte is))
+mutual_cut byte b bs p next false is h =
+    let k = cut_kept (cut_at byte bs) b p h in
+    ap (λ (q : Bytes × Bytes). q.0 ++ byte ∷ q.1) (sym k.1.1) ∙ ap (λ (r : Bytes). b ∷ r) (next k.0 k.1.0)
+
+-- what is cut is joined again
+cut_is : (byte : ℕ) (bs : Bytes) (p : Bytes × Bytes) → cut_at byte bs ≡ Some p → p.0 ++ byte ∷ p.1 ≡ bs
+cut_is byte [] p h = absurd (nothing h)
+cut_is byte (b ∷ bs) p h = mutual_cut byte b bs p (cut_is byte bs) (b == byte) refl h
+
+number_from : (bs : Bytes) (m n : ℕ) (same : Bool) → bytes_eq bs (decimal m) ≡ same → cond same (Some m) None ≡ Some n → decimal n ≡ bs
+number_from bs m n true is h = ap (λ (o : Option ℕ). decimal (unwrap_or o m)) (sym h) ∙ sym (same_bytes bs (decimal m) is)
+number_from bs m n false is h = absurd (nothing h)
+
+number_is : (bs : Bytes) (n : ℕ) → number_read bs ≡ Some n → decimal n ≡ bs
+number_is bs n h = number_from bs (digits_value 10 bs) n (bytes_eq bs (decimal (digits_value 10 bs))) refl h
+
+numbered_from : (m : ℕ) (caller : Caller) (small : Bool) → nat_lt m 64 ≡ small → cond small (Some (caller_of m)) None ≡ Some caller → (caller_of m ≡ caller) × (m < 64)
+numbered_from m caller true is h = (ap (λ o. unwrap_or o caller) h, ltb-true m 64 is)
+numbered_from m caller false is h = absurd (nothing h)
+
+client_from : (bs : Bytes) (o : Option ℕ) (caller : Caller) → number_read bs ≡ o → option_and_then client_numbered o ≡ Some caller → (decimal caller.0 ≡ bs) × (caller.0 < 64)
+client_from bs None caller is h = absurd (nothing h)
+client_from bs (Some m) caller is h =
+    let k = numbered_from m caller (nat_lt m 64) refl h in
+    (ap (λ (c : Caller). decimal c.0) (sym k.0) ∙ number_is bs m is, (let P : Caller → Type 0 = λ c. c.0 < 64 in subst P k.0 k.1))
+
+-- a caller that is read is one of the 64
+pub caller_is : (bs : Bytes) (caller : Caller) → caller_read bs ≡ Some caller → (decimal caller.0 ≡ bs) × (caller.0 < 64)
+caller_is bs caller h = client_from bs (number_read bs) caller refl h
+
+-- ---- as the code finds it
+
+-- where the first of these bytes stands, and the cut there
+abbrev first_at : ℕ → Bytes → ℕ
+first_at byte bs = position_or_len (λ b. b == byte) bs
+
+cut_next : (byte b : ℕ) (bs : Bytes) (same : Bool) → (b == byte) ≡ same
+    → (first_at byte bs < length bs → cut_at byte bs ≡ Some (take (first_at byte bs) bs, drop (first_at byte bs + 1) bs))
+    → (length bs ≤ first_at byte bs → cut_at byte bs ≡ None)
+    → (cond (not same) (1 + first_at byte bs) 0 < suc (length bs)
+    → cond {A = Option (Bytes × Bytes)} same (Some ([], bs)) (option_map (λ q. (b ∷ q.0, q.1)) (cut_at byte bs))
+    ≡ Some (take (cond (not same) (1 + first_at byte bs) 0) (b ∷ bs), drop (cond (not same) (1 + first_at byte bs) 0 + 1) (b ∷ bs)))
+    × (suc (length bs) ≤ cond (not same) (1 + first_at byte bs) 0 → cond {A = Option (Bytes × Bytes)} same (Some ([], bs)) (option_map (λ q. (b ∷ q.0, q.1)) (cut_at byte bs)) ≡ None)
+cut_next byte b bs true is found none = (λ lt. refl, λ le. absurd (omega (arith, le)))
+cut_next byte b bs false is found none =
+    let one : 1 + first_at byte bs ≡ suc (first_at byte bs) = omega arith in
+    let two : suc (first_at byte bs) + 1 ≡ suc (first_at byte bs + 1) = omega arith in (
+      λ lt. rw (one, two, found (omega (arith, lt))) refl,
+      λ le. rw (none (omega (arith, le))) refl,
+    )
+
+cut_first : (byte : ℕ) (bs : Bytes)
+    → (first_at byte bs < length bs → cut_at byte bs ≡ Some (take (first_at byte bs) bs, drop (first_at byte bs + 1) bs)) × (length bs ≤ first_at byte bs → cut_at byte bs ≡ None)
+cut_first byte [] = (λ lt. absurd (omega (arith, lt)), λ le. refl)
+cut_first byte (b ∷ bs) = let next = cut_first byte bs in cut_next byte b bs (b == byte) refl next.0 next.1
+
+place_found : (b : Bool) (n i : ℕ) → cond b (Some n) None ≡ Some i → (b ≡ true) × (n ≡ i)
+place_found true n i e = (refl, cc)
+place_found false n i e = absurd cc
+
+no_place : (b : Bool) (n : ℕ) → cond b (Some n) None ≡ None → b ≡ false
+no_place true n e = absurd cc
+no_place false n e = refl
+
+pub cut_here : (byte : ℕ) (bs : Bytes) (i : ℕ) → position (λ b. b == byte) bs ≡ Some i → cut_at byte bs ≡ Some (take i bs, take (length bs - (i + 1)) (drop (i + 1) bs))
+cut_here byte bs i e =
+    let h = place_found (nat_lt (first_at byte bs) (length bs)) (first_at byte bs) i e in
+    (cut_first byte bs).0 (ltb-true _ _ h.0) ∙ ap (λ (n : ℕ). Some (take n bs, drop (n + 1) bs)) h.1
+    ∙ ap (λ (r : Bytes). Some (take i bs, r)) (sym (take_all (length bs - (i + 1)) (drop (i + 1) bs) (omega (arith, length-drop (i + 1) bs))))
+
+pub cut_nowhere : (byte : ℕ) (bs : Bytes) → position (λ b. b == byte) bs ≡ None → cut_at byte bs ≡ None
+cut_nowhere byte bs e = (cut_first byte bs).1 (ltb-false _ _ (no_place (nat_lt (first_at byte bs) (length bs)) (first_at byte bs) e))
+
+-- the two digits of a client's number, or the one
+one_digit : (n : ℕ) → n < 10 → decimal n ≡ (48 + n) ∷ []
+one_digit n lt = decimal_digit n lt
+
+both_digits : (n : ℕ) → 10 ≤ n → n < 64 → decimal n ≡ (48 + n / 10) ∷ (48 + n % 10) ∷ []
+both_digits n le lt = decimal_step n le (omega (arith, lt)) ∙ ap (λ (ds : Bytes). ds ++ (48 + n % 10) ∷ []) (decimal_digit (n / 10) (omega (arith, lt)))
+
+-- the digits of a client's number, by how many they are
+pub digits_are : (n : ℕ) (bs : Bytes) → n < 64 → decimal n ≡ bs
+    → ((length bs ≡ 1) × (get_or bs 0 0 ≡ 48 + n)) ⊎ ((length bs ≡ 2) × ((get_or bs 0 0 - 48) * 10 + (get_or bs 1 0 - 48) ≡ n))
+digits_are n bs lt e = ⊎_elim
+    (λ (few : n < 10). inl (let same : (48 + n) ∷ [] ≡ bs = sym (one_digit n few) ∙ e in (ap length (sym same), ap (λ (ds : Bytes). get_or ds 0 0) (sym same))))
+    (λ (many : 10 ≤ n). inr (let same : (48 + n / 10) ∷ (48 + n % 10) ∷ [] ≡ bs = sym (both_digits n many lt) ∙ e in (ap length (sym same), ap (λ (ds : Bytes). (get_or ds 0 0 - 48) * 10 + (get_or ds 1 0 - 48)) (sym same) ∙ omega arith)))
+    (cases_lt n 10)
+
+pub caller_spelled : (bs : Bytes) (n : ℕ) → n < 64 → decimal n ≡ bs → Some (caller_of n) ≡ caller_read bs
+caller_spelled bs n lt e = sym (caller_back n lt) ∙ ap caller_read e
+
+caller_none : (bs : Bytes) (o : Option Caller) → caller_read bs ≡ o → ((n : ℕ) → n < 64 → decimal n ≡ bs → ⊥) → None ≡ caller_read bs
+caller_none bs None is h = sym is
+caller_none bs (Some caller) is h = let k = caller_is bs caller is in absurd (h caller.0 k.1 k.0)
+
+-- no client is spelled
+pub no_caller : (bs : Bytes) → ((n : ℕ) → n < 64 → decimal n ≡ bs → ⊥) → None ≡ caller_read bs
+no_caller bs h = caller_none bs (caller_read bs) refl h
+
+-- ---- steps
+
+step_is : (place : ℕ) (caller : Caller) (bytes : Bytes) (t : Told) → step_read place caller bytes ≡ Ok t
+    → (caller ≡ t.caller) × (command_spelling t.command ++ 10 ∷ reply_spelling t.reply ≡ bytes)
+unfolding step_read
+step_is place caller bytes t h =
+    let cut = bind_is (ok_or (cut_at 10 bytes) place) _ t h in
+    let parts : Bytes × Bytes = cut.0 in
+    let first = bind_is (ok_or (result_ok (line_read parts.0)) place) _ t cut.1.1 in
+    let second = bind_is (ok_or (reply_read parts.1) (place + length parts.0 + 1)) _ t first.1.1 in
+    let same : record { caller = caller; command = first.0; reply = second.0 } ≡ t = ap (λ r. result_unwrap_or r t) second.1.1 in
+    let command : command_spelling first.0 ≡ parts.0 = command_is parts.0 first.0 (command_ok (line_read parts.0) first.0 (said_is _ place first.0 first.1.0)) in
+    let reply : reply_spelling second.0 ≡ parts.1 = reply_is parts.1 second.0 (said_is _ _ second.0 second.1.0) in (
+      ap (λ (u : Told). u.caller) same,
+      ap (λ (u : Told). command_spelling u.command ++ 10 ∷ reply_spelling u.reply) (sym same)
+          ∙ ap (λ (l : Bytes). l ++ 10 ∷ reply_spelling second.0) command ∙ ap (λ (l : Bytes). parts.0 ++ 10 ∷ l) reply
+          ∙ cut_is 10 bytes parts (said_is _ place parts cut.1.0),
+    )
+
+payload_from : (bytes : Bytes) (t : Told) → payload_read bytes ≡ Ok t → (payload_spelling t ≡ bytes) × (t.caller.0 < 64)
+unfolding payload_read
+payload_from bytes t h =
+    let cut = bind_is (ok_or (cut_at 32 bytes) 0) _ t h in
+    let parts : Bytes × Bytes = cut.0 in
+    let client = bind_is (ok_or (caller_read parts.0) 0) _ t cut.1.1 in
+    let rest = step_is (length parts.0 + 1) client.0 parts.1 t client.1.1 in
+    let caller = caller_is parts.0 client.0 (said_is _ 0 client.0 client.1.0) in (
+      ap (λ (c : Caller). decimal c.0 ++ 32 ∷ (command_spelling t.command ++ 10 ∷ reply_spelling t.reply)) (sym rest.0)
+          ∙ ap (λ (w : Bytes). w ++ 32 ∷ (command_spelling t.command ++ 10 ∷ reply_spelling t.reply)) caller.0
+          ∙ ap (λ (w : Bytes). parts.0 ++ 32 ∷ w) rest.1 ∙ cut_is 32 bytes parts (said_is _ 0 parts cut.1.0),
+      (let P : Caller → Type 0 = λ c. c.0 < 64 in subst P rest.0 caller.1),
+    )
+
+pub payload_is : (bytes : Bytes) (t : Told) → payload_read bytes ≡ Ok t → payload_spelling t ≡ bytes
+payload_is bytes t h = (payload_from bytes t h).0
+
+pub payload_caller : (bytes : Bytes) (t : Told) → payload_read bytes ≡ Ok t → t.caller.0 < 64
+payload_caller bytes t h = (payload_from bytes t h).1
+
+-- what is read is spelled as it was, and of one of the 64 clients
+pub read_is : (bytes : Bytes) (r : Result (Caller × Command × Reply) PayloadFault) → MatchResult r (λ t. payload_read bytes ≡ Ok (told_of t.0 t.1 t.2)) (IsBadAt (payload_read bytes))
+    → (IfOk r (λ t. payload_spelling (told_of t.0 t.1 t.2) ≡ bytes)) × (IfOk r (λ t. t.0.0 < 64))
+read_is bytes (Ok t) h = payload_from bytes (told_of t.0 t.1 t.2) h
+read_is bytes (Err f) h = (tt, tt)
+
+-- a fault of the command or the reply stands behind the caller
+refused_behind : {A B : Type 0} (place p : ℕ) (o : Option A) (f : A → Result B ℕ) → ((x : A) → f x ≡ Err p → place ≤ p) → (ok_or o place >>= f) ≡ Err p → place ≤ p
+refused_behind place p None f next h = omega (arith, (let same : place ≡ p = ap (λ r. unwrap_or (result_err r) p) h in same))
+refused_behind place p (Some x) f next h = next x h
+
+step_behind : (place : ℕ) (caller : Caller) (bytes : Bytes) (p : ℕ) → step_read place caller bytes ≡ Err p → place ≤ p
+unfolding step_read
+step_behind place caller bytes p h =
+    refused_behind place p (cut_at 10 bytes) _ (λ parts. refused_behind place p (result_ok (line_read parts.0)) _ (λ command k.
+    let behind : place + length parts.0 + 1 ≤ p = refused_behind (place + length parts.0 + 1) p (reply_read parts.1) _ (λ reply ok. absurd (false≢true (sym (ap is_ok ok)))) k in
+    omega (arith, behind))) h
+
+pub no_client : (bytes : Bytes) (client rest : Bytes) (caller : Caller) → cut_at 32 bytes ≡ Some (client, rest) → caller_read client ≡ Some caller → payload_read bytes ≡ Err 0 → ⊥
+unfolding payload_read
+no_client bytes client rest caller cut is h =
+    let step : payload_read bytes ≡ step_read (length client + 1) caller rest = rw (cut, is) refl in
+    omega (arith, step_behind (length client + 1) caller rest 0 (sym step ∙ h))

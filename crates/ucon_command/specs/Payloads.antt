@@ -1,0 +1,43 @@
+-- What the calls of payloads give and refuse.
+use Rattle.std.specs.Prelude.{◌≡◌, ◌+◌, ◌*◌, ◌<◌, ◌≤◌, ℕ, [], ◌∷◌, ◌++◌, length, Result, Err, ⊤}
+use Rattle.ucon_command.specs.declared.payload_fault.PayloadFault.{PayloadFault}
+use Rattle.ucon_command.specs.declared.payload_fault.PayloadFault.TheVariants.{BadPlace, NoMemory}
+use Rattle.ucon_model.specs.declared.command.Caller.{Caller}
+use Rattle.ucon_model.specs.declared.command.Command.{Command}
+use Rattle.ucon_model.specs.declared.reply.Reply.{Reply}
+use Rattle.ucon_model.specs.CommandLine.{IsCommand}
+use Rattle.ucon_model.specs.History.{History, said}
+use Rattle.ucon_model.specs.Payload.{Told, told, revocations_in}
+use Rattle.ucon_model.specs.Plain.{PlainPolicy, PlainReply}
+use Rattle.ucon_model.specs.ReplyText.{IsReply}
+use Rattle.ucon_model.specs.Views.{reply_of}
+
+-- a caller's command and the reply to it, as they stand in definitions
+abbrev pub told_of : Caller → Command → Reply → Told
+told_of caller command reply = record { caller = caller; command = command; reply = reply_of reply }
+
+-- what is read is refused at this place, unless it is want of memory
+abbrev pub IsBadAt : {A : Type 0} → Result A ℕ → PayloadFault → Type 0
+IsBadAt read (BadPlace place) = read ≡ Err place
+IsBadAt read (NoMemory e) = ⊤
+
+-- no reply's text is longer, by the number of its revocations
+abbrev pub most_reply : PlainReply → ℕ
+most_reply reply = 4306 + 52 * length (revocations_in reply)
+
+-- nor is a payload, of which a command's text has at most 8192 bytes
+abbrev pub most_told : PlainReply → ℕ
+most_told reply = 8197 + most_reply reply
+
+-- A step that can be spelled: of one of the 64 clients, of a command and a reply of names, values and numbers, with no more revocations than
+-- sessions can be accessing.
+pub record IsStep (t : Told) : Type 0 where
+  pub client : t.caller.0 < 64
+  pub command : IsCommand t.command
+  pub reply : IsReply t.reply
+  pub few : length (revocations_in t.reply) ≤ 65536
+
+-- these entries, each with its reply behind the others, are such steps
+abbrev pub AreSteps : PlainPolicy → History → History → Type 0
+AreSteps P H [] = ⊤
+AreSteps P H (e ∷ rest) = IsStep (told e (said P H e.caller e.command)) × AreSteps P (H ++ e ∷ []) rest

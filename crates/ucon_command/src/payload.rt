@@ -1,0 +1,182 @@
+//! Payloads of a journal's records: a step as text, both ways.
+
+ghost use Rattle.std.specs.Prelude.{◌≡◌, ◌<◌, ◌≤◌, ◌+◌, ◌-◌, ◌^◌, ◌==◌, ◌++◌, ◌↔◌, ℕ, IsTrue, length, ok_or, position, IfOk, OnOk, IfSome, MatchOption, MatchResult, Ok, Err, None, Some};
+ghost use Rattle.std.specs.Fmt.{decimal};
+ghost use Rattle.std.specs.Result.{result_ok};
+ghost use Rattle.ucon_model.specs.CommandLine.{line_read};
+ghost use Rattle.ucon_model.specs.Output.{cut_at};
+ghost use Rattle.ucon_model.specs.Payload.{caller_read, payload_read, payload_spelling, step_read};
+ghost use Rattle.ucon_model.specs.ReplyText.{reply_read};
+ghost use Rattle.ucon_model.specs.Views.{reply_of};
+ghost use Rattle.ucon_command.specs.Payloads.{IsBadAt, most_told, told_of};
+
+use crate::commands::put_command;
+use crate::in_form::{command_in_form, reply_in_form};
+use crate::line_fault::LineFault;
+use crate::lines::read_command;
+use crate::payload_fault::PayloadFault;
+use crate::reading::read_reply;
+use crate::replies::put_reply;
+use crate::reply_fault::ReplyFault;
+use crate::spelling::{put_session, put_word};
+use itoa::Buffer;
+use std::alloc::Global;
+use ucon_base::NoMemory;
+use ucon_model::{Caller, Command, Reply};
+
+/// Most payloads have no more.
+const LIKELY_BYTES: usize = 96;
+
+/// The one text of a step: the caller in decimal, a space, the command's text, a newline, the reply's text.
+#[tactic(auto, using(crate::proofs::Payloads::text_back, crate::proofs::Payloads::text_short))]
+pub fn payload_text(
+    alloc: Global,
+    caller: Caller,
+    command: &Command,
+    reply: &Reply,
+) -> Result<Vec<u8>, NoMemory>
+    ensures text { IfOk result (λ t. t.items ≡ payload_spelling (told_of caller command.now reply.now)) }
+    ensures read_back { caller.0 < 64 → payload_read (payload_spelling (told_of caller command.now reply.now)) ≡ Ok (told_of caller command.now reply.now) }
+    ensures short { length (payload_spelling (told_of caller command.now reply.now)) ≤ most_told (reply_of reply.now) }
+{
+    command_in_form(command);
+    reply_in_form(reply);
+    let mut text = Vec::with_capacity(alloc, LIKELY_BYTES)?;
+    put_payload(alloc, &mut text, caller, command, reply)?;
+    Ok(text)
+}
+
+fn put_payload(
+    alloc: Global,
+    out: &mut Vec<u8>,
+    caller: Caller,
+    command: &Command,
+    reply: &Reply,
+) -> Result<(), NoMemory>
+    ensures { OnOk result (out.new.items ≡ out.old.items ++ payload_spelling (told_of caller command.now reply.now)) }
+{
+    put_session(out, b"", u32::from(caller.0))?;
+    put_word(out, b" ")?;
+    put_command(alloc, out, command)?;
+    put_word(out, b"\n")?;
+    put_reply(alloc, out, reply)
+}
+
+/// The step of which the bytes are the text, or the place of the first part that is none. Bytes that begin with no client's number and a
+/// space are refused before any memory is taken.
+pub fn read_payload(alloc: Global, bytes: &[u8]) -> Result<(Caller, Command, Reply), PayloadFault>
+    ensures read { MatchResult result (λ t. payload_read bytes.now ≡ Ok (told_of t.0 t.1 t.2)) (IsBadAt (payload_read bytes.now)) }
+    ensures spelled { IfOk result (λ t. payload_spelling (told_of t.0 t.1 t.2) ≡ bytes.now) }
+    ensures client { IfOk result (λ t. t.0.0 < 64) }
+    ensures no_client { payload_read bytes.now ≡ Err 0 → result ≡ Err (PayloadFault.BadPlace 0) }
+{
+    payload(alloc, bytes)
+}
+
+#[tactic(auto, unfolding(ucon_model::specs::Payload::payload_read))]
+fn payload(alloc: Global, bytes: &[u8]) -> Result<(Caller, Command, Reply), PayloadFault>
+    ensures no_client { payload_read bytes.now ≡ Err 0 → result ≡ Err (PayloadFault.BadPlace 0) }
+    ensures read { MatchResult result (λ t. payload_read bytes.now ≡ Ok (told_of t.0 t.1 t.2)) (IsBadAt (payload_read bytes.now)) }
+{
+    let Some((client, behind)) = cut_at(b' ', bytes) else {
+        return Err(PayloadFault::BadPlace(0));
+    };
+    let Some(caller) = caller_in(client) else {
+        return Err(PayloadFault::BadPlace(0));
+    };
+    step(alloc, client.len() + 1, caller, behind)
+}
+
+/// A caller's command up to the first newline, and the reply behind it, where the command begins at this place.
+#[tactic(auto, unfolding(ucon_model::specs::Payload::step_read))]
+fn step(
+    alloc: Global,
+    place: usize,
+    caller: Caller,
+    bytes: &[u8],
+) -> Result<(Caller, Command, Reply), PayloadFault>
+    requires { place + length bytes.now < 2 ^ 64 }
+    ensures { MatchResult result (λ t. step_read place caller bytes.now ≡ Ok (told_of t.0 t.1 t.2)) (IsBadAt (step_read place caller bytes.now)) }
+{
+    let Some((line, text)) = cut_at(b'\n', bytes) else {
+        return Err(PayloadFault::BadPlace(place));
+    };
+    let command = command_at(alloc, place, line)?;
+    let reply = reply_at(alloc, place + line.len() + 1, text)?;
+    Ok((caller, command, reply))
+}
+
+/// The command of a line at this place.
+fn command_at(alloc: Global, place: usize, line: &[u8]) -> Result<Command, PayloadFault>
+    ensures { MatchResult result (λ c. ok_or (result_ok (line_read line.now)) place ≡ Ok c) (IsBadAt (ok_or (result_ok (line_read line.now)) place)) }
+{
+    match read_command(alloc, line) {
+        Ok(command) => Ok(command),
+        Err(LineFault::NoMemory(refused)) => Err(PayloadFault::NoMemory(refused)),
+        Err(_) => Err(PayloadFault::BadPlace(place)),
+    }
+}
+
+/// The reply of a text at this place.
+fn reply_at(alloc: Global, place: usize, text: &[u8]) -> Result<Reply, PayloadFault>
+    ensures { MatchResult result (λ r. ok_or (reply_read text.now) place ≡ Ok (reply_of r)) (IsBadAt (ok_or (reply_read text.now) place)) }
+{
+    match read_reply(alloc, text) {
+        Ok(reply) => Ok(reply),
+        Err(ReplyFault::NoMemory(refused)) => Err(PayloadFault::NoMemory(refused)),
+        Err(ReplyFault::BadReply) => Err(PayloadFault::BadPlace(place)),
+    }
+}
+
+/// What stands before the first of these bytes, and what stands behind it.
+fn cut_at(byte: u8, bytes: &[u8]) -> Option<(&[u8], &[u8])>
+    ensures cut { MatchOption result (cut_at byte bytes.now ≡ None) (λ p. cut_at byte bytes.now ≡ Some (p.0.now, p.1.now)) }
+    ensures within { IfSome result (λ p. length p.0.now + 1 + length p.1.now ≡ length bytes.now) }
+{
+    match first_place(byte, bytes) {
+        Some(at) => Some((&bytes[..at], &bytes[at + 1..])),
+        None => None,
+    }
+}
+
+fn first_place(byte: u8, bytes: &[u8]) -> Option<usize>
+    ensures place { result ≡ position (λ b. b == byte) bytes.now }
+    ensures within { IfSome result (λ i. i + 1 ≤ length bytes.now) }
+{
+    bytes.iter().position(|b| *b == byte)
+}
+
+/// The client, 0 to 63, whose number in decimal the bytes are.
+fn caller_in(bytes: &[u8]) -> Option<Caller>
+    ensures { result ≡ caller_read bytes.now }
+{
+    match two_digits(bytes) {
+        Some(n) if n < 64 && is_decimal_of(bytes, n) => Some(Caller(n as u8)),
+        _ => None,
+    }
+}
+
+/// What one or two digits tell, if these are digits.
+fn two_digits(bytes: &[u8]) -> Option<u32>
+    ensures { (n : ℕ) → n < 64 → decimal n ≡ bytes.now → result ≡ Some n }
+{
+    match bytes {
+        [unit] => Some(digit(*unit)),
+        [ten, unit] => Some(digit(*ten) * 10 + digit(*unit)),
+        _ => None,
+    }
+}
+
+fn digit(b: u8) -> u32
+    ensures value { result ≡ b - 48 }
+    ensures small { result < 2 ^ 8 }
+{
+    u32::from(b.saturating_sub(b'0'))
+}
+
+fn is_decimal_of(bytes: &[u8], n: u32) -> bool
+    ensures { IsTrue result ↔ (decimal n ≡ bytes.now) }
+{
+    let mut digits = Buffer::new();
+    digits.format(n).as_bytes() == bytes
+}

@@ -1,0 +1,15 @@
+use Rattle.std.proofs.Common.{inl, refl}
+use Rattle.ucon_journal.proofs.Told.{all_read, rewound}
+use Rattle.ucon_journal.proofs.journal.Journal.rewind.Goals as goal
+
+pub returns-clause-reading : goal.returns-clause-reading
+returns-clause-reading g c = record {
+  phase = inl refl;
+  told = rewound c.args.self.now.version c.args.self.now.gate (g.D.Disk.contents c.args.self.now.disk) c.requires.told;
+  len = c.requires.len;
+}
+
+pub returns-clause-all : goal.returns-clause-all
+returns-clause-all g c =
+    let version = c.args.self.now.version in
+    all_read version (g.D.Disk.contents c.args.self.now.disk) (rewound version c.args.self.now.gate (g.D.Disk.contents c.args.self.now.disk) c.requires.told)

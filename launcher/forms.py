@@ -1,0 +1,129 @@
+"""The forms of words that the program has, and what `--help` and `--version` say."""
+import re
+import subprocess
+from typing import Callable, Dict, List, NamedTuple, Optional
+
+from launcher import program
+
+# The status with which the proved program answers words that are no form, and that of a launcher that can't run it.
+USAGE = 1
+FAILED = 125
+
+
+class Form(NamedTuple):
+    """One form of the program's words. `keeps` says that it writes a file, which `quick` would lose."""
+
+    words: str
+    says: str
+    example: str
+    keeps: bool = False
+
+    @property
+    def name(self) -> str:
+        return self.words.split()[0]
+
+
+# One line a form.
+KNOWN = [
+    Form("trial", "runs the script under the policy, and prints a reply for each command", "./ucon trial < examples/first.ucon"),
+    Form("check", "prints which core models of usage control each right makes", "./ucon check < examples/music.ucon"),
+    Form("gen SEED SIZE", "makes a document of SIZE commands from a number, runs it, and prints what happened", "./ucon gen 1 1000"),
+    Form("play JOURNAL", "runs the script over a journal, a file that keeps each step", "./ucon play door.journal < door.ucon", keeps=True),
+]
+# Forms that the program doesn't have yet. A name goes from here when its form comes.
+COMING = ("gen", "play")
+FORMS = [form for form in KNOWN if form.name not in COMING]
+
+# What the launcher itself does.
+OWN = [
+    Form("quick FORM ..", "runs the program as it is written, unproved: a reply in about a minute", "./ucon quick trial < examples/first.ucon"),
+    Form("test DIR ..", "runs each NAME.ucon of a folder, and compares with NAME.out", "./ucon test examples"),
+    Form("--help", "this page", ""),
+    Form("--version", "the commit, and the kit that it is proved with", ""),
+]
+
+
+def is_decimal(word: str, least: int, greatest: int) -> bool:
+    return re.fullmatch("0|[1-9][0-9]*", word) is not None and least <= int(word) <= greatest
+
+
+# What stands for a word in capitals.
+ARGUMENTS: Dict[str, Callable[[str], bool]] = {
+    "SEED": lambda word: is_decimal(word, 0, 2**64 - 1),
+    "SIZE": lambda word: is_decimal(word, 1, 100_000),
+    "JOURNAL": lambda word: word != "",
+}
+
+
+def fits(form: Form, words: List[str]) -> bool:
+    pattern = form.words.split()
+    return len(words) == len(pattern) and all(
+        ARGUMENTS[wanted](word) if wanted.isupper() else wanted == word for wanted, word in zip(pattern, words)
+    )
+
+
+def form_of(words: List[str]) -> Optional[Form]:
+    """The form that these words are. None where they are none."""
+    return next((form for form in FORMS if fits(form, words)), None)
+
+
+def row(form: Form) -> str:
+    example = f"{'':18}{in_place(form.example)}\n" if form.example else ""
+    return f"  {form.words:<16}{form.says}\n{example}"
+
+
+def in_place(example: str) -> str:
+    """An example as it is typed here: an installed command is found on the PATH, and has no examples beside it."""
+    if program.has_sources():
+        return example
+    return re.sub(r"\S+\.ucon\b", "DOCUMENT", example.replace("./ucon", "ucon")).replace("test examples", "test DIR")
+
+
+def own_forms() -> List[Form]:
+    """What the launcher does here: an installed copy has no sources for `quick`."""
+    return [form for form in OWN if program.has_sources() or form.name != "quick"]
+
+
+OF_SOURCES = """\
+Where the program isn't built, or its sources are newer, every crate below it is proved and the program is built first.
+Pages: docs/policy-language.md, docs/commands.md, docs/errors.md, docs/grammar.md; the manual page: man docs/ucon.1
+"""
+INSTALLED = "The manual page: man ucon\n"
+
+
+def help_text() -> str:
+    return (
+        "ucon: a usage control monitor. A document comes on standard input: a policy, a line %%, and a script.\n\n"
+        f"{''.join(map(row, FORMS))}\n{''.join(map(row, own_forms()))}\n{OF_SOURCES if program.has_sources() else INSTALLED}"
+        "After a fault of a document that is a file, the place, the line and a hint follow the program's own line.\n"
+        "UCON_PROGRAM=FILE runs that program in place of the proved one.\n"
+    )
+
+
+def usage_hint(words: List[str]) -> str:
+    """What stands behind the program's own line where the words are no form."""
+    names = ", ".join(form.words for form in FORMS + own_forms() if form.example)
+    first = words[0] if words else ""
+    near = next((form for form in FORMS if form.name == first), None)
+    if not words:
+        why = "no words were given"
+    elif near and len(near.words.split()) == 1:
+        why = f"`{first}` takes no further words: its document comes on standard input, as in {in_place(near.example)}"
+    elif near:
+        why = f"the form is `{near.words}`, as in {in_place(near.example)}"
+    else:
+        why = f"`{first}` is no form"
+    return f"hint: {why}\nhint: the forms are {names}; --help tells of each\n"
+
+
+def version_text() -> str:
+    kept = program.TOP / "version"
+    if kept.is_file():
+        return kept.read_text()
+    ran = subprocess.run(
+        ["git", "-C", str(program.TOP), "describe", "--always", "--dirty"], stdout=subprocess.PIPE, stderr=subprocess.DEVNULL, check=False
+    ) if program.is_command("git") else None
+    commit = ran.stdout.decode().strip() if ran and ran.returncode == 0 else "unknown"
+    readme = (program.TOP / "README.md").read_text()
+    kit = re.search(r"Proved with `(.*?)`", readme)
+    return f"ucon, commit {commit}, proved with {kit.group(1) if kit else 'an unknown kit'}\n"

@@ -1,0 +1,84 @@
+"""A document as a person sees it: places as lines and columns (both from 1, columns in bytes), and lines with a caret."""
+from typing import List, NamedTuple, Optional
+
+# How much of a long line is shown before and behind the mark.
+BEFORE, BEHIND = 60, 40
+
+INVISIBLE = {
+    b"\r": "a carriage return",
+    b"\t": "a tab",
+    b" ": "a space",
+    b"\n": "the end of the line",
+    b"\xc2\xa0": "a no-break space",
+    b"\xef\xbb\xbf": "a byte-order mark",
+    b"\xe2\x80\x8b": "a zero-width space",
+}
+
+
+class Span(NamedTuple):
+    """Bytes of the document, from the one place up to and not including the other."""
+
+    start: int
+    end: int
+
+
+def shown(raw: bytes) -> str:
+    """The bytes as they are shown: what is neither printable ASCII nor a tab by its escape."""
+    return "".join(chr(b) if 0x20 <= b < 0x7F or b == 9 else {13: "\\r"}.get(b, f"\\x{b:02x}") for b in raw)
+
+
+def name_of_byte(raw: bytes) -> Optional[str]:
+    """What the bytes begin with, where it can't be seen. None where it can."""
+    return next((name for seen, name in INVISIBLE.items() if raw.startswith(seen)), None)
+
+
+class Document:
+    """A document's bytes with its file's name."""
+
+    def __init__(self, name: str, raw: bytes):
+        self.name = name
+        self.raw = raw
+
+    def line_start(self, at: int) -> int:
+        return self.raw.rfind(b"\n", 0, at) + 1
+
+    def line_end(self, at: int) -> int:
+        end = self.raw.find(b"\n", at)
+        return len(self.raw) if end < 0 else end
+
+    def line_span(self, number: int) -> Span:
+        """The line of this number, from 1. The last one, empty, where there are fewer."""
+        start = 0
+        for _ in range(number - 1):
+            start = self.line_end(start) + 1
+        return Span(min(start, len(self.raw)), self.line_end(start))
+
+    def place(self, at: int) -> str:
+        line = self.raw.count(b"\n", 0, at) + 1
+        return f"{self.name}:{line}:{at - self.line_start(at) + 1}"
+
+    def marked(self, mark: Span, what: str = "") -> str:
+        """The place, the line, and carets under the mark as far as it is on that line."""
+        head = self.place(mark.start) + (f": {what}" if what else "")
+        return f"{head}\n{self.under(mark)}"
+
+    def under(self, mark: Span) -> str:
+        start, end = self.line_start(mark.start), self.line_end(mark.start)
+        left = max(start, mark.start - BEFORE)
+        right = min(end, max(mark.start + 1, min(mark.end, end)) + BEHIND)
+        before = shown(self.raw[left : mark.start])
+        within = shown(self.raw[mark.start : min(mark.end, end)])[:BEHIND] or " "
+        line = ".. " * (left > start) + shown(self.raw[left:right]) + " .." * (right < end)
+        blank = "".join("\t" if c == "\t" else " " for c in ".. " * (left > start) + before)
+        return f"  {line}\n  {blank}{'^' * len(within)}\n"
+
+    def text_of(self, whole: Span, mark: Span) -> str:
+        """All lines of a longer passage, with carets under the mark."""
+        out: List[str] = []
+        at = self.line_start(whole.start)
+        while at < max(whole.end, whole.start + 1):
+            end = self.line_end(at)
+            has_mark = at <= mark.start <= end
+            out.append(self.under(mark) if has_mark else f"  {shown(self.raw[at:end])}\n")
+            at = end + 1
+        return "".join(out)
