@@ -41,12 +41,15 @@ pub fn payloads_are_read_back()
 
 /// A payload is taken exactly where it is the one that the serial run spells, and its reply changes something.
 pub fn steps_are_taken_as_spelled()
-    ensures taken { (P : PlainPolicy) (H : History) (payload : Bytes) (t : Told) → length payload ≤ most_payload → payload_read payload ≡ Ok t
+    ensures taken { (P : PlainPolicy) (H : History) (payload : Bytes) (t : Told)
+        → length payload ≤ most_payload → payload_read payload ≡ Ok t
         → let reply = said P H t.caller t.command in
-        taken P H payload ≡ (if changes reply && bytes_eq (payload_spelling (told (entry_told t) reply)) payload then Some (H ++ entry_told t ∷ []) else None) }
+        taken P H payload ≡ (if changes reply && bytes_eq (payload_spelling (told (entry_told t) reply)) payload
+        then Some (H ++ entry_told t ∷ []) else None) }
     ensures unread { (P : PlainPolicy) (H : History) (payload : Bytes) (place : ℕ) → payload_read payload ≡ Err place → taken P H payload ≡ None }
     ensures long { (P : PlainPolicy) (H : History) (payload : Bytes) → most_payload < length payload → taken P H payload ≡ None }
-    ensures next { (P : PlainPolicy) (H : History) (e : Entry) → IsStep (told e (said P H e.caller e.command)) → IsTrue (changes (said P H e.caller e.command))
+    ensures next { (P : PlainPolicy) (H : History) (e : Entry)
+        → IsStep (told e (said P H e.caller e.command)) → IsTrue (changes (said P H e.caller e.command))
         → taken P H (payload_spelling (told e (said P H e.caller e.command))) ≡ Some (H ++ e ∷ []) }
 {
     texts_tell_changes();

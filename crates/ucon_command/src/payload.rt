@@ -36,7 +36,8 @@ pub fn payload_text(
     reply: &Reply,
 ) -> Result<Vec<u8>, NoMemory>
     ensures text { IfOk result (λ t. t.items ≡ payload_spelling (told_of caller command.now reply.now)) }
-    ensures read_back { caller.0 < 64 → payload_read (payload_spelling (told_of caller command.now reply.now)) ≡ Ok (told_of caller command.now reply.now) }
+    ensures read_back { caller.0 < 64
+        → payload_read (payload_spelling (told_of caller command.now reply.now)) ≡ Ok (told_of caller command.now reply.now) }
     ensures short { length (payload_spelling (told_of caller command.now reply.now)) ≤ most_told (reply_of reply.now) }
 {
     command_in_form(command);

@@ -1,5 +1,4 @@
 pub mod SameTexts
 pub mod Places
 pub mod Agreeing
-pub mod Watched
 pub mod NoSets

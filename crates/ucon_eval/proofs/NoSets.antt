@@ -15,7 +15,7 @@ use Rattle.ucon_model.specs.Plain.{Bytes, PlainExpr, lit, read, plus, minus, tim
 use Rattle.ucon_model.specs.Action.{Trace}
 use Rattle.ucon_model.specs.Truth.{Readings, readings, place_of, value_of, read_or_zero}
 use Rattle.ucon_model.specs.Decision.{right_named}
-use Rattle.ucon_model.specs.LegalRun.{Each}
+use Rattle.ucon_base.specs.Elements.{Each}
 use Rattle.ucon_model.specs.History.{Agree}
 use Rattle.ucon_model.specs.Fitting.{ValuesFit, PlacesFit}
 use Rattle.ucon_model.specs.Typing.{value_sort, same_sort, is_of, are_of_one_sort, expr_sort, takes, is_typed_formula, is_typed_test, IsTyped}
@@ -226,7 +226,7 @@ preds_without P R row fits (p ∷ ps) h =
 
 -- each declared place holds a value of the declared sort
 abbrev pub PlacesHold : Type 0
-PlacesHold = (P : PlainPolicy) → IsTyped P → (T : Trace) → ValuesFit P T → (row : SessionRow) → PlacesFit P (place_of P T row)
+PlacesHold = (P : PlainPolicy) (T : Trace) → ValuesFit P T → (row : SessionRow) → PlacesFit P (place_of P T row)
 
 -- each test is typed
 abbrev pub TestsTyped : Type 0
@@ -244,7 +244,7 @@ tests_of_trace : PlacesHold → TestsTyped → (P : PlainPolicy) (T : Trace) →
 tests_of_trace hold typed_tests P T typed fit n =
     of_row _ ((readings P T).row n)
     (λ row. of_right (λ right. preds_make_no_set (readings P T) row right.preds) (right_named P.rights row.right)
-    (λ r is. preds_without P (readings P T) row (hold P typed T fit row) r.preds (typed_tests P typed row.right r is)))
+    (λ r is. preds_without P (readings P T) row (hold P T fit row) r.preds (typed_tests P typed row.right r is)))
 
 -- ---- one predicate by its place
 
@@ -267,7 +267,7 @@ test_of_trace : PlacesHold → TestsTyped → (P : PlainPolicy) (T : Trace) → 
 test_of_trace hold typed_tests P T typed fit n i =
     of_row _ ((readings P T).row n)
     (λ row. at_right (λ p. test_makes_no_set ((readings P T).at row) p.test) (right_named P.rights row.right) i
-    (λ r is. each_without P ((readings P T).at row) (hold P typed T fit row) r.preds (typed_tests P typed row.right r is)))
+    (λ r is. each_without P ((readings P T).at row) (hold P T fit row) r.preds (typed_tests P typed row.right r is)))
 
 -- ---- over readings that agree with a trace's
 

@@ -2,4 +2,3 @@ pub mod Worth
 pub mod Sums
 pub mod Asked
 pub mod Sort
-pub mod Watching

@@ -2,7 +2,7 @@
 
 ghost use Rattle.std.specs.Prelude.{◌≡◌, ◌+◌, ◌-◌, ◌^◌, ◌&&◌, not, min, map, option_map, option_copied, true, Some, IsSome};
 ghost use Rattle.ucon_model.specs.Truth.{truth};
-ghost use Rattle.ucon_model.specs.Decision.{right_named, first_false, first_false_of, failing, verdict};
+ghost use Rattle.ucon_model.specs.Decision.{right_named, first_false, first_false_of, failing, no_right, verdict};
 ghost use Rattle.ucon_model.specs.Views.{right_of, predicate_of, test_of};
 ghost use Rattle.ucon_eval.specs.Sums.{preds_make_no_set, tests_make_no_set};
 ghost use Rattle.ucon_eval.specs.Asked.{right_of_session, predicate_at, truth_at, makes_no_set_at};
@@ -54,23 +54,11 @@ fn first_false<V: View>(
     None
 }
 
-/// A right by its name.
-pub fn right_named<'a>(rights: &'a [Right], name: &Name) -> Option<&'a Right>
-    ensures { option_map right_of (option_copied result) ≡ right_named (map right_of rights.now) name.now }
-{
-    for r in rights {
-        if name == &r.name {
-            return Some(r);
-        }
-    }
-    None
-}
-
 /// The right of a session.
 pub fn right<'a, V: View>(view: &'a V, row: &SessionRow) -> Option<&'a Right>
     ensures { option_map right_of (option_copied result) ≡ right_named (V.policy view.now).rights row.now.right }
 {
-    right_named(view.checked().policy().rights.slice(), &row.right)
+    view.checked().policy().right(&row.right)
 }
 
 /// A predicate of the session's right by its place, from 0.
@@ -113,7 +101,7 @@ fn first_false_of<V: View>(view: &V, session: u32, row: &SessionRow, sort: Sort)
 
 /// The verdict on a session. It takes no memory.
 pub fn verdict<V: View>(view: &V, session: u32) -> Verdict
-    requires there { IsSome (right_of_session (V.policy view.now) (V.readings view.now) session) }
+    requires there { IsSome ((V.readings view.now).row session) }
     requires no_set { tests_make_no_set (V.policy view.now) (V.readings view.now) session ≡ true }
     ensures { result ≡ verdict (V.policy view.now) (V.readings view.now) session }
 {
@@ -129,9 +117,10 @@ pub fn verdict<V: View>(view: &V, session: u32) -> Verdict
     }
 }
 
-/// The label of the first ongoing predicate of a session that is false; None where all hold. It counts one step, and takes no memory.
+/// `no_right` where the policy hasn't the session's right; else the label of the right's first ongoing predicate that is false; None
+/// where all hold. It counts one step, and takes no memory.
 pub fn failing<V: View>(view: &V, session: u32, steps: &mut Steps) -> Option<Name>
-    requires there { IsSome (right_of_session (V.policy view.now) (V.readings view.now) session) }
+    requires there { IsSome ((V.readings view.now).row session) }
     requires no_set { tests_make_no_set (V.policy view.now) (V.readings view.now) session ≡ true }
     ensures label { result ≡ failing (V.policy view.now) (V.readings view.now) session }
     ensures steps { steps.new ≡ min (steps.old + 1) (2 ^ 64 - 1) }
@@ -140,5 +129,18 @@ pub fn failing<V: View>(view: &V, session: u32, steps: &mut Steps) -> Option<Nam
     let Some(row) = view.session(session) else {
         unreachable!()
     };
-    first_false_of(view, session, &row, Sort::Ongoing)
+    match right(view, &row) {
+        Some(right) => first_false(view, session, &row, Sort::Ongoing, right.preds.slice()),
+        None => Some(no_right()),
+    }
+}
+
+/// The label by which a session fails whose right isn't there.
+fn no_right() -> Name
+    ensures { result ≡ no_right }
+{
+    match Name::read(b"no_right") {
+        Ok(label) => label,
+        Err(_) => unreachable!(),
+    }
 }

@@ -4,6 +4,7 @@ ghost use Rattle.std.specs.Prelude.{◌≡◌, ℕ, true};
 ghost use Rattle.ucon_model.specs.declared.session.SessionRow.{SessionRow};
 ghost use Rattle.ucon_model.specs.Plain.{PlainPolicy, PlainUpdate};
 ghost use Rattle.ucon_model.specs.Action.{Trace};
+ghost use Rattle.ucon_model.specs.Readings.{in_force};
 ghost use Rattle.ucon_model.specs.Truth.{Readings, readings};
 ghost use Rattle.ucon_model.specs.Decision.{failing, verdict};
 ghost use Rattle.ucon_model.specs.Fitting.{ValuesFit};
@@ -29,11 +30,11 @@ pub fn views_that_agree_decide_alike()
     ensures result { (P : PlainPolicy) (R S : Readings) (n i : ℕ) → Agree R S → result_at P R n i ≡ result_at P S n i }
 {}
 
-/// Where all values of a trace under a well typed policy fit, its tests make no set, over readings that agree with the trace's: what
+/// Where all values fit after a trace, and the policy in force is well typed, its tests make no set, over readings that agree with the trace's: what
 /// `truth`, `verdict` and `failing` ask of a view.
 pub fn typed_tests_make_no_set()
-    ensures all { (P : PlainPolicy) (T : Trace) (R : Readings) → IsTyped P → ValuesFit P T → Agree R (readings P T) → (n : ℕ) → tests_make_no_set P R n ≡ true }
-    ensures one { (P : PlainPolicy) (T : Trace) (R : Readings) → IsTyped P → ValuesFit P T → Agree R (readings P T) → (n i : ℕ) → makes_no_set_at P R n i ≡ true }
+    ensures all { (P : PlainPolicy) (T : Trace) (R : Readings) → IsTyped (in_force P T) → ValuesFit P T → Agree R (readings P T) → (n : ℕ) → tests_make_no_set (in_force P T) R n ≡ true }
+    ensures one { (P : PlainPolicy) (T : Trace) (R : Readings) → IsTyped (in_force P T) → ValuesFit P T → Agree R (readings P T) → (n i : ℕ) → makes_no_set_at (in_force P T) R n i ≡ true }
 {
     places_hold_their_sorts();
     tests_are_typed();

@@ -5,8 +5,6 @@ mod arithmetic;
 mod decide;
 mod laws;
 mod test;
-#[cfg(test)]
-mod tests;
 mod update;
 mod worth;
 

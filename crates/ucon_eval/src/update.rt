@@ -1,7 +1,6 @@
 //! What an update writes.
 
 ghost use Rattle.std.specs.Prelude.{◌≡◌, map, option_map, option_copied, Some, IfOk, IsSome};
-ghost use Rattle.ucon_model.specs.Readings.{declared_attr};
 ghost use Rattle.ucon_model.specs.Truth.{value_of};
 ghost use Rattle.ucon_model.specs.Updates.{fitted_to};
 ghost use Rattle.ucon_model.specs.Views.{expr_of, update_of};
@@ -10,7 +9,7 @@ ghost use Rattle.ucon_eval.specs.Asked.{result_read, update_at, result_at};
 use crate::arithmetic::{difference, fitted, product, size, sum};
 use crate::decide::right;
 use std::alloc::Global;
-use ucon_base::{Int, Name, NoMemory, Side, Value};
+use ucon_base::{Int, NoMemory, Value};
 use ucon_model::{AttrDecl, Expr, SessionRow, Update, View};
 
 fn value_of<V: View>(
@@ -45,18 +44,6 @@ fn value_of<V: View>(
     }
 }
 
-/// The declaration of an attribute.
-fn declared<'a>(attrs: &'a [AttrDecl], side: Side, name: &Name) -> Option<&'a AttrDecl>
-    ensures { option_copied result ≡ declared_attr attrs.now side name.now }
-{
-    for a in attrs {
-        if side == a.side && name == &a.name {
-            return Some(a);
-        }
-    }
-    None
-}
-
 /// The value as the attribute keeps it.
 fn fitted_to(attr: Option<&AttrDecl>, v: Value) -> Value
     ensures { result ≡ fitted_to (option_copied attr.entry) v }
@@ -79,8 +66,8 @@ fn result_of<V: View>(
     ensures { IfOk result (λ v. v ≡ result_read (V.policy view.now) (V.readings view.now) row.now (update_of u.now)) }
 {
     let value = value_of(alloc, view, session, row, &u.value)?;
-    let attrs = view.checked().policy().attrs.slice();
-    Ok(fitted_to(declared(attrs, u.side, &u.attr), value))
+    let policy = view.checked().policy();
+    Ok(fitted_to(policy.attr(u.side, &u.attr), value))
 }
 
 /// An update of the session's right by its place, from 0.

@@ -5,20 +5,23 @@ use Rattle.std.specs.Str.{bytes_eq}
 use Rattle.std.proofs.lemmas.Bool.{or_right, ne_eqb}
 use Rattle.ucon_base.specs.declared.value.Side.{Side}
 use Rattle.ucon_base.specs.declared.value.Side.TheVariants.{Subject, Object}
-use Rattle.ucon_base.specs.Admits.{admits}
+use Rattle.ucon_base.specs.declared.value.Value.{Value}
 use Rattle.ucon_model.specs.declared.session.SessionRow.{SessionRow}
 use Rattle.ucon_model.specs.Plain.{Bytes, PlainPolicy}
 use Rattle.ucon_model.specs.Action.{Action, Trace, subject, object, write, env, tries, permit, deny, ends, revoke, extended}
-use Rattle.ucon_model.specs.Readings.{has_entity, declared_attr, session, sessions, changed_if}
+use Rattle.ucon_model.specs.Readings.{has_entity, attribute, session, sessions, changed_if}
 use Rattle.ucon_model.specs.Legal.{IsLegal, AreLegal, RevocationsAreLegal}
-use Rattle.ucon_model.specs.Fitting.{ValuesFit, UpdatesFit}
+use Rattle.ucon_model.specs.Fitting.{AttributeAdmits, ValuesFit}
+use Rattle.ucon_model.specs.Sound.{IsNumbered, IsGrounded, IsSound}
+use Rattle.ucon_model.specs.Typing.{IsTyped}
+use Rattle.ucon_model.proofs.ValuesStayFit.{fit-write, fit-subject, fit-object, fit-env, fit-empty}
 
 -- ---- the next action
 
--- it is legal, but that the value of a write fits only where the results of the policy's updates do
+-- it is legal, but that the value of a write fits only where the policy is well typed
 abbrev pub IsAllowed : PlainPolicy → Trace → Action → Type 0
 IsAllowed P T (write side name attr v) =
-    IsTrue (has_entity side name T) × (UpdatesFit P → IsSomeAnd (declared_attr P.attrs side attr) (λ d. IsTrue (admits d.kind v)))
+    IsTrue (has_entity side name T) × (IsTyped P → AttributeAdmits P side attr v)
 IsAllowed P T a = IsLegal P T a
 
 abbrev pub AreAllowed : PlainPolicy → Trace → List Action → Type 0
@@ -29,13 +32,13 @@ pub allowed-append : (P : PlainPolicy) (T : Trace) (xs ys : List Action) → Are
 allowed-append P T [] ys h k = k
 allowed-append P T (x ∷ xs) ys h k = (h.0, allowed-append P (x ∷ T) xs ys h.1 k)
 
-legal_action : (P : PlainPolicy) (T : Trace) (a : Action) → UpdatesFit P → IsAllowed P T a → IsLegal P T a
-legal_action P T (write side name attr v) fits h = (h.0, h.1 fits)
-legal_action P T a fits h = h
+legal_action : (P : PlainPolicy) (T : Trace) (a : Action) → IsTyped P → IsAllowed P T a → IsLegal P T a
+legal_action P T (write side name attr v) typed h = (h.0, h.1 typed)
+legal_action P T a typed h = h
 
-pub legal-allowed : (P : PlainPolicy) (T : Trace) (actions : List Action) → UpdatesFit P → AreAllowed P T actions → AreLegal P T actions
-legal-allowed P T [] fits h = tt
-legal-allowed P T (a ∷ actions) fits h = (legal_action P T a fits h.0, legal-allowed P (a ∷ T) actions fits h.1)
+pub legal-allowed : (P : PlainPolicy) (T : Trace) (actions : List Action) → IsTyped P → AreAllowed P T actions → AreLegal P T actions
+legal-allowed P T [] typed h = tt
+legal-allowed P T (a ∷ actions) typed h = (legal_action P T a typed h.0, legal-allowed P (a ∷ T) actions typed h.1)
 
 pub revocations-allowed : (P : PlainPolicy) (T : Trace) (actions : List Action) → AreAllowed P T actions → RevocationsAreLegal P T actions
 revocations-allowed P T [] h = tt
@@ -43,11 +46,6 @@ revocations-allowed P T (revoke n label ∷ actions) h = (h.0, revocations-allow
 revocations-allowed P T (a ∷ actions) h = revocations-allowed P (a ∷ T) actions h.1
 
 -- ---- sessions are numbered from 1
-
--- no session has the number 0, or one above the number of sessions
-pub record IsNumbered (T : Trace) : Type 0 where
-  pub zeroth : session T 0 ≡ None
-  pub beyond : (n : ℕ) → sessions T < n → session T n ≡ None
 
 still_none : (same : Bool) (change : SessionRow → SessionRow) (o : Option SessionRow) → o ≡ None → changed_if same change o ≡ None
 still_none true change o e = ap (option_map change) e
@@ -69,11 +67,6 @@ numbered-step P T (revoke m l) h next = record { zeroth = still_none (nat_eq 0 m
 numbered-step P T a h next = record { zeroth = h.zeroth; beyond = h.beyond }
 
 -- ---- the entities of sessions are there
-
--- the session's subject and object are there, if it is there itself
-abbrev pub IsGrounded : Trace → Option SessionRow → Type 0
-IsGrounded T None = Unit {0}
-IsGrounded T (Some row) = IsTrue (has_entity Subject row.subject T) × IsTrue (has_entity Object row.object T)
 
 entity_stays : (a : Action) (T : Trace) (side : Side) (e : Bytes) → has_entity side e T ≡ true → has_entity side e (a ∷ T) ≡ true
 entity_stays (subject name) T Subject e h = or_right (bytes_eq e name) (has_entity Subject e T) h
@@ -104,30 +97,52 @@ grounded-step P T (ends m) allowed n h = grounded_if_changed T (nat_eq n m) _ (s
 grounded-step P T (revoke m l) allowed n h = grounded_if_changed T (nat_eq n m) _ (session T n) (λ row h. h) h
 grounded-step P T a allowed n h = grounded_stays a T (session T n) h
 
--- ---- values fit, where the results of updates do
+-- ---- values fit, where the policy is well typed
 
-fit-step : (P : PlainPolicy) (T : Trace) (a : Action) → UpdatesFit P → IsAllowed P T a → ValuesFit P T → ValuesFit P (a ∷ T)
-fit-step P T (write side name attr v) fits allowed h = (allowed.1 fits, h)
-fit-step P T (env name v) fits allowed h = (allowed, h)
-fit-step P T a fits allowed h = h
+fit-step : (P : PlainPolicy) (T : Trace) (a : Action) → IsTyped P → IsAllowed P T a → ValuesFit P T → ValuesFit P (a ∷ T)
+fit-step P T (write side name attr v) typed allowed h = fit-write P T side name attr v (allowed.1 typed) h
+fit-step P T (env name v) typed allowed h = fit-env P T name v allowed h
+fit-step P T (subject name) typed allowed h = fit-subject P typed T name h
+fit-step P T (object name) typed allowed h = fit-object P typed T name h
+fit-step P T a typed allowed h = record { attributes = attributes; variables = h.variables }
+  where
+    attributes : (side : Side) (e attr : Bytes) (v : Value) → attribute P (a ∷ T) side e attr ≡ Some v → AttributeAdmits P side attr v
+    attributes Subject e attr v is = h.attributes Subject e attr v is
+    attributes Object e attr v is = h.attributes Object e attr v is
 
 -- ---- all of it
 
-pub record IsSound (P : PlainPolicy) (T : Trace) : Type 0 where
+-- sound, as far as no type is asked for
+pub record IsSoundIfTyped (P : PlainPolicy) (T : Trace) : Type 0 where
   pub numbered : IsNumbered T
   pub grounded : (n : ℕ) → IsGrounded T (session T n)
-  pub fit : UpdatesFit P → ValuesFit P T
+  pub fit : IsTyped P → ValuesFit P T
 
-pub sound-empty : (P : PlainPolicy) → IsSound P []
-sound-empty P = record { numbered = record { zeroth = refl; beyond = λ n lt. refl }; grounded = λ n. tt; fit = λ fits. tt }
+pub sound-empty : (P : PlainPolicy) → IsSoundIfTyped P []
+sound-empty P = record { numbered = record { zeroth = refl; beyond = λ n lt. refl }; grounded = λ n. tt; fit = fit-empty P }
 
-pub sound-step : (P : PlainPolicy) (T : Trace) (a : Action) → IsSound P T → IsAllowed P T a → IsSound P (a ∷ T)
+pub sound-step : (P : PlainPolicy) (T : Trace) (a : Action) → IsSoundIfTyped P T → IsAllowed P T a → IsSoundIfTyped P (a ∷ T)
 sound-step P T a h allowed = record {
   numbered = numbered-step P T a h.numbered allowed;
   grounded = λ n. grounded-step P T a allowed n (h.grounded n);
-  fit = λ fits. fit-step P T a fits allowed (h.fit fits);
+  fit = λ typed. fit-step P T a typed allowed (h.fit typed);
 }
 
-pub sound-extended : (P : PlainPolicy) (T : Trace) (actions : List Action) → IsSound P T → AreAllowed P T actions → IsSound P (extended T actions)
+pub sound-extended : (P : PlainPolicy) (T : Trace) (actions : List Action) → IsSoundIfTyped P T → AreAllowed P T actions → IsSoundIfTyped P (extended T actions)
 sound-extended P T [] h allowed = h
 sound-extended P T (a ∷ actions) h allowed = sound-extended P (a ∷ T) actions (sound-step P T a h allowed.0) allowed.1
+
+-- ---- under a well typed policy
+
+pub sound_before : (P : PlainPolicy) → IsTyped P → IsSound P []
+sound_before P typed = let h = sound-empty P in record { numbered = h.numbered; grounded = h.grounded; fit = h.fit typed }
+
+allowed_if_legal : (P : PlainPolicy) (T : Trace) (a : Action) → IsLegal P T a → IsAllowed P T a
+allowed_if_legal P T (write side name attr v) h = (h.0, λ typed. h.1)
+allowed_if_legal P T a h = h
+
+pub sound_after_action : (P : PlainPolicy) → IsTyped P → (T : Trace) (a : Action) → IsSound P T → IsLegal P T a → IsSound P (a ∷ T)
+sound_after_action P typed T a h legal =
+    let sure : IsTyped P → ValuesFit P T = λ _. h.fit in
+    let next = sound-step P T a (record { numbered = h.numbered; grounded = h.grounded; fit = sure }) (allowed_if_legal P T a legal) in
+    record { numbered = next.numbered; grounded = next.grounded; fit = next.fit typed }

@@ -25,7 +25,7 @@ use Rattle.ucon_model.specs.OwnActions.{Own, make, after_action, by_verdict, dec
 use Rattle.ucon_model.specs.Legal.{IsRequesting, IsAccessing}
 use Rattle.ucon_model.proofs.Extending.{session-session_writes, accessing-session_writes}
 use Rattle.ucon_model.proofs.OwnCases.{OwnHas, tells, makes, unless, given, found, behind}
-use Rattle.ucon_model.proofs.Allowed.{IsAllowed, AreAllowed, allowed-append, IsSound, sound-step}
+use Rattle.ucon_model.proofs.Allowed.{IsAllowed, AreAllowed, allowed-append, IsSoundIfTyped, sound-step}
 use Rattle.ucon_model.proofs.AllowedWrites.{allowed-session_writes}
 use Rattle.ucon_model.proofs.LeastFailing.{accessing_row}
 
@@ -81,7 +81,7 @@ accessing-tries T caller s r o =
 
 -- what a decision on a session asks of a trace
 record IsDecidable (P : PlainPolicy) (T : Trace) (n : ℕ) : Type 0 where
-  sound : IsSound P T
+  sound : IsSoundIfTyped P T
   requesting : IsRequesting T n
   room : accessing T < 65536
 
@@ -114,7 +114,7 @@ add_entity_allowed P T caller side name =
     unless Q (not (is_admin caller)) _ _ (λ admin. unless Q (has_entity side name T) _ _ (λ new. unless Q (nat_le 16384 (entities side T)) _ _ (λ room.
     makes (entity_allowed P T side name new (leb-false 16384 (entities side T) room)))))
 
-try_allowed : (P : PlainPolicy) (T : Trace) (caller : Caller) (s r o : Bytes) → IsSound P T
+try_allowed : (P : PlainPolicy) (T : Trace) (caller : Caller) (s r o : Bytes) → IsSoundIfTyped P T
     → IsAllowed P T (tries (sessions T + 1) caller s r o) → accessing T < 65536
     → OwnIsAllowed P T (after_action (tries (sessions T + 1) caller s r o) (decide P (tries (sessions T + 1) caller s r o ∷ T) (sessions T + 1)))
 try_allowed P T caller s r o h allowed room =
@@ -134,10 +134,10 @@ with_usage_allowed P T caller n o h =
     found Q _ (session T n) _ (λ row there. given Q (nat_eq row.caller.0 caller.0) _ _ (λ mine. unless Q (not (is_accessing (session T n))) _ _ (λ accessing.
     h (accessing_row (session T n) (not-false (is_accessing (session T n)) accessing)))))
 
-end_allowed : (P : PlainPolicy) (T : Trace) (n : ℕ) → IsSound P T → IsAccessing T n → OwnIsAllowed P T (end_usage P T n)
+end_allowed : (P : PlainPolicy) (T : Trace) (n : ℕ) → IsSoundIfTyped P T → IsAccessing T n → OwnIsAllowed P T (end_usage P T n)
 end_allowed P T n h accessing = makes (accessing, allowed-session_writes P n AfterEnd (ends n ∷ T) (sound-step P T (ends n) h accessing))
 
-pub allowed-own : (P : PlainPolicy) (T : Trace) (caller : Caller) (c : Command) → IsSound P T → OwnIsAllowed P T (own P T caller c)
+pub allowed-own : (P : PlainPolicy) (T : Trace) (caller : Caller) (c : Command) → IsSoundIfTyped P T → OwnIsAllowed P T (own P T caller c)
 allowed-own P T caller (Subject name) h = add_entity_allowed P T caller sides.Subject name
 allowed-own P T caller (Object name) h = add_entity_allowed P T caller sides.Object name
 allowed-own P T caller (Set side name attr v) h =

@@ -18,7 +18,8 @@ use Rattle.ucon_model.specs.History.{History, trace}
 use Rattle.ucon_model.specs.Legal.{IsAccessing, IsLegal, IsCascade, over, turn}
 use Rattle.ucon_model.specs.Settle.{fails_at, least_from, least_failing, revocation, settle_within, settle}
 use Rattle.ucon_model.proofs.Settling.{falls, none_left}
-use Rattle.ucon_model.proofs.Allowed.{AreAllowed, IsNumbered, IsSound, sound-extended}
+use Rattle.ucon_model.specs.Sound.{IsNumbered}
+use Rattle.ucon_model.proofs.Allowed.{AreAllowed, IsSoundIfTyped, sound-extended}
 use Rattle.ucon_model.proofs.Histories.{allowed_revocation, sound_after}
 use Rattle.ucon_model.proofs.AllowedOwn.{allowed-own}
 use Rattle.ucon_model.proofs.LeastFailing.{chosen_is_legal, nobody_fails}
@@ -81,31 +82,31 @@ turn_within : (P : PlainPolicy) (T : Trace) (k : ℕ) (f : ℕ × Bytes) (action
 turn_within P T zero f actions e le rest = absurd (omega (arith, falls P T f e, le))
 turn_within P T (suc k) f actions e le rest = rw e (ap (λ (xs : List Action). revocation P T f ++ xs) (rest k (omega (arith, falls P T f e, le))))
 
-settle_within-cascade : (P : PlainPolicy) (T : Trace) (actions : List Action) → IsCascade P T actions → IsSound P T → (k : ℕ) → accessing T ≤ k
+settle_within-cascade : (P : PlainPolicy) (T : Trace) (actions : List Action) → IsCascade P T actions → IsSoundIfTyped P T → (k : ℕ) → accessing T ≤ k
     → settle_within k P T ≡ actions
 settle_within-cascade P T actions (over nobody) h k le = none_within P T k (none_found P T 1 (sessions T) nobody)
 settle_within-cascade P T actions (turn f rest legal cascade) h k le =
     let e : least_failing P T ≡ Some f = legal_is_least P T f h.numbered legal in
     let U : Trace = extended T (revocation P T f) in
-    let sound : IsSound P U = sound-extended P T (revocation P T f) h (allowed_revocation P T f h e) in
+    let sound : IsSoundIfTyped P U = sound-extended P T (revocation P T f) h (allowed_revocation P T f h e) in
     turn_within P T k f rest e le (settle_within-cascade P U rest cascade sound)
 
 -- ---- the settling is a cascade
 
-cascade_by : (P : PlainPolicy) (T : Trace) (k : ℕ) (o : Option (ℕ × Bytes)) → least_failing P T ≡ o → IsSound P T → accessing T ≤ suc k
-    → ((U : Trace) → IsSound P U → accessing U ≤ k → IsCascade P U (settle_within k P U))
+cascade_by : (P : PlainPolicy) (T : Trace) (k : ℕ) (o : Option (ℕ × Bytes)) → least_failing P T ≡ o → IsSoundIfTyped P T → accessing T ≤ suc k
+    → ((U : Trace) → IsSoundIfTyped P U → accessing U ≤ k → IsCascade P U (settle_within k P U))
     → IsCascade P T (option_map_or (λ f. followed_by (revocation P T f) (settle_within k P) T) o [])
 cascade_by P T k None is h le rest = over (nobody_fails P T h.numbered is)
 cascade_by P T k (Some f) is h le rest =
     let U : Trace = extended T (revocation P T f) in
-    let sound : IsSound P U = sound-extended P T (revocation P T f) h (allowed_revocation P T f h is) in
+    let sound : IsSoundIfTyped P U = sound-extended P T (revocation P T f) h (allowed_revocation P T f h is) in
     turn f (settle_within k P U) (chosen_is_legal P T f h.numbered is) (rest U sound (omega (arith, falls P T f is, le)))
 
-cascade_within : (k : ℕ) (P : PlainPolicy) (T : Trace) → IsSound P T → accessing T ≤ k → IsCascade P T (settle_within k P T)
+cascade_within : (k : ℕ) (P : PlainPolicy) (T : Trace) → IsSoundIfTyped P T → accessing T ≤ k → IsCascade P T (settle_within k P T)
 cascade_within zero P T h le = over (nobody_fails P T h.numbered (none_left P T (least_failing P T) refl le))
 cascade_within (suc k) P T h le = cascade_by P T k (least_failing P T) refl h le (cascade_within k P)
 
-only_cascade : (P : PlainPolicy) (T : Trace) (cascade : List Action) → IsSound P T → IsCascade P T cascade ↔ (cascade ≡ settle P T)
+only_cascade : (P : PlainPolicy) (T : Trace) (cascade : List Action) → IsSoundIfTyped P T → IsCascade P T cascade ↔ (cascade ≡ settle P T)
 only_cascade P T cascade h = (
   λ c. sym (settle_within-cascade P T cascade c h (accessing T) (omega arith)),
   λ e. subst (IsCascade P T) (sym e) (cascade_within (accessing T) P T h (omega arith)),

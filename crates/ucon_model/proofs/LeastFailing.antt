@@ -13,7 +13,7 @@ use Rattle.ucon_model.specs.Truth.{readings}
 use Rattle.ucon_model.specs.Decision.{failing}
 use Rattle.ucon_model.specs.Legal.{IsLegal}
 use Rattle.ucon_model.specs.Settle.{fails_at, least_from, least_failing}
-use Rattle.ucon_model.proofs.Allowed.{IsNumbered}
+use Rattle.ucon_model.specs.Sound.{IsNumbered}
 
 -- ---- what failing means
 

@@ -22,6 +22,7 @@ pub mod AllowedWrites
 pub mod LeastFailing
 pub mod AllowedOwn
 pub mod Histories
+pub mod GrownHistories
 pub mod Cascades
 pub mod WithinAndLasts
 pub mod Lines
@@ -30,8 +31,8 @@ pub mod FoundOn
 pub mod Documents
 mod GeneratedDocument
 pub mod FirstFaults
-pub mod Written
 pub mod TypedParts
+pub mod ValuesStayFit
 pub mod SortsOfValues
 pub mod Meaningful
 pub mod Numbering

@@ -20,7 +20,7 @@ use Rattle.ucon_base.specs.Elements.{Each, each_map}
 use Rattle.ucon_model.specs.Places.{attr_place}
 use Rattle.ucon_model.specs.Typing.{value_sort, is_of, are_of_one_sort, place_sort, expr_sort, takes, is_typed_formula, is_typed_test, is_typed_update, IsTyped}
 use Rattle.ucon_model.specs.Meaning.{are_integers, adds, has_size, are_of_one_kind, is_text_and_set, may_compare, expr_means, formula_means, test_means}
-use Rattle.ucon_model.proofs.Allowed.{IsGrounded}
+use Rattle.ucon_model.specs.Sound.{IsGrounded}
 use Rattle.ucon_model.proofs.Histories.{sound_after, values_fit_after}
 use Rattle.ucon_model.proofs.TypedParts.{typed_predicates, typed_updates}
 use Rattle.ucon_model.proofs.SortsOfValues.{left_true, right_true, both_true, is_of_some, one_sort, sum_by, size_by, read_sort, places_fit, places_there, value_sorted}
@@ -202,7 +202,7 @@ reads_of P typed H n row is =
     record {
       there = places_there P T row there.0 there.1;
       sorted = λ place s declared. read_sort (place_of P T row place) s (places_there P T row there.0 there.1 place s declared)
-          (λ v holds. places_fit P typed T (values_fit_after P typed H) row place s v declared holds);
+          (λ v holds. places_fit P T (values_fit_after P typed H) row place s v declared holds);
     }
 
 pub predicates_mean : (P : PlainPolicy) → IsTyped P → (H : History) (n : ℕ) (row : SessionRow) (r : PlainRight) → session (trace P H) n ≡ Some row

@@ -3,6 +3,7 @@ use Rattle.std.proofs.Common.{◌≡◌, ◌∙◌, sym, refl, ap, inl, inr, Boo
 use Rattle.std.specs.Prelude.{ℤ, ◌⊎◌, ◌≤ℤ◌, ◌&&◌, int_le, Option, Some, None, is_some, option_map, unwrap_or, IsTrue, IsSomeAnd}
 use Rattle.std.specs.Option.{option_map_or}
 use Rattle.std.proofs.lemmas.Int.{ints, clamps}
+use Rattle.std.proofs.lemmas.Option.{same_Some}
 use Rattle.ucon_base.specs.declared.value.Side.{Side}
 use Rattle.ucon_base.specs.declared.value.Side.TheVariants as sides
 use Rattle.ucon_base.specs.declared.value.Kind.{Kind}
@@ -29,8 +30,7 @@ use Rattle.ucon_base.specs.Elements.{Each, each_map}
 use Rattle.ucon_model.specs.Places.{attr_place}
 use Rattle.ucon_model.specs.Fitting.{ValuesFit, ResultFits, UpdatesFit, PlacesFit}
 use Rattle.ucon_model.specs.Typing.{sort_of, value_sort, same_sort, is_of, are_of_one_sort, sum_sort, product_sort, size_sort, place_sort, expr_sort, is_range, is_typed_update, IsTyped}
-use Rattle.ucon_model.proofs.Written.{written_fits, assigned_fits, value_admitted, variable_admitted}
-use Rattle.ucon_model.proofs.TypedParts.{typed_attr, typed_env, typed_updates}
+use Rattle.ucon_model.proofs.TypedParts.{typed_attr, typed_updates}
 
 -- ---- tests that hold
 
@@ -79,48 +79,19 @@ admitted_sort kinds.Set (values.Set s) h = refl
 
 -- ---- places
 
--- a place of an entity that may be there: if it holds a value, then one of the sort that is declared
-at_entity : (there : Bool) (o : Option AttrDecl) (value : AttrDecl → Value) (s : Sort) (v : Value)
-    → ((d : AttrDecl) → o ≡ Some d → value_sort (value d) ≡ sort_of d.kind)
-    → option_map (λ d. sort_of d.kind) o ≡ Some s → cond there (option_map value o) None ≡ Some v → value_sort v ≡ s
-at_entity true None value s v each declared is = absurd cc
-at_entity true (Some d) value s v each declared is =
-    let same : value d ≡ v = cc in
-    let kind : sort_of d.kind ≡ s = cc in
-    sym (ap value_sort same) ∙ each d refl ∙ kind
-at_entity false o value s v each declared is = absurd cc
+-- a value that is admitted by what is declared is of the declared sort
+attr_admits : (o : Option AttrDecl) (s : Sort) (v : Value) → option_map (λ d. sort_of d.kind) o ≡ Some s → IsSomeAnd o (λ d. IsTrue (admits d.kind v)) → value_sort v ≡ s
+attr_admits None s v declared h = absurd h
+attr_admits (Some d) s v declared h = admitted_sort d.kind v h ∙ same_Some (sort_of d.kind) s declared
 
-attribute_sort : (P : PlainPolicy) → IsTyped P → (T : Trace) → ValuesFit P T → (side : Side) (e attr : Bytes) (s : Sort) (v : Value)
-    → option_map (λ d. sort_of d.kind) (declared_attr P.attrs side attr) ≡ Some s → attribute P T side e attr ≡ Some v → value_sort v ≡ s
-attribute_sort P typed T h side e attr s v declared is =
-    at_entity (has_entity side e T) (declared_attr P.attrs side attr) (λ d. unwrap_or (written side e attr T) d.start) s v
-    (λ d there. admitted_sort d.kind (unwrap_or (written side e attr T) d.start)
-    (value_admitted P side attr d (written side e attr T) there
-    (right_true (is_range d.kind) (admits d.kind d.start) (typed_attr P typed side attr d there)) (written_fits P T h side e attr)))
-    declared is
+env_admits : (o : Option EnvDecl) (s : Sort) (v : Value) → option_map (λ d. sort_of d.kind) o ≡ Some s → IsSomeAnd o (λ d. IsTrue (admits d.kind v)) → value_sort v ≡ s
+env_admits None s v declared h = absurd h
+env_admits (Some d) s v declared h = admitted_sort d.kind v h ∙ same_Some (sort_of d.kind) s declared
 
-at_variable : (o : Option EnvDecl) (value : EnvDecl → Value) (s : Sort) (v : Value)
-    → ((d : EnvDecl) → o ≡ Some d → value_sort (value d) ≡ sort_of d.kind)
-    → option_map (λ d. sort_of d.kind) o ≡ Some s → option_map value o ≡ Some v → value_sort v ≡ s
-at_variable None value s v each declared is = absurd cc
-at_variable (Some d) value s v each declared is =
-    let same : value d ≡ v = cc in
-    let kind : sort_of d.kind ≡ s = cc in
-    sym (ap value_sort same) ∙ each d refl ∙ kind
-
-variable_sort : (P : PlainPolicy) → IsTyped P → (T : Trace) → ValuesFit P T → (name : Bytes) (s : Sort) (v : Value)
-    → option_map (λ d. sort_of d.kind) (declared_env P.envs name) ≡ Some s → variable P T name ≡ Some v → value_sort v ≡ s
-variable_sort P typed T h name s v declared is =
-    at_variable (declared_env P.envs name) (λ d. unwrap_or (assigned name T) d.start) s v
-    (λ d there. admitted_sort d.kind (unwrap_or (assigned name T) d.start)
-    (variable_admitted P name d (assigned name T) there
-    (right_true (is_range d.kind) (admits d.kind d.start) (typed_env P typed name d there)) (assigned_fits P T h name)))
-    declared is
-
-pub places_fit : (P : PlainPolicy) → IsTyped P → (T : Trace) → ValuesFit P T → (row : SessionRow) → PlacesFit P (place_of P T row)
-places_fit P typed T h row (Subject attr) s v declared is = attribute_sort P typed T h sides.Subject row.subject attr s v declared is
-places_fit P typed T h row (Object attr) s v declared is = attribute_sort P typed T h sides.Object row.object attr s v declared is
-places_fit P typed T h row (Env name) s v declared is = variable_sort P typed T h name s v declared is
+pub places_fit : (P : PlainPolicy) (T : Trace) → ValuesFit P T → (row : SessionRow) → PlacesFit P (place_of P T row)
+places_fit P T h row (Subject attr) s v declared is = attr_admits (declared_attr P.attrs sides.Subject attr) s v declared (h.attributes sides.Subject row.subject attr v is)
+places_fit P T h row (Object attr) s v declared is = attr_admits (declared_attr P.attrs sides.Object attr) s v declared (h.attributes sides.Object row.object attr v is)
+places_fit P T h row (Env name) s v declared is = env_admits (declared_env P.envs name) s v declared (h.variables name v is)
 
 -- where the session's subject and object are there, so is each place that is declared
 entity_value : (there : Bool) (o : Option AttrDecl) (value : AttrDecl → Value) (s : Sort) → there ≡ true → option_map (λ d. sort_of d.kind) o ≡ Some s
@@ -274,7 +245,7 @@ result_fits P typed T h row subject object u ok =
     let both = one_sort (place_sort P (attr_place u.side u.attr)) (expr_sort P true u.value) ok in
     let at = place_of P T row in
     let reads = λ (place : Ref) (s : Sort) (declared : place_sort P place ≡ Some s).
-    read_sort (at place) s (places_there P T row subject object place s declared) (λ v is. places_fit P typed T h row place s v declared is) in
+    read_sort (at place) s (places_there P T row subject object place s declared) (λ v is. places_fit P T h row place s v declared is) in
     result_admitted (declared_attr P.attrs u.side u.attr) (value_of at u.value) both.0
     (λ d there. left_true (is_range d.kind) (admits d.kind d.start) (typed_attr P typed u.side u.attr d there))
     (sym (attr_place_sort P u.side u.attr) ∙ both.1.0) (value_sorted P at reads true u.value both.0 both.1.1)

@@ -1,6 +1,7 @@
 -- Decisions before and during a usage (Park and Sandhu, ACM TISSEC 7(1), 2004: pre and ongoing decisions). The order of the predicates
 -- and their labels are this project's own.
-use Rattle.std.specs.Prelude.{ℕ, Bool, true, false, ◌&&◌, not, List, [], ◌∷◌, find, Option, Some, None, option_and_then, if◌then◌else◌}
+use Rattle.std.specs.Prelude.{ℕ, Bool, true, false, ◌&&◌, not, List, [], ◌∷◌, find, Option, Some, None, option_and_then, codes, if◌then◌else◌}
+use Rattle.std.specs.Option.{option_map_or}
 use Rattle.std.specs.Str.{bytes_eq}
 use Rattle.ucon_model.specs.declared.policy.Phase.{Phase}
 use Rattle.ucon_model.specs.declared.policy.Phase.TheVariants.{Pre, Ongoing}
@@ -41,13 +42,22 @@ abbrev pub first_false : Readings → SessionRow → (PlainPredicate → Bool) �
 first_false R row sort [] = None
 first_false R row sort (p ∷ ps) = if sort p && not (truth R row p.test) then Some p.label else first_false R row sort ps
 
+-- the label by which a session fails whose right is not there; no predicate has it
+abbrev pub no_right : Bytes
+no_right = codes "no_right"
+
 -- the same, of the predicates of a session's right
 abbrev pub first_false_of : PlainPolicy → Readings → (PlainPredicate → Bool) → SessionRow → Option Bytes
 first_false_of P R sort row = option_and_then (λ right. first_false R row sort right.preds) (right_named P.rights row.right)
 
--- the label of the first ongoing predicate of session n's right that is false; none where all hold
+-- `no_right` where a session's right is not there; else the label of the first ongoing predicate of the right that is false; none
+-- where all hold
+abbrev pub failing_of : PlainPolicy → Readings → SessionRow → Option Bytes
+failing_of P R row = option_map_or (λ right. first_false R row ongoing right.preds) (right_named P.rights row.right) (Some no_right)
+
+-- the label by which session n fails
 abbrev pub failing : PlainPolicy → Readings → ℕ → Option Bytes
-failing P R n = option_and_then (first_false_of P R ongoing) (R.row n)
+failing P R n = option_and_then (failing_of P R) (R.row n)
 
 -- denied by this label, if there is one
 abbrev pub denied_else : Option Bytes → Verdict → Verdict

@@ -43,7 +43,9 @@ policy_taken reads payload = if nat_lt most_payload (length payload) then None e
 abbrev pub found_behind : Bytes → PlainPolicy → History → (number gate : ℕ) → List Bytes → Finding
 found_behind text P H number gate [] = holds text P H gate
 found_behind text P H number gate (payload ∷ payloads) =
-    unwrap_or (option_map (λ later. found_behind text P later (number + 1) (next_gate gate payload) payloads) (taken P H payload)) (damaged number gate)
+    unwrap_or
+    (option_map (λ later. found_behind text P later (number + 1) (next_gate gate payload) payloads) (taken P H payload))
+    (damaged number gate)
 
 -- what is found in the payloads of a journal's records that count
 abbrev pub found_in : (Bytes → Option PlainPolicy) → List Bytes → Finding

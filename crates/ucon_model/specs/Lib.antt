@@ -15,6 +15,7 @@ pub mod Block
 pub mod History
 pub mod LegalRun
 pub mod Fitting
+pub mod Sound
 pub mod Output
 pub mod Document
 pub mod Checked

@@ -22,7 +22,7 @@ use Rattle.ucon_model.specs.declared.session.Verdict.{Verdict}
 use Rattle.ucon_model.specs.declared.session.Verdict.TheVariants.{Permit, Deny, Wait}
 use Rattle.ucon_model.specs.Plain.{Bytes, PlainTest, duty, PlainRight, PlainPolicy, PlainReply, value_is, status}
 use Rattle.ucon_model.specs.Action.{Action, Trace, subject, object, write, env, tick, act, tries, wait, permit, deny, ends}
-use Rattle.ucon_model.specs.Readings.{tick_of, has_entity, entities, attribute, declared_attr, declared_env, moment, session, sessions, is_accessing, accessing, acts}
+use Rattle.ucon_model.specs.Readings.{in_force, tick_of, has_entity, entities, attribute, declared_attr, declared_env, moment, session, sessions, is_accessing, accessing, acts}
 use Rattle.ucon_model.specs.Truth.{readings}
 use Rattle.ucon_model.specs.Decision.{right_named, verdict}
 use Rattle.ucon_model.specs.Updates.{session_writes}
@@ -49,7 +49,7 @@ by_verdict P T n (Wait label) = make (heads.Waiting n label) (wait n label ∷ [
 
 -- session n is decided by the verdict on it: denied, or it waits, or the updates before the usage and then the permission
 abbrev pub decide : PlainPolicy → Trace → ℕ → Own
-decide P T n = by_verdict P T n (verdict P (readings P T) n)
+decide P T n = by_verdict P T n (verdict (in_force P T) (readings P T) n)
 
 -- ---- entities, attributes, variables, ticks
 
@@ -86,14 +86,14 @@ set_attribute P T caller side name attr v =
     if not (is_admin caller) then refuse NotAdmin else
     if not (has_entity side name T) then refuse (no_entity side) else
     option_map_or (λ d. if admits d.kind v then make heads.Ok (write side name attr v ∷ []) else refuse BadValue)
-    (declared_attr P.attrs side attr) (refuse NoAttribute)
+    (declared_attr (in_force P T).attrs side attr) (refuse NoAttribute)
 
 -- client 0 gives a variable a value that its kind admits
-abbrev pub set_variable : PlainPolicy → Caller → Bytes → Value → Own
-set_variable P caller name v =
+abbrev pub set_variable : PlainPolicy → Trace → Caller → Bytes → Value → Own
+set_variable P T caller name v =
     if not (is_admin caller) then refuse NotAdmin else
     option_map_or (λ d. if admits d.kind v then make heads.Ok (env name v ∷ []) else refuse BadValue)
-    (declared_env P.envs name) (refuse NoVariable)
+    (declared_env (in_force P T).envs name) (refuse NoVariable)
 
 -- client 0 moves the tick, never back
 abbrev pub move_tick : Trace → Caller → ℤ → Own
@@ -124,7 +124,7 @@ abbrev pub do_act : PlainPolicy → Trace → Bytes → Bytes → Bytes → Own
 do_act P T s a o =
     if not (has_entity sides.Subject s T) then refuse NoSubject else
     if not (has_entity sides.Object o T) then refuse NoObject else
-    if not (names_act P.rights a) then refuse NoAct else
+    if not (names_act (in_force P T).rights a) then refuse NoAct else
     if is_none (moment s a o T) && nat_le 1048576 (acts T) then refuse FullActs else
     make heads.Ok (act s a o ∷ [])
 
@@ -133,7 +133,7 @@ do_act P T s a o =
 -- at most 1,048,576 sessions, 65,536 of them accessing
 abbrev pub try_right : PlainPolicy → Trace → Caller → Bytes → Bytes → Bytes → Own
 try_right P T caller s r o =
-    if is_none (right_named P.rights r) then refuse NoRight else
+    if is_none (right_named (in_force P T).rights r) then refuse NoRight else
     if not (has_entity sides.Subject s T) then refuse NoSubject else
     if not (has_entity sides.Object o T) then refuse NoObject else
     if nat_le 1048576 (sessions T) then refuse FullSessions else
@@ -173,7 +173,7 @@ abbrev pub own : PlainPolicy → Trace → Caller → Command → Own
 own P T caller (Subject name) = add_entity T caller sides.Subject name
 own P T caller (Object name) = add_entity T caller sides.Object name
 own P T caller (Set side name attr v) = set_attribute P T caller side name attr v
-own P T caller (Env name v) = set_variable P caller name v
+own P T caller (Env name v) = set_variable P T caller name v
 own P T caller (Tick t) = move_tick T caller t
 own P T caller (Act s a o) = do_act P T s a o
 own P T caller (Try s r o) = try_right P T caller s r o

@@ -1,5 +1,5 @@
 -- What can be read off a trace, by looking back through it. No current state is kept.
-use Rattle.std.specs.Prelude.{ℕ, suc, zero, ℤ, pos, ◌+◌, Bool, true, false, ◌&&◌, ◌||◌, nat_eq, ◌++◌, List, [], ◌∷◌, find, Option, Some, None, option_map, is_none, unwrap_or, if◌then◌else◌}
+use Rattle.std.specs.Prelude.{ℕ, suc, zero, ℤ, pos, ◌+◌, Bool, true, false, ◌&&◌, ◌||◌, nat_eq, ◌++◌, List, [], ◌∷◌, filter, find, position, Option, Some, None, option_map, is_none, unwrap_or, if◌then◌else◌}
 use Rattle.std.specs.Str.{bytes_eq}
 use Rattle.ucon_base.specs.declared.value.Side.{Side}
 use Rattle.ucon_base.specs.declared.value.Side.TheVariants.{Subject, Object}
@@ -11,6 +11,11 @@ use Rattle.ucon_model.specs.declared.session.SessionState.{SessionState}
 use Rattle.ucon_model.specs.declared.session.SessionState.TheVariants.{Requesting, Denied, Accessing, Revoked, Ended}
 use Rattle.ucon_model.specs.Plain.{Bytes, PlainPolicy}
 use Rattle.ucon_model.specs.Action.{Trace, subject, object, write, env, tick, act, tries, permit, deny, ends, revoke}
+
+-- The policy in force after a trace. No action replaces it yet, so it is always the policy that the trace began with; an action that
+-- does will have its case here. Whatever asks a policy after a trace asks this one.
+abbrev pub in_force : PlainPolicy → Trace → PlainPolicy
+in_force P T = P
 
 -- the tick of the last Tick, else 0
 abbrev pub tick_of : Trace → ℤ
@@ -53,9 +58,11 @@ same_side Subject Subject = true
 same_side Object Object = true
 same_side s t = false
 
--- the value of the last Write to an attribute of an entity
+-- the value of the last Write to an attribute of an entity since the entity was made
 abbrev pub written : Side → Bytes → Bytes → Trace → Option Value
 written side e attr [] = None
+written Subject e attr (subject name ∷ T) = if bytes_eq e name then None else written Subject e attr T
+written Object e attr (object name ∷ T) = if bytes_eq e name then None else written Object e attr T
 written side e attr (write s n a v ∷ T) =
     if same_side side s && bytes_eq e n && bytes_eq attr a then Some v else written side e attr T
 written side e attr (a ∷ T) = written side e attr T
@@ -64,10 +71,18 @@ written side e attr (a ∷ T) = written side e attr T
 abbrev pub declared_attr : List AttrDecl → Side → Bytes → Option AttrDecl
 declared_attr ds side attr = find (λ d. same_side side d.side && bytes_eq attr d.name) ds
 
+-- the declarations of a side
+abbrev pub attrs_of : PlainPolicy → Side → List AttrDecl
+attrs_of P side = filter (λ d. same_side side d.side) P.attrs
+
+-- the position of an attribute among those of its side, from 0
+abbrev pub attr_position : PlainPolicy → Side → Bytes → Option ℕ
+attr_position P side attr = position (λ d. bytes_eq attr d.name) (attrs_of P side)
+
 -- an attribute of an entity that is there: the value of the last Write to it, else its declared default
 abbrev pub attribute : PlainPolicy → Trace → Side → Bytes → Bytes → Option Value
 attribute P T side e attr =
-    if has_entity side e T then option_map (λ d. unwrap_or (written side e attr T) d.start) (declared_attr P.attrs side attr) else None
+    if has_entity side e T then option_map (λ d. unwrap_or (written side e attr T) d.start) (declared_attr (in_force P T).attrs side attr) else None
 
 -- the value of the last Env of a variable
 abbrev pub assigned : Bytes → Trace → Option Value
@@ -79,9 +94,13 @@ assigned name (a ∷ T) = assigned name T
 abbrev pub declared_env : List EnvDecl → Bytes → Option EnvDecl
 declared_env ds name = find (λ d. bytes_eq name d.name) ds
 
+-- the position of a variable among the declarations, from 0
+abbrev pub env_position : PlainPolicy → Bytes → Option ℕ
+env_position P name = position (λ d. bytes_eq name d.name) P.envs
+
 -- a variable: the value of its last Env, else its declared default
 abbrev pub variable : PlainPolicy → Trace → Bytes → Option Value
-variable P T name = option_map (λ d. unwrap_or (assigned name T) d.start) (declared_env P.envs name)
+variable P T name = option_map (λ d. unwrap_or (assigned name T) d.start) (declared_env (in_force P T).envs name)
 
 -- ---- acts
 

@@ -5,14 +5,14 @@ use Rattle.ucon_model.specs.declared.policy.When.TheVariants.{AfterRevoke}
 use Rattle.ucon_model.specs.declared.reply.Revoked.{Revoked}
 use Rattle.ucon_model.specs.Plain.{Bytes, PlainPolicy}
 use Rattle.ucon_model.specs.Action.{Action, Trace, revoke, followed_by}
-use Rattle.ucon_model.specs.Readings.{session, sessions, is_accessing, accessing}
+use Rattle.ucon_model.specs.Readings.{in_force, session, sessions, is_accessing, accessing}
 use Rattle.ucon_model.specs.Truth.{readings}
 use Rattle.ucon_model.specs.Decision.{failing}
 use Rattle.ucon_model.specs.Updates.{session_writes}
 
 -- the label by which session n fails, if it is accessing
 abbrev pub fails_at : PlainPolicy → Trace → ℕ → Option Bytes
-fails_at P T n = if is_accessing (session T n) then failing P (readings P T) n else None
+fails_at P T n = if is_accessing (session T n) then failing (in_force P T) (readings P T) n else None
 
 -- the least of so many sessions from n on that is accessing and fails, with its label
 abbrev pub least_from : PlainPolicy → Trace → ℕ → ℕ → Option (ℕ × Bytes)

@@ -11,7 +11,7 @@ use Rattle.ucon_model.specs.declared.session.SessionRow.{SessionRow}
 use Rattle.ucon_model.specs.Plain.{Bytes, PlainUpdate, PlainPolicy}
 use Rattle.ucon_base.specs.Arithmetic.{fitted}
 use Rattle.ucon_model.specs.Action.{Action, Trace, write, followed_by}
-use Rattle.ucon_model.specs.Readings.{declared_attr, session}
+use Rattle.ucon_model.specs.Readings.{in_force, declared_attr, session}
 use Rattle.ucon_model.specs.Truth.{readings, value_of}
 use Rattle.ucon_model.specs.Decision.{right_named}
 
@@ -35,7 +35,7 @@ fitted_to (Some d) v = fitted d.kind v
 
 -- an update's result after a trace: its expression's value, clamped to the declared range where the attribute is an integer
 abbrev pub result : PlainPolicy → Trace → SessionRow → PlainUpdate → Value
-result P T row u = fitted_to (declared_attr P.attrs u.side u.attr) (value_of ((readings P T).at row) u.value)
+result P T row u = fitted_to (declared_attr (in_force P T).attrs u.side u.attr) (value_of ((readings P T).at row) u.value)
 
 -- the write that an update makes
 abbrev pub write_of : PlainPolicy → SessionRow → PlainUpdate → Trace → Action
@@ -47,10 +47,10 @@ writes P row when [] T = []
 writes P row when (u ∷ us) T =
     if same_when when u.when then followed_by (write_of P row u T ∷ []) (writes P row when us) T else writes P row when us T
 
--- the updates of a session's right
+-- the updates of a session's right in a policy; none where it is not there
 abbrev pub updates_of : PlainPolicy → SessionRow → List PlainUpdate
 updates_of P row = option_map_or (λ right. right.updates) (right_named P.rights row.right) []
 
 -- the writes of session n's right of a time
 abbrev pub session_writes : PlainPolicy → ℕ → When → Trace → List Action
-session_writes P n when T = option_map_or (λ row. writes P row when (updates_of P row) T) (session T n) []
+session_writes P n when T = option_map_or (λ row. writes P row when (updates_of (in_force P T) row) T) (session T n) []

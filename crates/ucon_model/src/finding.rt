@@ -9,7 +9,8 @@ ghost use Rattle.ucon_model.specs.Spelling.{reply_spelling};
 
 /// What is found in payloads is what is found in the first of them, and then in the others.
 pub fn payloads_are_found_one_by_one()
-    ensures { (reads : Bytes → Option PlainPolicy) (front rest : List Bytes) → found_in reads (front ++ rest) ≡ found_on reads (found_in reads front) (length front) rest }
+    ensures { (reads : Bytes → Option PlainPolicy) (front rest : List Bytes)
+        → found_in reads (front ++ rest) ≡ found_on reads (found_in reads front) (length front) rest }
 {}
 
 /// A reply's text tells whether the reply changes something.

@@ -1,23 +1,26 @@
 //! Laws of the definitions. A law is a function without parameters that does nothing: its contract is what is proved.
 
-ghost use Rattle.std.specs.Prelude.{◌≡◌, ◌+◌, ◌<◌, ◌↔◌, ℕ, List, map, true, Some, None};
+ghost use Rattle.std.specs.Prelude.{◌≡◌, ◌+◌, ◌<◌, ◌↔◌, ℕ, List, [], ◌∷◌, map, true, Some, None};
 ghost use Rattle.ucon_model.specs.declared.command.Caller.{Caller};
 ghost use Rattle.ucon_model.specs.declared.command.Command.{Command};
+ghost use Rattle.ucon_model.specs.declared.command.Entry.{Entry};
 ghost use Rattle.ucon_model.specs.declared.reply.Head.{Head};
 ghost use Rattle.ucon_model.specs.declared.session.SessionRow.{SessionRow};
 ghost use Rattle.ucon_model.specs.Plain.{Bytes, PlainPolicy, PlainRight};
-ghost use Rattle.ucon_model.specs.Action.{Action, Trace, extended};
-ghost use Rattle.ucon_model.specs.Block.{block};
+ghost use Rattle.ucon_model.specs.Action.{Action, Trace, extended, revoke};
+ghost use Rattle.ucon_model.specs.Block.{after, block};
 ghost use Rattle.ucon_model.specs.Decision.{right_named};
 ghost use Rattle.ucon_model.specs.Fitting.{PlacesFit, UpdatesFit, ValuesFit};
-ghost use Rattle.ucon_model.specs.History.{History, trace};
-ghost use Rattle.ucon_model.specs.Legal.{AreLegal, IsCascade, RevocationsAreLegal};
-ghost use Rattle.ucon_model.specs.LegalRun.{Answered, Each, IsLegalRun, IsSerialRun, in_text_order};
+ghost use Rattle.ucon_model.specs.History.{History, grown, trace};
+ghost use Rattle.ucon_model.specs.Legal.{AreLegal, IsCascade, IsLegal, RevocationsAreLegal};
+ghost use Rattle.ucon_base.specs.Elements.{Each};
+ghost use Rattle.ucon_model.specs.LegalRun.{Answered, IsLegalRun, IsSerialRun, in_text_order};
 ghost use Rattle.ucon_model.specs.Meaning.{expr_means, test_means};
 ghost use Rattle.ucon_model.specs.Output.{FitsLine, answers_read, output};
 ghost use Rattle.ucon_model.specs.OwnActions.{make, own};
-ghost use Rattle.ucon_model.specs.Readings.{session};
+ghost use Rattle.ucon_model.specs.Readings.{in_force, session};
 ghost use Rattle.ucon_model.specs.Settle.{fails_at, least_failing, settle};
+ghost use Rattle.ucon_model.specs.Sound.{IsNumbered, IsSound};
 ghost use Rattle.ucon_model.specs.Truth.{place_of};
 ghost use Rattle.ucon_model.specs.Typing.{IsTyped, NamesItem, TypeFault, is_typed_test, item_count, type_fault};
 
@@ -30,6 +33,11 @@ pub fn settling_ends()
 /// label of its first false ongoing predicate.
 pub fn revocations_are_legal()
     ensures { (P : PlainPolicy) (H : History) (caller : Caller) (c : Command) → RevocationsAreLegal P (trace P H) (block P (trace P H) caller c) }
+{}
+
+/// The trace of a history that an entry has grown is the one after the entry's command.
+pub fn grown_histories_go_on()
+    ensures { (P : PlainPolicy) (H : History) (e : Entry) → trace P (grown P H e) ≡ after P (trace P H) e.caller e.command }
 {}
 
 /// After every history no accessing session fails.
@@ -47,14 +55,27 @@ pub fn values_fit()
     ensures { (P : PlainPolicy) → IsTyped P → (H : History) → ValuesFit P (trace P H) }
 {}
 
+/// The empty trace is sound under a well typed policy, and one legal action more leaves a sound trace sound.
+pub fn legal_actions_keep_traces_sound()
+    ensures before { (P : PlainPolicy) → IsTyped (in_force P []) → IsSound P [] }
+    ensures after { (P : PlainPolicy) (T : Trace) (a : Action) → IsTyped (in_force P T) → IsSound P T → IsLegal P T a → IsSound P (a ∷ T) }
+{}
+
+/// After a trace whose sessions are numbered, nobody fails where no least one is found that does; and the least one found may be
+/// revoked.
+pub fn the_least_failing_is_found()
+    ensures nobody { (P : PlainPolicy) (T : Trace) → IsNumbered T → least_failing P T ≡ None → (n : ℕ) → fails_at P T n ≡ None }
+    ensures somebody { (P : PlainPolicy) (T : Trace) (n : ℕ) (label : Bytes) → IsNumbered T → least_failing P T ≡ Some (n, label) → IsLegal P T (revoke n label) }
+{}
+
 /// Under a well typed policy, where all values of a trace fit, the result of each update fits.
 pub fn updates_fit()
     ensures { (P : PlainPolicy) → IsTyped P → UpdatesFit P }
 {}
 
-/// Under a well typed policy, where all values of a trace fit, each declared place holds a value of the declared sort, for any session.
+/// Where all values fit after a trace, each declared place that holds a value holds one of the declared sort, for any session.
 pub fn places_hold_their_sorts()
-    ensures { (P : PlainPolicy) → IsTyped P → (T : Trace) → ValuesFit P T → (row : SessionRow) → PlacesFit P (place_of P T row) }
+    ensures { (P : PlainPolicy) (T : Trace) → ValuesFit P T → (row : SessionRow) → PlacesFit (in_force P T) (place_of P T row) }
 {}
 
 /// Under a well typed policy, after every history, each predicate and each update of a session's right has a meaning: each place that

@@ -1,16 +1,5 @@
-pub mod Writes
-pub mod Turns
 pub mod Blocks
-pub mod ReadOff
-pub mod Stepping
-pub mod Attributes
-pub mod LegalTraces
-pub mod Typed
-pub mod Updated
-pub mod Deciding
-pub mod Cascade
 pub mod Standing
 pub mod Rising
 pub mod Watching
 pub mod Permits
-pub mod Typing

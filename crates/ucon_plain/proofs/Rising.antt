@@ -4,7 +4,7 @@ use Rattle.std.specs.Prelude.{◌≢◌, ◌&&◌, ◌||◌, nat_eq, nat_lt, sli
 use Rattle.std.specs.List.{prefix_len, insert, list_any, list_all}
 use Rattle.std.proofs.lemmas.Bool.{ltb-true, ltb-false, lt-ltb}
 use Rattle.std.proofs.lemmas.Bool.Decides.{eqb_tells}
-use Rattle.ucon_model.specs.LegalRun.{Each}
+use Rattle.ucon_base.specs.Elements.{Each}
 use Rattle.ucon_plain.specs.Rising.{rises, has}
 
 -- ---- the test and the fact

@@ -14,20 +14,20 @@ use Rattle.ucon_model.specs.Plain.{Bytes, PlainPredicate, PlainRight, PlainPolic
 use Rattle.ucon_model.specs.Action.{Action, Trace, extended}
 use Rattle.ucon_model.specs.Readings.{session, is_accessing, is_accessing_state}
 use Rattle.ucon_model.specs.Truth.{Readings, readings, truth}
-use Rattle.ucon_model.specs.Decision.{right_named, ongoing, first_false, first_false_of, failing}
-use Rattle.ucon_model.specs.LegalRun.{Each}
+use Rattle.ucon_model.specs.Decision.{right_named, ongoing, first_false, no_right, failing_of, failing}
+use Rattle.ucon_base.specs.Elements.{Each}
 use Rattle.ucon_model.specs.Settle.{fails_at, least_failing}
-use Rattle.ucon_model.proofs.Allowed.{IsNumbered}
+use Rattle.ucon_model.specs.Sound.{IsNumbered}
 use Rattle.ucon_model.proofs.LeastFailing.{chosen_is_legal, nobody_fails}
 use Rattle.ucon_plain.specs.Rising.{rises, has}
 use Rattle.ucon_plain.proofs.Rising.{Rises, rises_so}
-use Rattle.ucon_state.specs.Shown.{Shown, changed_to}
+use Rattle.ucon_plain.specs.Monitor.{before}
+use Rattle.ucon_state.specs.Shown.{Shown}
 use Rattle.ucon_state.specs.Tables.{Tables, session_in}
-use Rattle.ucon_state.proofs.Following.Sound.{sound_if}
-use Rattle.ucon_plain.specs.Follows.{Follows}
+use Rattle.ucon_state.specs.Following.{Follows}
 use Rattle.ucon_plain.specs.Watching.{asks, may_fail, may_fail_in, Covers, Includes, HeadIsWatched, NobodyMore, first_in}
 use Rattle.ucon_plain.proofs.Permits.{permits, more, permitted_is_told}
-use Rattle.ucon_plain.proofs.ReadOff.{session_same}
+use Rattle.ucon_actions.proofs.ReadOff.{session_same}
 
 -- ---- only those that may fail do
 
@@ -41,12 +41,12 @@ false_is_ongoing : (R : Readings) (row : SessionRow) (ps : List PlainPredicate) 
 false_is_ongoing R row [] l e = absurd cc
 false_is_ongoing R row (p ∷ ps) l e = ongoing_by R row p ps l (ongoing p) refl (false_is_ongoing R row ps l) e
 
-asked_of : (R : Readings) (row : SessionRow) (o : Option PlainRight) (l : Bytes) → option_and_then (λ r. first_false R row ongoing r.preds) o ≡ Some l
-    → option_map_or (λ r. list_any ongoing r.preds) o false ≡ true
-asked_of R row None l e = absurd cc
+asked_of : (R : Readings) (row : SessionRow) (o : Option PlainRight) (l : Bytes) → option_map_or (λ r. first_false R row ongoing r.preds) o (Some no_right) ≡ Some l
+    → option_map_or (λ r. list_any ongoing r.preds) o true ≡ true
+asked_of R row None l e = refl
 asked_of R row (Some r) l e = false_is_ongoing R row r.preds l e
 
-may_of : (P : PlainPolicy) (R : Readings) (o : Option SessionRow) (l : Bytes) → cond (is_accessing o) (option_and_then (first_false_of P R ongoing) o) None ≡ Some l
+may_of : (P : PlainPolicy) (R : Readings) (o : Option SessionRow) (l : Bytes) → cond (is_accessing o) (option_and_then (failing_of P R) o) None ≡ Some l
     → may_fail P o ≡ true
 may_of P R None l e = absurd cc
 may_of P R (Some row) l e = by (is_accessing_state row.state) refl
@@ -85,16 +85,16 @@ later n m (x ∷ xs) other all found = later_by n m x xs all.0 (later n m xs oth
 first_by : (fails : ℕ → Option Bytes) (m n : ℕ) (ms : List ℕ) (l : Bytes) → Each (λ x. m < x) ms → has (m ∷ ms) n ≡ true → fails n ≡ Some l
     → ((k : ℕ) → k < n → fails k ≡ None) → (has ms n ≡ true → first_in fails ms ≡ Some (n, l))
     → ((nat_eq n m ≡ true) × (n ≡ m)) ⊎ ((nat_eq n m ≡ false) × (n ≢ m)) → first_in fails (m ∷ ms) ≡ Some (n, l)
-first_by fails m n ms l all there is before rest (inl same) = subst (λ k. first_in fails (k ∷ ms) ≡ Some (n, l)) same.1 (rw is refl)
-first_by fails m n ms l all there is before rest (inr other) =
+first_by fails m n ms l all there is lower rest (inl same) = subst (λ k. first_in fails (k ∷ ms) ≡ Some (n, l)) same.1 (rw is refl)
+first_by fails m n ms l all there is lower rest (inr other) =
     let found : has ms n ≡ true = rw other.0 at there in
-    rw (before m (later n m ms other.1 all found)) (rest found)
+    rw (lower m (later n m ms other.1 all found)) (rest found)
 
 first_of : (fails : ℕ → Option Bytes) (ns : List ℕ) (n : ℕ) (l : Bytes) → Rises ns → has ns n ≡ true → fails n ≡ Some l → ((m : ℕ) → m < n → fails m ≡ None)
     → first_in fails ns ≡ Some (n, l)
-first_of fails [] n l rises there is before = absurd cc
-first_of fails (m ∷ ms) n l rises there is before =
-    first_by fails m n ms l rises.0 there is before (λ found. first_of fails ms n l rises.1 found is before) (eqb_tells n m)
+first_of fails [] n l rises there is lower = absurd cc
+first_of fails (m ∷ ms) n l rises there is lower =
+    first_by fails m n ms l rises.0 there is lower (λ found. first_of fails ms n l rises.1 found is lower) (eqb_tells n m)
 
 -- each session that may fail after a trace is one of these
 abbrev pub CoversAfter : PlainPolicy → Trace → List ℕ → Type 0
@@ -121,25 +121,30 @@ first_is_least P T ns numbered rise covers = least_by P T ns (least_failing P T)
 
 -- ---- of a state
 
-pub covers_after : (s : Shown) (T : Trace) (ns : List ℕ) → Follows s T → Covers s ns → CoversAfter s.policy T ns
-covers_after s T ns h covers = λ n may. covers n (ap (may_fail s.policy) (sym (session_same s T h n)) ∙ may)
+-- who may fail in a state may fail after the trace that it follows
+may_after : (s : Shown) (P : PlainPolicy) (T : Trace) → Follows s P T → (n : ℕ) → may_fail_in s n ≡ may_fail P (session T n)
+may_after s P T h n = ap (λ (Q : PlainPolicy). may_fail Q (session_in s.tables n)) h.policy ∙ ap (may_fail P) (sym (session_same s P T h n))
+
+-- before all actions nobody may fail
+pub nobody_may : (s : Shown) (P : PlainPolicy) (ns : List ℕ) → Follows s P [] → Covers s ns
+nobody_may s P ns h = λ n may. absurd (let never : false ≡ true = sym (may_after s P [] h n) ∙ may in cc)
+
+pub covers_after : (s : Shown) (P : PlainPolicy) (T : Trace) (ns : List ℕ) → Follows s P T → Covers s ns → CoversAfter P T ns
+covers_after s P T ns h covers = λ n may. covers n (may_after s P T h n ∙ may)
 
 -- the first of the watched sessions that fails is the least that fails after the trace that the state follows
-pub first_is_told : (s : Shown) (T : Trace) (ns : List ℕ) → Follows s T → rises ns ≡ true → Covers s ns → first_in (fails_at s.policy T) ns ≡ least_failing s.policy T
-first_is_told s T ns h rise covers = first_is_least s.policy T ns (sound_if s.policy T h.legal).numbered rise (covers_after s T ns h covers)
+pub first_is_told : (s : Shown) (P : PlainPolicy) (T : Trace) (ns : List ℕ) → Follows s P T → rises ns ≡ true → Covers s ns → first_in (fails_at P T) ns ≡ least_failing P T
+first_is_told s P T ns h rise covers = first_is_least P T ns h.sound.numbered rise (covers_after s P T ns h covers)
 
 -- after actions that permit nobody, nobody more may fail
-pub nobody_more : (s s' : Shown) (T : Trace) (actions : List Action) → s'.policy ≡ s.policy → Follows s T → Follows s' (extended T actions)
+pub nobody_more : (s s' : Shown) (P : PlainPolicy) (T : Trace) (actions : List Action) → Follows s P T → Follows s' P (extended T actions)
     → ((n : ℕ) → list_any (permits n) actions ≡ false) → NobodyMore s s'
-nobody_more s s' T actions same h h' nobody = λ n may. from_more n (session_same s T h n) (nobody n) (more s.policy T actions n (after n may))
+nobody_more s s' P T actions h h' nobody = λ n may.
+    from_more n (nobody n) (more P T actions n (sym (may_after s' P (extended T actions) h' n) ∙ may))
   where
-    after : (n : ℕ) → may_fail_in s' n ≡ true → may_fail s.policy (session (extended T actions) n) ≡ true
-    after n may = ap (λ (P : PlainPolicy). may_fail P (session (extended T actions) n)) (sym same) ∙ ap (may_fail s'.policy) (session_same s' (extended T actions) h' n) ∙ may
-
-    from_more : (n : ℕ) → session T n ≡ session_in s.tables n → list_any (permits n) actions ≡ false
-        → (may_fail s.policy (session T n) ≡ true) ⊎ (list_any (permits n) actions ≡ true) → may_fail_in s n ≡ true
-    from_more n at none (inl before) = ap (may_fail s.policy) (sym at) ∙ before
-    from_more n at none (inr permitted) = absurd (let never : false ≡ true = sym none ∙ permitted in cc)
+    from_more : (n : ℕ) → list_any (permits n) actions ≡ false → (may_fail P (session T n) ≡ true) ⊎ (list_any (permits n) actions ≡ true) → may_fail_in s n ≡ true
+    from_more n none (inl might) = may_after s P T h n ∙ might
+    from_more n none (inr permitted) = absurd (let never : false ≡ true = sym none ∙ permitted in cc)
 
 -- ---- one after the other
 
@@ -157,22 +162,21 @@ none_left fails (n ∷ ns) (suc i) le = none_left fails ns i (omega (arith, le))
 
 -- ---- after a command's own actions
 
-still_by : (s s1 : Shown) (T : Trace) (caller : Caller) (c : Command) (head : Head) (actions : List Action) (ns ms : List ℕ) (n : ℕ)
-    → Follows s T → own s.policy T caller c ≡ make head actions → Covers s ns → Includes ns ms → HeadIsWatched head s1 ms → may_fail_in s1 n ≡ true
-    → (may_fail s.policy (session T n) ≡ true) ⊎ (list_any (permits n) actions ≡ true) → has ms n ≡ true
-still_by s s1 T caller c head actions ns ms n h is covers includes told may (inl before) = includes n (covers_after s T ns h covers n before)
-still_by s s1 T caller c head actions ns ms n h is covers includes told may (inr permitted) =
-    told n (permitted_is_told s.policy T caller c head actions n is permitted) may
+still_by : (s s1 : Shown) (P : PlainPolicy) (T : Trace) (caller : Caller) (c : Command) (head : Head) (actions : List Action) (ns ms : List ℕ) (n : ℕ)
+    → Follows s P T → own P T caller c ≡ make head actions → Covers s ns → Includes ns ms → HeadIsWatched head s1 ms → may_fail_in s1 n ≡ true
+    → (may_fail P (session T n) ≡ true) ⊎ (list_any (permits n) actions ≡ true) → has ms n ≡ true
+still_by s s1 P T caller c head actions ns ms n h is covers includes told may (inl might) = includes n (covers_after s P T ns h covers n might)
+still_by s s1 P T caller c head actions ns ms n h is covers includes told may (inr permitted) =
+    told n (permitted_is_told P T caller c head actions n is permitted) may
 
 -- the sessions that were watched, and whom the head permits, cover the state after a command's own actions
-pub watched_still : (s s1 : Shown) (T : Trace) (caller : Caller) (c : Command) (head : Head) (actions : List Action) (ns ms : List ℕ) → s1.policy ≡ s.policy
-    → Follows s T → Follows s1 (extended T actions) → own s.policy T caller c ≡ make head actions → Covers s ns → Includes ns ms → HeadIsWatched head s1 ms → Covers s1 ms
-watched_still s s1 T caller c head actions ns ms same h h1 is covers includes told = λ n may.
-    let after : may_fail s.policy (session (extended T actions) n) ≡ true =
-    ap (λ (P : PlainPolicy). may_fail P (session (extended T actions) n)) (sym same) ∙ ap (may_fail s1.policy) (session_same s1 (extended T actions) h1 n) ∙ may in
-    still_by s s1 T caller c head actions ns ms n h is covers includes told may (more s.policy T actions n after)
+pub watched_still : (s s1 : Shown) (P : PlainPolicy) (T : Trace) (caller : Caller) (c : Command) (head : Head) (actions : List Action) (ns ms : List ℕ)
+    → Follows s P T → Follows s1 P (extended T actions) → own P T caller c ≡ make head actions → Covers s ns → Includes ns ms → HeadIsWatched head s1 ms → Covers s1 ms
+watched_still s s1 P T caller c head actions ns ms h h1 is covers includes told = λ n may.
+    still_by s s1 P T caller c head actions ns ms n h is covers includes told may
+    (more P T actions n (sym (may_after s1 P (extended T actions) h1 n) ∙ may))
 
 -- who may fail in what undoing gives may fail in the tables that it gives back
-pub opening_may : (s s1 : Shown) (n : ℕ) → s1.policy ≡ s.policy → s1.opening ≡ s.tables → may_fail_in (changed_to s1 s1.opening) n ≡ true → may_fail_in s n ≡ true
+pub opening_may : (s s1 : Shown) (n : ℕ) → s1.policy ≡ s.policy → s1.opening ≡ s.tables → may_fail_in (before s1) n ≡ true → may_fail_in s n ≡ true
 opening_may s s1 n policy tables may =
     ap (λ (t : Tables). may_fail s.policy (session_in t n)) (sym tables) ∙ ap (λ (Q : PlainPolicy). may_fail Q (session_in s1.opening n)) (sym policy) ∙ may

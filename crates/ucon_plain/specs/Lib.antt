@@ -1,10 +1,5 @@
 pub mod Cascading
-pub mod Follows
-pub mod Gives
-pub mod Updating
-pub mod Sessions
 pub mod Monitor
 pub mod Rising
 pub mod Watching
 pub mod Watched
-pub mod Capped

@@ -12,11 +12,11 @@ use Rattle.ucon_state.specs.Shown.{Shown}
 use Rattle.ucon_state.specs.Tables.{session_in}
 use Rattle.ucon_plain.specs.Rising.{has}
 
--- whether the right of this name has an ongoing predicate
+-- whether the right of this name has an ongoing predicate, or is not there
 abbrev pub asks : PlainPolicy → Bytes → Bool
-asks P name = option_map_or (λ r. list_any ongoing r.preds) (right_named P.rights name) false
+asks P name = option_map_or (λ r. list_any ongoing r.preds) (right_named P.rights name) true
 
--- whether a session is accessing and its right has an ongoing predicate
+-- whether a session is accessing, and its right has an ongoing predicate or is not there
 abbrev pub may_fail : PlainPolicy → Option SessionRow → Bool
 may_fail P None = false
 may_fail P (Some row) = is_accessing_state row.state && asks P row.right

@@ -3,11 +3,13 @@
 ghost use Rattle.ucon_model.specs.Plain.{PlainPolicy};
 ghost use Rattle.ucon_model.specs.History.{History, StandsFor as ModelStandsFor};
 ghost use Rattle.ucon_plain.specs.declared.monitor.PlainMonitor.{PlainMonitor};
-ghost use Rattle.ucon_plain.specs.Monitor.{StandsFor};
+ghost use Rattle.ucon_plain.specs.Monitor.{IsReady};
+ghost use Rattle.ucon_state.specs.Engine.{StandsFor};
 ghost use Rattle.ucon_state.specs.Shown.{shown};
 ghost use Rattle.ucon_state.specs.Tables.{readings_in};
 
 /// A monitor that stands for a history has its policy, and what its state gives to read is what the history's trace gives.
 pub fn monitors_stand_for_histories()
-    ensures { (m : PlainMonitor) (P : PlainPolicy) (H : History) → StandsFor m P H → ModelStandsFor (shown m.state).policy (readings_in (shown m.state).policy (shown m.state).tables) P H }
+    ensures { (m : PlainMonitor) (P : PlainPolicy) (H : History) → StandsFor IsReady m P H
+        → ModelStandsFor (shown m.state).policy (readings_in (shown m.state).policy (shown m.state).tables) P H }
 {}

@@ -1,14 +1,14 @@
 //! The plain monitor.
 
 ghost use Rattle.std.specs.Prelude.{◌≡◌, ◌↔◌, List, IfOk, OnOk, OnErr};
-ghost use Rattle.ucon_model.specs.Action.{Action};
-ghost use Rattle.ucon_model.specs.Block.{block};
-ghost use Rattle.ucon_model.specs.History.{History, trace, said, grown};
+ghost use Rattle.ucon_model.specs.Action.{Action, Trace};
+ghost use Rattle.ucon_model.specs.Block.{after, block, reply as reply_to};
+ghost use Rattle.ucon_model.specs.History.{History, trace};
 ghost use Rattle.ucon_model.specs.Legal.{AreLegal};
 ghost use Rattle.ucon_model.specs.Plain.{PlainPolicy};
 ghost use Rattle.ucon_model.specs.Views.{reply_of};
 ghost use Rattle.ucon_plain.specs.Cascading.{AreActionsOf};
-ghost use Rattle.ucon_state.specs.Engine.{IsIdle, StandsLike};
+ghost use Rattle.ucon_state.specs.Engine.{FollowsLike, IsIdle, StandsFor};
 
 use crate::step::take_step;
 use crate::watched::Watched;
@@ -26,9 +26,9 @@ pub struct PlainMonitor {
 }
 
 impl Engine for PlainMonitor {
-    ghost use Rattle.ucon_plain.specs.Monitor.{StandsFor, HasPending};
+    ghost use Rattle.ucon_plain.specs.Monitor.{IsReady, HasPending};
 
-    ghost stands_for = { StandsFor };
+    ghost follows = { IsReady };
 
     ghost has_pending = { HasPending };
 
@@ -47,23 +47,16 @@ impl Engine for PlainMonitor {
         command: &Command,
         steps: &mut Steps,
     ) -> Result<Drafted, NoMemory> {
-        match take_step(
+        let reply = take_step(
             self.alloc,
             &mut self.state,
             caller,
             command,
             &mut self.watched,
             steps,
-        ) {
-            Ok(reply) => {
-                let changes = reply.changes();
-                Ok(Drafted { reply, changes })
-            }
-            Err(refused) => {
-                self.state.undo_all();
-                Err(refused)
-            }
-        }
+        )?;
+        let changes = reply.changes();
+        Ok(Drafted { reply, changes })
     }
 
     fn keep(&mut self) {
@@ -82,19 +75,20 @@ impl Engine for PlainMonitor {
 }
 
 impl PlainMonitor {
-    ghost use Rattle.ucon_plain.specs.Monitor.{StandsFor};
+    ghost use Rattle.ucon_plain.specs.Monitor.{IsReady};
 
     /// A draft and a keep in one. Want of memory changes nothing.
     pub fn step(&mut self, caller: Caller, command: &Command) -> Result<Reply, NoMemory>
-        requires { IsIdle StandsFor self.old }
-        ensures reply { IfOk result (λ r. (P : PlainPolicy) (H : History) → StandsFor self.old P H → reply_of r ≡ said P H caller command.now) }
-        ensures grown { OnOk result ((P : PlainPolicy) (H : History) → StandsFor self.old P H → StandsFor self.new P (grown P H (record { caller = caller; command = command.now }))) }
-        ensures err { OnErr result (StandsLike StandsFor self.old self.new) }
+        requires { IsIdle IsReady self.old }
+        ensures reply { IfOk result (λ r. (P : PlainPolicy) (T : Trace) → IsReady self.old P T → reply_of r ≡ reply_to P T caller command.now) }
+        ensures follows { OnOk result ((P : PlainPolicy) (T : Trace) → IsReady self.old P T → IsReady self.new P (after P T caller command.now)) }
+        ensures err { OnErr result (FollowsLike IsReady self.old self.new) }
 
         // Each action of the block is legal after those before it, and the block is the only list that begins with the command's own
         // actions and goes on as a cascade.
-        ensures legal { (P : PlainPolicy) (H : History) → StandsFor self.old P H → AreLegal P (trace P H) (block P (trace P H) caller command.now) }
-        ensures only { (P : PlainPolicy) (H : History) (actions : List Action) → AreActionsOf P (trace P H) caller command.now actions ↔ (actions ≡ block P (trace P H) caller command.now) }
+        ensures legal { (P : PlainPolicy) (H : History) → StandsFor IsReady self.old P H → AreLegal P (trace P H) (block P (trace P H) caller command.now) }
+        ensures only { (P : PlainPolicy) (H : History) (actions : List Action)
+            → AreActionsOf P (trace P H) caller command.now actions ↔ (actions ≡ block P (trace P H) caller command.now) }
     {
         let mut steps = Steps::new();
         let drafted = self.draft(caller, command, &mut steps)?;

@@ -2,26 +2,26 @@
 
 ghost use Rattle.std.specs.Prelude.{◌≡◌, ◌∷◌, [], ◌++◌, Some, IfOk, OnOk};
 ghost use Rattle.ucon_model.specs.Action.{Trace, extended};
+ghost use Rattle.ucon_model.specs.Plain.{PlainPolicy};
 ghost use Rattle.ucon_model.specs.Settle.{fails_at, least_failing, revocation, settle, revoked_in};
-ghost use Rattle.ucon_plain.specs.Follows.{Follows, IsFollowing, Leads, KeepsBase};
+ghost use Rattle.ucon_actions.specs.Leads.{IsFollowing, KeepsBase, Leads};
 ghost use Rattle.ucon_plain.specs.Watched.{numbers_of};
 ghost use Rattle.ucon_plain.specs.Watching.{Covers, NobodyMore};
+ghost use Rattle.ucon_state.specs.Following.{Follows};
 ghost use Rattle.ucon_state.specs.Shown.{shown};
 
-use crate::reading::{accessing, session};
-use crate::update::run_updates;
-use crate::usage::is_accessing;
 use crate::watched::Watched;
 use std::alloc::Global;
+use ucon_actions::{accessing, is_accessing, revoke, session};
 use ucon_base::{Name, NoMemory, Rows, Steps};
 use ucon_eval::failing;
-use ucon_model::{Revoked, SessionState, When};
+use ucon_model::Revoked;
 use ucon_state::State;
 
 /// The label by which session n fails, if it is accessing.
 fn fails_at(state: &State, n: u32, steps: &mut Steps) -> Option<Name>
     requires { IsFollowing (shown state.now) }
-    ensures { (T : Trace) → Follows (shown state.now) T → fails_at (shown state.now).policy T n ≡ result }
+    ensures { (P : PlainPolicy) (T : Trace) → Follows (shown state.now) P T → fails_at P T n ≡ result }
 {
     let row = session(state, n)?;
     if !is_accessing(row.state) {
@@ -34,7 +34,7 @@ fn fails_at(state: &State, n: u32, steps: &mut Steps) -> Option<Name>
 fn least_failing(state: &State, watched: &Watched, steps: &mut Steps) -> Option<(u32, Name)>
     requires following { IsFollowing (shown state.now) }
     requires covers { Covers (shown state.now) (numbers_of watched.now) }
-    ensures { (T : Trace) → Follows (shown state.now) T → least_failing (shown state.now).policy T ≡ result }
+    ensures { (P : PlainPolicy) (T : Trace) → Follows (shown state.now) P T → least_failing P T ≡ result }
 {
     let numbers = watched.numbers();
     for n in numbers {
@@ -45,8 +45,8 @@ fn least_failing(state: &State, watched: &Watched, steps: &mut Steps) -> Option<
     None
 }
 
-/// Revokes session n, and runs its updates after a revocation.
-fn revoke(
+/// Revokes session n, and notes it.
+fn revoke_next(
     alloc: Global,
     state: &mut State,
     revoked: &mut Rows<Revoked>,
@@ -54,14 +54,13 @@ fn revoke(
     label: Name,
 ) -> Result<(), NoMemory>
     requires following { IsFollowing (shown state.old) }
-    requires least { (T : Trace) → Follows (shown state.old) T → least_failing (shown state.old).policy T ≡ Some (n, label) }
-    ensures leads { OnOk result (Leads (shown state.old) (shown state.new) (λ T. extended T (revocation (shown state.old).policy T (n, label)))) }
+    requires least { (P : PlainPolicy) (T : Trace) → Follows (shown state.old) P T → least_failing P T ≡ Some (n, label) }
+    ensures leads { OnOk result (Leads (shown state.old) (shown state.new) (λ P T. extended T (revocation P T (n, label)))) }
     ensures revoked { OnOk result (revoked.new.items ≡ revoked.old.items ++ record { session = n; label = label } ∷ []) }
     ensures fewer { OnOk result (NobodyMore (shown state.old) (shown state.new)) }
     ensures base { KeepsBase (shown state.old) (shown state.new) }
 {
-    state.set_session(n, SessionState::Revoked)?;
-    run_updates(alloc, state, n, When::AfterRevoke)?;
+    revoke(alloc, state, n, label)?;
     revoked.push(Revoked { session: n, label })?;
     Ok(())
 }
@@ -75,8 +74,8 @@ pub fn settle(
 ) -> Result<Rows<Revoked>, NoMemory>
     requires following { IsFollowing (shown state.old) }
     requires covers { Covers (shown state.old) (numbers_of watched.now) }
-    ensures leads { OnOk result (Leads (shown state.old) (shown state.new) (λ T. extended T (settle (shown state.old).policy T))) }
-    ensures revoked { IfOk result (λ revoked. (T : Trace) → Follows (shown state.old) T → revoked.items ≡ revoked_in (settle (shown state.old).policy T)) }
+    ensures leads { OnOk result (Leads (shown state.old) (shown state.new) (λ P T. extended T (settle P T))) }
+    ensures revoked { IfOk result (λ revoked. (P : PlainPolicy) (T : Trace) → Follows (shown state.old) P T → revoked.items ≡ revoked_in (settle P T)) }
     ensures fewer { OnOk result (NobodyMore (shown state.old) (shown state.new)) }
     ensures base { KeepsBase (shown state.old) (shown state.new) }
 {
@@ -85,7 +84,7 @@ pub fn settle(
     'turns: for _ in 0..turns {
         match least_failing(state, watched, steps) {
             None => return Ok(revoked),
-            Some(found) => revoke(alloc, state, &mut revoked, found.0, found.1)?,
+            Some(found) => revoke_next(alloc, state, &mut revoked, found.0, found.1)?,
         }
     }
     Ok(revoked)

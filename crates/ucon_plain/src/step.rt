@@ -1,31 +1,29 @@
 //! One step: a command's own actions, and then the cascade.
 
-ghost use Rattle.std.specs.Prelude.{◌≡◌, map, true, IfOk, OnOk, IsTrue, IsFalse};
-ghost use Rattle.std.specs.List.{list_any};
+ghost use Rattle.std.specs.Prelude.{◌≡◌, ℕ, None, true, IfOk, OnErr, OnOk, IsTrue, IsFalse};
 ghost use Rattle.ucon_model.specs.Action.{Trace};
 ghost use Rattle.ucon_model.specs.Block.{after, reply};
 ghost use Rattle.ucon_model.specs.History.{changes};
-ghost use Rattle.ucon_model.specs.Decision.{ongoing};
-ghost use Rattle.ucon_model.specs.Views.{policy_of, predicate_of, reply_of};
-ghost use Rattle.ucon_plain.specs.Follows.{Follows, IsFollowing, Leads, KeepsBase};
+ghost use Rattle.ucon_model.specs.Plain.{PlainPolicy};
+ghost use Rattle.ucon_model.specs.Settle.{fails_at};
+ghost use Rattle.ucon_model.specs.Views.{policy_of, reply_of};
+ghost use Rattle.ucon_actions.specs.Leads.{IsFollowing, KeepsBase, Leads};
+ghost use Rattle.ucon_plain.specs.Monitor.{before};
 ghost use Rattle.ucon_plain.specs.Rising.{has};
 ghost use Rattle.ucon_plain.specs.Watched.{numbers_of};
 ghost use Rattle.ucon_plain.specs.Watching.{asks, may_fail_in, Covers, HeadIsWatched, Includes};
+ghost use Rattle.ucon_state.specs.Following.{Follows};
 ghost use Rattle.ucon_state.specs.Shown.{shown};
 
-use crate::declared::right_named;
-use crate::own::own_actions;
-use crate::reading::session;
 use crate::settle::settle;
-use crate::told::Own;
-use crate::usage::is_accessing;
 use crate::watched::Watched;
 use std::alloc::Global;
+use ucon_actions::{ActionFault, Outcome, is_accessing, own_actions, session};
 use ucon_base::{Name, NoMemory, Steps};
-use ucon_model::{Caller, Command, Head, Phase, Policy, Predicate, Reply, View};
+use ucon_model::{Caller, Command, Head, Policy, Reply, View};
 use ucon_state::State;
 
-/// After want of memory the state may be anywhere within the step.
+/// Want of memory gives back what undoing gave before the step.
 pub fn take_step(
     alloc: Global,
     state: &mut State,
@@ -36,18 +34,51 @@ pub fn take_step(
 ) -> Result<Reply, NoMemory>
     requires following { IsFollowing (shown state.old) }
     requires covers { Covers (shown state.old) (numbers_of watched.old) }
-    ensures reply { IfOk result (λ r. (T : Trace) → Follows (shown state.old) T → reply_of r ≡ reply (shown state.old).policy T caller command.now) }
-    ensures changed { IfOk result (λ r. IsTrue (changes (reply_of r)) → Leads (shown state.old) (shown state.new) (λ T. after (shown state.old).policy T caller command.now)) }
+    ensures reply { IfOk result (λ r. (P : PlainPolicy) (T : Trace) → Follows (shown state.old) P T → reply_of r ≡ reply P T caller command.now) }
+    ensures changed { IfOk result (λ r. IsTrue (changes (reply_of r)) → Leads (shown state.old) (shown state.new) (λ P T. after P T caller command.now)) }
+    ensures nobody { IfOk result (λ r. IsTrue (changes (reply_of r))
+        → (P : PlainPolicy) (T : Trace) → Follows (shown state.old) P T → (n : ℕ) → fails_at P (after P T caller command.now) n ≡ None) }
+    ensures unchanged { IfOk result (λ r. IsFalse (changes (reply_of r)) → shown state.new ≡ shown state.old) }
+    ensures undone { OnErr result (shown state.new ≡ before (shown state.old)) }
+    ensures covers { OnOk result (Covers (shown state.new) (numbers_of watched.new)) }
+    ensures watched { Includes (numbers_of watched.old) (numbers_of watched.new) }
+    ensures base { KeepsBase (shown state.old) (shown state.new) }
+{
+    match make_step(alloc, state, caller, command, watched, steps) {
+        Ok(reply) => Ok(reply),
+        Err(refused) => {
+            state.undo_all();
+            Err(refused)
+        }
+    }
+}
+
+/// After want of memory the state may be anywhere within the step.
+fn make_step(
+    alloc: Global,
+    state: &mut State,
+    caller: Caller,
+    command: &Command,
+    watched: &mut Watched,
+    steps: &mut Steps,
+) -> Result<Reply, NoMemory>
+    requires following { IsFollowing (shown state.old) }
+    requires covers { Covers (shown state.old) (numbers_of watched.old) }
+    ensures reply { IfOk result (λ r. (P : PlainPolicy) (T : Trace) → Follows (shown state.old) P T → reply_of r ≡ reply P T caller command.now) }
+    ensures changed { IfOk result (λ r. IsTrue (changes (reply_of r)) → Leads (shown state.old) (shown state.new) (λ P T. after P T caller command.now)) }
+    ensures nobody { IfOk result (λ r. IsTrue (changes (reply_of r))
+        → (P : PlainPolicy) (T : Trace) → Follows (shown state.old) P T → (n : ℕ) → fails_at P (after P T caller command.now) n ≡ None) }
     ensures unchanged { IfOk result (λ r. IsFalse (changes (reply_of r)) → shown state.new ≡ shown state.old) }
     ensures covers { OnOk result (Covers (shown state.new) (numbers_of watched.new)) }
     ensures watched { Includes (numbers_of watched.old) (numbers_of watched.new) }
     ensures base { KeepsBase (shown state.old) (shown state.new) }
 {
-    match own_actions(alloc, state, caller, command)? {
-        Own::Refuse(r) => Ok(Reply::Refused(r)),
-        Own::Value(v) => Ok(Reply::Value(v)),
-        Own::Status(n, state) => Ok(Reply::Status(n, state)),
-        Own::Make(head) => {
+    match own_actions(alloc, state, caller, command) {
+        Err(ActionFault::NoMemory(refused)) => Err(refused),
+        Err(ActionFault::Refused(r)) => Ok(Reply::Refused(r)),
+        Ok(Outcome::Value(v)) => Ok(Reply::Value(v)),
+        Ok(Outcome::Status(n, state)) => Ok(Reply::Status(n, state)),
+        Ok(Outcome::Made(head)) => {
             watch_permitted(state, watched, &head)?;
             let revoked = settle(alloc, state, watched, steps)?;
             Ok(Reply::Made { head, revoked })
@@ -77,7 +108,7 @@ fn watch(state: &State, watched: &mut Watched, n: u32) -> Result<(), NoMemory>
     Ok(())
 }
 
-/// Whether a session is accessing and its right has an ongoing predicate.
+/// Whether a session is accessing, and its right has an ongoing predicate or isn't there.
 fn may_fail(state: &State, n: u32) -> bool
     ensures { result ≡ may_fail_in (shown state.now) n }
 {
@@ -87,32 +118,12 @@ fn may_fail(state: &State, n: u32) -> bool
     }
 }
 
-/// Whether the right of this name has an ongoing predicate.
+/// Whether the right of this name has an ongoing predicate, or isn't there.
 fn asks(policy: &Policy, right: &Name) -> bool
     ensures { result ≡ asks (policy_of policy.now) right.now }
 {
-    match right_named(policy, right) {
-        Some(right) => has_ongoing(right.preds.slice()),
-        None => false,
-    }
-}
-
-fn has_ongoing(preds: &[Predicate]) -> bool
-    ensures { result ≡ list_any ongoing (map predicate_of preds.now) }
-{
-    for p in preds {
-        if is_ongoing(p) {
-            return true;
-        }
-    }
-    false
-}
-
-fn is_ongoing(p: &Predicate) -> bool
-    ensures { result ≡ ongoing (predicate_of p.now) }
-{
-    match p.phase {
-        Phase::Ongoing => true,
-        Phase::Pre => false,
+    match policy.right(right) {
+        Some(right) => right.has_ongoing(),
+        None => true,
     }
 }

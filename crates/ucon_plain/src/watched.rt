@@ -7,9 +7,8 @@ ghost use Rattle.ucon_plain.specs.Rising.{rises, has};
 ghost use Rattle.ucon_state.specs.Shown.{shown};
 ghost use Rattle.ucon_state.specs.Tables.{session_in};
 
-use crate::reading::session;
-use crate::usage::is_accessing;
 use std::alloc::Global;
+use ucon_actions::{is_accessing, session};
 use ucon_base::NoMemory;
 use ucon_state::State;
 

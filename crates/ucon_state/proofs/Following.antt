@@ -9,4 +9,3 @@ pub mod Sessions
 pub mod Variables
 pub mod Keeping
 pub mod LegalTraces
-pub mod Sound

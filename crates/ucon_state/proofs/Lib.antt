@@ -6,4 +6,3 @@ pub mod Sounds
 pub mod Places
 pub mod Moved
 pub mod Following
-pub mod Typing

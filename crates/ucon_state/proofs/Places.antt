@@ -8,8 +8,8 @@ use Rattle.std.specs.Str.{bytes_eq}
 use Rattle.ucon_base.specs.declared.value.Side.{Side}
 use Rattle.ucon_base.specs.declared.value.Side.TheVariants as sides
 use Rattle.ucon_model.specs.Plain.{Bytes, PlainPolicy}
-use Rattle.ucon_model.specs.Readings.{same_side, declared_attr}
-use Rattle.ucon_state.specs.Tables.{Tables, entities_of, attrs_of, attr_place, cell_at}
+use Rattle.ucon_model.specs.Readings.{same_side, declared_attr, attrs_of, attr_position}
+use Rattle.ucon_state.specs.Tables.{Tables, entities_of, cell_at}
 use Rattle.ucon_state.specs.Sound.{IsSound, CellsAreThere}
 
 -- a place is that of the first item that passes, and it is within the list
@@ -56,7 +56,7 @@ find_filter s p (x ∷ xs) = by (s x) (find_filter s p xs)
     by false rest = rest
 
 -- an attribute has a place exactly where it is declared
-pub place_where_declared : (P : PlainPolicy) (side : Side) (attr : Bytes) → is_some (attr_place P side attr) ≡ is_some (declared_attr P.attrs side attr)
+pub place_where_declared : (P : PlainPolicy) (side : Side) (attr : Bytes) → is_some (attr_position P side attr) ≡ is_some (declared_attr P.attrs side attr)
 place_where_declared P side attr =
     some_place (λ d. bytes_eq attr d.name) (attrs_of P side) ∙ ap is_some (find_filter (λ d. same_side side d.side) (λ d. bytes_eq attr d.name) P.attrs)
 
@@ -65,8 +65,8 @@ pub cell_where_declared : (P : PlainPolicy) (t : Tables) (side : Side) (entity :
     → is_some (cell_at P t side entity attr) ≡ is_some (declared_attr P.attrs side attr)
 cell_where_declared P t side entity attr within =
     let e = item_at (entities_of side t) entity within in
-    ap (λ o. is_some (option_and_then (λ e. option_map (λ place. e.1 + place) (attr_place P side attr)) o)) e.1
-    ∙ by e.0.1 (attr_place P side attr) ∙ place_where_declared P side attr
+    ap (λ o. is_some (option_and_then (λ e. option_map (λ place. e.1 + place) (attr_position P side attr)) o)) e.1
+    ∙ by e.0.1 (attr_position P side attr) ∙ place_where_declared P side attr
   where
     by : (first : ℕ) (o : Option ℕ) → is_some (option_map (λ place. first + place) o) ≡ is_some o
     by first None = refl
@@ -74,19 +74,19 @@ cell_where_declared P t side entity attr within =
 
 -- the cell of an attribute by the entity's first cell and the attribute's place
 pub cell_by_parts : (P : PlainPolicy) (t : Tables) (side : Side) (entity : ℕ) (attr : Bytes) (first place : Option ℕ)
-    → first ≡ option_map (λ e. e.1) (slice_get (entities_of side t) entity) → place ≡ attr_place P side attr
+    → first ≡ option_map (λ e. e.1) (slice_get (entities_of side t) entity) → place ≡ attr_position P side attr
     → cell_at P t side entity attr ≡ option_and_then (λ f. option_map (λ p. f + p) place) first
 cell_by_parts P t side entity attr first place is_first is_place =
     by (slice_get (entities_of side t) entity)
     ∙ (λ j. option_and_then (λ f. option_map (λ p. f + p) (sym is_place j)) (sym is_first j))
   where
-    by : (o : Option (Bytes × ℕ)) → option_and_then (λ e. option_map (λ place. e.1 + place) (attr_place P side attr)) o ≡ option_and_then (λ f. option_map (λ p. f + p) (attr_place P side attr)) (option_map (λ e. e.1) o)
+    by : (o : Option (Bytes × ℕ)) → option_and_then (λ e. option_map (λ place. e.1 + place) (attr_position P side attr)) o ≡ option_and_then (λ f. option_map (λ p. f + p) (attr_position P side attr)) (option_map (λ e. e.1) o)
     by None = refl
     by (Some e) = refl
 
 -- and it is there
 pub cell_is_there : (P : PlainPolicy) (t : Tables) (side : Side) (entity : ℕ) (attr : Bytes) (first place : ℕ) → IsSound P t
-    → option_map (λ e. e.1) (slice_get (entities_of side t) entity) ≡ Some first → attr_place P side attr ≡ Some place → first + place < length t.cells
+    → option_map (λ e. e.1) (slice_get (entities_of side t) entity) ≡ Some first → attr_position P side attr ≡ Some place → first + place < length t.cells
 cell_is_there P t side entity attr first place s is_first is_place = by (slice_get (entities_of side t) entity) refl is_first
   where
     cells : (side : Side) → CellsAreThere P t side
@@ -103,9 +103,9 @@ cell_is_there P t side entity attr first place s is_first is_place = by (slice_g
 -- the cell of an attribute is there
 pub cell_in_range : (P : PlainPolicy) (t : Tables) (side : Side) (entity : ℕ) (attr : Bytes) (cell : ℕ) → IsSound P t
     → cell_at P t side entity attr ≡ Some cell → cell < length t.cells
-cell_in_range P t side entity attr cell s is = by (slice_get (entities_of side t) entity) refl (attr_place P side attr) refl is
+cell_in_range P t side entity attr cell s is = by (slice_get (entities_of side t) entity) refl (attr_position P side attr) refl is
   where
-    by : (o : Option (Bytes × ℕ)) → slice_get (entities_of side t) entity ≡ o → (p : Option ℕ) → attr_place P side attr ≡ p
+    by : (o : Option (Bytes × ℕ)) → slice_get (entities_of side t) entity ≡ o → (p : Option ℕ) → attr_position P side attr ≡ p
         → option_and_then (λ e. option_map (λ place. e.1 + place) p) o ≡ Some cell → cell < length t.cells
     by None at p is_place is = cc
     by (Some e) at None is_place is = cc

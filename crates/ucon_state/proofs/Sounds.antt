@@ -10,7 +10,8 @@ use Rattle.ucon_base.specs.declared.value.Value.{Value}
 use Rattle.ucon_model.specs.declared.session.SessionRow.{SessionRow}
 use Rattle.ucon_model.specs.Plain.{Bytes, PlainPolicy}
 use Rattle.ucon_state.specs.declared.act.Act.{Act}
-use Rattle.ucon_state.specs.Tables.{Tables, entities_of, attrs_of, same_act}
+use Rattle.ucon_model.specs.Readings.{attrs_of}
+use Rattle.ucon_state.specs.Tables.{Tables, entities_of, same_act}
 use Rattle.ucon_state.proofs.Lists.{inserted_length, kept_length}
 use Rattle.ucon_state.specs.Applied.{opening_tables, defaults_of, with_entity, with_cell, with_variable, with_tick, with_act, with_row, with_new_session}
 use Rattle.ucon_state.specs.Sound.{IsSound, CellsAreThere}

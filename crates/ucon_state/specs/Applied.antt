@@ -12,7 +12,8 @@ use Rattle.ucon_model.specs.declared.session.SessionState.TheVariants.{Requestin
 use Rattle.ucon_model.specs.Plain.{Bytes, PlainPolicy}
 use Rattle.ucon_model.specs.Action.{Action, Trace, subject, object, write, env, tick, act, tries, wait, permit, deny, ends, revoke}
 use Rattle.ucon_state.specs.declared.act.Act.{Act}
-use Rattle.ucon_state.specs.Tables.{Tables, attrs_of, cell_of, env_place, same_act, session_in}
+use Rattle.ucon_model.specs.Readings.{attrs_of, env_position}
+use Rattle.ucon_state.specs.Tables.{Tables, cell_of, same_act, session_in}
 
 -- the defaults of the attributes of a side
 abbrev pub defaults_of : PlainPolicy → Side → List Value
@@ -81,7 +82,7 @@ abbrev pub applied : PlainPolicy → Action → Tables → Tables
 applied P (subject name) t = with_entity P t sides.Subject name
 applied P (object name) t = with_entity P t sides.Object name
 applied P (write side name attr v) t = option_map_or (λ cell. with_cell t cell v) (cell_of P t side name attr) t
-applied P (env name v) t = option_map_or (λ place. with_variable t place v) (env_place P name) t
+applied P (env name v) t = option_map_or (λ place. with_variable t place v) (env_position P name) t
 applied P (tick now) t = with_tick t now
 applied P (act s a o) t = with_act t (record { subject = s; action = a; object = o })
 applied P (tries n caller s r o) t = with_new_session t (tried caller s r o)

@@ -6,4 +6,3 @@ pub mod Views
 pub mod Shown
 pub mod Following
 pub mod Engine
-pub mod Sample

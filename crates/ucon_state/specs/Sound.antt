@@ -4,7 +4,8 @@ use Rattle.ucon_base.specs.declared.value.Side.{Side}
 use Rattle.ucon_base.specs.declared.value.Side.TheVariants as sides
 use Rattle.ucon_model.specs.Plain.{Bytes, PlainPolicy}
 use Rattle.ucon_state.specs.declared.change.Change.{Change}
-use Rattle.ucon_state.specs.Tables.{Tables, entities_of, attrs_of}
+use Rattle.ucon_model.specs.Readings.{attrs_of}
+use Rattle.ucon_state.specs.Tables.{Tables, entities_of}
 use Rattle.ucon_state.specs.Undo.{all_undone}
 
 -- the cells of each entity of a side are there

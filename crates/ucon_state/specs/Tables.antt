@@ -1,5 +1,5 @@
 -- What a state keeps, as lists, and what can be read off it.
-use Rattle.std.specs.Prelude.{if◌then◌else◌, ◌≡◌, ℕ, suc, zero, ℤ, ◌+◌, Bool, ◌&&◌, IsTrue, List, length, map, position, filter, count_by, Option, Some, None, IsSomeAnd, option_and_then, option_map, slice_get}
+use Rattle.std.specs.Prelude.{if◌then◌else◌, ◌≡◌, ℕ, suc, zero, ℤ, ◌+◌, Bool, ◌&&◌, IsTrue, List, length, map, position, count_by, Option, Some, None, IsSomeAnd, option_and_then, option_map, slice_get}
 use Rattle.std.specs.Map.{lookup}
 use Rattle.std.specs.Str.{bytes_eq}
 use Rattle.ucon_base.specs.declared.value.Side.{Side}
@@ -8,10 +8,9 @@ use Rattle.ucon_base.specs.declared.value.Value.{Value}
 use Rattle.ucon_base.specs.Admits.{admits}
 use Rattle.ucon_model.specs.declared.formula.Ref.{Ref}
 use Rattle.ucon_model.specs.declared.formula.Ref.TheVariants.{Subject, Object, Env}
-use Rattle.ucon_model.specs.declared.policy.AttrDecl.{AttrDecl}
 use Rattle.ucon_model.specs.declared.session.SessionRow.{SessionRow}
 use Rattle.ucon_model.specs.Plain.{Bytes, PlainPolicy}
-use Rattle.ucon_model.specs.Readings.{same_side, declared_attr, is_accessing_state}
+use Rattle.ucon_model.specs.Readings.{declared_attr, attrs_of, attr_position, env_position, is_accessing_state}
 use Rattle.ucon_model.specs.Truth.{Readings}
 use Rattle.ucon_state.specs.declared.act.Act.{Act}
 use Rattle.ucon_state.specs.declared.counts.Counts.{Counts}
@@ -39,18 +38,18 @@ entities_of sides.Object t = t.objects
 abbrev pub entity_number : Tables → Side → Bytes → Option ℕ
 entity_number t side name = position (bytes_eq name) (map (λ e. e.0) (entities_of side t))
 
--- the declarations of a side
-abbrev pub attrs_of : PlainPolicy → Side → List AttrDecl
-attrs_of P side = filter (λ d. same_side side d.side) P.attrs
+-- how many cells an entity of a side has
+abbrev pub width : PlainPolicy → Side → ℕ
+width P side = length (attrs_of P side)
 
--- the place of an attribute among those of its side, from 0
-abbrev pub attr_place : PlainPolicy → Side → Bytes → Option ℕ
-attr_place P side attr = position (λ d. bytes_eq attr d.name) (attrs_of P side)
+-- the first cell of an entity
+abbrev pub first_cell : Tables → Side → Bytes → Option ℕ
+first_cell t side name = lookup (bytes_eq name) (entities_of side t)
 
 -- the cell of an attribute of the entity with this number
 abbrev pub cell_at : PlainPolicy → Tables → Side → ℕ → Bytes → Option ℕ
 cell_at P t side entity attr =
-    option_and_then (λ e. option_map (λ place. e.1 + place) (attr_place P side attr)) (slice_get (entities_of side t) entity)
+    option_and_then (λ e. option_map (λ place. e.1 + place) (attr_position P side attr)) (slice_get (entities_of side t) entity)
 
 -- the cell of an attribute of the entity with this name
 abbrev pub cell_of : PlainPolicy → Tables → Side → Bytes → Bytes → Option ℕ
@@ -70,13 +69,9 @@ attribute_in P t side name attr = option_and_then (slice_get t.cells) (cell_of P
 
 -- ---- variables
 
--- the place of a variable among the declarations, from 0
-abbrev pub env_place : PlainPolicy → Bytes → Option ℕ
-env_place P name = position (λ d. bytes_eq name d.name) P.envs
-
 -- the value of a variable
 abbrev pub variable_in : PlainPolicy → Tables → Bytes → Option Value
-variable_in P t name = option_and_then (slice_get t.variables) (env_place P name)
+variable_in P t name = option_and_then (slice_get t.variables) (env_position P name)
 
 -- the value of a place for a session
 abbrev pub place_in : PlainPolicy → Tables → SessionRow → Ref → Option Value

@@ -1,13 +1,15 @@
 //! What every engine does, whichever way it finds who is to be revoked.
 
-ghost use Rattle.std.specs.Prelude.{◌≡◌, [], ℕ, None, true, false, IsTrue, IsFalse, IfOk, OnErr};
+ghost use Rattle.std.specs.Prelude.{◌≡◌, [], ℕ, None, IsTrue, IsFalse, IfOk, OnErr};
 ghost use Rattle.ucon_model.specs.declared.command.Entry.{Entry};
+ghost use Rattle.ucon_model.specs.Action.{Trace};
+ghost use Rattle.ucon_model.specs.Block.{after, reply as reply_to};
 ghost use Rattle.ucon_model.specs.Checked.{checked_policy};
 ghost use Rattle.ucon_model.specs.Plain.{PlainPolicy};
-ghost use Rattle.ucon_model.specs.History.{History, trace, said, changes, grown};
+ghost use Rattle.ucon_model.specs.History.{changes};
 ghost use Rattle.ucon_model.specs.Settle.{fails_at};
 ghost use Rattle.ucon_model.specs.Views.{reply_of};
-ghost use Rattle.ucon_state.specs.Engine.{IsIdle, IsPending, StandsLike, state_of};
+ghost use Rattle.ucon_state.specs.Engine.{FollowsLike, IsIdle, IsPending, state_of};
 
 use std::alloc::Global;
 use ucon_base::{NoMemory, Steps};
@@ -23,15 +25,15 @@ pub struct Drafted {
 /// A monitor under a policy. A command is drafted first; a change is then pending, and is kept or undone whole. `keep`, `undo` and
 /// `status` take no memory.
 pub trait Engine: Drop {
-    /// Nothing is pending, and the monitor is as after a history under a policy.
-    ghost stands_for: { Self → PlainPolicy → History → Type 0 };
+    /// Nothing is pending, and the monitor is as after a trace under a policy. It follows each trace that gives the same to read.
+    ghost follows: { Self → PlainPolicy → Trace → Type 0 };
 
-    /// The change of an entry after a history is pending.
-    ghost has_pending: { Self → PlainPolicy → History → Entry → Type 0 };
+    /// The change of an entry after a trace is pending.
+    ghost has_pending: { Self → PlainPolicy → Trace → Entry → Type 0 };
 
     /// The opening state.
     fn begin(alloc: Global, checked: Checked) -> Result<Self, NoMemory>
-        ensures { IfOk result (λ e. stands_for e (checked_policy checked) []) };
+        ensures { IfOk result (λ e. follows e (checked_policy checked) []) };
 
     /// Each recheck of a session counts a step; no clause speaks of the count.
     fn draft(
@@ -40,24 +42,24 @@ pub trait Engine: Drop {
         command: &Command,
         steps: &mut Steps,
     ) -> Result<Drafted, NoMemory>
-        requires { IsIdle stands_for self.old }
-        ensures reply { IfOk result (λ d. (P : PlainPolicy) (H : History) → stands_for self.old P H → reply_of d.reply ≡ said P H caller command.now) }
+        requires { IsIdle follows self.old }
+        ensures reply { IfOk result (λ d. (P : PlainPolicy) (T : Trace) → follows self.old P T → reply_of d.reply ≡ reply_to P T caller command.now) }
         ensures changes { IfOk result (λ d. d.changes ≡ changes (reply_of d.reply)) }
-        ensures pending { IfOk result (λ d. IsTrue d.changes → (P : PlainPolicy) (H : History) → stands_for self.old P H → has_pending self.new P H (record { caller = caller; command = command.now })) }
-        ensures unchanged { IfOk result (λ d. IsFalse d.changes → StandsLike stands_for self.old self.new) }
-        ensures err { OnErr result (StandsLike stands_for self.old self.new) };
+        ensures pending { IfOk result (λ d. IsTrue d.changes → (P : PlainPolicy) (T : Trace) → follows self.old P T → has_pending self.new P T (record { caller = caller; command = command.now })) }
+        ensures unchanged { IfOk result (λ d. IsFalse d.changes → FollowsLike follows self.old self.new) }
+        ensures err { OnErr result (FollowsLike follows self.old self.new) };
 
     fn keep(&mut self)
         requires { IsPending has_pending self.old }
-        ensures grown { (P : PlainPolicy) (H : History) (e : Entry) → has_pending self.old P H e → stands_for self.new P (grown P H e) }
-        ensures nobody_fails { (P : PlainPolicy) (H : History) → stands_for self.new P H → (n : ℕ) → fails_at P (trace P H) n ≡ None };
+        ensures follows { (P : PlainPolicy) (T : Trace) (e : Entry) → has_pending self.old P T e → follows self.new P (after P T e.caller e.command) }
+        ensures nobody_fails { (P : PlainPolicy) (T : Trace) (e : Entry) → has_pending self.old P T e → (n : ℕ) → fails_at P (after P T e.caller e.command) n ≡ None };
 
     fn undo(&mut self)
         requires { IsPending has_pending self.old }
-        ensures { (P : PlainPolicy) (H : History) (e : Entry) → has_pending self.old P H e → stands_for self.new P H };
+        ensures { (P : PlainPolicy) (T : Trace) (e : Entry) → has_pending self.old P T e → follows self.new P T };
 
     /// None where there is no such session. A pending change counts.
     fn status(&self, session: u32) -> Option<SessionState>
-        ensures idle { (P : PlainPolicy) (H : History) → stands_for self.now P H → result ≡ state_of (trace P H) session }
-        ensures pending { (P : PlainPolicy) (H : History) (e : Entry) → has_pending self.now P H e → result ≡ state_of (trace P (grown P H e)) session };
+        ensures idle { (P : PlainPolicy) (T : Trace) → follows self.now P T → result ≡ state_of T session }
+        ensures pending { (P : PlainPolicy) (T : Trace) (e : Entry) → has_pending self.now P T e → result ≡ state_of (after P T e.caller e.command) session };
 }

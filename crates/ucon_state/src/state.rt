@@ -4,16 +4,16 @@ ghost use Rattle.std.specs.Prelude.{◌≡◌, ◌≤ℤ◌, ◌<◌, ◌+◌, �
 ghost use Rattle.ucon_base.specs.Admits.{admits};
 ghost use Rattle.ucon_model.specs.Action as actions;
 ghost use Rattle.ucon_model.specs.Checked.{checked_policy};
-ghost use Rattle.ucon_model.specs.Readings.{declared_attr, declared_env};
+ghost use Rattle.ucon_model.specs.Readings.{declared_attr, declared_env, env_position};
 ghost use Rattle.ucon_state.specs.Applied.{opening_tables, applied, with_entity, with_cell, with_state, may_become, moved_to};
 ghost use Rattle.ucon_state.specs.Sound.{AllSound, IsSound};
-ghost use Rattle.ucon_state.specs.Tables.{entities_of, entity_number, cell_at, CellAdmits, attribute_in, env_place, counts_in, moment_in, session_in};
+ghost use Rattle.ucon_state.specs.Tables.{entities_of, entity_number, cell_at, CellAdmits, attribute_in, counts_in, moment_in, session_in};
 ghost use Rattle.ucon_state.specs.Views.{lists_of};
 
 use crate::act::Act;
 use crate::change::Change;
 use crate::counts::Counts;
-use crate::defaults::{attr_defaults, attr_place, env_defaults, env_place};
+use crate::defaults::{attr_defaults, env_defaults};
 use crate::tables::Tables;
 use std::alloc::{AllocError, Global};
 use ucon_base::{Int, Name, NoMemory, Side, Value};
@@ -115,7 +115,7 @@ impl State {
         ensures ok { OnOk result (shown self.new ≡ changed_to (shown self.old) (applied (shown self.old).policy (actions.env name.now value) (shown self.old).tables)) }
         ensures err { OnErr result (shown self.new ≡ shown self.old) }
     {
-        let place = env_place(&self.checked, name).unwrap();
+        let place = self.checked.policy().env_position(name).unwrap();
         self.changes.reserve(1)?;
         let change = self.tables.set_variable(place, value);
         self.changes.push_reserved(change);
@@ -245,6 +245,6 @@ pub(crate) fn cell_number(
     ensures there { IfSome result (λ c. c < length (lists_of tables.now).cells) }
 {
     let first = tables.first_cell(side, entity)?;
-    let place = attr_place(checked, side, attr)?;
+    let place = checked.policy().attr_position(side, attr)?;
     Some(first + place)
 }

@@ -4,13 +4,13 @@ ghost use Rattle.std.specs.Prelude.{◌≡◌, option_copied};
 ghost use Rattle.ucon_state.specs.Tables.{attribute_in, variable_in, readings_in};
 ghost use Rattle.ucon_state.specs.Shown.{shown};
 
-use crate::defaults::env_place;
 use crate::state::{State, cell_number};
 use ucon_base::{Int, Name, Side, Value};
 use ucon_model::{Checked, Ref, SessionRow, View};
 
 impl State {
-    fn attribute(&self, side: Side, name: &Name, attr: &Name) -> Option<&Value>
+    /// The value of an attribute of an entity. None where one of them isn't there.
+    pub fn attribute(&self, side: Side, name: &Name, attr: &Name) -> Option<&Value>
         ensures { option_copied result ≡ attribute_in (shown self.now).policy (shown self.now).tables side name.now attr.now }
     {
         let entity = self.tables.entity_number(side, name)?;
@@ -21,7 +21,7 @@ impl State {
     fn variable(&self, name: &Name) -> Option<&Value>
         ensures { option_copied result ≡ variable_in (shown self.now).policy (shown self.now).tables name.now }
     {
-        let place = env_place(&self.checked, name)?;
+        let place = self.checked.policy().env_position(name)?;
         self.tables.variables.get(place)
     }
 }

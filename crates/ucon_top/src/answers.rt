@@ -5,13 +5,14 @@ ghost use Rattle.ucon_model.specs.History.{History, said, changes, grown};
 ghost use Rattle.ucon_model.specs.Plain.{PlainPolicy};
 ghost use Rattle.ucon_model.specs.Views.{reply_of};
 ghost use Rattle.ucon_script.specs.Document.{spelled_line};
-ghost use Rattle.ucon_state.specs.Engine.{IsIdle};
+ghost use Rattle.ucon_state.specs.Engine.{FollowsLike, IsIdle, StandsFor};
 ghost use Rattle.ucon_top.specs.Hearing.{HasHeard, HearsMore, replied};
 ghost use Rattle.ucon_top.specs.OneAnswer.{Answers, entry_of};
 
 use crate::hearer::Hearer;
 use std::alloc::Global;
 use ucon_base::{NoMemory, Steps};
+use ucon_model::grown_histories_go_on;
 use ucon_script::LineText;
 use ucon_state::{Drafted, Engine};
 
@@ -23,9 +24,9 @@ pub fn run_lines<E: Engine, R: Hearer>(
     mut hearer: R,
     lines: &[LineText<'_>],
 ) -> Result<R, NoMemory>
-    requires idle { IsIdle E.stands_for engine }
+    requires idle { IsIdle E.follows engine }
     requires nothing_heard { R.hears hearer [] }
-    ensures heard { IfOk result (λ hearer. (P : PlainPolicy) → E.stands_for engine P [] → HasHeard P (R.hears hearer) (map entry_of lines.now)) }
+    ensures heard { IfOk result (λ hearer. (P : PlainPolicy) → StandsFor E.follows engine P [] → HasHeard P (R.hears hearer) (map entry_of lines.now)) }
     ensures few { length lines.now < 2 ^ 64 }
 {
     let mut steps = Steps::new();
@@ -45,10 +46,10 @@ fn answer_one<E: Engine, R: Hearer>(
     place: u64,
     line: &LineText<'_>,
 ) -> Result<u64, NoMemory>
-    requires { IsIdle E.stands_for engine.old }
-    ensures idle { IsIdle E.stands_for engine.new }
-    ensures answers { IfOk result (λ next. (P : PlainPolicy) (H : History) → E.stands_for engine.old P H
-        → Answers P (E.stands_for engine.new P) (λ reply. HearsMore R.hears hearer.old hearer.new (replied (entry_of line.now) reply)) H place next (entry_of line.now)) }
+    requires { IsIdle E.follows engine.old }
+    ensures idle { IsIdle E.follows engine.new }
+    ensures answers { IfOk result (λ next. (P : PlainPolicy) (H : History) → StandsFor E.follows engine.old P H
+        → Answers P (StandsFor E.follows engine.new P) (λ reply. HearsMore R.hears hearer.old hearer.new (replied (entry_of line.now) reply)) H place next (entry_of line.now)) }
 {
     match step(alloc, engine, steps, line) {
         Err(_) => {
@@ -70,13 +71,14 @@ fn step<E: Engine>(
     steps: &mut Steps,
     line: &LineText<'_>,
 ) -> Result<Drafted, NoMemory>
-    requires { IsIdle E.stands_for engine.old }
-    ensures idle { IsIdle E.stands_for engine.new }
-    ensures reply { IfOk result (λ d. (P : PlainPolicy) (H : History) → E.stands_for engine.old P H → reply_of d.reply ≡ said P H line.now.caller (spelled_line line.now).command) }
+    requires { IsIdle E.follows engine.old }
+    ensures idle { IsIdle E.follows engine.new }
+    ensures reply { IfOk result (λ d. (P : PlainPolicy) (H : History) → StandsFor E.follows engine.old P H → reply_of d.reply ≡ said P H line.now.caller (spelled_line line.now).command) }
     ensures changes { IfOk result (λ d. d.changes ≡ changes (reply_of d.reply)) }
-    ensures stands { OnOk result ((P : PlainPolicy) (H : History) → E.stands_for engine.old P H → E.stands_for engine.new P (grown P H (entry_of line.now))) }
-    ensures err { OnErr result ((P : PlainPolicy) (H : History) → E.stands_for engine.old P H → E.stands_for engine.new P H) }
+    ensures stands { OnOk result ((P : PlainPolicy) (H : History) → StandsFor E.follows engine.old P H → StandsFor E.follows engine.new P (grown P H (entry_of line.now))) }
+    ensures err { OnErr result (FollowsLike E.follows engine.old engine.new) }
 {
+    grown_histories_go_on();
     let line = line.line(alloc)?;
     let drafted = engine.draft(line.caller, &line.command, steps)?;
     if drafted.changes {

@@ -43,6 +43,12 @@ right use {
 }
 ";
 
+/// An obligation and a condition, by an attribute and a variable with ranges.
+pub const ASKED: &[u8] = b"attr s credit : int 0..100 = 0;
+env hour : int 0..23 = 9;
+right play { pre b asked: done click; pre c late: env.hour >= 10; }
+";
+
 /// The revocation of one usage ends another.
 pub const PULLED: &[u8] = b"attr s good : int 0..1 = 1;
 attr o flag : int 0..1 = 0;
@@ -71,8 +77,8 @@ pub const TAGGED: &[u8] =
     b"attr s tags : set = {}; right r { pre a t: size(s.tags) >= 0; before s.tags = s.tags + \"zz\"; }
 ";
 
-/// The rows, in the order of the page that works them out.
-pub fn worked_rows() -> [Row; 14] {
+/// The rows: those of the page that works them out, in its order, and two in which each command comes.
+pub fn worked_rows() -> [Row; 16] {
     [
         Row {
             name: "pay_per_use_music",
@@ -163,6 +169,103 @@ value o x users
 1 8 permitted 3
 1 9 permitted 4 revoked 1 cap
 1 9 value 3
+",
+        },
+        Row {
+            name: "usages_go_on_and_end",
+            policy: CAPPED,
+            script: b"client 0
+subject a
+subject b
+subject c
+subject d
+object x
+client 1
+try a use x
+try b use x
+try c use x
+try d use x
+value o x users
+look 1
+client 2
+end 2
+client 1
+end 2
+end 2
+subject z
+again 4
+beat 5
+beat 4
+client 0
+set o x most 1
+client 1
+value o x users
+look 4
+",
+            output: b"0 1 ok
+0 2 ok
+0 3 ok
+0 4 ok
+0 5 ok
+1 6 permitted 1
+1 7 permitted 2
+1 8 permitted 3
+1 9 permitted 4 revoked 1 cap
+1 9 value 3
+1 9 status 1 revoked
+2 9 not yours
+1 10 ended 2
+1 10 not accessing
+1 10 not admin
+1 10 not requesting
+1 10 no session
+1 11 ok
+0 12 ok revoked 3 cap
+1 12 value 1
+1 12 status 4 accessing
+",
+        },
+        Row {
+            name: "each_call_once",
+            policy: ASKED,
+            script: b"client 0
+subject ann
+object song
+value s ann credit
+try ann play song
+set s ann credit 5
+env hour 10
+tick 7
+try ann play song
+act ann click song
+again 2
+set s ann credit 101
+env hour 24
+tick 6
+subject ann
+value s ann credit
+look 1
+end 2
+look 2
+",
+            output: b"0 1 ok
+0 2 ok
+0 2 value 0
+0 3 denied 1 late
+0 4 ok
+0 5 ok
+0 6 ok
+0 7 waiting 2 asked
+0 8 ok
+0 9 permitted 2
+0 9 bad value
+0 9 bad value
+0 9 tick back
+0 9 already there
+0 9 value 5
+0 9 status 1 denied
+0 10 ended 2
+0 10 status 2 ended
 ",
         },
         Row {

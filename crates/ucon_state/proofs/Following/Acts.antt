@@ -8,15 +8,10 @@ use Rattle.indexmap.specs.IndexMap.{insert_entry}
 use Rattle.ucon_model.specs.Plain.{Bytes}
 use Rattle.ucon_model.specs.Action.{Trace, act}
 use Rattle.ucon_model.specs.Readings.{tick_of, moment, acts, act_rows}
+use Rattle.ucon_state.specs.Following.{act_of, row_of, KeepsActs}
 use Rattle.ucon_state.specs.declared.act.Act.{Act}
 use Rattle.ucon_state.specs.Tables.{same_act}
 use Rattle.ucon_state.proofs.Following.Names.{same_name, own_name}
-
-abbrev pub act_of : Bytes → Bytes → Bytes → Act
-act_of s a o = record { subject = s; action = a; object = o }
-
-abbrev pub row_of : Act × ℤ → Bytes × Bytes × Bytes
-row_of e = (e.0.subject, e.0.action, e.0.object)
 
 pub same_acts : (a b : Act) → same_act a b ≡ true → a ≡ b
 same_acts a b e =
@@ -80,11 +75,6 @@ rows-insert (e ∷ es) a v =
     rows_by (same_act a e.0) e es (insert_entry same_act es a v) (a.subject, a.action, a.object) v (lookup (same_act a) es) (rows-insert es a v)
 
 -- ---- the acts of a trace
-
-pub record KeepsActs (es : List (Act × ℤ)) (T : Trace) : Type 0 where
-  pub moments : (s a o : Bytes) → lookup (same_act (act_of s a o)) es ≡ moment s a o T
-  pub rows : map row_of es ≡ act_rows T
-  pub count : length es ≡ acts T
 
 pub keeps_acts_opening : KeepsActs [] []
 keeps_acts_opening = record { moments = λ s a o. refl; rows = refl; count = refl }

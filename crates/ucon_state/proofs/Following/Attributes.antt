@@ -10,13 +10,13 @@ use Rattle.ucon_base.specs.declared.value.Value.{Value}
 use Rattle.ucon_model.specs.declared.policy.AttrDecl.{AttrDecl}
 use Rattle.ucon_model.specs.Plain.{Bytes, PlainPolicy}
 use Rattle.ucon_model.specs.Action.{Trace, subject, object, write}
-use Rattle.ucon_model.specs.Readings.{has_entity, same_side, written, declared_attr, attribute}
-use Rattle.ucon_state.specs.Tables.{Tables, attrs_of, attr_place, cell_of, attribute_in}
+use Rattle.ucon_model.specs.Readings.{has_entity, same_side, written, declared_attr, attribute, attrs_of, attr_position}
+use Rattle.ucon_state.specs.Tables.{Tables, first_cell, cell_of, attribute_in}
 use Rattle.ucon_state.specs.Applied.{defaults_of, with_entity, with_cell}
-use Rattle.ucon_state.specs.Following.{IsLegalTrace}
+use Rattle.ucon_state.specs.Following.{HaveOwnCells}
 use Rattle.ucon_state.proofs.Following.Places.{set_here, set_elsewhere, still_there, added_there}
 use Rattle.ucon_state.proofs.Following.Names.{same_name, own_name}
-use Rattle.ucon_state.proofs.Following.Cells.{first, from_first, cell_of-first, declared_there, same_sides, HaveOwnCells, first-with_entity, cells-with_entity, first-with_cell, parts_of_cell, cell_within, whose_cell}
+use Rattle.ucon_state.proofs.Following.Cells.{from_first, cell_of-first_cell, declared_there, same_sides, first_cell-with_entity, cells-with_entity, first_cell-with_cell, parts_of_cell, cell_within, whose_cell}
 
 -- ---- after an entity came
 
@@ -24,7 +24,7 @@ start_of : AttrDecl → Value
 start_of d = d.start
 
 -- a new entity has the defaults
-new_has_defaults : (P : PlainPolicy) (t : Tables) (s : Side) (attr : Bytes) (o : Option ℕ) → attr_place P s attr ≡ o
+new_has_defaults : (P : PlainPolicy) (t : Tables) (s : Side) (attr : Bytes) (o : Option ℕ) → attr_position P s attr ≡ o
     → option_and_then (slice_get (t.cells ++ defaults_of P s)) (option_map (λ place. length t.cells + place) o)
     ≡ option_map (λ d. d.start) (option_and_then (slice_get (attrs_of P s)) o)
 new_has_defaults P t s attr None is = refl
@@ -38,31 +38,31 @@ old_stays P t s side n attr None h is = refl
 old_stays P t s side n attr (Some c) h is = still_there t.cells (defaults_of P s) c (cell_within P t side n attr c h (parts_of_cell P t side n attr c is))
 
 came_by : (P : PlainPolicy) (t : Tables) (s side : Side) (name n attr : Bytes) (b : Bool) → HaveOwnCells P t → (same_side side s && bytes_eq n name) ≡ b
-    → option_and_then (slice_get (t.cells ++ defaults_of P s)) (option_and_then (from_first P side attr) (cond b (Some (length t.cells)) (first t side n)))
+    → option_and_then (slice_get (t.cells ++ defaults_of P s)) (option_and_then (from_first P side attr) (cond b (Some (length t.cells)) (first_cell t side n)))
     ≡ cond b (option_map (λ d. d.start) (declared_attr P.attrs side attr)) (attribute_in P t side n attr)
 came_by P t s side name n attr true h is =
     let both = and_parts (same_side side s) (bytes_eq n name) is in
     let here : side ≡ s = same_sides side s both.0 in
     subst (λ (r : Side). option_and_then (slice_get (t.cells ++ defaults_of P r)) (from_first P side attr (length t.cells)) ≡ option_map (λ d. d.start) (declared_attr P.attrs side attr)) here
-    (new_has_defaults P t side attr (attr_place P side attr) refl ∙ ap (option_map (λ (d : AttrDecl). d.start)) (declared_there P side attr))
+    (new_has_defaults P t side attr (attr_position P side attr) refl ∙ ap (option_map (λ (d : AttrDecl). d.start)) (declared_there P side attr))
 came_by P t s side name n attr false h is =
-    ap (option_and_then (slice_get (t.cells ++ defaults_of P s))) (sym (cell_of-first P t side n attr))
+    ap (option_and_then (slice_get (t.cells ++ defaults_of P s))) (sym (cell_of-first_cell P t side n attr))
     ∙ old_stays P t s side n attr (cell_of P t side n attr) h refl
 
-pub attribute_in-with_entity : (P : PlainPolicy) (t : Tables) (s side : Side) (name n attr : Bytes) → HaveOwnCells P t → first t s name ≡ None
+pub attribute_in-with_entity : (P : PlainPolicy) (t : Tables) (s side : Side) (name n attr : Bytes) → HaveOwnCells P t → first_cell t s name ≡ None
     → attribute_in P (with_entity P t s name) side n attr
     ≡ cond (same_side side s && bytes_eq n name) (option_map (λ d. d.start) (declared_attr P.attrs side attr)) (attribute_in P t side n attr)
 attribute_in-with_entity P t s side name n attr h new =
     ap (λ cells. option_and_then (slice_get cells) (cell_of P (with_entity P t s name) side n attr)) (cells-with_entity P t s name)
     ∙ ap (option_and_then (slice_get (t.cells ++ defaults_of P s)))
-    (cell_of-first P (with_entity P t s name) side n attr ∙ ap (option_and_then (from_first P side attr)) (first-with_entity P t s side name n new))
+    (cell_of-first_cell P (with_entity P t s name) side n attr ∙ ap (option_and_then (from_first P side attr)) (first_cell-with_entity P t s side name n new))
     ∙ came_by P t s side name n attr (same_side side s && bytes_eq n name) h refl
 
 -- ---- after a write
 
 cell_of-with_cell : (P : PlainPolicy) (t : Tables) (cell : ℕ) (v : Value) (side : Side) (n attr : Bytes) → cell_of P (with_cell t cell v) side n attr ≡ cell_of P t side n attr
 cell_of-with_cell P t cell v side n attr =
-    cell_of-first P (with_cell t cell v) side n attr ∙ ap (option_and_then (from_first P side attr)) (first-with_cell t cell v side n) ∙ sym (cell_of-first P t side n attr)
+    cell_of-first_cell P (with_cell t cell v) side n attr ∙ ap (option_and_then (from_first P side attr)) (first_cell-with_cell t cell v side n) ∙ sym (cell_of-first_cell P t side n attr)
 
 -- whether it is this attribute of this entity
 abbrev pub is_that : Side → Side → Bytes → Bytes → Bytes → Bytes → Bool
@@ -102,40 +102,16 @@ attribute_in-with_cell P t s side name n a attr c v h there =
     ap (option_and_then (slice_get (slice_set t.cells c v))) (cell_of-with_cell P t c v side n attr)
     ∙ written_by P t s side name n a attr c v (is_that side s n name attr a) (cell_of P t side n attr) h there refl refl
 
--- ---- the trace's writes
-
--- no entity was written to before it came
-not_that : (P : PlainPolicy) (T : Trace) (side s : Side) (e n attr a : Bytes) (v : Value) (b : Bool) (o : Option Value) → is_that side s e n attr a ≡ b
-    → has_entity s n T ≡ true → has_entity side e T ≡ false → o ≡ None → cond b (Some v) o ≡ None
-not_that P T side s e n attr a v true o is there new none =
-    let same = that_one side s e n attr a is in
-    absurd (both_ways (has_entity side e T) new (ap (λ (r : Side). has_entity r e T) same.0 ∙ ap (λ (m : Bytes). has_entity s m T) same.1 ∙ there))
-not_that P T side s e n attr a v false o is there new none = none
-
-pub written_none : (P : PlainPolicy) (T : Trace) → IsLegalTrace P T → (side : Side) (e attr : Bytes) → has_entity side e T ≡ false → written side e attr T ≡ None
-written_none P [] h side e attr new = refl
-written_none P (subject name ∷ T) h sides.Subject e attr new = written_none P T h.0 sides.Subject e attr (or_parts _ _ new).1
-written_none P (object name ∷ T) h sides.Object e attr new = written_none P T h.0 sides.Object e attr (or_parts _ _ new).1
-written_none P (write s n a v ∷ T) h sides.Subject e attr new =
-    not_that P T sides.Subject s e n attr a v (is_that sides.Subject s e n attr a) (written sides.Subject e attr T) refl h.1.0 new (written_none P T h.0 sides.Subject e attr new)
-written_none P (write s n a v ∷ T) h sides.Object e attr new =
-    not_that P T sides.Object s e n attr a v (is_that sides.Object s e n attr a) (written sides.Object e attr T) refl h.1.0 new (written_none P T h.0 sides.Object e attr new)
-written_none P (b ∷ T) h sides.Subject e attr new = written_none P T h.0 sides.Subject e attr new
-written_none P (b ∷ T) h sides.Object e attr new = written_none P T h.0 sides.Object e attr new
-
 -- ---- one action further
 
 -- the value of an attribute, by whether the entity is there, by the last write, and by the declaration
 abbrev value_by : Bool → Option Value → Option AttrDecl → Option Value
 value_by there last declared = cond there (option_map (λ d. unwrap_or last d.start) declared) None
 
-pub new_value : (P : PlainPolicy) (T : Trace) (s : Side) (name n attr : Bytes) (b : Bool) (old : Option Value) → IsLegalTrace P T → has_entity s name T ≡ false → bytes_eq n name ≡ b
-    → old ≡ attribute P T s n attr
-    → cond b (option_map (λ d. d.start) (declared_attr P.attrs s attr)) old ≡ value_by (b || has_entity s n T) (written s n attr T) (declared_attr P.attrs s attr)
-new_value P T s name n attr true old h new is same =
-    let none : written s n attr T ≡ None = written_none P T h s n attr (ap (λ (m : Bytes). has_entity s m T) (same_name n name is) ∙ new) in
-    sym (ap (λ (w : Option Value). value_by true w (declared_attr P.attrs s attr)) none)
-new_value P T s name n attr false old h new is same = same
+pub new_value : (P : PlainPolicy) (T : Trace) (s : Side) (n attr : Bytes) (b : Bool) (old : Option Value) → old ≡ attribute P T s n attr
+    → cond b (option_map (λ d. d.start) (declared_attr P.attrs s attr)) old ≡ value_by (b || has_entity s n T) (cond b None (written s n attr T)) (declared_attr P.attrs s attr)
+new_value P T s n attr true old same = refl
+new_value P T s n attr false old same = same
 
 pub written_value : (P : PlainPolicy) (T : Trace) (s side : Side) (name n a attr : Bytes) (v : Value) (b : Bool) (old : Option Value) (declared : Option AttrDecl)
     → is_that side s n name attr a ≡ b → has_entity s name T ≡ true → declared_attr P.attrs s a ≡ declared → is_some declared ≡ true

@@ -1,9 +1,9 @@
 -- The tables keep the entities of the trace, with their attributes.
-use Rattle.std.proofs.Common.{◌≡◌, ◌⊎◌, ◌∙◌, sym, ap, subst, ℕ, ℤ, ◌+◌, ◌≤◌, true, false, cond, ◌&&◌, List, [], ◌∷◌, length, refl, arith}
+use Rattle.std.proofs.Common.{◌≡◌, ◌⊎◌, ◌∙◌, sym, ap, subst, ℕ, ℤ, ◌+◌, ◌≤◌, Bool, true, false, cond, ◌&&◌, List, [], ◌∷◌, length, refl, arith}
 use Rattle.std.specs.Prelude.{Option, Some, None, is_some, option_map, option_and_then, unwrap_or, slice_set, IsTrue, IsSomeAnd}
 use Rattle.std.specs.Option.{option_map_or}
 use Rattle.std.specs.Str.{bytes_eq}
-use Rattle.std.proofs.lemmas.Bool.{and_from}
+use Rattle.std.proofs.lemmas.Bool.{and_from, and_parts}
 use Rattle.ucon_base.specs.declared.value.Side.{Side}
 use Rattle.ucon_base.specs.declared.value.Side.TheVariants as sides
 use Rattle.ucon_base.specs.declared.value.Value.{Value}
@@ -14,20 +14,15 @@ use Rattle.ucon_model.specs.declared.session.SessionState.{SessionState}
 use Rattle.ucon_model.specs.declared.session.SessionState.TheVariants.{Denied, Accessing, Revoked, Ended}
 use Rattle.ucon_model.specs.Plain.{Bytes, PlainPolicy}
 use Rattle.ucon_model.specs.Action.{Action, Trace, subject, object, write, env, tick, act, tries, wait, permit, deny, ends, revoke}
-use Rattle.ucon_model.specs.Readings.{has_entity, written, declared_attr, attribute}
+use Rattle.ucon_model.specs.Readings.{same_side, has_entity, written, declared_attr, attribute, attr_position, env_position}
 use Rattle.ucon_model.specs.Legal.{IsLegal}
 use Rattle.ucon_state.specs.declared.act.Act.{Act}
-use Rattle.ucon_state.specs.Tables.{Tables, entities_of, attr_place, cell_of, attribute_in, env_place, session_in}
+use Rattle.ucon_state.specs.Tables.{Tables, entities_of, width, first_cell, cell_of, attribute_in, session_in}
 use Rattle.ucon_state.specs.Applied.{with_entity, with_cell, with_variable, moved_to, applied, opening_tables}
-use Rattle.ucon_state.specs.Following.{IsLegalTrace}
-use Rattle.ucon_state.proofs.Following.Names.{KeepsNames, keeps_names_opening, keeps_names_subject, keeps_names_object}
-use Rattle.ucon_state.proofs.Following.Cells.{first, from_first, width, cell_of-first, place_where_declared, HaveOwnCells, own_cells-with_entity, own_cells-with_cell}
+use Rattle.ucon_state.specs.Following.{KeepsNames, HaveOwnCells, KeepsEntities}
+use Rattle.ucon_state.proofs.Following.Names.{same_name, keeps_names_opening, keeps_names_subject, keeps_names_object}
+use Rattle.ucon_state.proofs.Following.Cells.{from_first, cell_of-first_cell, place_where_declared, first_cell-with_entity, first_cell-with_cell, same_sides, own_cells-with_entity, own_cells-with_cell}
 use Rattle.ucon_state.proofs.Following.Attributes.{attribute_in-with_entity, attribute_in-with_cell, is_that, new_value, written_value}
-
-pub record KeepsEntities (P : PlainPolicy) (t : Tables) (T : Trace) : Type 0 where
-  pub names : (side : Side) → KeepsNames (entities_of side t) side T
-  pub own_cells : HaveOwnCells P t
-  pub values : (side : Side) (name attr : Bytes) → attribute_in P t side name attr ≡ attribute P T side name attr
 
 -- ---- actions that leave the entities and their attributes
 
@@ -55,7 +50,7 @@ same_reading : {A : Type 0} (read : Tables → A) (P : PlainPolicy) (t : Tables)
 same_reading read P t (subject name) leaves each = absurd leaves
 same_reading read P t (object name) leaves each = absurd leaves
 same_reading read P t (write side name attr v) leaves each = absurd leaves
-same_reading read P t (env name v) leaves each = by_variable read t v (env_place P name) each
+same_reading read P t (env name v) leaves each = by_variable read t v (env_position P name) each
 same_reading read P t (tick now) leaves each = each t t.variables now t.acts t.sessions
 same_reading read P t (act s a o) leaves each = each t t.variables t.tick (applied P (act s a o) t).acts t.sessions
 same_reading read P t (tries n caller s r o) leaves each = each t t.variables t.tick t.acts (applied P (tries n caller s r o) t).sessions
@@ -69,7 +64,7 @@ entities_read : (side : Side) → ReadsEntities (entities_of side)
 entities_read sides.Subject t variables now acts rows = refl
 entities_read sides.Object t variables now acts rows = refl
 
-first_read : (side : Side) (name : Bytes) → ReadsEntities (λ t. first t side name)
+first_read : (side : Side) (name : Bytes) → ReadsEntities (λ t. first_cell t side name)
 first_read sides.Subject name t variables now acts rows = refl
 first_read sides.Object name t variables now acts rows = refl
 
@@ -91,7 +86,7 @@ same_attribute P T (write s name b v) leaves side n attr = absurd leaves
 same_attribute P T a leaves sides.Subject n attr = refl
 same_attribute P T a leaves sides.Object n attr = refl
 
-same_own_cells : (P : PlainPolicy) (t u : Tables) → ((side : Side) (name : Bytes) → first u side name ≡ first t side name) → length u.cells ≡ length t.cells
+same_own_cells : (P : PlainPolicy) (t u : Tables) → ((side : Side) (name : Bytes) → first_cell u side name ≡ first_cell t side name) → length u.cells ≡ length t.cells
     → HaveOwnCells P t → HaveOwnCells P u
 same_own_cells P t u firsts cells h = record {
   within = λ side n f e. omega (arith, cells, h.within side n f (sym (firsts side n) ∙ e));
@@ -103,7 +98,7 @@ by_others P t T a leaves h = record {
   names = λ side.
       subst (λ (es : List (Bytes × ℕ)). KeepsNames es side (a ∷ T)) (sym (same_reading (entities_of side) P t a leaves (entities_read side)))
       (same_names (entities_of side t) side T a leaves (h.names side));
-  own_cells = same_own_cells P t (applied P a t) (λ side name. same_reading (λ t. first t side name) P t a leaves (first_read side name))
+  own_cells = same_own_cells P t (applied P a t) (λ side name. same_reading (λ t. first_cell t side name) P t a leaves (first_read side name))
       (same_reading (λ t. length t.cells) P t a leaves (λ t variables now acts rows. refl)) h.own_cells;
   values = λ side name attr.
       same_reading (λ t. attribute_in P t side name attr) P t a leaves (attribute_read P side name attr) ∙ h.values side name attr ∙ same_attribute P T a leaves side name attr;
@@ -115,8 +110,8 @@ not_there : (o : Option ℕ) → is_some o ≡ false → o ≡ None
 not_there None e = refl
 not_there (Some x) e = absurd cc
 
-no_entity : (P : PlainPolicy) (t : Tables) (T : Trace) → KeepsEntities P t T → (side : Side) (name : Bytes) → has_entity side name T ≡ false → first t side name ≡ None
-no_entity P t T h side name new = not_there (first t side name) ((h.names side).there name ∙ new)
+no_entity : (P : PlainPolicy) (t : Tables) (T : Trace) → KeepsEntities P t T → (side : Side) (name : Bytes) → has_entity side name T ≡ false → first_cell t side name ≡ None
+no_entity P t T h side name new = not_there (first_cell t side name) ((h.names side).there name ∙ new)
 
 same_others : (es : List (Bytes × ℕ)) (T : Trace) (name : Bytes) → KeepsNames es sides.Object T → KeepsNames es sides.Object (subject name ∷ T)
 same_others es T name h = record { names = h.names; count = h.count; there = h.there; number = h.number }
@@ -124,11 +119,11 @@ same_others es T name h = record { names = h.names; count = h.count; there = h.t
 same_subjects : (es : List (Bytes × ℕ)) (T : Trace) (name : Bytes) → KeepsNames es sides.Subject T → KeepsNames es sides.Subject (object name ∷ T)
 same_subjects es T name h = record { names = h.names; count = h.count; there = h.there; number = h.number }
 
-by_subject : (P : PlainPolicy) (t : Tables) (T : Trace) (name : Bytes) → IsLegalTrace P T → has_entity sides.Subject name T ≡ false → KeepsEntities P t T
+by_subject : (P : PlainPolicy) (t : Tables) (T : Trace) (name : Bytes) → has_entity sides.Subject name T ≡ false → KeepsEntities P t T
     → KeepsEntities P (with_entity P t sides.Subject name) (subject name ∷ T)
-by_subject P t T name legal new h = record { names = names; own_cells = own_cells-with_entity P t sides.Subject name none h.own_cells; values = values }
+by_subject P t T name new h = record { names = names; own_cells = own_cells-with_entity P t sides.Subject name none h.own_cells; values = values }
   where
-    none : first t sides.Subject name ≡ None
+    none : first_cell t sides.Subject name ≡ None
     none = no_entity P t T h sides.Subject name new
 
     names : (side : Side) → KeepsNames (entities_of side (with_entity P t sides.Subject name)) side (subject name ∷ T)
@@ -138,14 +133,14 @@ by_subject P t T name legal new h = record { names = names; own_cells = own_cell
     values : (side : Side) (n attr : Bytes) → attribute_in P (with_entity P t sides.Subject name) side n attr ≡ attribute P (subject name ∷ T) side n attr
     values sides.Subject n attr =
         attribute_in-with_entity P t sides.Subject sides.Subject name n attr h.own_cells none
-        ∙ new_value P T sides.Subject name n attr (bytes_eq n name) (attribute_in P t sides.Subject n attr) legal new refl (h.values sides.Subject n attr)
+        ∙ new_value P T sides.Subject n attr (bytes_eq n name) (attribute_in P t sides.Subject n attr) (h.values sides.Subject n attr)
     values sides.Object n attr = attribute_in-with_entity P t sides.Subject sides.Object name n attr h.own_cells none ∙ h.values sides.Object n attr
 
-by_object : (P : PlainPolicy) (t : Tables) (T : Trace) (name : Bytes) → IsLegalTrace P T → has_entity sides.Object name T ≡ false → KeepsEntities P t T
+by_object : (P : PlainPolicy) (t : Tables) (T : Trace) (name : Bytes) → has_entity sides.Object name T ≡ false → KeepsEntities P t T
     → KeepsEntities P (with_entity P t sides.Object name) (object name ∷ T)
-by_object P t T name legal new h = record { names = names; own_cells = own_cells-with_entity P t sides.Object name none h.own_cells; values = values }
+by_object P t T name new h = record { names = names; own_cells = own_cells-with_entity P t sides.Object name none h.own_cells; values = values }
   where
-    none : first t sides.Object name ≡ None
+    none : first_cell t sides.Object name ≡ None
     none = no_entity P t T h sides.Object name new
 
     names : (side : Side) → KeepsNames (entities_of side (with_entity P t sides.Object name)) side (object name ∷ T)
@@ -156,12 +151,12 @@ by_object P t T name legal new h = record { names = names; own_cells = own_cells
     values sides.Subject n attr = attribute_in-with_entity P t sides.Object sides.Subject name n attr h.own_cells none ∙ h.values sides.Subject n attr
     values sides.Object n attr =
         attribute_in-with_entity P t sides.Object sides.Object name n attr h.own_cells none
-        ∙ new_value P T sides.Object name n attr (bytes_eq n name) (attribute_in P t sides.Object n attr) legal new refl (h.values sides.Object n attr)
+        ∙ new_value P T sides.Object n attr (bytes_eq n name) (attribute_in P t sides.Object n attr) (h.values sides.Object n attr)
 
 -- ---- a write
 
 -- an attribute has a cell where its entity is there and it is declared
-both_there : (P : PlainPolicy) (side : Side) (attr : Bytes) (f p : Option ℕ) → attr_place P side attr ≡ p
+both_there : (P : PlainPolicy) (side : Side) (attr : Bytes) (f p : Option ℕ) → attr_position P side attr ≡ p
     → is_some (option_and_then (from_first P side attr) f) ≡ (is_some f && is_some p)
 both_there P side attr None p is = refl
 both_there P side attr (Some f) None is = ap (λ (o : Option ℕ). is_some (option_map (λ place. f + place) o)) is
@@ -170,9 +165,9 @@ both_there P side attr (Some f) (Some p) is = ap (λ (o : Option ℕ). is_some (
 pub cell_where_declared : (P : PlainPolicy) (t : Tables) (T : Trace) → KeepsEntities P t T → (side : Side) (name attr : Bytes)
     → is_some (cell_of P t side name attr) ≡ (has_entity side name T && is_some (declared_attr P.attrs side attr))
 cell_where_declared P t T h side name attr =
-    ap is_some (cell_of-first P t side name attr)
-    ∙ both_there P side attr (first t side name) (attr_place P side attr) refl
-    ∙ ap (λ b. b && is_some (attr_place P side attr)) ((h.names side).there name)
+    ap is_some (cell_of-first_cell P t side name attr)
+    ∙ both_there P side attr (first_cell t side name) (attr_position P side attr) refl
+    ∙ ap (λ b. b && is_some (attr_position P side attr)) ((h.names side).there name)
     ∙ ap (λ b. has_entity side name T && b) (place_where_declared P side attr)
 
 is_declared : (o : Option AttrDecl) (v : Value) → IsSomeAnd o (λ d. IsTrue (admits d.kind v)) → is_some o ≡ true
@@ -205,6 +200,35 @@ by_write P t T s name a v legal h =
     by_cell P t T s name a v (cell_of P t s name a) legal h refl
     (cell_where_declared P t T h s name a ∙ and_from (has_entity s name T) (is_some (declared_attr P.attrs s a)) legal.0 (is_declared (declared_attr P.attrs s a) v legal.1))
 
+-- ---- cells of those that are there stay
+
+still_first : (b : Bool) (new f : ℕ) (o : Option ℕ) → o ≡ Some f → (b ≡ true → o ≡ None) → cond b (Some new) o ≡ Some f
+still_first true new f o is none = absurd (let gone : None ≡ Some f = sym (none refl) ∙ is in cc)
+still_first false new f o is none = is
+
+same_first : (t : Tables) (s side : Side) (name n : Bytes) → first_cell t s name ≡ None → (same_side side s && bytes_eq n name) ≡ true → first_cell t side n ≡ None
+same_first t s side name n new same =
+    let both = and_parts (same_side side s) (bytes_eq n name) same in
+    ap (λ (r : Side). first_cell t r n) (same_sides side s both.0) ∙ ap (first_cell t s) (same_name n name both.1) ∙ new
+
+first_after_entity : (P : PlainPolicy) (t : Tables) (s side : Side) (name n : Bytes) (f : ℕ) → first_cell t s name ≡ None → first_cell t side n ≡ Some f
+    → first_cell (with_entity P t s name) side n ≡ Some f
+first_after_entity P t s side name n f new is =
+    first_cell-with_entity P t s side name n new
+    ∙ still_first (same_side side s && bytes_eq n name) (length t.cells) f (first_cell t side n) is (same_first t s side name n new)
+
+after_write : (t : Tables) (v : Value) (o : Option ℕ) (side : Side) (n : Bytes) → first_cell (option_map_or (λ cell. with_cell t cell v) o t) side n ≡ first_cell t side n
+after_write t v None side n = refl
+after_write t v (Some cell) side n = first_cell-with_cell t cell v side n
+
+-- an entity that is there keeps its first cell
+pub first_stays : (P : PlainPolicy) (t : Tables) (T : Trace) (a : Action) → KeepsEntities P t T → IsLegal P T a → (side : Side) (n : Bytes) (f : ℕ)
+    → first_cell t side n ≡ Some f → first_cell (applied P a t) side n ≡ Some f
+first_stays P t T (subject name) h legal side n f is = first_after_entity P t sides.Subject side name n f (no_entity P t T h sides.Subject name legal.0) is
+first_stays P t T (object name) h legal side n f is = first_after_entity P t sides.Object side name n f (no_entity P t T h sides.Object name legal.0) is
+first_stays P t T (write s name a v) h legal side n f is = after_write t v (cell_of P t s name a) side n ∙ is
+first_stays P t T a h legal side n f is = same_reading (λ t. first_cell t side n) P t a tt (first_read side n) ∙ is
+
 -- ---- all of it
 
 pub keeps_entities_opening : (P : PlainPolicy) → KeepsEntities P (opening_tables P) []
@@ -214,14 +238,14 @@ keeps_entities_opening P = record { names = names; own_cells = record { within =
     names sides.Subject = keeps_names_opening sides.Subject
     names sides.Object = keeps_names_opening sides.Object
 
-    nobody : (side : Side) (name : Bytes) → first (opening_tables P) side name ≡ None
+    nobody : (side : Side) (name : Bytes) → first_cell (opening_tables P) side name ≡ None
     nobody sides.Subject name = refl
     nobody sides.Object name = refl
 
-    within : (side : Side) (name : Bytes) (f : ℕ) → first (opening_tables P) side name ≡ Some f → f + width P side ≤ 0
+    within : (side : Side) (name : Bytes) (f : ℕ) → first_cell (opening_tables P) side name ≡ Some f → f + width P side ≤ 0
     within side name f e = let none = nobody side name in absurd cc
 
-    apart : (side side' : Side) (name name' : Bytes) (f f' : ℕ) → first (opening_tables P) side name ≡ Some f → first (opening_tables P) side' name' ≡ Some f'
+    apart : (side side' : Side) (name name' : Bytes) (f f' : ℕ) → first_cell (opening_tables P) side name ≡ Some f → first_cell (opening_tables P) side' name' ≡ Some f'
         → ((side ≡ side') × (name ≡ name')) ⊎ ((f + width P side ≤ f') ⊎ (f' + width P side' ≤ f))
     apart side side' name name' f f' e e' = let none = nobody side name in absurd cc
 
@@ -229,8 +253,8 @@ keeps_entities_opening P = record { names = names; own_cells = record { within =
     values sides.Subject n attr = refl
     values sides.Object n attr = refl
 
-pub keeps_entities_after : (P : PlainPolicy) (t : Tables) (T : Trace) (a : Action) → IsLegalTrace P T → IsLegal P T a → KeepsEntities P t T → KeepsEntities P (applied P a t) (a ∷ T)
-keeps_entities_after P t T (subject name) before legal h = by_subject P t T name before legal.0 h
-keeps_entities_after P t T (object name) before legal h = by_object P t T name before legal.0 h
-keeps_entities_after P t T (write s name a v) before legal h = by_write P t T s name a v legal h
-keeps_entities_after P t T a before legal h = by_others P t T a tt h
+pub keeps_entities_after : (P : PlainPolicy) (t : Tables) (T : Trace) (a : Action) → IsLegal P T a → KeepsEntities P t T → KeepsEntities P (applied P a t) (a ∷ T)
+keeps_entities_after P t T (subject name) legal h = by_subject P t T name legal.0 h
+keeps_entities_after P t T (object name) legal h = by_object P t T name legal.0 h
+keeps_entities_after P t T (write s name a v) legal h = by_write P t T s name a v legal h
+keeps_entities_after P t T a legal h = by_others P t T a tt h

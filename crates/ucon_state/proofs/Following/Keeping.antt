@@ -1,6 +1,6 @@
 -- The tables after a legal trace keep it.
 use Rattle.std.proofs.Common.{◌≡◌, ◌∙◌, sym, ap, subst, ℕ, ℤ, ◌-◌, true, List, [], ◌∷◌, map, refl}
-use Rattle.std.specs.Prelude.{◌↔◌, Option, Some, None, is_some, slice_get, slice_set, IsTrue, IsSomeAnd}
+use Rattle.std.specs.Prelude.{◌↔◌, Option, Some, None, is_some, option_and_then, slice_get, slice_set, IsTrue, IsSomeAnd}
 use Rattle.std.specs.Option.{option_map_or}
 use Rattle.std.specs.Str.{bytes_eq}
 use Rattle.ucon_base.specs.declared.value.Side.{Side}
@@ -15,19 +15,23 @@ use Rattle.ucon_model.specs.declared.session.SessionState.{SessionState}
 use Rattle.ucon_model.specs.declared.session.SessionState.TheVariants.{Denied, Accessing, Revoked, Ended}
 use Rattle.ucon_model.specs.Plain.{Bytes, PlainPolicy}
 use Rattle.ucon_model.specs.Action.{Action, Trace, subject, object, write, env, tick, act, tries, wait, permit, deny, ends, revoke, extended}
-use Rattle.ucon_model.specs.Readings.{tick_of, entity_names, declared_env}
+use Rattle.ucon_model.specs.Readings.{tick_of, entity_names, declared_env, env_position}
 use Rattle.ucon_model.specs.Truth.{readings, place_of}
 use Rattle.ucon_model.specs.Legal.{IsLegal, AreLegal}
+use Rattle.ucon_model.specs.Typing.{IsTyped}
+use Rattle.ucon_model.proofs.Allowed.{sound_before, sound_after_action}
+use Rattle.ucon_state.specs.Shown.{Shown, changed_to}
 use Rattle.ucon_state.specs.declared.act.Act.{Act}
-use Rattle.ucon_state.specs.Tables.{Tables, entities_of, entity_number, cell_of, env_place, place_in, session_in, readings_in, counts_in}
+use Rattle.ucon_state.specs.Tables.{Tables, first_cell, entities_of, entity_number, cell_of, place_in, session_in, readings_in, counts_in}
 use Rattle.ucon_state.specs.Applied.{with_cell, with_variable, moved_to, with_state, applied, opening_tables, tables_of}
-use Rattle.ucon_state.specs.Following.{IsLegalTrace, all_applied, counts_of, Keeps}
+use Rattle.ucon_state.specs.Following.{IsLegalTrace, all_applied, counts_of, KeepsEntities, KeepsVariables, KeepsActs, TablesFollow, Follows, Keeps}
 use Rattle.ucon_state.proofs.Following.Places.{passes_there, placed_where_found, placed_where_first}
 use Rattle.ucon_state.proofs.Following.Names.{same_name}
-use Rattle.ucon_state.proofs.Following.Entities.{KeepsEntities, keeps_entities_opening, keeps_entities_after, cell_where_declared}
-use Rattle.ucon_state.proofs.Following.Acts.{KeepsActs, keeps_acts_opening, keeps_acts_act}
-use Rattle.ucon_state.proofs.Following.Sessions.{KeepsSessions, keeps_sessions_opening, keeps_sessions_after, accessing_kept, by_option}
-use Rattle.ucon_state.proofs.Following.Variables.{KeepsVariables, keeps_variables_opening, keeps_variables_given}
+use Rattle.ucon_state.proofs.Following.Entities.{keeps_entities_opening, keeps_entities_after, first_stays, cell_where_declared}
+use Rattle.ucon_state.proofs.Following.Cells.{from_first, cell_of-first_cell}
+use Rattle.ucon_state.proofs.Following.Acts.{keeps_acts_opening, keeps_acts_act}
+use Rattle.ucon_state.proofs.Following.Sessions.{keeps_sessions_opening, keeps_sessions_after, accessing_kept, by_option}
+use Rattle.ucon_state.proofs.Following.Variables.{keeps_variables_opening, keeps_variables_given}
 
 -- ---- what an action leaves
 
@@ -69,14 +73,14 @@ is_declared : (o : Option EnvDecl) (v : Value) → IsSomeAnd o (λ d. IsTrue (ad
 is_declared None v h = absurd h
 is_declared (Some d) v h = refl
 
-variable_given : (P : PlainPolicy) (t : Tables) (T : Trace) (name : Bytes) (v : Value) (o : Option ℕ) → env_place P name ≡ o → is_some o ≡ true → KeepsVariables P t.variables T
+variable_given : (P : PlainPolicy) (t : Tables) (T : Trace) (name : Bytes) (v : Value) (o : Option ℕ) → env_position P name ≡ o → is_some o ≡ true → KeepsVariables P t.variables T
     → KeepsVariables P (option_map_or (λ place. with_variable t place v) o t).variables (env name v ∷ T)
 variable_given P t T name v None is there h = absurd cc
 variable_given P t T name v (Some place) is there h = keeps_variables_given P t.variables T name v place h is
 
 keeps_variables_after : (P : PlainPolicy) (t : Tables) (T : Trace) (a : Action) → IsLegal P T a → KeepsVariables P t.variables T → KeepsVariables P (applied P a t).variables (a ∷ T)
 keeps_variables_after P t T (env name v) legal h =
-    variable_given P t T name v (env_place P name) refl (placed_where_first (λ d. bytes_eq name d.name) P.envs ∙ is_declared (declared_env P.envs name) v legal) h
+    variable_given P t T name v (env_position P name) refl (placed_where_first (λ d. bytes_eq name d.name) P.envs ∙ is_declared (declared_env P.envs name) v legal) h
 keeps_variables_after P t T a legal h = variables_left P t T a tt h
 
 -- ---- the tick
@@ -85,7 +89,7 @@ keeps_tick_after : (P : PlainPolicy) (t : Tables) (T : Trace) (a : Action) → t
 keeps_tick_after P t T (subject name) h = h
 keeps_tick_after P t T (object name) h = h
 keeps_tick_after P t T (write side name attr v) h = by_option (λ u. u.tick) t (λ cell. with_cell t cell v) (cell_of P t side name attr) (λ cell. refl) ∙ h
-keeps_tick_after P t T (env name v) h = by_option (λ u. u.tick) t (λ place. with_variable t place v) (env_place P name) (λ place. refl) ∙ h
+keeps_tick_after P t T (env name v) h = by_option (λ u. u.tick) t (λ place. with_variable t place v) (env_position P name) (λ place. refl) ∙ h
 keeps_tick_after P t T (tick now) h = refl
 keeps_tick_after P t T (act s a o) h = h
 keeps_tick_after P t T (tries n caller s r o) h = h
@@ -105,7 +109,7 @@ same_acts : (P : PlainPolicy) (t : Tables) (a : Action) → LeavesActs a → (ap
 same_acts P t (subject name) leaves = refl
 same_acts P t (object name) leaves = refl
 same_acts P t (write side name attr v) leaves = by_option (λ u. u.acts) t (λ cell. with_cell t cell v) (cell_of P t side name attr) (λ cell. refl)
-same_acts P t (env name v) leaves = by_option (λ u. u.acts) t (λ place. with_variable t place v) (env_place P name) (λ place. refl)
+same_acts P t (env name v) leaves = by_option (λ u. u.acts) t (λ place. with_variable t place v) (env_position P name) (λ place. refl)
 same_acts P t (tick now) leaves = refl
 same_acts P t (act s a o) leaves = absurd leaves
 same_acts P t (tries n caller s r o) leaves = refl
@@ -128,14 +132,7 @@ keeps_acts_after P t T a now h = acts_left P t T a tt h
 
 -- ---- all of it
 
-pub record Follows (P : PlainPolicy) (t : Tables) (T : Trace) : Type 0 where
-  pub entities : KeepsEntities P t T
-  pub variables : KeepsVariables P t.variables T
-  pub tick : t.tick ≡ tick_of T
-  pub acts : KeepsActs t.acts T
-  pub sessions : KeepsSessions t T
-
-pub follows_opening : (P : PlainPolicy) → Follows P (opening_tables P) []
+pub follows_opening : (P : PlainPolicy) → TablesFollow P (opening_tables P) []
 follows_opening P = record {
   entities = keeps_entities_opening P;
   variables = keeps_variables_opening P;
@@ -144,27 +141,27 @@ follows_opening P = record {
   sessions = keeps_sessions_opening P;
 }
 
-pub follows_after : (P : PlainPolicy) (t : Tables) (T : Trace) (a : Action) → IsLegalTrace P T → IsLegal P T a → Follows P t T → Follows P (applied P a t) (a ∷ T)
-follows_after P t T a before legal h = record {
-  entities = keeps_entities_after P t T a before legal h.entities;
+pub follows_after : (P : PlainPolicy) (t : Tables) (T : Trace) (a : Action) → IsLegal P T a → TablesFollow P t T → TablesFollow P (applied P a t) (a ∷ T)
+follows_after P t T a legal h = record {
+  entities = keeps_entities_after P t T a legal h.entities;
   variables = keeps_variables_after P t T a legal h.variables;
   tick = keeps_tick_after P t T a h.tick;
   acts = keeps_acts_after P t T a h.tick h.acts;
   sessions = keeps_sessions_after P t T a h.tick legal h.sessions;
 }
 
-pub follows : (P : PlainPolicy) (T : Trace) → IsLegalTrace P T → Follows P (tables_of P T) T
+pub follows : (P : PlainPolicy) (T : Trace) → IsLegalTrace P T → TablesFollow P (tables_of P T) T
 follows P [] legal = follows_opening P
-follows P (a ∷ T) legal = follows_after P (tables_of P T) T a legal.0 legal.1 (follows P T legal.0)
+follows P (a ∷ T) legal = follows_after P (tables_of P T) T a legal.1 (follows P T legal.0)
 
 -- ---- what is kept
 
-same_place : (P : PlainPolicy) (t : Tables) (T : Trace) → Follows P t T → (row : SessionRow) (place : Ref) → place_in P t row place ≡ place_of P T row place
+same_place : (P : PlainPolicy) (t : Tables) (T : Trace) → TablesFollow P t T → (row : SessionRow) (place : Ref) → place_in P t row place ≡ place_of P T row place
 same_place P t T h row (refs.Subject attr) = h.entities.values sides.Subject row.subject attr
 same_place P t T h row (refs.Object attr) = h.entities.values sides.Object row.object attr
 same_place P t T h row (refs.Env name) = h.variables.values name
 
-same_counts : (P : PlainPolicy) (t : Tables) (T : Trace) → Follows P t T → counts_in t ≡ counts_of T
+same_counts : (P : PlainPolicy) (t : Tables) (T : Trace) → TablesFollow P t T → counts_in t ≡ counts_of T
 same_counts P t T h = λ i. record {
   subjects = (h.entities.names sides.Subject).count i;
   objects = (h.entities.names sides.Object).count i;
@@ -177,7 +174,7 @@ named_by : (name : Bytes) (o : Option Bytes) → IsSomeAnd o (λ e. bytes_eq nam
 named_by name None h = absurd h
 named_by name (Some e) h = ap (λ (e : Bytes). Some e) (sym (same_name name e h))
 
-number_is_place : (P : PlainPolicy) (t : Tables) (T : Trace) → Follows P t T → (side : Side) (name : Bytes) (i : ℕ)
+number_is_place : (P : PlainPolicy) (t : Tables) (T : Trace) → TablesFollow P t T → (side : Side) (name : Bytes) (i : ℕ)
     → (entity_number t side name ≡ Some i) ↔ (slice_get (entity_names side T) i ≡ Some name)
 number_is_place P t T h side name i =
     let names = h.entities.names side in
@@ -186,7 +183,7 @@ number_is_place P t T h side name i =
       names.number name i,
     )
 
-pub keeps : (P : PlainPolicy) (t : Tables) (T : Trace) → Follows P t T → Keeps P t T
+pub keeps : (P : PlainPolicy) (t : Tables) (T : Trace) → TablesFollow P t T → Keeps P t P T
 keeps P t T h = record {
   readings_agree = record { now = h.tick; row = h.sessions.rows; at = same_place P t T h; done_at = h.acts.moments };
   counts_agree = same_counts P t T h;
@@ -199,14 +196,48 @@ keeps P t T h = record {
   act_rows_agree = h.acts.rows;
 }
 
-pub tables_keep : (P : PlainPolicy) (T : Trace) → IsLegalTrace P T → Keeps P (tables_of P T) T
+pub tables_keep : (P : PlainPolicy) (T : Trace) → IsLegalTrace P T → Keeps P (tables_of P T) P T
 tables_keep P T legal = keeps P (tables_of P T) T (follows P T legal)
 
--- readings that agree point by point are one
-pub readings_in-tables_of : (P : PlainPolicy) (T : Trace) → IsLegalTrace P T → readings_in P (tables_of P T) ≡ readings P T
-readings_in-tables_of P T legal =
-    let agree = (tables_keep P T legal).readings_agree in
-    λ i. record { now = agree.now i; row = λ n. agree.row n i; at = λ row place. agree.at row place i; done_at = λ s a o. agree.done_at s a o i }
+-- ---- states that follow
+
+pub followed_before : (P : PlainPolicy) → IsTyped P → (s : Shown) → s.policy ≡ P → s.tables ≡ opening_tables s.policy → Follows s P []
+followed_before P typed s policy tables = record {
+  policy = policy;
+  typed = typed;
+  tables = subst (λ (t : Tables). TablesFollow P t []) (sym (tables ∙ ap opening_tables policy)) (follows_opening P);
+  sound = sound_before P typed;
+}
+
+pub followed_after : (s : Shown) (P : PlainPolicy) (T : Trace) (a : Action) → Follows s P T → IsLegal P T a → Follows (changed_to s (applied s.policy a s.tables)) P (a ∷ T)
+followed_after s P T a h legal = record {
+  policy = h.policy;
+  typed = h.typed;
+  tables = subst (λ (Q : PlainPolicy). TablesFollow P (applied Q a s.tables) (a ∷ T)) (sym h.policy) (follows_after P s.tables T a legal h.tables);
+  sound = sound_after_action P h.typed T a h.sound legal;
+}
+
+pub followed_kept : (s : Shown) (P : PlainPolicy) (T : Trace) → Follows s P T → Keeps s.policy s.tables P T
+followed_kept s P T h = subst (λ (Q : PlainPolicy). Keeps Q s.tables P T) (sym h.policy) (keeps P s.tables T h.tables)
+
+-- ---- cells of those that are there stay
+
+cell_from : (f : Option ℕ) (g : Option ℕ) (read : ℕ → Option ℕ) (cell : ℕ) → ((n : ℕ) → f ≡ Some n → g ≡ Some n) → option_and_then read f ≡ Some cell → option_and_then read g ≡ Some cell
+cell_from None g read cell same is = absurd cc
+cell_from (Some n) g read cell same is = ap (option_and_then read) (same n refl) ∙ is
+
+cell_still : (P : PlainPolicy) (t : Tables) (T : Trace) (a : Action) → KeepsEntities P t T → IsLegal P T a → (side : Side) (name attr : Bytes) (cell : ℕ)
+    → cell_of P t side name attr ≡ Some cell → cell_of P (applied P a t) side name attr ≡ Some cell
+cell_still P t T a h legal side name attr cell is =
+    cell_of-first_cell P (applied P a t) side name attr
+    ∙ cell_from (first_cell t side name) (first_cell (applied P a t) side name) (from_first P side attr) cell (first_stays P t T a h legal side name)
+    (sym (cell_of-first_cell P t side name attr) ∙ is)
+
+pub cell_stays : (s : Shown) (P : PlainPolicy) (T : Trace) (a : Action) → Follows s P T → IsLegal P T a → (side : Side) (name attr : Bytes) (cell : ℕ)
+    → cell_of s.policy s.tables side name attr ≡ Some cell → cell_of s.policy (applied s.policy a s.tables) side name attr ≡ Some cell
+cell_stays s P T a h legal side name attr cell is =
+    subst (λ (Q : PlainPolicy). cell_of Q (applied Q a s.tables) side name attr ≡ Some cell) (sym h.policy)
+    (cell_still P s.tables T a h.tables.entities legal side name attr cell (subst (λ (Q : PlainPolicy). cell_of Q s.tables side name attr ≡ Some cell) h.policy is))
 
 -- ---- traces that go on
 

@@ -12,6 +12,7 @@ use Rattle.ucon_base.specs.declared.value.Side.TheVariants.{Subject, Object}
 use Rattle.ucon_model.specs.Plain.{Bytes}
 use Rattle.ucon_model.specs.Action.{Trace, subject, object}
 use Rattle.ucon_model.specs.Readings.{has_entity, entities, entity_names, with_new}
+use Rattle.ucon_state.specs.Following.{KeepsNames}
 use Rattle.ucon_state.proofs.Following.Places.{still_there, added_there, not_there, place_kept, place_new, found_still, found_new, placed_where_found}
 
 pub same_name : (a b : Bytes) → bytes_eq a b ≡ true → a ≡ b
@@ -19,13 +20,6 @@ same_name a b e = (bytes_eq-Decides a b).0 e
 
 pub own_name : (a : Bytes) → bytes_eq a a ≡ true
 own_name a = (bytes_eq-Decides a a).1 refl
-
--- entities with their first cells are those of a side after a trace
-pub record KeepsNames (es : List (Bytes × ℕ)) (side : Side) (T : Trace) : Type 0 where
-  pub names : map (λ e. e.0) es ≡ entity_names side T
-  pub count : length es ≡ entities side T
-  pub there : (e : Bytes) → is_some (lookup (bytes_eq e) es) ≡ has_entity side e T
-  pub number : (e : Bytes) (i : ℕ) → slice_get (map (λ d. d.0) es) i ≡ Some e → position (bytes_eq e) (map (λ d. d.0) es) ≡ Some i
 
 pub keeps_names_opening : (side : Side) → KeepsNames [] side []
 keeps_names_opening side = record { names = refl; count = refl; there = λ e. refl; number = λ e i at. absurd cc }

@@ -11,9 +11,10 @@ use Rattle.ucon_model.specs.declared.session.SessionState.{SessionState}
 use Rattle.ucon_model.specs.declared.session.SessionState.TheVariants.{Denied, Accessing, Revoked, Ended}
 use Rattle.ucon_model.specs.Plain.{PlainPolicy}
 use Rattle.ucon_model.specs.Action.{Action, Trace, subject, object, write, env, tick, act, tries, wait, permit, deny, ends, revoke}
-use Rattle.ucon_model.specs.Readings.{tick_of, changed_if, session, sessions, is_accessing_state, is_accessing, accessing_up_to, accessing}
+use Rattle.ucon_model.specs.Readings.{tick_of, changed_if, session, sessions, is_accessing_state, is_accessing, accessing_up_to, accessing, env_position}
 use Rattle.ucon_model.specs.Legal.{IsLegal}
-use Rattle.ucon_state.specs.Tables.{Tables, cell_of, env_place, session_in, accessing_among}
+use Rattle.ucon_state.specs.Following.{KeepsSessions}
+use Rattle.ucon_state.specs.Tables.{Tables, cell_of, session_in, accessing_among}
 use Rattle.ucon_state.specs.Applied.{with_cell, with_variable, with_new_session, tried, moved_to, with_state, applied, opening_tables}
 use Rattle.ucon_state.proofs.Following.Places.{set_here, set_elsewhere, still_there, added_there, is_there, not_there}
 
@@ -90,10 +91,6 @@ counted_up_to xs T same (suc k) =
 
 -- ---- the sessions of a trace
 
-pub record KeepsSessions (t : Tables) (T : Trace) : Type 0 where
-  pub rows : (n : ℕ) → session_in t n ≡ session T n
-  pub count : length t.sessions ≡ sessions T
-
 pub accessing_kept : (t : Tables) (T : Trace) → KeepsSessions t T → accessing_among t.sessions ≡ accessing T
 accessing_kept t T h =
     sym (ap (count_by goes_on) (take_all (sessions T) t.sessions (omega (arith, h.count)))) ∙ counted_up_to t.sessions T (λ n. h.rows (suc n)) (sessions T)
@@ -144,7 +141,7 @@ keeps_sessions_after P t T (object name) now legal h = left t (applied P (object
 keeps_sessions_after P t T (write side name attr v) now legal h =
     left t (applied P (write side name attr v) t) T (write side name attr v) (by_option (λ u. u.sessions) t (λ cell. with_cell t cell v) (cell_of P t side name attr) (λ cell. refl)) h (λ n. refl) refl
 keeps_sessions_after P t T (env name v) now legal h =
-    left t (applied P (env name v) t) T (env name v) (by_option (λ u. u.sessions) t (λ place. with_variable t place v) (env_place P name) (λ place. refl)) h (λ n. refl) refl
+    left t (applied P (env name v) t) T (env name v) (by_option (λ u. u.sessions) t (λ place. with_variable t place v) (env_position P name) (λ place. refl)) h (λ n. refl) refl
 keeps_sessions_after P t T (tick to) now legal h = left t (applied P (tick to) t) T (tick to) refl h (λ n. refl) refl
 keeps_sessions_after P t T (act s a o) now legal h = left t (applied P (act s a o) t) T (act s a o) refl h (λ n. refl) refl
 keeps_sessions_after P t T (wait n label) now legal h = left t t T (wait n label) refl h (λ n. refl) refl

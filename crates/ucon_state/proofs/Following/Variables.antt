@@ -9,14 +9,10 @@ use Rattle.ucon_base.specs.declared.value.Value.{Value}
 use Rattle.ucon_model.specs.declared.policy.EnvDecl.{EnvDecl}
 use Rattle.ucon_model.specs.Plain.{Bytes, PlainPolicy}
 use Rattle.ucon_model.specs.Action.{Trace, env}
-use Rattle.ucon_model.specs.Readings.{declared_env, assigned, variable}
-use Rattle.ucon_state.specs.Tables.{env_place}
+use Rattle.ucon_model.specs.Readings.{declared_env, assigned, variable, env_position}
+use Rattle.ucon_state.specs.Following.{KeepsVariables}
 use Rattle.ucon_state.proofs.Following.Places.{found_there, passes_there, written_gives, written_leaves}
 use Rattle.ucon_state.proofs.Following.Names.{same_name, own_name}
-
-pub record KeepsVariables (P : PlainPolicy) (variables : List Value) (T : Trace) : Type 0 where
-  pub count : length variables ≡ length P.envs
-  pub values : (name : Bytes) → option_and_then (slice_get variables) (env_place P name) ≡ variable P T name
 
 -- ---- the defaults
 
@@ -27,7 +23,7 @@ start_there ds (Some i) = slice_get-map (λ (d : EnvDecl). d.start) ds i
 pub keeps_variables_opening : (P : PlainPolicy) → KeepsVariables P (map (λ d. d.start) P.envs) []
 keeps_variables_opening P = record {
   count = length-map P.envs (λ d. d.start);
-  values = λ name. start_there P.envs (env_place P name) ∙ ap (option_map (λ (d : EnvDecl). d.start)) (found_there (λ d. bytes_eq name d.name) P.envs);
+  values = λ name. start_there P.envs (env_position P name) ∙ ap (option_map (λ (d : EnvDecl). d.start)) (found_there (λ d. bytes_eq name d.name) P.envs);
 }
 
 -- ---- a value for a variable
@@ -38,10 +34,10 @@ value_given : (P : PlainPolicy) (name : Bytes) (i : ℕ) (v : Value) (o : Option
 value_given P name i v None is there h = absurd (subst (λ (o : Option EnvDecl). IsSomeAnd o (λ d. bytes_eq name d.name ≡ true)) there h)
 value_given P name i v (Some d) is there h = refl
 
-given_by : (P : PlainPolicy) (variables : List Value) (T : Trace) (n name : Bytes) (v : Value) (i : ℕ) (b : Bool) → KeepsVariables P variables T → env_place P n ≡ Some i → bytes_eq name n ≡ b
-    → option_and_then (slice_get (slice_set variables i v)) (env_place P name) ≡ option_map (λ d. unwrap_or (cond b (Some v) (assigned name T)) d.start) (declared_env P.envs name)
+given_by : (P : PlainPolicy) (variables : List Value) (T : Trace) (n name : Bytes) (v : Value) (i : ℕ) (b : Bool) → KeepsVariables P variables T → env_position P n ≡ Some i → bytes_eq name n ≡ b
+    → option_and_then (slice_get (slice_set variables i v)) (env_position P name) ≡ option_map (λ d. unwrap_or (cond b (Some v) (assigned name T)) d.start) (declared_env P.envs name)
 given_by P variables T n name v i true h at is =
-    let here : env_place P name ≡ Some i = ap (env_place P) (same_name name n is) ∙ at in
+    let here : env_position P name ≡ Some i = ap (env_position P) (same_name name n is) ∙ at in
     written_gives P.envs variables h.count (λ d. bytes_eq name d.name) i v here
     ∙ value_given P name i v (declared_env P.envs name) refl
     (ap (option_and_then (slice_get P.envs)) (sym here) ∙ found_there (λ d. bytes_eq name d.name) P.envs)
@@ -51,7 +47,7 @@ given_by P variables T n name v i false h at is =
     (λ d one other. both_ways (bytes_eq name n) is (ap (bytes_eq name) (same_name n d.name one ∙ sym (same_name name d.name other)) ∙ own_name name))
     ∙ h.values name
 
-pub keeps_variables_given : (P : PlainPolicy) (variables : List Value) (T : Trace) (n : Bytes) (v : Value) (i : ℕ) → KeepsVariables P variables T → env_place P n ≡ Some i
+pub keeps_variables_given : (P : PlainPolicy) (variables : List Value) (T : Trace) (n : Bytes) (v : Value) (i : ℕ) → KeepsVariables P variables T → env_position P n ≡ Some i
     → KeepsVariables P (slice_set variables i v) (env n v ∷ T)
 keeps_variables_given P variables T n v i h at = record {
   count = length-set variables i v ∙ h.count;

@@ -7,17 +7,17 @@ use Rattle.ucon_plain.proofs.Watching.{first_is_told, found_at, none_left}
 use Rattle.ucon_plain.proofs.settle.least_failing.Goals as goal
 
 pub returns-in-Some : goal.returns-in-Some
-returns-in-Some c = λ T h.
+returns-in-Some c = λ P T h.
     let s = shown c.args.state.now in
     let ns = c.numbers-numbers.result.now in
     let same = sym c.numbers-numbers.ensures.numbers in
-    let told = first_is_told s T ns h (subst (λ xs. rises xs ≡ true) same c.numbers-numbers.ensures.rise) (subst (Covers s) same c.requires.covers) in
-    sym told ∙ sym (c.loop-n.invariant T h) ∙ found_at (fails_at s.policy T) ns c.loop-n.n-index c.in-Some.label c.loop-n-test.true (c.fails_at.ensures T h ∙ c.in-Some.is)
+    let told = first_is_told s P T ns h (subst (λ xs. rises xs ≡ true) same c.numbers-numbers.ensures.rise) (subst (Covers s) same c.requires.covers) in
+    sym told ∙ sym (c.loop-n.invariant P T h) ∙ found_at (fails_at P T) ns c.loop-n.n-index c.in-Some.label c.loop-n-test.true (c.fails_at.ensures P T h ∙ c.in-Some.is)
 
 pub returns : goal.returns
-returns c = λ T h.
+returns c = λ P T h.
     let s = shown c.args.state.now in
     let ns = c.numbers-numbers.result.now in
     let same = sym c.numbers-numbers.ensures.numbers in
-    let told = first_is_told s T ns h (subst (λ xs. rises xs ≡ true) same c.numbers-numbers.ensures.rise) (subst (Covers s) same c.requires.covers) in
-    sym told ∙ sym (c.loop-n.invariant T h) ∙ none_left (fails_at s.policy T) ns c.loop-n.n-index c.loop-n-test.false
+    let told = first_is_told s P T ns h (subst (λ xs. rises xs ≡ true) same c.numbers-numbers.ensures.rise) (subst (Covers s) same c.requires.covers) in
+    sym told ∙ sym (c.loop-n.invariant P T h) ∙ none_left (fails_at P T) ns c.loop-n.n-index c.loop-n-test.false

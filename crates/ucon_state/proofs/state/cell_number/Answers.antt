@@ -1,5 +1,7 @@
 use Rattle.std.proofs.Common.{◌∙◌, sym, ap, ◌+◌, None, option_map, option_and_then, arith}
 use Rattle.ucon_model.specs.Checked.{checked_policy}
+use Rattle.ucon_model.specs.Plain.{PlainPolicy}
+use Rattle.ucon_model.specs.Readings.{attr_position}
 use Rattle.ucon_state.specs.Views.{lists_of}
 use Rattle.ucon_state.proofs.Places.{cell_is_there, cell_by_parts}
 use Rattle.ucon_state.proofs.state.cell_number.Goals as goal
@@ -8,7 +10,7 @@ pub returns-in_err-place-clause-cell : goal.returns-in_err-place-clause-cell
 returns-in_err-place-clause-cell c =
     let P = checked_policy c.args.checked.now in
     let t = lists_of c.args.tables.now in
-    let parts = cell_by_parts P t c.args.side c.args.entity c.args.attr.now c.first_cell.result c.attr_place.result c.first_cell.ensures c.attr_place.ensures in
+    let parts = cell_by_parts P t c.args.side c.args.entity c.args.attr.now c.first_cell.result c.attr_position.result c.first_cell.ensures (c.attr_position.ensures ∙ ap (λ (Q : PlainPolicy). attr_position Q c.args.side c.args.attr.now) c.policy.ensures.policy) in
     let none = ap (λ place. option_and_then (λ f. option_map (λ p. f + p) place) c.first_cell.result) c.in_err-place.was in
     let first = ap (λ o. option_and_then (λ f. option_map (λ p. f + p) None) o) c.in_ok-first.was in
     c.from_residual-in_err-place.ensures ∙ sym (parts ∙ none ∙ first)
@@ -18,7 +20,7 @@ overflow_add-result c =
     let P = checked_policy c.args.checked.now in
     let t = lists_of c.args.tables.now in
     let there = cell_is_there P t c.args.side c.args.entity c.args.attr.now c.in_ok-first.first c.in_ok-place.place c.requires
-    (sym c.first_cell.ensures ∙ c.in_ok-first.was) (sym c.attr_place.ensures ∙ c.in_ok-place.was) in
+    (sym c.first_cell.ensures ∙ c.in_ok-first.was) (sym (c.attr_position.ensures ∙ ap (λ (Q : PlainPolicy). attr_position Q c.args.side c.args.attr.now) c.policy.ensures.policy) ∙ c.in_ok-place.was) in
     omega (arith, there, c.requires.cells)
 
 pub returns-clause-there : goal.returns-clause-there
@@ -26,4 +28,4 @@ returns-clause-there c =
     let P = checked_policy c.args.checked.now in
     let t = lists_of c.args.tables.now in
     cell_is_there P t c.args.side c.args.entity c.args.attr.now c.in_ok-first.first c.in_ok-place.place c.requires
-    (sym c.first_cell.ensures ∙ c.in_ok-first.was) (sym c.attr_place.ensures ∙ c.in_ok-place.was)
+    (sym c.first_cell.ensures ∙ c.in_ok-first.was) (sym (c.attr_position.ensures ∙ ap (λ (Q : PlainPolicy). attr_position Q c.args.side c.args.attr.now) c.policy.ensures.policy) ∙ c.in_ok-place.was)

@@ -2,6 +2,8 @@ use Rattle.std.proofs.Common.{◌∙◌, sym, ap, subst, ◌++◌, ◌∷◌, []
 use Rattle.std.specs.Option.{option_map_or}
 use Rattle.std.specs.Str.{bytes_eq}
 use Rattle.ucon_model.specs.Checked.{checked_policy}
+use Rattle.ucon_model.specs.Plain.{PlainPolicy}
+use Rattle.ucon_model.specs.Readings.{env_position}
 use Rattle.ucon_state.specs.Applied.{with_variable}
 use Rattle.ucon_state.specs.Sound.{IsSound}
 use Rattle.ucon_state.specs.Views.{lists_of}
@@ -14,13 +16,13 @@ pub unwrap-place-requires : goal.unwrap-place-requires
 unwrap-place-requires c =
     let P = checked_policy c.args.self.now.checked in
     let found = found_place (λ d. bytes_eq c.args.name.now d.name) P.envs _ c.requires in
-    ap is_some (c.env_place.ensures ∙ found.place)
+    ap is_some ((c.env_position.ensures ∙ ap (λ (Q : PlainPolicy). env_position Q c.args.name.now) c.policy.ensures.policy) ∙ found.place)
 
 pub set_variable-change-requires : goal.set_variable-change-requires
 set_variable-change-requires c =
     let P = checked_policy c.args.self.now.checked in
     let before = sound_now P c.args.self.now.changes.items (lists_of c.args.self.now.tables) c.args.self.now.sound in
-    let within = position_within (λ d. bytes_eq c.args.name.now d.name) P.envs c.unwrap-place.result (sym c.env_place.ensures ∙ c.unwrap-place.ensures) in
+    let within = position_within (λ d. bytes_eq c.args.name.now d.name) P.envs c.unwrap-place.result (sym (c.env_position.ensures ∙ ap (λ (Q : PlainPolicy). env_position Q c.args.name.now) c.policy.ensures.policy) ∙ c.unwrap-place.ensures) in
     omega (arith, within, before.variables)
 
 pub invariant_of-self-2 : goal.invariant_of-self-2
@@ -36,5 +38,5 @@ returns-clause-ok c =
     let P = checked_policy c.args.self.now.checked in
     let t = lists_of c.args.self.now.tables in
     let added = c.push_reserved.ensures.items ∙ ap (λ cs. cs ++ c.set_variable-change.result ∷ []) c.reserve.ensures.items in
-    let is = c.set_variable-change.ensures.tables ∙ ap (λ o. option_map_or (λ place. with_variable t place c.args.value) o t) (sym c.unwrap-place.ensures ∙ c.env_place.ensures) in
+    let is = c.set_variable-change.ensures.tables ∙ ap (λ o. option_map_or (λ place. with_variable t place c.args.value) o t) (sym c.unwrap-place.ensures ∙ (c.env_position.ensures ∙ ap (λ (Q : PlainPolicy). env_position Q c.args.name.now) c.policy.ensures.policy)) in
     noted_shown P _ _ c.set_variable-change.result t _ _ added c.set_variable-change.ensures.undone is

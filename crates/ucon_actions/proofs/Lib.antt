@@ -1,0 +1,10 @@
+pub mod Writes
+pub mod Turns
+pub mod ReadOff
+pub mod Stepping
+pub mod AttributeCells
+pub mod Making
+pub mod Typed
+pub mod Updated
+pub mod Deciding
+pub mod Cascade

@@ -1,0 +1,126 @@
+-- Updates that run.
+use Rattle.std.proofs.Common.{◌≡◌, ◌∙◌, sym, ap, subst, ℕ, zero, suc, ◌<◌, Bool, true, cond, List, [], ◌∷◌, length, map, get_or, refl, arith}
+use Rattle.std.specs.Prelude.{Result, Ok, Err, OnOk, Option, Some, None, is_some, option_map, option_and_then, slice_get, IsSomeAnd, IsTrue}
+use Rattle.std.specs.Option.{option_map_or, option_to_list}
+use Rattle.std.proofs.lemmas.List.{length-map}
+use Rattle.std.proofs.lemmas.Option.{slice_get-map, slice_get_read}
+use Rattle.ucon_base.specs.declared.value.Side.{Side}
+use Rattle.ucon_base.specs.declared.value.Side.TheVariants.{Subject, Object}
+use Rattle.ucon_base.specs.declared.value.Value.{Value}
+use Rattle.ucon_base.specs.Admits.{admits}
+use Rattle.ucon_model.specs.declared.policy.Update.{Update}
+use Rattle.ucon_model.specs.declared.policy.When.{When}
+use Rattle.ucon_model.specs.declared.session.SessionRow.{SessionRow}
+use Rattle.ucon_model.specs.Plain.{Bytes, PlainPolicy, PlainRight, PlainUpdate}
+use Rattle.ucon_model.specs.Action.{Trace, write, extended}
+use Rattle.ucon_model.specs.Readings.{has_entity, declared_attr, session}
+use Rattle.ucon_model.specs.Truth.{Readings, readings}
+use Rattle.ucon_model.specs.Decision.{right_named}
+use Rattle.ucon_model.specs.Updates.{same_when, entity_of, result, write_of, writes, updates_of, session_writes}
+use Rattle.ucon_model.specs.Fitting.{AttributeAdmits, ResultFits}
+use Rattle.ucon_base.specs.Elements.{Each}
+use Rattle.ucon_model.specs.Views.{update_of}
+use Rattle.ucon_model.specs.Sound.{IsGrounded}
+use Rattle.ucon_model.proofs.Extending.{session-writes}
+use Rattle.ucon_eval.specs.Asked as asked
+use Rattle.ucon_state.specs.Tables.{entity_number, session_in, readings_in}
+use Rattle.ucon_state.specs.Shown.{Shown}
+use Rattle.ucon_model.proofs.SortsOfValues.{typed_updates_fit}
+use Rattle.ucon_state.specs.Following.{Follows}
+use Rattle.ucon_actions.specs.Updating.{written_out, update_at}
+use Rattle.ucon_actions.proofs.ReadOff.{entity_there, readings_same, session_same}
+
+-- ---- the update at a place
+
+-- an update that was read stands at its place
+pub picked : (raw : List Update) (us : List PlainUpdate) (at : ℕ) (u : Update) → map update_of raw ≡ us → at < length us → u ≡ get_or raw at u → slice_get us at ≡ Some (update_of u)
+picked raw us at u seen lt is =
+    let within : at < length raw = omega (arith, ap length seen, length-map raw update_of) in
+    ap (λ (xs : List PlainUpdate). slice_get xs at) (sym seen) ∙ slice_get-map update_of raw at ∙ ap (option_map update_of) (slice_get_read raw (length raw) at u refl within is)
+
+each_at : {A : Type 0} (Q : A → Type 0) (xs : List A) (i : ℕ) (x : A) → Each Q xs → slice_get xs i ≡ Some x → Q x
+each_at Q [] i x each e = absurd cc
+each_at Q (y ∷ xs) zero x each e = let same : y ≡ x = cc in subst Q same each.0
+each_at Q (y ∷ xs) (suc i) x each e = each_at Q xs i x each.1 e
+
+same_update : (o : Option PlainRight) (at : ℕ) → option_and_then (λ (right : PlainRight). slice_get right.updates at) o ≡ slice_get (option_map_or (λ (right : PlainRight). right.updates) o []) at
+same_update None at = refl
+same_update (Some right) at = refl
+
+-- ---- its result
+
+read_result : (P : PlainPolicy) (R : Readings) (n at : ℕ) (row : SessionRow) (u : PlainUpdate) (v : Value) → R.row n ≡ Some row → slice_get (updates_of P row) at ≡ Some u
+    → asked.result_at P R n at ≡ Some v → v ≡ asked.result_read P R row u
+read_result P R n at row u v is there given =
+    let at_row : asked.result_at P R n at ≡ option_map (λ u. asked.result_read P R row u) (asked.update_at P row at) =
+    ap (option_and_then (λ (row : SessionRow). option_map (λ u. asked.result_read P R row u) (asked.update_at P row at))) is in
+    let at_update : asked.update_at P row at ≡ Some u = same_update (right_named P.rights row.right) at ∙ there in
+    let told : asked.result_at P R n at ≡ Some (asked.result_read P R row u) = at_row ∙ ap (option_map (λ (u : PlainUpdate). asked.result_read P R row u)) at_update in
+    cc
+
+-- the result is that after the trace
+pub value_is : (s : Shown) (P : PlainPolicy) (T : Trace) → Follows s P T → (n at : ℕ) (row : SessionRow) (u : PlainUpdate) (v : Value) → session_in s.tables n ≡ Some row
+    → slice_get (updates_of s.policy row) at ≡ Some u → asked.result_at s.policy (readings_in s.policy s.tables) n at ≡ Some v → v ≡ result P T row u
+value_is s P T h n at row u v is there given =
+    read_result s.policy (readings_in s.policy s.tables) n at row u v is there given
+    ∙ ap (λ (R : Readings). asked.result_read s.policy R row u) (readings_same s P T h)
+    ∙ ap (λ (Q : PlainPolicy). asked.result_read Q (readings P T) row u) h.policy
+
+-- ---- it may be written
+
+of_side : (side : Side) (row : SessionRow) (T : Trace) → IsGrounded T (Some row) → has_entity side (entity_of side row) T ≡ true
+of_side Subject row T h = h.0
+of_side Object row T h = h.1
+
+grounded_row : (s : Shown) (P : PlainPolicy) (T : Trace) → Follows s P T → (n : ℕ) (row : SessionRow) → session_in s.tables n ≡ Some row → IsGrounded T (Some row)
+grounded_row s P T h n row is = subst (IsGrounded T) (session_same s P T h n ∙ is) (h.sound.grounded n)
+
+-- the session's entity is there
+pub its_entity_there : (s : Shown) (P : PlainPolicy) (T : Trace) → Follows s P T → (n : ℕ) (row : SessionRow) (side : Side) (name : Bytes) → session_in s.tables n ≡ Some row → name ≡ entity_of side row
+    → is_some (entity_number s.tables side name) ≡ true
+its_entity_there s P T h n row side name is named =
+    sym (entity_there s P T h side name) ∙ ap (λ (e : Bytes). has_entity side e T) named ∙ of_side side row T (grounded_row s P T h n row is)
+
+-- the declaration admits the result
+pub result_admitted : (s : Shown) (P : PlainPolicy) (T : Trace) → Follows s P T → (n at : ℕ) (row : SessionRow) (u : PlainUpdate) (v : Value) → session_in s.tables n ≡ Some row
+    → slice_get (updates_of s.policy row) at ≡ Some u → asked.result_at s.policy (readings_in s.policy s.tables) n at ≡ Some v
+    → IsSomeAnd (declared_attr s.policy.attrs u.side u.attr) (λ d. IsTrue (admits d.kind v))
+result_admitted s P T h n at row u v is there given =
+    let g = grounded_row s P T h n row is in
+    let each : Each (ResultFits P T row) (updates_of P row) = typed_updates_fit P h.typed T row h.sound.fit g.0 g.1 in
+    let here : slice_get (updates_of P row) at ≡ Some u = ap (λ (Q : PlainPolicy). slice_get (updates_of Q row) at) (sym h.policy) ∙ there in
+    let fits : AttributeAdmits P u.side u.attr (result P T row u) = each_at (ResultFits P T row) (updates_of P row) at u each here in
+    subst (λ (Q : PlainPolicy). AttributeAdmits Q u.side u.attr v) (sym h.policy)
+    (subst (AttributeAdmits P u.side u.attr) (sym (value_is s P T h n at row u v is there given)) fits)
+
+-- ---- the trace after it
+
+written : (P : PlainPolicy) (row : SessionRow) (when : When) (u : PlainUpdate) (T : Trace) (b : Bool) → b ≡ true
+    → extended T (cond b (write_of P row u T ∷ []) []) ≡ write_of P row u T ∷ T
+written P row when u T b is = rw is refl
+
+pub one_written : (P : PlainPolicy) (row : SessionRow) (when : When) (at : ℕ) (u : PlainUpdate) (T : Trace) (name : Bytes) (v : Value) → slice_get (updates_of P row) at ≡ Some u
+    → same_when when u.when ≡ true → name ≡ entity_of u.side row → v ≡ result P T row u → write u.side name u.attr v ∷ T ≡ written_out P row when (update_at P row at) T
+one_written P row when at u T name v there chosen named is =
+    ap (λ (e : Bytes). write u.side e u.attr v ∷ T) named ∙ ap (λ (w : Value). write u.side (entity_of u.side row) u.attr w ∷ T) is
+    ∙ sym (ap (λ (o : Option PlainUpdate). written_out P row when (option_to_list o) T) there ∙ written P row when u T (same_when when u.when) chosen)
+
+-- ---- all of them
+
+pub on_ok : {X E A B : Type 0} (r : Result X E) → (A → B) → OnOk r A → OnOk r B
+on_ok (Ok x) f h = f h
+on_ok (Err e) f h = h
+
+-- where there is no such session, nothing is written
+pub nothing_written : (P : PlainPolicy) (n : ℕ) (when : When) (T : Trace) → session T n ≡ None → extended T (session_writes P n when T) ≡ T
+nothing_written P n when T none = ap (λ (o : Option SessionRow). extended T (option_map_or (λ row. writes P row when (updates_of P row) T) o [])) none
+
+pub session_written : (P : PlainPolicy) (n : ℕ) (when : When) (T : Trace) (row : SessionRow) → session T n ≡ Some row
+    → extended T (session_writes P n when T) ≡ written_out P row when (updates_of P row) T
+session_written P n when T row is = ap (λ (o : Option SessionRow). extended T (option_map_or (λ row. writes P row when (updates_of P row) T) o [])) is
+
+-- updates leave the session
+pub row_stays : (s s' : Shown) (P : PlainPolicy) (T : Trace) → Follows s P T → (n : ℕ) (row : SessionRow) (when : When) (us : List PlainUpdate) → session_in s.tables n ≡ Some row
+    → Follows s' P (written_out P row when us T) → session_in s'.tables n ≡ Some row
+row_stays s s' P T h n row when us is h' =
+    sym (session_same s' P (written_out P row when us T) h' n) ∙ session-writes P row when us n T ∙ session_same s P T h n ∙ is

@@ -1,0 +1,13 @@
+use Rattle.std.proofs.Common.{refl, subst, sym}
+use Rattle.std.specs.Prelude.{ℤ, ◌≤ℤ◌}
+use Rattle.ucon_model.specs.Action.{tick}
+use Rattle.ucon_state.specs.Shown.{shown}
+use Rattle.ucon_actions.proofs.ReadOff.{tick_same}
+use Rattle.ucon_actions.proofs.Stepping.{leads_on}
+use Rattle.ucon_actions.proofs.environment.advance.Goals as goal
+
+pub returns-clause-leads : goal.returns-clause-leads
+returns-clause-leads c =
+    let s = shown c.args.state.now in
+    leads_on c.set_tick.result s (shown c.set_tick.new.self) (tick c.args.t) _
+    (λ P T h. subst (λ (now : ℤ). now ≤ℤ c.args.t) (sym (tick_same s P T h)) c.requires) refl c.set_tick.ensures.ok

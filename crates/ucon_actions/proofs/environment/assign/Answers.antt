@@ -1,0 +1,13 @@
+use Rattle.std.proofs.Common.{refl, subst}
+use Rattle.ucon_model.specs.Plain.{PlainPolicy}
+use Rattle.ucon_model.specs.Action.{env}
+use Rattle.ucon_model.specs.Fitting.{VariableAdmits}
+use Rattle.ucon_state.specs.Shown.{shown}
+use Rattle.ucon_actions.proofs.Stepping.{leads_on}
+use Rattle.ucon_actions.proofs.environment.assign.Goals as goal
+
+pub returns-clause-leads : goal.returns-clause-leads
+returns-clause-leads c =
+    let s = shown c.args.state.now in
+    leads_on c.set_env.result s (shown c.set_env.new.self) (env c.args.name.now c.args.value) _
+    (λ P T h. subst (λ (Q : PlainPolicy). VariableAdmits Q c.args.name.now c.args.value) h.policy c.requires) refl c.set_env.ensures.ok

@@ -1,0 +1,36 @@
+use Rattle.std.proofs.Common.{refl, ◌<◌, ◌∷◌, [], ℕ, sym, subst, arith}
+use Rattle.ucon_model.specs.declared.policy.When.TheVariants.{Before}
+use Rattle.ucon_model.specs.declared.session.SessionState.TheVariants.{Requesting, Accessing}
+use Rattle.ucon_model.specs.Action.{permit, extended}
+use Rattle.ucon_model.specs.Updates.{session_writes}
+use Rattle.ucon_model.proofs.Extending.{extended-append}
+use Rattle.ucon_state.specs.Following.{Follows}
+use Rattle.ucon_state.specs.Shown.{shown}
+use Rattle.ucon_state.specs.Tables.{accessing_among}
+use Rattle.ucon_actions.proofs.ReadOff.{accessing_same}
+use Rattle.ucon_actions.proofs.Stepping.{leads_on}
+use Rattle.ucon_actions.proofs.Updated.{on_ok}
+use Rattle.ucon_actions.proofs.Deciding.{in_after, in_after_writes, accessing_after_writes, may_move}
+use Rattle.ucon_actions.proofs.usage.permit.Goals as goal
+
+pub set_session-requires : goal.set_session-requires
+set_session-requires c =
+    let s = shown c.args.state.now in
+    let s1 = shown c.run_updates.new.state in
+    let h = c.requires.following.follows in
+    may_move s1.tables c.args.n Requesting Accessing refl
+    (in_after_writes s s1 c.requires.following.policy c.requires.following.trace c.args.n c.args.n Before Requesting h (c.in_ok-run_updates.ensures.leads c.requires.following.policy c.requires.following.trace h) c.requires.requesting)
+
+pub returns-clause-leads : goal.returns-clause-leads
+returns-clause-leads c =
+    let s = shown c.args.state.now in
+    let s1 = shown c.run_updates.new.state in
+    let s2 = shown c.set_session.new.self in
+    let h = c.requires.following.follows in
+    let h1 = c.in_ok-run_updates.ensures.leads c.requires.following.policy c.requires.following.trace h in
+    let requesting = in_after_writes s s1 c.requires.following.policy c.requires.following.trace c.args.n c.args.n Before Requesting h h1 c.requires.requesting in
+    let room : accessing_among s1.tables.sessions < 65536 = omega (arith, accessing_after_writes s s1 c.requires.following.policy c.requires.following.trace c.args.n Before h h1, c.requires.room) in
+    on_ok c.set_session.result
+    (λ leads P T h. subst (Follows s2 P) (sym (extended-append T (session_writes P c.args.n Before T) (permit c.args.n ∷ []))) (leads P (extended T (session_writes P c.args.n Before T)) (c.in_ok-run_updates.ensures.leads P T h)))
+    (leads_on c.set_session.result s1 s2 (permit c.args.n) _
+    (λ P U h. (in_after s1 P U h c.args.n Requesting requesting, subst (λ (k : ℕ). k < 65536) (sym (accessing_same s1 P U h)) room)) refl c.set_session.ensures.ok)

@@ -1,0 +1,38 @@
+use Rattle.std.proofs.Common.{refl, ◌∷◌}
+use Rattle.ucon_model.specs.declared.session.SessionState.TheVariants.{Accessing, Revoked}
+use Rattle.ucon_model.specs.Action.{revoke}
+use Rattle.ucon_state.specs.Shown.{shown}
+use Rattle.ucon_actions.proofs.Stepping.{one_step}
+use Rattle.ucon_actions.proofs.Updated.{on_ok}
+use Rattle.ucon_actions.proofs.Deciding.{may_move}
+use Rattle.ucon_actions.proofs.Cascade.{revoke_legal, is_accessing_there}
+use Rattle.ucon_actions.proofs.usage.revoke.Goals as goal
+
+pub set_session-requires : goal.set_session-requires
+set_session-requires c =
+    let s = shown c.args.state.now in
+    let P = c.requires.following.policy in
+    let T = c.requires.following.trace in
+    let h = c.requires.following.follows in
+    may_move s.tables c.args.n Accessing Revoked refl (is_accessing_there s P T h c.args.n c.args.label (c.requires.least P T h))
+
+pub run_updates-requires : goal.run_updates-requires
+run_updates-requires c =
+    let s = shown c.args.state.now in
+    let P = c.requires.following.policy in
+    let T = c.requires.following.trace in
+    let h = c.requires.following.follows in
+    record {
+      policy = P;
+      trace = revoke c.args.n c.args.label ∷ T;
+      follows = one_step s (shown c.set_session.new.self) P T (revoke c.args.n c.args.label) _ h (revoke_legal s P T h c.args.n c.args.label (c.requires.least P T h)) c.in_ok-set_session.ensures.ok refl;
+    }
+
+pub returns-clause-leads : goal.returns-clause-leads
+returns-clause-leads c =
+    let s = shown c.args.state.now in
+    let s1 = shown c.set_session.new.self in
+    on_ok c.run_updates.result
+    (λ leads P T h. leads P (revoke c.args.n c.args.label ∷ T)
+    (one_step s s1 P T (revoke c.args.n c.args.label) _ h (revoke_legal s P T h c.args.n c.args.label (c.requires.least P T h)) c.in_ok-set_session.ensures.ok refl))
+    c.run_updates.ensures.leads

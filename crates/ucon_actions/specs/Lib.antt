@@ -1,0 +1,4 @@
+pub mod Leads
+pub mod Gives
+pub mod Updating
+pub mod Sessions

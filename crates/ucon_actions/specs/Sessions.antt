@@ -1,0 +1,30 @@
+-- What a session of the tables is doing, and what the code tells of it.
+use Rattle.std.specs.Prelude.{◌≡◌, ℕ, ◌+◌, ◌∷◌, IsSomeAnd, Result, Ok, Err}
+use Rattle.ucon_model.specs.declared.reply.Refusal.{Refusal}
+use Rattle.ucon_model.specs.declared.session.SessionRow.{SessionRow}
+use Rattle.ucon_model.specs.declared.session.SessionState.{SessionState}
+use Rattle.ucon_model.specs.declared.command.Caller.{Caller}
+use Rattle.ucon_model.specs.Plain.{Bytes, PlainPolicy}
+use Rattle.ucon_model.specs.Action.{Trace, tries}
+use Rattle.ucon_model.specs.Readings.{sessions}
+use Rattle.ucon_model.specs.OwnActions.{Own, refuse, after_action, decide}
+use Rattle.ucon_state.specs.Tables.{Tables, session_in}
+
+-- session n is in this state
+abbrev pub IsIn : Tables → ℕ → SessionState → Type 0
+IsIn t n state = IsSomeAnd (session_in t n) (λ row. row.state ≡ state)
+
+-- what is done with the session that is told, or the refusal
+abbrev pub done_or_refused : Result SessionRow Refusal → (SessionRow → Own) → Own
+done_or_refused (Ok row) done = done row
+done_or_refused (Err r) done = refuse r
+
+-- what is done where nothing refuses it
+abbrev pub done_unless : Result (Unit {0}) Refusal → Own → Own
+done_unless (Ok x) done = done
+done_unless (Err r) done = refuse r
+
+-- a try, with the number of a new session, and the decision on it
+abbrev pub requested : PlainPolicy → Trace → Caller → Bytes → Bytes → Bytes → Own
+requested P T caller s r o =
+    after_action (tries (sessions T + 1) caller s r o) (decide P (tries (sessions T + 1) caller s r o ∷ T) (sessions T + 1))

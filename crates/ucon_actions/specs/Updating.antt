@@ -1,0 +1,21 @@
+-- Updates, one after the other.
+use Rattle.std.specs.Prelude.{ℕ, List, slice_get}
+use Rattle.std.specs.Option.{option_to_list}
+use Rattle.ucon_model.specs.declared.policy.When.{When}
+use Rattle.ucon_model.specs.declared.session.SessionRow.{SessionRow}
+use Rattle.ucon_model.specs.Plain.{PlainPolicy, PlainUpdate}
+use Rattle.ucon_model.specs.Action.{Trace, extended}
+use Rattle.ucon_model.specs.Readings.{in_force}
+use Rattle.ucon_model.specs.Updates.{writes, updates_of}
+
+-- the trace after the writes of these updates of a time
+abbrev pub written_out : PlainPolicy → SessionRow → When → List PlainUpdate → Trace → Trace
+written_out P row when us T = extended T (writes P row when us T)
+
+-- the update at a place, from 0, of a session's right, in a list of at most one
+abbrev pub update_at : PlainPolicy → SessionRow → ℕ → List PlainUpdate
+update_at P row at = option_to_list (slice_get (updates_of P row) at)
+
+-- the trace after the write of the update at a place, from 0, of a session's right in force, if it is of this time
+abbrev pub one_written_out : PlainPolicy → SessionRow → When → ℕ → Trace → Trace
+one_written_out P row when at T = written_out P row when (update_at (in_force P T) row at) T

@@ -1,0 +1,79 @@
+//! Attributes are written and told: `set` and `value`.
+
+ghost use Rattle.std.specs.Prelude.{◌≡◌, ◌∷◌, IfErr, IfOk, OnOk, IsSome};
+ghost use Rattle.ucon_model.specs.Action.{write};
+ghost use Rattle.ucon_model.specs.Fitting.{AttributeAdmits};
+ghost use Rattle.ucon_model.specs.OwnActions.{set_attribute, tell_value};
+ghost use Rattle.ucon_actions.specs.Gives.{Gives, Refuses, Unchanged};
+ghost use Rattle.ucon_actions.specs.Leads.{KeepsBase, Leads};
+ghost use Rattle.ucon_state.specs.Shown.{shown};
+ghost use Rattle.ucon_state.specs.Tables.{entity_number};
+
+use crate::entities::{is_admin, no_entity};
+use crate::outcome::{ActionFault, Outcome, require};
+use crate::reading::{attr_admits, attribute, has_entity};
+use std::alloc::Global;
+use ucon_base::{Name, NoMemory, Side, Value};
+use ucon_model::{Caller, Head, Refusal};
+use ucon_state::State;
+
+/// Writes a value to an attribute.
+pub fn write(
+    state: &mut State,
+    side: Side,
+    name: &Name,
+    attr: &Name,
+    value: Value,
+) -> Result<(), NoMemory>
+    requires there { IsSome (entity_number (shown state.old).tables side name.now) }
+    requires admitted { AttributeAdmits (shown state.old).policy side attr.now value }
+    ensures leads { OnOk result (Leads (shown state.old) (shown state.new) (λ P T. write side name.now attr.now value ∷ T)) }
+    ensures base { KeepsBase (shown state.old) (shown state.new) }
+{
+    let Some(entity) = state.find(side, name) else {
+        unreachable!()
+    };
+    let Some(cell) = state.cell(side, entity, attr) else {
+        unreachable!()
+    };
+    state.write(cell, value)
+}
+
+/// Client 0 writes a value to an attribute.
+pub fn set_attribute(
+    alloc: Global,
+    state: &mut State,
+    caller: Caller,
+    side: Side,
+    name: &Name,
+    attr: &Name,
+    value: &Value,
+) -> Result<Outcome, ActionFault>
+    ensures given { IfOk result (λ o. Gives o (shown state.old) (shown state.new) (λ P T. set_attribute P T caller side name.now attr.now value.now)) }
+    ensures refused { IfErr result (λ e. Refuses e (shown state.old) (λ P T. set_attribute P T caller side name.now attr.now value.now)) }
+    ensures unchanged { IfErr result (λ e. Unchanged e (shown state.old) (shown state.new)) }
+    ensures base { KeepsBase (shown state.old) (shown state.new) }
+{
+    require(is_admin(caller), Refusal::NotAdmin)?;
+    require(has_entity(state, side, name), no_entity(side))?;
+    let admitted = attr_admits(state, side, attr, value).ok_or(Refusal::NoAttribute)?;
+    require(admitted, Refusal::BadValue)?;
+    write(state, side, name, attr, value.copy(alloc)?)?;
+    Ok(Outcome::Made(Head::Ok))
+}
+
+/// The value of an attribute of an entity.
+pub fn tell_value(
+    alloc: Global,
+    state: &State,
+    side: Side,
+    name: &Name,
+    attr: &Name,
+) -> Result<Outcome, ActionFault>
+    ensures given { IfOk result (λ o. Gives o (shown state.now) (shown state.now) (λ P T. tell_value P T side name.now attr.now)) }
+    ensures refused { IfErr result (λ e. Refuses e (shown state.now) (λ P T. tell_value P T side name.now attr.now)) }
+{
+    require(has_entity(state, side, name), no_entity(side))?;
+    let value = attribute(state, side, name, attr).ok_or(Refusal::NoAttribute)?;
+    Ok(Outcome::Value(value.copy(alloc)?))
+}

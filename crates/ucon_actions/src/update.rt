@@ -1,0 +1,92 @@
+//! Updates of a session's right.
+
+ghost use Rattle.std.specs.Prelude.{◌≡◌, ◌<◌, length, map, Some, OnOk};
+ghost use Rattle.ucon_model.specs.Action.{extended};
+ghost use Rattle.ucon_model.specs.Updates.{same_when, entity_of, updates_of, session_writes};
+ghost use Rattle.ucon_model.specs.Views.{policy_of, update_of};
+ghost use Rattle.ucon_actions.specs.Leads.{IsFollowing, Leads, KeepsBase};
+ghost use Rattle.ucon_state.specs.Shown.{shown};
+ghost use Rattle.ucon_state.specs.Tables.{session_in};
+ghost use Rattle.ucon_actions.specs.Updating.{one_written_out};
+
+use crate::attributes::write;
+use std::alloc::{AllocError, Global};
+use ucon_base::{Name, NoMemory, Side};
+use ucon_eval::result;
+use ucon_model::{Policy, SessionRow, Update, View, When};
+use ucon_state::State;
+
+fn updates_of<'a>(policy: &'a Policy, row: &SessionRow) -> &'a [Update]
+    ensures { map update_of result.now ≡ updates_of (policy_of policy.now) row.now }
+{
+    match policy.right(&row.right) {
+        Some(right) => right.updates.slice(),
+        None => &[],
+    }
+}
+
+fn is_of(u: &Update, when: When) -> bool
+    ensures { result ≡ same_when when (update_of u.now).when }
+{
+    match (when, u.when) {
+        (When::Before, When::Before) => true,
+        (When::During, When::During) => true,
+        (When::AfterEnd, When::AfterEnd) => true,
+        (When::AfterRevoke, When::AfterRevoke) => true,
+        _ => false,
+    }
+}
+
+fn entity_of(side: Side, row: &SessionRow) -> Name
+    ensures { result ≡ entity_of side row.now }
+{
+    match side {
+        Side::Subject => row.subject,
+        Side::Object => row.object,
+    }
+}
+
+/// Runs the update at a place, from 0, of the right of session n, if it is of this time.
+fn run_update(
+    alloc: Global,
+    state: &mut State,
+    n: u32,
+    row: &SessionRow,
+    when: When,
+    at: u32,
+) -> Result<(), NoMemory>
+    requires following { IsFollowing (shown state.old) }
+    requires row { session_in (shown state.old).tables n ≡ Some row.now }
+    requires at { at < length (updates_of (shown state.old).policy row.now) }
+    ensures leads { OnOk result (Leads (shown state.old) (shown state.new) (λ P T. one_written_out P row.now when at T)) }
+    ensures base { KeepsBase (shown state.old) (shown state.new) }
+{
+    let u = &updates_of(state.checked().policy(), row)[at as usize];
+    if !is_of(u, when) {
+        return Ok(());
+    }
+    let side = u.side;
+    let attr = u.attr;
+    let value = result(alloc, state, n, at)?;
+    write(state, side, &entity_of(side, row), &attr, value)
+}
+
+/// Runs the updates of a time of the right of session n, in written order. A right with more updates than a `u32` counts is answered
+/// as want of memory.
+pub fn run_updates(alloc: Global, state: &mut State, n: u32, when: When) -> Result<(), NoMemory>
+    requires { IsFollowing (shown state.old) }
+    ensures leads { OnOk result (Leads (shown state.old) (shown state.new) (λ P T. extended T (session_writes P n when T))) }
+    ensures base { KeepsBase (shown state.old) (shown state.new) }
+{
+    let Some(row) = state.session(n) else {
+        return Ok(());
+    };
+    let count = updates_of(state.checked().policy(), &row).len();
+    let Ok(count) = u32::try_from(count) else {
+        return Err(NoMemory::from(AllocError));
+    };
+    for at in 0..count {
+        run_update(alloc, state, n, &row, when, at)?;
+    }
+    Ok(())
+}

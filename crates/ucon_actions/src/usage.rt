@@ -1,0 +1,240 @@
+//! Usages: sessions are tried, go on, end and are revoked.
+
+ghost use Rattle.std.specs.Prelude.{◌≡◌, ◌+◌, ◌<◌, ◌∷◌, [], ◌++◌, length, IfErr, IfOk, OnOk, IsSome, Some};
+ghost use Rattle.std.specs.Option.{option_map_or};
+ghost use Rattle.ucon_base.specs.declared.value.Side.TheVariants as sides;
+ghost use Rattle.ucon_model.specs.declared.policy.When.TheVariants.{Before, During, AfterEnd};
+ghost use Rattle.ucon_model.specs.declared.reply.Refusal.TheVariants.{NoSession};
+ghost use Rattle.ucon_model.specs.declared.session.SessionRow.{SessionRow};
+ghost use Rattle.ucon_model.specs.declared.session.SessionState.TheVariants.{Requesting, Accessing};
+ghost use Rattle.ucon_model.specs.Plain.{PlainPolicy, status};
+ghost use Rattle.ucon_model.specs.Readings.{is_accessing_state, session};
+ghost use Rattle.ucon_model.specs.Action.{Trace, permit, deny, ends, extended};
+ghost use Rattle.ucon_model.specs.Decision.{right_named, verdict};
+ghost use Rattle.ucon_model.specs.OwnActions.{Own, refuse, with_own, with_usage, end_usage, is_requesting, decide, try_right, try_again, make, tell};
+ghost use Rattle.ucon_model.specs.Settle.{least_failing, revocation};
+ghost use Rattle.ucon_model.specs.Updates.{session_writes};
+ghost use Rattle.ucon_actions.specs.Gives.{Gives, Makes, Refuses, Unchanged};
+ghost use Rattle.ucon_actions.specs.Leads.{IsFollowing, KeepsBase, Leads};
+ghost use Rattle.ucon_actions.specs.Sessions.{IsIn, done_or_refused, done_unless, requested};
+ghost use Rattle.ucon_state.specs.Following.{Follows};
+ghost use Rattle.ucon_state.specs.Shown.{shown};
+ghost use Rattle.ucon_state.specs.Tables.{entity_number, session_in, readings_in, accessing_among};
+
+use crate::outcome::{ActionFault, Outcome, require};
+use crate::reading::{accessing, has_entity, has_right, session, sessions};
+use crate::update::run_updates;
+use std::alloc::Global;
+use ucon_base::{Name, NoMemory, Side};
+use ucon_eval::verdict;
+use ucon_model::{Caller, Head, Refusal, SessionRow, SessionState, Verdict, When};
+use ucon_state::State;
+
+/// The session, if it is there and the caller's own.
+fn own_session(state: &State, caller: Caller, n: u32) -> Result<SessionRow, Refusal>
+    ensures there { IfOk result (λ row. session_in (shown state.now).tables n ≡ Some row) }
+    ensures trace { (P : PlainPolicy) (T : Trace) → Follows (shown state.now) P T → (done : SessionRow → Own) → with_own T caller n done ≡ done_or_refused result done }
+{
+    let Some(row) = session(state, n) else {
+        return Err(Refusal::NoSession);
+    };
+    if row.caller.0 != caller.0 {
+        return Err(Refusal::NotYours);
+    }
+    Ok(row)
+}
+
+/// A usage that goes on, and is the caller's own.
+fn own_usage(state: &State, caller: Caller, n: u32) -> Result<(), Refusal>
+    ensures accessing { OnOk result (IsIn (shown state.now).tables n Accessing) }
+    ensures trace { (P : PlainPolicy) (T : Trace) → Follows (shown state.now) P T → (done : Own) → with_usage T caller n done ≡ done_unless result done }
+{
+    let row = own_session(state, caller, n)?;
+    require(is_accessing(row.state), Refusal::NotAccessing)
+}
+
+fn is_requesting(state: SessionState) -> bool
+    ensures { result ≡ is_requesting state }
+{
+    matches!(state, SessionState::Requesting)
+}
+
+pub fn is_accessing(state: SessionState) -> bool
+    ensures { result ≡ is_accessing_state state }
+{
+    matches!(state, SessionState::Accessing)
+}
+
+/// Denies session n.
+fn deny(state: &mut State, n: u32, label: Name) -> Result<(), NoMemory>
+    requires requesting { IsIn (shown state.old).tables n Requesting }
+    requires verdict { verdict (shown state.old).policy (readings_in (shown state.old).policy (shown state.old).tables) n ≡ Verdict.Deny label }
+    ensures leads { OnOk result (Leads (shown state.old) (shown state.new) (λ P T. deny n label ∷ T)) }
+    ensures base { KeepsBase (shown state.old) (shown state.new) }
+{
+    state.set_session(n, SessionState::Denied)
+}
+
+/// Runs the updates before the usage of session n, and then permits it.
+fn permit(alloc: Global, state: &mut State, n: u32) -> Result<(), NoMemory>
+    requires following { IsFollowing (shown state.old) }
+    requires requesting { IsIn (shown state.old).tables n Requesting }
+    requires room { accessing_among (shown state.old).tables.sessions < 65536 }
+    ensures leads { OnOk result (Leads (shown state.old) (shown state.new) (λ P T. extended T (session_writes P n Before T ++ permit n ∷ []))) }
+    ensures base { KeepsBase (shown state.old) (shown state.new) }
+{
+    run_updates(alloc, state, n, When::Before)?;
+    state.set_session(n, SessionState::Accessing)
+}
+
+/// The decision on session n.
+fn decide(alloc: Global, state: &mut State, n: u32) -> Result<Head, NoMemory>
+    requires following { IsFollowing (shown state.old) }
+    requires requesting { IsIn (shown state.old).tables n Requesting }
+    requires room { accessing_among (shown state.old).tables.sessions < 65536 }
+    ensures made { IfOk result (λ head. (P : PlainPolicy) (T : Trace) → Follows (shown state.old) P T → Makes head (shown state.new) P T (decide P T n)) }
+    ensures base { KeepsBase (shown state.old) (shown state.new) }
+{
+    match verdict(state, n) {
+        Verdict::Deny(label) => {
+            deny(state, n, label)?;
+            Ok(Head::Denied(n, label))
+        }
+        Verdict::Wait(label) => Ok(Head::Waiting(n, label)),
+        Verdict::Permit => {
+            permit(alloc, state, n)?;
+            Ok(Head::Permitted(n))
+        }
+    }
+}
+
+/// Makes a session and decides on it.
+fn request(
+    alloc: Global,
+    state: &mut State,
+    caller: Caller,
+    subject: Name,
+    right: Name,
+    object: Name,
+) -> Result<Head, NoMemory>
+    requires following { IsFollowing (shown state.old) }
+    requires right { IsSome (right_named (shown state.old).policy.rights right) }
+    requires subject { IsSome (entity_number (shown state.old).tables sides.Subject subject) }
+    requires object { IsSome (entity_number (shown state.old).tables sides.Object object) }
+    requires few { length (shown state.old).tables.sessions < 1048576 }
+    requires room { accessing_among (shown state.old).tables.sessions < 65536 }
+    ensures made { IfOk result (λ head. (P : PlainPolicy) (T : Trace) → Follows (shown state.old) P T → Makes head (shown state.new) P T (requested P T caller subject right object)) }
+    ensures base { KeepsBase (shown state.old) (shown state.new) }
+{
+    let n = state.add_session(caller, right, subject, object)?;
+    decide(alloc, state, n)
+}
+
+/// Tries a right.
+pub fn try_right(
+    alloc: Global,
+    state: &mut State,
+    caller: Caller,
+    subject: Name,
+    right: Name,
+    object: Name,
+) -> Result<Outcome, ActionFault>
+    requires { IsFollowing (shown state.old) }
+    ensures given { IfOk result (λ o. Gives o (shown state.old) (shown state.new) (λ P T. try_right P T caller subject right object)) }
+    ensures refused { IfErr result (λ e. Refuses e (shown state.old) (λ P T. try_right P T caller subject right object)) }
+    ensures unchanged { IfErr result (λ e. Unchanged e (shown state.old) (shown state.new)) }
+    ensures base { KeepsBase (shown state.old) (shown state.new) }
+{
+    require(has_right(state, &right), Refusal::NoRight)?;
+    require(
+        has_entity(state, Side::Subject, &subject),
+        Refusal::NoSubject,
+    )?;
+    require(has_entity(state, Side::Object, &object), Refusal::NoObject)?;
+    require(sessions(state) < 1_048_576, Refusal::FullSessions)?;
+    require(accessing(state) < 65536, Refusal::FullAccessing)?;
+    let head = request(alloc, state, caller, subject, right, object)?;
+    Ok(Outcome::Made(head))
+}
+
+/// Decides afresh on a session that is requesting.
+pub fn try_again(
+    alloc: Global,
+    state: &mut State,
+    caller: Caller,
+    n: u32,
+) -> Result<Outcome, ActionFault>
+    requires { IsFollowing (shown state.old) }
+    ensures given { IfOk result (λ o. Gives o (shown state.old) (shown state.new) (λ P T. try_again P T caller n)) }
+    ensures refused { IfErr result (λ e. Refuses e (shown state.old) (λ P T. try_again P T caller n)) }
+    ensures unchanged { IfErr result (λ e. Unchanged e (shown state.old) (shown state.new)) }
+    ensures base { KeepsBase (shown state.old) (shown state.new) }
+{
+    let row = own_session(state, caller, n)?;
+    require(is_requesting(row.state), Refusal::NotRequesting)?;
+    require(accessing(state) < 65536, Refusal::FullAccessing)?;
+    let head = decide(alloc, state, n)?;
+    Ok(Outcome::Made(head))
+}
+
+/// Runs the updates during a usage.
+pub fn beat(
+    alloc: Global,
+    state: &mut State,
+    caller: Caller,
+    n: u32,
+) -> Result<Outcome, ActionFault>
+    requires { IsFollowing (shown state.old) }
+    ensures given { IfOk result (λ o. Gives o (shown state.old) (shown state.new) (λ P T. with_usage T caller n (make Head.Ok (session_writes P n During T)))) }
+    ensures refused { IfErr result (λ e. Refuses e (shown state.old) (λ P T. with_usage T caller n (make Head.Ok (session_writes P n During T)))) }
+    ensures unchanged { IfErr result (λ e. Unchanged e (shown state.old) (shown state.new)) }
+    ensures base { KeepsBase (shown state.old) (shown state.new) }
+{
+    own_usage(state, caller, n)?;
+    run_updates(alloc, state, n, When::During)?;
+    Ok(Outcome::Made(Head::Ok))
+}
+
+/// Ends session n, and then runs its updates after the end.
+fn end_usage(alloc: Global, state: &mut State, n: u32) -> Result<(), NoMemory>
+    requires following { IsFollowing (shown state.old) }
+    requires accessing { IsIn (shown state.old).tables n Accessing }
+    ensures leads { OnOk result (Leads (shown state.old) (shown state.new) (λ P T. extended (ends n ∷ T) (session_writes P n AfterEnd (ends n ∷ T)))) }
+    ensures base { KeepsBase (shown state.old) (shown state.new) }
+{
+    state.set_session(n, SessionState::Ended)?;
+    run_updates(alloc, state, n, When::AfterEnd)
+}
+
+/// Ends a usage.
+pub fn end(alloc: Global, state: &mut State, caller: Caller, n: u32) -> Result<Outcome, ActionFault>
+    requires { IsFollowing (shown state.old) }
+    ensures given { IfOk result (λ o. Gives o (shown state.old) (shown state.new) (λ P T. with_usage T caller n (end_usage P T n))) }
+    ensures refused { IfErr result (λ e. Refuses e (shown state.old) (λ P T. with_usage T caller n (end_usage P T n))) }
+    ensures unchanged { IfErr result (λ e. Unchanged e (shown state.old) (shown state.new)) }
+    ensures base { KeepsBase (shown state.old) (shown state.new) }
+{
+    own_usage(state, caller, n)?;
+    end_usage(alloc, state, n)?;
+    Ok(Outcome::Made(Head::Ended(n)))
+}
+
+/// Revokes session n, the least accessing one that fails, and then runs its updates after a revocation.
+pub fn revoke(alloc: Global, state: &mut State, n: u32, label: Name) -> Result<(), NoMemory>
+    requires following { IsFollowing (shown state.old) }
+    requires least { (P : PlainPolicy) (T : Trace) → Follows (shown state.old) P T → least_failing P T ≡ Some (n, label) }
+    ensures leads { OnOk result (Leads (shown state.old) (shown state.new) (λ P T. extended T (revocation P T (n, label)))) }
+    ensures base { KeepsBase (shown state.old) (shown state.new) }
+{
+    state.set_session(n, SessionState::Revoked)?;
+    run_updates(alloc, state, n, When::AfterRevoke)
+}
+
+/// The state of a session.
+pub fn look(state: &State, n: u32) -> Result<Outcome, ActionFault>
+    ensures given { IfOk result (λ o. Gives o (shown state.now) (shown state.now) (λ P T. option_map_or (λ row. tell (status n row.state)) (session T n) (refuse NoSession))) }
+    ensures refused { IfErr result (λ e. Refuses e (shown state.now) (λ P T. option_map_or (λ row. tell (status n row.state)) (session T n) (refuse NoSession))) }
+{
+    let row = session(state, n).ok_or(Refusal::NoSession)?;
+    Ok(Outcome::Status(n, row.state))
+}

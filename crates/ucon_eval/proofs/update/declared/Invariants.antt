@@ -1,6 +1,0 @@
-use Rattle.std.proofs.Common.{◌≡◌, drop}
-use Rattle.ucon_model.specs.Readings.{declared_attr}
-use Rattle.ucon_eval.proofs.update.declared.Given as goal
-
-abbrev pub invariant-loop-a : goal.invariant-loop-a
-invariant-loop-a l = declared_attr (drop l.a-index l.attrs) l.side l.name ≡ declared_attr l.attrs l.side l.name

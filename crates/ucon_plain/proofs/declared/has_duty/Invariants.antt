@@ -1,8 +1,0 @@
-use Rattle.std.proofs.Common.{◌≡◌, map, drop}
-use Rattle.std.specs.List.{list_any}
-use Rattle.ucon_model.specs.OwnActions.{is_duty_of}
-use Rattle.ucon_model.specs.Views.{predicate_of}
-use Rattle.ucon_plain.proofs.declared.has_duty.Given as goal
-
-abbrev pub invariant-loop-p : goal.invariant-loop-p
-invariant-loop-p l = list_any (λ p. is_duty_of l.action p.test) (map predicate_of (drop l.p-index l.preds)) ≡ list_any (λ p. is_duty_of l.action p.test) (map predicate_of l.preds)

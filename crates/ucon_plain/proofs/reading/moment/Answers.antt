@@ -1,7 +1,0 @@
-use Rattle.std.proofs.Common.{rules}
-use Rattle.ucon_state.specs.Shown.{shown}
-use Rattle.ucon_plain.proofs.ReadOff.{moment_same}
-use Rattle.ucon_plain.proofs.reading.moment.Goals as goal
-
-pub returns-clause-trace : goal.returns-clause-trace
-returns-clause-trace c = λ T h. rw (moment_same (shown c.args.state.now) T h c.args.subject.now c.args.action.now c.args.object.now) (search rules)
