@@ -31,7 +31,7 @@ KNOWN = [
     Form("play JOURNAL", "runs the script over a journal, a file that keeps each step", "./ucon play door.journal < door.ucon", keeps=True),
 ]
 # Forms that the program doesn't have yet. A name goes from here when its form comes.
-COMING = ("gen", "play")
+COMING = ("play",)
 FORMS = [form for form in KNOWN if form.name not in COMING]
 
 # What the launcher itself does.

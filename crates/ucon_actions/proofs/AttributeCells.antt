@@ -1,20 +1,13 @@
 -- Attributes and their cells.
-use Rattle.std.proofs.Common.{◌≡◌, ◌∙◌, sym, ap, ℕ, Bool, true, false, cond, refl}
-use Rattle.std.specs.Prelude.{not, Option, Some, None, is_some, option_and_then, slice_get}
+use Rattle.std.proofs.Common.{◌≡◌, sym, ap, ℕ}
+use Rattle.std.specs.Prelude.{Option, Some}
 use Rattle.std.specs.Option.{option_map_or}
 use Rattle.ucon_base.specs.declared.value.Side.{Side}
 use Rattle.ucon_base.specs.declared.value.Value.{Value}
 use Rattle.ucon_model.specs.Plain.{Bytes, PlainPolicy}
-use Rattle.ucon_model.specs.Action.{Trace, write}
-use Rattle.ucon_model.specs.Readings.{has_entity, attribute}
+use Rattle.ucon_model.specs.Action.{write}
 use Rattle.ucon_state.specs.Tables.{Tables, entity_number, cell_at, cell_of}
 use Rattle.ucon_state.specs.Applied.{applied, with_cell}
-use Rattle.ucon_model.specs.Plain.{value_is}
-use Rattle.ucon_model.specs.OwnActions.{refuse, tell, no_entity, tell_value}
-use Rattle.ucon_model.specs.declared.reply.Refusal.TheVariants.{NoAttribute}
-use Rattle.ucon_state.specs.Shown.{Shown}
-use Rattle.ucon_state.specs.Following.{Follows}
-use Rattle.ucon_actions.proofs.ReadOff.{entity_there, attribute_same}
 
 -- the cell that is found by name
 pub cell_named : (P : PlainPolicy) (t : Tables) (side : Side) (name attr : Bytes) (entity : ℕ) (o : Option ℕ) → entity_number t side name ≡ Some entity → cell_at P t side entity attr ≡ o

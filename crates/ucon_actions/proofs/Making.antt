@@ -1,5 +1,5 @@
 -- What may be made: entities and acts.
-use Rattle.std.proofs.Common.{◌≡◌, ◌⊎◌, inl, inr, ◌∙◌, sym, ap, subst, refl, ◌<◌, ℕ, true, length, arith}
+use Rattle.std.proofs.Common.{◌≡◌, ◌⊎◌, inl, inr, ◌∙◌, sym, ap, subst, refl, ◌<◌, ℕ, true, length}
 use Rattle.std.specs.Prelude.{ℤ, IsSome, Option, None, is_some}
 use Rattle.ucon_base.specs.declared.value.Side.{Side}
 use Rattle.ucon_base.specs.declared.value.Side.TheVariants as sides

@@ -11,6 +11,10 @@ pub record IsFollowing (s : Shown) : Type 0 where
   pub trace : Trace
   pub follows : Follows s policy trace
 
+-- it holds after each trace that the state follows
+abbrev pub AfterEach : Shown → (PlainPolicy → Trace → Type 0) → Type 0
+AfterEach s Q = (P : PlainPolicy) (T : Trace) → Follows s P T → Q P T
+
 -- what follows a trace before follows after it the trace that this makes of it
 abbrev pub Leads : Shown → Shown → (PlainPolicy → Trace → Trace) → Type 0
 Leads s s' next = (P : PlainPolicy) (T : Trace) → Follows s P T → Follows s' P (next P T)

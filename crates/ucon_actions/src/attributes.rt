@@ -49,7 +49,8 @@ pub fn set_attribute(
     attr: &Name,
     value: &Value,
 ) -> Result<Outcome, ActionFault>
-    ensures given { IfOk result (λ o. Gives o (shown state.old) (shown state.new) (λ P T. set_attribute P T caller side name.now attr.now value.now)) }
+    ensures given { IfOk result (λ o. Gives o (shown state.old) (shown state.new) (λ P T.
+        set_attribute P T caller side name.now attr.now value.now)) }
     ensures refused { IfErr result (λ e. Refuses e (shown state.old) (λ P T. set_attribute P T caller side name.now attr.now value.now)) }
     ensures unchanged { IfErr result (λ e. Unchanged e (shown state.old) (shown state.new)) }
     ensures base { KeepsBase (shown state.old) (shown state.new) }

@@ -2,12 +2,10 @@
 
 ghost use Rattle.std.specs.Prelude.{◌≡◌, is_none, is_some, not, length, option_copied, option_map};
 ghost use Rattle.ucon_base.specs.Admits.{admits};
-ghost use Rattle.ucon_model.specs.Action.{Trace};
 ghost use Rattle.ucon_model.specs.Decision.{right_named};
 ghost use Rattle.ucon_model.specs.OwnActions.{names_act};
-ghost use Rattle.ucon_model.specs.Plain.{PlainPolicy};
 ghost use Rattle.ucon_model.specs.Readings.{in_force, has_entity, entities, tick_of, acts, sessions, accessing, session, moment, attribute, declared_attr, declared_env};
-ghost use Rattle.ucon_state.specs.Following.{Follows};
+ghost use Rattle.ucon_actions.specs.Leads.{AfterEach};
 ghost use Rattle.ucon_state.specs.Tables.{entity_number, entities_of, session_in, moment_in, accessing_among};
 ghost use Rattle.ucon_state.specs.Shown.{shown};
 
@@ -18,7 +16,7 @@ use ucon_state::State;
 #[tactic(auto, using(crate::proofs::ReadOff::entity_there))]
 pub fn has_entity(state: &State, side: Side, name: &Name) -> bool
     ensures there { result ≡ is_some (entity_number (shown state.now).tables side name.now) }
-    ensures trace { (P : PlainPolicy) (T : Trace) → Follows (shown state.now) P T → has_entity side name.now T ≡ result }
+    ensures trace { AfterEach (shown state.now) (λ P T. has_entity side name.now T ≡ result) }
 {
     state.find(side, name).is_some()
 }
@@ -26,7 +24,7 @@ pub fn has_entity(state: &State, side: Side, name: &Name) -> bool
 #[tactic(auto, using(crate::proofs::ReadOff::entities_same))]
 pub fn entities(state: &State, side: Side) -> u32
     ensures count { result ≡ length (entities_of side (shown state.now).tables) }
-    ensures trace { (P : PlainPolicy) (T : Trace) → Follows (shown state.now) P T → entities side T ≡ result }
+    ensures trace { AfterEach (shown state.now) (λ P T. entities side T ≡ result) }
 {
     let counts = state.counts();
     match side {
@@ -38,7 +36,7 @@ pub fn entities(state: &State, side: Side) -> u32
 /// The value of an attribute of an entity. None where one of them isn't there.
 #[tactic(auto, using(crate::proofs::ReadOff::attribute_same))]
 pub fn attribute<'a>(state: &'a State, side: Side, name: &Name, attr: &Name) -> Option<&'a Value>
-    ensures { (P : PlainPolicy) (T : Trace) → Follows (shown state.now) P T → attribute P T side name.now attr.now ≡ option_copied result }
+    ensures { AfterEach (shown state.now) (λ P T. attribute P T side name.now attr.now ≡ option_copied result) }
 {
     state.attribute(side, name, attr)
 }
@@ -46,7 +44,8 @@ pub fn attribute<'a>(state: &'a State, side: Side, name: &Name, attr: &Name) -> 
 /// Whether the kind of an attribute admits the value. None where the policy in force has no such attribute.
 pub fn attr_admits(state: &State, side: Side, name: &Name, v: &Value) -> Option<bool>
     ensures policy { result ≡ option_map (λ d. admits d.kind v.now) (declared_attr (shown state.now).policy.attrs side name.now) }
-    ensures trace { (P : PlainPolicy) (T : Trace) → Follows (shown state.now) P T → option_map (λ d. admits d.kind v.now) (declared_attr (in_force P T).attrs side name.now) ≡ result }
+    ensures trace { AfterEach (shown state.now) (λ P T.
+        option_map (λ d. admits d.kind v.now) (declared_attr (in_force P T).attrs side name.now) ≡ result) }
 {
     let policy = state.checked().policy();
     match policy.attr(side, name) {
@@ -58,7 +57,8 @@ pub fn attr_admits(state: &State, side: Side, name: &Name, v: &Value) -> Option<
 /// Whether the kind of a variable admits the value. None where the policy in force has no such variable.
 pub fn env_admits(state: &State, name: &Name, v: &Value) -> Option<bool>
     ensures policy { result ≡ option_map (λ d. admits d.kind v.now) (declared_env (shown state.now).policy.envs name.now) }
-    ensures trace { (P : PlainPolicy) (T : Trace) → Follows (shown state.now) P T → option_map (λ d. admits d.kind v.now) (declared_env (in_force P T).envs name.now) ≡ result }
+    ensures trace { AfterEach (shown state.now) (λ P T.
+        option_map (λ d. admits d.kind v.now) (declared_env (in_force P T).envs name.now) ≡ result) }
 {
     let policy = state.checked().policy();
     match policy.env(name) {
@@ -70,7 +70,7 @@ pub fn env_admits(state: &State, name: &Name, v: &Value) -> Option<bool>
 /// Whether the policy in force has a right of this name.
 pub fn has_right(state: &State, name: &Name) -> bool
     ensures policy { result ≡ is_some (right_named (shown state.now).policy.rights name.now) }
-    ensures trace { (P : PlainPolicy) (T : Trace) → Follows (shown state.now) P T → is_none (right_named (in_force P T).rights name.now) ≡ not result }
+    ensures trace { AfterEach (shown state.now) (λ P T. is_none (right_named (in_force P T).rights name.now) ≡ not result) }
 {
     state.checked().policy().right(name).is_some()
 }
@@ -78,14 +78,14 @@ pub fn has_right(state: &State, name: &Name) -> bool
 /// Whether an obligation of the policy in force names the action.
 pub fn names_act(state: &State, action: &Name) -> bool
     ensures policy { result ≡ names_act (shown state.now).policy.rights action.now }
-    ensures trace { (P : PlainPolicy) (T : Trace) → Follows (shown state.now) P T → names_act (in_force P T).rights action.now ≡ result }
+    ensures trace { AfterEach (shown state.now) (λ P T. names_act (in_force P T).rights action.now ≡ result) }
 {
     state.checked().policy().names_act(action)
 }
 
 pub fn tick(state: &State) -> Int
     ensures tables { result ≡ (shown state.now).tables.tick }
-    ensures trace { (P : PlainPolicy) (T : Trace) → Follows (shown state.now) P T → tick_of T ≡ result }
+    ensures trace { AfterEach (shown state.now) (λ P T. tick_of T ≡ result) }
 {
     state.tick()
 }
@@ -93,28 +93,28 @@ pub fn tick(state: &State) -> Int
 /// How many distinct acts were done.
 pub fn acts(state: &State) -> u32
     ensures tables { result ≡ length (shown state.now).tables.acts }
-    ensures trace { (P : PlainPolicy) (T : Trace) → Follows (shown state.now) P T → acts T ≡ result }
+    ensures trace { AfterEach (shown state.now) (λ P T. acts T ≡ result) }
 {
     state.counts().acts
 }
 
 pub fn sessions(state: &State) -> u32
     ensures tables { result ≡ length (shown state.now).tables.sessions }
-    ensures trace { (P : PlainPolicy) (T : Trace) → Follows (shown state.now) P T → sessions T ≡ result }
+    ensures trace { AfterEach (shown state.now) (λ P T. sessions T ≡ result) }
 {
     state.counts().sessions
 }
 
 pub fn accessing(state: &State) -> u32
     ensures tables { result ≡ accessing_among (shown state.now).tables.sessions }
-    ensures trace { (P : PlainPolicy) (T : Trace) → Follows (shown state.now) P T → accessing T ≡ result }
+    ensures trace { AfterEach (shown state.now) (λ P T. accessing T ≡ result) }
 {
     state.counts().accessing
 }
 
 pub fn session(state: &State, n: u32) -> Option<SessionRow>
     ensures tables { result ≡ session_in (shown state.now).tables n }
-    ensures trace { (P : PlainPolicy) (T : Trace) → Follows (shown state.now) P T → session T n ≡ result }
+    ensures trace { AfterEach (shown state.now) (λ P T. session T n ≡ result) }
 {
     state.session(n)
 }
@@ -122,7 +122,7 @@ pub fn session(state: &State, n: u32) -> Option<SessionRow>
 /// The tick at which an act was last done. None where it never was.
 pub fn moment(state: &State, subject: &Name, action: &Name, object: &Name) -> Option<Int>
     ensures tables { result ≡ moment_in (shown state.now).tables subject.now action.now object.now }
-    ensures trace { (P : PlainPolicy) (T : Trace) → Follows (shown state.now) P T → moment subject.now action.now object.now T ≡ result }
+    ensures trace { AfterEach (shown state.now) (λ P T. moment subject.now action.now object.now T ≡ result) }
 {
     state.moment(subject, action, object)
 }

@@ -1,23 +1,19 @@
 //! Usages: sessions are tried, go on, end and are revoked.
 
 ghost use Rattle.std.specs.Prelude.{◌≡◌, ◌+◌, ◌<◌, ◌∷◌, [], ◌++◌, length, IfErr, IfOk, OnOk, IsSome, Some};
-ghost use Rattle.std.specs.Option.{option_map_or};
 ghost use Rattle.ucon_base.specs.declared.value.Side.TheVariants as sides;
-ghost use Rattle.ucon_model.specs.declared.policy.When.TheVariants.{Before, During, AfterEnd};
-ghost use Rattle.ucon_model.specs.declared.reply.Refusal.TheVariants.{NoSession};
+ghost use Rattle.ucon_model.specs.declared.policy.When.TheVariants.{Before};
 ghost use Rattle.ucon_model.specs.declared.session.SessionRow.{SessionRow};
 ghost use Rattle.ucon_model.specs.declared.session.SessionState.TheVariants.{Requesting, Accessing};
-ghost use Rattle.ucon_model.specs.Plain.{PlainPolicy, status};
 ghost use Rattle.ucon_model.specs.Readings.{is_accessing_state, session};
-ghost use Rattle.ucon_model.specs.Action.{Trace, permit, deny, ends, extended};
+ghost use Rattle.ucon_model.specs.Action.{permit, deny, extended};
 ghost use Rattle.ucon_model.specs.Decision.{right_named, verdict};
-ghost use Rattle.ucon_model.specs.OwnActions.{Own, refuse, with_own, with_usage, end_usage, is_requesting, decide, try_right, try_again, make, tell};
+ghost use Rattle.ucon_model.specs.OwnActions.{Own, with_own, with_usage, end_usage, is_requesting, decide, try_right, try_again};
 ghost use Rattle.ucon_model.specs.Settle.{least_failing, revocation};
 ghost use Rattle.ucon_model.specs.Updates.{session_writes};
 ghost use Rattle.ucon_actions.specs.Gives.{Gives, Makes, Refuses, Unchanged};
-ghost use Rattle.ucon_actions.specs.Leads.{IsFollowing, KeepsBase, Leads};
-ghost use Rattle.ucon_actions.specs.Sessions.{IsIn, done_or_refused, done_unless, requested};
-ghost use Rattle.ucon_state.specs.Following.{Follows};
+ghost use Rattle.ucon_actions.specs.Leads.{AfterEach, IsFollowing, KeepsBase, Leads};
+ghost use Rattle.ucon_actions.specs.Sessions.{IsIn, beaten, done_or_refused, done_unless, ended, looked_at, requested};
 ghost use Rattle.ucon_state.specs.Shown.{shown};
 ghost use Rattle.ucon_state.specs.Tables.{entity_number, session_in, readings_in, accessing_among};
 
@@ -26,14 +22,16 @@ use crate::reading::{accessing, has_entity, has_right, session, sessions};
 use crate::update::run_updates;
 use std::alloc::Global;
 use ucon_base::{Name, NoMemory, Side};
-use ucon_eval::verdict;
-use ucon_model::{Caller, Head, Refusal, SessionRow, SessionState, Verdict, When};
+use ucon_eval::{typed_tests_make_no_set, verdict};
+use ucon_model::{
+    Caller, Head, Refusal, SessionRow, SessionState, Verdict, When, the_least_failing_is_found,
+};
 use ucon_state::State;
 
 /// The session, if it is there and the caller's own.
 fn own_session(state: &State, caller: Caller, n: u32) -> Result<SessionRow, Refusal>
     ensures there { IfOk result (λ row. session_in (shown state.now).tables n ≡ Some row) }
-    ensures trace { (P : PlainPolicy) (T : Trace) → Follows (shown state.now) P T → (done : SessionRow → Own) → with_own T caller n done ≡ done_or_refused result done }
+    ensures trace { AfterEach (shown state.now) (λ P T. (done : SessionRow → Own) → with_own T caller n done ≡ done_or_refused result done) }
 {
     let Some(row) = session(state, n) else {
         return Err(Refusal::NoSession);
@@ -47,7 +45,7 @@ fn own_session(state: &State, caller: Caller, n: u32) -> Result<SessionRow, Refu
 /// A usage that goes on, and is the caller's own.
 fn own_usage(state: &State, caller: Caller, n: u32) -> Result<(), Refusal>
     ensures accessing { OnOk result (IsIn (shown state.now).tables n Accessing) }
-    ensures trace { (P : PlainPolicy) (T : Trace) → Follows (shown state.now) P T → (done : Own) → with_usage T caller n done ≡ done_unless result done }
+    ensures trace { AfterEach (shown state.now) (λ P T. (done : Own) → with_usage T caller n done ≡ done_unless result done) }
 {
     let row = own_session(state, caller, n)?;
     require(is_accessing(row.state), Refusal::NotAccessing)
@@ -92,9 +90,10 @@ fn decide(alloc: Global, state: &mut State, n: u32) -> Result<Head, NoMemory>
     requires following { IsFollowing (shown state.old) }
     requires requesting { IsIn (shown state.old).tables n Requesting }
     requires room { accessing_among (shown state.old).tables.sessions < 65536 }
-    ensures made { IfOk result (λ head. (P : PlainPolicy) (T : Trace) → Follows (shown state.old) P T → Makes head (shown state.new) P T (decide P T n)) }
+    ensures made { IfOk result (λ head. AfterEach (shown state.old) (λ P T. Makes head (shown state.new) P T (decide P T n))) }
     ensures base { KeepsBase (shown state.old) (shown state.new) }
 {
+    typed_tests_make_no_set();
     match verdict(state, n) {
         Verdict::Deny(label) => {
             deny(state, n, label)?;
@@ -123,7 +122,8 @@ fn request(
     requires object { IsSome (entity_number (shown state.old).tables sides.Object object) }
     requires few { length (shown state.old).tables.sessions < 1048576 }
     requires room { accessing_among (shown state.old).tables.sessions < 65536 }
-    ensures made { IfOk result (λ head. (P : PlainPolicy) (T : Trace) → Follows (shown state.old) P T → Makes head (shown state.new) P T (requested P T caller subject right object)) }
+    ensures made { IfOk result (λ head. AfterEach (shown state.old) (λ P T.
+        Makes head (shown state.new) P T (requested P T caller subject right object))) }
     ensures base { KeepsBase (shown state.old) (shown state.new) }
 {
     let n = state.add_session(caller, right, subject, object)?;
@@ -185,8 +185,8 @@ pub fn beat(
     n: u32,
 ) -> Result<Outcome, ActionFault>
     requires { IsFollowing (shown state.old) }
-    ensures given { IfOk result (λ o. Gives o (shown state.old) (shown state.new) (λ P T. with_usage T caller n (make Head.Ok (session_writes P n During T)))) }
-    ensures refused { IfErr result (λ e. Refuses e (shown state.old) (λ P T. with_usage T caller n (make Head.Ok (session_writes P n During T)))) }
+    ensures given { IfOk result (λ o. Gives o (shown state.old) (shown state.new) (λ P T. beaten P T caller n)) }
+    ensures refused { IfErr result (λ e. Refuses e (shown state.old) (λ P T. beaten P T caller n)) }
     ensures unchanged { IfErr result (λ e. Unchanged e (shown state.old) (shown state.new)) }
     ensures base { KeepsBase (shown state.old) (shown state.new) }
 {
@@ -199,7 +199,7 @@ pub fn beat(
 fn end_usage(alloc: Global, state: &mut State, n: u32) -> Result<(), NoMemory>
     requires following { IsFollowing (shown state.old) }
     requires accessing { IsIn (shown state.old).tables n Accessing }
-    ensures leads { OnOk result (Leads (shown state.old) (shown state.new) (λ P T. extended (ends n ∷ T) (session_writes P n AfterEnd (ends n ∷ T)))) }
+    ensures leads { OnOk result (Leads (shown state.old) (shown state.new) (λ P T. ended P T n)) }
     ensures base { KeepsBase (shown state.old) (shown state.new) }
 {
     state.set_session(n, SessionState::Ended)?;
@@ -222,18 +222,19 @@ pub fn end(alloc: Global, state: &mut State, caller: Caller, n: u32) -> Result<O
 /// Revokes session n, the least accessing one that fails, and then runs its updates after a revocation.
 pub fn revoke(alloc: Global, state: &mut State, n: u32, label: Name) -> Result<(), NoMemory>
     requires following { IsFollowing (shown state.old) }
-    requires least { (P : PlainPolicy) (T : Trace) → Follows (shown state.old) P T → least_failing P T ≡ Some (n, label) }
+    requires least { AfterEach (shown state.old) (λ P T. least_failing P T ≡ Some (n, label)) }
     ensures leads { OnOk result (Leads (shown state.old) (shown state.new) (λ P T. extended T (revocation P T (n, label)))) }
     ensures base { KeepsBase (shown state.old) (shown state.new) }
 {
+    the_least_failing_is_found();
     state.set_session(n, SessionState::Revoked)?;
     run_updates(alloc, state, n, When::AfterRevoke)
 }
 
 /// The state of a session.
 pub fn look(state: &State, n: u32) -> Result<Outcome, ActionFault>
-    ensures given { IfOk result (λ o. Gives o (shown state.now) (shown state.now) (λ P T. option_map_or (λ row. tell (status n row.state)) (session T n) (refuse NoSession))) }
-    ensures refused { IfErr result (λ e. Refuses e (shown state.now) (λ P T. option_map_or (λ row. tell (status n row.state)) (session T n) (refuse NoSession))) }
+    ensures given { IfOk result (λ o. Gives o (shown state.now) (shown state.now) (λ P T. looked_at T n)) }
+    ensures refused { IfErr result (λ e. Refuses e (shown state.now) (λ P T. looked_at T n)) }
 {
     let row = session(state, n).ok_or(Refusal::NoSession)?;
     Ok(Outcome::Status(n, row.state))

@@ -2,11 +2,18 @@
 use Rattle.std.specs.Prelude.{ℕ, IsTrue, List, [], ◌∷◌, ◌++◌, codes}
 use Rattle.std.specs.List.{list_all}
 use Rattle.std.specs.Fmt.{signed_decimal}
+use Rattle.ucon_base.specs.declared.value.Side.{Side}
+use Rattle.ucon_base.specs.declared.value.Side.TheVariants as sides
 use Rattle.ucon_base.specs.declared.value.Value.{Value}
 use Rattle.ucon_base.specs.declared.value.Value.TheVariants as values
 use Rattle.ucon_base.specs.Numbers.{InRange}
 use Rattle.ucon_base.specs.TextBytes.{is_text}
 use Rattle.ucon_base.specs.Value.{is_set}
+
+-- a side's word
+abbrev pub side_word : Side → List ℕ
+side_word sides.Subject = codes "s"
+side_word sides.Object = codes "o"
 
 -- a text between `"`
 abbrev pub quoted : List ℕ → List ℕ

@@ -5,7 +5,7 @@ ghost use Rattle.std.specs.List.{prefix_len};
 ghost use Rattle.ucon_base.specs.TextBytes.{is_text_byte};
 ghost use Rattle.ucon_base.specs.Reading.{is_digit, bad_number_place, bad_integer_place, number_of, spelled_integer, integer_read, text_len, bad_close, text_read};
 
-use crate::text::is_text_byte;
+use crate::bytes::{is_digit, is_text_byte};
 use crate::{Int, Text, Value, ValueFault};
 
 /// The integer that the bytes spell.
@@ -52,12 +52,6 @@ fn no_digit(bytes: &[u8]) -> Option<usize>
     bytes.iter().position(|d| !is_digit(*d))
 }
 
-fn is_digit(b: u8) -> bool
-    ensures { result ≡ is_digit b }
-{
-    b >= b'0' && b <= b'9'
-}
-
 fn spelled_integer(bytes: &[u8]) -> Result<Value, ValueFault>
     ensures { result ≡ spelled_integer bytes.now }
 {
@@ -65,10 +59,7 @@ fn spelled_integer(bytes: &[u8]) -> Result<Value, ValueFault>
         [b'-', digits @ ..] => Int::new(-number(digits)),
         _ => Int::new(number(bytes)),
     };
-    match n {
-        Some(n) => Ok(Value::Int(n)),
-        None => Err(ValueFault::OutOfRange),
-    }
+    Ok(Value::Int(n.ok_or(ValueFault::OutOfRange)?))
 }
 
 /// The number that digits write, or the first out of range where it is above it.

@@ -1,44 +1,55 @@
 //! The one spelling of a value, written.
 
-ghost use Rattle.std.specs.Prelude.{◌≡◌, ◌++◌, OnOk};
-ghost use Rattle.std.specs.Fmt.{signed_decimal};
+ghost use Rattle.std.specs.Prelude.{◌≡◌, ◌++◌, MatchResult, OnOk};
+ghost use Rattle.std.specs.Fmt.{decimal, signed_decimal};
 ghost use Rattle.ucon_base.specs.Spelling.{quoted, more_texts, set_spelling};
 
 use crate::{Int, NoMemory, Text};
-use std::alloc::Global;
+use itoa::Buffer;
 
-pub fn put_integer(alloc: Global, out: &mut Vec<u8>, n: Int) -> Result<(), NoMemory>
-    ensures { OnOk result (out.new.items ≡ out.old.items ++ signed_decimal n) }
+/// Adds bytes, or nothing where there is no memory.
+pub fn put(out: &mut Vec<u8>, bytes: &[u8]) -> Result<(), NoMemory>
+    ensures { MatchResult result (λ _. out.new.items ≡ out.old.items ++ bytes.now) (λ _. out.new.items ≡ out.old.items) }
 {
-    let text = n.get().to_string(alloc)?;
-    out.extend_from_slice(text.as_bytes())?;
+    out.extend_from_slice(bytes)?;
     Ok(())
 }
 
-pub fn put_text(out: &mut Vec<u8>, t: &Text) -> Result<(), NoMemory>
-    ensures { OnOk result (out.new.items ≡ out.old.items ++ quoted t.now) }
+/// Adds a number in decimal, or nothing where there is no memory.
+pub fn put_number(out: &mut Vec<u8>, n: u64) -> Result<(), NoMemory>
+    ensures { MatchResult result (λ _. out.new.items ≡ out.old.items ++ decimal n) (λ _. out.new.items ≡ out.old.items) }
 {
-    let bytes = t.bytes();
+    let mut digits = Buffer::new();
+    put(out, digits.format(n).as_bytes())
+}
+
+/// Adds an integer in decimal, or nothing where there is no memory.
+pub fn put_integer(out: &mut Vec<u8>, n: Int) -> Result<(), NoMemory>
+    ensures { MatchResult result (λ _. out.new.items ≡ out.old.items ++ signed_decimal n) (λ _. out.new.items ≡ out.old.items) }
+{
+    let mut digits = Buffer::new();
+    put(out, digits.format(n.get()).as_bytes())
+}
+
+/// Adds bytes between quotes. Where there is no memory, some of it may stand there: a caller gives the text up.
+pub fn put_quoted(out: &mut Vec<u8>, bytes: &[u8]) -> Result<(), NoMemory>
+    ensures { OnOk result (out.new.items ≡ out.old.items ++ quoted bytes.now) }
+{
     out.push(b'"')?;
-    out.extend_from_slice(bytes)?;
-    out.push(b'"')?;
-    Ok(())
+    put(out, bytes)?;
+    put(out, b"\"")
 }
 
 pub fn put_set(out: &mut Vec<u8>, texts: &[Text]) -> Result<(), NoMemory>
     ensures { OnOk result (out.new.items ≡ out.old.items ++ set_spelling texts.now) }
 {
     match texts {
-        [] => {
-            out.extend_from_slice(b"{}")?;
-            Ok(())
-        }
+        [] => put(out, b"{}"),
         [first, more @ ..] => {
             out.push(b'{')?;
-            put_text(out, first)?;
+            put_quoted(out, first.bytes())?;
             put_more_texts(out, more)?;
-            out.push(b'}')?;
-            Ok(())
+            put(out, b"}")
         }
     }
 }
@@ -48,7 +59,7 @@ fn put_more_texts(out: &mut Vec<u8>, texts: &[Text]) -> Result<(), NoMemory>
 {
     for t in texts {
         out.push(b',')?;
-        put_text(out, t)?;
+        put_quoted(out, t.bytes())?;
     }
     Ok(())
 }

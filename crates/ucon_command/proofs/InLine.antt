@@ -8,7 +8,7 @@ use Rattle.std.proofs.lemmas.Int.{ints}
 use Rattle.ucon_base.specs.declared.value.Value.{Value}
 use Rattle.ucon_base.specs.declared.value.Value.TheVariants.{Int, Text, Set}
 use Rattle.ucon_base.specs.Numbers.{InRange}
-use Rattle.ucon_base.specs.Spelling.{quoted, more_texts, set_spelling, value_spelling, IsValue}
+use Rattle.ucon_base.specs.Spelling.{quoted, more_texts, set_spelling, value_spelling, IsValue, side_word}
 use Rattle.ucon_base.specs.TextBytes.{is_text, is_text_byte}
 use Rattle.ucon_base.proofs.TextFront.{texty, texty_is}
 use Rattle.ucon_base.specs.declared.value.Side.{Side}
@@ -16,7 +16,7 @@ use Rattle.ucon_base.specs.declared.value.Side.TheVariants as sides
 use Rattle.ucon_base.specs.NameBytes.{is_name}
 use Rattle.ucon_model.specs.declared.command.Command.{Command}
 use Rattle.ucon_model.specs.declared.command.Command.TheVariants as commands
-use Rattle.ucon_model.specs.CommandLine.{side_word, command_words, command_spelling, IsCommand}
+use Rattle.ucon_model.specs.CommandLine.{command_words, command_spelling, IsCommand}
 use Rattle.ucon_command.proofs.Joined.{join}
 use Rattle.ucon_model.specs.declared.reply.Head.{Head}
 use Rattle.ucon_model.specs.declared.reply.Head.TheVariants as heads

@@ -12,12 +12,12 @@ use Rattle.ucon_base.specs.declared.value.Value.{Value}
 use Rattle.ucon_base.specs.declared.value.Value.TheVariants.{Int, Text, Set}
 use Rattle.ucon_base.specs.NameBytes.{is_name, bad_place}
 use Rattle.ucon_base.specs.Numbers.{InRange}
-use Rattle.ucon_base.specs.Spelling.{quoted, more_texts, set_spelling, value_spelling, IsValue}
+use Rattle.ucon_base.specs.Spelling.{quoted, more_texts, set_spelling, value_spelling, IsValue, side_word}
 use Rattle.ucon_base.specs.TextBytes.{is_text, bad_text_place}
 use Rattle.ucon_base.specs.Value.{is_rising}
 use Rattle.ucon_model.specs.declared.command.Command.{Command}
 use Rattle.ucon_model.specs.declared.command.Command.TheVariants.{Subject, Object, Set as Set', Env, Tick, Act, Try, Again, Beat, End, Look, Value as Value'}
-use Rattle.ucon_model.specs.CommandLine.{side_word, command_spelling, IsCommand}
+use Rattle.ucon_model.specs.CommandLine.{command_spelling, IsCommand}
 use Rattle.ucon_base.specs.Elements.{Each}
 use Rattle.ucon_model.specs.declared.reply.Head.{Head}
 use Rattle.ucon_model.specs.declared.reply.Head.TheVariants as heads

@@ -10,11 +10,11 @@ use Rattle.ucon_base.specs.declared.value.Value.{Value}
 use Rattle.ucon_base.specs.declared.value.Value.TheVariants.{Int}
 use Rattle.ucon_base.specs.NameBytes.{is_name}
 use Rattle.ucon_base.specs.Numbers.{InRange}
-use Rattle.ucon_base.specs.Spelling.{value_spelling, IsValue}
+use Rattle.ucon_base.specs.Spelling.{value_spelling, IsValue, side_word}
 use Rattle.ucon_base.proofs.Values.{value_back}
 use Rattle.ucon_model.specs.declared.command.Command.{Command}
 use Rattle.ucon_model.specs.declared.command.Command.TheVariants.{Subject, Object, Set, Env, Tick, Act, Try, Again, Beat, End, Look, Value as Value'}
-use Rattle.ucon_model.specs.CommandLine.{side_word, command_spelling, IsCommand, placed, side_in, name_in, value_in, integer_in, number_in, one_word, names_of, three_names, place_of, value_words, set_of, set_words, env_of, env_words, command_read, words_read, line_read}
+use Rattle.ucon_model.specs.CommandLine.{command_spelling, IsCommand, placed, side_in, name_in, value_in, integer_in, number_in, one_word, names_of, three_names, place_of, value_words, set_of, set_words, env_of, env_words, command_read, words_read, line_read}
 use Rattle.ucon_base.specs.Elements.{Each}
 use Rattle.ucon_model.specs.Output.{Lacks}
 use Rattle.ucon_model.specs.Plain.{Bytes}

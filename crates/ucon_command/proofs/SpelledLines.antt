@@ -14,11 +14,11 @@ use Rattle.ucon_base.specs.declared.value.Value.TheVariants as values
 use Rattle.ucon_base.specs.declared.value_fault.ValueFault.{ValueFault}
 use Rattle.ucon_base.specs.NameBytes.{is_name}
 use Rattle.ucon_base.specs.Reading.{value_read}
-use Rattle.ucon_base.specs.Spelling.{value_spelling}
+use Rattle.ucon_base.specs.Spelling.{value_spelling, side_word}
 use Rattle.ucon_base.proofs.Values.{value_is}
 use Rattle.ucon_model.specs.declared.command.Command.{Command}
 use Rattle.ucon_model.specs.declared.command.Command.TheVariants.{Subject, Object, Set, Env, Tick, Act, Try, Again, Beat, End, Look, Value as Value'}
-use Rattle.ucon_model.specs.CommandLine.{side_word, command_words, command_spelling, LineRefusal, no_word, line_too_long, Word, placed, ◌>>=◌, side_in, name_in, value_in, integer_of, integer_in, number_of, number_in, one_word, names_of, three_names, place_of, value_words, set_of, set_words, env_of, env_words, made, command_read, words_read, line_read}
+use Rattle.ucon_model.specs.CommandLine.{command_words, command_spelling, LineRefusal, no_word, line_too_long, Word, placed, ◌>>=◌, side_in, name_in, value_in, integer_of, integer_in, number_of, number_in, one_word, names_of, three_names, place_of, value_words, set_of, set_words, env_of, env_words, made, command_read, words_read, line_read}
 use Rattle.ucon_model.specs.Plain.{Bytes}
 use Rattle.ucon_command.proofs.Joined.{split, join, behind, drop-join}
 

@@ -1,13 +1,14 @@
 //! Commands as text.
 
 ghost use Rattle.std.specs.Prelude.{◌≡◌, ◌≤◌, ◌++◌, ◌∷◌, length, IfOk, OnOk, Ok};
-ghost use Rattle.ucon_model.specs.CommandLine.{side_word, command_spelling, line_read};
+ghost use Rattle.ucon_base.specs.Spelling.{side_word};
+ghost use Rattle.ucon_model.specs.CommandLine.{command_spelling, line_read};
 ghost use Rattle.ucon_model.specs.Output.{Lacks};
 
 use crate::in_form::command_in_form;
-use crate::spelling::{put_integer, put_name, put_session, put_value, put_word};
+use crate::spelling::{put_name, put_session, put_value};
 use std::alloc::Global;
-use ucon_base::{Name, NoMemory, Side};
+use ucon_base::{Name, NoMemory, Side, put, put_integer};
 use ucon_model::Command;
 
 /// The one line that reads as the command: at most 8192 bytes, without a newline.
@@ -45,7 +46,7 @@ pub fn put_command(alloc: Global, out: &mut Vec<u8>, command: &Command) -> Resul
             put_value(alloc, out, value)
         }
         Command::Tick(t) => {
-            put_word(out, b"tick ")?;
+            put(out, b"tick ")?;
             put_integer(out, *t)
         }
         Command::Act {
@@ -70,7 +71,7 @@ pub fn put_command(alloc: Global, out: &mut Vec<u8>, command: &Command) -> Resul
 fn put_named(out: &mut Vec<u8>, word: &[u8], name: &Name) -> Result<(), NoMemory>
     ensures { OnOk result (out.new.items ≡ out.old.items ++ (word.now ++ 32 ∷ name.now)) }
 {
-    put_word(out, word)?;
+    put(out, word)?;
     put_name(out, name)
 }
 
@@ -93,16 +94,7 @@ fn put_place(
 ) -> Result<(), NoMemory>
     ensures { OnOk result (out.new.items ≡ out.old.items ++ (word.now ++ side_word side ++ 32 ∷ name.now ++ 32 ∷ attr.now)) }
 {
-    put_word(out, word)?;
-    put_named(out, side_word(side), name)?;
+    put(out, word)?;
+    put_named(out, side.word(), name)?;
     put_name(out, attr)
-}
-
-fn side_word(side: Side) -> &'static [u8]
-    ensures { result.now ≡ side_word side }
-{
-    match side {
-        Side::Subject => b"s",
-        Side::Object => b"o",
-    }
 }

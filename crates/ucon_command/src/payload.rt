@@ -18,10 +18,10 @@ use crate::payload_fault::PayloadFault;
 use crate::reading::read_reply;
 use crate::replies::put_reply;
 use crate::reply_fault::ReplyFault;
-use crate::spelling::{put_session, put_word};
+use crate::spelling::put_session;
 use itoa::Buffer;
 use std::alloc::Global;
-use ucon_base::NoMemory;
+use ucon_base::{NoMemory, put};
 use ucon_model::{Caller, Command, Reply};
 
 /// Most payloads have no more.
@@ -57,9 +57,9 @@ fn put_payload(
     ensures { OnOk result (out.new.items ≡ out.old.items ++ payload_spelling (told_of caller command.now reply.now)) }
 {
     put_session(out, b"", u32::from(caller.0))?;
-    put_word(out, b" ")?;
+    put(out, b" ")?;
     put_command(alloc, out, command)?;
-    put_word(out, b"\n")?;
+    put(out, b"\n")?;
     put_reply(alloc, out, reply)
 }
 

@@ -9,9 +9,9 @@ ghost use Rattle.ucon_model.specs.Views.{reply_of};
 ghost use Rattle.ucon_command.specs.Payloads.{most_reply};
 
 use crate::in_form::reply_in_form;
-use crate::spelling::{put_name, put_session, put_value, put_word};
+use crate::spelling::{put_name, put_session, put_value};
 use std::alloc::Global;
-use ucon_base::{Name, NoMemory};
+use ucon_base::{Name, NoMemory, put};
 use ucon_model::{Head, Refusal, Reply, Revoked, SessionState};
 
 /// Most replies that revoke nobody have no more.
@@ -35,19 +35,19 @@ pub fn put_reply(alloc: Global, out: &mut Vec<u8>, reply: &Reply) -> Result<(), 
     ensures { OnOk result (out.new.items ≡ out.old.items ++ reply_spelling (reply_of reply.now)) }
 {
     match reply {
-        Reply::Refused(r) => put_word(out, refusal_words(*r)),
+        Reply::Refused(r) => put(out, refusal_words(*r)),
         Reply::Made { head, revoked } => {
             put_head(out, head)?;
             put_revoked(out, revoked.slice())
         }
         Reply::Value(v) => {
-            put_word(out, b"value")?;
+            put(out, b"value")?;
             put_value(alloc, out, v)
         }
         Reply::Status(n, state) => {
             put_session(out, b"status ", *n)?;
-            put_word(out, b" ")?;
-            put_word(out, state_word(*state))
+            put(out, b" ")?;
+            put(out, state_word(*state))
         }
     }
 }
@@ -104,7 +104,7 @@ fn put_head(out: &mut Vec<u8>, head: &Head) -> Result<(), NoMemory>
     ensures { OnOk result (out.new.items ≡ out.old.items ++ head_spelling head.now) }
 {
     match head {
-        Head::Ok => put_word(out, b"ok"),
+        Head::Ok => put(out, b"ok"),
         Head::Permitted(n) => put_session(out, b"permitted ", *n),
         Head::Denied(n, label) => put_labelled(out, b"denied ", *n, label),
         Head::Waiting(n, label) => put_labelled(out, b"waiting ", *n, label),

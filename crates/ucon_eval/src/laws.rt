@@ -30,11 +30,13 @@ pub fn views_that_agree_decide_alike()
     ensures result { (P : PlainPolicy) (R S : Readings) (n i : ℕ) → Agree R S → result_at P R n i ≡ result_at P S n i }
 {}
 
-/// Where all values fit after a trace, and the policy in force is well typed, its tests make no set, over readings that agree with the trace's: what
-/// `truth`, `verdict` and `failing` ask of a view.
+/// Where all values fit after a trace, and the policy in force is well typed, its tests make no set, over readings that agree with the
+/// trace's: what `truth`, `verdict` and `failing` ask of a view.
 pub fn typed_tests_make_no_set()
-    ensures all { (P : PlainPolicy) (T : Trace) (R : Readings) → IsTyped (in_force P T) → ValuesFit P T → Agree R (readings P T) → (n : ℕ) → tests_make_no_set (in_force P T) R n ≡ true }
-    ensures one { (P : PlainPolicy) (T : Trace) (R : Readings) → IsTyped (in_force P T) → ValuesFit P T → Agree R (readings P T) → (n i : ℕ) → makes_no_set_at (in_force P T) R n i ≡ true }
+    ensures all { (P : PlainPolicy) (T : Trace) (R : Readings) → IsTyped (in_force P T) → ValuesFit P T → Agree R (readings P T)
+        → (n : ℕ) → tests_make_no_set (in_force P T) R n ≡ true }
+    ensures one { (P : PlainPolicy) (T : Trace) (R : Readings) → IsTyped (in_force P T) → ValuesFit P T → Agree R (readings P T)
+        → (n i : ℕ) → makes_no_set_at (in_force P T) R n i ≡ true }
 {
     places_hold_their_sorts();
     tests_are_typed();

@@ -6,6 +6,7 @@ use Rattle.ucon_links.specs.Lists.{Item, Lists, first_or, last_or, list_at, node
 use Rattle.ucon_links.specs.Lists as links
 use Rattle.ucon_index.specs.Dependents.{Place, place_at, empty_place, is_there, hide_at, hide}
 use Rattle.ucon_index.specs.Tables.{stood_at, places_from, on_top, sessions_of, seen, IsPaired, IsSound, IsGone, AreGone}
+use Rattle.ucon_index.proofs.OneList.{PlaceLaw}
 use Rattle.ucon_index.proofs.Weights.{Spot, spot_of}
 use Rattle.ucon_index.proofs.Rows.{stood_of, places-length}
 use Rattle.ucon_index.proofs.Standing.{sessions_in, Alone, absent_left, hide_at-there, hide_at-absent}
@@ -59,7 +60,7 @@ pub fewer : (other : ℕ) (xs ys : List (ℕ × ℕ)) (node s : ℕ) → IsAbsen
 fewer other [] ys node s absent = absent.1
 fewer other (x ∷ xs) ys node s absent = (absent.0, fewer other xs ys node s absent.1)
 
-module _ (session item : ℕ) (first_places first_sessions places sessions : Lists) (apart : IsAbsent session (sessions_of first_places.hidden)) (work : IsHiding session first_places first_sessions places sessions) (next : NextItem session item places sessions) (distinct : IsDistinct (nodes_of places)) (items_distinct : IsDistinct (nodes_of sessions)) where
+module _ (law : PlaceLaw) (session item : ℕ) (first_places first_sessions places sessions : Lists) (apart : IsAbsent session (sessions_of first_places.hidden)) (work : IsHiding session first_places first_sessions places sessions) (next : NextItem session item places sessions) (distinct : IsDistinct (nodes_of places)) (items_distinct : IsDistinct (nodes_of sessions)) where
   abbrev after_places : Lists
   after_places = record places { lists = set places.lists next.spot.place (next.spot.front ++ next.spot.back); hidden = item_of next.spot.place next.node session next.spot.front next.spot.back ∷ places.hidden }
 
@@ -98,10 +99,10 @@ module _ (session item : ℕ) (first_places first_sessions places sessions : Lis
       short work.others)
 
   pub step_places_is : links.hide places next.node ≡ after_places
-  step_places_is = hide_is places next.spot.place next.node session next.spot.front next.spot.back next.spot.within next.spot.there distinct
+  step_places_is = hide_is places next.spot.place next.node session next.spot.front next.spot.back next.spot.within next.spot.there distinct law
 
   pub step_sessions_is : links.hide sessions item ≡ after_sessions
-  step_sessions_is = hide_is sessions session item next.node [] next.rest work.within next.there items_distinct
+  step_sessions_is = hide_is sessions session item next.node [] next.rest work.within next.there items_distinct law
 
   stepped : IsHiding session first_places first_sessions after_places after_sessions
   stepped = record {

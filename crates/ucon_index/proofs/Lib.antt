@@ -1,4 +1,5 @@
 mod Once
+mod OneList
 mod Weights
 mod Rows
 mod Standing
@@ -14,3 +15,6 @@ mod Adding
 mod Growing
 mod Several
 mod Walks
+mod WhoStands
+mod Added
+mod There

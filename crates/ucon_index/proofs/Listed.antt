@@ -1,12 +1,10 @@
 -- A node that stands in a list is listed, and its owner is found.
 use Rattle.std.proofs.Common.{◌≡◌, ℕ, zero, suc, ◌<◌, List, [], ◌∷◌, ◌++◌, length, map, Some, None, Option, Bool, true, false, eqb, cond, IsSome, is_some, option_map, refl, sym, ap, ◌∙◌, subst, arith}
-use Rattle.std.proofs.lemmas.Bool.{eq-eqb}
+use Rattle.std.proofs.lemmas.Bool.{ne_eqb, eq-eqb}
 use Rattle.ucon_links.specs.Lists.{Item, Lists, list_at, place_behind, place_from, or_else, hidden_at, owner_of, listed_nodes, nodes_of, newest, IsListed, IsAbsent, IsDistinct}
-use Rattle.ucon_links.proofs.Restoring.{absent_front, absent_back}
-use Rattle.ucon_links.proofs.Linked.{ids}
-use Rattle.ucon_links.proofs.Walking.{place_behind-absent}
 use Rattle.ucon_index.specs.Tables.{newest_owner}
-use Rattle.ucon_index.proofs.Once.{distinct_pull}
+use Rattle.ucon_index.proofs.Once.{absent_front, absent_back, distinct_pull}
+use Rattle.ucon_index.proofs.OneList.{PlaceLaw, ids}
 use Rattle.ucon_index.proofs.Weights.{Spot}
 use Rattle.ucon_index.proofs.Steps.{place_is}
 use Rattle.ucon_index.proofs.Hiding.{NextItem}
@@ -37,12 +35,12 @@ from_some base (xs ∷ rest) (suc list) front back x within there =
 pub spot_listed : (v : Lists) (node owner : ℕ) → Spot v.lists node owner → IsListed v node
 spot_listed v node owner spot = from_some 0 v.lists spot.place spot.front spot.back (node, owner) spot.within spot.there
 
-module _ (session item : ℕ) (places sessions : Lists) (within : session < length sessions.lists) (next : NextItem session item places sessions) (distinct : IsDistinct (nodes_of sessions)) where
+module _ (law : PlaceLaw) (session item : ℕ) (places sessions : Lists) (within : session < length sessions.lists) (next : NextItem session item places sessions) (distinct : IsDistinct (nodes_of sessions)) where
   pub item_listed : IsListed sessions item
-  item_listed = ap is_some (place_is sessions session item next.node [] next.rest within next.there distinct)
+  item_listed = ap is_some (place_is sessions session item next.node [] next.rest within next.there distinct law)
 
   pub item_owner : owner_of sessions item ≡ Some next.node
-  item_owner = ap (λ place. option_map (λ i. i.owner) (or_else place (hidden_at sessions.hidden item))) (place_is sessions session item next.node [] next.rest within next.there distinct)
+  item_owner = ap (λ place. option_map (λ i. i.owner) (or_else place (hidden_at sessions.hidden item))) (place_is sessions session item next.node [] next.rest within next.there distinct law)
 
   pub node_is : (node : ℕ) → owner_of sessions item ≡ Some node → next.node ≡ node
   node_is node is = same (sym item_owner ∙ is)
@@ -52,6 +50,10 @@ module _ (session item : ℕ) (places sessions : Lists) (within : session < leng
 
   pub node_listed : (node : ℕ) → owner_of sessions item ≡ Some node → IsListed places node
   node_listed node is = subst (IsListed places) (node_is node is) (spot_listed places next.node session next.spot)
+
+place_behind-absent : (list : ℕ) (before : Option ℕ) (xs : List (ℕ × ℕ)) (node : ℕ) → IsAbsent node (ids xs) → place_behind list before xs node ≡ None
+place_behind-absent list before [] node absent = refl
+place_behind-absent list before (x ∷ xs) node absent = rw (ne_eqb x.0 node absent.0) (place_behind-absent list (Some x.0) xs node absent.1)
 
 from_none : (base : ℕ) (lists : List (List (ℕ × ℕ))) (node : ℕ) → IsAbsent node (listed_nodes lists) → place_from base lists node ≡ None
 from_none base [] node absent = refl

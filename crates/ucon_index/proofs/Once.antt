@@ -1,7 +1,22 @@
 -- Numbers that stand in no list, or once in one.
 use Rattle.std.proofs.Common.{ℕ, List, [], ◌∷◌, ◌++◌, sym}
 use Rattle.ucon_links.specs.Lists.{IsAbsent, IsDistinct}
-use Rattle.ucon_links.proofs.Restoring.{absent_front, absent_back}
+
+pub absent_front : (n : ℕ) (xs ys : List ℕ) → IsAbsent n (xs ++ ys) → IsAbsent n xs
+absent_front n [] ys absent = tt
+absent_front n (x ∷ xs) ys absent = (absent.0, absent_front n xs ys absent.1)
+
+pub absent_back : (n : ℕ) (xs ys : List ℕ) → IsAbsent n (xs ++ ys) → IsAbsent n ys
+absent_back n [] ys absent = absent
+absent_back n (x ∷ xs) ys absent = absent_back n xs ys absent.1
+
+pub distinct_front : (xs ys : List ℕ) → IsDistinct (xs ++ ys) → IsDistinct xs
+distinct_front [] ys distinct = tt
+distinct_front (x ∷ xs) ys distinct = (absent_front x xs ys distinct.0, distinct_front xs ys distinct.1)
+
+pub distinct_back : (xs ys : List ℕ) → IsDistinct (xs ++ ys) → IsDistinct ys
+distinct_back [] ys distinct = distinct
+distinct_back (x ∷ xs) ys distinct = distinct_back xs ys distinct.1
 
 pub absent_join : (n : ℕ) (xs ys : List ℕ) → IsAbsent n xs → IsAbsent n ys → IsAbsent n (xs ++ ys)
 absent_join n [] ys first second = second

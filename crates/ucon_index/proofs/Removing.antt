@@ -5,12 +5,13 @@ use Rattle.std.proofs.lemmas.List.Sums.{sum_by-cons}
 use Rattle.std.proofs.Math.Seq.{map-set_same}
 use Rattle.ucon_links.specs.Lists.{Item, Lists, first_or, list_at, nodes_of, IsAbsent, IsDistinct}
 use Rattle.ucon_links.specs.Lists as links
-use Rattle.ucon_index.specs.Dependents.{Stood, Place, Dependents, place_at, empty_place, is_there, stands_in, one_if, remove_at, remove}
+use Rattle.ucon_index.specs.Dependents.{Stood, Place, Dependents, place_at, empty_place, is_there, has_session, one_if, remove_at, remove}
 use Rattle.ucon_index.specs.Dependents as model
 use Rattle.ucon_index.specs.Tables.{stood_at, places_from, sessions_of, seen, IsPaired, IsSound, IsGone, AreGone}
+use Rattle.ucon_index.proofs.OneList.{PlaceLaw}
 use Rattle.ucon_index.proofs.Rows.{places-length}
 use Rattle.ucon_index.proofs.Sums.{sum_set}
-use Rattle.ucon_index.proofs.Standing.{sessions_in, Alone, absent_left, without-there, without-absent, stands_in-there, stands_in-absent}
+use Rattle.ucon_index.proofs.Standing.{sessions_in, Alone, absent_left, without-there, without-absent, has_session-there, has_session-absent}
 use Rattle.ucon_index.proofs.Steps.{unlink_is, place_before, paired_unlinked, places_unlinked, alone_there}
 use Rattle.ucon_index.proofs.Stack.{owners_absent, lists_absent, are_gone_set, no_items-gone, there-within}
 use Rattle.ucon_index.proofs.Hiding.{NextItem, no_first, fewer}
@@ -38,7 +39,7 @@ removing_begins session places sessions sound there = record {
   goal = refl;
 }
 
-module _ (session item : ℕ) (first_places first_sessions places sessions : Lists) (apart : IsAbsent session (sessions_of places.hidden)) (work : IsRemoving session first_places first_sessions places sessions) (next : NextItem session item places sessions) (distinct : IsDistinct (nodes_of places)) (items_distinct : IsDistinct (nodes_of sessions)) where
+module _ (law : PlaceLaw) (session item : ℕ) (first_places first_sessions places sessions : Lists) (apart : IsAbsent session (sessions_of places.hidden)) (work : IsRemoving session first_places first_sessions places sessions) (next : NextItem session item places sessions) (distinct : IsDistinct (nodes_of places)) (items_distinct : IsDistinct (nodes_of sessions)) where
   abbrev place : ℕ
   place = next.spot.place
 
@@ -75,11 +76,11 @@ module _ (session item : ℕ) (first_places first_sessions places sessions : Lis
 
   one_less : suc (model.nodes_of session (places_from 0 after_places.lists places.hidden)) ≡ model.nodes_of session all
   one_less =
-      let weigh : Place → ℕ = λ p. one_if (stands_in session p.listed) in
+      let weigh : Place → ℕ = λ p. one_if (has_session session p.listed) in
       let change = sum_set weigh all place left_place short in
       let is = ap (model.nodes_of session) step_places in
-      let old : weigh (place_at all place) ≡ 1 = ap weigh step_before ∙ ap one_if (stands_in-there session next.node next.spot.front next.spot.back) in
-      let new : weigh left_place ≡ 0 = ap one_if (stands_in-absent session (next.spot.front ++ next.spot.back) (absent_left session next.spot.front next.spot.back (stood_at place places.hidden) step_alone)) in
+      let old : weigh (place_at all place) ≡ 1 = ap weigh step_before ∙ ap one_if (has_session-there session next.node next.spot.front next.spot.back) in
+      let new : weigh left_place ≡ 0 = ap one_if (has_session-absent session (next.spot.front ++ next.spot.back) (absent_left session next.spot.front next.spot.back (stood_at place places.hidden) step_alone)) in
       omega arith
 
   step_gone : AreGone (sessions_of places.hidden) (places_from 0 after_places.lists places.hidden)
@@ -90,10 +91,10 @@ module _ (session item : ℕ) (first_places first_sessions places sessions : Lis
       short work.gone)
 
   pub removed_places_is : links.unlink places next.node ≡ after_places
-  removed_places_is = unlink_is places place next.node session next.spot.front next.spot.back next.spot.within next.spot.there distinct
+  removed_places_is = unlink_is places place next.node session next.spot.front next.spot.back next.spot.within next.spot.there distinct law
 
   pub removed_sessions_is : links.unlink sessions item ≡ after_sessions
-  removed_sessions_is = unlink_is sessions session item next.node [] next.rest work.within next.there items_distinct
+  removed_sessions_is = unlink_is sessions session item next.node [] next.rest work.within next.there items_distinct law
 
   stepped : IsRemoving session first_places first_sessions after_places after_sessions
   stepped =
@@ -120,16 +121,16 @@ module _ (session item : ℕ) (first_places first_sessions places sessions : Lis
       ∙ ap (λ xs. suc (length xs)) (get_or-set_same sessions.lists session next.rest [] work.within)
       ∙ sym (ap length next.there)
 
-remove-gone : (session : ℕ) (places : List Place) → IsGone session places → map (remove_at session) places ≡ places
+pub remove-gone : (session : ℕ) (places : List Place) → IsGone session places → map (remove_at session) places ≡ places
 remove-gone session [] gone = refl
 remove-gone session (place ∷ rest) gone =
     ap (λ xs. record { listed = xs; hidden = place.hidden } ∷ map (remove_at session) rest) (without-absent session place.listed gone.0) ∙ ap (λ ps. place ∷ ps) (remove-gone session rest gone.1)
 
-no_nodes : (session : ℕ) (places : List Place) → IsGone session places → model.nodes_of session places ≡ 0
+pub no_nodes : (session : ℕ) (places : List Place) → IsGone session places → model.nodes_of session places ≡ 0
 no_nodes session [] gone = refl
 no_nodes session (place ∷ rest) gone =
-    let whole = sum_by-cons (λ p. one_if (stands_in session p.listed)) place rest in
-    let first = ap one_if (stands_in-absent session place.listed gone.0) in
+    let whole = sum_by-cons (λ p. one_if (has_session session p.listed)) place rest in
+    let first = ap one_if (has_session-absent session place.listed gone.0) in
     let later = no_nodes session rest gone.1 in
     omega arith
 

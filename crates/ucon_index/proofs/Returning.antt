@@ -1,15 +1,15 @@
 -- Putting the session that was hidden last back, one node after another.
 use Rattle.std.proofs.Common.{◌≡◌, ◌≢◌, ℕ, suc, ◌<◌, List, [], ◌∷◌, ◌++◌, length, set, map, min, Some, None, Option, true, false, eqb, refl, sym, ap, ◌∙◌, subst, arith, length-set}
 use Rattle.std.proofs.Math.Seq.{map-set_same}
+use Rattle.std.proofs.lemmas.List.{map-append}
 use Rattle.std.proofs.lemmas.Bool.{ne_eqb, eqb-true, eqb-false}
 use Rattle.std.specs.Option.{option_eq}
 use Rattle.ucon_links.specs.Lists.{Item, Lists, first_or, last_or, list_at, with_behind, listed_nodes, nodes_of, IsAbsent, IsDistinct, IsGap}
 use Rattle.ucon_links.specs.Lists as links
-use Rattle.ucon_links.proofs.Restoring.{distinct_front, distinct_at}
-use Rattle.ucon_links.proofs.Linked.{ids, distinct_parts}
-use Rattle.ucon_links.proofs.Places.{with_behind-last}
 use Rattle.ucon_index.specs.Dependents.{Place, EachPlace, place_at, empty_place, unhide_at, unhide, unhide_first, Fits, CanUnhide, CanUnhideFirst}
 use Rattle.ucon_index.specs.Tables.{stood_at, places_from, on_top, sessions_of, seen, newest_owner, CanUnhideNewest, CanReturn, IsPaired, IsSound, AreGone}
+use Rattle.ucon_index.proofs.Once.{distinct_front}
+use Rattle.ucon_index.proofs.OneList.{ids, distinct_at, with_behind-last}
 use Rattle.ucon_index.proofs.Rows.{seen_at, stood_of, stood_at-other, stood_at-same, places-length, places-at, each_set, each_at}
 use Rattle.ucon_index.proofs.Standing.{sessions_in, sessions_out, Alone, alone_hidden, unhide_at-gap, unhide_at-absent, fits_not}
 use Rattle.ucon_index.proofs.Steps.{place_once, places_come, paired_come}
@@ -119,7 +119,7 @@ module _ (lists items : List (List (ℕ × ℕ))) (node item : Item) (rest rest_
       front_distinct : IsDistinct (ids front)
       front_distinct =
           let listed = distinct_at lists node.list (distinct_front (listed_nodes lists) (map (λ i. i.node) (node ∷ rest)) distinct) in
-          (distinct_parts front back (subst (λ xs. IsDistinct (ids xs)) node_gap.parts listed)).front
+          distinct_front (ids front) (ids back) (subst IsDistinct (map-append (λ x. x.0) front back) (subst (λ xs. IsDistinct (ids xs)) node_gap.parts listed))
 
       places_are : links.unhide before_places ≡ record { lists = after_lists; hidden = rest; spare = spare }
       places_are =

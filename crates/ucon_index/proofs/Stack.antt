@@ -2,11 +2,11 @@
 use Rattle.std.proofs.Common.{◌≡◌, ◌≢◌, ℕ, zero, suc, ◌+◌, ◌<◌, ◌≤◌, List, [], ◌∷◌, length, set, map, Some, Bool, true, false, eqb, cond, ◌||◌, refl, ap, ◌∙◌, subst, arith}
 use Rattle.std.proofs.lemmas.Bool.{eqb-true, eqb-false, ne_eqb, eq-eqb}
 use Rattle.ucon_links.specs.Lists.{Item, Lists, list_at, IsAbsent}
-use Rattle.ucon_index.specs.Dependents.{Place, place_at, stands_in, is_there, one_if}
+use Rattle.ucon_index.specs.Dependents.{Place, place_at, has_session, is_there, one_if}
 use Rattle.ucon_index.specs.Tables.{stood_at, places_from, on_top, sessions_of, weight_from, weight_of, by_session, IsPaired, IsGone, AreGone, newest_owner}
 use Rattle.ucon_index.proofs.Weights.{weight_from-zero}
 use Rattle.ucon_index.proofs.Rows.{each_set, each_at}
-use Rattle.ucon_index.proofs.Standing.{sessions_in, sessions_out, stands_in-absent, absent_of}
+use Rattle.ucon_index.proofs.Standing.{sessions_in, sessions_out, has_session-absent, absent_of}
 
 abbrev pub owners_of : List Item → List ℕ
 owners_of hidden = map (λ item. item.owner) hidden
@@ -72,7 +72,7 @@ lists_absent session places sessions paired absent = subst (IsAbsent session) (o
 
 pub gone-not_there : (session : ℕ) (places : List Place) → IsGone session places → is_there session places ≡ false
 gone-not_there session [] gone = refl
-gone-not_there session (place ∷ rest) gone = rw (stands_in-absent session place.listed gone.0) (gone-not_there session rest gone.1)
+gone-not_there session (place ∷ rest) gone = rw (has_session-absent session place.listed gone.0) (gone-not_there session rest gone.1)
 
 or_false : (a b : Bool) → (a || b) ≡ false → (a ≡ false) × (b ≡ false)
 or_false true b none = let no : ⊥ = cc in absurd no
@@ -81,7 +81,7 @@ or_false false b none = (refl, none)
 pub not_there-gone : (session : ℕ) (places : List Place) → is_there session places ≡ false → IsGone session places
 not_there-gone session [] none = tt
 not_there-gone session (place ∷ rest) none =
-    let both = or_false (stands_in session place.listed) (is_there session rest) none in
+    let both = or_false (has_session session place.listed) (is_there session rest) none in
     (absent_of session place.listed both.0, not_there-gone session rest both.1)
 
 -- a session that stands at a place isn't hidden

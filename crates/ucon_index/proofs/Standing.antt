@@ -3,11 +3,9 @@ use Rattle.std.proofs.Common.{◌≡◌, ℕ, List, [], ◌∷◌, ◌++◌, map
 use Rattle.std.proofs.lemmas.Bool.{eqb-false, ne_eqb, eq-eqb}
 use Rattle.std.proofs.lemmas.List.{map-append}
 use Rattle.ucon_links.specs.Lists.{first_or, last_or, with_behind, IsAbsent, IsDistinct}
-use Rattle.ucon_links.proofs.Restoring.{absent_front, absent_back}
-use Rattle.ucon_links.proofs.Linked.{ids}
-use Rattle.ucon_links.proofs.Places.{with_behind-last}
-use Rattle.ucon_index.specs.Dependents.{Stood, Place, stands_in, stands_behind, without_session, with_stood, hide_at, back_at, unhide_at, FitsAt}
-use Rattle.ucon_index.proofs.Once.{distinct_pull, distinct_push, absent_join}
+use Rattle.ucon_index.specs.Dependents.{Stood, Place, has_session, stands_behind, without_session, with_stood, hide_at, back_at, unhide_at, FitsAt}
+use Rattle.ucon_index.proofs.Once.{absent_front, absent_back, distinct_pull, distinct_push, absent_join}
+use Rattle.ucon_index.proofs.OneList.{ids, with_behind-last}
 
 abbrev pub sessions_in : List (ℕ × ℕ) → List ℕ
 sessions_in xs = map (λ x. x.1) xs
@@ -31,23 +29,23 @@ pub without-absent : (session : ℕ) (xs : List (ℕ × ℕ)) → IsAbsent sessi
 without-absent session [] absent = refl
 without-absent session (x ∷ xs) absent = rw (ne_eqb x.1 session absent.0) (ap (λ ys. x ∷ ys) (without-absent session xs absent.1))
 
-pub stands_in-there : (session node : ℕ) (front back : List (ℕ × ℕ)) → stands_in session (front ++ (node, session) ∷ back) ≡ true
-stands_in-there session node [] back = rw (eq-eqb session session refl)
-stands_in-there session node (x ∷ front) back = or_true (eqb x.1 session) (stands_in-there session node front back)
+pub has_session-there : (session node : ℕ) (front back : List (ℕ × ℕ)) → has_session session (front ++ (node, session) ∷ back) ≡ true
+has_session-there session node [] back = rw (eq-eqb session session refl)
+has_session-there session node (x ∷ front) back = or_true (eqb x.1 session) (has_session-there session node front back)
   where
     or_true : (a : Bool) {b : Bool} → b ≡ true → (a || b) ≡ true
     or_true true e = refl
     or_true false e = e
 
-pub stands_in-absent : (session : ℕ) (xs : List (ℕ × ℕ)) → IsAbsent session (sessions_in xs) → stands_in session xs ≡ false
-stands_in-absent session [] absent = refl
-stands_in-absent session (x ∷ xs) absent = rw (ne_eqb x.1 session absent.0) (stands_in-absent session xs absent.1)
+pub has_session-absent : (session : ℕ) (xs : List (ℕ × ℕ)) → IsAbsent session (sessions_in xs) → has_session session xs ≡ false
+has_session-absent session [] absent = refl
+has_session-absent session (x ∷ xs) absent = rw (ne_eqb x.1 session absent.0) (has_session-absent session xs absent.1)
 
-absent_first : (session : ℕ) (x : ℕ × ℕ) (xs : List (ℕ × ℕ)) (test : Bool) → eqb x.1 session ≡ test → (test || stands_in session xs) ≡ false → (stands_in session xs ≡ false → IsAbsent session (sessions_in xs)) → IsAbsent session (sessions_in (x ∷ xs))
+absent_first : (session : ℕ) (x : ℕ × ℕ) (xs : List (ℕ × ℕ)) (test : Bool) → eqb x.1 session ≡ test → (test || has_session session xs) ≡ false → (has_session session xs ≡ false → IsAbsent session (sessions_in xs)) → IsAbsent session (sessions_in (x ∷ xs))
 absent_first session x xs true is none later = let no : ⊥ = cc in absurd no
 absent_first session x xs false is none later = (eqb-false x.1 session is, later none)
 
-pub absent_of : (session : ℕ) (xs : List (ℕ × ℕ)) → stands_in session xs ≡ false → IsAbsent session (sessions_in xs)
+pub absent_of : (session : ℕ) (xs : List (ℕ × ℕ)) → has_session session xs ≡ false → IsAbsent session (sessions_in xs)
 absent_of session [] none = tt
 absent_of session (x ∷ xs) none = absent_first session x xs (eqb x.1 session) refl none (absent_of session xs)
 

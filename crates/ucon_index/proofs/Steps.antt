@@ -2,12 +2,10 @@
 use Rattle.std.proofs.Common.{◌≡◌, ◌≢◌, ℕ, zero, suc, ◌+◌, ◌<◌, List, [], ◌∷◌, ◌++◌, length, set, map, Some, None, refl, sym, ap, ◌∙◌, subst, arith, length-set}
 use Rattle.std.proofs.lemmas.List.{get_or-set_same, get_or-set_other, set-get_or}
 use Rattle.ucon_links.specs.Lists.{Item, Lists, first_or, last_or, list_at, place_of, without, hide, hide_item, unlink, unlink_item, listed_nodes, nodes_of, IsAbsent, IsDistinct}
-use Rattle.ucon_links.proofs.Restoring.{distinct_front, distinct_at, set-set}
-use Rattle.ucon_links.proofs.Linked.{ids, distinct_parts, apart_head}
-use Rattle.ucon_links.proofs.Places.{without-first}
-use Rattle.ucon_links.proofs.Walking.{place_there}
 use Rattle.ucon_index.specs.Dependents.{EachPlace, place_at}
 use Rattle.ucon_index.specs.Tables.{stood_at, places_from, by_place, by_session, CanReturn, InPlaces, IsOnce, IsPaired}
+use Rattle.ucon_index.proofs.Once.{distinct_front}
+use Rattle.ucon_index.proofs.OneList.{PlaceLaw, ids, distinct_at, front_of, without-first, set-set}
 use Rattle.ucon_index.proofs.Weights.{place_in, place_out, session_in, session_out}
 use Rattle.ucon_index.proofs.Rows.{seen_at, stood_of, stood_at-other, stood_at-same, places-length, places-at, places-set, each_set, each_at}
 use Rattle.ucon_index.proofs.Standing.{sessions_in, sessions_out, Alone, alone, once_listed, once_hidden}
@@ -17,25 +15,25 @@ abbrev pub item_of : ℕ → ℕ → ℕ → List (ℕ × ℕ) → List (ℕ × 
 item_of list node owner front back = record { list = list; node = node; owner = owner; before = last_or None front; after = first_or None back }
 
 module _ (v : Lists) (list node owner : ℕ) (front back : List (ℕ × ℕ)) (within : list < length v.lists) (there : list_at v.lists list ≡ front ++ (node, owner) ∷ back) (distinct : IsDistinct (nodes_of v)) where
-  pub place_is : place_of v node ≡ Some (item_of list node owner front back)
-  place_is = place_there v list front back (node, owner) distinct within there
+  pub place_is : PlaceLaw → place_of v node ≡ Some (item_of list node owner front back)
+  place_is law = law v list front back (node, owner) distinct within there
 
   left : without node (list_at v.lists list) ≡ front ++ back
   left =
       let listed = distinct_at v.lists list (distinct_front (listed_nodes v.lists) (map (λ item. item.node) v.hidden) distinct) in
-      let parts = distinct_parts front ((node, owner) ∷ back) (subst (λ xs. IsDistinct (ids xs)) there listed) in
-      ap (without node) there ∙ without-first node owner front back (apart_head front (node, owner) back parts.apart)
+      let parts = front_of front back (node, owner) (subst (λ xs. IsDistinct (ids xs)) there listed) in
+      ap (without node) there ∙ without-first node owner front back parts.absent
 
   pub front_distinct : IsDistinct (ids front)
   front_distinct =
       let listed = distinct_at v.lists list (distinct_front (listed_nodes v.lists) (map (λ item. item.node) v.hidden) distinct) in
-      (distinct_parts front ((node, owner) ∷ back) (subst (λ xs. IsDistinct (ids xs)) there listed)).front
+      (front_of front back (node, owner) (subst (λ xs. IsDistinct (ids xs)) there listed)).distinct
 
-  pub hide_is : hide v node ≡ record v { lists = set v.lists list (front ++ back); hidden = item_of list node owner front back ∷ v.hidden }
-  hide_is = ap (hide_item v) place_is ∙ ap (λ xs. record v { lists = set v.lists list xs; hidden = item_of list node owner front back ∷ v.hidden }) left
+  pub hide_is : PlaceLaw → hide v node ≡ record v { lists = set v.lists list (front ++ back); hidden = item_of list node owner front back ∷ v.hidden }
+  hide_is law = ap (hide_item v) (place_is law) ∙ ap (λ xs. record v { lists = set v.lists list xs; hidden = item_of list node owner front back ∷ v.hidden }) left
 
-  pub unlink_is : unlink v node ≡ record v { lists = set v.lists list (front ++ back); spare = v.spare + 1 }
-  unlink_is = ap (unlink_item v) place_is ∙ ap (λ xs. record v { lists = set v.lists list xs; spare = v.spare + 1 }) left
+  pub unlink_is : PlaceLaw → unlink v node ≡ record v { lists = set v.lists list (front ++ back); spare = v.spare + 1 }
+  unlink_is law = ap (unlink_item v) (place_is law) ∙ ap (λ xs. record v { lists = set v.lists list xs; spare = v.spare + 1 }) left
 
 set-swap : (lists : List (List (ℕ × ℕ))) (i j : ℕ) (xs ys : List (ℕ × ℕ)) → i ≢ j → set (set lists i xs) j ys ≡ set (set lists j ys) i xs
 set-swap [] i j xs ys differs = refl

@@ -2,10 +2,10 @@
 use Rattle.std.proofs.Common.{◌≡◌, ℕ, suc, List, [], ◌∷◌, ◌++◌, map, Bool, true, false, eqb, ◌⊎◌, inl, inr, refl, sym, ap, ◌∙◌, subst}
 use Rattle.std.proofs.lemmas.Bool.{eqb-true, eqb-false}
 use Rattle.ucon_links.specs.Lists.{Item, Lists, listed_nodes, nodes_of, IsAbsent, IsDistinct}
-use Rattle.ucon_links.proofs.Restoring.{distinct_front, distinct_back}
-use Rattle.ucon_links.proofs.Linked.{ids, distinct_parts}
 use Rattle.ucon_index.specs.Dependents.{Stood, Place, EachPlace, is_there, hide_at, unhide_at, hide, Fits, UnhideGives}
 use Rattle.ucon_index.specs.Tables.{places_from, sessions_of, seen, IsOnce, IsSound}
+use Rattle.ucon_index.proofs.Once.{distinct_front, distinct_back}
+use Rattle.ucon_index.proofs.OneList.{ids, front_of}
 use Rattle.ucon_index.proofs.Standing.{sessions_in, sessions_out, alone, hide_at-there, hide_at-absent, unhide_at-there, unhide_at-absent, fits_not}
 use Rattle.ucon_index.proofs.Stack.{owners_of, owners_absent, stood_absent, there-not_hidden}
 
@@ -49,10 +49,10 @@ restores_there : (session node : ℕ) (front back : List (ℕ × ℕ)) (hidden :
 restores_there session node front back hidden can =
     let one = alone session node front back hidden can.once in
     let hides = hide_at-there session node front back hidden one.front_absent in
-    let parts = distinct_parts front ((node, session) ∷ back) can.nodes in
+    let parts = front_of front back (node, session) can.nodes in
     record {
       fits = subst (Fits session) (sym hides) (λ same. record { front = front; back = back; parts = refl; front_ends = refl; back_begins = refl });
-      back = ap (unhide_at session) hides ∙ unhide_at-there session node front back hidden parts.front;
+      back = ap (unhide_at session) hides ∙ unhide_at-there session node front back hidden parts.distinct;
     }
 
 restores : (session : ℕ) (place : Place) → IsRestorable session place → Restores session place

@@ -1,12 +1,12 @@
 -- A walk through a place goes through its list in the table.
 use Rattle.std.proofs.Common.{◌≡◌, ◌≢◌, ℕ, zero, suc, ◌+◌, ◌<◌, List, [], ◌∷◌, ◌++◌, length, map, Some, None, Option, Bool, true, false, eqb, cond, IsSome, is_some, option_map, refl, sym, ap, ◌∙◌, subst, arith, append_assoc, length-append}
 use Rattle.std.proofs.lemmas.List.{append-nil, length-map, map-append}
-use Rattle.ucon_links.proofs.Walking.{place_there}
 use Rattle.std.proofs.lemmas.Bool.{eqb-true, eqb-false, ne_eqb, eq-eqb}
 use Rattle.ucon_links.specs.Lists.{Item, Lists, first_or, list_at, place_from, place_of, or_else, hidden_at, owner_of, listed_nodes, nodes_of, IsListed, IsAbsent, IsDistinct}
-use Rattle.ucon_links.proofs.Restoring.{distinct_front, distinct_back}
 use Rattle.ucon_index.specs.Dependents.{Place, Dependents, place_at, walked, stood_session, hidden_session, first_some, session_of}
 use Rattle.ucon_index.specs.Tables.{stood_at, places_from, seen, InPlaces, IsPaired}
+use Rattle.ucon_index.proofs.Once.{distinct_front, distinct_back}
+use Rattle.ucon_index.proofs.OneList.{PlaceLaw}
 use Rattle.ucon_index.proofs.Rows.{stood_at-other, stood_at-same, places-listed, places-length, places-at}
 
 module _ (places sessions : Lists) (v : Dependents) (is : seen places sessions ≡ v) where
@@ -130,13 +130,13 @@ list_of_place [] place within = absurd (omega arith)
 list_of_place (first ∷ rest) zero within = refl
 list_of_place (first ∷ rest) (suc place) within = list_of_place rest place (omega arith)
 
-met_at : (v : Dependents) (place : ℕ) (met : List ℕ) (node : ℕ) (front back : List (ℕ × ℕ)) → IsDistinct (listed_nodes (walked v).lists) → place < length v.places → (place_at v.places place).listed ≡ front ++ back → met ≡ map (λ x. x.1) front → Some node ≡ first_or None back → IsMet v place met node
-met_at v place met node front [] distinct within there met_is at_is = let no : ⊥ = cc in absurd no
-met_at v place met node front (x ∷ back) distinct within there met_is at_is =
+met_at : PlaceLaw → (v : Dependents) (place : ℕ) (met : List ℕ) (node : ℕ) (front back : List (ℕ × ℕ)) → IsDistinct (listed_nodes (walked v).lists) → place < length v.places → (place_at v.places place).listed ≡ front ++ back → met ≡ map (λ x. x.1) front → Some node ≡ first_or None back → IsMet v place met node
+met_at law v place met node front [] distinct within there met_is at_is = let no : ⊥ = cc in absurd no
+met_at law v place met node front (x ∷ back) distinct within there met_is at_is =
     let same : x.0 ≡ node = cc in
     let once = subst IsDistinct (sym (append-nil (listed_nodes (walked v).lists))) distinct in
     let short : place < length (walked v).lists = subst (λ n. place < n) (sym (length-map v.places (λ p. p.listed))) within in
-    let is = place_there (walked v) place front back x once short (list_of_place v.places place within ∙ there) in
+    let is = law (walked v) place front back x once short (list_of_place v.places place within ∙ there) in
     let size = length-append front (x ∷ back) in
     let whole = ap length there in
     let met_size = ap length met_is ∙ length-map front (λ x. x.1) in
@@ -157,8 +157,8 @@ met_at v place met node front (x ∷ back) distinct within there met_is at_is =
     some_of : {X : Type 0} {a b : X} → Some a ≡ Some b → a ≡ b
     some_of e = cc
 
-pub walk_meets : (v : Dependents) (place : ℕ) (met : List ℕ) (node : ℕ) → IsDistinct (listed_nodes (walked v).lists) → place < length v.places → IsWalked v place met (Some node) → IsMet v place met node
-walk_meets v place met node distinct within way = met_at v place met node way.front way.back distinct within way.there way.met_is way.at_is
+pub walk_meets : PlaceLaw → (v : Dependents) (place : ℕ) (met : List ℕ) (node : ℕ) → IsDistinct (listed_nodes (walked v).lists) → place < length v.places → IsWalked v place met (Some node) → IsMet v place met node
+walk_meets law v place met node distinct within way = met_at law v place met node way.front way.back distinct within way.there way.met_is way.at_is
 
 -- at the end the walk has met all
 pub walk_ends : (v : Dependents) (place : ℕ) (met : List ℕ) → IsWalked v place met None → met ≡ map (λ x. x.1) (place_at v.places place).listed

@@ -1,5 +1,5 @@
 -- The dependency index: for each place the sessions that were added with it, and sessions hidden and put back.
-use Rattle.std.specs.Prelude.{◌≡◌, ℕ, zero, suc, ◌+◌, ◌-◌, ◌==◌, ◌||◌, Bool, true, false, List, [], ◌∷◌, map, length, sum_by, slice_set, slice_index_or, Option, Some, None, option_map, if◌then◌else◌}
+use Rattle.std.specs.Prelude.{◌≡◌, ℕ, zero, suc, ◌+◌, ◌-◌, ◌==◌, ◌||◌, not, Bool, true, false, List, [], ◌∷◌, map, filter, length, sum_by, slice_get, slice_set, slice_index_or, Option, Some, None, option_map, if◌then◌else◌}
 use Rattle.ucon_links.specs.Lists.{Lists, first_or, place_of, with_behind, IsGap}
 
 -- where a hidden session stood at a place: its node, and the nodes before and after it, none at an end of the list
@@ -14,7 +14,8 @@ pub record Place : Type 0 where
   pub listed : List (ℕ × ℕ)
   pub hidden : List Stood
 
--- the places by number, the hidden sessions (the one that was hidden last first), the number below which sessions may be added, and for how many more nodes there is room
+-- the places by number, the hidden sessions (the one that was hidden last first), the number below which sessions may be added,
+-- and for how many more nodes there is room
 pub record Dependents : Type 0 where
   pub places : List Place
   pub hidden : List ℕ
@@ -31,14 +32,32 @@ abbrev pub EachPlace : (Place → Type 0) → List Place → Type 0
 EachPlace P [] = Unit {0}
 EachPlace P (place ∷ rest) = P place × EachPlace P rest
 
-abbrev pub stands_in : ℕ → List (ℕ × ℕ) → Bool
-stands_in session [] = false
-stands_in session (x ∷ xs) = (x.1 == session) || stands_in session xs
+-- whether one of the nodes is the session's
+abbrev pub has_session : ℕ → List (ℕ × ℕ) → Bool
+has_session session [] = false
+has_session session (x ∷ xs) = (x.1 == session) || has_session session xs
 
 -- whether the session stands at one of the places
 abbrev pub is_there : ℕ → List Place → Bool
 is_there session [] = false
-is_there session (place ∷ rest) = stands_in session place.listed || is_there session rest
+is_there session (place ∷ rest) = has_session session place.listed || is_there session rest
+
+-- who stands at a place: the sessions that were added with it and aren't hidden, as a walk meets them
+abbrev pub stands_in : Dependents → ℕ → List ℕ
+stands_in v place = map (λ x. x.1) (place_at v.places place).listed
+
+-- who stood at a place when it was hidden, the one that was hidden last first
+abbrev pub stood_in : Dependents → ℕ → List ℕ
+stood_in v place = map (λ stood. stood.session) (place_at v.places place).hidden
+
+-- the sessions without this one
+abbrev pub others : ℕ → List ℕ → List ℕ
+others session sessions = filter (λ other. not (other == session)) sessions
+
+-- the session was hidden last of all, and it stood at the place
+pub record IsNextBack (v : Dependents) (place session : ℕ) : Type 0 where
+  pub hidden_last : slice_get v.hidden 0 ≡ Some session
+  pub stood : slice_get (stood_in v place) 0 ≡ Some session
 
 -- the lists of the places, as a walk goes through them
 abbrev pub walked : Dependents → Lists
@@ -67,7 +86,8 @@ node_count v = sum_by (λ place. length place.listed + length place.hidden) v.pl
 -- a node of the session comes to the front of a place
 abbrev pub at_front : Dependents → ℕ → ℕ → ℕ → Dependents
 at_front v place node session = record v {
-  places = slice_set v.places place (record { listed = (node, session) ∷ (place_at v.places place).listed; hidden = (place_at v.places place).hidden });
+  places = slice_set v.places place
+      (record { listed = (node, session) ∷ (place_at v.places place).listed; hidden = (place_at v.places place).hidden });
   spare = v.spare - 1;
 }
 
@@ -160,7 +180,7 @@ one_if b = if b then 1 else 0
 
 -- how many nodes a session has
 abbrev pub nodes_of : ℕ → List Place → ℕ
-nodes_of session places = sum_by (λ place. one_if (stands_in session place.listed)) places
+nodes_of session places = sum_by (λ place. one_if (has_session session place.listed)) places
 
 abbrev pub remove_at : ℕ → Place → Place
 remove_at session place = record { listed = without_session session place.listed; hidden = place.hidden }

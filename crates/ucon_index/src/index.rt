@@ -1,15 +1,15 @@
 //! The dependency index: two tables of linked lists, one by place and one by session.
 
-ghost use Rattle.std.specs.Prelude.{◌≡◌, ◌+◌, ◌-◌, ◌^◌, ◌<◌, ◌≤◌, ◌++◌, [], true, false, length, replicate, option_map, Some, None, IsSome, IfOk, OnOk, OnErr};
-ghost use Rattle.std.specs.List.{All};
+ghost use Rattle.std.specs.Prelude.{◌≡◌, ◌↔◌, ◌⊎◌, ℕ, ◌+◌, ◌-◌, ◌^◌, ◌<◌, ◌≤◌, ◌∷◌, ◌++◌, [], true, false, length, replicate, option_map, Some, None, IsSome, IfOk, OnOk, OnErr};
+ghost use Rattle.std.specs.List.{All, Contains};
 ghost use Rattle.ucon_links.specs.Lists.{first_or, place_of, listed_nodes, IsListed, IsAbsent, IsDistinct};
-ghost use Rattle.ucon_index.specs.Dependents.{Dependents, empty_place, place_at, is_there, walked, session_of, node_count, hide, unhide, forget_hidden, remove, hide_all, IsAdded, CanUnhide, UnhideGives, AllThere};
+ghost use Rattle.ucon_index.specs.Dependents.{Dependents, empty_place, place_at, is_there, stands_in, others, walked, session_of, node_count, hide, unhide, forget_hidden, remove, hide_all, IsAdded, IsNextBack, CanUnhide, UnhideGives, AllThere};
 
 use crate::newest::{last_hidden, unhide_newest};
 use std::alloc::Global;
 use std::marker::Model;
 use ucon_base::NoMemory;
-use ucon_links::{Links, NodeId};
+use ucon_links::{Links, NodeId, nodes_stand_where_listed};
 
 /// For each place the sessions that were added with it and aren't hidden.
 #[derive(Drop)]
@@ -44,7 +44,8 @@ impl Index {
 
     /// Makes the places at least so many.
     pub fn grow(&mut self, places: u32) -> Result<(), NoMemory>
-        ensures ok { OnOk result (self.new ≡ record self.old { places = self.old.places ++ replicate (places - length self.old.places) empty_place }) }
+        ensures ok { OnOk result (self.new
+            ≡ record self.old { places = self.old.places ++ replicate (places - length self.old.places) empty_place }) }
         ensures err { OnErr result (self.new ≡ self.old) }
     {
         let more = places.saturating_sub(self.places.list_count());
@@ -60,8 +61,22 @@ impl Index {
         self.sessions.more_lists(more)
     }
 
-    /// Makes room for so many more nodes: a session needs one for each of its places.
+    /// Makes room for so many more nodes: a session needs one for each of its places. Lets the sessions below that number be added too;
+    /// higher ones need `grow_sessions`.
     pub fn reserve(&mut self, nodes: u32) -> Result<(), NoMemory>
+        requires { node_count self.old + nodes < 2 ^ 32 - 1 }
+        ensures kept { self.new ≡ record self.old { sessions = self.new.sessions; spare = self.new.spare } }
+        ensures sessions { self.old.sessions ≤ self.new.sessions }
+        ensures spare { self.old.spare ≤ self.new.spare }
+        ensures room { OnOk result (nodes ≤ self.new.spare) }
+        ensures numbers { OnOk result (nodes ≤ self.new.sessions) }
+    {
+        self.grow_sessions(nodes)?;
+        self.reserve_nodes(nodes)
+    }
+
+    // Makes room for so many more nodes.
+    fn reserve_nodes(&mut self, nodes: u32) -> Result<(), NoMemory>
         requires { node_count self.old + nodes < 2 ^ 32 - 1 }
         ensures kept { self.new ≡ record self.old { spare = self.new.spare } }
         ensures spare { self.old.spare ≤ self.new.spare }
@@ -69,6 +84,34 @@ impl Index {
     {
         self.places.reserve(nodes)?;
         self.sessions.reserve(nodes)
+    }
+
+    /// How many places there are.
+    pub fn place_count(&self) -> u32
+        ensures { result ≡ length self.now.places }
+    {
+        self.places.list_count()
+    }
+
+    /// The number below which sessions may be added.
+    pub fn session_count(&self) -> u32
+        ensures { result ≡ self.now.sessions }
+    {
+        self.sessions.list_count()
+    }
+
+    /// How many nodes there are, those of hidden sessions too.
+    pub fn node_count(&self) -> u32
+        ensures { result ≡ node_count self.now }
+    {
+        self.places.node_count()
+    }
+
+    /// For how many more nodes there is room.
+    pub fn spare(&self) -> u32
+        ensures { result ≡ self.now.spare }
+    {
+        self.places.spare().min(self.sessions.spare())
     }
 
     /// Adds a session to its places.
@@ -80,7 +123,11 @@ impl Index {
         requires session { session < self.old.sessions }
         requires not_there { is_there session self.old.places ≡ false }
         requires not_hidden { IsAbsent session self.old.hidden }
-        ensures { IsAdded self.old session places.now self.new }
+        ensures added { IsAdded self.old session places.now self.new }
+        ensures at { All (λ place. stands_in self.new place ≡ session ∷ stands_in self.old place) places.now }
+        ensures elsewhere { (place : ℕ) → IsAbsent place places.now → stands_in self.new place ≡ stands_in self.old place }
+        ensures there { is_there session self.new.places ≡ true }
+        ensures undone { remove self.new session ≡ self.old }
     {
         for place in places {
             let node = self.places.link(*place, session);
@@ -88,12 +135,23 @@ impl Index {
         }
     }
 
+    /// Whether the session stands at a place: the condition of `hide` and `remove`.
+    pub fn is_there(&self, session: u32) -> bool
+        requires { session < self.now.sessions }
+        ensures { result ≡ is_there session self.now.places }
+    {
+        let first = self.sessions.first(session);
+        first.is_some()
+    }
+
     /// Takes a session out of all its places, which keep where it stood.
     pub fn hide(&mut self, session: u32)
         requires { is_there session self.old.places ≡ true }
         ensures hidden { self.new ≡ hide self.old session }
+        ensures stands { (place : ℕ) → stands_in self.new place ≡ others session (stands_in self.old place) }
         ensures restored { UnhideGives 1 self.new self.old }
     {
+        nodes_stand_where_listed();
         while let Some(item) = self.sessions.first(session) {
             self.places.hide(self.sessions.owner(item));
             self.sessions.hide(item);
@@ -103,7 +161,9 @@ impl Index {
     /// Puts the session that was hidden last back in all its places.
     pub fn unhide_last(&mut self)
         requires { CanUnhide self.old }
-        ensures { self.new ≡ unhide self.old }
+        ensures back { self.new ≡ unhide self.old }
+        ensures stands { (place session : ℕ) → Contains (stands_in self.new place) session
+            ↔ (Contains (stands_in self.old place) session ⊎ IsNextBack self.old place session) }
     {
         let Some(session) = last_hidden(&self.places) else {
             return;
@@ -137,7 +197,8 @@ impl Index {
 
     /// Frees the nodes of all hidden sessions.
     pub fn forget_hidden(&mut self)
-        ensures { self.new ≡ forget_hidden self.old }
+        ensures forgotten { self.new ≡ forget_hidden self.old }
+        ensures stands { (place : ℕ) → stands_in self.new place ≡ stands_in self.old place }
     {
         self.places.free_all();
         self.sessions.free_all();
@@ -146,8 +207,10 @@ impl Index {
     /// Takes a session out of all its places and frees its nodes: what undoes `add`.
     pub fn remove(&mut self, session: u32)
         requires { is_there session self.old.places ≡ true }
-        ensures { self.new ≡ remove self.old session }
+        ensures removed { self.new ≡ remove self.old session }
+        ensures stands { (place : ℕ) → stands_in self.new place ≡ others session (stands_in self.old place) }
     {
+        nodes_stand_where_listed();
         while let Some(item) = self.sessions.first(session) {
             self.places.unlink(self.sessions.owner(item));
             self.sessions.unlink(item);
@@ -159,6 +222,7 @@ impl Index {
         requires { place < length self.now.places }
         ensures first { result ≡ first_or None (place_at self.now.places place).listed }
         ensures distinct { IsDistinct (listed_nodes (walked self.now).lists) }
+        ensures once { IsDistinct (stands_in self.now place) }
     {
         self.places.first(place)
     }

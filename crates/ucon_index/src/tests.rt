@@ -5,12 +5,14 @@ use crate::Index;
 use std::alloc::Global;
 use std::test::Fail;
 use ucon_base::NoMemory;
+use ucon_links::nodes_stand_where_listed;
 
 // The sessions of a place, as a walk meets them.
 fn walk(alloc: Global, index: &Index, place: u32) -> Result<Vec<u32>, NoMemory>
     requires { place < length index.now.places }
     ensures { IfOk result (λ sessions. sessions.items ≡ map (λ x. x.1) (place_at index.now.places place).listed) }
 {
+    nodes_stand_where_listed();
     let mut sessions = Vec::new(alloc);
     let mut at = index.first(place);
     while let Some(node) = at {
@@ -21,10 +23,23 @@ fn walk(alloc: Global, index: &Index, place: u32) -> Result<Vec<u32>, NoMemory>
 }
 
 #[test]
+fn one_growth_and_one_reserve_let_a_session_be_added(rt: HostRuntime) -> Result<(), Fail> {
+    let mut index = Index::new(rt.alloc())?;
+    index.grow(2)?;
+    index.reserve(2)?;
+    index.add(1, &[0, 1]);
+    assert_eq!(rt; walk(rt.alloc(), &index, 1)?.as_slice(), [1].as_slice());
+    assert_eq!(rt; index.place_count(), 2);
+    assert_eq!(rt; index.session_count(), 2);
+    assert_eq!(rt; index.node_count(), 2);
+    assert_eq!(rt; index.spare(), 0);
+    Ok(())
+}
+
+#[test]
 fn a_place_has_the_sessions_that_are_added_and_not_hidden(rt: HostRuntime) -> Result<(), Fail> {
     let mut index = Index::new(rt.alloc())?;
     index.grow(2)?;
-    index.grow_sessions(3)?;
     index.reserve(3)?;
     index.add(1, &[0, 1]);
     assert_eq!(rt; walk(rt.alloc(), &index, 1)?.as_slice(), [1].as_slice());

@@ -1,6 +1,6 @@
 //! A journal: payloads of bytes in records, each on the disk before it is acknowledged.
 
-ghost use Rattle.std.specs.Prelude.{◌≡◌, ◌≢◌, ◌+◌, ◌-◌, ◌<◌, ◌≤◌, ◌^◌, false, List, ℕ, Some, [], ◌∷◌, ◌++◌, length, take, Ok, IsSome, IfSome, IfOk, IfErr, OnOk, OnErr, IsErrOf, MatchBool, MatchOption, true, vec_capacity};
+ghost use Rattle.std.specs.Prelude.{◌≡◌, ◌≢◌, ◌+◌, ◌-◌, ◌<◌, ◌≤◌, ◌^◌, false, List, ℕ, Some, [], ◌∷◌, ◌++◌, length, take, Ok, IsSome, IfSome, IfOk, IfErr, OnOk, OnErr, IsErrOf, MatchBool, MatchOption, true, vec_capacity, is_some};
 ghost use Rattle.std.specs.Int.{w32, to_be_bytes};
 ghost use Rattle.std.specs.List.{sum_by};
 ghost use Rattle.std.specs.Option.{option_map};
@@ -129,6 +129,14 @@ impl<D: Disk> Journal<D> {
         Ok(true)
     }
 
+    /// The place of the gate that comes next.
+    pub fn gate(&self) -> u64
+        ensures value { result ≡ gate_of self.now }
+        ensures small { result < 2 ^ 63 }
+    {
+        self.gate
+    }
+
     /// The payload that `next` has taken.
     pub fn payload(&self) -> &[u8]
         ensures { result.now ≡ payload_of self.now }
@@ -160,6 +168,7 @@ impl<D: Disk> Journal<D> {
         ensures version { version_of self.new ≡ version_of self.old }
         ensures only { OnOk result (Only (D.contents (disk_of self.new)) (D.images (disk_of self.new))) }
         ensures images { LeavesAfter D.contents D.images D.moment D.images_since (disk_of self.old) (disk_of self.new) SamePayloads }
+        ensures room { (n : ℕ) → HasRoomFor self.old n → HasRoomFor self.new n }
         ensures cause { HasCause (D.faults (disk_of self.old)) (D.faults (disk_of self.new)) result }
     {
         self.phase = Phase::Broken;
@@ -192,6 +201,7 @@ impl<D: Disk> Journal<D> {
         requires short { length payload.now ≤ MAX_PAYLOAD }
         requires room { HasRoomFor self.old (length payload.now) }
         ensures closed { OnOk result (IsClosed D.contents self.new) }
+        ensures tells { is_some (D.contents (disk_of self.new)) ≡ is_some (D.contents (disk_of self.old)) }
         ensures broken { OnErr result (IsBroken self.new) }
         ensures room { (n : ℕ) → HasRoomFor self.old n → HasRoomFor self.new n }
         ensures added { OnOk result (IfSome (D.contents (disk_of self.old)) (λ file.

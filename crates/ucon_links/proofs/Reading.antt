@@ -62,6 +62,13 @@ module _ (nodes : List Node) (firsts : List (Option ℕ)) (top : Option ℕ) (hi
       ap (option_map (λ place. place.after)) at.place_is ∙ ap Some (sym at.stands.after_is)
       ∙ ap (option_map (λ n. n.next)) (sym (found_node nodes v node at) ∙ there)
 
+  -- what stands in front of a listed node is what it names
+  pub previous_is : (stored : Node) → IsListed v node → slice_get nodes node ≡ Some stored → option_map (λ place. place.before) (place_of v node) ≡ Some stored.previous
+  previous_is stored listed there =
+      let at = found nodes firsts v node now.holds.listed listed in
+      ap (option_map (λ place. place.before)) at.place_is ∙ ap Some (sym at.stands.before_is)
+      ∙ ap (option_map (λ n. n.previous)) (sym (found_node nodes v node at) ∙ there)
+
   -- the list of a listed node is the one that it names
   pub list_is : (stored : Node) → IsListed v node → slice_get nodes node ≡ Some stored → stored.list ≡ list_of v node
   list_is stored listed there =

@@ -96,7 +96,8 @@ pub record Holds (nodes : List Node) (firsts : List (Option ℕ)) (newest unused
   pub fits : length nodes < 2 ^ 32 - 1
 
 -- the table holds what is seen of it
-pub record IsSound (nodes : List Node) (firsts : List (Option ℕ)) (newest : Option ℕ) (hidden : ℕ) (unused : Option ℕ) (spare : ℕ) : Type 0 where
+pub record IsSound
+    (nodes : List Node) (firsts : List (Option ℕ)) (newest : Option ℕ) (hidden : ℕ) (unused : Option ℕ) (spare : ℕ) : Type 0 where
   pub spares : List ℕ
   pub holds : Holds nodes firsts newest unused (seen nodes firsts newest hidden spare) spares
   pub hidden_count : length (hidden_items hidden nodes newest) ≡ hidden

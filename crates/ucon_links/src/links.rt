@@ -1,6 +1,6 @@
 //! Lists linked by index.
 
-ghost use Rattle.std.specs.Prelude.{◌≡◌, ◌+◌, ◌-◌, ◌^◌, ◌<◌, ◌≤◌, [], ◌∷◌, ◌++◌, length, replicate, option_map, Some, None, IsSome, IfOk, OnOk, OnErr};
+ghost use Rattle.std.specs.Prelude.{◌≡◌, ◌+◌, ◌-◌, ◌^◌, ◌<◌, ◌≤◌, [], ◌∷◌, ◌++◌, max, length, replicate, option_map, Some, None, IsSome, IfOk, OnOk, OnErr};
 ghost use Rattle.ucon_links.specs.Lists.{node_count, list_at, list_of, first_or, last_or, place_of, owner_of, nodes_of, newest, oldest, IsListed, IsAbsent, IsDistinct, IsGap, CanUnhide, link_behind, hide, unlink, unhide, free_oldest, free_newest, hide_all, Lists, AllListed, AreHidden, WereHidden};
 
 use crate::table::{Node, State, Table};
@@ -90,6 +90,15 @@ impl Links {
         self.table.nodes[node as usize].next
     }
 
+    /// The node in front of a listed one.
+    pub fn previous(&self, node: NodeId) -> Option<NodeId>
+        requires { IsListed self.now node }
+        ensures previous { option_map (λ place. place.before) (place_of self.now node) ≡ Some result }
+        ensures distinct { IsDistinct (nodes_of self.now) }
+    {
+        self.table.nodes[node as usize].previous
+    }
+
     /// The owner of a node that is listed or hidden.
     pub fn owner(&self, node: NodeId) -> u32
         requires { IsSome (owner_of self.now node) }
@@ -97,6 +106,14 @@ impl Links {
         ensures distinct { IsDistinct (nodes_of self.now) }
     {
         self.table.nodes[node as usize].owner
+    }
+
+    /// No node is there twice: a law of the type, which does nothing.
+    pub fn nodes_are_distinct(&self)
+        ensures { IsDistinct (nodes_of self.now) }
+    {
+        // What the fields keep is known once one of them is read.
+        let _spare = self.spare_count;
     }
 
     /// For how many more nodes there is room.
@@ -131,6 +148,7 @@ impl Links {
         requires { node_count self.old + n < 2 ^ 32 - 1 }
         ensures kept { self.new ≡ record self.old { spare = self.new.spare } }
         ensures spare { self.old.spare ≤ self.new.spare }
+        ensures most { self.new.spare ≤ max self.old.spare n }
         ensures ok { OnOk result (n ≤ self.new.spare) }
     {
         while self.spare() < n {
@@ -151,6 +169,7 @@ impl Links {
         requires list { list < length self.old.lists }
         requires gap { IsGap before after (list_at self.old.lists list) }
         ensures fresh { IsAbsent result (nodes_of self.old) }
+        ensures within { result < node_count self.old + self.old.spare }
         ensures linked { self.new ≡ link_behind self.old list before result owner }
     {
         let Some(id) = self.unused else {
@@ -176,6 +195,7 @@ impl Links {
         requires room { 1 ≤ self.old.spare }
         requires list { list < length self.old.lists }
         ensures fresh { IsAbsent result (nodes_of self.old) }
+        ensures within { result < node_count self.old + self.old.spare }
         ensures linked { self.new ≡ link_behind self.old list None result owner }
     {
         let first = self.first(list);
@@ -187,6 +207,7 @@ impl Links {
         requires room { 1 ≤ self.old.spare }
         requires listed { IsListed self.old node }
         ensures fresh { IsAbsent result (nodes_of self.old) }
+        ensures within { result < node_count self.old + self.old.spare }
         ensures linked { self.new ≡ link_behind self.old (list_of self.old node) (Some node) result owner }
     {
         let list = self.table.nodes[node as usize].list;

@@ -1,6 +1,6 @@
 -- What every trace of a history is, and what the next action may be.
-use Rattle.std.proofs.Common.{◌≡◌, ℕ, ◌<◌, Bool, true, false, cond, List, [], ◌∷◌, ◌++◌, refl, ap, arith}
-use Rattle.std.specs.Prelude.{Option, Some, None, option_map, nat_eq, IsTrue, IsSomeAnd}
+use Rattle.std.proofs.Common.{◌≡◌, ℕ, Bool, true, false, cond, List, [], ◌∷◌, ◌++◌, refl, ap, arith}
+use Rattle.std.specs.Prelude.{Option, Some, None, option_map, nat_eq, IsTrue}
 use Rattle.std.specs.Str.{bytes_eq}
 use Rattle.std.proofs.lemmas.Bool.{or_right, ne_eqb}
 use Rattle.ucon_base.specs.declared.value.Side.{Side}
@@ -9,7 +9,7 @@ use Rattle.ucon_base.specs.declared.value.Value.{Value}
 use Rattle.ucon_model.specs.declared.session.SessionRow.{SessionRow}
 use Rattle.ucon_model.specs.Plain.{Bytes, PlainPolicy}
 use Rattle.ucon_model.specs.Action.{Action, Trace, subject, object, write, env, tries, permit, deny, ends, revoke, extended}
-use Rattle.ucon_model.specs.Readings.{has_entity, attribute, session, sessions, changed_if}
+use Rattle.ucon_model.specs.Readings.{has_entity, attribute, session, changed_if}
 use Rattle.ucon_model.specs.Legal.{IsLegal, AreLegal, RevocationsAreLegal}
 use Rattle.ucon_model.specs.Fitting.{AttributeAdmits, ValuesFit}
 use Rattle.ucon_model.specs.Sound.{IsNumbered, IsGrounded, IsSound}

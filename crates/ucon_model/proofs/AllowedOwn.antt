@@ -57,7 +57,7 @@ requesting_state states.Ended h = absurd cc
 
 -- ---- a try leaves the number of accessing sessions
 
-same_below : (T U : Trace) (k : ℕ) → ((n : ℕ) → n ≤ k → session U n ≡ session T n) → accessing_up_to U k ≡ accessing_up_to T k
+pub same_below : (T U : Trace) (k : ℕ) → ((n : ℕ) → n ≤ k → session U n ≡ session T n) → accessing_up_to U k ≡ accessing_up_to T k
 same_below T U zero same = refl
 same_below T U (suc k) same = rw (same_below T U k (λ n le. same n (omega (arith, le))), same (suc k) (omega arith)) refl
 
@@ -72,7 +72,7 @@ count_below_new T n k caller s r o e =
     let new : is_accessing (session (tries n caller s r o ∷ T) (suc k)) ≡ false = rw (eq-eqb (suc k) n (sym e)) refl in
     rw (lower, new) (omega arith)
 
-accessing-tries : (T : Trace) (caller : Caller) (s r o : Bytes) → accessing (tries (sessions T + 1) caller s r o ∷ T) ≡ accessing T
+pub accessing-tries : (T : Trace) (caller : Caller) (s r o : Bytes) → accessing (tries (sessions T + 1) caller s r o ∷ T) ≡ accessing T
 accessing-tries T caller s r o =
     let e : sessions T + 1 ≡ suc (sessions T) = omega arith in
     ap (accessing_up_to (tries (sessions T + 1) caller s r o ∷ T)) e ∙ count_below_new T (sessions T + 1) (sessions T) caller s r o e
@@ -191,7 +191,7 @@ allowed-own P T caller (Again n) h =
 allowed-own P T caller (Beat n) h =
     with_usage_allowed P T caller n (make heads.Ok (session_writes P n During T)) (λ accessing. makes (allowed-session_writes P n During T h))
 allowed-own P T caller (End n) h = with_usage_allowed P T caller n (end_usage P T n) (λ accessing. end_allowed P T n h accessing)
-allowed-own P T caller (Look n) h = found (AreAllowed P T) _ (session T n) _ (λ row there. tells)
+allowed-own P T caller (Look n) h = found (AreAllowed P T) _ (session T n) _ (λ row there. tells refl)
 allowed-own P T caller (Value' side name attr) h =
     let Q = AreAllowed P T in
-    unless Q (not (has_entity side name T)) _ _ (λ there. found Q _ (attribute P T side name attr) _ (λ v told. tells))
+    unless Q (not (has_entity side name T)) _ _ (λ there. found Q _ (attribute P T side name attr) _ (λ v told. tells refl))

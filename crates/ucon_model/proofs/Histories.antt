@@ -55,7 +55,7 @@ allowed_own_block P T (make head actions) h (makes allowed) =
     let U : Trace = extended T actions in
     allowed-append P T actions (settle P U) allowed (allowed-settle P U (sound-extended P T actions h allowed))
 
-allowed-block : (P : PlainPolicy) (T : Trace) (caller : Caller) (c : Command) → IsSoundIfTyped P T → AreAllowed P T (block P T caller c)
+pub allowed-block : (P : PlainPolicy) (T : Trace) (caller : Caller) (c : Command) → IsSoundIfTyped P T → AreAllowed P T (block P T caller c)
 allowed-block P T caller c h = allowed_own_block P T (own P T caller c) h (allowed-own P T caller c h)
 
 -- ---- histories

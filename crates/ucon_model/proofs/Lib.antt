@@ -22,6 +22,7 @@ pub mod AllowedWrites
 pub mod LeastFailing
 pub mod AllowedOwn
 pub mod Histories
+pub mod FewRevocations
 pub mod GrownHistories
 pub mod Cascades
 pub mod WithinAndLasts
@@ -29,6 +30,7 @@ pub mod Lines
 pub mod Payloads
 pub mod FoundOn
 pub mod Documents
+mod GeneratedDocument
 pub mod FirstFaults
 pub mod TypedParts
 pub mod ValuesStayFit

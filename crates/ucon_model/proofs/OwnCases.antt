@@ -1,17 +1,18 @@
 -- What holds of a command's own actions, case by case.
-use Rattle.std.proofs.Common.{◌≡◌, Bool, true, false, cond, List, ◌∷◌, refl}
+use Rattle.std.proofs.Common.{◌≡◌, Bool, true, false, cond, List, [], ◌∷◌, refl}
 use Rattle.std.specs.Prelude.{Option, Some, None}
 use Rattle.std.specs.Option.{option_map_or}
 use Rattle.ucon_model.specs.declared.reply.Head.{Head}
 use Rattle.ucon_model.specs.declared.reply.Refusal.{Refusal}
 use Rattle.ucon_model.specs.Plain.{PlainReply}
 use Rattle.ucon_model.specs.Action.{Action}
+use Rattle.ucon_model.specs.Payload.{revocations_in}
 use Rattle.ucon_model.specs.OwnActions.{Own, refuse, tell, make, after_action}
 
--- this holds of the actions, where some are made
+-- this holds of the actions, where some are made; and what is told names no revocations
 pub data OwnHas (Q : List Action → Type 0) : Own → Type 0 where
   refuses : {r : Refusal} → OwnHas Q (refuse r)
-  tells : {reply : PlainReply} → OwnHas Q (tell reply)
+  tells : {reply : PlainReply} → revocations_in reply ≡ [] → OwnHas Q (tell reply)
   makes : {head : Head} {actions : List Action} → Q actions → OwnHas Q (make head actions)
 
 -- where a test refuses, only the other branch counts
@@ -32,5 +33,5 @@ found Q f (Some x) r h = h x refl
 
 pub behind : (Q R : List Action → Type 0) (a : Action) (o : Own) → ((actions : List Action) → R actions → Q (a ∷ actions)) → OwnHas R o → OwnHas Q (after_action a o)
 behind Q R a (refuse r) each h = refuses
-behind Q R a (tell reply) each h = tells
+behind Q R a (tell reply) each (tells h) = tells h
 behind Q R a (make head actions) each (makes h) = makes (each actions h)

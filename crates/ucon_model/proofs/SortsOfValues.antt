@@ -1,5 +1,5 @@
 -- Under a well typed policy each value is of the sort of its expression.
-use Rattle.std.proofs.Common.{◌≡◌, ◌∙◌, sym, refl, ap, inl, inr, Bool, true, false, cond, List, [], ◌∷◌, arith}
+use Rattle.std.proofs.Common.{◌≡◌, ◌∙◌, sym, refl, ap, inl, inr, Bool, true, false, cond, [], arith}
 use Rattle.std.specs.Prelude.{ℤ, ◌⊎◌, ◌≤ℤ◌, ◌&&◌, int_le, Option, Some, None, is_some, option_map, unwrap_or, IsTrue, IsSomeAnd}
 use Rattle.std.specs.Option.{option_map_or}
 use Rattle.std.proofs.lemmas.Int.{ints, clamps}
@@ -22,7 +22,7 @@ use Rattle.ucon_model.specs.declared.policy.EnvDecl.{EnvDecl}
 use Rattle.ucon_model.specs.declared.session.SessionRow.{SessionRow}
 use Rattle.ucon_model.specs.Plain.{Bytes, PlainExpr, lit, read, plus, minus, times, size, PlainUpdate, PlainRight, PlainPolicy}
 use Rattle.ucon_model.specs.Action.{Trace}
-use Rattle.ucon_model.specs.Readings.{has_entity, written, declared_attr, attribute, assigned, declared_env, variable}
+use Rattle.ucon_model.specs.Readings.{has_entity, written, declared_attr, assigned, declared_env}
 use Rattle.ucon_model.specs.Truth.{place_of, value_of, read_or_zero}
 use Rattle.ucon_model.specs.Decision.{right_named}
 use Rattle.ucon_model.specs.Updates.{fitted_to}

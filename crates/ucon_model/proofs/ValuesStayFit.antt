@@ -1,6 +1,6 @@
 -- All values fit before any action, and after one more.
-use Rattle.std.proofs.Common.{◌≡◌, ◌∙◌, sym, Bool, true, false, cond, [], ◌∷◌, refl, subst, ap}
-use Rattle.std.specs.Prelude.{◌&&◌, ◌||◌, Option, Some, None, option_map, unwrap_or, IsTrue, IsSomeAnd}
+use Rattle.std.proofs.Common.{◌≡◌, Bool, true, false, cond, [], ◌∷◌, refl, subst}
+use Rattle.std.specs.Prelude.{◌&&◌, ◌||◌, Option, Some, None, option_map, unwrap_or}
 use Rattle.std.specs.Str.{bytes_eq}
 use Rattle.std.proofs.lemmas.Bool.{and_parts}
 use Rattle.std.proofs.lemmas.Option.{same_Some}

@@ -11,17 +11,12 @@ use Rattle.ucon_base.specs.declared.value.Value.TheVariants as values
 use Rattle.ucon_base.specs.NameBytes.{is_name}
 use Rattle.ucon_base.specs.Numbers.{InRange}
 use Rattle.ucon_base.specs.Reading.{value_read}
-use Rattle.ucon_base.specs.Spelling.{value_spelling, IsValue}
+use Rattle.ucon_base.specs.Spelling.{side_word, value_spelling, IsValue}
 use Rattle.ucon_model.specs.declared.command.Command.{Command}
 use Rattle.ucon_model.specs.declared.command.Command.TheVariants.{Subject, Object, Set, Env, Tick, Act, Try, Again, Beat, End, Look, Value as Value'}
 use Rattle.ucon_model.specs.Plain.{Bytes}
 
 -- ---- what is written
-
--- the word for a side
-abbrev pub side_word : Side → Bytes
-side_word sides.Subject = codes "s"
-side_word sides.Object = codes "o"
 
 -- the words of a command
 abbrev pub command_words : Command → List Bytes

@@ -2,9 +2,7 @@
 use Rattle.std.specs.Prelude.{ℕ, Bool, true, false, nat_lt, List, [], ◌∷◌, ◌++◌, Option, Some, None, codes}
 use Rattle.std.specs.List.{flat_map}
 use Rattle.std.specs.Fmt.{signed_decimal}
-use Rattle.ucon_base.specs.Spelling.{quoted}
-use Rattle.ucon_base.specs.declared.value.Side.{Side}
-use Rattle.ucon_base.specs.declared.value.Side.TheVariants as sides
+use Rattle.ucon_base.specs.Spelling.{side_word, quoted}
 use Rattle.ucon_base.specs.declared.value.Kind.{Kind}
 use Rattle.ucon_base.specs.declared.value.Kind.TheVariants as kinds
 use Rattle.ucon_base.specs.declared.value.Value.{Value}
@@ -85,10 +83,6 @@ abbrev pub kind_printing : Kind → Bytes
 kind_printing (kinds.Int low high) = codes "int " ++ signed_decimal low ++ codes ".." ++ signed_decimal high
 kind_printing kinds.Text = codes "text"
 kind_printing kinds.Set = codes "set"
-
-abbrev pub side_word : Side → Bytes
-side_word sides.Subject = codes "s"
-side_word sides.Object = codes "o"
 
 -- what stands behind the name of an attribute or a variable
 abbrev pub declared_printing : Kind → Value → Bytes

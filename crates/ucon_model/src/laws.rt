@@ -1,6 +1,6 @@
 //! Laws of the definitions. A law is a function without parameters that does nothing: its contract is what is proved.
 
-ghost use Rattle.std.specs.Prelude.{◌≡◌, ◌+◌, ◌<◌, ◌↔◌, ℕ, List, [], ◌∷◌, map, true, Some, None};
+ghost use Rattle.std.specs.Prelude.{◌≡◌, ◌+◌, ◌<◌, ◌≤◌, ◌↔◌, ℕ, List, [], ◌∷◌, length, map, true, Some, None};
 ghost use Rattle.ucon_model.specs.declared.command.Caller.{Caller};
 ghost use Rattle.ucon_model.specs.declared.command.Command.{Command};
 ghost use Rattle.ucon_model.specs.declared.command.Entry.{Entry};
@@ -11,14 +11,15 @@ ghost use Rattle.ucon_model.specs.Action.{Action, Trace, extended, revoke};
 ghost use Rattle.ucon_model.specs.Block.{after, block};
 ghost use Rattle.ucon_model.specs.Decision.{right_named};
 ghost use Rattle.ucon_model.specs.Fitting.{PlacesFit, UpdatesFit, ValuesFit};
-ghost use Rattle.ucon_model.specs.History.{History, grown, trace};
+ghost use Rattle.ucon_model.specs.History.{History, grown, said, trace};
 ghost use Rattle.ucon_model.specs.Legal.{AreLegal, IsCascade, IsLegal, RevocationsAreLegal};
 ghost use Rattle.ucon_base.specs.Elements.{Each};
 ghost use Rattle.ucon_model.specs.LegalRun.{Answered, IsLegalRun, IsSerialRun, in_text_order};
 ghost use Rattle.ucon_model.specs.Meaning.{expr_means, test_means};
 ghost use Rattle.ucon_model.specs.Output.{FitsLine, answers_read, output};
 ghost use Rattle.ucon_model.specs.OwnActions.{make, own};
-ghost use Rattle.ucon_model.specs.Readings.{in_force, session};
+ghost use Rattle.ucon_model.specs.Payload.{revocations_in};
+ghost use Rattle.ucon_model.specs.Readings.{accessing, in_force, session};
 ghost use Rattle.ucon_model.specs.Settle.{fails_at, least_failing, settle};
 ghost use Rattle.ucon_model.specs.Sound.{IsNumbered, IsSound};
 ghost use Rattle.ucon_model.specs.Truth.{place_of};
@@ -38,6 +39,17 @@ pub fn revocations_are_legal()
 /// The trace of a history that an entry has grown is the one after the entry's command.
 pub fn grown_histories_go_on()
     ensures { (P : PlainPolicy) (H : History) (e : Entry) → trace P (grown P H e) ≡ after P (trace P H) e.caller e.command }
+{}
+
+/// After every history at most 65,536 sessions are accessing.
+pub fn usages_are_few()
+    ensures { (P : PlainPolicy) (H : History) → accessing (trace P H) ≤ 65536 }
+{}
+
+/// After every history a reply has at most 65,536 revocations. As many sessions can be accessing after a command's own actions, the one
+/// just permitted among them, and each is revoked at most once.
+pub fn revocations_are_few()
+    ensures { (P : PlainPolicy) (H : History) (caller : Caller) (c : Command) → length (revocations_in (said P H caller c)) ≤ 65536 }
 {}
 
 /// After every history no accessing session fails.
@@ -65,7 +77,8 @@ pub fn legal_actions_keep_traces_sound()
 /// revoked.
 pub fn the_least_failing_is_found()
     ensures nobody { (P : PlainPolicy) (T : Trace) → IsNumbered T → least_failing P T ≡ None → (n : ℕ) → fails_at P T n ≡ None }
-    ensures somebody { (P : PlainPolicy) (T : Trace) (n : ℕ) (label : Bytes) → IsNumbered T → least_failing P T ≡ Some (n, label) → IsLegal P T (revoke n label) }
+    ensures somebody { (P : PlainPolicy) (T : Trace) (n : ℕ) (label : Bytes) → IsNumbered T → least_failing P T ≡ Some (n, label)
+        → IsLegal P T (revoke n label) }
 {}
 
 /// Under a well typed policy, where all values of a trace fit, the result of each update fits.

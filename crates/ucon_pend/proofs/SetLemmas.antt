@@ -1,5 +1,5 @@
 -- The set that a row of bits stands for, as one bit changes.
-use Rattle.std.proofs.Common.{◌≡◌, ◌↔◌, ◌⊎◌, ℕ, suc, ◌/◌, ◌<◌, ◌≤◌, List, [], ◌∷◌, All, Contains, replicate, subst, sym, inl, inr, arith}
+use Rattle.std.proofs.Common.{◌≡◌, ◌↔◌, ◌⊎◌, ℕ, suc, ◌+◌, ◌/◌, ◌<◌, ◌≤◌, List, [], ◌∷◌, All, Contains, length, replicate, subst, sym, ap, ◌∙◌, inl, inr, arith}
 use Rattle.std.specs.List.Sorted.{IsStrictlyIncreasing}
 use Rattle.std.proofs.lemmas.Bool.{cases_lt}
 use Rattle.std.proofs.lemmas.List.{get_or-replicate, get_or_past, length-replicate}
@@ -9,7 +9,7 @@ use Rattle.ucon_pend.specs.NumberSet.{IsRising, with_member}
 use Rattle.ucon_pend.specs.Pend.{set_of}
 use Rattle.ucon_pend.proofs.MembersLemmas.{All-members_from, IsStrictlyIncreasing-members_from, members_from-none, members_from-put, members_from-take}
 use Rattle.ucon_pend.proofs.SummaryLemmas.{bit-clear_word}
-use Rattle.ucon_pend.proofs.WithMemberLemmas.{Contains-with_member}
+use Rattle.ucon_pend.proofs.WithMemberLemmas.{Contains-with_member, most-with_member, fresh-with_member, there-with_member}
 
 pub IsRising-set_of : (row : List ℕ) (limit : ℕ) → IsRising (set_of row limit)
 IsRising-set_of row limit = record {
@@ -40,6 +40,17 @@ module _ (row new : List ℕ) (limit n : ℕ) (within : n < limit) (sets : SetsB
 
   pub Contains-put : (m : ℕ) → Contains (set_of new limit).members m ↔ ((m ≡ n) ⊎ Contains (set_of row limit).members m)
   Contains-put m = subst (λ ms. Contains ms m ↔ ((m ≡ n) ⊎ Contains (set_of row limit).members m)) (sym members-put) (Contains-with_member m n _)
+
+  pub most-put : length (set_of new limit).members ≤ length (set_of row limit).members + 1
+  most-put = rw members-put (most-with_member n (set_of row limit).members)
+
+  pub fresh-put : (Contains (set_of row limit).members n → ⊥) → length (set_of new limit).members ≡ length (set_of row limit).members + 1
+  fresh-put fresh = ap length members-put ∙ fresh-with_member n (set_of row limit).members fresh
+
+  pub there-put : Contains (set_of row limit).members n → set_of new limit ≡ set_of row limit
+  there-put has =
+      let same = members-put ∙ there-with_member n (set_of row limit).members (IsStrictlyIncreasing-members_from (bit row) 0 limit) has in
+      λ i. record { limit = limit; members = same i }
 
 -- a bit that is set stands for a number below the limit
 pub within_from_bit : (row : List ℕ) (limit n : ℕ) → ((m : ℕ) → limit ≤ m → bit row m ≡ 0) → bit row n ≡ 1 → n < limit

@@ -1,6 +1,8 @@
 -- A list with a number in its place.
-use Rattle.std.proofs.Common.{◌≡◌, ◌↔◌, ◌⊎◌, ℕ, zero, suc, ◌<◌, List, [], ◌∷◌, Contains, refl, sym, ap, subst, ◌∙◌, inl, inr, arith}
+use Rattle.std.proofs.Common.{◌≡◌, ◌↔◌, ◌⊎◌, ℕ, zero, suc, ◌+◌, ◌<◌, ◌≤◌, List, [], ◌∷◌, Contains, length, get_or, refl, sym, ap, subst, ◌∙◌, inl, inr, arith}
 use Rattle.std.proofs.lemmas.Bool.{cases_order, eq-eqb, ne_eqb, lt-ltb, le-ltb}
+use Rattle.std.specs.List.Sorted.{IsStrictlyIncreasing}
+use Rattle.std.proofs.lemmas.List.Kept.{AllPairs-from_increasing}
 use Rattle.ucon_pend.specs.NumberSet.{with_member}
 
 pub with_member-before : (n m : ℕ) (ms : List ℕ) → n < m → with_member (m ∷ ms) n ≡ n ∷ m ∷ ms
@@ -58,3 +60,55 @@ Contains-with_member x n (m ∷ ms) =
                 (HasOneMore-after x n m ms (with_member ms n) (Contains-with_member x n ms))
           ]
     ]
+
+-- at most one element more
+pub most-with_member : (n : ℕ) (ms : List ℕ) → length (with_member ms n) ≤ length ms + 1
+most-with_member n [] = omega arith
+most-with_member n (m ∷ ms) =
+    elim (cases_order n m) [
+      | inl here ↦ let same : with_member (m ∷ ms) n ≡ m ∷ ms = ap (with_member (m ∷ ms)) here ∙ with_member-same m ms in rw same (omega arith)
+      | inr apart ↦
+          elim apart [
+            | inl before ↦ rw (with_member-before n m ms before) (omega arith)
+            | inr after ↦ let rest = most-with_member n ms in rw (with_member-after n m ms after) (omega arith)
+          ]
+    ]
+
+-- one element more, where the number wasn't there
+pub fresh-with_member : (n : ℕ) (ms : List ℕ) → (Contains ms n → ⊥) → length (with_member ms n) ≡ length ms + 1
+fresh-with_member n [] fresh = omega arith
+fresh-with_member n (m ∷ ms) fresh =
+    elim (cases_order n m) [
+      | inl here ↦ absurd (fresh (contains_first n m ms here))
+      | inr apart ↦
+          elim apart [
+            | inl before ↦ rw (with_member-before n m ms before) (omega arith)
+            | inr after ↦ let rest = fresh-with_member n ms (λ has. fresh (contains_rest n m ms has)) in rw (with_member-after n m ms after) (omega arith)
+          ]
+    ]
+
+rising_rest : (m : ℕ) (ms : List ℕ) → IsStrictlyIncreasing (m ∷ ms) → IsStrictlyIncreasing ms
+rising_rest m ms rising k within =
+    let next : suc k + 1 ≡ suc (k + 1) = omega arith in
+    subst (λ i. get_or ms k 0 < get_or (m ∷ ms) i 0) next (rising (suc k) (omega arith))
+
+-- a rising list that has the number stays as it is
+pub there-with_member : (n : ℕ) (ms : List ℕ) → IsStrictlyIncreasing ms → Contains ms n → with_member ms n ≡ ms
+there-with_member n [] rising (k, within, is) = absurd (omega arith)
+there-with_member n (m ∷ ms) rising has =
+    elim (cases_order n m) [
+      | inl here ↦ ap (with_member (m ∷ ms)) here ∙ with_member-same m ms
+      | inr apart ↦
+          elim apart [
+            | inl before ↦ absurd (too_small n m ms before rising has)
+            | inr after ↦
+                with_member-after n m ms after
+                ∙ ap (λ xs. m ∷ xs) (there-with_member n ms (rising_rest m ms rising) (elim (first_or_rest n m ms has) [ inl same ↦ absurd (omega arith) | inr later ↦ later ]))
+          ]
+    ]
+  where
+    too_small : (n m : ℕ) (ms : List ℕ) → n < m → IsStrictlyIncreasing (m ∷ ms) → Contains (m ∷ ms) n → ⊥
+    too_small n m ms less rising (zero, within, is) = omega arith
+    too_small n m ms less rising (suc k, within, is) =
+        let above = AllPairs-from_increasing (m ∷ ms) rising 0 (suc k) n (omega arith) within in
+        omega arith

@@ -1,6 +1,6 @@
 //! The set, least first.
 
-ghost use Rattle.std.specs.Prelude.{◌≡◌, ◌↔◌, ◌⊎◌, ℕ, ◌<◌, ◌≤◌, [], ◌∷◌, All, Contains, IfOk, IfSome, IfNone, IsNone};
+ghost use Rattle.std.specs.Prelude.{◌≡◌, ◌↔◌, ◌⊎◌, ℕ, ◌+◌, ◌<◌, ◌≤◌, [], ◌∷◌, length, All, Contains, IfOk, IfSome, IfNone, IsNone};
 ghost use Rattle.ucon_pend.specs.NumberSet.{with_member, IsRising};
 
 use crate::levels::Levels;
@@ -60,6 +60,9 @@ impl Pend {
         ensures put { self.new ≡ record self.old { members = with_member self.old.members n } }
         ensures members { (m : ℕ) → Contains self.new.members m
             ↔ ((m ≡ n) ⊎ Contains self.old.members m) }
+        ensures there { Contains self.old.members n → self.new ≡ self.old }
+        ensures fresh { ¬ Contains self.old.members n → length self.new.members ≡ length self.old.members + 1 }
+        ensures most { length self.new.members ≤ length self.old.members + 1 }
         ensures rising { IsRising self.new }
     {
         self.levels.set(n as usize);

@@ -3,7 +3,7 @@ use Rattle.std.proofs.Common.{ℕ, ◌<◌, [], ◌∷◌, ◌++◌, None, refl,
 use Rattle.std.specs.Prelude.{codes}
 use Rattle.std.specs.Fmt.{signed_decimal}
 use Rattle.std.proofs.lemmas.List.{append-nil}
-use Rattle.ucon_base.specs.Spelling.{IsValue}
+use Rattle.ucon_base.specs.Spelling.{IsValue, side_word}
 use Rattle.ucon_base.specs.declared.value.Side.{Side}
 use Rattle.ucon_base.specs.declared.value.Side.TheVariants as sides
 use Rattle.ucon_base.specs.declared.value.Kind.{Kind}
@@ -12,7 +12,7 @@ use Rattle.ucon_base.specs.declared.value.Value.{Value}
 use Rattle.ucon_model.specs.declared.policy.AttrDecl.{AttrDecl}
 use Rattle.ucon_model.specs.declared.policy.EnvDecl.{EnvDecl}
 use Rattle.ucon_model.specs.Plain.{Bytes}
-use Rattle.ucon_model.specs.Printing.{literal_printing, kind_printing, side_word, declared_printing, attr_printing, env_printing}
+use Rattle.ucon_model.specs.Printing.{literal_printing, kind_printing, declared_printing, attr_printing, env_printing}
 use Rattle.ucon_base.specs.Tokens.{a_word, a_symbol, Symbol, colon, semicolon, dots, equal_sign, next_token, begin_of, skip, token_from, token_at, symbol_token, single}
 use Rattle.ucon_model.specs.Forms.{as_token, word, symbol, item, beyond, Form, nothing, one_of, before, and_then, mapped, either_of, bare}
 use Rattle.ucon_model.specs.Grammar.{SideCount, of_side, count_side, side_token, PhaseCount, of_phase, count_phase, phase_token, WhenCount, of_when, count_when, when_token, expr_of_depth}

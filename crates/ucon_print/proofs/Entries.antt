@@ -5,7 +5,7 @@ use Rattle.std.specs.List.{list_all}
 use Rattle.std.proofs.lemmas.Bool.{and_parts, and_from, le-leb, leb-true, eqb-true, ne_eqb}
 use Rattle.ucon_base.specs.NameBytes.{is_name, is_letter, is_word_byte}
 use Rattle.ucon_base.specs.TextBytes.{is_text_byte}
-use Rattle.ucon_base.specs.Spelling.{quoted}
+use Rattle.ucon_base.specs.Spelling.{quoted, side_word}
 use Rattle.ucon_base.specs.declared.value.Side.{Side}
 use Rattle.ucon_model.specs.declared.formula.Form.{Form as DutyForm}
 use Rattle.ucon_model.specs.declared.formula.Form.TheVariants as forms
@@ -15,7 +15,7 @@ use Rattle.ucon_model.specs.declared.policy.Phase.TheVariants as phases
 use Rattle.ucon_model.specs.declared.policy.When.{When}
 use Rattle.ucon_model.specs.declared.policy.When.TheVariants as whens
 use Rattle.ucon_model.specs.Plain.{Bytes, PlainExpr, PlainTest, authorisation, duty, condition, PlainPredicate, PlainUpdate}
-use Rattle.ucon_model.specs.Printing.{expr_printing, formula_printing, side_word, form_printing, party_printing, duty_printing, letter_printing, test_printing, phase_printing, predicate_printing, when_printing, update_printing}
+use Rattle.ucon_model.specs.Printing.{expr_printing, formula_printing, form_printing, party_printing, duty_printing, letter_printing, test_printing, phase_printing, predicate_printing, when_printing, update_printing}
 use Rattle.ucon_base.specs.Tokens.{a_text, a_symbol, colon, semicolon, dot, equal_sign}
 use Rattle.ucon_model.specs.Forms.{as_token, word, text, symbol, item, beyond, Form, nothing, one_of, before, and_then, mapped, either_of}
 use Rattle.ucon_model.specs.Grammar.{SideCount, of_side, count_side, side_token, PhaseCount, of_phase, count_phase, phase_token, WhenCount, of_when, count_when, when_token, expr_of_depth}

@@ -2,33 +2,23 @@
 
 ghost use Rattle.std.specs.Prelude.{◌≡◌, ◌++◌, OnOk};
 ghost use Rattle.ucon_model.specs.Views.{test_of, predicate_of, update_of};
-ghost use Rattle.ucon_model.specs.Printing.{kind_printing, side_word, declared_printing, attr_printing, env_printing, form_printing, party_printing, duty_printing, letter_printing, test_printing, phase_printing, predicate_printing, when_printing, update_printing};
+ghost use Rattle.ucon_model.specs.Printing.{kind_printing, declared_printing, attr_printing, env_printing, form_printing, party_printing, duty_printing, letter_printing, test_printing, phase_printing, predicate_printing, when_printing, update_printing};
 
 use crate::expr::put_expr;
 use crate::formula::put_formula;
-use crate::words::{put, put_integer, put_literal, put_quoted};
-use std::alloc::Global;
-use ucon_base::{Kind, Name, NoMemory, Side, Value};
+use crate::words::put_literal;
+use ucon_base::{Kind, Name, NoMemory, Value, put, put_integer, put_quoted};
 use ucon_model::{AttrDecl, EnvDecl, Form, Obligation, Phase, Predicate, Test, Update, When};
 
-fn side_word(side: Side) -> &'static [u8]
-    ensures { result.now ≡ side_word side }
-{
-    match side {
-        Side::Subject => b"s",
-        Side::Object => b"o",
-    }
-}
-
-fn put_kind(alloc: Global, out: &mut Vec<u8>, kind: &Kind) -> Result<(), NoMemory>
+fn put_kind(out: &mut Vec<u8>, kind: &Kind) -> Result<(), NoMemory>
     ensures { OnOk result (out.new.items ≡ out.old.items ++ kind_printing kind.now) }
 {
     match kind {
         Kind::Int { low, high } => {
             put(out, b"int ")?;
-            put_integer(alloc, out, *low)?;
+            put_integer(out, *low)?;
             put(out, b"..")?;
-            put_integer(alloc, out, *high)
+            put_integer(out, *high)
         }
         Kind::Text => put(out, b"text"),
         Kind::Set => put(out, b"set"),
@@ -36,52 +26,47 @@ fn put_kind(alloc: Global, out: &mut Vec<u8>, kind: &Kind) -> Result<(), NoMemor
 }
 
 /// What stands behind the name of an attribute or a variable.
-fn put_declared(
-    alloc: Global,
-    out: &mut Vec<u8>,
-    kind: &Kind,
-    start: &Value,
-) -> Result<(), NoMemory>
+fn put_declared(out: &mut Vec<u8>, kind: &Kind, start: &Value) -> Result<(), NoMemory>
     ensures { OnOk result (out.new.items ≡ out.old.items ++ declared_printing kind.now start.now) }
 {
     put(out, b" : ")?;
-    put_kind(alloc, out, kind)?;
+    put_kind(out, kind)?;
     put(out, b" = ")?;
-    put_literal(alloc, out, start)?;
+    put_literal(out, start)?;
     put(out, b";\n")
 }
 
-pub fn put_attr(alloc: Global, out: &mut Vec<u8>, attr: &AttrDecl) -> Result<(), NoMemory>
+pub fn put_attr(out: &mut Vec<u8>, attr: &AttrDecl) -> Result<(), NoMemory>
     ensures { OnOk result (out.new.items ≡ out.old.items ++ attr_printing attr.now) }
 {
     put(out, b"attr ")?;
-    put(out, side_word(attr.side))?;
+    put(out, attr.side.word())?;
     put(out, b" ")?;
     put(out, attr.name.bytes())?;
-    put_declared(alloc, out, &attr.kind, &attr.start)
+    put_declared(out, &attr.kind, &attr.start)
 }
 
-pub fn put_env(alloc: Global, out: &mut Vec<u8>, env: &EnvDecl) -> Result<(), NoMemory>
+pub fn put_env(out: &mut Vec<u8>, env: &EnvDecl) -> Result<(), NoMemory>
     ensures { OnOk result (out.new.items ≡ out.old.items ++ env_printing env.now) }
 {
     put(out, b"env ")?;
     put(out, env.name.bytes())?;
-    put_declared(alloc, out, &env.kind, &env.start)
+    put_declared(out, &env.kind, &env.start)
 }
 
-fn put_form(alloc: Global, out: &mut Vec<u8>, form: &Form) -> Result<(), NoMemory>
+fn put_form(out: &mut Vec<u8>, form: &Form) -> Result<(), NoMemory>
     ensures { OnOk result (out.new.items ≡ out.old.items ++ form_printing form.now) }
 {
     match form {
         Form::Done => put(out, b"done "),
         Form::Within(n) => {
             put(out, b"within ")?;
-            put_integer(alloc, out, *n)?;
+            put_integer(out, *n)?;
             put(out, b" ")
         }
         Form::Every(n) => {
             put(out, b"every ")?;
-            put_integer(alloc, out, *n)?;
+            put_integer(out, *n)?;
             put(out, b" ")
         }
     }
@@ -100,10 +85,10 @@ fn put_party(out: &mut Vec<u8>, word: &[u8], name: &Option<Name>) -> Result<(), 
     }
 }
 
-fn put_duty(alloc: Global, out: &mut Vec<u8>, duty: &Obligation) -> Result<(), NoMemory>
+fn put_duty(out: &mut Vec<u8>, duty: &Obligation) -> Result<(), NoMemory>
     ensures { OnOk result (out.new.items ≡ out.old.items ++ duty_printing duty.now) }
 {
-    put_form(alloc, out, &duty.form)?;
+    put_form(out, &duty.form)?;
     put(out, duty.action.bytes())?;
     put_party(out, b" by ", &duty.by_subject)?;
     put_party(out, b" on ", &duty.on_object)
@@ -119,13 +104,13 @@ fn letter(test: &Test) -> &'static [u8]
     }
 }
 
-fn put_test(alloc: Global, out: &mut Vec<u8>, test: &Test) -> Result<(), NoMemory>
+fn put_test(out: &mut Vec<u8>, test: &Test) -> Result<(), NoMemory>
     ensures { OnOk result (out.new.items ≡ out.old.items ++ test_printing (test_of test.now)) }
 {
     match test {
-        Test::A(f) => put_formula(alloc, out, f, 0),
-        Test::B(duty) => put_duty(alloc, out, duty),
-        Test::C(f) => put_formula(alloc, out, f, 0),
+        Test::A(f) => put_formula(out, f, 0),
+        Test::B(duty) => put_duty(out, duty),
+        Test::C(f) => put_formula(out, f, 0),
     }
 }
 
@@ -138,19 +123,16 @@ fn phase_text(phase: Phase) -> &'static [u8]
     }
 }
 
-pub fn put_predicate(
-    alloc: Global,
-    out: &mut Vec<u8>,
-    predicate: &Predicate,
-) -> Result<(), NoMemory>
+pub fn put_predicate(out: &mut Vec<u8>, predicate: &Predicate) -> Result<(), NoMemory>
     ensures { OnOk result (out.new.items ≡ out.old.items ++ predicate_printing (predicate_of predicate.now)) }
 {
     put(out, phase_text(predicate.phase))?;
     put(out, letter(&predicate.test))?;
     put(out, predicate.label.bytes())?;
     put(out, b": ")?;
-    put_test(alloc, out, &predicate.test)?;
-    put(out, b";\n")
+    put_test(out, &predicate.test)?;
+    put(out, b";\n")?;
+    Ok(())
 }
 
 fn when_text(when: When) -> &'static [u8]
@@ -164,14 +146,15 @@ fn when_text(when: When) -> &'static [u8]
     }
 }
 
-pub fn put_update(alloc: Global, out: &mut Vec<u8>, update: &Update) -> Result<(), NoMemory>
+pub fn put_update(out: &mut Vec<u8>, update: &Update) -> Result<(), NoMemory>
     ensures { OnOk result (out.new.items ≡ out.old.items ++ update_printing (update_of update.now)) }
 {
     put(out, when_text(update.when))?;
-    put(out, side_word(update.side))?;
+    put(out, update.side.word())?;
     put(out, b".")?;
     put(out, update.attr.bytes())?;
     put(out, b" = ")?;
-    put_expr(alloc, out, &update.value, 0)?;
-    put(out, b";\n")
+    put_expr(out, &update.value, 0)?;
+    put(out, b";\n")?;
+    Ok(())
 }

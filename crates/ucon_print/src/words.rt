@@ -2,20 +2,10 @@
 
 ghost use Rattle.std.specs.Prelude.{◌≡◌, ◌++◌, OnOk};
 ghost use Rattle.std.specs.List.{flat_map};
-ghost use Rattle.std.specs.Fmt.{signed_decimal};
-ghost use Rattle.ucon_base.specs.Spelling.{quoted};
 ghost use Rattle.ucon_model.specs.Printing.{only_if, further_text, set_printing, literal_printing, place_printing};
 
-use std::alloc::Global;
-use ucon_base::{Int, NoMemory, Text, Value};
+use ucon_base::{NoMemory, Text, Value, put, put_integer, put_quoted};
 use ucon_model::Ref;
-
-pub fn put(out: &mut Vec<u8>, bytes: &[u8]) -> Result<(), NoMemory>
-    ensures { OnOk result (out.new.items ≡ out.old.items ++ bytes.now) }
-{
-    out.extend_from_slice(bytes)?;
-    Ok(())
-}
 
 pub fn put_if(out: &mut Vec<u8>, test: bool, bytes: &[u8]) -> Result<(), NoMemory>
     ensures { OnOk result (out.new.items ≡ out.old.items ++ only_if test bytes.now) }
@@ -23,24 +13,6 @@ pub fn put_if(out: &mut Vec<u8>, test: bool, bytes: &[u8]) -> Result<(), NoMemor
     if test {
         return put(out, bytes);
     }
-    Ok(())
-}
-
-pub fn put_integer(alloc: Global, out: &mut Vec<u8>, n: Int) -> Result<(), NoMemory>
-    ensures { OnOk result (out.new.items ≡ out.old.items ++ signed_decimal n) }
-{
-    let text = n.get().to_string(alloc)?;
-    out.extend_from_slice(text.as_bytes())?;
-    Ok(())
-}
-
-/// Between quotes.
-pub fn put_quoted(out: &mut Vec<u8>, bytes: &[u8]) -> Result<(), NoMemory>
-    ensures { OnOk result (out.new.items ≡ out.old.items ++ quoted bytes.now) }
-{
-    out.push(b'"')?;
-    out.extend_from_slice(bytes)?;
-    out.push(b'"')?;
     Ok(())
 }
 
@@ -68,11 +40,11 @@ fn put_set(out: &mut Vec<u8>, texts: &[Text]) -> Result<(), NoMemory>
     }
 }
 
-pub fn put_literal(alloc: Global, out: &mut Vec<u8>, v: &Value) -> Result<(), NoMemory>
+pub fn put_literal(out: &mut Vec<u8>, v: &Value) -> Result<(), NoMemory>
     ensures { OnOk result (out.new.items ≡ out.old.items ++ literal_printing v.now) }
 {
     match v {
-        Value::Int(n) => put_integer(alloc, out, *n),
+        Value::Int(n) => put_integer(out, *n),
         Value::Text(t) => put_quoted(out, t.bytes()),
         Value::Set(s) => put_set(out, s.slice()),
     }

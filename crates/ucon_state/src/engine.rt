@@ -45,14 +45,16 @@ pub trait Engine: Drop {
         requires { IsIdle follows self.old }
         ensures reply { IfOk result (λ d. (P : PlainPolicy) (T : Trace) → follows self.old P T → reply_of d.reply ≡ reply_to P T caller command.now) }
         ensures changes { IfOk result (λ d. d.changes ≡ changes (reply_of d.reply)) }
-        ensures pending { IfOk result (λ d. IsTrue d.changes → (P : PlainPolicy) (T : Trace) → follows self.old P T → has_pending self.new P T (record { caller = caller; command = command.now })) }
+        ensures pending { IfOk result (λ d. IsTrue d.changes
+            → (P : PlainPolicy) (T : Trace) → follows self.old P T → has_pending self.new P T (record { caller = caller; command = command.now })) }
         ensures unchanged { IfOk result (λ d. IsFalse d.changes → FollowsLike follows self.old self.new) }
         ensures err { OnErr result (FollowsLike follows self.old self.new) };
 
     fn keep(&mut self)
         requires { IsPending has_pending self.old }
         ensures follows { (P : PlainPolicy) (T : Trace) (e : Entry) → has_pending self.old P T e → follows self.new P (after P T e.caller e.command) }
-        ensures nobody_fails { (P : PlainPolicy) (T : Trace) (e : Entry) → has_pending self.old P T e → (n : ℕ) → fails_at P (after P T e.caller e.command) n ≡ None };
+        ensures nobody_fails { (P : PlainPolicy) (T : Trace) (e : Entry) → has_pending self.old P T e
+            → (n : ℕ) → fails_at P (after P T e.caller e.command) n ≡ None };
 
     fn undo(&mut self)
         requires { IsPending has_pending self.old }
@@ -61,5 +63,6 @@ pub trait Engine: Drop {
     /// None where there is no such session. A pending change counts.
     fn status(&self, session: u32) -> Option<SessionState>
         ensures idle { (P : PlainPolicy) (T : Trace) → follows self.now P T → result ≡ state_of T session }
-        ensures pending { (P : PlainPolicy) (T : Trace) (e : Entry) → has_pending self.now P T e → result ≡ state_of (after P T e.caller e.command) session };
+        ensures pending { (P : PlainPolicy) (T : Trace) (e : Entry) → has_pending self.now P T e
+            → result ≡ state_of (after P T e.caller e.command) session };
 }

@@ -11,13 +11,16 @@ ghost use Rattle.ucon_model.specs.History.{History, trace};
 ghost use Rattle.ucon_state.specs.Tables.{cell_of};
 ghost use Rattle.ucon_state.specs.Applied.{applied, opening_tables, tables_of};
 ghost use Rattle.ucon_state.specs.Following.{Follows, IsLegalTrace, Keeps, all_applied};
-ghost use Rattle.ucon_state.specs.Shown.{Shown, changed_to};
+ghost use Rattle.ucon_state.specs.Shown.{Shown, changed_by};
+
+use ucon_model::blocks_are_legal;
 
 /// A state with the opening tables follows the empty trace, and one legal action more is followed with the tables that it makes.
 pub fn each_action_is_followed()
-    ensures opening { (s : Shown) (P : PlainPolicy) → IsTyped (in_force P []) → s.policy ≡ in_force P [] → s.tables ≡ opening_tables s.policy → Follows s P [] }
+    ensures opening { (s : Shown) (P : PlainPolicy) → IsTyped (in_force P []) → s.policy ≡ in_force P [] → s.tables ≡ opening_tables s.policy
+        → Follows s P [] }
     ensures after { (s : Shown) (P : PlainPolicy) (T : Trace) (a : Action) → Follows s P T → IsLegal P T a
-        → Follows (changed_to s (applied s.policy a s.tables)) P (a ∷ T) }
+        → Follows (changed_by s a) P (a ∷ T) }
 {}
 
 /// The tables of a state keep each trace that it follows, all of it that commands ask for: who is there and under which number, the
@@ -31,7 +34,8 @@ pub fn cells_are_of_one_attribute()
     ensures whose { (s : Shown) (P : PlainPolicy) (T : Trace) → Follows s P T → (side side' : Side) (name name' attr attr' : Bytes) (cell : ℕ)
         → cell_of s.policy s.tables side name attr ≡ Some cell → cell_of s.policy s.tables side' name' attr' ≡ Some cell
         → (side ≡ side') × (name ≡ name') × (attr ≡ attr') }
-    ensures stay { (s : Shown) (P : PlainPolicy) (T : Trace) (a : Action) → Follows s P T → IsLegal P T a → (side : Side) (name attr : Bytes) (cell : ℕ)
+    ensures stay { (s : Shown) (P : PlainPolicy) (T : Trace) (a : Action) → Follows s P T → IsLegal P T a
+        → (side : Side) (name attr : Bytes) (cell : ℕ)
         → cell_of s.policy s.tables side name attr ≡ Some cell → cell_of s.policy (applied s.policy a s.tables) side name attr ≡ Some cell }
 {}
 
@@ -53,4 +57,6 @@ pub fn legal_traces_go_on()
 /// Under a well typed policy the trace of every history is legal.
 pub fn traces_of_histories_are_legal()
     ensures { (P : PlainPolicy) → IsTyped P → (H : History) → IsLegalTrace P (trace P H) }
-{}
+{
+    blocks_are_legal();
+}

@@ -14,6 +14,7 @@ mod view;
 pub use counts::Counts;
 pub use engine::{Drafted, Engine};
 pub use laws::{
-    cells_are_of_one_attribute, changes_add_up, each_action_is_followed, legal_traces_go_on, tables_keep_the_trace, tables_keep_what_is_followed, traces_of_histories_are_legal,
+    cells_are_of_one_attribute, changes_add_up, each_action_is_followed, legal_traces_go_on,
+    tables_keep_the_trace, tables_keep_what_is_followed, traces_of_histories_are_legal,
 };
 pub use state::{CellId, State};

@@ -5,7 +5,7 @@ ghost use Rattle.ucon_base.specs.Admits.{admits};
 ghost use Rattle.ucon_model.specs.Action as actions;
 ghost use Rattle.ucon_model.specs.Checked.{checked_policy};
 ghost use Rattle.ucon_model.specs.Readings.{declared_attr, declared_env, env_position};
-ghost use Rattle.ucon_state.specs.Applied.{opening_tables, applied, with_entity, with_cell, with_state, may_become, moved_to};
+ghost use Rattle.ucon_state.specs.Applied.{opening_tables, with_entity, with_cell, with_state, may_become, moved_to};
 ghost use Rattle.ucon_state.specs.Sound.{AllSound, IsSound};
 ghost use Rattle.ucon_state.specs.Tables.{entities_of, entity_number, cell_at, CellAdmits, attribute_in, counts_in, moment_in, session_in};
 ghost use Rattle.ucon_state.specs.Views.{lists_of};
@@ -33,7 +33,7 @@ pub struct State {
 }
 
 impl State {
-    ghost use Rattle.ucon_state.specs.Shown.{shown, changed_to};
+    ghost use Rattle.ucon_state.specs.Shown.{shown, changed_by, changed_to};
 
     /// No entities, each variable at its default, tick 0.
     pub fn new(alloc: Global, checked: Checked) -> Result<State, NoMemory>
@@ -82,7 +82,8 @@ impl State {
     pub fn add_entity(&mut self, side: Side, name: Name) -> Result<u32, NoMemory>
         requires new { entity_number (shown self.old).tables side name ≡ None }
         requires room { length (entities_of side (shown self.old).tables) < 16384 }
-        ensures ok { OnOk result (shown self.new ≡ changed_to (shown self.old) (with_entity (shown self.old).policy (shown self.old).tables side name)) }
+        ensures ok { OnOk result (shown self.new
+            ≡ changed_to (shown self.old) (with_entity (shown self.old).policy (shown self.old).tables side name)) }
         ensures number { IfOk result (λ n. n ≡ length (entities_of side (shown self.old).tables)) }
         ensures err { OnErr result (shown self.new ≡ shown self.old) }
     {
@@ -112,7 +113,7 @@ impl State {
     /// Gives a variable a value.
     pub fn set_env(&mut self, name: &Name, value: Value) -> Result<(), NoMemory>
         requires { IsSomeAnd (declared_env (shown self.old).policy.envs name.now) (λ d. IsTrue (admits d.kind value)) }
-        ensures ok { OnOk result (shown self.new ≡ changed_to (shown self.old) (applied (shown self.old).policy (actions.env name.now value) (shown self.old).tables)) }
+        ensures ok { OnOk result (shown self.new ≡ changed_by (shown self.old) (actions.env name.now value)) }
         ensures err { OnErr result (shown self.new ≡ shown self.old) }
     {
         let place = self.checked.policy().env_position(name).unwrap();
@@ -124,7 +125,7 @@ impl State {
 
     pub fn set_tick(&mut self, tick: Int) -> Result<(), NoMemory>
         requires { (shown self.old).tables.tick ≤ℤ tick }
-        ensures ok { OnOk result (shown self.new ≡ changed_to (shown self.old) (applied (shown self.old).policy (actions.tick tick) (shown self.old).tables)) }
+        ensures ok { OnOk result (shown self.new ≡ changed_by (shown self.old) (actions.tick tick)) }
         ensures err { OnErr result (shown self.new ≡ shown self.old) }
     {
         self.changes.reserve(1)?;
@@ -136,7 +137,7 @@ impl State {
     /// An act is done now: its moment is the tick.
     pub fn add_act(&mut self, subject: Name, action: Name, object: Name) -> Result<(), NoMemory>
         requires { IsSome (moment_in (shown self.old).tables subject action object) ⊎ (length (shown self.old).tables.acts < 1048576) }
-        ensures ok { OnOk result (shown self.new ≡ changed_to (shown self.old) (applied (shown self.old).policy (actions.act subject action object) (shown self.old).tables)) }
+        ensures ok { OnOk result (shown self.new ≡ changed_by (shown self.old) (actions.act subject action object)) }
         ensures err { OnErr result (shown self.new ≡ shown self.old) }
     {
         self.changes.reserve(1)?;
@@ -158,7 +159,8 @@ impl State {
         object: Name,
     ) -> Result<u32, NoMemory>
         requires { length (shown self.old).tables.sessions < 1048576 }
-        ensures ok { OnOk result (shown self.new ≡ changed_to (shown self.old) (applied (shown self.old).policy (actions.tries (length (shown self.old).tables.sessions + 1) caller subject right object) (shown self.old).tables)) }
+        ensures ok { OnOk result (shown self.new
+            ≡ changed_by (shown self.old) (actions.tries (length (shown self.old).tables.sessions + 1) caller subject right object)) }
         ensures number { IfOk result (λ n. n ≡ length (shown self.old).tables.sessions + 1) }
         ensures err { OnErr result (shown self.new ≡ shown self.old) }
     {

@@ -34,7 +34,8 @@ impl Tables {
 
     /// No entities, acts or sessions, tick 0, and variables with these values.
     pub fn new(alloc: Global, variables: Vec<Value>) -> Tables
-        ensures { lists_of result ≡ record { subjects = []; objects = []; cells = []; variables = variables.items; tick = pos 0; acts = []; sessions = [] } }
+        ensures { lists_of result
+            ≡ record { subjects = []; objects = []; cells = []; variables = variables.items; tick = pos 0; acts = []; sessions = [] } }
     {
         Tables {
             subjects: IndexMap::new(alloc),

@@ -1,5 +1,5 @@
 -- Attributes, variables, predicates and updates keep to their forms.
-use Rattle.std.proofs.Common.{◌≡◌, Bool, true, false, cond, inl, inr, List, drop, Some, None, Result, Ok, Err, codes, refl}
+use Rattle.std.proofs.Common.{◌≡◌, Bool, true, false, cond, inl, inr, List, [], drop, Some, None, Result, Ok, Err, codes, refl}
 use Rattle.ucon_base.specs.declared.value.Side.{Side}
 use Rattle.ucon_base.specs.declared.value.Kind.TheVariants as kinds
 use Rattle.ucon_model.specs.declared.formula.Form.TheVariants as forms
@@ -14,9 +14,7 @@ use Rattle.ucon_model.specs.Grammar.{keyword, sign, a_name, a_number, an_int, a_
 use Rattle.ucon_token.specs.declared.stop.Cause.TheVariants.{Unexpected}
 use Rattle.ucon_token.specs.Tokens.{first, is_word}
 use Rattle.ucon_token.specs.Reading.{Halt, Reads, ◌>>=◌, expect, taken, name_at, number_at}
-use Rattle.ucon_syntax.specs.declared.room.SideRoom.{SideRoom}
-use Rattle.ucon_syntax.specs.declared.room.PhaseRoom.{PhaseRoom}
-use Rattle.ucon_syntax.specs.declared.room.WhenRoom.{WhenRoom}
+use Rattle.ucon_syntax.specs.declared.room.Room.{Room}
 use Rattle.ucon_syntax.specs.declared.starts.KindWord.TheVariants as kind_words
 use Rattle.ucon_syntax.specs.declared.starts.TestSort.{TestSort}
 use Rattle.ucon_syntax.specs.declared.starts.TestSort.TheVariants as sorts
@@ -24,7 +22,7 @@ use Rattle.ucon_syntax.specs.declared.starts.DutyWord.TheVariants as duties
 use Rattle.ucon_syntax.specs.Starts.{side_of, phase_of, when_of, kind_word, test_sort, duty_word, name_in}
 use Rattle.ucon_token.specs.Literals.{literal_at}
 use Rattle.ucon_syntax.specs.Expressions.{expr_at}
-use Rattle.ucon_syntax.specs.Items.{take_side, take_phase, take_when, range_at, kind_from, kind_at, attr_at, env_at, form_from, form_at, some_name, party_at, duty_at, test_from, pred_at, update_at}
+use Rattle.ucon_syntax.specs.Items.{side_number, phase_number, when_number, take, range_at, kind_from, kind_at, attr_at, env_at, form_from, form_at, some_name, party_at, duty_at, test_from, pred_at, update_at}
 use Rattle.ucon_syntax.proofs.Keeping.{Meets, Example}
 use Rattle.ucon_syntax.proofs.Local.{Runs, andthen, takes}
 use Rattle.ucon_syntax.proofs.Sound.{Sound, Anything, sound_retree, sound_same, sound_ending, sound_nothing, sound_mapped, sound_meeting, sound_then, sound_before, sound_either}
@@ -63,12 +61,12 @@ sound_kind =
 
 -- ---- attributes and variables
 
-abbrev attr_rest : Side × SideRoom → Form (AttrDecl × SideRoom)
+abbrev attr_rest : Side × Room → Form (AttrDecl × Room)
 attr_rest side =
     and_then a_name (λ name. before (sign colon) (and_then a_kind (λ kind. before (sign equal_sign) (and_then a_literal (λ start.
     before (sign semicolon) (nothing (record { side = side.0; name = name; kind = kind; start = start }, side.1)))))))
 
-attr_behind : {P : Type 0} (side : Side × SideRoom) → Sound P (attr_rest side) Anything (λ ts. name_at ts >>= λ name. expect colon name.1 >>= λ b. kind_at b >>= λ kind. expect equal_sign kind.1 >>= λ c. literal_at c >>= λ start. expect semicolon start.1 >>= λ d. Ok ((record { side = side.0; name = name.0; kind = kind.0; start = start.0 }, side.1), d))
+attr_behind : {P : Type 0} (side : Side × Room) → Sound P (attr_rest side) Anything (λ ts. name_at ts >>= λ name. expect colon name.1 >>= λ b. kind_at b >>= λ kind. expect equal_sign kind.1 >>= λ c. literal_at c >>= λ start. expect semicolon start.1 >>= λ d. Ok ((record { side = side.0; name = name.0; kind = kind.0; start = start.0 }, side.1), d))
 attr_behind side =
     sound_then sound_name (λ name. sound_before (symbol_tests colon)
     (sound_then sound_kind (λ kind. sound_before (symbol_tests equal_sign) (sound_then sound_literal (λ start. sound_before (symbol_tests semicolon)
@@ -80,16 +78,16 @@ attr_tail side =
     and_then a_name (λ name. before (sign colon) (and_then a_kind (λ kind. before (sign equal_sign) (and_then a_literal (λ start.
     before (sign semicolon) (nothing (record { side = side; name = name; kind = kind; start = start })))))))
 
-abbrev attr_form : SideCount → Form (AttrDecl × SideRoom)
-attr_form n = before (keyword (codes "attr")) (and_then {A = Side × SideRoom} (mapped (λ side. (side, side_room (count_side n side))) (one_of side_token (λ side. beyond item 16 (of_side n side)) (λ side. Unit {0}))) attr_rest)
+abbrev attr_form : SideCount → Form (AttrDecl × Room)
+attr_form n = before (keyword (codes "attr")) (and_then {A = Side × Room} (mapped (λ side. (side, side_room (count_side n side))) (one_of side_token (λ side. beyond item 16 (of_side n side)) (λ side. Unit {0}))) attr_rest)
 
 attr_read : {P : Type 0} (n : SideCount) → Sound P (attr_form n) Anything (attr_at (side_room n))
 unfolding attr_at
 attr_read n = sound_before (word_tests (codes "attr")) (sound_then (sound_counted_side n) attr_behind)
 
-pub attr_runs : (room : SideRoom) → Runs (attr_at room)
+pub attr_runs : (room : Room) → Runs (attr_at room)
 unfolding attr_at
-attr_runs room = takes (λ t. is_word t (codes "attr")) (andthen (counted_runs take_side room side_of) (λ side. (attr_behind {P = Unit {0}} side).runs))
+attr_runs room = takes (λ t. is_word t (codes "attr")) (andthen (counted_runs (λ side. take (side_number side)) room side_of) (λ side. (attr_behind {P = Unit {0}} side).runs))
 
 pub sound_attr : {P : Type 0} (n : SideCount) → Sound P (mapped (λ a. (a, side_room (count_side n a.side))) (an_attr n)) Anything (attr_at (side_room n))
 sound_attr n = attr_read n
@@ -155,27 +153,27 @@ test_split next false false true ts = refl
 test_split next false false false ts = refl
 
 -- what stands behind the word for its sort, with the room that is left
-abbrev labelled_with : Phase × PhaseRoom → Form PlainTest → Form (PlainPredicate × PhaseRoom)
+abbrev labelled_with : Phase × Room → Form PlainTest → Form (PlainPredicate × Room)
 labelled_with phase a_test =
     and_then a_name (λ label. before (sign colon) (and_then a_test (λ test.
     before (sign semicolon) (nothing (record { phase = phase.0; label = label; test = test }, phase.1)))))
 
-sound_labelled : {P : Type 0} {X : Form PlainTest} {E : Token → Type 0} {p : Reads PlainTest} (phase : Phase × PhaseRoom) → E (a_symbol semicolon) → Sound P X E p
+sound_labelled : {P : Type 0} {X : Form PlainTest} {E : Token → Type 0} {p : Reads PlainTest} (phase : Phase × Room) → E (a_symbol semicolon) → Sound P X E p
     → Sound P (labelled_with phase X) Anything (λ ts. name_at ts >>= λ label. expect colon label.1 >>= λ a. p a >>= λ test. expect semicolon test.1 >>= λ b. Ok ((record { phase = phase.0; label = label.0; test = test.0 }, phase.1), b))
 sound_labelled phase ends x =
     sound_then sound_name (λ label. sound_before (symbol_tests colon) (sound_meeting x (λ test. sound_before (symbol_tests semicolon)
     (sound_nothing (record { phase = phase.0; label = label; test = test }, phase.1))) (λ test s proper. ends)))
 
-abbrev sorted : Phase × PhaseRoom → Form (PlainPredicate × PhaseRoom)
+abbrev sorted : Phase × Room → Form (PlainPredicate × Room)
 sorted phase =
     either_of (before (keyword (codes "a")) (labelled_with phase (mapped (λ f. authorisation f) a_formula)))
     (either_of (before (keyword (codes "b")) (labelled_with phase (mapped (λ o. duty o) a_duty)))
     (before (keyword (codes "c")) (labelled_with phase (mapped (λ f. condition f) a_formula))))
 
-abbrev behind_sort : Phase × PhaseRoom → TestSort → Reads (PlainPredicate × PhaseRoom)
+abbrev behind_sort : Phase × Room → TestSort → Reads (PlainPredicate × Room)
 behind_sort phase sort ts = name_at ts >>= λ label. expect colon label.1 >>= λ a. test_from sort a >>= λ test. expect semicolon test.1 >>= λ b. Ok ((record { phase = phase.0; label = label.0; test = test.0 }, phase.1), b)
 
-others_than_a : (phase : Phase × PhaseRoom) (s : (either_of (before (keyword (codes "b")) (labelled_with phase (mapped (λ o. duty o) a_duty))) (before (keyword (codes "c")) (labelled_with phase (mapped (λ f. condition f) a_formula)))).Written) → Meets (λ t. is_word t (codes "a") ≡ false) ((either_of (before (keyword (codes "b")) (labelled_with phase (mapped (λ o. duty o) a_duty))) (before (keyword (codes "c")) (labelled_with phase (mapped (λ f. condition f) a_formula)))).tokens s) Anything
+others_than_a : (phase : Phase × Room) (s : (either_of (before (keyword (codes "b")) (labelled_with phase (mapped (λ o. duty o) a_duty))) (before (keyword (codes "c")) (labelled_with phase (mapped (λ f. condition f) a_formula)))).Written) → Meets (λ t. is_word t (codes "a") ≡ false) ((either_of (before (keyword (codes "b")) (labelled_with phase (mapped (λ o. duty o) a_duty))) (before (keyword (codes "c")) (labelled_with phase (mapped (λ f. condition f) a_formula)))).tokens s) Anything
 unfolding is_word
 others_than_a phase (inl s) = refl
 others_than_a phase (inr s) = refl
@@ -184,7 +182,7 @@ duty_semicolon : duty_ends (a_symbol semicolon)
 unfolding is_word
 duty_semicolon = (refl, refl)
 
-sound_sorted : {P : Type 0} (phase : Phase × PhaseRoom) → Sound P (sorted phase) Anything (λ ts. taken (test_sort (first ts)) ts >>= λ s. behind_sort phase s.0 s.1)
+sound_sorted : {P : Type 0} (phase : Phase × Room) → Sound P (sorted phase) Anything (λ ts. taken (test_sort (first ts)) ts >>= λ s. behind_sort phase s.0 s.1)
 unfolding test_sort is_word
 sound_sorted phase =
     sound_same (λ ts. taken (test_sort (first ts)) ts >>= λ s. behind_sort phase s.0 s.1) (λ ts. test_split (behind_sort phase) (is_word (first ts) (codes "a")) (is_word (first ts) (codes "b")) (is_word (first ts) (codes "c")) ts)
@@ -192,8 +190,8 @@ sound_sorted phase =
     (sound_either (λ t. is_word t (codes "b")) (λ s proper. refl) (λ s proper. refl) (sound_before (word_tests (codes "b")) (sound_labelled phase duty_semicolon (sound_mapped (λ o. duty o) sound_duty)))
     (sound_before (word_tests (codes "c")) (sound_labelled phase semicolon_ends (sound_mapped (λ f. condition f) sound_formula)))))
 
-abbrev pred_form : PhaseCount → Form (PlainPredicate × PhaseRoom)
-pred_form n = and_then {A = Phase × PhaseRoom} (mapped (λ phase. (phase, phase_room (count_phase n phase))) (one_of phase_token (λ phase. beyond item 16 (of_phase n phase)) (λ phase. Unit {0}))) sorted
+abbrev pred_form : PhaseCount → Form (PlainPredicate × Room)
+pred_form n = and_then {A = Phase × Room} (mapped (λ phase. (phase, phase_room (count_phase n phase))) (one_of phase_token (λ phase. beyond item 16 (of_phase n phase)) (λ phase. Unit {0}))) sorted
 
 pred_read : {P : Type 0} (n : PhaseCount) → Sound P (pred_form n) Anything (pred_at (phase_room n))
 unfolding pred_at
@@ -213,9 +211,9 @@ pred_phase n (phase, inr (inr s)) = refl
 pub sound_pred : {P : Type 0} (n : PhaseCount) → Sound P (mapped (λ p. (p, phase_room (count_phase n p.phase))) (a_pred n)) Anything (pred_at (phase_room n))
 sound_pred n = sound_retree {X = pred_form n} (λ s. ((a_pred n).tree s, phase_room (count_phase n ((a_pred n).tree s).phase))) (pred_tree n) (pred_read n)
 
-pub pred_runs : (room : PhaseRoom) → Runs (pred_at room)
+pub pred_runs : (room : Room) → Runs (pred_at room)
 unfolding pred_at
-pred_runs room = andthen (counted_runs take_phase room phase_of) (λ phase. (sound_sorted {P = Unit {0}} phase).runs)
+pred_runs room = andthen (counted_runs (λ phase. take (phase_number phase)) room phase_of) (λ phase. (sound_sorted {P = Unit {0}} phase).runs)
 
 -- what stands behind the word for its phase
 abbrev pub pred_rest : Phase → Form PlainPredicate
@@ -225,22 +223,22 @@ pred_rest phase =
     (before (keyword (codes "c")) (labelled phase (mapped (λ f. condition f) a_formula))))
 
 pub pred_example : (phase : Phase) → Example (pred_rest phase)
-pred_example phase = let e = (sound_sorted {P = Unit {0}} (phase, record { pre = 0; ongoing = 0 })).example tt in record { written = e.written; proper = e.proper }
+pred_example phase = let e = (sound_sorted {P = Unit {0}} (phase, record { left = [] })).example tt in record { written = e.written; proper = e.proper }
 
 -- ---- updates
 
-abbrev update_rest : When × WhenRoom → Form (PlainUpdate × WhenRoom)
+abbrev update_rest : When × Room → Form (PlainUpdate × Room)
 update_rest when =
     and_then a_side (λ side. before (sign dot) (and_then a_name (λ attr. before (sign equal_sign) (and_then an_expr (λ value.
     before (sign semicolon) (nothing (record { when = when.0; side = side; attr = attr; value = value }, when.1)))))))
 
-update_behind : {P : Type 0} (when : When × WhenRoom) → Sound P (update_rest when) Anything (λ ts. taken (side_of (first ts)) ts >>= λ side. expect dot side.1 >>= λ a. name_at a >>= λ attr. expect equal_sign attr.1 >>= λ b. expr_at 32 b >>= λ value. expect semicolon value.1 >>= λ c. Ok ((record { when = when.0; side = side.0; attr = attr.0; value = value.0 }, when.1), c))
+update_behind : {P : Type 0} (when : When × Room) → Sound P (update_rest when) Anything (λ ts. taken (side_of (first ts)) ts >>= λ side. expect dot side.1 >>= λ a. name_at a >>= λ attr. expect equal_sign attr.1 >>= λ b. expr_at 32 b >>= λ value. expect semicolon value.1 >>= λ c. Ok ((record { when = when.0; side = side.0; attr = attr.0; value = value.0 }, when.1), c))
 update_behind when =
     sound_then sound_side (λ side. sound_before (symbol_tests dot) (sound_then sound_name (λ attr. sound_before (symbol_tests equal_sign)
     (sound_meeting sound_expr (λ value. sound_before (symbol_tests semicolon) (sound_nothing (record { when = when.0; side = side; attr = attr; value = value }, when.1))) (λ value s proper. semicolon_ends.0.0)))))
 
-abbrev update_form : WhenCount → Form (PlainUpdate × WhenRoom)
-update_form n = and_then {A = When × WhenRoom} (mapped (λ when. (when, when_room (count_when n when))) (one_of when_token (λ when. beyond item 16 (of_when n when)) (λ when. Unit {0}))) update_rest
+abbrev update_form : WhenCount → Form (PlainUpdate × Room)
+update_form n = and_then {A = When × Room} (mapped (λ when. (when, when_room (count_when n when))) (one_of when_token (λ when. beyond item 16 (of_when n when)) (λ when. Unit {0}))) update_rest
 
 update_read : {P : Type 0} (n : WhenCount) → Sound P (update_form n) Anything (update_at (when_room n))
 unfolding update_at
@@ -249,9 +247,9 @@ update_read n = sound_then (sound_counted_when n) update_behind
 pub sound_update : {P : Type 0} (n : WhenCount) → Sound P (mapped (λ u. (u, when_room (count_when n u.when))) (an_update n)) Anything (update_at (when_room n))
 sound_update n = update_read n
 
-pub update_runs : (room : WhenRoom) → Runs (update_at room)
+pub update_runs : (room : Room) → Runs (update_at room)
 unfolding update_at
-update_runs room = andthen (counted_runs take_when room when_of) (λ when. (update_behind {P = Unit {0}} when).runs)
+update_runs room = andthen (counted_runs (λ when. take (when_number when)) room when_of) (λ when. (update_behind {P = Unit {0}} when).runs)
 
 -- what stands behind the word for its phase
 abbrev pub plain_rest : When → Form PlainUpdate
@@ -260,4 +258,4 @@ plain_rest when =
     before (sign semicolon) (nothing (record { when = when; side = side; attr = attr; value = value })))))))
 
 pub update_example : (when : When) → Example (plain_rest when)
-update_example when = let e = (update_behind {P = Unit {0}} (when, record { before = 0; during = 0; after_end = 0; after_revoke = 0 })).example tt in record { written = e.written; proper = e.proper }
+update_example when = let e = (update_behind {P = Unit {0}} (when, record { left = [] })).example tt in record { written = e.written; proper = e.proper }

@@ -1,5 +1,5 @@
 -- Rooms that are left, beside what was counted.
-use Rattle.std.proofs.Common.{◌≡◌, ℕ, suc, ◌+◌, ◌-◌, ◌<◌, ◌≤◌, ◌==◌, Bool, true, false, cond, ◌⊎◌, inl, inr, List, ◌∷◌, drop, Option, Some, None, option_map, Ok, codes, refl, sym, ap, ◌∙◌, arith, nat_lt, subst}
+use Rattle.std.proofs.Common.{◌≡◌, ℕ, suc, ◌+◌, ◌-◌, ◌<◌, ◌≤◌, ◌==◌, Bool, true, false, cond, ◌⊎◌, inl, inr, List, [], ◌∷◌, drop, Option, Some, None, option_map, Ok, codes, refl, sym, ap, ◌∙◌, arith, nat_lt, subst}
 use Rattle.std.proofs.lemmas.Bool.Decides.{nat_tests}
 use Rattle.ucon_base.specs.declared.value.Side.{Side}
 use Rattle.ucon_base.specs.declared.value.Side.TheVariants as sides
@@ -14,11 +14,9 @@ use Rattle.ucon_model.specs.Spells.{Stands}
 use Rattle.ucon_token.specs.declared.stop.Cause.TheVariants.{Unexpected, TooMany}
 use Rattle.ucon_token.specs.Tokens.{first, is_word}
 use Rattle.ucon_token.specs.Reading.{◌>>=◌, taken}
-use Rattle.ucon_syntax.specs.declared.room.SideRoom.{SideRoom}
-use Rattle.ucon_syntax.specs.declared.room.PhaseRoom.{PhaseRoom}
-use Rattle.ucon_syntax.specs.declared.room.WhenRoom.{WhenRoom}
+use Rattle.ucon_syntax.specs.declared.room.Room.{Room as Left}
 use Rattle.ucon_syntax.specs.Starts.{side_of, phase_of, when_of}
-use Rattle.ucon_syntax.specs.Items.{less, take_side, take_phase, take_when, with_room, counted}
+use Rattle.ucon_syntax.specs.Items.{side_number, phase_number, when_number, less, take, with_room, counted}
 use Rattle.ucon_syntax.proofs.Steps.{chosen}
 use Rattle.ucon_syntax.proofs.Local.{Runs, gives, halts, past, by_first}
 use Rattle.ucon_syntax.proofs.Sound.{Sound, Anything, unless_passed, picked, sound_same, sound_mapped, sound_picked, sound_taken}
@@ -96,12 +94,12 @@ room_by n left = elim (rest_of n) [
 
 -- ---- sides
 
-abbrev pub side_room : SideCount → SideRoom
-side_room n = record { subject = 16 - n.subject; object = 16 - n.object }
+abbrev pub side_room : SideCount → Left
+side_room n = record { left = (16 - n.subject) ∷ (16 - n.object) ∷ 16 ∷ 16 ∷ [] }
 
-side_rooms : (n : SideCount) (side : Side) → Room (take_side side (side_room n)) (beyond item 16 (of_side n side)) (side_room (count_side n side))
-side_rooms n sides.Subject = room_by n.subject (λ k. record { subject = k; object = 16 - n.object })
-side_rooms n sides.Object = room_by n.object (λ k. record { subject = 16 - n.subject; object = k })
+side_rooms : (n : SideCount) (side : Side) → Room (take (side_number side) (side_room n)) (beyond item 16 (of_side n side)) (side_room (count_side n side))
+side_rooms n sides.Subject = room_by n.subject (λ k. record { left = k ∷ (16 - n.object) ∷ 16 ∷ 16 ∷ [] })
+side_rooms n sides.Object = room_by n.object (λ k. record { left = (16 - n.subject) ∷ k ∷ 16 ∷ 16 ∷ [] })
 
 side_is : (ts : List Token) (side : Side) → side_of (first ts) ≡ Some side → ts ≡ as_token (side_token side) ∷ drop 1 ts
 unfolding side_of
@@ -122,19 +120,19 @@ side_again sides.Object = refl
 pub sound_side : {P : Type 0} → Sound P (one_of side_token (λ side. None) (λ side. Unit {0})) Anything (λ ts. taken (side_of (first ts)) ts)
 sound_side = sound_taken {pick = side_of} (record { is = side_is; allowed = λ t b e. tt; again = λ b a. side_again b; alone = λ b l e u s. no_mark l e; one = sides.Subject; one_allowed = tt })
 
-pub sound_counted_side : {P : Type 0} (n : SideCount) → Sound P (mapped (λ side. (side, side_room (count_side n side))) (one_of side_token (λ side. beyond item 16 (of_side n side)) (λ side. Unit {0}))) Anything (λ ts. counted take_side (side_room n) (side_of (first ts)) ts)
+pub sound_counted_side : {P : Type 0} (n : SideCount) → Sound P (mapped (λ side. (side, side_room (count_side n side))) (one_of side_token (λ side. beyond item 16 (of_side n side)) (λ side. Unit {0}))) Anything (λ ts. counted (λ side. take (side_number side)) (side_room n) (side_of (first ts)) ts)
 sound_counted_side n =
-    sound_same (λ ts. counted take_side (side_room n) (side_of (first ts)) ts) (λ ts. counted_is take_side (side_room n) (λ side. beyond item 16 (of_side n side)) (λ side. side_room (count_side n side)) (side_rooms n) (side_of (first ts)) ts)
+    sound_same (λ ts. counted (λ side. take (side_number side)) (side_room n) (side_of (first ts)) ts) (λ ts. counted_is (λ side. take (side_number side)) (side_room n) (λ side. beyond item 16 (of_side n side)) (λ side. side_room (count_side n side)) (side_rooms n) (side_of (first ts)) ts)
     (sound_mapped (λ side. (side, side_room (count_side n side))) (sound_picked {pick = side_of} (record { is = side_is; allowed = λ t b e. tt; again = λ b a. side_again b; alone = λ b l e u s. item_alone 16 (of_side n b) (side_token b) l e u s; one = sides.Subject; one_allowed = tt })))
 
 -- ---- phases
 
-abbrev pub phase_room : PhaseCount → PhaseRoom
-phase_room n = record { pre = 16 - n.pre; ongoing = 16 - n.ongoing }
+abbrev pub phase_room : PhaseCount → Left
+phase_room n = record { left = (16 - n.pre) ∷ (16 - n.ongoing) ∷ 16 ∷ 16 ∷ [] }
 
-phase_rooms : (n : PhaseCount) (phase : Phase) → Room (take_phase phase (phase_room n)) (beyond item 16 (of_phase n phase)) (phase_room (count_phase n phase))
-phase_rooms n phases.Pre = room_by n.pre (λ k. record { pre = k; ongoing = 16 - n.ongoing })
-phase_rooms n phases.Ongoing = room_by n.ongoing (λ k. record { pre = 16 - n.pre; ongoing = k })
+phase_rooms : (n : PhaseCount) (phase : Phase) → Room (take (phase_number phase) (phase_room n)) (beyond item 16 (of_phase n phase)) (phase_room (count_phase n phase))
+phase_rooms n phases.Pre = room_by n.pre (λ k. record { left = k ∷ (16 - n.ongoing) ∷ 16 ∷ 16 ∷ [] })
+phase_rooms n phases.Ongoing = room_by n.ongoing (λ k. record { left = (16 - n.pre) ∷ k ∷ 16 ∷ 16 ∷ [] })
 
 pub phase_is : (ts : List Token) (phase : Phase) → phase_of (first ts) ≡ Some phase → ts ≡ as_token (phase_token phase) ∷ drop 1 ts
 unfolding phase_of
@@ -152,21 +150,21 @@ unfolding phase_of is_word
 phase_again phases.Pre = refl
 phase_again phases.Ongoing = refl
 
-pub sound_counted_phase : {P : Type 0} (n : PhaseCount) → Sound P (mapped (λ phase. (phase, phase_room (count_phase n phase))) (one_of phase_token (λ phase. beyond item 16 (of_phase n phase)) (λ phase. Unit {0}))) Anything (λ ts. counted take_phase (phase_room n) (phase_of (first ts)) ts)
+pub sound_counted_phase : {P : Type 0} (n : PhaseCount) → Sound P (mapped (λ phase. (phase, phase_room (count_phase n phase))) (one_of phase_token (λ phase. beyond item 16 (of_phase n phase)) (λ phase. Unit {0}))) Anything (λ ts. counted (λ phase. take (phase_number phase)) (phase_room n) (phase_of (first ts)) ts)
 sound_counted_phase n =
-    sound_same (λ ts. counted take_phase (phase_room n) (phase_of (first ts)) ts) (λ ts. counted_is take_phase (phase_room n) (λ phase. beyond item 16 (of_phase n phase)) (λ phase. phase_room (count_phase n phase)) (phase_rooms n) (phase_of (first ts)) ts)
+    sound_same (λ ts. counted (λ phase. take (phase_number phase)) (phase_room n) (phase_of (first ts)) ts) (λ ts. counted_is (λ phase. take (phase_number phase)) (phase_room n) (λ phase. beyond item 16 (of_phase n phase)) (λ phase. phase_room (count_phase n phase)) (phase_rooms n) (phase_of (first ts)) ts)
     (sound_mapped (λ phase. (phase, phase_room (count_phase n phase))) (sound_picked {pick = phase_of} (record { is = phase_is; allowed = λ t b e. tt; again = λ b a. phase_again b; alone = λ b l e u s. item_alone 16 (of_phase n b) (phase_token b) l e u s; one = phases.Pre; one_allowed = tt })))
 
 -- ---- phases of updates
 
-abbrev pub when_room : WhenCount → WhenRoom
-when_room n = record { before = 16 - n.before_usage; during = 16 - n.during_usage; after_end = 16 - n.after_end; after_revoke = 16 - n.after_revoke }
+abbrev pub when_room : WhenCount → Left
+when_room n = record { left = (16 - n.before_usage) ∷ (16 - n.during_usage) ∷ (16 - n.after_end) ∷ (16 - n.after_revoke) ∷ [] }
 
-when_rooms : (n : WhenCount) (when : When) → Room (take_when when (when_room n)) (beyond item 16 (of_when n when)) (when_room (count_when n when))
-when_rooms n whens.Before = room_by n.before_usage (λ k. record { before = k; during = 16 - n.during_usage; after_end = 16 - n.after_end; after_revoke = 16 - n.after_revoke })
-when_rooms n whens.During = room_by n.during_usage (λ k. record { before = 16 - n.before_usage; during = k; after_end = 16 - n.after_end; after_revoke = 16 - n.after_revoke })
-when_rooms n whens.AfterEnd = room_by n.after_end (λ k. record { before = 16 - n.before_usage; during = 16 - n.during_usage; after_end = k; after_revoke = 16 - n.after_revoke })
-when_rooms n whens.AfterRevoke = room_by n.after_revoke (λ k. record { before = 16 - n.before_usage; during = 16 - n.during_usage; after_end = 16 - n.after_end; after_revoke = k })
+when_rooms : (n : WhenCount) (when : When) → Room (take (when_number when) (when_room n)) (beyond item 16 (of_when n when)) (when_room (count_when n when))
+when_rooms n whens.Before = room_by n.before_usage (λ k. record { left = k ∷ (16 - n.during_usage) ∷ (16 - n.after_end) ∷ (16 - n.after_revoke) ∷ [] })
+when_rooms n whens.During = room_by n.during_usage (λ k. record { left = (16 - n.before_usage) ∷ k ∷ (16 - n.after_end) ∷ (16 - n.after_revoke) ∷ [] })
+when_rooms n whens.AfterEnd = room_by n.after_end (λ k. record { left = (16 - n.before_usage) ∷ (16 - n.during_usage) ∷ k ∷ (16 - n.after_revoke) ∷ [] })
+when_rooms n whens.AfterRevoke = room_by n.after_revoke (λ k. record { left = (16 - n.before_usage) ∷ (16 - n.during_usage) ∷ (16 - n.after_end) ∷ k ∷ [] })
 
 pub when_is : (ts : List Token) (when : When) → when_of (first ts) ≡ Some when → ts ≡ as_token (when_token when) ∷ drop 1 ts
 unfolding when_of
@@ -192,9 +190,9 @@ when_again whens.During = refl
 when_again whens.AfterEnd = refl
 when_again whens.AfterRevoke = refl
 
-pub sound_counted_when : {P : Type 0} (n : WhenCount) → Sound P (mapped (λ when. (when, when_room (count_when n when))) (one_of when_token (λ when. beyond item 16 (of_when n when)) (λ when. Unit {0}))) Anything (λ ts. counted take_when (when_room n) (when_of (first ts)) ts)
+pub sound_counted_when : {P : Type 0} (n : WhenCount) → Sound P (mapped (λ when. (when, when_room (count_when n when))) (one_of when_token (λ when. beyond item 16 (of_when n when)) (λ when. Unit {0}))) Anything (λ ts. counted (λ when. take (when_number when)) (when_room n) (when_of (first ts)) ts)
 sound_counted_when n =
-    sound_same (λ ts. counted take_when (when_room n) (when_of (first ts)) ts) (λ ts. counted_is take_when (when_room n) (λ when. beyond item 16 (of_when n when)) (λ when. when_room (count_when n when)) (when_rooms n) (when_of (first ts)) ts)
+    sound_same (λ ts. counted (λ when. take (when_number when)) (when_room n) (when_of (first ts)) ts) (λ ts. counted_is (λ when. take (when_number when)) (when_room n) (λ when. beyond item 16 (of_when n when)) (λ when. when_room (count_when n when)) (when_rooms n) (when_of (first ts)) ts)
     (sound_mapped (λ when. (when, when_room (count_when n when))) (sound_picked {pick = when_of} (record { is = when_is; allowed = λ t b e. tt; again = λ b a. when_again b; alone = λ b l e u s. item_alone 16 (of_when n b) (when_token b) l e u s; one = whens.Before; one_allowed = tt })))
 
 -- ---- runs

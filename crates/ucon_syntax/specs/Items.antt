@@ -1,5 +1,5 @@
 -- Reading attributes, variables, predicates and updates.
-use Rattle.std.specs.Prelude.{ℕ, ◌-◌, ◌==◌, Bool, if◌then◌else◌, drop, Option, Some, None, is_some, option_map, Ok, Err, codes}
+use Rattle.std.specs.Prelude.{ℕ, ◌-◌, ◌==◌, Bool, if◌then◌else◌, List, [], ◌∷◌, drop, slice_index, slice_set, Option, Some, None, is_some, option_map, Ok, Err, codes}
 use Rattle.ucon_base.specs.declared.value.Side.{Side}
 use Rattle.ucon_base.specs.declared.value.Side.TheVariants as sides
 use Rattle.ucon_base.specs.declared.value.Kind.{Kind}
@@ -22,9 +22,7 @@ use Rattle.ucon_syntax.specs.Starts.{side_of, kind_word, phase_of, test_sort, du
 use Rattle.ucon_token.specs.Literals.{int_at, literal_at}
 use Rattle.ucon_syntax.specs.Expressions.{expr_at}
 use Rattle.ucon_syntax.specs.Formulas.{formula_at}
-use Rattle.ucon_syntax.specs.declared.room.SideRoom.{SideRoom}
-use Rattle.ucon_syntax.specs.declared.room.PhaseRoom.{PhaseRoom}
-use Rattle.ucon_syntax.specs.declared.room.WhenRoom.{WhenRoom}
+use Rattle.ucon_syntax.specs.declared.room.Room.{Room}
 use Rattle.ucon_syntax.specs.declared.starts.KindWord.{KindWord}
 use Rattle.ucon_syntax.specs.declared.starts.KindWord.TheVariants as kind_words
 use Rattle.ucon_syntax.specs.declared.starts.TestSort.{TestSort}
@@ -34,32 +32,31 @@ use Rattle.ucon_syntax.specs.declared.starts.DutyWord.TheVariants as duties
 
 -- ---- what room is left, if any
 
+-- a number for each sort of items
+abbrev pub side_number : Side → ℕ
+side_number sides.Subject = 0
+side_number sides.Object = 1
+
+abbrev pub phase_number : Phase → ℕ
+phase_number phases.Pre = 0
+phase_number phases.Ongoing = 1
+
+abbrev pub when_number : When → ℕ
+when_number whens.Before = 0
+when_number whens.During = 1
+when_number whens.AfterEnd = 2
+when_number whens.AfterRevoke = 3
+
+abbrev pub full : Room
+full = record { left = 16 ∷ 16 ∷ 16 ∷ 16 ∷ [] }
+
 -- one less, if there is one
 abbrev pub less : ℕ → Option ℕ
 less n = if n == 0 then None else Some (n - 1)
 
-abbrev pub full_sides : SideRoom
-full_sides = record { subject = 16; object = 16 }
-
-abbrev pub take_side : Side → SideRoom → Option SideRoom
-take_side sides.Subject r = option_map (λ n. record { subject = n; object = r.object }) (less r.subject)
-take_side sides.Object r = option_map (λ n. record { subject = r.subject; object = n }) (less r.object)
-
-abbrev pub full_phases : PhaseRoom
-full_phases = record { pre = 16; ongoing = 16 }
-
-abbrev pub take_phase : Phase → PhaseRoom → Option PhaseRoom
-take_phase phases.Pre r = option_map (λ n. record { pre = n; ongoing = r.ongoing }) (less r.pre)
-take_phase phases.Ongoing r = option_map (λ n. record { pre = r.pre; ongoing = n }) (less r.ongoing)
-
-abbrev pub full_whens : WhenRoom
-full_whens = record { before = 16; during = 16; after_end = 16; after_revoke = 16 }
-
-abbrev pub take_when : When → WhenRoom → Option WhenRoom
-take_when whens.Before r = option_map (λ n. record { before = n; during = r.during; after_end = r.after_end; after_revoke = r.after_revoke }) (less r.before)
-take_when whens.During r = option_map (λ n. record { before = r.before; during = n; after_end = r.after_end; after_revoke = r.after_revoke }) (less r.during)
-take_when whens.AfterEnd r = option_map (λ n. record { before = r.before; during = r.during; after_end = n; after_revoke = r.after_revoke }) (less r.after_end)
-take_when whens.AfterRevoke r = option_map (λ n. record { before = r.before; during = r.during; after_end = r.after_end; after_revoke = n }) (less r.after_revoke)
+-- with one more of the sort of this number
+abbrev pub take : ℕ → Room → Option Room
+take sort r = option_map (λ n. record { left = slice_set r.left sort n }) (less (slice_index r.left sort))
 
 -- what the first token stands for, where room is left for it
 abbrev pub with_room : {A S : Type 0} → A → Option S → Reads (A × S)
@@ -88,10 +85,10 @@ kind_from (Some kind_words.Set) ts = Ok (kinds.Set, drop 1 ts)
 unfoldable pub kind_at : Reads Kind
 kind_at ts = kind_from (kind_word (first ts)) ts
 
-unfoldable pub attr_at : SideRoom → Reads (AttrDecl × SideRoom)
+unfoldable pub attr_at : Room → Reads (AttrDecl × Room)
 attr_at room ts = do
   a ← expect_word (codes "attr") ts
-  side ← counted take_side room (side_of (first a)) a
+  side ← counted (λ side. take (side_number side)) room (side_of (first a)) a
   name ← name_at side.1
   b ← expect colon name.1
   kind ← kind_at b
@@ -153,9 +150,9 @@ test_from sorts.C ts = do
   f ← formula_at 32 ts
   Ok (condition f.0, f.1)
 
-unfoldable pub pred_at : PhaseRoom → Reads (PlainPredicate × PhaseRoom)
+unfoldable pub pred_at : Room → Reads (PlainPredicate × Room)
 pred_at room ts = do
-  phase ← counted take_phase room (phase_of (first ts)) ts
+  phase ← counted (λ phase. take (phase_number phase)) room (phase_of (first ts)) ts
   sort ← taken (test_sort (first phase.1)) phase.1
   label ← name_at sort.1
   a ← expect colon label.1
@@ -165,9 +162,9 @@ pred_at room ts = do
 
 -- ---- updates
 
-unfoldable pub update_at : WhenRoom → Reads (PlainUpdate × WhenRoom)
+unfoldable pub update_at : Room → Reads (PlainUpdate × Room)
 update_at room ts = do
-  when ← counted take_when room (when_of (first ts)) ts
+  when ← counted (λ when. take (when_number when)) room (when_of (first ts)) ts
   side ← taken (side_of (first when.1)) when.1
   a ← expect dot side.1
   attr ← name_at a

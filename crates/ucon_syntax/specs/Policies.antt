@@ -13,16 +13,16 @@ use Rattle.ucon_token.specs.declared.stop.Cause.TheVariants as causes
 use Rattle.ucon_token.specs.Tokens.{first, is_word, flaw_at}
 use Rattle.ucon_token.specs.Reading.{Halt, Reads, ◌>>=◌, expect, expect_word, name_at}
 use Rattle.ucon_syntax.specs.Lists.{items_at, alone}
-use Rattle.ucon_syntax.specs.Items.{full_sides, full_phases, full_whens, attr_at, env_at, pred_at, update_at, begins_pred, begins_update}
+use Rattle.ucon_syntax.specs.Items.{full, attr_at, env_at, pred_at, update_at, begins_pred, begins_update}
 use Rattle.ucon_syntax.specs.declared.read.SyntaxFault.{SyntaxFault}
 use Rattle.ucon_syntax.specs.declared.read.SyntaxFault.TheVariants as faults
 
 -- at most 16 of each phase
 unfoldable pub preds_at : Reads (List PlainPredicate)
-preds_at ts = items_at begins_pred pred_at 32 full_phases ts
+preds_at ts = items_at begins_pred pred_at 32 full ts
 
 unfoldable pub updates_at : Reads (List PlainUpdate)
-updates_at ts = items_at begins_update update_at 64 full_whens ts
+updates_at ts = items_at begins_update update_at 64 full ts
 
 unfoldable pub right_at : Reads PlainRight
 right_at ts = do
@@ -36,7 +36,7 @@ right_at ts = do
 
 -- At most 16 of each side. The 33rd is one too many of its side, which its side word tells.
 unfoldable pub attrs_at : Reads (List AttrDecl)
-attrs_at ts = items_at (λ t. is_word t (codes "attr")) attr_at 33 full_sides ts
+attrs_at ts = items_at (λ t. is_word t (codes "attr")) attr_at 33 full ts
 
 unfoldable pub envs_at : Reads (List EnvDecl)
 envs_at ts = items_at (λ t. is_word t (codes "env")) (alone env_at) 32 tt ts

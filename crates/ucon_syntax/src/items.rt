@@ -5,11 +5,11 @@ ghost use Rattle.ucon_model.specs.Views.{test_of, predicate_of, update_of};
 ghost use Rattle.ucon_token.specs.Reading.{Gives, taken};
 ghost use Rattle.ucon_token.specs.Tokens.{first};
 ghost use Rattle.ucon_syntax.specs.Starts.{side_of, phase_of, test_sort, when_of};
-ghost use Rattle.ucon_syntax.specs.Items.{take_side, take_phase, take_when, counted, range_at, kind_at, attr_at, env_at, form_at, party_at, duty_at, test_from, pred_at, update_at};
+ghost use Rattle.ucon_syntax.specs.Items.{take, counted, range_at, kind_at, attr_at, env_at, form_at, party_at, duty_at, test_from, pred_at, update_at};
 
 use crate::expr::read_expr;
 use crate::formula::read_formula;
-use crate::room::{PhaseRoom, SideRoom, WhenRoom};
+use crate::room::{Room, Sort};
 use crate::starts::{
     DutyWord, KindWord, TestSort, duty_word, kind_word, name_in, phase_of, side_of, test_sort,
     when_of,
@@ -21,19 +21,19 @@ use ucon_token::{Cause, Reader, Stop, Symbol};
 /// The most levels that a formula or an expression may open.
 const MOST_LEVELS: usize = 32;
 
-/// The side of one more attribute.
-fn attr_side(reader: &mut Reader, room: SideRoom) -> Result<(Side, SideRoom), Stop>
-    ensures read { Gives (λ x. (x, reader.new.tokens)) result reader.new.tokens (counted take_side room (side_of (first reader.old.tokens)) reader.old.tokens) }
+/// One more item of this sort, and what room is then left.
+fn counted<S: Sort>(reader: &mut Reader, room: Room, sort: Option<S>) -> Result<(S, Room), Stop>
+    ensures read { Gives (λ x. (x, reader.new.tokens)) result reader.new.tokens (counted (λ s. take (S.number_of s)) room sort reader.old.tokens) }
     ensures text { reader.new.text ≡ reader.old.text }
 {
-    let Some(side) = side_of(reader.first()) else {
+    let Some(sort) = sort else {
         return Err(Stop::At(Cause::Unexpected));
     };
-    let Some(left) = room.take(side) else {
+    let Some(left) = room.take(sort.number()) else {
         return Err(Stop::At(Cause::TooMany));
     };
     reader.advance();
-    Ok((side, left))
+    Ok((sort, left))
 }
 
 #[tactic(auto, unfolding(crate::specs::Items::range_at))]
@@ -65,12 +65,13 @@ fn kind(reader: &mut Reader) -> Result<Kind, Stop>
 
 /// One more attribute, and what room is then left.
 #[tactic(auto, unfolding(crate::specs::Items::attr_at))]
-pub fn attr(reader: &mut Reader, room: SideRoom) -> Result<(AttrDecl, SideRoom), Stop>
+pub fn attr(reader: &mut Reader, room: Room) -> Result<(AttrDecl, Room), Stop>
     ensures read { Gives (λ x. (x, reader.new.tokens)) result reader.new.tokens (attr_at room reader.old.tokens) }
     ensures text { reader.new.text ≡ reader.old.text }
 {
     reader.word(b"attr")?;
-    let (side, left) = attr_side(reader, room)?;
+    let side = side_of(reader.first());
+    let (side, left) = counted(reader, room, side)?;
     let name = reader.name()?;
     reader.expect(Symbol::Colon)?;
     let kind = kind(reader)?;
@@ -159,21 +160,6 @@ fn duty(reader: &mut Reader) -> Result<Obligation, Stop>
     })
 }
 
-/// The phase of one more predicate.
-fn pred_phase(reader: &mut Reader, room: PhaseRoom) -> Result<(Phase, PhaseRoom), Stop>
-    ensures read { Gives (λ x. (x, reader.new.tokens)) result reader.new.tokens (counted take_phase room (phase_of (first reader.old.tokens)) reader.old.tokens) }
-    ensures text { reader.new.text ≡ reader.old.text }
-{
-    let Some(phase) = phase_of(reader.first()) else {
-        return Err(Stop::At(Cause::Unexpected));
-    };
-    let Some(left) = room.take(phase) else {
-        return Err(Stop::At(Cause::TooMany));
-    };
-    reader.advance();
-    Ok((phase, left))
-}
-
 fn sort(reader: &mut Reader) -> Result<TestSort, Stop>
     ensures read { Gives (λ s. (s, reader.new.tokens)) result reader.new.tokens (taken (test_sort (first reader.old.tokens)) reader.old.tokens) }
     ensures text { reader.new.text ≡ reader.old.text }
@@ -207,32 +193,18 @@ fn test(reader: &mut Reader, sort: TestSort) -> Result<Test, Stop>
 
 /// One more predicate, and what room is then left.
 #[tactic(auto, unfolding(crate::specs::Items::pred_at))]
-pub fn pred(reader: &mut Reader, room: PhaseRoom) -> Result<(Predicate, PhaseRoom), Stop>
+pub fn pred(reader: &mut Reader, room: Room) -> Result<(Predicate, Room), Stop>
     ensures read { Gives (λ x. ((predicate_of x.0, x.1), reader.new.tokens)) result reader.new.tokens (pred_at room reader.old.tokens) }
     ensures text { reader.new.text ≡ reader.old.text }
 {
-    let (phase, left) = pred_phase(reader, room)?;
+    let phase = phase_of(reader.first());
+    let (phase, left) = counted(reader, room, phase)?;
     let sort = sort(reader)?;
     let label = reader.name()?;
     reader.expect(Symbol::Colon)?;
     let test = test(reader, sort)?;
     reader.expect(Symbol::Semicolon)?;
     Ok((Predicate { phase, label, test }, left))
-}
-
-/// When one more update is made.
-fn update_when(reader: &mut Reader, room: WhenRoom) -> Result<(When, WhenRoom), Stop>
-    ensures read { Gives (λ x. (x, reader.new.tokens)) result reader.new.tokens (counted take_when room (when_of (first reader.old.tokens)) reader.old.tokens) }
-    ensures text { reader.new.text ≡ reader.old.text }
-{
-    let Some(when) = when_of(reader.first()) else {
-        return Err(Stop::At(Cause::Unexpected));
-    };
-    let Some(left) = room.take(when) else {
-        return Err(Stop::At(Cause::TooMany));
-    };
-    reader.advance();
-    Ok((when, left))
 }
 
 fn side(reader: &mut Reader) -> Result<Side, Stop>
@@ -248,11 +220,12 @@ fn side(reader: &mut Reader) -> Result<Side, Stop>
 
 /// One more update, and what room is then left.
 #[tactic(auto, unfolding(crate::specs::Items::update_at))]
-pub fn update(reader: &mut Reader, room: WhenRoom) -> Result<(Update, WhenRoom), Stop>
+pub fn update(reader: &mut Reader, room: Room) -> Result<(Update, Room), Stop>
     ensures read { Gives (λ x. ((update_of x.0, x.1), reader.new.tokens)) result reader.new.tokens (update_at room reader.old.tokens) }
     ensures text { reader.new.text ≡ reader.old.text }
 {
-    let (when, left) = update_when(reader, room)?;
+    let when = when_of(reader.first());
+    let (when, left) = counted(reader, room, when)?;
     let side = side(reader)?;
     reader.expect(Symbol::Dot)?;
     let attr = reader.name()?;

@@ -6,7 +6,7 @@ ghost use Rattle.ucon_token.specs.Reading.{Gives};
 ghost use Rattle.ucon_syntax.specs.Policies.{attrs_at, envs_at, preds_at, updates_at, right_at, rights_at, policy_at, whole_at};
 
 use crate::items::{attr, env, pred, update};
-use crate::room::{PhaseRoom, SideRoom, WhenRoom};
+use crate::room::Room;
 use crate::starts::{phase_of, when_of};
 use ucon_base::Rows;
 use ucon_model::{AttrDecl, EnvDecl, Policy, Predicate, Right, Update};
@@ -29,7 +29,7 @@ fn attrs(reader: &mut Reader) -> Result<Rows<AttrDecl>, Stop>
     ensures text { reader.new.text ≡ reader.old.text }
 {
     let mut rows = Rows::new(reader.alloc);
-    let mut room = SideRoom::full();
+    let mut room = Room::full();
     for _ in 0..MOST_ATTRIBUTES {
         if !reader.first().is_word(b"attr") {
             return Ok(rows);
@@ -69,7 +69,7 @@ fn preds(reader: &mut Reader) -> Result<Rows<Predicate>, Stop>
     ensures text { reader.new.text ≡ reader.old.text }
 {
     let mut rows = Rows::new(reader.alloc);
-    let mut room = PhaseRoom::full();
+    let mut room = Room::full();
     for _ in 0..MOST_PREDICATES {
         if phase_of(reader.first()).is_none() {
             return Ok(rows);
@@ -90,7 +90,7 @@ fn updates(reader: &mut Reader) -> Result<Rows<Update>, Stop>
     ensures text { reader.new.text ≡ reader.old.text }
 {
     let mut rows = Rows::new(reader.alloc);
-    let mut room = WhenRoom::full();
+    let mut room = Room::full();
     for _ in 0..MOST_UPDATES {
         if when_of(reader.first()).is_none() {
             return Ok(rows);

@@ -1,6 +1,6 @@
 //! Policies from texts.
 
-ghost use Rattle.std.specs.Prelude.{◌≡◌, length, IfOk, IfErr};
+ghost use Rattle.std.specs.Prelude.{◌≡◌, ◌<◌, length, IfOk, IfErr};
 ghost use Rattle.ucon_model.specs.Plain.{PlainPolicy};
 ghost use Rattle.ucon_model.specs.Spells.{Spells};
 ghost use Rattle.ucon_base.specs.Tokens.{place_of};
@@ -52,7 +52,8 @@ fn fault(reader: &Reader, cause: Cause) -> SyntaxFault
 
 #[tactic(auto, unfolding(crate::specs::Policies::reading_of))]
 fn read(alloc: Global, text: &[u8]) -> Result<Policy, SyntaxFault>
-    ensures { Reading result text.now }
+    ensures read { Reading result text.now }
+    ensures too_long { 65536 < length text.now → result ≡ Err (SyntaxFault.TooLong 65536) }
 {
     if text.len() > LONGEST {
         return Err(SyntaxFault::TooLong(LONGEST));
@@ -72,6 +73,8 @@ pub fn read_policy(alloc: Global, text: &[u8]) -> Result<Policy, SyntaxFault>
     ensures reason { IfErr result (λ f. IsReason text.now f) }
     ensures refuses { (f : SyntaxFault) → IsSyntaxFault text.now f → RefusedFor result f }
     ensures reading { Reading result text.now }
+    // It is found before any memory is taken, so that want of memory can't stand in its place.
+    ensures too_long { 65536 < length text.now → result ≡ Err (SyntaxFault.TooLong 65536) }
 {
     read(alloc, text)
 }

@@ -1,7 +1,7 @@
-//! How many more attributes, predicates and updates of each sort there may be.
+//! How many more items there may be of each sort: attributes of a side, predicates of a phase, updates of a time.
 
-ghost use Rattle.std.specs.Prelude.{◌≡◌};
-ghost use Rattle.ucon_syntax.specs.Items.{less, full_sides, take_side, full_phases, take_phase, full_whens, take_when};
+ghost use Rattle.std.specs.Prelude.{◌≡◌, ◌<◌, ℕ};
+ghost use Rattle.ucon_syntax.specs.Items.{side_number, phase_number, when_number, full, take};
 
 use ucon_base::Side;
 use ucon_model::{Phase, When};
@@ -9,122 +9,75 @@ use ucon_model::{Phase, When};
 /// The most of one sort.
 const MOST: usize = 16;
 
-fn less(room: usize) -> Option<usize>
-    ensures { result ≡ less room }
-{
-    if room == 0 { None } else { Some(room - 1) }
+/// What items are counted by. There are at most four sorts.
+pub trait Sort: Copy {
+    ghost number_of: { Self → ℕ };
+
+    /// The sort's number, from 0.
+    fn number(self) -> usize
+        ensures number { result ≡ number_of self }
+        ensures few { result < 4 };
 }
 
+impl Sort for Side {
+    ghost number_of = { side_number };
+
+    fn number(self) -> usize {
+        match self {
+            Side::Subject => 0,
+            Side::Object => 1,
+        }
+    }
+}
+
+impl Sort for Phase {
+    ghost number_of = { phase_number };
+
+    fn number(self) -> usize {
+        match self {
+            Phase::Pre => 0,
+            Phase::Ongoing => 1,
+        }
+    }
+}
+
+impl Sort for When {
+    ghost number_of = { when_number };
+
+    fn number(self) -> usize {
+        match self {
+            When::Before => 0,
+            When::During => 1,
+            When::AfterEnd => 2,
+            When::AfterRevoke => 3,
+        }
+    }
+}
+
+/// How many more there may be of each sort, by its number.
 #[derive(Clone, Copy)]
-pub struct SideRoom {
-    pub subject: usize,
-    pub object: usize,
+pub struct Room {
+    pub left: [usize; 4],
 }
 
-impl SideRoom {
-    pub fn full() -> SideRoom
-        ensures { result ≡ full_sides }
+impl Room {
+    pub fn full() -> Room
+        ensures { result ≡ full }
     {
-        SideRoom {
-            subject: MOST,
-            object: MOST,
-        }
+        Room { left: [MOST; 4] }
     }
 
-    /// What is left with one more of this side, if there is room.
-    pub fn take(self, side: Side) -> Option<SideRoom>
-        ensures { result ≡ take_side side self }
+    /// What is left with one more of this sort, if there is room.
+    pub fn take(self, sort: usize) -> Option<Room>
+        requires { sort < 4 }
+        ensures { result ≡ take sort self }
     {
-        match side {
-            Side::Subject => {
-                let subject = less(self.subject)?;
-                Some(SideRoom { subject, ..self })
-            }
-            Side::Object => {
-                let object = less(self.object)?;
-                Some(SideRoom { object, ..self })
-            }
+        let n = self.left[sort];
+        if n == 0 {
+            return None;
         }
-    }
-}
-
-#[derive(Clone, Copy)]
-pub struct PhaseRoom {
-    pub pre: usize,
-    pub ongoing: usize,
-}
-
-impl PhaseRoom {
-    pub fn full() -> PhaseRoom
-        ensures { result ≡ full_phases }
-    {
-        PhaseRoom {
-            pre: MOST,
-            ongoing: MOST,
-        }
-    }
-
-    /// What is left with one more of this phase, if there is room.
-    pub fn take(self, phase: Phase) -> Option<PhaseRoom>
-        ensures { result ≡ take_phase phase self }
-    {
-        match phase {
-            Phase::Pre => {
-                let pre = less(self.pre)?;
-                Some(PhaseRoom { pre, ..self })
-            }
-            Phase::Ongoing => {
-                let ongoing = less(self.ongoing)?;
-                Some(PhaseRoom { ongoing, ..self })
-            }
-        }
-    }
-}
-
-#[derive(Clone, Copy)]
-pub struct WhenRoom {
-    pub before: usize,
-    pub during: usize,
-    pub after_end: usize,
-    pub after_revoke: usize,
-}
-
-impl WhenRoom {
-    pub fn full() -> WhenRoom
-        ensures { result ≡ full_whens }
-    {
-        WhenRoom {
-            before: MOST,
-            during: MOST,
-            after_end: MOST,
-            after_revoke: MOST,
-        }
-    }
-
-    /// What is left with one more of this phase, if there is room.
-    pub fn take(self, when: When) -> Option<WhenRoom>
-        ensures { result ≡ take_when when self }
-    {
-        match when {
-            When::Before => {
-                let before = less(self.before)?;
-                Some(WhenRoom { before, ..self })
-            }
-            When::During => {
-                let during = less(self.during)?;
-                Some(WhenRoom { during, ..self })
-            }
-            When::AfterEnd => {
-                let after_end = less(self.after_end)?;
-                Some(WhenRoom { after_end, ..self })
-            }
-            When::AfterRevoke => {
-                let after_revoke = less(self.after_revoke)?;
-                Some(WhenRoom {
-                    after_revoke,
-                    ..self
-                })
-            }
-        }
+        let mut left = self.left;
+        left[sort] = n - 1;
+        Some(Room { left })
     }
 }

@@ -2,13 +2,12 @@
 
 ghost use Rattle.std.specs.Prelude.{◌≡◌, ◌≤◌, ◌&&◌, true, false, length, option_map, IfSome, drop};
 ghost use Rattle.ucon_base.specs.NameBytes.{is_letter, is_word_byte};
-ghost use Rattle.ucon_base.specs.TextBytes.{is_text_byte};
 ghost use Rattle.ucon_base.specs.Reading.{is_digit, text_len};
 ghost use Rattle.ucon_base.specs.Tokens.{is_blank, skip, word_len, digits_len, word_token, joined_token, value_from, number_of, is_zero_led, number_token, closed_text, text_token, single, symbol_with, longest, unequal, symbol_token, token_at, begins_word, begin_of, token_from, unless_closed, fault_from};
 ghost use Rattle.ucon_token.specs.Seen.{symbol_of, token_of};
 
 use crate::token::{Flaw, Symbol, Token};
-use ucon_base::{Int, Name, Text};
+use ucon_base::{Int, Name, Text, is_digit, is_letter, is_word_byte, text_len};
 
 const LONGEST_TEXT: usize = 64;
 
@@ -16,30 +15,6 @@ fn is_blank(b: u8) -> bool
     ensures { result ≡ is_blank b }
 {
     b == b' ' || b == b'\t' || b == b'\n'
-}
-
-fn is_letter(b: u8) -> bool
-    ensures { result ≡ is_letter b }
-{
-    b >= b'a' && b <= b'z'
-}
-
-fn is_digit(b: u8) -> bool
-    ensures { result ≡ is_digit b }
-{
-    b >= b'0' && b <= b'9'
-}
-
-fn is_word_byte(b: u8) -> bool
-    ensures { result ≡ is_word_byte b }
-{
-    is_letter(b) || is_digit(b) || b == b'_'
-}
-
-fn is_text_byte(b: u8) -> bool
-    ensures { result ≡ is_text_byte b }
-{
-    b >= 0x20 && b <= 0x7e && !(b == b'"')
 }
 
 /// What is left behind blanks and comments.
@@ -74,13 +49,6 @@ fn digits_len(bytes: &[u8]) -> usize
     ensures within { result ≤ length bytes.now }
 {
     bytes.iter().take_while(|b| is_digit(**b)).count()
-}
-
-fn text_len(bytes: &[u8]) -> usize
-    ensures value { result ≡ text_len bytes.now }
-    ensures within { result ≤ length bytes.now }
-{
-    bytes.iter().take_while(|b| is_text_byte(**b)).count()
 }
 
 #[tactic(auto, unfolding(ucon_base::specs::Tokens::single))]

@@ -8,9 +8,9 @@ use Rattle.atomic_table.specs.Table.{State, Joins}
 use Rattle.atomic_table.proofs.Lists.{set_else}
 use Rattle.ucon_turn.specs.declared.table.SeatView.{SeatView}
 use Rattle.ucon_turn.specs.declared.table.Stage.TheVariants.{Idle}
-use Rattle.ucon_turn.specs.Lists.{Begins, ByOthers, longer}
+use Rattle.ucon_turn.specs.Lists.{Begins, ByOthers, longer, begins_trans}
 use Rattle.ucon_turn.specs.Rule.{rank, weight, IsLive, Fits, Ruled, spent, joined}
-use Rattle.ucon_turn.proofs.Lists.{each_both, begins_trans, continues_map, between, longer_is}
+use Rattle.ucon_turn.proofs.Lists.{each_both, continues_map, between, longer_is}
 use Rattle.ucon_turn.proofs.Seats.{Places, places_set, Pairs, pairs_set, set_swap, tickets_set, spot_set}
 use Rattle.ucon_turn.proofs.Rounds.{away, resting, LiveApart}
 
@@ -22,9 +22,9 @@ both_begin {A} xs ys zs p q =
     (λ (h : (longer xs ys ≡ ys) × Begins xs ys). (subst (Begins xs) (sym h.0) h.1, subst (Begins ys) (sym h.0) ([], append-nil ys), subst (λ (l : List A). Begins l zs) (sym h.0) q))
     (longer_is xs ys zs p q)
 
-module _ {E B N : Type 0} (caller : N → ℕ) (base : E → B) (entries : E → List N) (about : E) where
+module _ {E N : Type 0} (caller : N → ℕ) (led_to : E → E → Type 0) (entries : E → List N) (about : E) where
   -- two seats are idle
-  module _ (s : State (Option E) (SeatView E N)) (r : Ruled caller base entries about s) (id : ℕ) (v : SeatView E N) (other : ℕ) (w : SeatView E N) (at : get_elem? s.views id ≡ some v) (here : get_elem? s.views other ≡ some w) (idle : v.stage ≡ Idle) (idle' : w.stage ≡ Idle) where
+  module _ (s : State (Option E) (SeatView E N)) (r : Ruled caller led_to entries about s) (id : ℕ) (v : SeatView E N) (other : ℕ) (w : SeatView E N) (at : get_elem? s.views id ≡ some v) (here : get_elem? s.views other ≡ some w) (idle : v.stage ≡ Idle) (idle' : w.stage ≡ Idle) where
     lives : IsLive v
     lives = let ranks : rank v.stage ≡ 1 = ap rank idle in omega arith
 
@@ -58,9 +58,9 @@ module _ {E B N : Type 0} (caller : N → ℕ) (base : E → B) (entries : E →
 
     beside : Places (λ j u. j ≢ other → Beside j u) s.views
     beside j u e far near = (
-      (λ _ l. let p = (away caller base entries about s r id v at lives j u e near l).0 in let q = (away caller base entries about s r other w here lives' j u e far l).1 in
+      (λ _ l. let p = (away caller led_to entries about s r id v at lives j u e near l).0 in let q = (away caller led_to entries about s r other w here lives' j u e far l).1 in
           record { numbers = p.numbers; taken = (q.numbers, p.taken); turns = λ out. absurd (omega arith) }),
-      (λ l _. let p = (away caller base entries about s r id v at lives j u e near l).1 in record { numbers = p.numbers; taken = p.taken; turns = λ _ out. absurd (omega arith) }),
+      (λ l _. let p = (away caller led_to entries about s r id v at lives j u e near l).1 in record { numbers = p.numbers; taken = p.taken; turns = λ _ out. absurd (omega arith) }),
     )
 
     joined_apart : id ≢ other → Pairs LiveApart (set (set s.views id (joined v w)) other spent)
@@ -70,7 +70,7 @@ module _ {E B N : Type 0} (caller : N → ℕ) (base : E → B) (entries : E →
         (places_set Beside s.views other spent (λ _. ((λ _ dead. absurd (omega arith)), (λ dead. absurd (omega arith)))) beside)
         (pairs_set LiveApart s.views other spent (λ j u _ _. ((λ dead. absurd (omega arith)), (λ _ dead. absurd (omega arith)))) r.apart))
 
-    join_rule : id ≢ other → get_elem? (set s.views id (joined v w)) other ≡ some w → Ruled caller base entries about (record { words = s.words; homes = s.homes; views = set (set s.views id (joined v w)) other spent })
+    join_rule : id ≢ other → get_elem? (set s.views id (joined v w)) other ≡ some w → Ruled caller led_to entries about (record { words = s.words; homes = s.homes; views = set (set s.views id (joined v w)) other spent })
     join_rule ne there =
         let both : SeatView E N = joined v w in
         let FitsNow : ℕ → SeatView E N → Type 0 = λ j u. IsLive u → Fits caller entries about r.log r.given r.served r.drawn j u in
@@ -93,9 +93,9 @@ module _ {E B N : Type 0} (caller : N → ℕ) (base : E → B) (entries : E →
           known = r.known;
           each = places_set FitsNow (set s.views id both) other spent (λ dead. absurd (omega arith)) (λ j u e _. places_set FitsNow s.views id both joined_fits (λ j u e _. r.each j u e) j u e);
           apart = joined_apart ne;
-          spot = spot_set base entries about r.log (record { words = s.words; homes = s.homes; views = set s.views id both }) s.words other w spent there (omega arith) (omega arith)
-              (spot_set base entries about r.log s s.words id v both at (omega arith) (omega arith) r.spot);
+          spot = spot_set led_to entries about r.log (record { words = s.words; homes = s.homes; views = set s.views id both }) s.words other w spent there (omega arith) (omega arith)
+              (spot_set led_to entries about r.log s s.words id v both at (omega arith) (omega arith) r.spot);
         }
 
-  pub joins : (id : ℕ) (v : SeatView E N) (other : ℕ) (w : SeatView E N) → v.stage ≡ Idle → w.stage ≡ Idle → Joins (Ruled caller base entries about) id v other w (joined v w) spent
+  pub joins : (id : ℕ) (v : SeatView E N) (other : ℕ) (w : SeatView E N) → v.stage ≡ Idle → w.stage ≡ Idle → Joins (Ruled caller led_to entries about) id v other w (joined v w) spent
   joins id v other w idle idle' s r at ne there = join_rule s r id v other w at (sym (set_else s.views id other (joined v w) ne) ∙ there) idle idle' (λ same. ne (sym same)) there

@@ -12,9 +12,9 @@ use Rattle.ucon_turn.proofs.Lists.{each_map, continues_map, between, has_not, to
 use Rattle.ucon_turn.proofs.Seats.{Places, places_set, places_snoc, pairs_set, pairs_snoc, tickets_set, tickets_snoc, spot_set, spot_snoc}
 use Rattle.ucon_turn.proofs.Rounds.{away, resting, LiveApart}
 
-module _ {E B N : Type 0} (caller : N → ℕ) (base : E → B) (entries : E → List N) (about : E) where
+module _ {E N : Type 0} (caller : N → ℕ) (led_to : E → E → Type 0) (entries : E → List N) (about : E) where
   -- the first seat is idle, and has noted a number above each that it gave
-  module _ (s : State (Option E) (SeatView E N)) (r : Ruled caller base entries about s) (id : ℕ) (v : SeatView E N) (at : get_elem? s.views id ≡ some v) (idle : v.stage ≡ Idle) (zeroth : v.number ≡ 0) (pos : 0 < v.note) (above : Each (λ k. k < v.note) v.given) where
+  module _ (s : State (Option E) (SeatView E N)) (r : Ruled caller led_to entries about s) (id : ℕ) (v : SeatView E N) (at : get_elem? s.views id ≡ some v) (idle : v.stage ≡ Idle) (zeroth : v.number ≡ 0) (pos : 0 < v.note) (above : Each (λ k. k < v.note) v.given) where
     abbrev views : List (SeatView E N)
     views = set s.views id (parted v)
 
@@ -94,11 +94,11 @@ module _ {E B N : Type 0} (caller : N → ℕ) (base : E → B) (entries : E →
 
     parted_apart : Places (λ j u. j ≢ id → LiveApart (parted v) u × LiveApart u (parted v)) s.views
     parted_apart j u e ne = (
-      (λ _ l. let a = (away caller base entries about s r id v at lives j u e ne l).0 in record { numbers = a.numbers; taken = a.taken; turns = a.turns }),
-      (λ l _. let a = (away caller base entries about s r id v at lives j u e ne l).1 in record { numbers = a.numbers; taken = a.taken; turns = a.turns }),
+      (λ _ l. let a = (away caller led_to entries about s r id v at lives j u e ne l).0 in record { numbers = a.numbers; taken = a.taken; turns = a.turns }),
+      (λ l _. let a = (away caller led_to entries about s r id v at lives j u e ne l).1 in record { numbers = a.numbers; taken = a.taken; turns = a.turns }),
     )
 
-    split_rule : v.note < 4294967296 → Ruled caller base entries about (record { words = s.words; homes = s.homes; views = views ++ child v ∷ [] })
+    split_rule : v.note < 4294967296 → Ruled caller led_to entries about (record { words = s.words; homes = s.homes; views = views ++ child v ∷ [] })
     split_rule small = let less : rank v.stage ≡ 1 = ap rank idle in record {
       drawn = r.drawn;
       served = r.served;
@@ -116,8 +116,8 @@ module _ {E B N : Type 0} (caller : N → ℕ) (base : E → B) (entries : E →
       known = continues_map (λ e. Has (0 ∷ r.given) (caller e)) (λ e. Has (0 ∷ v.note ∷ r.given) (caller e)) (λ e. more (caller e)) (entries about) r.log r.known;
       each = places_snoc FitsNow views (child v) (child_fits (length views)) (places_set FitsNow s.views id (parted v) parted_fits others_fit);
       apart = pairs_snoc LiveApart views (child v) child_apart (pairs_set LiveApart s.views id (parted v) parted_apart r.apart);
-      spot = spot_snoc base entries about r.log (record { words = s.words; homes = s.homes; views = views }) (child v) (omega arith) (spot_set base entries about r.log s s.words id v (parted v) at (omega arith) (omega arith) r.spot);
+      spot = spot_snoc led_to entries about r.log (record { words = s.words; homes = s.homes; views = views }) (child v) (omega arith) (spot_set led_to entries about r.log s s.words id v (parted v) at (omega arith) (omega arith) r.spot);
     }
 
-  pub splits : (id : ℕ) (v : SeatView E N) → v.stage ≡ Idle → v.number ≡ 0 → 0 < v.note → v.note < 4294967296 → Each (λ k. k < v.note) v.given → Splits (Ruled caller base entries about) id v (parted v) (child v)
+  pub splits : (id : ℕ) (v : SeatView E N) → v.stage ≡ Idle → v.number ≡ 0 → 0 < v.note → v.note < 4294967296 → Each (λ k. k < v.note) v.given → Splits (Ruled caller led_to entries about) id v (parted v) (child v)
   splits id v idle zeroth pos small above s r at = split_rule s r id v at idle zeroth pos above small

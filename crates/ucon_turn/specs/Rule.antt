@@ -114,9 +114,9 @@ module _ {E N : Type 0} where
     pub turns : HasTicket v → HasTicket w → v.ticket ≢ w.ticket
 
   -- the value is in the slot, and no seat has it
-  abbrev pub AtHome : {B : Type 0} → (E → B) → (E → List N) → E → List N → State (Option E) (SeatView E N) → Type 0
-  AtHome base entries about log s =
-      (x : E) × (s.homes ≡ some (Some x) ∷ []) × (base x ≡ base about) × (entries x ≡ log)
+  abbrev pub AtHome : (E → E → Type 0) → (E → List N) → E → List N → State (Option E) (SeatView E N) → Type 0
+  AtHome led_to entries about log s =
+      (x : E) × (s.homes ≡ some (Some x) ∷ []) × (led_to about x) × (entries x ≡ log)
       × ((j : ℕ) (v : SeatView E N) → get_elem? s.views j ≡ some v → rank v.stage < 4)
 
   -- a seat has the slot
@@ -124,12 +124,12 @@ module _ {E N : Type 0} where
   OutWith s = (j : ℕ) × (v : SeatView E N) × (get_elem? s.views j ≡ some v) × HasValue v × (s.homes ≡ none ∷ [])
 
   -- where the value is
-  abbrev pub Spot : {B : Type 0} → (E → B) → (E → List N) → E → List N → State (Option E) (SeatView E N) → Type 0
-  Spot base entries about log s = AtHome base entries about log s ⊎ OutWith s
+  abbrev pub Spot : (E → E → Type 0) → (E → List N) → E → List N → State (Option E) (SeatView E N) → Type 0
+  Spot led_to entries about log s = AtHome led_to entries about log s ⊎ OutWith s
 
   -- The rule of a turn that was opened with `about`. There is one list. The tickets out are those from `served` to just before `drawn`, one for each seat that has one.
   -- There are no more seats than numbers that fit 32 bits, so no two tickets out are equal in the words
-  pub record Ruled {B : Type 0} (caller : N → ℕ) (base : E → B) (entries : E → List N) (about : E) (s : State (Option E) (SeatView E N)) : Type 0 where
+  pub record Ruled (caller : N → ℕ) (led_to : E → E → Type 0) (entries : E → List N) (about : E) (s : State (Option E) (SeatView E N)) : Type 0 where
     pub drawn : ℕ
     pub served : ℕ
     pub booked : ℕ
@@ -143,7 +143,11 @@ module _ {E N : Type 0} where
     pub known : Continues (λ e. Has (0 ∷ given) (caller e)) (entries about) log
     pub each : (j : ℕ) (v : SeatView E N) → get_elem? s.views j ≡ some v → IsLive v → Fits caller entries about log given served drawn j v
     pub apart : (i j : ℕ) (v w : SeatView E N) → get_elem? s.views i ≡ some v → get_elem? s.views j ≡ some w → i ≢ j → IsLive v → IsLive w → Apart v w
-    pub spot : Spot base entries about log s
+    pub spot : Spot led_to entries about log s
+
+-- what no run changes of the value that was handed in, and what lies between it and the value now
+abbrev pub LedTo : {E B : Type 0} → (E → B) → (E → E → Type 0) → E → E → Type 0
+LedTo base stays about x = (base x ≡ base about) × stays about x
 
 -- a seat's view, and the slots that it holds
 abbrev Sat : Type 0 → Type 0 → Type 0
@@ -157,10 +161,10 @@ module _ {E N : Type 0} where
   abbrev pub waited : Step (Option E) → Sat E N → ℕ → Sat E N → Type 0
   waited st m r m' = (r ≡ m.0.ticket % size → m' ≡ (record m.0 { stage = Up }, m.1)) × (r ≢ m.0.ticket % size → m' ≡ m)
 
-  -- the slot comes with a value, which has the opening's base and stands for the list that is then seen
-  abbrev pub read : {B : Type 0} → (N → ℕ) → (E → B) → (E → List N) → Step (Option E) → Sat E N → ℕ → Sat E N → Type 0
-  read caller base entries st m r m' = (x : E) × (about : E) × (m' ≡ (record m.0 { stage = Holding; seen = entries x }, (0, Some x) ∷ []))
-      × (m.0.opened ≡ about ∷ []) × (base x ≡ base about) × Begins (entries about) (entries x) × Continues (ByOthers caller m.0.number m.0.taken) m.0.seen (entries x)
+  -- the slot comes with a value, to which the one that was handed in led, and which stands for the list that is then seen
+  abbrev pub read : (N → ℕ) → (E → E → Type 0) → (E → List N) → Step (Option E) → Sat E N → ℕ → Sat E N → Type 0
+  read caller led_to entries st m r m' = (x : E) × (about : E) × (m' ≡ (record m.0 { stage = Holding; seen = entries x }, (0, Some x) ∷ []))
+      × (m.0.opened ≡ about ∷ []) × (led_to about x) × Begins (entries about) (entries x) × Continues (ByOthers caller m.0.number m.0.taken) m.0.seen (entries x)
 
   -- the list that the value in hand stands for is seen
   abbrev pub booked : (E → List N) → Step (Option E) → Sat E N → ℕ → Sat E N → Type 0

@@ -58,9 +58,9 @@ pub struct TurnRule<E> {
 }
 
 impl<E: Turned> TableRule<Option<E>, SeatView<E, E::Entry>, Snapshot<E>> for TurnRule<E> {
-    ghost use Rattle.ucon_turn.specs.Rule.{Ruled, first_view};
+    ghost use Rattle.ucon_turn.specs.Rule.{Ruled, LedTo, first_view};
 
-    ghost holds = { λ about. Ruled E.caller E.base E.entries about.value };
+    ghost holds = { λ about. Ruled E.caller (LedTo E.base E.stays) E.entries about.value };
 
     ghost first = { λ about. first_view about.value (E.entries about.value) };
 }

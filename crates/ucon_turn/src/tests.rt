@@ -31,6 +31,8 @@ fn two_threads_are_answered_as_one_would_be(rt: HostRuntime) -> Result<(), Fail>
     Ok(())
 }
 
+/// Each call books one entry, so `LENGTH` reads as `NOW` does: a seat that sleeps on `LENGTH` in place of `NOW`, or is woken on another
+/// word, sleeps for ever, and the test runs out of its time.
 #[test]
 fn eight_threads_lose_no_call(rt: HostRuntime) -> Result<(), Fail> {
     let counter = many_adders(&rt, rt.alloc(), 8, 10_000).ok_or("memory")?;

@@ -129,6 +129,7 @@ impl<E: Turned> Turn<E> {
         requires first { seat.number ≡ 0 }
         requires joined { Each (λ k. Has seat.taken k) seat.given }
         ensures base { E.base result ≡ E.base self.opened }
+        ensures stays { E.stays self.opened result }
         ensures list { E.entries result ≡ seat.seen }
         ensures callers { Continues (λ e. Has (0 ∷ seat.taken) (E.caller e))
             (E.entries self.opened) (E.entries result) }

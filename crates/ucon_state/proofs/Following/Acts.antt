@@ -7,7 +7,7 @@ use Rattle.std.proofs.lemmas.Bool.{and_parts, and_from, both_ways}
 use Rattle.indexmap.specs.IndexMap.{insert_entry}
 use Rattle.ucon_model.specs.Plain.{Bytes}
 use Rattle.ucon_model.specs.Action.{Trace, act}
-use Rattle.ucon_model.specs.Readings.{tick_of, moment, acts, act_rows}
+use Rattle.ucon_model.specs.Readings.{tick_of}
 use Rattle.ucon_state.specs.Following.{act_of, row_of, KeepsActs}
 use Rattle.ucon_state.specs.declared.act.Act.{Act}
 use Rattle.ucon_state.specs.Tables.{same_act}

@@ -1,15 +1,15 @@
 -- The attributes of entities are those of the trace.
-use Rattle.std.proofs.Common.{◌≡◌, ◌∙◌, sym, ap, subst, ℕ, ◌+◌, Bool, true, false, cond, ◌&&◌, [], ◌∷◌, ◌++◌, length, refl}
+use Rattle.std.proofs.Common.{◌≡◌, ◌∙◌, sym, ap, subst, ℕ, ◌+◌, Bool, true, false, cond, ◌&&◌, ◌++◌, length, refl}
 use Rattle.std.specs.Prelude.{◌||◌, Option, Some, None, is_some, option_map, option_and_then, unwrap_or, slice_get, slice_set}
 use Rattle.std.specs.Str.{bytes_eq}
-use Rattle.std.proofs.lemmas.Bool.{and_parts, and_from, or_parts, both_ways}
+use Rattle.std.proofs.lemmas.Bool.{and_parts, and_from, both_ways}
 use Rattle.std.proofs.lemmas.Option.{slice_get-map}
 use Rattle.ucon_base.specs.declared.value.Side.{Side}
 use Rattle.ucon_base.specs.declared.value.Side.TheVariants as sides
 use Rattle.ucon_base.specs.declared.value.Value.{Value}
 use Rattle.ucon_model.specs.declared.policy.AttrDecl.{AttrDecl}
 use Rattle.ucon_model.specs.Plain.{Bytes, PlainPolicy}
-use Rattle.ucon_model.specs.Action.{Trace, subject, object, write}
+use Rattle.ucon_model.specs.Action.{Trace}
 use Rattle.ucon_model.specs.Readings.{has_entity, same_side, written, declared_attr, attribute, attrs_of, attr_position}
 use Rattle.ucon_state.specs.Tables.{Tables, first_cell, cell_of, attribute_in}
 use Rattle.ucon_state.specs.Applied.{defaults_of, with_entity, with_cell}

@@ -16,13 +16,13 @@ use Rattle.ucon_model.specs.declared.session.SessionState.TheVariants.{Denied, A
 use Rattle.ucon_model.specs.Plain.{Bytes, PlainPolicy}
 use Rattle.ucon_model.specs.Action.{Action, Trace, subject, object, write, env, tick, act, tries, wait, permit, deny, ends, revoke, extended}
 use Rattle.ucon_model.specs.Readings.{tick_of, entity_names, declared_env, env_position}
-use Rattle.ucon_model.specs.Truth.{readings, place_of}
+use Rattle.ucon_model.specs.Truth.{place_of}
 use Rattle.ucon_model.specs.Legal.{IsLegal, AreLegal}
 use Rattle.ucon_model.specs.Typing.{IsTyped}
 use Rattle.ucon_model.proofs.Allowed.{sound_before, sound_after_action}
 use Rattle.ucon_state.specs.Shown.{Shown, changed_to}
 use Rattle.ucon_state.specs.declared.act.Act.{Act}
-use Rattle.ucon_state.specs.Tables.{Tables, first_cell, entities_of, entity_number, cell_of, place_in, session_in, readings_in, counts_in}
+use Rattle.ucon_state.specs.Tables.{Tables, first_cell, entities_of, entity_number, cell_of, place_in, session_in, counts_in}
 use Rattle.ucon_state.specs.Applied.{with_cell, with_variable, moved_to, with_state, applied, opening_tables, tables_of}
 use Rattle.ucon_state.specs.Following.{IsLegalTrace, all_applied, counts_of, KeepsEntities, KeepsVariables, KeepsActs, TablesFollow, Follows, Keeps}
 use Rattle.ucon_state.proofs.Following.Places.{passes_there, placed_where_found, placed_where_first}

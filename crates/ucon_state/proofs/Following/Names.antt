@@ -11,7 +11,7 @@ use Rattle.ucon_base.specs.declared.value.Side.{Side}
 use Rattle.ucon_base.specs.declared.value.Side.TheVariants.{Subject, Object}
 use Rattle.ucon_model.specs.Plain.{Bytes}
 use Rattle.ucon_model.specs.Action.{Trace, subject, object}
-use Rattle.ucon_model.specs.Readings.{has_entity, entities, entity_names, with_new}
+use Rattle.ucon_model.specs.Readings.{has_entity, entity_names, with_new}
 use Rattle.ucon_state.specs.Following.{KeepsNames}
 use Rattle.ucon_state.proofs.Following.Places.{still_there, added_there, not_there, place_kept, place_new, found_still, found_new, placed_where_found}
 

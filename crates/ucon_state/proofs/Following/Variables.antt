@@ -1,5 +1,5 @@
 -- The tables keep the variables of the trace.
-use Rattle.std.proofs.Common.{◌≡◌, ◌∙◌, sym, ap, subst, ℕ, Bool, true, false, cond, List, [], ◌∷◌, length, map, refl}
+use Rattle.std.proofs.Common.{◌≡◌, ◌∙◌, sym, ap, subst, ℕ, Bool, true, false, cond, List, [], ◌∷◌, map, refl}
 use Rattle.std.specs.Prelude.{Option, Some, None, option_map, option_and_then, unwrap_or, slice_get, slice_set, IsSomeAnd}
 use Rattle.std.specs.Str.{bytes_eq}
 use Rattle.std.proofs.lemmas.Bool.{both_ways}
@@ -9,7 +9,7 @@ use Rattle.ucon_base.specs.declared.value.Value.{Value}
 use Rattle.ucon_model.specs.declared.policy.EnvDecl.{EnvDecl}
 use Rattle.ucon_model.specs.Plain.{Bytes, PlainPolicy}
 use Rattle.ucon_model.specs.Action.{Trace, env}
-use Rattle.ucon_model.specs.Readings.{declared_env, assigned, variable, env_position}
+use Rattle.ucon_model.specs.Readings.{declared_env, assigned, env_position}
 use Rattle.ucon_state.specs.Following.{KeepsVariables}
 use Rattle.ucon_state.proofs.Following.Places.{found_there, passes_there, written_gives, written_leaves}
 use Rattle.ucon_state.proofs.Following.Names.{same_name, own_name}

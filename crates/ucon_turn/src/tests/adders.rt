@@ -127,7 +127,7 @@ fn next_seat(turn: &Turn<Counter>, seat: &mut Seat<Counter>, number: u32) -> Sea
     turn.split(seat, number)
 }
 
-// Holds the counter, then adds 0, 1, 2 and so on, so many times, and keeps no answers.
+// Adds 0 and holds the counter, then adds 1, 2 and so on, below so many, and keeps no answers.
 fn add_all<R: Wait + Clock>(
     rt: &R,
     turn: &Turn<Counter>,
@@ -141,7 +141,7 @@ fn add_all<R: Wait + Clock>(
     let mut hold = Hold { rt, number };
     turn.call(rt, &mut seat, &mut hold);
     let Hold { rt: _, number: _ } = hold;
-    for amount in 0..times {
+    for amount in 1..times {
         let mut job = Add { number, amount };
         turn.call(rt, &mut seat, &mut job);
     }

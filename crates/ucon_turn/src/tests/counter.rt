@@ -1,5 +1,5 @@
 //! A counter that stands for the list of its additions, and the job of adding to it.
-ghost use Rattle.std.specs.Prelude.{◌≡◌, []};
+ghost use Rattle.std.specs.Prelude.{◌≡◌, [], ⊤};
 ghost use Rattle.ucon_turn.specs.Additions.{Adds, total_of};
 
 use crate::{Job, Turned};
@@ -51,6 +51,8 @@ impl Turned for Counter {
 
     ghost entries = { λ c. c.additions.items };
 
+    ghost stays = { λ _ _. ⊤ };
+
     ghost first = { λ _. 1 };
 
     ghost caller = { λ e. e.0 };
@@ -58,6 +60,10 @@ impl Turned for Counter {
     fn len(&self) -> u64 {
         self.additions.len() as u64
     }
+
+    ghost same = { λ _. tt };
+
+    ghost again = { λ _ _ _ _ _. tt };
 }
 
 #[derive(Drop)]
@@ -82,24 +88,26 @@ impl Job<Counter> for Add {
     }
 }
 
-/// Holds the counter for a while, and leaves it as it is: whoever waits goes to sleep.
+/// Adds 0 and then holds the counter for a while, so that whoever waits goes to sleep.
 pub struct Hold<'a, R: Clock> {
     pub rt: &'a R,
     pub number: u32,
 }
 
 impl<'a, R: Clock> Job<Counter> for Hold<'a, R> {
-    type Answer = ();
+    type Answer = Option<Told>;
 
     ghost by = { λ j. j.number };
 
-    ghost did = { λ _ _ before after _ _. after ≡ before };
+    ghost did = { λ j _ before after said _. Adds j.number 0 before after said };
 
     fn number(&self) -> u32 {
         self.number
     }
 
-    fn run(&mut self, _counter: &mut Counter) {
+    fn run(&mut self, counter: &mut Counter) -> Option<Told> {
+        let told = counter.add(self.number, 0);
         thread::sleep(self.rt, Duration::from_millis(2));
+        told
     }
 }

@@ -6,7 +6,7 @@ use Rattle.ucon_model.specs.Updates.{updates_of}
 use Rattle.ucon_model.specs.Views.{update_of}
 use Rattle.ucon_state.specs.Following.{Follows}
 use Rattle.ucon_state.specs.Shown.{shown}
-use Rattle.ucon_actions.specs.Updating.{written_out, one_written_out}
+use Rattle.ucon_actions.specs.Updating.{written_out}
 use Rattle.ucon_actions.proofs.ReadOff.{session_same}
 use Rattle.ucon_actions.proofs.Writes.{written_out-more}
 use Rattle.ucon_actions.proofs.Updated.{nothing_written, session_written, row_stays}

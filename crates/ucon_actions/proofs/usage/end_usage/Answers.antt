@@ -1,11 +1,7 @@
-use Rattle.std.proofs.Common.{refl, ◌∷◌, ap, subst}
-use Rattle.ucon_model.specs.declared.policy.When.TheVariants.{AfterEnd}
+use Rattle.std.proofs.Common.{refl, ◌∷◌}
 use Rattle.ucon_model.specs.declared.session.SessionState.TheVariants.{Accessing}
-use Rattle.ucon_model.specs.Plain.{PlainPolicy}
-use Rattle.ucon_model.specs.Action.{ends, extended}
-use Rattle.ucon_model.specs.Updates.{session_writes}
-use Rattle.ucon_state.specs.Following.{Follows}
-use Rattle.ucon_state.specs.Shown.{Shown, shown}
+use Rattle.ucon_model.specs.Action.{ends}
+use Rattle.ucon_state.specs.Shown.{shown}
 use Rattle.ucon_actions.proofs.Stepping.{one_step}
 use Rattle.ucon_actions.proofs.Updated.{on_ok}
 use Rattle.ucon_actions.proofs.Deciding.{in_after}

@@ -1,6 +1,6 @@
-use Rattle.std.proofs.Common.{refl, ◌∷◌, ◌+◌, length, ap, subst, sym}
+use Rattle.std.proofs.Common.{refl, ◌∷◌, ◌+◌, length, subst, sym}
 use Rattle.ucon_model.specs.Action.{tries}
-use Rattle.ucon_state.specs.Shown.{Shown, shown}
+use Rattle.ucon_state.specs.Shown.{shown}
 use Rattle.ucon_actions.specs.Sessions.{IsIn}
 use Rattle.ucon_model.specs.declared.session.SessionState.TheVariants.{Requesting}
 use Rattle.ucon_actions.proofs.Stepping.{one_step}

@@ -1,6 +1,6 @@
 use Rattle.std.proofs.Common.{◌≡◌, ◌∷◌, rules, ap, subst, ◌∙◌, inl, inr, ⊎_elim}
 use Rattle.ucon_turn.specs.Lists.{Begins, longer}
-use Rattle.ucon_turn.specs.Rule.{MeetsBoth}
+use Rattle.ucon_turn.specs.Rule.{MeetsBoth, LedTo}
 use Rattle.ucon_turn.specs.declared.table.SeatView.{SeatView}
 use Rattle.ucon_turn.proofs.Lists.{longer_is}
 use Rattle.ucon_turn.proofs.Rounds.{looks}
@@ -8,10 +8,10 @@ use Rattle.ucon_turn.proofs.Joining.{joins}
 use Rattle.ucon_turn.proofs.steps.meet.Goals as goal
 
 pub join_seat-requires : goal.join_seat-requires
-join_seat-requires g c = (search rules, search rules, search rules, search rules, joins g.E.Turned.caller g.E.Turned.base g.E.Turned.entries c.args.table.now.key.value _ _ _ _ c.requires.idle.0.0 c.requires.idle.1.0)
+join_seat-requires g c = (search rules, search rules, search rules, search rules, joins g.E.Turned.caller (LedTo g.E.Turned.base g.E.Turned.stays) g.E.Turned.entries c.args.table.now.key.value _ _ _ _ c.requires.idle.0.0 c.requires.idle.1.0)
 
 pub load-requires : goal.load-requires
-load-requires g c = (search rules, search rules, looks g.E.Turned.caller g.E.Turned.base g.E.Turned.entries c.args.table.now.key.value _ _ _ (ap (λ m. m.0.stage) c.join_seat.ensures.2))
+load-requires g c = (search rules, search rules, looks g.E.Turned.caller (LedTo g.E.Turned.base g.E.Turned.stays) g.E.Turned.entries c.args.table.now.key.value _ _ _ (ap (λ m. m.0.stage) c.join_seat.ensures.2))
 
 pub returns-clause-longer : goal.returns-clause-longer
 returns-clause-longer g c =

@@ -1,6 +1,8 @@
-use Rattle.std.proofs.Common.{◌∙◌, ap, sym, None}
-use Rattle.ucon_links.specs.Lists.{first_or}
+use Rattle.std.proofs.Common.{◌∙◌, ap, sym, subst, None}
+use Rattle.ucon_links.specs.Lists.{first_or, IsDistinct}
+use Rattle.ucon_index.specs.Dependents.{Dependents, stands_in}
 use Rattle.ucon_index.proofs.Walks.{distinct_seen, list_seen, within_seen}
+use Rattle.ucon_index.proofs.WhoStands.{stands_once}
 use Rattle.ucon_index.proofs.index.Index.first.Goals as goal
 
 pub first-requires : goal.first-requires
@@ -13,3 +15,7 @@ returns-clause-first c =
 
 pub returns-clause-distinct : goal.returns-clause-distinct
 returns-clause-distinct c = distinct_seen c.self.inside.places c.self.inside.sessions c.args.self.now c.self.view_is c.first.ensures.distinct
+
+pub returns-clause-once : goal.returns-clause-once
+returns-clause-once c =
+    subst (λ (v : Dependents). IsDistinct (stands_in v c.args.place)) c.self.view_is (stands_once c.self.inside.places c.self.inside.sessions c.args.place c.self.invariant)

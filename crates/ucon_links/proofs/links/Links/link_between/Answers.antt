@@ -46,6 +46,13 @@ returns-clause-fresh c =
     let needs = link_needs _ _ _ _ _ _ _ now c.args.list c.args.before c.args.after c.in-Some.id c.args.owner c.requires.room c.requires.list c.requires.gap c.in-Some.is in
     fresh _ _ _ _ _ _ _ now c.in-Some.id needs.below needs.stored
 
+pub returns-clause-within : goal.returns-clause-within
+returns-clause-within c =
+    let now = opened _ _ _ _ _ _ _ c.self.invariant c.self.view_is in
+    let needs = link_needs _ _ _ _ _ _ _ now c.args.list c.args.before c.args.after c.in-Some.id c.args.owner c.requires.room c.requires.list c.requires.gap c.in-Some.is in
+    let within = slice_get_within c.self.inside.table.nodes.items c.in-Some.id _ needs.stored in
+    omega (arith, within, now.holds.counted)
+
 pub returns-clause-linked : goal.returns-clause-linked
 returns-clause-linked c =
     let now = opened _ _ _ _ _ _ _ c.self.invariant c.self.view_is in

@@ -1,4 +1,4 @@
-use Rattle.ucon_pend.proofs.SetLemmas.{IsRising-set_of, set_of-put, Contains-put}
+use Rattle.ucon_pend.proofs.SetLemmas.{IsRising-set_of, set_of-put, Contains-put, most-put, fresh-put, there-put}
 use Rattle.ucon_pend.proofs.pend.Pend.put.Goals as goal
 
 pub returns-clause-put : goal.returns-clause-put
@@ -9,3 +9,12 @@ returns-clause-members c = rw (← c.self.view_is) (Contains-put _ _ _ _ (rw (�
 
 pub returns-clause-rising : goal.returns-clause-rising
 returns-clause-rising c = IsRising-set_of _ _
+
+pub returns-clause-there : goal.returns-clause-there
+returns-clause-there c = rw (← c.self.view_is) (there-put _ _ _ _ (rw (← c.self.view_is) at c.requires) c.set.ensures)
+
+pub returns-clause-fresh : goal.returns-clause-fresh
+returns-clause-fresh c = rw (← c.self.view_is) (fresh-put _ _ _ _ (rw (← c.self.view_is) at c.requires) c.set.ensures)
+
+pub returns-clause-most : goal.returns-clause-most
+returns-clause-most c = rw (← c.self.view_is) (most-put _ _ _ _ (rw (← c.self.view_is) at c.requires) c.set.ensures)

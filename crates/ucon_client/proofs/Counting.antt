@@ -1,0 +1,76 @@
+-- One answer more, and the parts of all clients.
+use Rattle.std.proofs.Common.{◌≡◌, ◌↔◌, ℕ, zero, suc, ◌<◌, List, [], ◌∷◌, ◌++◌, Option, Some, None, Result, Ok, Err, map, length, get_or, refl, sym, ap, ◌∙◌, subst, arith}
+use Rattle.std.specs.Prelude.{IsSome, IfOk, IsErrOf}
+use Rattle.ucon_base.specs.Elements.{Each}
+use Rattle.ucon_model.specs.declared.command.Entry.{Entry}
+use Rattle.ucon_model.specs.Plain.{PlainPolicy}
+use Rattle.ucon_model.specs.Spelling.{reply_spelling}
+use Rattle.ucon_script.specs.declared.document.Line.{Line}
+use Rattle.ucon_client.specs.declared.store.Placed.{Placed}
+use Rattle.ucon_client.specs.declared.store.StepFault.{StepFault}
+use Rattle.ucon_client.specs.declared.store.StepFault.TheVariants as faults
+use Rattle.ucon_client.specs.declared.answer.Answer.{Answer}
+use Rattle.ucon_client.specs.Kept.{Kept, IsPlaced, HasFailed}
+use Rattle.ucon_client.specs.Answers.{entry_of, answer_of, answered_by}
+use Rattle.ucon_client.specs.Clients.{Stepped, answered}
+
+-- ---- what a step answers
+
+no_mark : (mark : Option Entry) → (IsSome mark → ⊥) → mark ≡ None
+no_mark None none = refl
+no_mark (Some e) none = absurd (none refl)
+
+-- a step's answer, from what the store says of it
+pub answers_step : (policy : Option PlainPolicy) (P : PlainPolicy) → policy ≡ Some P → (old new : Kept) (e : Entry) (said_by : Result Placed StepFault)
+    → (IsErrOf said_by faults.Stopped ↔ IsSome old.mark)
+    → IfOk said_by (λ p. (Q : PlainPolicy) → policy ≡ Some Q → IsPlaced Q old new e p)
+    → (IsErrOf said_by faults.NoMemory → new ≡ old)
+    → (IsErrOf said_by faults.Stopped → new ≡ old)
+    → (IsErrOf said_by faults.DiskFault → (Q : PlainPolicy) → policy ≡ Some Q → HasFailed Q old new e)
+    → Stepped P e old.entries old.mark new.entries new.mark (answer_of (answered_by said_by))
+answers_step policy P is old new e (Ok p) stopped placed no_memory still failed =
+    let h = placed P is in
+    let none : old.mark ≡ None = no_mark old.mark (λ some. let no : Ok p ≡ Err faults.Stopped = stopped.1 some in absurd (cc no)) in
+    (none, ap reply_spelling h.reply, h.place, h.entries, h.unmarked)
+answers_step policy P is old new e (Err faults.NoMemory) stopped placed no_memory still failed =
+    let none : old.mark ≡ None = no_mark old.mark (λ some. let no : Err faults.NoMemory ≡ Err faults.Stopped = stopped.1 some in absurd (cc no)) in
+    let same : new ≡ old = no_memory refl in
+    (none, ap (λ (s : Kept). s.entries) same, ap (λ (s : Kept). s.mark) same ∙ none)
+answers_step policy P is old new e (Err faults.DiskFault) stopped placed no_memory still failed =
+    let h = failed refl P is in
+    let none : old.mark ≡ None = no_mark old.mark (λ some. let no : Err faults.DiskFault ≡ Err faults.Stopped = stopped.1 some in absurd (cc no)) in
+    (none, h.would_change, h.entries, h.mark)
+answers_step policy P is old new e (Err faults.Stopped) stopped placed no_memory still failed =
+    let same : new ≡ old = still refl in
+    (stopped.0 refl, ap (λ (s : Kept). s.entries) same, ap (λ (s : Kept). s.mark) same)
+
+-- ---- one answer more
+
+pub answered_none : (lines : List Entry) → answered lines [] ≡ []
+answered_none [] = refl
+answered_none (line ∷ lines) = refl
+
+pub answered_next : (lines : List Line) (answers : List Answer) (line : Line) (a : Answer) → length answers < length lines → line ≡ get_or lines (length answers) line
+    → answered (map entry_of lines) (map answer_of (answers ++ a ∷ []))
+    ≡ answered (map entry_of lines) (map answer_of answers) ++ record { line = entry_of line; answer = answer_of a } ∷ []
+answered_next [] answers line a lt is = absurd (omega arith)
+answered_next (l ∷ lines) [] line a lt is = λ i. record { line = entry_of (sym is i); answer = answer_of a } ∷ answered_none (map entry_of lines) i
+answered_next (l ∷ lines) (b ∷ answers) line a lt is =
+    ap (λ told. record { line = entry_of l; answer = answer_of b } ∷ told) (answered_next lines answers line a (omega arith) is)
+
+-- the line at a place is the client's
+pub line_at : (Q : Line → Type 0) (lines : List Line) (n : ℕ) (line : Line) → n < length lines → line ≡ get_or lines n line → Each Q lines → Q line
+line_at Q [] n line lt is h = absurd (omega arith)
+line_at Q (l ∷ lines) zero line lt is h = subst Q (sym is) h.0
+line_at Q (l ∷ lines) (suc n) line lt is h = line_at Q lines n line (omega arith) is h.1
+
+-- ---- all parts
+
+-- lists that agree in each place, by a view
+pub same_by_place : {X Y : Type 0} (f : X → Y) (xs ys : List X) → length ys ≡ length xs
+    → ((k : ℕ) (d : X) → k < length xs → f (get_or ys k d) ≡ f (get_or xs k d)) → map f ys ≡ map f xs
+same_by_place f [] [] long h = refl
+same_by_place f [] (y ∷ ys) long h = absurd (omega (arith, long))
+same_by_place f (x ∷ xs) [] long h = absurd (omega (arith, long))
+same_by_place f (x ∷ xs) (y ∷ ys) long h =
+    λ i. h 0 x (omega arith) i ∷ same_by_place f xs ys (omega (arith, long)) (λ k d lt. h (suc k) d (omega (arith, lt))) i

@@ -1,0 +1,12 @@
+pub mod Seats
+pub mod Placing
+pub mod Listing
+pub mod Stepping
+pub mod OneClient
+pub mod Joining
+pub mod Together
+pub mod Counting
+pub mod Starting
+pub mod Parts
+pub mod Ending
+pub mod Divided

@@ -1,0 +1,52 @@
+use Rattle.std.proofs.Common.{rules, ◌≡◌, ◌+◌, All, [], ◌∷◌, ◌++◌, map, length, arith, ap, sym, ◌∙◌, subst}
+use Rattle.std.proofs.lemmas.List.{append_assoc, length_push, map-append}
+use Rattle.std.proofs.lemmas.List.Elements.{All-push}
+use Rattle.ucon_turn.specs.Lists.{Has}
+use Rattle.ucon_client.specs.declared.client.Client.{Client}
+use Rattle.ucon_client.specs.declared.part.Part.{Part}
+use Rattle.ucon_client.specs.Answers.{IsPart, Serves, number}
+use Rattle.ucon_client.specs.Clients.{AreRising}
+use Rattle.ucon_client.proofs.Parts.{seat_number, below_next, given_more}
+use Rattle.ucon_base.specs.Elements.{Each, each_parts}
+use Rattle.ucon_client.proofs.serving.seat_all.Goals as goal
+
+pub split-token-requires-clause-above : goal.split-token-requires-clause-above
+split-token-requires-clause-above g c =
+    let i = c.loop-part.invariant in
+    let part : Part = c.in-Some.part in
+    let done = c.loop-part.yielded in
+    let rest = c.next.new.self.rest.items in
+    let parts : c.args.parts.items ≡ done ++ part ∷ rest = i.parts ∙ ap (λ l. done ++ l) c.in-Some.ensures.steps.0 in
+    (omega arith, below_next done part rest c.loop-part.seat.given (subst (λ l. AreRising (map number l)) parts c.requires.rising) i.given)
+
+pub new-requires-clause-part : goal.new-requires-clause-part
+new-requires-clause-part g c =
+    let i = c.loop-part.invariant in
+    let done = c.loop-part.yielded in
+    let rest = c.next.new.self.rest.items in
+    let parts : c.args.parts.items ≡ done ++ c.in-Some.part ∷ rest = i.parts ∙ ap (λ l. done ++ l) c.in-Some.ensures.steps.0 in
+    let fresh : Part → Type 0 = λ p. IsPart p × (p.answers.items ≡ []) in
+    (each_parts fresh done (c.in-Some.part ∷ rest) (subst (Each fresh) parts c.requires.parts)).1.0
+
+pub loop-part-preserved : goal.loop-part-preserved
+loop-part-preserved g c =
+    let i = c.loop-part.invariant in
+    let s = c.split-token.ensures in
+    let C : Type 0 = Client g.row.K.Denot in
+    let client : C = c.new.result in
+    let part : Part = c.in-Some.part in
+    let done = c.loop-part.yielded in
+    let rest = c.next.new.self.rest.items in
+    let opened = c.args.turn.now.opened in
+    let Fair : C → Type 0 = λ d. Serves (g.K.Keeper.accepted opened.policy) opened.entries c.args.turn.now d.part d.seat in
+    let parts : c.args.parts.items ≡ done ++ part ∷ rest = i.parts ∙ ap (λ l. done ++ l) c.in-Some.ensures.steps.0 in
+    let long : length (done ++ part ∷ []) ≡ length done + 1 = length_push done part in
+    let items : c.push_reserved.new.self.items ≡ c.loop-part.clients.items ++ client ∷ [] = c.push_reserved.ensures.items in
+    record {
+      turn = (s.turn.0, s.kept.0, s.kept.2 ∙ i.turn.2, s.kept.1 ∙ i.turn.3);
+      given = subst (Each (Has (map seat_number (done ++ part ∷ [])))) (sym s.given) (given_more done part c.loop-part.seat.given i.given);
+      serves = subst (All Fair) (sym items) (All-push Fair c.loop-part.clients.items client i.serves c.new.ensures.serves);
+      seated = ap (map (λ (d : C). d.part)) items ∙ (map-append (λ (d : C). d.part) c.loop-part.clients.items (client ∷ []) ∙ (λ j. i.seated j ++ c.new.ensures.client.0 j ∷ []));
+      parts = parts ∙ sym (append_assoc done (part ∷ []) rest);
+      room = search rules;
+    }

@@ -1,0 +1,109 @@
+use Rattle.std.proofs.Common.{rules, ◌≡◌, ◌++◌, List, map, length, take, drop, ap, sym, ◌∙◌, subst}
+use Rattle.std.proofs.lemmas.List.{take_at}
+use Rattle.ucon_base.specs.Elements.{Each}
+use Rattle.ucon_turn.specs.Lists.{Has}
+use Rattle.ucon_client.specs.declared.client.Client.{Client}
+use Rattle.ucon_client.specs.declared.part.Part.{Part}
+use Rattle.ucon_client.specs.Answers.{IsAnswered, IsPart, asked, number, served_of}
+use Rattle.ucon_client.specs.Clients.{AreRising}
+use Rattle.ucon_client.specs.Kept.{Kept}
+use Rattle.ucon_client.proofs.Ending.{asked_still, rising_still, back_still, each_part, closed_legal, lines_still, clients_told}
+use Rattle.ucon_client.proofs.serving.serve.Goals as goal
+
+pub join_all-requires-clause-rising : goal.join_all-requires-clause-rising
+join_all-requires-clause-rising g c =
+    let C : Type 0 = Client g.row.K.Denot in
+    let part_of : C → Part = λ d. d.part in
+    let old : List C = c.seat_all.new.clients.items in
+    let now : List C = c.serve_all.new.clients in
+    let long : length now ≡ length old = search rules in
+    let whole : take c.seat_all.new.clients.len (now ++ drop (length now) old) ≡ now =
+    take_at now (drop (length now) old) c.seat_all.new.clients.len (long ∙ sym c.seat_all.new.clients.ok.0) in
+    let same : map asked (map part_of now) ≡ map asked c.args.parts.items =
+    asked_still part_of old now c.args.parts.items long (λ k d lt. search rules) c.seat_all.ensures.parts in
+    subst (λ l. AreRising (map number (map part_of l))) (sym whole) (rising_still (map part_of now) c.args.parts.items same c.requires.rising)
+
+pub returns-clause-asked : goal.returns-clause-asked
+returns-clause-asked g c =
+    let C : Type 0 = Client g.row.K.Denot in
+    let part_of : C → Part = λ d. d.part in
+    let old : List C = c.seat_all.new.clients.items in
+    let now : List C = c.serve_all.new.clients in
+    let long : length now ≡ length old = search rules in
+    let whole : take c.seat_all.new.clients.len (now ++ drop (length now) old) ≡ now =
+    take_at now (drop (length now) old) c.seat_all.new.clients.len (long ∙ sym c.seat_all.new.clients.ok.0) in
+    ap (map asked) (c.join_all.ensures.parts ∙ ap (map part_of) whole)
+    ∙ asked_still part_of old now c.args.parts.items long (λ k d lt. search rules) c.seat_all.ensures.parts
+
+pub returns-clause-all : goal.returns-clause-all
+returns-clause-all g c =
+    let C : Type 0 = Client g.row.K.Denot in
+    let part_of : C → Part = λ d. d.part in
+    let old : List C = c.seat_all.new.clients.items in
+    let now : List C = c.serve_all.new.clients in
+    let long : length now ≡ length old = search rules in
+    let whole : take c.seat_all.new.clients.len (now ++ drop (length now) old) ≡ now =
+    take_at now (drop (length now) old) c.seat_all.new.clients.len (long ∙ sym c.seat_all.new.clients.ok.0) in
+    subst (Each IsAnswered) (sym (c.join_all.ensures.parts ∙ ap (map part_of) whole)) (each_part IsAnswered part_of now c.serve_all.ensures.all)
+
+pub close-requires-clause-joined : goal.close-requires-clause-joined
+close-requires-clause-joined g c =
+    let C : Type 0 = Client g.row.K.Denot in
+    let part_of : C → Part = λ d. d.part in
+    let old : List C = c.seat_all.new.clients.items in
+    let now : List C = c.serve_all.new.clients in
+    let long : length now ≡ length old = search rules in
+    let whole : take c.seat_all.new.clients.len (now ++ drop (length now) old) ≡ now =
+    take_at now (drop (length now) old) c.seat_all.new.clients.len (long ∙ sym c.seat_all.new.clients.ok.0) in
+    let same : map asked c.join_all.new.parts.items ≡ map asked c.args.parts.items = ap (map asked) (c.join_all.ensures.parts ∙ ap (map part_of) whole)
+    ∙ asked_still part_of old now c.args.parts.items long (λ k d lt. search rules) c.seat_all.ensures.parts in
+    let taken = c.join_all.new.seat.taken in
+    subst (Each (Has taken)) (sym c.join_all.ensures.turn.2)
+    (back_still c.join_all.new.parts.items c.args.parts.items c.seat_all.new.seat.given taken same c.seat_all.ensures.given c.join_all.ensures.back)
+
+pub returns-clause-legal : goal.returns-clause-legal
+returns-clause-legal g c = λ P is.
+    let opened : Kept = c.in-Ok-open.opened.0.opened in
+    let same : opened ≡ c.args.store = c.in-Ok-open.ensures.turn.0 in
+    (closed_legal P opened c.args.store c.close.result c.join_all.new.seat.seen c.join_all.new.seat.taken (map served_of c.join_all.new.parts.items)
+    same c.requires.unmarked (c.join_all.ensures.joined P (ap (λ (s : Kept). g.K.Keeper.accepted s.policy) same ∙ is)) c.close.ensures.list c.close.ensures.callers).0
+
+pub returns-clause-made : goal.returns-clause-made
+returns-clause-made g c = λ P is.
+    let opened : Kept = c.in-Ok-open.opened.0.opened in
+    let same : opened ≡ c.args.store = c.in-Ok-open.ensures.turn.0 in
+    (closed_legal P opened c.args.store c.close.result c.join_all.new.seat.seen c.join_all.new.seat.taken (map served_of c.join_all.new.parts.items)
+    same c.requires.unmarked (c.join_all.ensures.joined P (ap (λ (s : Kept). g.K.Keeper.accepted s.policy) same ∙ is)) c.close.ensures.list c.close.ensures.callers).1
+
+pub returns-clause-fault : goal.returns-clause-fault
+returns-clause-fault g c = λ P is.
+    let opened : Kept = c.in-Ok-open.opened.0.opened in
+    let same : opened ≡ c.args.store = c.in-Ok-open.ensures.turn.0 in
+    (closed_legal P opened c.args.store c.close.result c.join_all.new.seat.seen c.join_all.new.seat.taken (map served_of c.join_all.new.parts.items)
+    same c.requires.unmarked (c.join_all.ensures.joined P (ap (λ (s : Kept). g.K.Keeper.accepted s.policy) same ∙ is)) c.close.ensures.list c.close.ensures.callers).2
+
+pub returns-clause-lines : goal.returns-clause-lines
+returns-clause-lines g c =
+    let C : Type 0 = Client g.row.K.Denot in
+    let part_of : C → Part = λ d. d.part in
+    let old : List C = c.seat_all.new.clients.items in
+    let now : List C = c.serve_all.new.clients in
+    let long : length now ≡ length old = search rules in
+    let whole : take c.seat_all.new.clients.len (now ++ drop (length now) old) ≡ now =
+    take_at now (drop (length now) old) c.seat_all.new.clients.len (long ∙ sym c.seat_all.new.clients.ok.0) in
+    let is : c.join_all.new.parts.items ≡ map part_of now = c.join_all.ensures.parts ∙ ap (map part_of) whole in
+    lines_still c.join_all.new.parts.items c.args.parts.items
+    (ap (map asked) is ∙ asked_still part_of old now c.args.parts.items long (λ k d lt. search rules) c.seat_all.ensures.parts)
+    (subst (Each IsAnswered) (sym is) (each_part IsAnswered part_of now c.serve_all.ensures.all))
+
+pub returns-clause-clients : goal.returns-clause-clients
+returns-clause-clients g c =
+    let C : Type 0 = Client g.row.K.Denot in
+    let part_of : C → Part = λ d. d.part in
+    let old : List C = c.seat_all.new.clients.items in
+    let now : List C = c.serve_all.new.clients in
+    let long : length now ≡ length old = search rules in
+    let whole : take c.seat_all.new.clients.len (now ++ drop (length now) old) ≡ now =
+    take_at now (drop (length now) old) c.seat_all.new.clients.len (long ∙ sym c.seat_all.new.clients.ok.0) in
+    let is : c.join_all.new.parts.items ≡ map part_of now = c.join_all.ensures.parts ∙ ap (map part_of) whole in
+    clients_told c.join_all.new.parts.items (subst (Each IsPart) (sym is) (each_part IsPart part_of now (λ k d lt. (c.serve_all.ensures.serves k d lt).part)))

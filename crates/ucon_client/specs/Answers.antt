@@ -1,0 +1,96 @@
+-- What a client's lines are answered.
+use Rattle.std.specs.Prelude.{◌≡◌, ℕ, ◌+◌, ◌<◌, ◌≤◌, List, [], ◌∷◌, ◌++◌, map, length, Option, Some, Result, Ok, Err, slice_index_or}
+use Rattle.ucon_base.specs.Elements.{Each}
+use Rattle.ucon_turn.specs.Lists.{Continues, ByOthers}
+use Rattle.ucon_turn.specs.Turns.{Opening, Knowledge, IsSeatOf}
+use Rattle.ucon_model.specs.declared.command.Entry.{Entry}
+use Rattle.ucon_model.specs.Plain.{PlainPolicy}
+use Rattle.ucon_model.specs.Spelling.{reply_spelling}
+use Rattle.ucon_model.specs.Views.{reply_of}
+use Rattle.ucon_model.specs.History.{History}
+use Rattle.ucon_model.specs.LegalRun.{Answer as Told, placed, no_memory, disk_fault, stopped, Answered}
+use Rattle.ucon_script.specs.declared.document.Line.{Line}
+use Rattle.ucon_client.specs.declared.store.Placed.{Placed}
+use Rattle.ucon_client.specs.declared.store.StepFault.{StepFault}
+use Rattle.ucon_client.specs.declared.store.StepFault.TheVariants as faults
+use Rattle.ucon_client.specs.declared.answer.Answer.{Answer}
+use Rattle.ucon_client.specs.declared.answer.Answer.TheVariants as answers
+use Rattle.ucon_client.specs.declared.part.Part.{Part}
+use Rattle.ucon_client.specs.declared.event.Event.{Event}
+use Rattle.ucon_client.specs.Events.{number_of}
+use Rattle.ucon_client.specs.Clients.{Steps, AreRight, answered, Served, told_by}
+
+-- what a line asks, and by whom
+abbrev pub entry_of : Line → Entry
+entry_of l = record { caller = l.caller; command = l.command }
+
+-- the answer to a line, by what its step answered
+abbrev pub answered_by : Result Placed StepFault → Answer
+answered_by (Ok p) = answers.Placed p
+answered_by (Err faults.NoMemory) = answers.NoMemory
+answered_by (Err faults.DiskFault) = answers.DiskFault
+answered_by (Err faults.Stopped) = answers.Stopped
+
+-- an answer without its rows
+abbrev pub answer_of : Answer → Told
+answer_of (answers.Placed p) = placed p.place (reply_spelling (reply_of p.reply))
+answer_of answers.NoMemory = no_memory
+answer_of answers.DiskFault = disk_fault
+answer_of answers.Stopped = stopped
+
+-- a client's lines with their answers
+abbrev pub told_of : Part → List Answered
+told_of p = answered (map entry_of p.lines.items) (map answer_of p.answers.items)
+
+abbrev pub served_of : Part → Served
+served_of p = record { number = p.number; told = told_of p }
+
+-- the lines of all these with their answers, part by part
+abbrev pub told_in : List Part → List Answered
+told_in parts = told_by (map served_of parts)
+
+-- the lines of all these, part by part
+abbrev pub lines_in : List Part → List Entry
+lines_in [] = []
+lines_in (p ∷ parts) = map entry_of p.lines.items ++ lines_in parts
+
+-- a part's number and its lines
+abbrev pub asked : Part → ℕ × List Line
+asked p = (p.number, p.lines.items)
+
+abbrev pub number : Part → ℕ
+number p = p.number
+
+-- they are still the same client's lines
+abbrev pub Keeps : Part → Part → Type 0
+Keeps was now = (now.number ≡ was.number) × (now.lines ≡ was.lines)
+
+-- all of its lines are answered
+abbrev pub IsAnswered : Part → Type 0
+IsAnswered p = length p.answers.items ≡ length p.lines.items
+
+-- the lines are one client's, the first of them are answered, and there is room for the other answers
+pub record IsPart (p : Part) : Type 0 where
+  pub few : p.number < 64
+  pub own : Each (λ l. l.caller.0 ≡ p.number) p.lines.items
+  pub first : length p.answers.items ≤ length p.lines.items
+  pub room : length p.lines.items ≤ length p.answers.items + p.answers.spare
+
+-- The seat is one of this turn, and has the client's number plus 1; what the client was answered is right for the list that its seat has
+-- seen, under the policy of the store that was handed in.
+pub record Serves {E : Type 0} (policy : Option PlainPolicy) (opening : History) (turn : Opening E) (p : Part) (seat : Knowledge E Event) : Type 0 where
+  pub seated : IsSeatOf turn seat
+  pub number : seat.number ≡ p.number + 1
+  pub part : IsPart p
+  pub right : (P : PlainPolicy) → policy ≡ Some P → AreRight P p.number opening seat.seen (told_of p)
+
+-- One more line is answered, the next one. Its step found a list that begins with all that the seat had seen, with nothing of its own
+-- behind, and the seat has then seen the list that the step left.
+pub record AnswersOne {E : Type 0} (policy : Option PlainPolicy) (was now : Part) (seat : Knowledge E Event) (seen : List Event) : Type 0 where
+  pub line : Line
+  pub answer : Answer
+  pub before : List Event
+  pub next : line ≡ slice_index_or was.lines.items (length was.answers.items) line
+  pub answers : now.answers.items ≡ was.answers.items ++ answer ∷ []
+  pub others : Continues (ByOthers number_of seat.number seat.taken) seat.seen before
+  pub step : (P : PlainPolicy) → policy ≡ Some P → Steps P (entry_of line) before seen (answer_of answer)

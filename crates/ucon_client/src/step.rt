@@ -1,0 +1,39 @@
+//! A line's step, as what a client does in its turn.
+
+ghost use Rattle.std.specs.Prelude.{◌≡◌, ◌+◌, ◌<◌, Some};
+ghost use Rattle.ucon_model.specs.Plain.{PlainPolicy};
+ghost use Rattle.ucon_client.specs.Answers.{entry_of, answer_of};
+ghost use Rattle.ucon_client.specs.Clients.{Steps};
+
+use crate::answer::Answer;
+use crate::store::{Keeper, Store};
+use std::alloc::Global;
+use ucon_model::texts_tell_changes;
+use ucon_script::Line;
+use ucon_turn::Job;
+
+/// The step of one line.
+#[derive(Drop)]
+pub(crate) struct Step<'a> {
+    pub alloc: Global,
+    pub line: &'a Line,
+    ghost few: { line.now.caller.0 < 64 },
+}
+
+impl<K: Keeper> Job<Store<K>> for Step<'_> {
+    type Answer = Answer;
+
+    ghost by = { λ j. j.line.now.caller.0 + 1 };
+
+    ghost did = { λ j b before after said k. (P : PlainPolicy) → K.accepted b.policy ≡ Some P
+        → Steps P (entry_of j.line.now) before after (answer_of said) };
+
+    fn number(&self) -> u32 {
+        self.line.caller.0 as u32 + 1
+    }
+
+    fn run(&mut self, store: &mut Store<K>) -> Answer {
+        texts_tell_changes();
+        Answer::from(store.step(self.alloc, self.line.caller, &self.line.command))
+    }
+}

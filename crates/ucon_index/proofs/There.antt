@@ -1,0 +1,23 @@
+-- A session stands at a place where it has an item.
+use Rattle.std.proofs.Common.{◌≡◌, ℕ, ◌<◌, length, Some, None, Option, is_some, true, sym, subst, arith}
+use Rattle.ucon_links.specs.Lists.{Lists, first_or, list_at}
+use Rattle.ucon_index.specs.Dependents.{Place, has_session, is_there}
+use Rattle.ucon_index.specs.Tables.{places_from, IsPaired}
+use Rattle.ucon_index.proofs.Weights.{Spot}
+use Rattle.ucon_index.proofs.Rows.{places-at}
+use Rattle.ucon_index.proofs.Standing.{has_session-there}
+use Rattle.ucon_index.proofs.Stack.{gone-not_there, no_items-gone}
+use Rattle.ucon_index.proofs.Hiding.{next_item, no_first}
+use Rattle.ucon_index.proofs.Added.{there_at}
+
+there_spot : (session node : ℕ) (places : Lists) → Spot places.lists node session → is_there session (places_from 0 places.lists places.hidden) ≡ true
+there_spot session node places spot =
+    there_at session (places_from 0 places.lists places.hidden) spot.place
+    (subst (λ (p : Place). has_session session p.listed ≡ true) (sym (places-at 0 places.lists places.hidden spot.place spot.place (omega arith) spot.within))
+    (subst (λ xs. has_session session xs ≡ true) (sym spot.there) (has_session-there session node spot.front spot.back)))
+
+pub there_is : (session : ℕ) (places sessions : Lists) (first : Option ℕ) → IsPaired places sessions → session < length sessions.lists → first ≡ first_or None (list_at sessions.lists session) → is_some first ≡ is_there session (places_from 0 places.lists places.hidden)
+there_is session places sessions None paired within is = sym (gone-not_there session (places_from 0 places.lists places.hidden) (no_items-gone session places sessions paired (no_first (list_at sessions.lists session) is)))
+there_is session places sessions (Some item) paired within is =
+    let next = next_item session item places sessions paired within is in
+    sym (there_spot session next.node places next.spot)

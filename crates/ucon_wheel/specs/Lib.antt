@@ -1,0 +1,4 @@
+pub mod Deadlines
+pub mod Lines
+pub mod Marks
+pub mod Wheel

@@ -1,0 +1,257 @@
+//! Pairs as linked lists: all of them in order, and those of each session.
+
+ghost use Rattle.std.specs.Prelude.{◌≡◌, ℕ, List, ◌+◌, ◌-◌, ◌^◌, ◌<◌, ◌≤◌, [], ◌∷◌, ◌++◌, length, vec_len, Some, slice_set, IfOk, OnOk, OnErr, IsTrue, ◌↔◌};
+ghost use Rattle.ucon_links.specs.Lists.{list_at, node_count, nodes_of, IsListed, IsAbsent, IsDistinct};
+ghost use Rattle.ucon_wheel.specs.Deadlines.{pair_cmp, first};
+ghost use Rattle.ucon_wheel.specs.Lines.{Has, HasPair, HasNext, IsKnown, IsItemOf, IsNodeOf, deadline_at, without_pair, put_before};
+ghost use Rattle.std.specs.List.Sorted.{IsStrictlySortedBy};
+
+use std::alloc::{AllocError, Global};
+use std::marker::Model;
+use ucon_base::NoMemory;
+use ucon_links::{Links, NodeId, nodes_stand_where_listed};
+
+/// A deadline, in ticks.
+#[derive(Clone, Copy)]
+pub struct Deadline {
+    pub tick: i64,
+}
+
+impl Deadline {
+    fn of(pair: (i64, u32)) -> Deadline
+        ensures { result.tick ≡ pair.0 }
+    {
+        Deadline { tick: pair.0 }
+    }
+
+    fn is_of(self, pair: (i64, u32)) -> bool
+        ensures { IsTrue result ↔ (self.tick ≡ pair.0) }
+    {
+        self.tick == pair.0
+    }
+
+    fn pair(self, session: u32) -> (i64, u32)
+        ensures { result ≡ (self.tick, session) }
+    {
+        (self.tick, session)
+    }
+}
+
+// Puts a node in front of another one of the first list.
+fn link_before(links: &mut Links, next: NodeId, owner: u32) -> NodeId
+    requires room { 1 ≤ links.old.spare }
+    requires listed { HasPair (list_at links.old.lists 0) next }
+    ensures fresh { IsAbsent result (nodes_of links.old) }
+    ensures within { result < node_count links.old + links.old.spare }
+    ensures linked { (front back : List (ℕ × ℕ)) (old : ℕ) → list_at links.old.lists 0 ≡ front ++ (next, old) ∷ back
+        → links.new ≡ record links.old { lists = slice_set links.old.lists 0 (front ++ (result, owner) ∷ (next, old) ∷ back); spare = links.old.spare - 1 } }
+    ensures distinct { IsDistinct (nodes_of links.old) }
+{
+    nodes_stand_where_listed();
+    links.nodes_are_distinct();
+    match links.previous(next) {
+        Some(previous) => links.link_after(previous, owner),
+        None => links.link(0, owner),
+    }
+}
+
+// The item of a pair in its session's list.
+fn item_of(own: &Links, deadlines: &[Deadline], pair: (i64, u32)) -> NodeId
+    requires { IsKnown own.now deadlines.now (Some pair) }
+    ensures item { IsItemOf own.now deadlines.now pair result }
+    ensures distinct { IsDistinct (nodes_of own.now) }
+{
+    nodes_stand_where_listed();
+    let mut at = own.first(pair.1);
+    while let Some(item) = at {
+        let node = own.owner(item);
+        let there = deadlines[node as usize];
+        if there.is_of(pair) {
+            return item;
+        }
+        at = own.next(item);
+    }
+    unreachable!()
+}
+
+// The node of a pair that has one, or the end.
+fn node_of(own: &Links, deadlines: &[Deadline], end: NodeId, next: Option<(i64, u32)>) -> NodeId
+    requires { IsKnown own.now deadlines.now next }
+    ensures { IsNodeOf own.now deadlines.now end next result }
+{
+    nodes_stand_where_listed();
+    match next {
+        Some(pair) => own.owner(item_of(own, deadlines, pair)),
+        None => end,
+    }
+}
+
+/// Pairs of a deadline and a session, all of them in one list and those of each session in one of its own.
+#[derive(Drop)]
+pub struct Lines {
+    // One list: the pairs in order, each a node that its session owns, and behind them the end.
+    order: Links,
+    // A list for each session: items that its nodes in `order` own.
+    own: Links,
+    // The deadline of each node in `order`.
+    deadlines: Vec<Deadline>,
+    // The node behind all pairs.
+    end: NodeId,
+}
+
+impl Model for Lines {
+    ghost use Rattle.ucon_wheel.specs.Lines.{Linked};
+
+    ghost Value = { Linked };
+
+    ghost use Rattle.ucon_wheel.specs.Lines.{linked, IsSound};
+
+    ghost view = { λ l. linked l.order l.own l.deadlines.items };
+
+    ghost invariant = { λ l. IsSound l.order l.own l.deadlines.items l.end };
+}
+
+// Whether so many more nodes can be numbered.
+fn has_numbers(links: &Links, n: u32) -> bool
+    ensures { IsTrue result ↔ (node_count links.now + n < 2 ^ 32 - 1) }
+{
+    u64::from(links.node_count()) + u64::from(n) < u64::from(u32::MAX)
+}
+
+// Makes the deadlines at least so many.
+fn lengthen(deadlines: &mut Vec<Deadline>, n: usize) -> Result<(), NoMemory>
+    ensures kept { (node : ℕ) → deadline_at deadlines.new.items node ≡ deadline_at deadlines.old.items node }
+    ensures len { vec_len deadlines.old ≤ vec_len deadlines.new }
+    ensures ok { OnOk result (n ≤ vec_len deadlines.new) }
+{
+    while deadlines.len() < n {
+        deadlines.push(Deadline { tick: 0 })?;
+    }
+    Ok(())
+}
+
+impl Lines {
+    /// No pairs.
+    pub fn new(alloc: Global) -> Result<Lines, NoMemory>
+        ensures pairs { IfOk result (λ l. l.pairs ≡ []) }
+    {
+        let mut order = Links::new(alloc, 1)?;
+        order.reserve(1)?;
+        let mut deadlines = Vec::new(alloc);
+        lengthen(&mut deadlines, order.spare() as usize)?;
+        let own = Links::new(alloc, 0)?;
+        let end = order.link(0, 0);
+        Ok(Lines {
+            order,
+            own,
+            deadlines,
+            end,
+        })
+    }
+
+    // Lists for the sessions below this number.
+    fn grow(&mut self, sessions: u32) -> Result<(), NoMemory>
+        ensures kept { self.new ≡ record self.old { sessions = self.new.sessions } }
+        ensures more { self.old.sessions ≤ self.new.sessions }
+        ensures ok { OnOk result (sessions ≤ self.new.sessions) }
+    {
+        let more = sessions.saturating_sub(self.own.list_count());
+        self.own.more_lists(more)
+    }
+
+    // Room for so many items.
+    fn reserve_items(&mut self, n: u32) -> Result<(), NoMemory>
+        ensures kept { self.new ≡ record self.old { item_spare = self.new.item_spare } }
+        ensures more { self.old.item_spare ≤ self.new.item_spare }
+        ensures ok { OnOk result (n ≤ self.new.item_spare) }
+    {
+        if !has_numbers(&self.own, n) {
+            return Err(NoMemory::from(AllocError));
+        }
+        self.own.reserve(n)
+    }
+
+    // Room for so many nodes, and a deadline for each.
+    fn reserve_nodes(&mut self, n: u32) -> Result<(), NoMemory>
+        ensures kept { self.new ≡ record self.old { spare = self.new.spare } }
+        ensures more { self.old.spare ≤ self.new.spare }
+        ensures ok { OnOk result (n ≤ self.new.spare) }
+    {
+        if !has_numbers(&self.order, n) {
+            return Err(NoMemory::from(AllocError));
+        }
+        let nodes = self.order.node_count() as usize + self.order.spare().max(n) as usize;
+        lengthen(&mut self.deadlines, nodes)?;
+        self.order.reserve(n)
+    }
+
+    /// Makes room for so many more pairs, of sessions below this number.
+    pub fn reserve(&mut self, n: u32, sessions: u32) -> Result<(), NoMemory>
+        ensures pairs { self.new.pairs ≡ self.old.pairs }
+        ensures sessions { self.old.sessions ≤ self.new.sessions }
+        ensures spare { self.old.spare ≤ self.new.spare }
+        ensures item_spare { self.old.item_spare ≤ self.new.item_spare }
+        ensures room { OnOk result (n ≤ self.new.spare) }
+        ensures item_room { OnOk result (n ≤ self.new.item_spare) }
+        ensures numbers { OnOk result (sessions ≤ self.new.sessions) }
+    {
+        self.grow(sessions)?;
+        self.reserve_items(n)?;
+        self.reserve_nodes(n)
+    }
+
+    /// Puts a pair in front of `next`, or behind all.
+    pub fn insert(&mut self, pair: (i64, u32), next: Option<(i64, u32)>)
+        requires room { 1 ≤ self.old.spare }
+        requires item_room { 1 ≤ self.old.item_spare }
+        requires session { pair.1 < self.old.sessions }
+        requires next { HasNext self.old.pairs next }
+        requires ordered { IsStrictlySortedBy pair_cmp self.old.pairs }
+        ensures { self.new ≡ record {
+          pairs = put_before next pair self.old.pairs;
+          sessions = self.old.sessions;
+          spare = self.old.spare - 1;
+          item_spare = self.old.item_spare - 1;
+        } }
+    {
+        let behind = node_of(&self.own, &self.deadlines, self.end, next);
+        let node = link_before(&mut self.order, behind, pair.1);
+        self.own.link(pair.1, node);
+        self.deadlines[node as usize] = Deadline::of(pair);
+    }
+
+    /// Takes a pair out.
+    pub fn remove(&mut self, pair: (i64, u32))
+        requires there { Has self.old.pairs pair }
+        requires ordered { IsStrictlySortedBy pair_cmp self.old.pairs }
+        ensures removed { self.new ≡ record {
+          pairs = without_pair pair self.old.pairs;
+          sessions = self.old.sessions;
+          spare = self.old.spare + 1;
+          item_spare = self.old.item_spare + 1;
+        } }
+        ensures session { pair.1 < self.old.sessions }
+    {
+        nodes_stand_where_listed();
+        self.order.nodes_are_distinct();
+        let item = item_of(&self.own, &self.deadlines, pair);
+        let node = self.own.owner(item);
+        self.own.unlink(item);
+        self.order.unlink(node);
+    }
+
+    /// The first pair.
+    pub fn first(&self) -> Option<(i64, u32)>
+        ensures { result ≡ first self.now.pairs }
+    {
+        nodes_stand_where_listed();
+        let Some(node) = self.order.first(0) else {
+            return None;
+        };
+        if node == self.end {
+            return None;
+        }
+        let deadline = self.deadlines[node as usize];
+        Some(deadline.pair(self.order.owner(node)))
+    }
+}

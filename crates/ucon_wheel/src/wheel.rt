@@ -1,0 +1,220 @@
+//! Deadlines of sessions in order.
+
+ghost use Rattle.std.specs.Prelude.{◌≡◌, ◌↔◌, is_some, ◌-◌, ◌<◌, ◌≤◌, [], length, IfOk, OnOk, OnErr, IsTrue, None};
+ghost use Rattle.std.specs.List.Sorted.{IsStrictlySortedBy};
+ghost use Rattle.ucon_wheel.specs.Lines.{without_pair};
+ghost use Rattle.ucon_wheel.specs.Deadlines.{Pair, Deadlines, state_of, IsShown, pair_cmp, put, with_pair, take_back, hide, unhide, forget_hidden, shown, first_behind, due, first_of};
+
+use crate::lines::Lines;
+use crate::marks::Marks;
+use std::alloc::{AllocError, Global};
+use std::marker::Model;
+use ucon_base::{Int, NoMemory};
+
+fn pair_of(session: u32, deadline: i64) -> (i64, u32)
+    ensures { result ≡ (deadline, session) }
+{
+    (deadline, session)
+}
+
+fn deadline_of(pair: (i64, u32)) -> i64
+    ensures { result ≡ pair.0 }
+{
+    pair.0
+}
+
+// Room in the lists for a pair of the session, beside those that are hidden.
+fn make_room(marks: &Marks, lines: &mut Lines, session: u32) -> Result<(), NoMemory>
+    ensures pairs { lines.new.pairs ≡ lines.old.pairs }
+    ensures sessions { lines.old.sessions ≤ lines.new.sessions }
+    ensures spare { lines.old.spare ≤ lines.new.spare }
+    ensures item_spare { lines.old.item_spare ≤ lines.new.item_spare }
+    ensures room { OnOk result (length marks.now.hidden < lines.new.spare) }
+    ensures item_room { OnOk result (length marks.now.hidden < lines.new.item_spare) }
+    ensures session { OnOk result (session < lines.new.sessions) }
+{
+    let hidden = marks.hidden_count();
+    if hidden >= u32::MAX as usize || session == u32::MAX {
+        return Err(NoMemory::from(AllocError));
+    }
+    lines.reserve(hidden as u32 + 1, session + 1)
+}
+
+// Puts a pair that is shown into the lists.
+fn enter(marks: &Marks, lines: &mut Lines, pair: (i64, u32))
+    requires is_shown { IsShown marks.now pair }
+    requires lacking { lines.old.pairs ≡ without_pair pair (shown marks.now) }
+    requires room { 0 < lines.old.spare }
+    requires item_room { 0 < lines.old.item_spare }
+    requires session { pair.1 < lines.old.sessions }
+    ensures entered { lines.new ≡ record {
+      pairs = shown marks.now;
+      sessions = lines.old.sessions;
+      spare = lines.old.spare - 1;
+      item_spare = lines.old.item_spare - 1;
+    } }
+    ensures ordered { IsStrictlySortedBy pair_cmp (shown marks.now) }
+{
+    let next = marks.first_behind(Some(pair));
+    lines.insert(pair, next);
+}
+
+/// Pairs of a deadline and a session, the earliest first. A hidden pair keeps its place.
+#[derive(Drop)]
+pub struct Wheel {
+    // Which pairs there are, and which of them are hidden.
+    marks: Marks,
+    // Those that aren't hidden, as linked lists. They have room for the hidden ones.
+    lines: Lines,
+}
+
+impl Model for Wheel {
+    ghost use Rattle.ucon_wheel.specs.Deadlines.{Deadlines};
+
+    ghost Value = { Deadlines };
+
+    ghost use Rattle.ucon_wheel.specs.Wheel.{IsSound};
+
+    ghost view = { λ w. w.marks };
+
+    ghost invariant = { λ w. IsSound w.marks w.lines };
+}
+
+impl Wheel {
+    /// No pairs.
+    pub fn new(alloc: Global) -> Result<Wheel, NoMemory>
+        ensures { IfOk result (λ w. w ≡ record { pairs = []; hidden = [] }) }
+    {
+        Ok(Wheel {
+            marks: Marks::new(alloc),
+            lines: Lines::new(alloc)?,
+        })
+    }
+
+    /// Whether the pair is there and not hidden.
+    pub fn has(&self, session: u32, deadline: i64) -> bool
+        ensures { IsTrue result ↔ IsShown self.now (deadline, session) }
+    {
+        self.marks.has(pair_of(session, deadline))
+    }
+
+    /// Whether the pair is there, hidden or not: the condition of `put`.
+    pub fn is_there(&self, session: u32, deadline: i64) -> bool
+        ensures { result ≡ is_some (state_of self.now (deadline, session)) }
+    {
+        self.marks.is_there(pair_of(session, deadline))
+    }
+
+    /// How many pairs are hidden.
+    pub fn hidden_count(&self) -> usize
+        ensures { result ≡ length self.now.hidden }
+    {
+        self.marks.hidden_count()
+    }
+
+    /// Adds a pair.
+    pub fn put(&mut self, session: u32, deadline: i64) -> Result<(), NoMemory>
+        requires { state_of self.old (deadline, session) ≡ None }
+        ensures ok { OnOk result (self.new ≡ put self.old (deadline, session)) }
+        ensures undone { OnOk result (take_back self.new (deadline, session) ≡ self.old) }
+        ensures err { OnErr result (self.new ≡ self.old) }
+    {
+        let pair = pair_of(session, deadline);
+        make_room(&self.marks, &mut self.lines, session)?;
+        self.marks.put(pair)?;
+        enter(&self.marks, &mut self.lines, pair);
+        Ok(())
+    }
+
+    /// Hides a pair.
+    pub fn hide(&mut self, session: u32, deadline: i64)
+        requires { IsShown self.old (deadline, session) }
+        ensures hidden { self.new ≡ hide self.old (deadline, session) }
+        ensures undone { unhide self.new ≡ self.old }
+    {
+        let pair = pair_of(session, deadline);
+        self.lines.remove(pair);
+        self.marks.hide(pair);
+    }
+
+    /// Shows the pair that was hidden last again.
+    pub fn unhide_last(&mut self)
+        requires { 0 < length self.old.hidden }
+        ensures { self.new ≡ unhide self.old }
+    {
+        let pair = self.marks.unhide_last();
+        enter(&self.marks, &mut self.lines, pair);
+    }
+
+    /// Takes all hidden pairs away.
+    pub fn forget_hidden(&mut self)
+        ensures { self.new ≡ forget_hidden self.old }
+    {
+        self.marks.forget_hidden();
+    }
+
+    /// Takes a pair away: what undoes `put`.
+    pub fn take_back(&mut self, session: u32, deadline: i64)
+        requires { IsShown self.old (deadline, session) }
+        ensures { self.new ≡ take_back self.old (deadline, session) }
+    {
+        let pair = pair_of(session, deadline);
+        self.lines.remove(pair);
+        self.marks.take_back(pair);
+    }
+
+    // Adds a pair where it isn't there.
+    fn put_missing(&mut self, session: u32, deadline: i64) -> Result<(), NoMemory>
+        ensures ok { OnOk result (self.new ≡ with_pair self.old (deadline, session)) }
+        ensures others { (pair : Pair) → IsShown self.old pair → IsShown self.new pair }
+        ensures err { OnErr result (self.new ≡ self.old) }
+    {
+        if self.is_there(session, deadline) {
+            return Ok(());
+        }
+        self.put(session, deadline)
+    }
+
+    /// Lets another deadline stand for one: hides the old pair, and puts the new one where it isn't there already.
+    pub fn move_to(&mut self, session: u32, from: i64, to: i64) -> Result<(), NoMemory>
+        requires { IsShown self.old (from, session) }
+        ensures ok { OnOk result (self.new ≡ hide (with_pair self.old (to, session)) (from, session)) }
+        ensures err { OnErr result (self.new ≡ self.old) }
+    {
+        self.put_missing(session, to)?;
+        self.hide(session, from);
+        Ok(())
+    }
+
+    // The least pair behind `after` that isn't hidden.
+    fn next_behind(&self, after: Option<(i64, u32)>) -> Option<(i64, u32)>
+        ensures first { result ≡ first_behind self.now after }
+        ensures ordered { IsStrictlySortedBy pair_cmp (shown self.now) }
+    {
+        match after {
+            None => self.lines.first(),
+            Some(_) => self.marks.first_behind(after),
+        }
+    }
+
+    /// The least pair behind `after` that isn't hidden, if its deadline is below the tick.
+    pub fn due(&self, tick: Int, after: Option<(i64, u32)>) -> Option<(i64, u32)>
+        ensures due { result ≡ due self.now tick after }
+        ensures ordered { IsStrictlySortedBy pair_cmp (shown self.now) }
+    {
+        let pair = self.next_behind(after)?;
+        if deadline_of(pair) < tick.get() {
+            Some(pair)
+        } else {
+            None
+        }
+    }
+
+    /// The least deadline of a session that isn't hidden.
+    pub fn first_of(&self, session: u32) -> Option<i64>
+        ensures { result ≡ first_of self.now session }
+    {
+        let pair = self.marks.first_of(session)?;
+        Some(deadline_of(pair))
+    }
+}
