@@ -6,7 +6,7 @@ use Rattle.ucon_model.specs.Plain.{Bytes, PlainPolicy}
 use Rattle.ucon_model.specs.Document.{ScriptLine, DocumentRefusal, document_read, entries_of, policy_part}
 use Rattle.ucon_model.specs.Generated.{generated_policy, text_of, generated, generated_entries}
 use Rattle.ucon_model.specs.Spells.{Spells}
-use Rattle.ucon_model.specs.Tokens.{skip, word_token, joined_token, value_from, number_token, text_token, single, symbol_token, token_at, begin_of, token_from, next_token, tokens_within, tokens_from, fault_from, spans_within, spans_from}
+use Rattle.ucon_base.specs.Tokens.{skip, word_token, joined_token, value_from, number_token, text_token, single, symbol_token, token_at, begin_of, token_from, next_token, tokens_within, tokens_from, fault_from, spans_within, spans_from}
 use Rattle.ucon_model.specs.Typing.{is_typed, IsTyped, type_fault}
 use Rattle.ucon_syntax.specs.Chains.{more}
 use Rattle.ucon_syntax.specs.Expressions.{place_at, level, factor_at, term_at, expr_at, round_at}

@@ -34,7 +34,7 @@ syntax_refused laws text P spelled (syntax.TooLong place) h = laws.refused text 
 syntax_refused laws text P spelled (syntax.TooMany place) h = laws.refused text _ place P h spelled
 syntax_refused laws text P spelled (syntax.TooDeep place) h = laws.refused text _ place P h spelled
 syntax_refused laws text P spelled (syntax.Unexpected place) h = laws.refused text _ place P h spelled
-syntax_refused laws text P spelled syntax.NoMemory h = h
+syntax_refused laws text P spelled (syntax.NoMemory e) h = h
 
 no_fault : (found : Option TypeFault) (f : CheckFault) → is_none found ≡ true → option_map told found ≡ Some f → ⊥
 no_fault None f typed h = cc
@@ -53,7 +53,7 @@ policy_refused laws bytes (Typing (checks.WrongReader n)) is h = type_refused la
 policy_refused laws bytes (Typing (checks.WrongKind n)) is h = type_refused laws bytes _ is h
 policy_refused laws bytes (Typing (checks.NotCore right)) is h = type_refused laws bytes _ is h
 policy_refused laws bytes (Typing (checks.TooManyCells right n)) is h = type_refused laws bytes _ is h
-policy_refused laws bytes (Typing checks.NoMemory) is h = h
+policy_refused laws bytes (Typing (checks.NoMemory e)) is h = h
 
 line_refused : (read : Result (List ScriptLine) DocumentRefusal) (lines : List ScriptLine) (n : ℕ) (f : LineFault) → read ≡ Ok lines → IsLineCause n read f → ⊥
 line_refused read ls n (lines.TooLong k) e h = cc
@@ -61,14 +61,14 @@ line_refused read ls n lines.NoWord e h = cc
 line_refused read ls n lines.UnknownWord e h = cc
 line_refused read ls n (lines.WrongCount k) e h = cc
 line_refused read ls n (lines.BadWord p) e h = cc
-line_refused read ls n lines.NoMemory e h = h
+line_refused read ls n (lines.NoMemory want) e h = h
 
 script_refused : (bytes : Bytes) (f : DocFault) → IsAccepted bytes → IsScriptFault f bytes → ⊥
 script_refused bytes (faults.BadHeading n) is h = (let says = is.says in let cause = h.cause in cc)
 script_refused bytes (faults.BadLine n f) is h = line_refused (document_read bytes) is.lines n f is.says h.cause
 script_refused bytes (faults.TooManyClients n) is h = (let says = is.says in let cause = h.cause in cc)
 script_refused bytes (faults.TooManyLines n) is h = (let says = is.says in let cause = h.cause in cc)
-script_refused bytes faults.NoMemory is h = h
+script_refused bytes (faults.NoMemory e) is h = h
 
 pub never_refused : HaveOneReading → (bytes : Bytes) (outcome : Outcome) → IsAccepted bytes → IsRefusedBy outcome bytes → IsUnrefused outcome
 never_refused laws bytes (outcomes.Policy f) is h = policy_refused laws bytes f is h.1
@@ -77,5 +77,5 @@ never_refused laws bytes outcomes.Done is h = tt
 never_refused laws bytes outcomes.Usage is h = tt
 never_refused laws bytes outcomes.SourceFault is h = tt
 never_refused laws bytes outcomes.SinkFault is h = tt
-never_refused laws bytes outcomes.NoMemory is h = tt
+never_refused laws bytes (outcomes.NoMemory e) is h = tt
 never_refused laws bytes outcomes.TooLong is h = tt
