@@ -1,0 +1,9 @@
+pub mod Accepted
+pub mod Begun
+pub mod Differences
+pub mod Finding
+pub mod Openings
+pub mod Recorded
+pub mod Runs
+pub mod Stepping
+pub mod Taking

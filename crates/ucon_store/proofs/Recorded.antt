@@ -1,0 +1,156 @@
+-- What putting a step's record on the disk leaves there.
+use Rattle.std.proofs.Common.{◌≡◌, ◌⊎◌, inl, inr, ⊎_elim, ℕ, ◌≤◌, List, [], ◌∷◌, ◌++◌, length, Option, Some, None, refl, sym, ap, ◌∙◌, subst, true, false, arith, ◌+◌, ◌*◌, map, length-append}
+use Rattle.std.proofs.lemmas.List.{map-append}
+use Rattle.std.specs.Prelude.{is_some, IsSome, IfSome}
+use Rattle.ucon_model.specs.declared.command.Entry.{Entry}
+use Rattle.ucon_model.specs.Plain.{Bytes, PlainPolicy}
+use Rattle.ucon_model.specs.History.{History}
+use Rattle.ucon_model.specs.Found.{taken, found_in, found_on}
+use Rattle.ucon_disk.specs.Disk.{Only}
+use Rattle.ucon_disk.specs.Run.{IsAtRest, LeavesOnly, LeavesAfter, weaker}
+use Rattle.ucon_journal.specs.declared.journal.Journal.{Journal}
+use Rattle.ucon_journal.specs.Journal.{disk_of, gate_of, told_payloads, IsClosed}
+use Rattle.ucon_journal.specs.Found as journalled
+use Rattle.ucon_journal.specs.Opened.{StillHolds, PerhapsAdded}
+use Rattle.ucon_turn.specs.Lists.{Begins, Continues, begins_refl}
+use Rattle.ucon_store.specs.declared.event.Event.TheVariants.{Done, Failed}
+use Rattle.ucon_store.specs.Events.{events, number_of}
+use Rattle.ucon_syntax.specs.Policies.{accepted}
+use Rattle.ucon_store.specs.Found.{Holds, IsFoundAs, IsFoundWith}
+use Rattle.ucon_store.specs.Kept.{Kept, IsAtRestWith}
+use Rattle.ucon_store.specs.Stays.{Stays, IsFoundBetween, stays_same}
+use Rattle.ucon_store.proofs.Finding.{holds_same, holds_more, found_as}
+use Rattle.ucon_disk.specs.Causes.{raised}
+
+abbrev pub OneByOne : Type 0
+OneByOne = (front rest : List Bytes) → found_in accepted (front ++ rest) ≡ found_on accepted (found_in accepted front) (length front) rest
+
+pub told_file : (o : Option Bytes) → IsSome o → (file : Bytes) × (o ≡ Some file)
+told_file None told = absurd (cc told)
+told_file (Some file) told = (file, refl)
+
+pub some_told : (P : Bytes → Type 0) (o : Option Bytes) (file : Bytes) → o ≡ Some file → IfSome o P → P file
+some_told P o file is h = let g : IfSome (Some file) P = subst (λ (x : Option Bytes). IfSome x P) is h in g
+
+-- the payloads of before, or those with the step's, are found as the history, or as it with the step
+pub found_perhaps : OneByOne → (text : Bytes) (P : PlainPolicy) (H : History) (e : Entry) (payload file c : Bytes) → taken P H payload ≡ Some (H ++ e ∷ []) → Holds text P H file
+    → PerhapsAdded payload file c → IsFoundWith text H (Some e) c
+found_perhaps one text P H e payload file c takes h perhaps = ⊎_elim
+    (λ (same : StillHolds file (journalled.counted file) c). inl (found_as text P H c (holds_same text P H file c h same.payloads)))
+    (λ (more : StillHolds file (journalled.counted file ++ payload ∷ []) c). inr (e, refl, found_as text P (H ++ e ∷ []) c (holds_more one text P H e payload file c takes h more.payloads)))
+    perhaps
+
+module _ {D : Type 0} (contents : D → Option (List ℕ)) (images : D → List ℕ → Type 0) where
+  module _ (journal : Journal D) (text : Bytes) (P : PlainPolicy) (H : History) (rest : IsAtRestWith contents images journal text P H) where
+    pub at_rest_as : (file : Bytes) → contents (disk_of journal) ≡ Some file → IsAtRest (contents (disk_of journal)) (images (disk_of journal)) file
+    at_rest_as file is = record { told = is; only = subst (λ (o : Option Bytes). Only o (images (disk_of journal))) is rest.only }
+
+    pub holds_now : (file : Bytes) → contents (disk_of journal) ≡ Some file → Holds text P H file
+    holds_now file is = some_told (Holds text P H) (contents (disk_of journal)) file is rest.holds
+
+    -- at rest a crash leaves the history
+    pub left_at_rest : (mark : Option Entry) → IsSome (contents (disk_of journal)) → (c : Bytes) → images (disk_of journal) c → IsFoundWith text H mark c
+    left_at_rest mark told c image =
+        let f = told_file (contents (disk_of journal)) told in
+        inl (subst (λ (x : Bytes). IsFoundAs text x H) (sym ((at_rest_as f.0 f.1).only c image)) (found_as text P H f.0 (holds_now f.0 f.1)))
+
+    -- and the file as read is found as it
+    pub found_at_rest : IfSome (contents (disk_of journal)) (λ file. IsFoundAs text file H)
+    found_at_rest = each (contents (disk_of journal)) refl
+      where
+        each : (o : Option Bytes) → contents (disk_of journal) ≡ o → IfSome o (λ file. IsFoundAs text file H)
+        each None is = tt
+        each (Some file) is = found_as text P H file (holds_now file is)
+
+    module _ (one : OneByOne) (e : Entry) (payload : Bytes) (takes : taken P H payload ≡ Some (H ++ e ∷ [])) where
+      -- each image inside the call is found as the history, or as it with the step
+      pub run_perhaps : (moment : D → ℕ) (images_since : D → ℕ → List ℕ → Type 0) (new : D) → LeavesAfter contents images moment images_since (disk_of journal) new (PerhapsAdded payload) → IsSome (contents (disk_of journal))
+          → LeavesOnly moment images_since (disk_of journal) new (IsFoundWith text H (Some e))
+      run_perhaps moment images_since new run told =
+          let f = told_file (contents (disk_of journal)) told in
+          weaker moment images_since (disk_of journal) new (PerhapsAdded payload f.0) (IsFoundWith text H (Some e))
+          (λ c. found_perhaps one text P H e payload f.0 c takes (holds_now f.0 f.1)) (run.each f.0 (at_rest_as f.0 f.1))
+
+      -- at Ok the journal is at rest with the step
+      pub at_rest_with : (next : Journal D) → gate_of journal + 5 ≤ gate_of next → IsClosed contents next → Only (contents (disk_of next)) (images (disk_of next)) → is_some (contents (disk_of next)) ≡ is_some (contents (disk_of journal))
+          → IfSome (contents (disk_of journal)) (λ file. told_payloads (contents (disk_of next)) ≡ told_payloads (contents (disk_of journal)) ++ payload ∷ [])
+          → IsAtRestWith contents images next text P (H ++ e ∷ [])
+      at_rest_with next more closed only tells added = record { closed = closed; few = omega (arith, rest.few, length-append H (e ∷ []), more); only = only; holds = each (contents (disk_of journal)) (contents (disk_of next)) refl refl }
+        where
+          each : (o n : Option Bytes) → contents (disk_of journal) ≡ o → contents (disk_of next) ≡ n → IfSome n (Holds text P (H ++ e ∷ []))
+          each None None is now = tt
+          each (Some file) None is now = tt
+          each None (Some c) is now = absurd (let bad : true ≡ false = sym (ap is_some now) ∙ (tells ∙ ap is_some is) in cc bad)
+          each (Some file) (Some c) is now =
+              let more = some_told (λ _. told_payloads (contents (disk_of next)) ≡ told_payloads (contents (disk_of journal)) ++ payload ∷ []) (contents (disk_of journal)) file is added in
+              let more' : journalled.counted c ≡ journalled.counted file ++ payload ∷ [] = sym (ap told_payloads now) ∙ (more ∙ ap (λ (x : Option Bytes). told_payloads x ++ payload ∷ []) is) in
+              holds_more one text P H e payload file c takes (holds_now file is) more'
+
+module _ {D : Type 0} (contents : D → Option (List ℕ)) (images : D → List ℕ → Type 0) (moment : D → ℕ) (images_since : D → ℕ → List ℕ → Type 0) (faults : D → ℕ) (x y : Kept D) (e : Entry) where
+  -- what a step did that put a record on the disk, or met a fault there
+  goes : x.mark ≡ None → y.policy ≡ x.policy → y.opening ≡ x.opening → Begins x.entries y.entries
+      → (is_some y.mark ≡ is_some x.mark → faults y.disk ≡ faults x.disk) → ((a : Entry) → y.mark ≡ Some a → faults y.disk ≡ raised (faults x.disk))
+      → is_some (contents y.disk) ≡ is_some (contents x.disk)
+      → ((c : Bytes) → IsFoundWith x.policy x.entries (Some e) c → IsFoundBetween x y c)
+      → (IsSome (contents x.disk) → LeavesOnly moment images_since x.disk y.disk (IsFoundWith x.policy x.entries (Some e)))
+      → Stays contents images moment images_since faults x y
+  goes none policy opening entries unfailed failed tells found run = record {
+    policy = policy;
+    opening = opening;
+    entries = entries;
+    mark = λ a some. let no : None ≡ Some a = sym none ∙ some in absurd (cc no);
+    unfailed = unfailed;
+    failed = λ _. failed;
+    tells = λ told. tells ∙ told;
+    left = λ told. weaker moment images_since x.disk y.disk (IsFoundWith x.policy x.entries (Some e)) _ (λ c h. inr (found c h)) (run told);
+  }
+
+  -- an entry more
+  pub stays_more : x.mark ≡ None → y.mark ≡ None → y.policy ≡ x.policy → y.opening ≡ x.opening → y.entries ≡ x.entries ++ e ∷ [] → faults y.disk ≡ faults x.disk → is_some (contents y.disk) ≡ is_some (contents x.disk)
+      → (IsSome (contents x.disk) → LeavesOnly moment images_since x.disk y.disk (IsFoundWith x.policy x.entries (Some e))) → Stays contents images moment images_since faults x y
+  stays_more none unmarked policy opening grown unfailed tells run =
+      goes none policy opening (e ∷ [], sym grown) (λ _. unfailed) (λ a some. let no : None ≡ Some a = sym unmarked ∙ some in absurd (cc no)) tells found run
+    where
+      found : (c : Bytes) → IsFoundWith x.policy x.entries (Some e) c → IsFoundBetween x y c
+      found c h = ⊎_elim
+          (λ (old : IsFoundAs x.policy c x.entries).
+          record { history = x.entries; found = subst (λ (t : Bytes). IsFoundAs t c x.entries) (sym policy) old; begun = begins_refl x.entries; within = inl (e ∷ [], sym grown) })
+          (λ (new : (a : Entry) × (Some e ≡ Some a) × IsFoundAs x.policy c (x.entries ++ a ∷ [])).
+          let is : new.0 ≡ e = cc (new.1) in
+          let whole : x.entries ++ new.0 ∷ [] ≡ y.entries = ap (λ (a : Entry). x.entries ++ a ∷ []) is ∙ sym grown in
+          record {
+            history = x.entries ++ new.0 ∷ [];
+            found = subst (λ (t : Bytes). IsFoundAs t c (x.entries ++ new.0 ∷ [])) (sym policy) new.2;
+            begun = (new.0 ∷ [], refl);
+            within = inl (subst (Begins (x.entries ++ new.0 ∷ [])) whole (begins_refl (x.entries ++ new.0 ∷ [])));
+          })
+          h
+
+  -- the mark of an entry
+  pub stays_marked : x.mark ≡ None → y.mark ≡ Some e → y.policy ≡ x.policy → y.opening ≡ x.opening → y.entries ≡ x.entries → faults y.disk ≡ raised (faults x.disk) → is_some (contents y.disk) ≡ is_some (contents x.disk)
+      → (IsSome (contents x.disk) → LeavesOnly moment images_since x.disk y.disk (IsFoundWith x.policy x.entries (Some e))) → Stays contents images moment images_since faults x y
+  stays_marked none marked policy opening same failed tells run =
+      goes none policy opening (subst (Begins x.entries) (sym same) (begins_refl x.entries))
+      (λ alike. absurd (let bad : true ≡ false = sym (ap is_some marked) ∙ (alike ∙ ap is_some none) in cc bad)) (λ _ _. failed) tells found run
+    where
+      found : (c : Bytes) → IsFoundWith x.policy x.entries (Some e) c → IsFoundBetween x y c
+      found c h = ⊎_elim
+          (λ (old : IsFoundAs x.policy c x.entries).
+          record { history = x.entries; found = subst (λ (t : Bytes). IsFoundAs t c x.entries) (sym policy) old; begun = begins_refl x.entries; within = inl (subst (Begins x.entries) (sym same) (begins_refl x.entries)) })
+          (λ (new : (a : Entry) × (Some e ≡ Some a) × IsFoundAs x.policy c (x.entries ++ a ∷ [])).
+          record {
+            history = x.entries ++ new.0 ∷ [];
+            found = subst (λ (t : Bytes). IsFoundAs t c (x.entries ++ new.0 ∷ [])) (sym policy) new.2;
+            begun = (new.0 ∷ [], refl);
+            within = inr (new.0, marked ∙ new.1, ap (λ (l : History). l ++ new.0 ∷ []) (sym same));
+          })
+          h
+
+-- ---- the list of a turn's store
+
+module _ (H : History) (e : Entry) where
+  pub events_more : Continues (λ v. number_of v ≡ e.caller.0 + 1) (events H None) (events (H ++ e ∷ []) None)
+  events_more = (Done e ∷ [], sym (map-append Done H (e ∷ [])), (refl, tt))
+
+  pub events_marked : Continues (λ v. number_of v ≡ e.caller.0 + 1) (events H None) (events H (Some e))
+  events_marked = (Failed e ∷ [], refl, (refl, tt))

@@ -1,0 +1,141 @@
+-- What a crash may leave while a store is opened.
+use Rattle.std.proofs.Common.{◌≡◌, ◌≢◌, ◌⊎◌, inl, inr, ⊎_elim, ℕ, ◌+◌, ◌≤◌, List, [], ◌∷◌, ◌++◌, length, Bool, Option, Some, None, refl, sym, ap, ◌∙◌, subst, false, true, arith}
+use Rattle.std.specs.Prelude.{nat_le, is_some, if◌then◌else◌, IfSome}
+use Rattle.std.specs.Option.{option_map}
+use Rattle.ucon_model.specs.Plain.{Bytes, PlainPolicy}
+use Rattle.ucon_model.specs.History.{History}
+use Rattle.ucon_model.specs.Payload.{most_payload}
+use Rattle.ucon_model.specs.Found.{Finding, fresh}
+use Rattle.ucon_disk.specs.Disk.{Only, SameImages}
+use Rattle.ucon_disk.specs.Run.{IsAtRest, LeavesOnly, LeavesAfter, weaker, joined}
+use Rattle.ucon_journal.specs.Found as journal
+use Rattle.ucon_journal.specs.JournalBytes.{journal_bytes, newest, records}
+use Rattle.ucon_journal.specs.Journal.{told_payloads}
+use Rattle.ucon_journal.specs.Opened.{opened, StillHolds, SamePayloads, PerhapsAdded, Untouched}
+use Rattle.ucon_syntax.specs.Policies.{accepted}
+use Rattle.ucon_store.specs.Found.{finding_of, found, Holds, IsFoundAs, IsForeign, Opens}
+use Rattle.ucon_store.proofs.Finding.{found_as}
+use Rattle.ucon_store.proofs.Openings.{found_fresh, fresh_found, itself_opens, same_opens, mended_opens, made_opens, policy_holds}
+use Rattle.ucon_store.proofs.Recorded.{some_told}
+
+-- ---- a file of at most nine bytes
+
+pub true_or_false : (b : Bool) → (b ≡ true) ⊎ (b ≡ false)
+true_or_false true = inl refl
+true_or_false false = inr refl
+
+at_most : (n : ℕ) → n ≤ 9 → nat_le n 9 ≡ true
+at_most n le = grind arith
+
+short_fresh : (file : Bytes) → nat_le (length file) 9 ≡ true → found file ≡ fresh
+unfolding found
+short_fresh file short = ap (λ b. finding_of (if b then journal.Fresh else if is_some (journal.version_told file) then journal.Holds (journal.payloads_from file 8) (8 + length (records (journal.payloads_from file 8))) else journal.NotJournal)) short
+
+not_foreign : (text file : Bytes) → found file ≡ fresh → IsForeign (found file) text → ⊥
+not_foreign text file is foreign = let no : IsForeign fresh text = subst (λ (f : Finding). IsForeign f text) is foreign in no
+
+untouched_opens : (text file c : Bytes) → Untouched file c → Opens text file c
+untouched_opens text file c h = ⊎_elim
+    (itself_opens text file c)
+    (λ (short : (length file ≤ 9) × (length c ≤ 9)).
+    let is = short_fresh file (at_most (length file) short.0) in
+    same_opens text file c (short_fresh c (at_most (length c) short.1) ∙ sym is) (λ foreign. absurd (not_foreign text file is foreign)))
+    h
+
+-- what opening the journal makes of the bytes
+pub opened_short : (file : Bytes) → nat_le (length file) 9 ≡ true → opened file ≡ journal_bytes newest []
+opened_short file short = ap (λ b. if b then journal_bytes newest [] else file) short
+
+pub opened_long : (file : Bytes) → nat_le (length file) 9 ≡ false → opened file ≡ file
+opened_long file long = ap (λ b. if b then journal_bytes newest [] else file) long
+
+pub found_opened : (file : Bytes) → found (opened file) ≡ found file
+found_opened file = ⊎_elim
+    (λ (short : nat_le (length file) 9 ≡ true). ap found (opened_short file short) ∙ (short_fresh (journal_bytes newest []) refl ∙ sym (short_fresh file short)))
+    (λ (long : nat_le (length file) 9 ≡ false). ap found (opened_long file long))
+    (true_or_false (nat_le (length file) 9))
+
+opened_opens : (text file c : Bytes) → Opens text (opened file) c → Opens text file c
+opened_opens text file c h = record {
+  same = λ H is. h.same H (subst (λ (f : Finding). Rattle.ucon_store.specs.Found.Tells f text H) (sym (found_opened file)) is);
+  untouched = λ foreign. ⊎_elim
+      (λ (short : nat_le (length file) 9 ≡ true). absurd (not_foreign text file (short_fresh file short) foreign))
+      (λ (long : nat_le (length file) 9 ≡ false). h.untouched (subst (λ (f : Finding). IsForeign f text) (sym (found_opened file)) foreign) ∙ opened_long file long)
+      (true_or_false (nat_le (length file) 9));
+}
+
+module _ {D : Type 0} (contents : D → Option (List ℕ)) (images : D → List ℕ → Type 0) (moment : D → ℕ) (images_since : D → ℕ → List ℕ → Type 0) (text : Bytes) where
+  rest_only : (d : D) (file : Bytes) → contents d ≡ Some file → Only (contents d) (images d) → IsAtRest (contents d) (images d) file
+  rest_only d file told only = record { told = told; only = subst (λ (o : Option Bytes). Only o (images d)) told only }
+
+  -- ---- reading
+
+  rest_same : (old new : D) (file : Bytes) → contents new ≡ contents old → SameImages (images old) (images new) → IsAtRest (contents old) (images old) file → IsAtRest (contents new) (images new) file
+  rest_same old new file same images_same rest = record { told = same ∙ rest.told; only = λ c image. rest.only c (images_same.no_more c image) }
+
+  pub read_opens : (old new : D) → LeavesOnly moment images_since old new (images old) → LeavesAfter contents images moment images_since old new (Opens text)
+  read_opens old new run = record { each = λ file rest. weaker moment images_since old new (images old) (Opens text file) (λ c image. itself_opens text file c (rest.only c image)) run }
+
+  pub then_opens : (old mid new : D) → contents mid ≡ contents old → SameImages (images old) (images mid) → LeavesOnly moment images_since old mid (images old)
+      → LeavesAfter contents images moment images_since mid new (Opens text) → LeavesAfter contents images moment images_since old new (Opens text)
+  then_opens old mid new same images_same run next = record {
+    each = λ file rest. joined moment images_since old mid new (Opens text file) ((read_opens old mid run).each file rest) (next.each file (rest_same old mid file same images_same rest));
+  }
+
+  -- ---- mending a journal of this policy
+
+  pub mend_opens : (P : PlainPolicy) (H : History) (old new : D) → IfSome (contents old) (Holds text P H) → LeavesAfter contents images moment images_since old new SamePayloads → LeavesAfter contents images moment images_since old new (Opens text)
+  mend_opens P H old new held run = record {
+    each = λ file rest. weaker moment images_since old new (SamePayloads file) (Opens text file) (λ c. mended_opens text P H file c (some_told (Holds text P H) (contents old) file rest.told held)) (run.each file rest);
+  }
+
+  -- ---- making a journal of this policy
+
+  IsEmpty : Bytes → Type 0
+  IsEmpty file = (journal.counted file ≡ []) × (journal.found file ≢ journal.NotJournal)
+
+  empty_found : (c : Bytes) → journal.counted c ≡ [] → journal.found c ≢ journal.NotJournal → IsFoundAs text c []
+  empty_found c none is = fresh_found text c (found_fresh c is none)
+
+  pub mend_fresh_opens : (old new : D) → IfSome (contents old) (λ file. (journal.counted file ≡ []) × (journal.found file ≢ journal.NotJournal)) → LeavesAfter contents images moment images_since old new SamePayloads
+      → LeavesAfter contents images moment images_since old new (Opens text)
+  mend_fresh_opens old new empty run = record {
+    each = λ file rest.
+        let none = some_told (λ file. (journal.counted file ≡ []) × (journal.found file ≢ journal.NotJournal)) (contents old) file rest.told empty in
+        weaker moment images_since old new (SamePayloads file) (Opens text file)
+        (λ c (still : StillHolds file (journal.counted file) c). made_opens text file c (found_fresh file none.1 none.0) (empty_found c (still.payloads ∙ none.0) still.journal)) (run.each file rest);
+  }
+
+  pub make_opens : (P : PlainPolicy) (old mid new : D) → length text ≤ most_payload → accepted text ≡ Some P
+      → IfSome (contents old) (λ file. (journal.counted file ≡ []) × (journal.found file ≢ journal.NotJournal))
+      → (shut : List ℕ → List ℕ) → contents mid ≡ option_map shut (contents old) → told_payloads (contents mid) ≡ told_payloads (contents old) → Only (contents mid) (images mid)
+      → LeavesAfter contents images moment images_since old mid SamePayloads → LeavesAfter contents images moment images_since mid new (PerhapsAdded text)
+      → LeavesAfter contents images moment images_since old new (Opens text)
+  make_opens P old mid new short accepts empty shut bytes same only mended appended = record {
+    each = λ file rest.
+        let none = some_told (λ file. (journal.counted file ≡ []) × (journal.found file ≢ journal.NotJournal)) (contents old) file rest.told empty in
+        let is = found_fresh file none.1 none.0 in
+        let told : contents mid ≡ Some (shut file) = bytes ∙ ap (option_map shut) rest.told in
+        let nothing : journal.counted (shut file) ≡ [] = sym (ap told_payloads told) ∙ (same ∙ (ap told_payloads rest.told ∙ none.0)) in
+        let opens : (c : Bytes) → PerhapsAdded text (shut file) c → Opens text file c = λ c h. ⊎_elim
+        (λ (still : StillHolds (shut file) (journal.counted (shut file)) c). made_opens text file c is (empty_found c (still.payloads ∙ nothing) still.journal))
+        (λ (more : StillHolds (shut file) (journal.counted (shut file) ++ text ∷ []) c).
+        made_opens text file c is (found_as text P [] c (policy_holds text P c short accepts (more.payloads ∙ ap (λ l. l ++ text ∷ []) nothing))))
+        h in
+        joined moment images_since old mid new (Opens text file) ((mend_fresh_opens old mid empty mended).each file rest)
+        (weaker moment images_since mid new (PerhapsAdded text (shut file)) (Opens text file) opens (appended.each (shut file) (rest_only mid (shut file) told only)));
+  }
+
+  -- ---- from the bytes as they were found
+
+  pub begin_opens : (old mid : D) → LeavesAfter contents images moment images_since old mid Untouched → LeavesAfter contents images moment images_since old mid (Opens text)
+  begin_opens old mid run = record { each = λ file rest. weaker moment images_since old mid (Untouched file) (Opens text file) (λ c. untouched_opens text file c) (run.each file rest) }
+
+  pub whole_opens : (old mid new : D) → LeavesAfter contents images moment images_since old mid Untouched → contents mid ≡ option_map opened (contents old) → Only (contents mid) (images mid)
+      → LeavesAfter contents images moment images_since mid new (Opens text) → LeavesAfter contents images moment images_since old new (Opens text)
+  whole_opens old mid new begun bytes only loaded = record {
+    each = λ file rest.
+        let told : contents mid ≡ Some (opened file) = bytes ∙ ap (option_map opened) rest.told in
+        joined moment images_since old mid new (Opens text file) ((begin_opens old mid begun).each file rest)
+        (weaker moment images_since mid new (Opens text (opened file)) (Opens text file) (λ c. opened_opens text file c) (loaded.each (opened file) (rest_only mid (opened file) told only)));
+  }

@@ -1,0 +1,83 @@
+use Rattle.std.proofs.Common.{rules, ◌≡◌, ◌≢◌, ◌+◌, ◌*◌, ◌<◌, ◌≤◌, ◌∷◌, [], ◌++◌, ℕ, List, length, true, false, Bool, Option, None, Some, Ok, Err, refl, sym, ap, ◌∙◌, subst, arith}
+use Rattle.std.specs.Prelude.{IfSome, option_map}
+use Rattle.ucon_disk.specs.Disk.{Only, SameImages}
+use Rattle.ucon_disk.specs.Run.{LeavesOnly, LeavesAfter}
+use Rattle.ucon_journal.specs.Found.{counted, payloads_from}
+use Rattle.ucon_journal.specs.Found as journalled
+use Rattle.ucon_journal.specs.Journal.{disk_of, gate_of, payload_of, told_payloads}
+use Rattle.ucon_journal.specs.Opened.{opened, shut_at, with_payload, SamePayloads, Untouched}
+use Rattle.ucon_model.specs.Found.{found_in, damaged}
+use Rattle.ucon_model.specs.History.{History}
+use Rattle.ucon_model.specs.Plain.{Bytes, PlainPolicy}
+use Rattle.ucon_syntax.specs.Policies.{accepted}
+use Rattle.ucon_store.specs.Found.{found, Holds, Tells, IsFoundAs, Opens}
+use Rattle.ucon_store.proofs.Openings.{holds_made, holds_moved, none_found}
+use Rattle.ucon_store.proofs.Runs.{mend_fresh_opens, make_opens}
+use Rattle.ucon_store.proofs.opening.make.Goals as goal
+
+pub returns-in_err-mend-clause-images : goal.returns-in_err-mend-clause-images
+returns-in_err-mend-clause-images g c =
+    let contents = g.D.Disk.contents in
+    let images = g.D.Disk.images in
+    let moment = g.D.Disk.moment in
+    let since = g.D.Disk.images_since in
+    let mended = subst (λ (d : g.row.D.Denot). LeavesAfter contents images moment since d (disk_of c.mend.new.self) SamePayloads) c.reserve.ensures.disk c.mend.ensures.images in
+    mend_fresh_opens contents images moment since c.args.policy.now (disk_of c.args.journal.now) (disk_of c.mend.new.self) c.requires.fresh mended
+
+pub returns-in_err-append-clause-images : goal.returns-in_err-append-clause-images
+returns-in_err-append-clause-images g c =
+    let contents = g.D.Disk.contents in
+    let images = g.D.Disk.images in
+    let moment = g.D.Disk.moment in
+    let since = g.D.Disk.images_since in
+    let text = c.args.policy.now in
+    let mended = subst (λ (d : g.row.D.Denot). LeavesAfter contents images moment since d (disk_of c.mend.new.self) SamePayloads) c.reserve.ensures.disk c.mend.ensures.images in
+    let standing = c.in_ok-loaded.ensures.standing in
+    let accepts = sym (ap accepted c.in_ok-loaded.ensures.policy) ∙ standing.accepts in
+    let shut = shut_at (gate_of c.reserve.new.self) in
+    let bytes = subst (λ (d : g.row.D.Denot). contents (disk_of c.mend.new.self) ≡ option_map shut (contents d)) c.reserve.ensures.disk c.in_ok-mend.ensures.bytes in
+    let same = subst (λ (d : g.row.D.Denot). told_payloads (contents (disk_of c.mend.new.self)) ≡ told_payloads (contents d)) c.reserve.ensures.disk c.in_ok-mend.ensures.same in
+    make_opens contents images moment since text standing.P (disk_of c.args.journal.now) (disk_of c.mend.new.self) (disk_of c.append.new.self) (omega (arith, c.in_ok-loaded.ensures.short)) accepts
+    c.requires.fresh shut bytes same c.in_ok-mend.ensures.only mended c.append.ensures.images
+
+pub returns-clause-images : goal.returns-clause-images
+returns-clause-images g c =
+    let contents = g.D.Disk.contents in
+    let images = g.D.Disk.images in
+    let moment = g.D.Disk.moment in
+    let since = g.D.Disk.images_since in
+    let text = c.args.policy.now in
+    let mended = subst (λ (d : g.row.D.Denot). LeavesAfter contents images moment since d (disk_of c.mend.new.self) SamePayloads) c.reserve.ensures.disk c.mend.ensures.images in
+    let standing = c.in_ok-loaded.ensures.standing in
+    let accepts = sym (ap accepted c.in_ok-loaded.ensures.policy) ∙ standing.accepts in
+    let shut = shut_at (gate_of c.reserve.new.self) in
+    let bytes = subst (λ (d : g.row.D.Denot). contents (disk_of c.mend.new.self) ≡ option_map shut (contents d)) c.reserve.ensures.disk c.in_ok-mend.ensures.bytes in
+    let same = subst (λ (d : g.row.D.Denot). told_payloads (contents (disk_of c.mend.new.self)) ≡ told_payloads (contents d)) c.reserve.ensures.disk c.in_ok-mend.ensures.same in
+    make_opens contents images moment since text standing.P (disk_of c.args.journal.now) (disk_of c.mend.new.self) (disk_of c.append.new.self) (omega (arith, c.in_ok-loaded.ensures.short)) accepts
+    c.requires.fresh shut bytes same c.in_ok-mend.ensures.only mended c.append.ensures.images
+
+pub returns-clause-found : goal.returns-clause-found
+returns-clause-found g c =
+    none_found (g.D.Disk.contents (disk_of c.args.journal.now)) c.args.policy.now c.in_ok-loaded.loaded.entries.items c.requires.fresh c.in_ok-loaded.ensures.entries
+
+pub returns-clause-loaded : goal.returns-clause-loaded
+returns-clause-loaded g c =
+    let contents = g.D.Disk.contents in
+    let text = c.args.policy.now in
+    let o = contents (disk_of c.args.journal.now) in
+    let m = contents (disk_of c.mend.new.self) in
+    let n = contents (disk_of c.append.new.self) in
+    let loaded = c.in_ok-loaded.loaded in
+    let standing = c.in_ok-loaded.ensures.standing in
+    let accepts = sym (ap accepted c.in_ok-loaded.ensures.policy) ∙ standing.accepts in
+    let shut = shut_at (gate_of c.reserve.new.self) in
+    let bytes = subst (λ (d : g.row.D.Denot). m ≡ option_map shut (contents d)) c.reserve.ensures.disk c.in_ok-mend.ensures.bytes in
+    let same = subst (λ (d : g.row.D.Denot). told_payloads m ≡ told_payloads (contents d)) c.reserve.ensures.disk c.in_ok-mend.ensures.same in
+    let none : loaded.entries.items ≡ [] = c.in_ok-loaded.ensures.entries in
+    record {
+      standing = standing;
+      few = subst (λ (l : History). 5 * length l ≤ gate_of c.append.new.self) (sym none) (omega arith);
+      holds = holds_moved n n text loaded.policy.items standing.P standing.P [] loaded.entries.items refl c.in_ok-loaded.ensures.policy refl none
+          (holds_made text standing.P o m n shut (with_payload (gate_of c.mend.new.self) text) (omega (arith, c.in_ok-loaded.ensures.short)) accepts c.requires.fresh bytes same
+          c.in_ok-append.ensures.bytes c.in_ok-append.ensures.added);
+    }

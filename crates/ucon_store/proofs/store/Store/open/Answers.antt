@@ -1,0 +1,55 @@
+use Rattle.std.proofs.Common.{rules, ◌≡◌, ◌≢◌, ◌+◌, ◌*◌, ◌<◌, ◌≤◌, ◌∷◌, [], ◌++◌, ℕ, List, length, true, false, Bool, Option, None, Some, Ok, Err, refl, sym, ap, ◌∙◌, subst, arith}
+use Rattle.std.specs.Prelude.{IfSome, option_map}
+use Rattle.ucon_disk.specs.Disk.{Only, SameImages}
+use Rattle.ucon_disk.specs.Run.{LeavesOnly, LeavesAfter}
+use Rattle.ucon_journal.specs.Found.{counted, payloads_from}
+use Rattle.ucon_journal.specs.Found as journalled
+use Rattle.ucon_journal.specs.Journal.{disk_of, gate_of, payload_of, told_payloads}
+use Rattle.ucon_journal.specs.Opened.{opened, shut_at, with_payload, SamePayloads, Untouched}
+use Rattle.ucon_model.specs.Found.{found_in, damaged}
+use Rattle.ucon_model.specs.History.{History}
+use Rattle.ucon_model.specs.Plain.{Bytes, PlainPolicy}
+use Rattle.ucon_syntax.specs.Policies.{accepted}
+use Rattle.ucon_store.specs.Found.{found, Holds, Tells, IsFoundAs, Opens}
+use Rattle.ucon_store.specs.declared.fault.StoreFault.{StoreFault}
+use Rattle.ucon_store.specs.Opening.{HasReason}
+use Rattle.ucon_store.proofs.Begun.{opening_reason, reason_before, found_before, journal_opened}
+use Rattle.ucon_store.proofs.Runs.{begin_opens, whole_opens}
+use Rattle.ucon_store.proofs.store.Store.open.Goals as goal
+
+pub returns-in-Err-clause-reason : goal.returns-in-Err-clause-reason
+returns-in-Err-clause-reason g c =
+    let o = g.D.Disk.contents c.args.disk in
+    let before = g.D.Disk.faults c.args.disk in
+    let now = g.D.Disk.faults c.in-Err.disk in
+    subst (λ (f : StoreFault). HasReason f c.args.policy.now o before now) (sym c.into.ensures)
+    (opening_reason (λ file. g.D.Disk.contents c.in-Err.disk ≡ Some file) c.in-Err.fault c.args.policy.now o before now
+    c.in-Err.ensures.not_journal c.in-Err.ensures.failed c.in-Err.ensures.unfailed_err)
+
+pub returns-in-Err-clause-images_err : goal.returns-in-Err-clause-images_err
+returns-in-Err-clause-images_err g c =
+    begin_opens g.D.Disk.contents g.D.Disk.images g.D.Disk.moment g.D.Disk.images_since c.args.policy.now c.args.disk c.in-Err.disk c.in-Err.ensures.images_err
+
+pub returns-in-Err-load-clause-reason : goal.returns-in-Err-load-clause-reason
+returns-in-Err-load-clause-reason g c =
+    let o = g.D.Disk.contents c.args.disk in
+    let begun = c.in-Ok.journal in
+    subst (λ (d : g.row.D.Denot). HasReason c.in-Err-load.fault c.args.policy.now o (g.D.Disk.faults c.args.disk) (g.D.Disk.faults d)) (sym c.close.ensures)
+    (reason_before c.in-Err-load.fault c.args.policy.now o (g.D.Disk.contents (disk_of begun)) (g.D.Disk.faults c.args.disk) (g.D.Disk.faults (disk_of begun)) (g.D.Disk.faults (disk_of c.load.new.journal))
+    c.in-Ok.ensures.bytes c.in-Ok.ensures.unfailed c.in-Err-load.ensures.reason)
+
+pub returns-in-Err-load-clause-images_err : goal.returns-in-Err-load-clause-images_err
+returns-in-Err-load-clause-images_err g c =
+    let begun = c.in-Ok.journal in
+    subst (λ (d : g.row.D.Denot). LeavesAfter g.D.Disk.contents g.D.Disk.images g.D.Disk.moment g.D.Disk.images_since c.args.disk d (Opens c.args.policy.now)) (sym c.close.ensures)
+    (whole_opens g.D.Disk.contents g.D.Disk.images g.D.Disk.moment g.D.Disk.images_since c.args.policy.now c.args.disk (disk_of begun) (disk_of c.load.new.journal)
+    c.in-Ok.ensures.images c.in-Ok.ensures.bytes c.in-Ok.ensures.only c.load.ensures.images)
+
+pub returns-in-Ok-load-clause-found : goal.returns-in-Ok-load-clause-found
+returns-in-Ok-load-clause-found g c =
+    found_before (λ f. Tells f c.args.policy.now c.in-Ok-load.loaded.entries.items) (g.D.Disk.contents c.args.disk) (g.D.Disk.contents (disk_of c.in-Ok.journal)) c.in-Ok.ensures.bytes c.in-Ok-load.ensures.found
+
+pub returns-in-Ok-load-clause-images : goal.returns-in-Ok-load-clause-images
+returns-in-Ok-load-clause-images g c =
+    whole_opens g.D.Disk.contents g.D.Disk.images g.D.Disk.moment g.D.Disk.images_since c.args.policy.now c.args.disk (disk_of c.in-Ok.journal) (disk_of c.load.new.journal)
+    c.in-Ok.ensures.images c.in-Ok.ensures.bytes c.in-Ok.ensures.only c.load.ensures.images

@@ -1,0 +1,20 @@
+-- A store as the value of a turn: what stands in its list.
+use Rattle.std.specs.Prelude.{ℕ, ◌+◌, List, [], ◌∷◌, ◌++◌, map, Option, Some, None}
+use Rattle.ucon_model.specs.declared.command.Entry.{Entry}
+use Rattle.ucon_model.specs.History.{History}
+use Rattle.ucon_store.specs.declared.event.Event.{Event}
+use Rattle.ucon_store.specs.declared.event.Event.TheVariants.{Done, Failed}
+use Rattle.ucon_store.specs.Kept.{Kept}
+
+-- the number of the caller, from 1; 0 is nobody's
+abbrev pub number_of : Event → ℕ
+number_of (Done e) = e.caller.0 + 1
+number_of (Failed e) = e.caller.0 + 1
+
+-- the entries, and behind them the step that met a disk fault, if there is one
+abbrev pub events : History → Option Entry → List Event
+events H None = map Done H
+events H (Some e) = map Done H ++ Failed e ∷ []
+
+abbrev pub events_of : {D : Type 0} → Kept D → List Event
+events_of s = events s.entries s.mark

@@ -1,0 +1,50 @@
+-- What is found in a file: the payloads of its records that count, and what they say.
+use Rattle.std.specs.Prelude.{◌≡◌, ◌⊎◌, ℕ, Option, Some, List, [], ◌∷◌, ◌++◌}
+use Rattle.ucon_model.specs.declared.command.Entry.{Entry}
+use Rattle.ucon_model.specs.Plain.{Bytes, PlainPolicy}
+use Rattle.ucon_model.specs.History.{History}
+use Rattle.ucon_model.specs.Found.{Finding, fresh, not_journal, damaged, holds, found_in}
+use Rattle.ucon_journal.specs.Found as journal
+use Rattle.ucon_syntax.specs.Policies.{accepted}
+
+-- what the payloads that were found say, where a policy's text is read as an accepted one
+abbrev pub finding_of : journal.Found → Finding
+finding_of journal.Fresh = fresh
+finding_of journal.NotJournal = not_journal
+finding_of (journal.Holds payloads gate) = found_in accepted payloads
+
+-- what is found in the bytes of a file
+unfoldable pub found : Bytes → Finding
+found file = finding_of (journal.found file)
+
+-- this is the policy's text and this the history; where nothing was recorded yet, the history is empty
+abbrev pub Tells : Finding → Bytes → History → Type 0
+Tells fresh text H = H ≡ []
+Tells not_journal text H = ⊥
+Tells (damaged number place) text H = ⊥
+Tells (holds other P G gate) text H = (other ≡ text) × (G ≡ H)
+
+-- a file is found as this history under the policy of this text
+abbrev pub IsFoundAs : Bytes → Bytes → History → Type 0
+IsFoundAs text file H = Tells (found file) text H
+
+-- a file holds the policy of this text and this history
+pub record Holds (text : Bytes) (P : PlainPolicy) (H : History) (file : Bytes) : Type 0 where
+  pub gate : ℕ
+  pub is : found file ≡ holds text P H gate
+
+-- it is found as this history, or as the history with the entry of the step that failed, if there is one
+abbrev pub IsFoundWith : Bytes → History → Option Entry → Bytes → Type 0
+IsFoundWith text H mark file = IsFoundAs text file H ⊎ ((e : Entry) × (mark ≡ Some e) × IsFoundAs text file (H ++ e ∷ []))
+
+-- no journal, a damaged one, or one of another policy than that of this text
+abbrev pub IsForeign : Finding → Bytes → Type 0
+IsForeign fresh text = ⊥
+IsForeign not_journal text = Unit {0}
+IsForeign (damaged number place) text = Unit {0}
+IsForeign (holds other P H gate) text = ¬ (other ≡ text)
+
+-- what opening under the policy of this text may make of a file: what was found is still found, and a foreign file is as it was
+pub record Opens (text file c : Bytes) : Type 0 where
+  pub same : (H : History) → IsFoundAs text file H → IsFoundAs text c H
+  pub untouched : IsForeign (found file) text → c ≡ file

@@ -1,0 +1,78 @@
+//! Why a call of a store failed.
+
+ghost use Rattle.std.specs.Prelude.{◌≡◌};
+ghost use Rattle.ucon_store.specs.declared.fault.StepFault.TheVariants as step_faults;
+ghost use Rattle.ucon_store.specs.declared.fault.StoreFault.TheVariants as store_faults;
+ghost use Rattle.ucon_store.specs.Faults.{of_open, of_take};
+
+use ucon_base::NoMemory;
+use ucon_journal::{DiskFault, OpenFault, TakeFault};
+
+/// Why a store could not be opened.
+#[derive(Clone, Copy, Debug, PartialEq, Eq)]
+pub enum StoreFault {
+    /// The file has ten bytes or more, and no journal's magic.
+    NotJournal,
+    /// A record that counts is wrong: its number, from 0, and the place of its gate, in bytes.
+    Damaged { number: u64, place: u64 },
+    /// The journal's policy has another text: the place of the first byte that differs, or the length of the shorter text.
+    OtherPolicy(u64),
+    DiskFault,
+    NoMemory(NoMemory),
+}
+
+impl From<NoMemory> for StoreFault {
+    ghost from_gives = { λ e fault. fault ≡ store_faults.NoMemory e };
+
+    fn from(e: NoMemory) -> StoreFault {
+        StoreFault::NoMemory(e)
+    }
+}
+
+impl From<DiskFault> for StoreFault {
+    ghost from_gives = { λ _ fault. fault ≡ store_faults.DiskFault };
+
+    fn from(_e: DiskFault) -> StoreFault {
+        StoreFault::DiskFault
+    }
+}
+
+impl From<OpenFault> for StoreFault {
+    ghost from_gives = { λ e fault. fault ≡ of_open e };
+
+    fn from(e: OpenFault) -> StoreFault {
+        match e {
+            OpenFault::NotJournal => StoreFault::NotJournal,
+            OpenFault::DiskFault => StoreFault::DiskFault,
+        }
+    }
+}
+
+/// Why the record of this number could not be taken: it is too long, or the journal failed.
+pub(crate) fn at_record(number: u64, fault: TakeFault) -> StoreFault
+    ensures { result ≡ of_take number fault }
+{
+    match fault {
+        TakeFault::TooLong(place) => StoreFault::Damaged { number, place },
+        TakeFault::DiskFault => StoreFault::DiskFault,
+        TakeFault::NoMemory(e) => StoreFault::NoMemory(e),
+    }
+}
+
+/// Why a step was not taken.
+#[derive(Clone, Copy, Debug, PartialEq, Eq)]
+pub enum StepFault {
+    /// The disk failed. Whether the step's record is in the file shows at the next opening.
+    DiskFault,
+    /// The disk failed at an earlier step.
+    Stopped,
+    NoMemory(NoMemory),
+}
+
+impl From<NoMemory> for StepFault {
+    ghost from_gives = { λ e fault. fault ≡ step_faults.NoMemory e };
+
+    fn from(e: NoMemory) -> StepFault {
+        StepFault::NoMemory(e)
+    }
+}

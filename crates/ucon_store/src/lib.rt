@@ -1,0 +1,17 @@
+//! A store: the history of a policy's journal, kept in memory by an engine and on a disk by the journal.
+#![tactic(auto)]
+
+mod accepting;
+mod event;
+mod fault;
+mod loading;
+mod opening;
+mod placed;
+mod recording;
+mod store;
+mod turned;
+
+pub use event::{Base, Event};
+pub use fault::{StepFault, StoreFault};
+pub use placed::Placed;
+pub use store::Store;

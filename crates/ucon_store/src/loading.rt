@@ -1,0 +1,137 @@
+//! What is loaded from a journal's records, one after the other.
+
+ghost use Rattle.std.specs.Prelude.{◌≡◌, ◌+◌, ◌<◌, ◌≤◌, ◌^◌, ℕ, ◌∷◌, [], ◌++◌, length, false, true, Ok, Err, Some, None, IfSome, MatchOption, IfOk, IfErr, OnOk, List};
+ghost use Rattle.ucon_base.specs.Memory.{out_of_memory};
+ghost use Rattle.ucon_disk.specs.Disk.{SameImages};
+ghost use Rattle.ucon_disk.specs.Run.{LeavesOnly};
+ghost use Rattle.ucon_journal.specs.Journal.{disk_of, gate_of, HasEnded, IsReading};
+ghost use Rattle.ucon_model.specs.Found.{taken};
+ghost use Rattle.ucon_model.specs.Payload.{payload_read, told};
+ghost use Rattle.ucon_model.specs.Plain.{PlainPolicy, PlainReply};
+ghost use Rattle.ucon_syntax.specs.Policies.{accepted};
+ghost use Rattle.ucon_store.specs.Opening.{HasReason, HasLoaded, IsLoading, IsStanding};
+
+use crate::fault::{StoreFault, at_record};
+use crate::recording::add;
+use std::alloc::Global;
+use ucon_base::{Rows, Steps};
+use ucon_command::{PayloadFault, payload_text, read_payload, steps_are_taken_as_spelled};
+use ucon_disk::Disk;
+use ucon_journal::{Journal, MAX_PAYLOAD};
+use ucon_model::Entry;
+use ucon_state::Engine;
+
+/// The text of a journal's policy, an engine under it, and the entries so far, for which the engine stands.
+#[derive(Drop)]
+pub(crate) struct Loaded<E> {
+    pub policy: Vec<u8>,
+    pub engine: E,
+    pub entries: Rows<Entry>,
+}
+
+impl<E: Engine> Loaded<E> {
+    /// Takes the step of a payload in, if it is the next one: its reply changes something and is the engine's. False where it isn't; the engine
+    /// is then of no more use.
+    fn take(&mut self, alloc: Global, payload: &[u8]) -> Result<bool, StoreFault>
+        requires standing { IsStanding E.follows self.old }
+        requires short { length payload.now ≤ MAX_PAYLOAD }
+        ensures taken { IfOk result (λ more. more ≡ true → IsStanding E.follows self.new
+            × ((P : PlainPolicy) → accepted self.old.policy.items ≡ Some P
+            → taken P self.old.entries.items payload.now ≡ Some self.new.entries.items)) }
+        ensures one { IfOk result (λ more. more ≡ true → length self.new.entries.items ≡ length self.old.entries.items + 1) }
+        ensures wrong { IfOk result (λ more. more ≡ false → (P : PlainPolicy) → accepted self.old.policy.items ≡ Some P
+            → taken P self.old.entries.items payload.now ≡ None) }
+        ensures err { IfErr result (λ fault. fault ≡ StoreFault.NoMemory out_of_memory) }
+        ensures policy { self.new.policy.items ≡ self.old.policy.items }
+    {
+        steps_are_taken_as_spelled();
+        let Some(entry) = step_told(alloc, payload)? else {
+            return Ok(false);
+        };
+        let mut steps = Steps::new();
+        let drafted = self.engine.draft(entry.caller, &entry.command, &mut steps)?;
+        if !drafted.changes {
+            return Ok(false);
+        }
+        let text = payload_text(alloc, entry.caller, &entry.command, &drafted.reply)?;
+        if text.as_slice() != payload {
+            return Ok(false);
+        }
+        self.entries.reserve(1)?;
+        self.engine.keep();
+        add(&mut self.entries, entry);
+        Ok(true)
+    }
+
+    /// Takes the journal's next record in. False where there is none.
+    fn take_next<D: Disk>(
+        &mut self,
+        alloc: Global,
+        journal: &mut Journal<D>,
+    ) -> Result<bool, StoreFault>
+        requires loading { IsLoading E.follows D.contents self.old journal.old }
+        requires reading { IsReading D.contents journal.old }
+        ensures loading { result ≡ Ok true → IsLoading E.follows D.contents self.new journal.new }
+        ensures loaded { result ≡ Ok false → HasLoaded E.follows D.contents self.new journal.new }
+        ensures advance { result ≡ Ok true → gate_of journal.old < gate_of journal.new }
+        ensures small { gate_of journal.new < 2 ^ 63 }
+        ensures reading { IsReading D.contents journal.new }
+        ensures ended { result ≡ Ok false → HasEnded D.contents journal.new }
+        ensures reason { IfErr result (λ fault. (text : List ℕ)
+            → HasReason fault text (D.contents (disk_of journal.old)) (D.faults (disk_of journal.old)) (D.faults (disk_of journal.new))) }
+        ensures policy { self.new.policy.items ≡ self.old.policy.items }
+        ensures contents { D.contents (disk_of journal.new) ≡ D.contents (disk_of journal.old) }
+        ensures images { SameImages (D.images (disk_of journal.old)) (D.images (disk_of journal.new)) }
+        ensures run { LeavesOnly D.moment D.images_since (disk_of journal.old) (disk_of journal.new) (D.images (disk_of journal.old)) }
+        ensures unfailed { OnOk result (D.faults (disk_of journal.new) ≡ D.faults (disk_of journal.old)) }
+    {
+        let place = journal.gate();
+        let number = self.entries.len() as u64 + 1;
+        match journal.next() {
+            Err(fault) => Err(at_record(number, fault)),
+            Ok(false) => Ok(false),
+            Ok(true) => {
+                let taken = self.take(alloc, journal.payload())?;
+                if !taken {
+                    return Err(StoreFault::Damaged { number, place });
+                }
+                Ok(true)
+            }
+        }
+    }
+
+    /// Takes all records of the journal in.
+    pub(crate) fn take_all<D: Disk>(
+        &mut self,
+        alloc: Global,
+        journal: &mut Journal<D>,
+    ) -> Result<(), StoreFault>
+        requires loading { IsLoading E.follows D.contents self.old journal.old }
+        requires reading { IsReading D.contents journal.old }
+        ensures loaded { OnOk result (HasLoaded E.follows D.contents self.new journal.new) }
+        ensures ended { OnOk result (HasEnded D.contents journal.new) }
+        ensures reason { IfErr result (λ fault. (text : List ℕ)
+            → HasReason fault text (D.contents (disk_of journal.old)) (D.faults (disk_of journal.old)) (D.faults (disk_of journal.new))) }
+        ensures policy { self.new.policy.items ≡ self.old.policy.items }
+        ensures contents { D.contents (disk_of journal.new) ≡ D.contents (disk_of journal.old) }
+        ensures images { SameImages (D.images (disk_of journal.old)) (D.images (disk_of journal.new)) }
+        ensures run { LeavesOnly D.moment D.images_since (disk_of journal.old) (disk_of journal.new) (D.images (disk_of journal.old)) }
+        ensures unfailed { OnOk result (D.faults (disk_of journal.new) ≡ D.faults (disk_of journal.old)) }
+    {
+        'records: while self.take_next(alloc, journal)? {}
+        Ok(())
+    }
+}
+
+/// The entry of the step that a payload tells. None where it tells no step.
+fn step_told(alloc: Global, payload: &[u8]) -> Result<Option<Entry>, StoreFault>
+    ensures err { IfErr result (λ fault. fault ≡ StoreFault.NoMemory out_of_memory) }
+    ensures read { IfOk result (λ read. MatchOption read ((place : ℕ) × (payload_read payload.now ≡ Err place))
+        (λ e. (reply : PlainReply) × (payload_read payload.now ≡ Ok (told e reply)))) }
+{
+    match read_payload(alloc, payload) {
+        Ok((caller, command, _reply)) => Ok(Some(Entry { caller, command })),
+        Err(PayloadFault::BadPlace(_)) => Ok(None),
+        Err(PayloadFault::NoMemory(e)) => Err(StoreFault::NoMemory(e)),
+    }
+}

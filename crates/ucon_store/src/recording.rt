@@ -1,0 +1,116 @@
+//! How a change that is pending in the engine gets onto the disk and into the history.
+
+ghost use Rattle.std.specs.Prelude.{◌≡◌, ◌+◌, ◌<◌, ◌≤◌, ◌^◌, ◌∷◌, [], ◌++◌, length, true, is_some, Some, IfSome, IfOk, IfErr, OnOk, OnErr};
+ghost use Rattle.ucon_disk.specs.Causes.{HasCause};
+ghost use Rattle.ucon_disk.specs.Disk.{Only};
+ghost use Rattle.ucon_disk.specs.Run.{LeavesAfter};
+ghost use Rattle.ucon_journal.specs.Journal.{disk_of, gate_of, told_payloads, HasRoomFor, IsClosed};
+ghost use Rattle.ucon_journal.specs.Opened.{PerhapsAdded};
+ghost use Rattle.ucon_model.specs.declared.command.Entry.{Entry};
+ghost use Rattle.ucon_model.specs.Action.{Trace};
+ghost use Rattle.ucon_model.specs.Block.{after};
+ghost use Rattle.ucon_model.specs.Found.{taken};
+ghost use Rattle.ucon_model.specs.History.{History, said, changes};
+ghost use Rattle.ucon_model.specs.Payload.{revocations_in};
+ghost use Rattle.ucon_model.specs.Plain.{PlainPolicy};
+ghost use Rattle.ucon_model.specs.Views.{reply_of};
+ghost use Rattle.ucon_state.specs.Engine.{IsPending};
+
+use std::alloc::Global;
+use ucon_base::{NoMemory, Rows};
+use ucon_command::{payload_text, steps_are_taken_as_spelled};
+use ucon_disk::Disk;
+use ucon_journal::{Journal, MAX_PAYLOAD};
+use ucon_model::{Caller, Command, Entry, Reply};
+use ucon_state::Engine;
+
+/// A step that can be recorded without memory.
+#[derive(Drop)]
+pub(crate) struct Ready {
+    pub payload: Vec<u8>,
+    pub entry: Entry,
+}
+
+/// Takes all the memory that a step needs, before anything is written.
+pub(crate) fn prepare<D: Disk>(
+    alloc: Global,
+    journal: &mut Journal<D>,
+    entries: &mut Rows<Entry>,
+    caller: Caller,
+    command: &Command,
+    reply: &Reply,
+) -> Result<Ready, NoMemory>
+    requires client { caller.0 < 64 }
+    requires few { length (revocations_in (reply_of reply.now)) ≤ 65536 }
+    ensures disk { disk_of journal.new ≡ disk_of journal.old }
+    ensures closed { IsClosed D.contents journal.old → IsClosed D.contents journal.new }
+    ensures gate { gate_of journal.new ≡ gate_of journal.old }
+    ensures entries { entries.new.items ≡ entries.old.items }
+    ensures entry { IfOk result (λ r. r.entry ≡ record { caller = caller; command = command.now }) }
+    ensures taken { IfOk result (λ r. (P : PlainPolicy) (H : History)
+        → reply_of reply.now ≡ said P H caller command.now → changes (reply_of reply.now) ≡ true
+        → taken P H r.payload.items ≡ Some (H ++ r.entry ∷ [])) }
+    ensures short { IfOk result (λ r. length r.payload.items ≤ MAX_PAYLOAD) }
+    ensures room { IfOk result (λ r. HasRoomFor journal.new (length r.payload.items)) }
+    ensures spare { OnOk result (1 ≤ entries.new.spare) }
+{
+    steps_are_taken_as_spelled();
+    let payload = payload_text(alloc, caller, command, reply)?;
+    journal.reserve(payload.len())?;
+    entries.reserve(1)?;
+    let command = command.copy(alloc)?;
+    Ok(Ready {
+        payload,
+        entry: Entry { caller, command },
+    })
+}
+
+/// Puts the step's record on the disk, and then keeps the change that is pending. After a disk fault the change is undone, and the entry
+/// comes back.
+pub(crate) fn record<E: Engine, D: Disk>(
+    engine: &mut E,
+    journal: &mut Journal<D>,
+    entries: &mut Rows<Entry>,
+    ready: Ready,
+) -> Result<(), Entry>
+    requires pending { IsPending E.has_pending engine.old }
+    requires closed { IsClosed D.contents journal.old }
+    requires short { length ready.payload.items ≤ MAX_PAYLOAD }
+    requires room { HasRoomFor journal.old (length ready.payload.items) }
+    requires spare { 1 ≤ entries.old.spare }
+    ensures kept { OnOk result ((P : PlainPolicy) (T : Trace) (e : Entry) → E.has_pending engine.old P T e
+        → E.follows engine.new P (after P T e.caller e.command)) }
+    ensures undone { OnErr result ((P : PlainPolicy) (T : Trace) (e : Entry) → E.has_pending engine.old P T e → E.follows engine.new P T) }
+    ensures added { OnOk result (entries.new.items ≡ entries.old.items ++ ready.entry ∷ []) }
+    ensures same { OnErr result (entries.new.items ≡ entries.old.items) }
+    ensures entry { IfErr result (λ e. e ≡ ready.entry) }
+    ensures closed { OnOk result (IsClosed D.contents journal.new) }
+    ensures gate { OnOk result (gate_of journal.old + 5 ≤ gate_of journal.new) }
+    ensures small { gate_of journal.new < 2 ^ 63 }
+    ensures only { OnOk result (Only (D.contents (disk_of journal.new)) (D.images (disk_of journal.new))) }
+    ensures payloads { OnOk result (IfSome (D.contents (disk_of journal.old)) (λ file.
+        told_payloads (D.contents (disk_of journal.new)) ≡ told_payloads (D.contents (disk_of journal.old)) ++ ready.payload.items ∷ [])) }
+    ensures tells { is_some (D.contents (disk_of journal.new)) ≡ is_some (D.contents (disk_of journal.old)) }
+    ensures images { LeavesAfter D.contents D.images D.moment D.images_since
+        (disk_of journal.old) (disk_of journal.new) (PerhapsAdded ready.payload.items) }
+    ensures cause { HasCause (D.faults (disk_of journal.old)) (D.faults (disk_of journal.new)) result }
+{
+    let Ready { payload, entry } = ready;
+    if journal.append(&payload).is_err() {
+        engine.undo();
+        return Err(entry);
+    }
+    engine.keep();
+    add(entries, entry);
+    Ok(())
+}
+
+/// Adds an entry where there is room for it.
+pub(crate) fn add(entries: &mut Rows<Entry>, entry: Entry)
+    requires { 1 ≤ entries.old.spare }
+    ensures { entries.new.items ≡ entries.old.items ++ entry ∷ [] }
+{
+    let Ok(()) = entries.push(entry) else {
+        unreachable!()
+    };
+}
