@@ -27,11 +27,11 @@ class Form(NamedTuple):
 KNOWN = [
     Form("trial", "runs the script under the policy, and prints a reply for each command", "./ucon trial < examples/first.ucon"),
     Form("check", "prints which core models of usage control each right makes", "./ucon check < examples/music.ucon"),
-    Form("gen SEED SIZE", "makes a document of SIZE commands from a number, runs it, and prints what happened", "./ucon gen 1 1000"),
+    Form("gen SEED SIZE", "draws SIZE commands from a number, runs them, and prints counts; reads nothing", "./ucon gen 1 1000"),
     Form("play JOURNAL", "runs the script over a journal, a file that keeps each step", "./ucon play door.journal < door.ucon", keeps=True),
 ]
 # Forms that the program doesn't have yet. A name goes from here when its form comes.
-COMING = ("gen", "play")
+COMING = ("play",)
 FORMS = [form for form in KNOWN if form.name not in COMING]
 
 # What the launcher itself does.

@@ -11,7 +11,7 @@ use Rattle.ucon_model.specs.Truth.{Readings, readings}
 use Rattle.ucon_model.specs.Decision.{failing}
 use Rattle.ucon_model.specs.Legal.{IsLegal}
 use Rattle.ucon_model.specs.Settle.{fails_at, least_from, least_failing}
-use Rattle.ucon_model.proofs.LeastFailing.{chosen_is_legal}
+use Rattle.ucon_model.specs.Sound.{IsNumbered}
 use Rattle.ucon_state.specs.Tables.{Tables, session_in, readings_in}
 use Rattle.ucon_state.specs.Shown.{Shown}
 use Rattle.ucon_state.specs.Following.{Follows}
@@ -51,9 +51,12 @@ found_here P T before count label lt fails =
     let k : count - before ≡ suc (count - (before + 1)) = omega arith in
     rw (k, fails) refl
 
--- the least that fails may be revoked
-pub revoke_legal : (s : Shown) (P : PlainPolicy) (T : Trace) → Follows s P T → (n : ℕ) (label : Bytes) → least_failing P T ≡ Some (n, label) → IsLegal P T (revoke n label)
-revoke_legal s P T h n label least = chosen_is_legal P T (n, label) h.sound.numbered least
+-- the least session that fails may be revoked
+abbrev pub LeastIsLegal : Type 0
+LeastIsLegal = (P : PlainPolicy) (T : Trace) (n : ℕ) (label : Bytes) → IsNumbered T → least_failing P T ≡ Some (n, label) → IsLegal P T (revoke n label)
 
-pub is_accessing_there : (s : Shown) (P : PlainPolicy) (T : Trace) → Follows s P T → (n : ℕ) (label : Bytes) → least_failing P T ≡ Some (n, label) → IsIn s.tables n Accessing
-is_accessing_there s P T h n label least = in_tables s P T h n Accessing (revoke_legal s P T h n label least).0
+pub revoke_legal : LeastIsLegal → (s : Shown) (P : PlainPolicy) (T : Trace) → Follows s P T → (n : ℕ) (label : Bytes) → least_failing P T ≡ Some (n, label) → IsLegal P T (revoke n label)
+revoke_legal chosen s P T h n label least = chosen P T n label h.sound.numbered least
+
+pub is_accessing_there : LeastIsLegal → (s : Shown) (P : PlainPolicy) (T : Trace) → Follows s P T → (n : ℕ) (label : Bytes) → least_failing P T ≡ Some (n, label) → IsIn s.tables n Accessing
+is_accessing_there chosen s P T h n label least = in_tables s P T h n Accessing (revoke_legal chosen s P T h n label least).0

@@ -22,8 +22,10 @@ use crate::reading::{accessing, has_entity, has_right, session, sessions};
 use crate::update::run_updates;
 use std::alloc::Global;
 use ucon_base::{Name, NoMemory, Side};
-use ucon_eval::verdict;
-use ucon_model::{Caller, Head, Refusal, SessionRow, SessionState, Verdict, When};
+use ucon_eval::{typed_tests_make_no_set, verdict};
+use ucon_model::{
+    Caller, Head, Refusal, SessionRow, SessionState, Verdict, When, the_least_failing_is_found,
+};
 use ucon_state::State;
 
 /// The session, if it is there and the caller's own.
@@ -91,6 +93,7 @@ fn decide(alloc: Global, state: &mut State, n: u32) -> Result<Head, NoMemory>
     ensures made { IfOk result (λ head. AfterEach (shown state.old) (λ P T. Makes head (shown state.new) P T (decide P T n))) }
     ensures base { KeepsBase (shown state.old) (shown state.new) }
 {
+    typed_tests_make_no_set();
     match verdict(state, n) {
         Verdict::Deny(label) => {
             deny(state, n, label)?;
@@ -223,6 +226,7 @@ pub fn revoke(alloc: Global, state: &mut State, n: u32, label: Name) -> Result<(
     ensures leads { OnOk result (Leads (shown state.old) (shown state.new) (λ P T. extended T (revocation P T (n, label)))) }
     ensures base { KeepsBase (shown state.old) (shown state.new) }
 {
+    the_least_failing_is_found();
     state.set_session(n, SessionState::Revoked)?;
     run_updates(alloc, state, n, When::AfterRevoke)
 }

@@ -7,6 +7,7 @@ ghost use Rattle.ucon_model.specs.declared.command.Command.{Command};
 ghost use Rattle.ucon_model.specs.CommandLine.{IsCommand, command_spelling, line_read};
 ghost use Rattle.ucon_model.specs.Found.{found_in, first_gate, gate_behind, holds, payloads_of, taken};
 ghost use Rattle.ucon_model.specs.History.{History, IsProper, changes, said};
+ghost use Rattle.ucon_model.specs.Output.{Lacks};
 ghost use Rattle.ucon_model.specs.Payload.{Told, entry_told, most_payload, payload_read, payload_spelling, told};
 ghost use Rattle.ucon_model.specs.Plain.{Bytes, PlainPolicy, PlainReply};
 ghost use Rattle.ucon_model.specs.ReplyText.{IsReply, reply_read};
@@ -15,11 +16,13 @@ ghost use Rattle.ucon_command.specs.Payloads.{AreSteps, IsStep, most_told};
 
 use ucon_model::texts_tell_changes;
 
-/// Each command's text is read as the command, and a line that is read is the text of the command read.
+/// Each command's text is read as the command, and a line that is read is the text of the command read. No text of a command has a
+/// newline.
 pub fn commands_are_read_back()
     ensures written { (c : Command) → IsCommand c → line_read (command_spelling c) ≡ Ok c }
     ensures read { (line : List ℕ) (c : Command) → line_read line ≡ Ok c → command_spelling c ≡ line }
     ensures short { (c : Command) → IsCommand c → length (command_spelling c) ≤ 8192 }
+    ensures one_line { (c : Command) → IsCommand c → Lacks 10 (command_spelling c) }
 {}
 
 /// Each reply's text is read as the reply, and bytes that are read are the text of the reply read.

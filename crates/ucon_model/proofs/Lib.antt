@@ -30,6 +30,7 @@ pub mod Lines
 pub mod Payloads
 pub mod FoundOn
 pub mod Documents
+mod GeneratedDocument
 pub mod FirstFaults
 pub mod TypedParts
 pub mod ValuesStayFit

@@ -30,5 +30,7 @@ pub mod Forms
 pub mod Grammar
 pub mod Spells
 pub mod Limits
+pub mod Generated
+pub mod Summary
 pub mod Payload
 pub mod Found

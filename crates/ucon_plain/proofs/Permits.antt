@@ -1,6 +1,6 @@
 -- Only a permission makes one more session that may fail, and a command permits only whom its head tells.
-use Rattle.std.proofs.Common.{◌≡◌, ◌∙◌, ◌⊎◌, inl, inr, ℕ, zero, suc, ◌+◌, ◌<◌, Bool, true, false, cond, List, [], ◌∷◌, ◌++◌, refl, sym, ap, subst, arith}
-use Rattle.std.specs.Prelude.{◌≢◌, ◌&&◌, ◌||◌, not, nat_eq, nat_le, int_lt, Option, Some, None, option_map, is_none}
+use Rattle.std.proofs.Common.{◌≡◌, ◌∙◌, ◌⊎◌, inl, inr, ℕ, ◌+◌, Bool, true, false, cond, List, [], ◌∷◌, ◌++◌, refl, sym, ap, subst}
+use Rattle.std.specs.Prelude.{◌≢◌, ◌&&◌, ◌||◌, not, nat_eq, nat_le, int_lt, Option, Some, None, is_none}
 use Rattle.std.specs.List.{list_any}
 use Rattle.std.specs.Option.{option_map_or}
 use Rattle.std.proofs.lemmas.Bool.Decides.{eqb_tells}
@@ -11,7 +11,7 @@ use Rattle.ucon_model.specs.declared.command.Caller.{Caller}
 use Rattle.ucon_model.specs.declared.command.Command.{Command}
 use Rattle.ucon_model.specs.declared.command.Command.TheVariants.{Subject, Object, Set, Env, Tick, Act, Try, Again, Beat, End, Look, Value as Value'}
 use Rattle.ucon_model.specs.declared.policy.When.{When}
-use Rattle.ucon_model.specs.declared.policy.When.TheVariants.{Before, During, AfterEnd, AfterRevoke}
+use Rattle.ucon_model.specs.declared.policy.When.TheVariants.{Before, During, AfterEnd}
 use Rattle.ucon_model.specs.declared.reply.Head.{Head}
 use Rattle.ucon_model.specs.declared.reply.Head.TheVariants as heads
 use Rattle.ucon_model.specs.declared.reply.Refusal.{Refusal}
@@ -21,10 +21,9 @@ use Rattle.ucon_model.specs.declared.session.Verdict.TheVariants.{Permit, Deny, 
 use Rattle.ucon_model.specs.Plain.{Bytes, PlainUpdate, PlainPolicy}
 use Rattle.ucon_model.specs.Action.{Action, Trace, subject, object, write, env, tick, act, tries, wait, permit, deny, ends, revoke, extended}
 use Rattle.ucon_model.specs.Readings.{session, sessions, has_entity, entities, attribute, declared_attr, declared_env, moment, acts, accessing, tick_of, is_accessing, is_accessing_state, changed_if}
-use Rattle.ucon_model.specs.Truth.{readings}
-use Rattle.ucon_model.specs.Decision.{right_named, verdict}
+use Rattle.ucon_model.specs.Decision.{right_named}
 use Rattle.ucon_model.specs.Updates.{writes, write_of, updates_of, session_writes, same_when}
-use Rattle.ucon_model.specs.OwnActions.{Own, refuse, tell, make, after_action, by_verdict, decide, is_admin, new_entity, add_entity, names_act, is_requesting, with_own, with_usage, end_usage, own}
+use Rattle.ucon_model.specs.OwnActions.{Own, refuse, tell, make, after_action, by_verdict, is_admin, new_entity, add_entity, names_act, is_requesting, with_own, with_usage, end_usage, own}
 use Rattle.ucon_plain.specs.Watching.{may_fail}
 
 -- whether an action permits session n

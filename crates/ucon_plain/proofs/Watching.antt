@@ -1,6 +1,6 @@
 -- The first of the watched sessions that fails is the least that fails, and only a permission makes one more to be watched.
 use Rattle.std.proofs.Common.{◌≡◌, ◌∙◌, ◌⊎◌, inl, inr, ℕ, zero, suc, ◌<◌, ◌≤◌, Bool, true, false, cond, List, [], ◌∷◌, length, drop, slice_index_or, refl, sym, ap, subst, arith}
-use Rattle.std.specs.Prelude.{◌≢◌, ◌&&◌, ◌||◌, not, nat_eq, Option, Some, None, IsSomeAnd, option_and_then}
+use Rattle.std.specs.Prelude.{◌≢◌, nat_eq, Option, Some, None, IsSomeAnd, option_and_then}
 use Rattle.std.specs.List.{list_any}
 use Rattle.std.specs.Option.{option_map_or}
 use Rattle.std.proofs.lemmas.Bool.Decides.{eqb_tells}
@@ -13,7 +13,7 @@ use Rattle.ucon_model.specs.declared.session.SessionState.TheVariants.{Accessing
 use Rattle.ucon_model.specs.Plain.{Bytes, PlainPredicate, PlainRight, PlainPolicy}
 use Rattle.ucon_model.specs.Action.{Action, Trace, extended}
 use Rattle.ucon_model.specs.Readings.{session, is_accessing, is_accessing_state}
-use Rattle.ucon_model.specs.Truth.{Readings, readings, truth}
+use Rattle.ucon_model.specs.Truth.{Readings, readings}
 use Rattle.ucon_model.specs.Decision.{right_named, ongoing, first_false, no_right, failing_of, failing}
 use Rattle.ucon_base.specs.Elements.{Each}
 use Rattle.ucon_model.specs.Settle.{fails_at, least_failing}
@@ -25,7 +25,7 @@ use Rattle.ucon_plain.specs.Monitor.{before}
 use Rattle.ucon_state.specs.Shown.{Shown}
 use Rattle.ucon_state.specs.Tables.{Tables, session_in}
 use Rattle.ucon_state.specs.Following.{Follows}
-use Rattle.ucon_plain.specs.Watching.{asks, may_fail, may_fail_in, Covers, Includes, HeadIsWatched, NobodyMore, first_in}
+use Rattle.ucon_plain.specs.Watching.{may_fail, may_fail_in, Covers, Includes, HeadIsWatched, NobodyMore, first_in}
 use Rattle.ucon_plain.proofs.Permits.{permits, more, permitted_is_told}
 use Rattle.ucon_actions.proofs.ReadOff.{session_same}
 

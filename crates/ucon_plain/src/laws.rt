@@ -8,8 +8,12 @@ ghost use Rattle.ucon_state.specs.Engine.{StandsFor};
 ghost use Rattle.ucon_state.specs.Shown.{shown};
 ghost use Rattle.ucon_state.specs.Tables.{readings_in};
 
+use ucon_state::tables_keep_what_is_followed;
+
 /// A monitor that stands for a history has its policy, and what its state gives to read is what the history's trace gives.
 pub fn monitors_stand_for_histories()
     ensures { (m : PlainMonitor) (P : PlainPolicy) (H : History) → StandsFor IsReady m P H
         → ModelStandsFor (shown m.state).policy (readings_in (shown m.state).policy (shown m.state).tables) P H }
-{}
+{
+    tables_keep_what_is_followed();
+}

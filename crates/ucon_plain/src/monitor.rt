@@ -14,8 +14,11 @@ use crate::step::take_step;
 use crate::watched::Watched;
 use std::alloc::Global;
 use ucon_base::{NoMemory, Steps};
-use ucon_model::{Caller, Checked, Command, Reply, SessionState, View};
-use ucon_state::{Drafted, Engine, State};
+use ucon_model::{
+    Caller, Checked, Command, Reply, SessionState, View, blocks_are_legal,
+    settling_is_the_only_cascade,
+};
+use ucon_state::{Drafted, Engine, State, each_action_is_followed};
 
 /// It rechecks every accessing session with ongoing predicates after each change, as the definitions do.
 #[derive(Drop)]
@@ -33,6 +36,7 @@ impl Engine for PlainMonitor {
     ghost has_pending = { HasPending };
 
     fn begin(alloc: Global, checked: Checked) -> Result<PlainMonitor, NoMemory> {
+        each_action_is_followed();
         let state = State::new(alloc, checked)?;
         Ok(PlainMonitor {
             alloc,
@@ -86,10 +90,13 @@ impl PlainMonitor {
 
         // Each action of the block is legal after those before it, and the block is the only list that begins with the command's own
         // actions and goes on as a cascade.
-        ensures legal { (P : PlainPolicy) (H : History) → StandsFor IsReady self.old P H → AreLegal P (trace P H) (block P (trace P H) caller command.now) }
+        ensures legal { (P : PlainPolicy) (H : History) → StandsFor IsReady self.old P H
+            → AreLegal P (trace P H) (block P (trace P H) caller command.now) }
         ensures only { (P : PlainPolicy) (H : History) (actions : List Action)
             → AreActionsOf P (trace P H) caller command.now actions ↔ (actions ≡ block P (trace P H) caller command.now) }
     {
+        blocks_are_legal();
+        settling_is_the_only_cascade();
         let mut steps = Steps::new();
         let drafted = self.draft(caller, command, &mut steps)?;
         if drafted.changes {

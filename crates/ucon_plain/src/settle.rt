@@ -1,28 +1,27 @@
 //! The cascade of revocations: after each one all accessing sessions with ongoing predicates are rechecked.
 
 ghost use Rattle.std.specs.Prelude.{◌≡◌, ◌∷◌, [], ◌++◌, Some, IfOk, OnOk};
-ghost use Rattle.ucon_model.specs.Action.{Trace, extended};
-ghost use Rattle.ucon_model.specs.Plain.{PlainPolicy};
+ghost use Rattle.ucon_model.specs.Action.{extended};
 ghost use Rattle.ucon_model.specs.Settle.{fails_at, least_failing, revocation, settle, revoked_in};
-ghost use Rattle.ucon_actions.specs.Leads.{IsFollowing, KeepsBase, Leads};
+ghost use Rattle.ucon_actions.specs.Leads.{AfterEach, IsFollowing, KeepsBase, Leads};
 ghost use Rattle.ucon_plain.specs.Watched.{numbers_of};
 ghost use Rattle.ucon_plain.specs.Watching.{Covers, NobodyMore};
-ghost use Rattle.ucon_state.specs.Following.{Follows};
 ghost use Rattle.ucon_state.specs.Shown.{shown};
 
 use crate::watched::Watched;
 use std::alloc::Global;
 use ucon_actions::{accessing, is_accessing, revoke, session};
 use ucon_base::{Name, NoMemory, Rows, Steps};
-use ucon_eval::failing;
+use ucon_eval::{failing, typed_tests_make_no_set};
 use ucon_model::Revoked;
 use ucon_state::State;
 
 /// The label by which session n fails, if it is accessing.
 fn fails_at(state: &State, n: u32, steps: &mut Steps) -> Option<Name>
     requires { IsFollowing (shown state.now) }
-    ensures { (P : PlainPolicy) (T : Trace) → Follows (shown state.now) P T → fails_at P T n ≡ result }
+    ensures { AfterEach (shown state.now) (λ P T. fails_at P T n ≡ result) }
 {
+    typed_tests_make_no_set();
     let row = session(state, n)?;
     if !is_accessing(row.state) {
         return None;
@@ -34,7 +33,7 @@ fn fails_at(state: &State, n: u32, steps: &mut Steps) -> Option<Name>
 fn least_failing(state: &State, watched: &Watched, steps: &mut Steps) -> Option<(u32, Name)>
     requires following { IsFollowing (shown state.now) }
     requires covers { Covers (shown state.now) (numbers_of watched.now) }
-    ensures { (P : PlainPolicy) (T : Trace) → Follows (shown state.now) P T → least_failing P T ≡ result }
+    ensures { AfterEach (shown state.now) (λ P T. least_failing P T ≡ result) }
 {
     let numbers = watched.numbers();
     for n in numbers {
@@ -54,7 +53,7 @@ fn revoke_next(
     label: Name,
 ) -> Result<(), NoMemory>
     requires following { IsFollowing (shown state.old) }
-    requires least { (P : PlainPolicy) (T : Trace) → Follows (shown state.old) P T → least_failing P T ≡ Some (n, label) }
+    requires least { AfterEach (shown state.old) (λ P T. least_failing P T ≡ Some (n, label)) }
     ensures leads { OnOk result (Leads (shown state.old) (shown state.new) (λ P T. extended T (revocation P T (n, label)))) }
     ensures revoked { OnOk result (revoked.new.items ≡ revoked.old.items ++ record { session = n; label = label } ∷ []) }
     ensures fewer { OnOk result (NobodyMore (shown state.old) (shown state.new)) }
@@ -75,7 +74,7 @@ pub fn settle(
     requires following { IsFollowing (shown state.old) }
     requires covers { Covers (shown state.old) (numbers_of watched.now) }
     ensures leads { OnOk result (Leads (shown state.old) (shown state.new) (λ P T. extended T (settle P T))) }
-    ensures revoked { IfOk result (λ revoked. (P : PlainPolicy) (T : Trace) → Follows (shown state.old) P T → revoked.items ≡ revoked_in (settle P T)) }
+    ensures revoked { IfOk result (λ revoked. AfterEach (shown state.old) (λ P T. revoked.items ≡ revoked_in (settle P T))) }
     ensures fewer { OnOk result (NobodyMore (shown state.old) (shown state.new)) }
     ensures base { KeepsBase (shown state.old) (shown state.new) }
 {

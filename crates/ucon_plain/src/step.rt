@@ -1,18 +1,15 @@
 //! One step: a command's own actions, and then the cascade.
 
 ghost use Rattle.std.specs.Prelude.{◌≡◌, ℕ, None, true, IfOk, OnErr, OnOk, IsTrue, IsFalse};
-ghost use Rattle.ucon_model.specs.Action.{Trace};
 ghost use Rattle.ucon_model.specs.Block.{after, reply};
 ghost use Rattle.ucon_model.specs.History.{changes};
-ghost use Rattle.ucon_model.specs.Plain.{PlainPolicy};
 ghost use Rattle.ucon_model.specs.Settle.{fails_at};
 ghost use Rattle.ucon_model.specs.Views.{policy_of, reply_of};
-ghost use Rattle.ucon_actions.specs.Leads.{IsFollowing, KeepsBase, Leads};
+ghost use Rattle.ucon_actions.specs.Leads.{AfterEach, IsFollowing, KeepsBase, Leads};
 ghost use Rattle.ucon_plain.specs.Monitor.{before};
 ghost use Rattle.ucon_plain.specs.Rising.{has};
 ghost use Rattle.ucon_plain.specs.Watched.{numbers_of};
 ghost use Rattle.ucon_plain.specs.Watching.{asks, may_fail_in, Covers, HeadIsWatched, Includes};
-ghost use Rattle.ucon_state.specs.Following.{Follows};
 ghost use Rattle.ucon_state.specs.Shown.{shown};
 
 use crate::settle::settle;
@@ -34,10 +31,11 @@ pub fn take_step(
 ) -> Result<Reply, NoMemory>
     requires following { IsFollowing (shown state.old) }
     requires covers { Covers (shown state.old) (numbers_of watched.old) }
-    ensures reply { IfOk result (λ r. (P : PlainPolicy) (T : Trace) → Follows (shown state.old) P T → reply_of r ≡ reply P T caller command.now) }
-    ensures changed { IfOk result (λ r. IsTrue (changes (reply_of r)) → Leads (shown state.old) (shown state.new) (λ P T. after P T caller command.now)) }
+    ensures reply { IfOk result (λ r. AfterEach (shown state.old) (λ P T. reply_of r ≡ reply P T caller command.now)) }
+    ensures changed { IfOk result (λ r. IsTrue (changes (reply_of r))
+        → Leads (shown state.old) (shown state.new) (λ P T. after P T caller command.now)) }
     ensures nobody { IfOk result (λ r. IsTrue (changes (reply_of r))
-        → (P : PlainPolicy) (T : Trace) → Follows (shown state.old) P T → (n : ℕ) → fails_at P (after P T caller command.now) n ≡ None) }
+        → AfterEach (shown state.old) (λ P T. (n : ℕ) → fails_at P (after P T caller command.now) n ≡ None)) }
     ensures unchanged { IfOk result (λ r. IsFalse (changes (reply_of r)) → shown state.new ≡ shown state.old) }
     ensures undone { OnErr result (shown state.new ≡ before (shown state.old)) }
     ensures covers { OnOk result (Covers (shown state.new) (numbers_of watched.new)) }
@@ -64,10 +62,11 @@ fn make_step(
 ) -> Result<Reply, NoMemory>
     requires following { IsFollowing (shown state.old) }
     requires covers { Covers (shown state.old) (numbers_of watched.old) }
-    ensures reply { IfOk result (λ r. (P : PlainPolicy) (T : Trace) → Follows (shown state.old) P T → reply_of r ≡ reply P T caller command.now) }
-    ensures changed { IfOk result (λ r. IsTrue (changes (reply_of r)) → Leads (shown state.old) (shown state.new) (λ P T. after P T caller command.now)) }
+    ensures reply { IfOk result (λ r. AfterEach (shown state.old) (λ P T. reply_of r ≡ reply P T caller command.now)) }
+    ensures changed { IfOk result (λ r. IsTrue (changes (reply_of r))
+        → Leads (shown state.old) (shown state.new) (λ P T. after P T caller command.now)) }
     ensures nobody { IfOk result (λ r. IsTrue (changes (reply_of r))
-        → (P : PlainPolicy) (T : Trace) → Follows (shown state.old) P T → (n : ℕ) → fails_at P (after P T caller command.now) n ≡ None) }
+        → AfterEach (shown state.old) (λ P T. (n : ℕ) → fails_at P (after P T caller command.now) n ≡ None)) }
     ensures unchanged { IfOk result (λ r. IsFalse (changes (reply_of r)) → shown state.new ≡ shown state.old) }
     ensures covers { OnOk result (Covers (shown state.new) (numbers_of watched.new)) }
     ensures watched { Includes (numbers_of watched.old) (numbers_of watched.new) }

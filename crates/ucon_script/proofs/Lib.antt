@@ -1,4 +1,6 @@
 pub mod Capped
 pub mod Cuts
 pub mod Divided
+pub mod Drawing
+pub mod Generating
 pub mod Scripts

@@ -4,8 +4,11 @@
 mod cursor;
 mod doc_fault;
 mod document;
+mod draws;
 mod heading;
+mod laws;
 mod line_text;
+mod number;
 mod part;
 mod read;
 #[cfg(test)]
@@ -13,6 +16,9 @@ mod tests;
 
 pub use doc_fault::DocFault;
 pub use document::{Document, Line};
+pub use draws::generate;
+pub use laws::generated_documents_are_read;
 pub use line_text::{LineText, Script};
+pub use number::number_spelled;
 pub use part::policy_part;
 pub use read::{read_document, read_script};

@@ -13,6 +13,8 @@ ghost use Rattle.ucon_state.specs.Applied.{applied, opening_tables, tables_of};
 ghost use Rattle.ucon_state.specs.Following.{Follows, IsLegalTrace, Keeps, all_applied};
 ghost use Rattle.ucon_state.specs.Shown.{Shown, changed_by};
 
+use ucon_model::blocks_are_legal;
+
 /// A state with the opening tables follows the empty trace, and one legal action more is followed with the tables that it makes.
 pub fn each_action_is_followed()
     ensures opening { (s : Shown) (P : PlainPolicy) → IsTyped (in_force P []) → s.policy ≡ in_force P [] → s.tables ≡ opening_tables s.policy
@@ -55,4 +57,6 @@ pub fn legal_traces_go_on()
 /// Under a well typed policy the trace of every history is legal.
 pub fn traces_of_histories_are_legal()
     ensures { (P : PlainPolicy) → IsTyped P → (H : History) → IsLegalTrace P (trace P H) }
-{}
+{
+    blocks_are_legal();
+}

@@ -1,1 +1,7 @@
 pub mod Along
+pub mod GeneratedPolicy
+pub mod Refusing
+pub mod Replies
+pub mod Summing
+pub mod Tallying
+pub mod Transcribing

@@ -2,6 +2,8 @@
 use Rattle.std.specs.Prelude.{ℕ}
 use Rattle.ucon_top.specs.declared.outcome.Outcome.{Outcome}
 use Rattle.ucon_top.specs.declared.outcome.Outcome.TheVariants.{Done, Usage, Policy, Script, SourceFault, SinkFault, NoMemory, TooLong}
+use Rattle.ucon_flow.specs.declared.source.ReadFault.{ReadFault}
+use Rattle.ucon_flow.specs.declared.source.ReadFault.TheVariants as reads
 use Rattle.ucon_syntax.specs.declared.read.SyntaxFault.{SyntaxFault}
 use Rattle.ucon_syntax.specs.declared.read.SyntaxFault.TheVariants as syntax
 use Rattle.ucon_check.specs.declared.fault.CheckFault.{CheckFault}
@@ -42,6 +44,12 @@ outcome_of (refusals.Policy f) = Policy f
 outcome_of (refusals.Script f) = Script f
 outcome_of (refusals.NoMemory e) = NoMemory e
 
+-- how a run ends whose input could not be read
+abbrev pub by_reading : ReadFault → Outcome
+by_reading reads.SourceFault = SourceFault
+by_reading reads.TooLong = TooLong
+by_reading (reads.NoMemory e) = NoMemory e
+
 -- how a run ends that wrote nothing
 abbrev pub IsUnwritten : Outcome → Type 0
 IsUnwritten Done = ⊥
@@ -52,3 +60,9 @@ IsUnwritten (Script f) = Unit {0}
 IsUnwritten SourceFault = Unit {0}
 IsUnwritten (NoMemory e) = Unit {0}
 IsUnwritten TooLong = Unit {0}
+
+-- how a run ends whose document was not refused
+abbrev pub IsUnrefused : Outcome → Type 0
+IsUnrefused (Policy f) = ⊥
+IsUnrefused (Script f) = ⊥
+IsUnrefused outcome = Unit {0}

@@ -1,15 +1,35 @@
 -- The forms of words.
-use Rattle.std.specs.Prelude.{List, [], ◌∷◌, Option, Some, None, codes, if◌then◌else◌}
+use Rattle.std.specs.Prelude.{ℕ, ◌^◌, ◌≤◌, nat_lt, nat_le, ◌&&◌, List, [], ◌∷◌, Option, Some, None, option_and_then, codes, if◌then◌else◌}
 use Rattle.std.specs.Str.{bytes_eq}
+use Rattle.ucon_model.specs.Document.{number_spelled}
 use Rattle.ucon_model.specs.Plain.{Bytes}
 use Rattle.ucon_top.specs.declared.form.Form.{Form}
-use Rattle.ucon_top.specs.declared.form.Form.TheVariants.{Trial, Check}
+use Rattle.ucon_top.specs.declared.form.Form.TheVariants.{Trial, Check, Gen}
 
 -- the form that is one word
 abbrev pub word_form : Bytes → Option Form
 word_form word = if bytes_eq word (codes "trial") then Some Trial else if bytes_eq word (codes "check") then Some Check else None
 
+-- a number below 2^64
+abbrev pub seed_of : ℕ → Option ℕ
+seed_of n = if nat_lt n (2 ^ 64) then Some n else None
+
+-- 1 to 100000
+abbrev pub size_of : ℕ → Option ℕ
+size_of n = if nat_le 1 n && nat_le n 100000 then Some n else None
+
+-- `gen` with a seed and a size, in decimal without leading zeros
+abbrev pub gen_form : Bytes → Bytes → Option Form
+gen_form seed size = option_and_then (λ s. option_and_then (λ n. Some (Gen s n)) (option_and_then size_of (number_spelled size))) (option_and_then seed_of (number_spelled seed))
+
 -- the form that these words are
 abbrev pub form_of : List Bytes → Option Form
 form_of (word ∷ []) = word_form word
+form_of (word ∷ seed ∷ size ∷ []) = if bytes_eq word (codes "gen") then gen_form seed size else None
 form_of words = None
+
+-- a size that words can ask for
+abbrev pub HasSize : Form → Type 0
+HasSize Trial = Unit {0}
+HasSize Check = Unit {0}
+HasSize (Gen seed size) = size ≤ 100000

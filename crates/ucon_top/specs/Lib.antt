@@ -2,6 +2,10 @@ pub mod Accepted
 pub mod Ending
 pub mod FaultWords
 pub mod Form
+pub mod Hearing
 pub mod Models
 pub mod OneAnswer
 pub mod Printed
+pub mod Tallies
+pub mod Transcript
+pub mod Unread

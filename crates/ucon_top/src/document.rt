@@ -5,12 +5,12 @@ ghost use Rattle.ucon_model.specs.Checked.{checked_policy};
 ghost use Rattle.ucon_model.specs.Document.{document_read, entries_of};
 ghost use Rattle.ucon_script.specs.Document.{lines_spelled};
 ghost use Rattle.ucon_top.specs.Accepted.{HasPolicy, IsRefused};
-ghost use Rattle.ucon_top.specs.Printed.{IsFormOutput, IsOutputOf, IsRunOutput};
+ghost use Rattle.ucon_top.specs.Printed.{IsFormOutput, IsOutputOf};
 
-use crate::answers::run_lines;
+use crate::check::models_text;
 use crate::form::Form;
-use crate::models::models_text;
 use crate::outcome::Refused;
+use crate::trial::{trial_output, trial_summary};
 use std::alloc::Global;
 use ucon_base::NoMemory;
 use ucon_check::check;
@@ -27,7 +27,7 @@ pub fn output_of<E: Engine>(alloc: Global, form: Form, bytes: &[u8]) -> Result<V
 {
     let checked = read_checked(alloc, bytes)?;
     let script = read_lines(alloc, &checked, bytes)?;
-    let text = print::<E>(alloc, form, checked, &script)?;
+    let text = form_output::<E>(alloc, form, checked, &script)?;
     Ok(text)
 }
 
@@ -54,7 +54,7 @@ fn read_lines<'a>(alloc: Global, checked: &Checked, bytes: &'a [u8]) -> Result<S
 }
 
 /// What a form prints of a policy and lines.
-fn print<E: Engine>(
+fn form_output<E: Engine>(
     alloc: Global,
     form: Form,
     checked: Checked,
@@ -63,20 +63,8 @@ fn print<E: Engine>(
     ensures { IfOk result (λ text. IsFormOutput form (checked_policy checked) (entries_of (lines_spelled script.now)) text.items) }
 {
     match form {
-        Form::Trial => trial::<E>(alloc, checked, script),
+        Form::Trial => trial_output::<E>(alloc, checked, script),
         Form::Check => models_text(alloc, &checked),
+        Form::Gen { seed: _, size: _ } => trial_summary::<E>(alloc, checked, script),
     }
-}
-
-/// The output of a run of a document's lines from the empty history.
-fn trial<E: Engine>(
-    alloc: Global,
-    checked: Checked,
-    script: &Script<'_>,
-) -> Result<Vec<u8>, NoMemory>
-    ensures { IfOk result (λ text. IsRunOutput (checked_policy checked) (entries_of (lines_spelled script.now)) text.items) }
-{
-    let engine = E::begin(alloc, checked)?;
-    let text = run_lines(alloc, engine, script.lines.slice())?;
-    Ok(text)
 }

@@ -1,7 +1,10 @@
 //! What the program's words ask for.
 
-ghost use Rattle.std.specs.Prelude.{◌≡◌, map, string_bytes};
-ghost use Rattle.ucon_top.specs.Form.{form_of, word_form};
+ghost use Rattle.std.specs.Prelude.{◌≡◌, ◌≤◌, map, option_and_then, string_bytes, IfSome};
+ghost use Rattle.ucon_model.specs.Document.{number_spelled};
+ghost use Rattle.ucon_top.specs.Form.{HasSize, form_of, gen_form, seed_of, size_of, word_form};
+
+use ucon_script::number_spelled;
 
 /// A form of words.
 #[derive(Clone, Copy, Debug, PartialEq, Eq)]
@@ -10,20 +13,30 @@ pub enum Form {
     Trial,
     /// `check`: tells the core models of each right of the document's policy.
     Check,
+    /// `gen SEED SIZE`: makes a document from a seed and a number of lines, runs it as `trial` does, and tells the summary.
+    Gen { seed: u64, size: u32 },
 }
+
+/// The most lines of a generated document, behind its opening ones.
+const MOST_LINES: u128 = 100_000;
 
 /// The form that these words are. None where they are none.
 pub fn read_form(words: &[String]) -> Option<Form>
-    ensures { result ≡ form_of (map (λ w. string_bytes w) words.now) }
+    ensures form { result ≡ form_of (map (λ w. string_bytes w) words.now) }
+    ensures size { IfSome result HasSize }
 {
     match words {
         [word] => word_form(word.as_bytes()),
+        [word, seed, size] if word.as_bytes() == b"gen".as_slice() => {
+            gen_form(seed.as_bytes(), size.as_bytes())
+        }
         _ => None,
     }
 }
 
 fn word_form(word: &[u8]) -> Option<Form>
-    ensures { result ≡ word_form word.now }
+    ensures form { result ≡ word_form word.now }
+    ensures size { IfSome result HasSize }
 {
     if word == b"trial".as_slice() {
         Some(Form::Trial)
@@ -31,5 +44,35 @@ fn word_form(word: &[u8]) -> Option<Form>
         Some(Form::Check)
     } else {
         None
+    }
+}
+
+fn gen_form(seed: &[u8], size: &[u8]) -> Option<Form>
+    ensures form { result ≡ gen_form seed.now size.now }
+    ensures size { IfSome result HasSize }
+{
+    let seed = read_seed(seed)?;
+    let size = read_size(size)?;
+    Some(Form::Gen { seed, size })
+}
+
+/// A number of 64 bits.
+fn read_seed(spelling: &[u8]) -> Option<u64>
+    ensures { result ≡ option_and_then seed_of (number_spelled spelling.now) }
+{
+    match number_spelled(spelling, 1 << 64) {
+        Some(n) if n < 1 << 64 => Some(n as u64),
+        _ => None,
+    }
+}
+
+/// A number of lines, from 1 on.
+fn read_size(spelling: &[u8]) -> Option<u32>
+    ensures number { result ≡ option_and_then size_of (number_spelled spelling.now) }
+    ensures small { IfSome result (λ n. n ≤ 100000) }
+{
+    match number_spelled(spelling, MOST_LINES + 1) {
+        Some(n) if n >= 1 && n <= MOST_LINES => Some(n as u32),
+        _ => None,
     }
 }

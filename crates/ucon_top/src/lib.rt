@@ -2,17 +2,23 @@
 #![tactic(auto)]
 
 mod answers;
+mod check;
 mod document;
 mod form;
-mod models;
+mod hearer;
+mod laws;
 mod number;
 mod outcome;
 mod printing;
+mod summary;
 #[cfg(test)]
 mod tests;
 mod top;
+mod transcript;
+mod trial;
 
 pub use form::Form;
+pub use laws::{accepted_documents_are_not_refused, generated_documents_are_accepted};
 pub use outcome::{Ended, Outcome, PolicyFault, Refused};
 pub use printing::fault_text;
 pub use top::run;

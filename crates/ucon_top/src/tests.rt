@@ -3,8 +3,8 @@ use std::alloc::Global;
 use std::test::Fail;
 use ucon_flow::{MemSink, MemSource};
 use ucon_vectors::{
-    CAPPED, Example, Row, guide_examples, language_examples, typing_faults, well_typed_policies,
-    worked_rows,
+    CAPPED, Example, Row, Words, generated_rows, guide_examples, language_examples, typing_faults,
+    well_typed_policies, worked_rows,
 };
 
 fn words(alloc: Global, all: &[&str]) -> Result<Vec<String>, Fail> {
@@ -194,5 +194,38 @@ fn long_input(rt: HostRuntime) -> Result<(), Fail> {
     let ended = run(alloc, &words(alloc, &["trial"])?, &mut source, &mut sink);
     assert_eq!(rt; ended.status, 11);
     assert_eq!(rt; sink.bytes(), b"".as_slice());
+    Ok(())
+}
+
+/// How `gen` ends over these words, and what it writes. The source would fail if it were read.
+fn generated(alloc: Global, all: &[&str]) -> Result<(Ended, Vec<u8>), Fail> {
+    let mut source = MemSource::new(Vec::new(alloc), 7, numbers(alloc, &[0])?);
+    let mut sink = MemSink::new(alloc, 3, Vec::new(alloc));
+    let ended = run(alloc, &words(alloc, all)?, &mut source, &mut sink);
+    Ok((ended, Vec::from_slice(alloc, sink.bytes())?))
+}
+
+#[test]
+fn generated_documents_are_summed(rt: HostRuntime) -> Result<(), Fail> {
+    for Words {
+        words,
+        status,
+        output,
+    } in generated_rows() {
+        let found = generated(rt.alloc(), words)?;
+        assert_eq!(rt; found.0.status, status);
+        assert_eq!(rt; found.1.as_slice(), output);
+    }
+    Ok(())
+}
+
+/// The same words make the same document and the same run.
+#[test]
+fn generated_twice(rt: HostRuntime) -> Result<(), Fail> {
+    let first = generated(rt.alloc(), &["gen", "7", "2000"])?;
+    let second = generated(rt.alloc(), &["gen", "7", "2000"])?;
+    assert_eq!(rt; first.0.status, 0);
+    assert!(rt; first.1.starts_with(b"lines 2025\n".as_slice()));
+    assert_eq!(rt; first.1.as_slice(), second.1.as_slice());
     Ok(())
 }

@@ -1,19 +1,21 @@
 //! The top call.
 
-ghost use Rattle.std.specs.Prelude.{◌≡◌, ◌↔◌, ◌⊎◌, ◌<◌, None, length, map, string_bytes, IfSome};
+ghost use Rattle.std.specs.Prelude.{◌≡◌, ◌↔◌, ◌⊎◌, ◌<◌, ◌≤◌, ◌+◌, None, length, map, string_bytes, IfSome, IfOk, IfErr, OnOk};
 ghost use Rattle.std.specs.Io.KnownBytes.{IsAtEnd};
 ghost use Rattle.ucon_flow.specs.Causes.{Rose};
 ghost use Rattle.ucon_top.specs.Accepted.{IsRefusedBy, IsAccepted};
 ghost use Rattle.ucon_top.specs.Ending.{status_of, IsUnwritten};
-ghost use Rattle.ucon_top.specs.Form.{form_of};
-ghost use Rattle.ucon_top.specs.Printed.{Adds, IsOutputOf, IsCutOutputOf};
+ghost use Rattle.ucon_top.specs.Form.{form_of, HasSize};
+ghost use Rattle.ucon_top.specs.Unread.{IsUnread};
+ghost use Rattle.ucon_top.specs.Printed.{Adds, IsOutputOf, IsCutOutputOf, ReadsInput, document_of};
 
 use crate::document::output_of;
-use crate::form::read_form;
+use crate::form::{Form, read_form};
 use crate::outcome::{Ended, Outcome};
 use std::alloc::Global;
-use ucon_flow::{ReadFault, Sink, Source, read_all, write_all};
+use ucon_flow::{Sink, Source, read_all, write_all};
 use ucon_plain::PlainMonitor;
+use ucon_script::generate;
 
 /// The most bytes of input.
 const LIMIT: usize = 4_194_304;
@@ -21,7 +23,8 @@ const LIMIT: usize = 4_194_304;
 /// Does what the words say, from the bytes read to the bytes written.
 ///
 /// `trial` runs the document that the input is, from the empty history, in the order of its lines, and writes one answer a line.
-/// `check` writes the core models of each right of the document's policy.
+/// `check` writes the core models of each right of the document's policy. `gen` makes a document, runs it as `trial` does and writes the
+/// summary; it reads nothing.
 pub fn run<S: Source, K: Sink>(alloc: Global, words: &[String], input: &mut S, out: &mut K) -> Ended
     // Status and outcome agree.
     ensures status { result.status ≡ status_of result.outcome }
@@ -30,28 +33,34 @@ pub fn run<S: Source, K: Sink>(alloc: Global, words: &[String], input: &mut S, o
     ensures usage { (result.outcome ≡ Outcome.Usage) ↔ (form_of (map (λ w. string_bytes w) words.now) ≡ None) }
     ensures source { result.outcome ≡ Outcome.SourceFault → Rose (S.faults input.old) (S.faults input.new) }
     ensures too_long { result.outcome ≡ Outcome.TooLong → IfSome (S.left input.old) (λ bytes. 4194304 < length bytes) }
-    ensures refused { IfSome (S.left input.old) (IsRefusedBy result.outcome) }
-    ensures accepted { (result.outcome ≡ Outcome.Done) ⊎ (result.outcome ≡ Outcome.SinkFault) → IfSome (S.left input.old) IsAccepted }
+    ensures refused { IfSome (form_of (map (λ w. string_bytes w) words.now)) (λ form. IfSome (document_of form (S.left input.old)) (IsRefusedBy result.outcome)) }
+    ensures accepted { (result.outcome ≡ Outcome.Done) ⊎ (result.outcome ≡ Outcome.SinkFault)
+        → IfSome (form_of (map (λ w. string_bytes w) words.now)) (λ form. IfSome (document_of form (S.left input.old)) IsAccepted) }
     ensures sink { result.outcome ≡ Outcome.SinkFault → Rose (K.faults out.old) (K.faults out.new) }
-    ensures read { result.outcome ≡ Outcome.Done → IsAtEnd (S.left input.new) }
+    ensures read { result.outcome ≡ Outcome.Done → IfSome (form_of (map (λ w. string_bytes w) words.now)) (λ form. ReadsInput form → IsAtEnd (S.left input.new)) }
 
-    // With status 0 the bytes added to the sink are what the form prints of the document: for `trial` the output of a legal run, whose
-    // answers are read from these bytes; for `check` the core models. Where the sink failed they are the front of such an output.
-    ensures done { result.outcome ≡ Outcome.Done → IfSome (form_of (map (λ w. string_bytes w) words.now)) (λ form. Adds (IsOutputOf form) (S.left input.old) (K.contents out.old) (K.contents out.new)) }
-    ensures cut_short { result.outcome ≡ Outcome.SinkFault → IfSome (form_of (map (λ w. string_bytes w) words.now)) (λ form. Adds (IsCutOutputOf form) (S.left input.old) (K.contents out.old) (K.contents out.new)) }
+    // At most one read for each byte within the limit, and one more, whatever the outcome.
+    ensures reads { S.reads input.new ≤ S.reads input.old + 4194305 }
 
-    // Otherwise nothing is written; and for wrong words nothing is read.
+    // With status 0 the bytes added to the sink are what the form prints of its document: for `trial` the output of a legal run, whose
+    // answers are read from these bytes; for `check` the core models; for `gen` the summary of a legal run. Where the sink failed they are
+    // the front of such an output.
+    ensures done { result.outcome ≡ Outcome.Done
+        → IfSome (form_of (map (λ w. string_bytes w) words.now)) (λ form. Adds (IsOutputOf form) (document_of form (S.left input.old)) (K.contents out.old) (K.contents out.new)) }
+    ensures cut_short { result.outcome ≡ Outcome.SinkFault
+        → IfSome (form_of (map (λ w. string_bytes w) words.now)) (λ form. Adds (IsCutOutputOf form) (document_of form (S.left input.old)) (K.contents out.old) (K.contents out.new)) }
+
+    // Otherwise nothing is written; and for wrong words, and for `gen`, nothing is read.
     ensures unused { result.outcome ≡ Outcome.Usage → input.new ≡ input.old }
+    ensures unread { IfSome (form_of (map (λ w. string_bytes w) words.now)) (λ form. (ReadsInput form → ⊥) → input.new ≡ input.old) }
     ensures unwritten { IsUnwritten result.outcome → out.new ≡ out.old }
 {
     let Some(form) = read_form(words) else {
         return Ended::by(Outcome::Usage);
     };
-    let bytes = match read_all(alloc, input, LIMIT) {
+    let bytes = match document_bytes(alloc, form, input) {
         Ok(bytes) => bytes,
-        Err(ReadFault::SourceFault) => return Ended::by(Outcome::SourceFault),
-        Err(ReadFault::TooLong) => return Ended::by(Outcome::TooLong),
-        Err(ReadFault::NoMemory(refused)) => return Ended::by(Outcome::NoMemory(refused)),
+        Err(outcome) => return Ended::by(outcome),
     };
     match output_of::<PlainMonitor>(alloc, form, &bytes) {
         Err(refused) => Ended::by(Outcome::from(refused)),
@@ -59,5 +68,21 @@ pub fn run<S: Source, K: Sink>(alloc: Global, words: &[String], input: &mut S, o
             Ok(()) => Ended::by(Outcome::Done),
             Err(_) => Ended::by(Outcome::SinkFault),
         },
+    }
+}
+
+/// The document that a form runs: the input's bytes, or for `gen` the generated ones. Else how the run ends.
+fn document_bytes<S: Source>(alloc: Global, form: Form, input: &mut S) -> Result<Vec<u8>, Outcome>
+    requires { HasSize form }
+    ensures short { IfOk result (λ bytes. length bytes.items ≤ 4194304) }
+    ensures bytes { IfOk result (λ bytes. IfSome (document_of form (S.left input.old)) (λ document. document ≡ bytes.items)) }
+    ensures read { OnOk result (ReadsInput form → IsAtEnd (S.left input.new)) }
+    ensures ends { IfErr result (λ outcome. IsUnread (S.left input.old) (S.faults input.old) (S.faults input.new) outcome) }
+    ensures reads { S.reads input.new ≤ S.reads input.old + 4194305 }
+    ensures unread { (ReadsInput form → ⊥) → input.new ≡ input.old }
+{
+    match form {
+        Form::Trial | Form::Check => Ok(read_all(alloc, input, LIMIT)?),
+        Form::Gen { seed, size } => Ok(generate(alloc, seed, size)?),
     }
 }

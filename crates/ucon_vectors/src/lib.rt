@@ -2,12 +2,14 @@
 #![tactic(auto)]
 
 mod clients;
+mod generated;
 mod guide;
 mod language;
 mod typing;
 mod worked;
 
 pub use clients::{Meeting, two_clients};
+pub use generated::{Words, generated_rows};
 pub use guide::guide_examples;
 pub use language::language_examples;
 pub use typing::{typing_faults, well_typed_policies};

@@ -6,7 +6,9 @@ use Rattle.ucon_model.specs.Action.{Trace}
 use Rattle.ucon_model.specs.Block.{block, after}
 use Rattle.ucon_model.specs.Typing.{IsTyped}
 use Rattle.ucon_model.specs.History.{History, trace_from, trace}
-use Rattle.ucon_model.proofs.Histories.{legal_actions_after}
+use Rattle.ucon_model.specs.declared.command.Caller.{Caller}
+use Rattle.ucon_model.specs.declared.command.Command.{Command}
+use Rattle.ucon_model.specs.Legal.{AreLegal}
 use Rattle.ucon_state.specs.Following.{IsLegalTrace}
 use Rattle.ucon_state.proofs.Following.Keeping.{legal_extended}
 
@@ -14,13 +16,17 @@ one_more : (P : PlainPolicy) (T : Trace) (G : History) (e : Entry) → trace_fro
 one_more P T [] e = refl
 one_more P T (d ∷ G) e = one_more P (after P T d.caller d.command) G e
 
-legal_from : (P : PlainPolicy) → IsTyped P → (G H : History) → IsLegalTrace P (trace P G) → IsLegalTrace P (trace_from P (trace P G) H)
-legal_from P typed G [] legal = legal
-legal_from P typed G (e ∷ H) legal =
-    let next : IsLegalTrace P (after P (trace P G) e.caller e.command) =
-    legal_extended P (trace P G) (block P (trace P G) e.caller e.command) legal (legal_actions_after P typed G e.caller e.command) in
-    subst (λ (T : Trace). IsLegalTrace P (trace_from P T H)) (one_more P [] G e)
-    (legal_from P typed (G ++ e ∷ []) H (subst (IsLegalTrace P) (sym (one_more P [] G e)) next))
+-- each action of a block is legal after those before it, under a well typed policy
+abbrev BlocksAreLegal : Type 0
+BlocksAreLegal = (P : PlainPolicy) → IsTyped P → (H : History) (caller : Caller) (c : Command) → AreLegal P (trace P H) (block P (trace P H) caller c)
 
-pub legal_trace_of : (P : PlainPolicy) → IsTyped P → (H : History) → IsLegalTrace P (trace P H)
-legal_trace_of P typed H = legal_from P typed [] H tt
+legal_from : BlocksAreLegal → (P : PlainPolicy) → IsTyped P → (G H : History) → IsLegalTrace P (trace P G) → IsLegalTrace P (trace_from P (trace P G) H)
+legal_from blocks P typed G [] legal = legal
+legal_from blocks P typed G (e ∷ H) legal =
+    let next : IsLegalTrace P (after P (trace P G) e.caller e.command) =
+    legal_extended P (trace P G) (block P (trace P G) e.caller e.command) legal (blocks P typed G e.caller e.command) in
+    subst (λ (T : Trace). IsLegalTrace P (trace_from P T H)) (one_more P [] G e)
+    (legal_from blocks P typed (G ++ e ∷ []) H (subst (IsLegalTrace P) (sym (one_more P [] G e)) next))
+
+pub legal_trace_of : BlocksAreLegal → (P : PlainPolicy) → IsTyped P → (H : History) → IsLegalTrace P (trace P H)
+legal_trace_of blocks P typed H = legal_from blocks P typed [] H tt

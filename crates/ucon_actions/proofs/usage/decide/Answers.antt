@@ -11,7 +11,7 @@ pub verdict-requires-clause-there : goal.verdict-requires-clause-there
 verdict-requires-clause-there c = session_there (shown c.args.state.now).tables c.args.n Requesting c.requires.requesting
 
 pub verdict-requires-clause-no_set : goal.verdict-requires-clause-no_set
-verdict-requires-clause-no_set c = no_sets_there (shown c.args.state.now) c.requires.following.policy c.requires.following.trace c.requires.following.follows c.args.n
+verdict-requires-clause-no_set c = no_sets_there c.typed_tests_make_no_set.ensures.all (shown c.args.state.now) c.requires.following.policy c.requires.following.trace c.requires.following.follows c.args.n
 
 pub returns-in-Wait-clause-made : goal.returns-in-Wait-clause-made
 returns-in-Wait-clause-made c = λ P T h.

@@ -14,7 +14,7 @@ set_session-requires c =
     let P = c.requires.following.policy in
     let T = c.requires.following.trace in
     let h = c.requires.following.follows in
-    may_move s.tables c.args.n Accessing Revoked refl (is_accessing_there s P T h c.args.n c.args.label (c.requires.least P T h))
+    may_move s.tables c.args.n Accessing Revoked refl (is_accessing_there c.the_least_failing_is_found.ensures.somebody s P T h c.args.n c.args.label (c.requires.least P T h))
 
 pub run_updates-requires : goal.run_updates-requires
 run_updates-requires c =
@@ -25,7 +25,7 @@ run_updates-requires c =
     record {
       policy = P;
       trace = revoke c.args.n c.args.label ∷ T;
-      follows = one_step s (shown c.set_session.new.self) P T (revoke c.args.n c.args.label) _ h (revoke_legal s P T h c.args.n c.args.label (c.requires.least P T h)) c.in_ok-set_session.ensures.ok refl;
+      follows = one_step s (shown c.set_session.new.self) P T (revoke c.args.n c.args.label) _ h (revoke_legal c.the_least_failing_is_found.ensures.somebody s P T h c.args.n c.args.label (c.requires.least P T h)) c.in_ok-set_session.ensures.ok refl;
     }
 
 pub returns-clause-leads : goal.returns-clause-leads
@@ -34,5 +34,5 @@ returns-clause-leads c =
     let s1 = shown c.set_session.new.self in
     on_ok c.run_updates.result
     (λ leads P T h. leads P (revoke c.args.n c.args.label ∷ T)
-    (one_step s s1 P T (revoke c.args.n c.args.label) _ h (revoke_legal s P T h c.args.n c.args.label (c.requires.least P T h)) c.in_ok-set_session.ensures.ok refl))
+    (one_step s s1 P T (revoke c.args.n c.args.label) _ h (revoke_legal c.the_least_failing_is_found.ensures.somebody s P T h c.args.n c.args.label (c.requires.least P T h)) c.in_ok-set_session.ensures.ok refl))
     c.run_updates.ensures.leads

@@ -8,7 +8,7 @@ use Rattle.ucon_actions.proofs.Typed.{no_sets_there}
 use Rattle.ucon_plain.proofs.settle.fails_at.Goals as goal
 
 pub failing-requires-clause-no_set : goal.failing-requires-clause-no_set
-failing-requires-clause-no_set c = no_sets_there (shown c.args.state.now) c.requires.policy c.requires.trace c.requires.follows c.args.n
+failing-requires-clause-no_set c = no_sets_there c.typed_tests_make_no_set.ensures.all (shown c.args.state.now) c.requires.policy c.requires.trace c.requires.follows c.args.n
 
 pub returns : goal.returns
 returns c = λ P T h.

@@ -1,4 +1,4 @@
-use Rattle.std.proofs.Common.{◌≡◌, ◌∙◌, true, sym, ap, subst}
+use Rattle.std.proofs.Common.{◌≡◌, ◌∙◌, true, sym, subst}
 use Rattle.ucon_model.specs.Settle.{fails_at}
 use Rattle.ucon_plain.specs.Rising.{rises}
 use Rattle.ucon_plain.specs.Watching.{Covers}

@@ -1,10 +1,9 @@
-use Rattle.std.proofs.Common.{◌≡◌, ◌∙◌, ℕ, Bool, List, true, rules, sym, ap, subst}
+use Rattle.std.proofs.Common.{◌≡◌, ℕ, Bool, rules}
 use Rattle.std.specs.Prelude.{filter}
 use Rattle.std.proofs.lemmas.Fn.{filter_same}
 use Rattle.ucon_model.specs.Readings.{is_accessing}
 use Rattle.ucon_state.specs.Shown.{shown}
 use Rattle.ucon_state.specs.Tables.{session_in}
-use Rattle.ucon_plain.specs.Rising.{rises, has}
 use Rattle.ucon_plain.proofs.Rising.{rises_so, rises_tested, rises_kept, has_kept}
 use Rattle.ucon_plain.proofs.watched.keep_accessing.Goals as goal
 

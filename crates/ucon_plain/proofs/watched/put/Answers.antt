@@ -1,7 +1,6 @@
-use Rattle.std.proofs.Common.{◌≡◌, ◌∙◌, refl, ℕ, List, true, sym, ap, subst}
+use Rattle.std.proofs.Common.{◌≡◌, ◌∙◌, refl, ap}
 use Rattle.std.specs.Prelude.{slice_get, Some}
 use Rattle.std.specs.List.{insert}
-use Rattle.ucon_plain.specs.Rising.{rises, has}
 use Rattle.ucon_plain.proofs.Rising.{place_in, rises_so, rises_tested, rises_put, has_put, has_same}
 use Rattle.ucon_plain.proofs.watched.put.Goals as goal
 

@@ -8,5 +8,5 @@ use Rattle.ucon_top.proofs.answers.run_lines.Given as goal
 abbrev pub invariant-loop-line : goal.invariant-loop-line
 invariant-loop-line g l = record {
   idle : IsIdle g.E.Engine.follows l.engine;
-  along : (P : PlainPolicy) → StandsFor g.E.Engine.follows l.fn.engine P [] → Along P (StandsFor g.E.Engine.follows l.engine P) (map entry_of l.lines) l.line-index l.place l.text.items;
+  along : (P : PlainPolicy) → StandsFor g.E.Engine.follows l.fn.engine P [] → Along P (StandsFor g.E.Engine.follows l.engine P) (g.R.Hearer.hears l.hearer) (map entry_of l.lines) l.line-index l.place;
 }

@@ -3,7 +3,6 @@ use Rattle.ucon_model.specs.declared.command.Entry.{Entry}
 use Rattle.ucon_model.specs.Action.{Trace}
 use Rattle.ucon_model.specs.Block.{after, reply}
 use Rattle.ucon_model.specs.History.{changes}
-use Rattle.ucon_model.proofs.Histories.{legal_actions_after}
 use Rattle.ucon_plain.specs.declared.monitor.PlainMonitor.{PlainMonitor}
 use Rattle.ucon_plain.specs.Monitor.{IsReady}
 use Rattle.ucon_plain.proofs.Blocks.{only_block}
@@ -12,10 +11,10 @@ use Rattle.ucon_plain.proofs.monitor.PlainMonitor.step.Goals as goal
 use Rattle.ucon_plain.proofs.monitor.PlainMonitor.step.Goals.{then-drafted, else-drafted}
 
 pub returns-in_err-drafted-clause-legal : goal.returns-in_err-drafted-clause-legal
-returns-in_err-drafted-clause-legal c = λ P H h. legal_actions_after P h.follows.typed H c.args.caller c.args.command.now
+returns-in_err-drafted-clause-legal c = λ P H h. c.blocks_are_legal.ensures P h.follows.typed H c.args.caller c.args.command.now
 
 pub returns-in_err-drafted-clause-only : goal.returns-in_err-drafted-clause-only
-returns-in_err-drafted-clause-only c = λ P H actions. only_block P H c.args.caller c.args.command.now actions
+returns-in_err-drafted-clause-only c = λ P H actions. only_block c.settling_is_the_only_cascade.ensures P H c.args.caller c.args.command.now actions
 
 pub returns-clause-follows : goal.returns-clause-follows
 returns-clause-follows c = λ P T h.
@@ -29,7 +28,7 @@ returns-clause-follows c = λ P T h.
     ]
 
 pub returns-clause-legal : goal.returns-clause-legal
-returns-clause-legal c = λ P H h. legal_actions_after P h.follows.typed H c.args.caller c.args.command.now
+returns-clause-legal c = λ P H h. c.blocks_are_legal.ensures P h.follows.typed H c.args.caller c.args.command.now
 
 pub returns-clause-only : goal.returns-clause-only
-returns-clause-only c = λ P H actions. only_block P H c.args.caller c.args.command.now actions
+returns-clause-only c = λ P H actions. only_block c.settling_is_the_only_cascade.ensures P H c.args.caller c.args.command.now actions

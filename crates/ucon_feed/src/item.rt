@@ -1,0 +1,8 @@
+//! What goes through an inbox.
+
+/// A line, or the end word, behind which nothing is fed.
+#[derive(Debug, Drop, PartialEq, Eq)]
+pub enum Item<T> {
+    Line(T),
+    End,
+}

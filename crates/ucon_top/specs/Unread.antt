@@ -1,0 +1,13 @@
+-- How a run ends whose document was not had.
+use Rattle.std.specs.Prelude.{◌<◌, ℕ, length, Option, IfSome}
+use Rattle.ucon_flow.specs.Causes.{Rose}
+use Rattle.ucon_model.specs.Plain.{Bytes}
+use Rattle.ucon_top.specs.declared.outcome.Outcome.{Outcome}
+use Rattle.ucon_top.specs.declared.outcome.Outcome.TheVariants.{SourceFault, NoMemory, TooLong}
+
+-- the source failed, gave too much, or there was no memory
+abbrev pub IsUnread : Option Bytes → ℕ → ℕ → Outcome → Type 0
+IsUnread input before now SourceFault = Rose before now
+IsUnread input before now TooLong = IfSome input (λ bytes. 4194304 < length bytes)
+IsUnread input before now (NoMemory e) = Unit {0}
+IsUnread input before now outcome = ⊥

@@ -1,0 +1,97 @@
+//! The output of a run: one line for each answer.
+
+ghost use Rattle.std.specs.Prelude.{◌≡◌, ◌<◌, ◌++◌, ◌∷◌, [], Some, None, OnOk};
+ghost use Rattle.std.specs.Fmt.{decimal};
+ghost use Rattle.ucon_model.specs.Output.{Lacks, answer_line};
+ghost use Rattle.ucon_model.specs.Spelling.{reply_spelling};
+ghost use Rattle.ucon_model.specs.Summary.{answered};
+ghost use Rattle.ucon_model.specs.Views.{reply_of};
+ghost use Rattle.ucon_top.specs.Hearing.{HearsMore, replied};
+ghost use Rattle.ucon_top.specs.OneAnswer.{entry_of};
+ghost use Rattle.ucon_top.specs.Transcript.{IsTranscript};
+
+use crate::hearer::Hearer;
+use crate::number::put_number;
+use std::alloc::Global;
+use ucon_base::NoMemory;
+use ucon_command::reply_text;
+use ucon_model::Reply;
+use ucon_script::LineText;
+
+/// The lines of the answers so far.
+#[derive(Drop)]
+pub struct Transcript {
+    pub text: Vec<u8>,
+}
+
+impl Transcript {
+    pub fn new(alloc: Global) -> Transcript
+        ensures { IsTranscript result.text.items [] }
+    {
+        Transcript {
+            text: Vec::new(alloc),
+        }
+    }
+}
+
+impl Hearer for Transcript {
+    ghost hears = { λ transcript told. IsTranscript transcript.text.items told };
+
+    fn reply(
+        &mut self,
+        alloc: Global,
+        line: &LineText<'_>,
+        place: u64,
+        reply: &Reply,
+    ) -> Result<(), NoMemory> {
+        put_reply(alloc, &mut self.text, line, place, reply)?;
+        Ok(())
+    }
+
+    fn no_memory(&mut self, line: &LineText<'_>) -> Result<(), NoMemory> {
+        put_no_memory(&mut self.text, line)?;
+        Ok(())
+    }
+}
+
+/// Adds the line of a reply with its place.
+fn put_reply(
+    alloc: Global,
+    out: &mut Vec<u8>,
+    line: &LineText<'_>,
+    place: u64,
+    reply: &Reply,
+) -> Result<(), NoMemory>
+    ensures text { OnOk result (out.new.items ≡ out.old.items ++ answer_line (answered (replied (entry_of line.now) (Some (place, reply_of reply.now))))) }
+    ensures one_line { OnOk result (Lacks 10 (reply_spelling (reply_of reply.now))) }
+    ensures client { OnOk result (line.now.caller.0 < 256) }
+{
+    put_client(out, line)?;
+    put_number(out, place)?;
+    out.push(b' ')?;
+    let reply = reply_text(alloc, reply)?;
+    out.extend_from_slice(&reply)?;
+    out.push(b'\n')?;
+    Ok(())
+}
+
+/// Adds the line that says that there was no memory.
+fn put_no_memory(out: &mut Vec<u8>, line: &LineText<'_>) -> Result<(), NoMemory>
+    ensures text { OnOk result (out.new.items ≡ out.old.items ++ answer_line (answered (replied (entry_of line.now) None))) }
+    ensures client { OnOk result (line.now.caller.0 < 256) }
+{
+    put_client(out, line)?;
+    out.extend_from_slice(b"- no memory")?;
+    out.push(b'\n')?;
+    Ok(())
+}
+
+/// Adds the client's number and a space.
+fn put_client(out: &mut Vec<u8>, line: &LineText<'_>) -> Result<(), NoMemory>
+    ensures text { OnOk result (out.new.items ≡ out.old.items ++ (decimal line.now.caller.0 ++ 32 ∷ [])) }
+    ensures client { OnOk result (line.now.caller.0 < 256) }
+{
+    put_number(out, line.caller.0 as u64)?;
+    out.push(b' ')?;
+    Ok(())
+}
