@@ -1,5 +1,5 @@
 -- A text that is accepted is short.
-use Rattle.std.proofs.Common.{◌≡◌, ℕ, ◌≤◌, ◌<◌, List, length, Bool, true, false, Option, Some, None, Result, refl, sym, ap, ◌∙◌, arith}
+use Rattle.std.proofs.Common.{◌≡◌, ℕ, ◌≤◌, length, Bool, true, false, Option, Some, Result, refl, arith}
 use Rattle.std.specs.Prelude.{nat_lt, option_and_then, if◌then◌else◌, Err}
 use Rattle.std.specs.Result.{result_ok}
 use Rattle.ucon_model.specs.Plain.{Bytes, PlainPolicy}

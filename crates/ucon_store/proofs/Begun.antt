@@ -1,20 +1,19 @@
 -- From the bytes as they were found to those that opening the journal made.
-use Rattle.std.proofs.Common.{◌≡◌, ◌≢◌, ◌⊎◌, ⊎_elim, ℕ, List, [], ◌∷◌, length, Option, Some, None, refl, sym, ap, ◌∙◌, subst, false, true}
+use Rattle.std.proofs.Common.{◌≡◌, ◌≢◌, ⊎_elim, ℕ, length, Option, Some, None, refl, sym, ap, ◌∙◌, subst, false, true}
 use Rattle.std.specs.Prelude.{nat_le, IfSome}
 use Rattle.std.specs.Option.{option_map}
 use Rattle.ucon_model.specs.Plain.{Bytes, PlainPolicy}
 use Rattle.ucon_model.specs.History.{History}
-use Rattle.ucon_model.specs.Found.{Finding, not_journal, damaged, holds}
+use Rattle.ucon_model.specs.Found.{Finding, not_journal, damaged}
 use Rattle.ucon_disk.specs.Causes.{raised}
 use Rattle.ucon_journal.specs.declared.fault.OpenFault.{OpenFault}
 use Rattle.ucon_journal.specs.declared.fault.OpenFault.TheVariants as opening
 use Rattle.ucon_journal.specs.Found as journal
-use Rattle.ucon_journal.specs.JournalBytes.{journal_bytes, newest}
 use Rattle.ucon_journal.specs.Opened.{opened}
 use Rattle.ucon_store.specs.declared.fault.StoreFault.{StoreFault}
 use Rattle.ucon_store.specs.declared.fault.StoreFault.TheVariants.{NotJournal, Damaged, OtherPolicy, DiskFault, NoMemory}
 use Rattle.ucon_store.specs.Faults.{of_open}
-use Rattle.ucon_store.specs.Found.{finding_of, found, Holds, Tells, IsFoundAs}
+use Rattle.ucon_store.specs.Found.{finding_of, found, Holds, IsFoundAs}
 use Rattle.ucon_store.specs.Opening.{HasReason, HasOtherPolicy}
 use Rattle.ucon_store.proofs.Finding.{found_as}
 use Rattle.ucon_store.proofs.Runs.{true_or_false, opened_short, opened_long, found_opened}

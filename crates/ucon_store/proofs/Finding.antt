@@ -1,5 +1,5 @@
 -- What is found in a file, by the payloads that count in it.
-use Rattle.std.proofs.Common.{◌≡◌, ◌⊎◌, inl, inr, ⊎_elim, ℕ, List, [], ◌∷◌, ◌++◌, length, Option, Some, None, refl, sym, ap, ◌∙◌, subst}
+use Rattle.std.proofs.Common.{◌≡◌, ℕ, List, [], ◌∷◌, ◌++◌, length, Some, refl, sym, ap, ◌∙◌, subst}
 use Rattle.std.specs.Prelude.{option_map, unwrap_or}
 use Rattle.ucon_model.specs.declared.command.Entry.{Entry}
 use Rattle.ucon_model.specs.Plain.{Bytes, PlainPolicy}
@@ -7,7 +7,7 @@ use Rattle.ucon_model.specs.History.{History}
 use Rattle.ucon_model.specs.Found.{Finding, fresh, not_journal, holds, taken, next_gate, found_behind, found_in, found_on}
 use Rattle.ucon_journal.specs.Found as journal
 use Rattle.ucon_syntax.specs.Policies.{accepted}
-use Rattle.ucon_store.specs.Found.{finding_of, found, Holds, Tells, IsFoundAs, IsFoundWith}
+use Rattle.ucon_store.specs.Found.{finding_of, found, Holds, Tells, IsFoundAs}
 
 -- a finding by records that count is that by their payloads, where a policy and a history are found
 by_payloads : (f : journal.Found) (text : Bytes) (P : PlainPolicy) (H : History) (gate : ℕ) → finding_of f ≡ holds text P H gate → found_in accepted (journal.payloads_found f) ≡ holds text P H gate

@@ -1,14 +1,14 @@
 -- What opening leaves in a file, and what its records say.
-use Rattle.std.proofs.Common.{◌≡◌, ◌≢◌, ◌⊎◌, inl, inr, ⊎_elim, ℕ, ◌+◌, ◌≤◌, ◌<◌, List, [], ◌∷◌, ◌++◌, length, take, Bool, Option, Some, None, refl, sym, ap, ◌∙◌, subst, false, true, arith}
-use Rattle.std.specs.Prelude.{nat_lt, nat_le, option_map, option_and_then, unwrap_or, if◌then◌else◌, IfSome, MatchBool}
+use Rattle.std.proofs.Common.{◌≡◌, ◌≢◌, ℕ, ◌+◌, ◌≤◌, ◌<◌, List, [], ◌∷◌, ◌++◌, length, Bool, Option, Some, None, refl, sym, ap, ◌∙◌, subst, false, true, arith}
+use Rattle.std.specs.Prelude.{nat_lt, option_map, option_and_then, unwrap_or, if◌then◌else◌, IfSome, MatchBool}
 use Rattle.std.specs.Result.{result_ok}
 use Rattle.ucon_model.specs.Plain.{Bytes, PlainPolicy}
 use Rattle.ucon_model.specs.History.{History}
 use Rattle.ucon_model.specs.Payload.{most_payload, payload_read}
-use Rattle.ucon_model.specs.Found.{Finding, fresh, not_journal, damaged, holds, taken, policy_taken, with_step, next_gate, first_gate, found_behind, found_in}
+use Rattle.ucon_model.specs.Found.{Finding, fresh, damaged, holds, taken, policy_taken, with_step, next_gate, first_gate, found_behind, found_in}
 use Rattle.ucon_journal.specs.Found as journal
 use Rattle.ucon_journal.specs.Journal.{told_payloads}
-use Rattle.ucon_journal.specs.Opened.{opened, StillHolds, Untouched}
+use Rattle.ucon_journal.specs.Opened.{StillHolds}
 use Rattle.ucon_syntax.specs.Policies.{accepted}
 use Rattle.ucon_store.specs.Found.{finding_of, found, Holds, Tells, IsFoundAs, IsForeign, Opens}
 use Rattle.ucon_store.specs.Opening.{SaysBehind}

@@ -1,5 +1,5 @@
 -- What putting a step's record on the disk leaves there.
-use Rattle.std.proofs.Common.{◌≡◌, ◌⊎◌, inl, inr, ⊎_elim, ℕ, ◌≤◌, List, [], ◌∷◌, ◌++◌, length, Option, Some, None, refl, sym, ap, ◌∙◌, subst, true, false, arith, ◌+◌, ◌*◌, map, length-append}
+use Rattle.std.proofs.Common.{◌≡◌, inl, inr, ⊎_elim, ℕ, ◌≤◌, List, [], ◌∷◌, ◌++◌, length, Option, Some, None, refl, sym, ap, ◌∙◌, subst, true, false, arith, ◌+◌, length-append}
 use Rattle.std.proofs.lemmas.List.{map-append}
 use Rattle.std.specs.Prelude.{is_some, IsSome, IfSome}
 use Rattle.ucon_model.specs.declared.command.Entry.{Entry}
@@ -18,7 +18,7 @@ use Rattle.ucon_store.specs.Events.{events, number_of}
 use Rattle.ucon_syntax.specs.Policies.{accepted}
 use Rattle.ucon_store.specs.Found.{Holds, IsFoundAs, IsFoundWith}
 use Rattle.ucon_store.specs.Kept.{Kept, IsAtRestWith}
-use Rattle.ucon_store.specs.Stays.{Stays, IsFoundBetween, stays_same}
+use Rattle.ucon_store.specs.Stays.{Stays, IsFoundBetween}
 use Rattle.ucon_store.proofs.Finding.{holds_same, holds_more, found_as}
 use Rattle.ucon_disk.specs.Causes.{raised}
 

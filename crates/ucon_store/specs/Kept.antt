@@ -1,5 +1,5 @@
 -- A store as contracts see it, and what holds of it at every moment.
-use Rattle.std.specs.Prelude.{◌≡◌, ℕ, ◌+◌, ◌*◌, ◌<◌, ◌≤◌, ◌^◌, List, length, true, Option, Some, None, IsSome, IfSome}
+use Rattle.std.specs.Prelude.{◌≡◌, ℕ, ◌*◌, ◌<◌, ◌≤◌, ◌^◌, List, length, true, Option, Some, None, IsSome, IfSome}
 use Rattle.ucon_model.specs.declared.command.Entry.{Entry}
 use Rattle.ucon_model.specs.Action.{Trace}
 use Rattle.ucon_model.specs.History.{History, said, changes}
@@ -22,7 +22,8 @@ pub record Kept (D : Type 0) : Type 0 where
 
 -- the journal is closed, behind records of five bytes at least, and where the disk tells, its file holds the policy and the history, and a
 -- crash leaves nothing else
-pub record IsAtRestWith {D : Type 0} (contents : D → Option (List ℕ)) (images : D → List ℕ → Type 0) (journal : Journal D) (text : Bytes) (P : PlainPolicy) (H : History) : Type 0 where
+pub record IsAtRestWith {D : Type 0} (contents : D → Option (List ℕ)) (images : D → List ℕ → Type 0)
+    (journal : Journal D) (text : Bytes) (P : PlainPolicy) (H : History) : Type 0 where
   pub closed : IsClosed contents journal
   pub few : 5 * length H ≤ gate_of journal
   pub only : Only (contents (disk_of journal)) (images (disk_of journal))
@@ -30,7 +31,8 @@ pub record IsAtRestWith {D : Type 0} (contents : D → Option (List ℕ)) (image
 
 -- The engine stands for the policy and the history. Without a mark the journal is at rest with them; with a mark its step would have changed
 -- something. Where the disk tells, each image now is found as the history, or as it with the mark's entry.
-pub record IsKept {E D : Type 0} (follows : E → PlainPolicy → Trace → Type 0) (contents : D → Option (List ℕ)) (images : D → List ℕ → Type 0) (engine : E) (journal : Journal D) (text : Bytes) (H : History) (mark : Option Entry) : Type 0 where
+pub record IsKept {E D : Type 0} (follows : E → PlainPolicy → Trace → Type 0) (contents : D → Option (List ℕ)) (images : D → List ℕ → Type 0)
+    (engine : E) (journal : Journal D) (text : Bytes) (H : History) (mark : Option Entry) : Type 0 where
   pub P : PlainPolicy
   pub accepts : accepted text ≡ Some P
   pub stands : StandsFor follows engine P H

@@ -1,5 +1,5 @@
 -- What the runs of a store leave true between it and what it becomes.
-use Rattle.std.proofs.Common.{◌≡◌, ◌⊎◌, inl, inr, ⊎_elim, ℕ, ◌+◌, ◌≤◌, List, [], ◌∷◌, ◌++◌, Option, Some, None, IsSome, true, false, arith, sym, ap, ◌∙◌, refl, subst}
+use Rattle.std.proofs.Common.{◌≡◌, ◌⊎◌, inl, inr, ⊎_elim, ℕ, ◌≤◌, List, [], ◌∷◌, ◌++◌, Option, Some, None, IsSome, true, false, arith, sym, ap, ◌∙◌, refl, subst}
 use Rattle.std.specs.Prelude.{is_some}
 use Rattle.ucon_model.specs.declared.command.Entry.{Entry}
 use Rattle.ucon_model.specs.History.{History}
@@ -36,8 +36,10 @@ none_or_some None = inl refl
 none_or_some (Some a) = inr (a, refl)
 
 -- it is reflexive and composes, for disks whose images keep these laws
-module _ {D : Type 0} (contents : D → Option (List ℕ)) (images : D → List ℕ → Type 0) (moment : D → ℕ) (images_since : D → ℕ → List ℕ → Type 0) (faults : D → ℕ) where
-  pub stays_same : ((d : D) (c : List ℕ) → images_since d (moment d) c → images d c) → (x : Kept D) → Stays contents images moment images_since faults x x
+module _ {D : Type 0} (contents : D → Option (List ℕ)) (images : D → List ℕ → Type 0) (moment : D → ℕ)
+    (images_since : D → ℕ → List ℕ → Type 0) (faults : D → ℕ) where
+  pub stays_same : ((d : D) (c : List ℕ) → images_since d (moment d) c → images d c) → (x : Kept D)
+      → Stays contents images moment images_since faults x x
   stays_same only x = record {
     policy = refl;
     opening = refl;
@@ -49,7 +51,8 @@ module _ {D : Type 0} (contents : D → Option (List ℕ)) (images : D → List 
     left = λ told. record { later = omega arith; each = λ c since. inl (only x.disk c since); before = λ t c le since. inl since };
   }
 
-  module _ (counts : (d : D) (t : ℕ) (c : List ℕ) → t ≤ moment d → images d c → images_since d t c) (x y z : Kept D) (p : Stays contents images moment images_since faults x y) (q : Stays contents images moment images_since faults y z) where
+  module _ (counts : (d : D) (t : ℕ) (c : List ℕ) → t ≤ moment d → images d c → images_since d t c) (x y z : Kept D)
+      (p : Stays contents images moment images_since faults x y) (q : Stays contents images moment images_since faults y z) where
     found_later : (c : List ℕ) → IsFoundBetween x y c → IsFoundBetween x z c
     found_later c f = record {
       history = f.history;
@@ -67,7 +70,8 @@ module _ {D : Type 0} (contents : D → Option (List ℕ)) (images : D → List 
     first : (c : List ℕ) → images x.disk c ⊎ IsFoundBetween x y c → images x.disk c ⊎ IsFoundBetween x z c
     first c h = ⊎_elim inl (λ f. inr (found_later c f)) h
 
-    second : LeavesOnly moment images_since x.disk y.disk (λ c. images x.disk c ⊎ IsFoundBetween x y c) → (c : List ℕ) → images y.disk c ⊎ IsFoundBetween y z c → images x.disk c ⊎ IsFoundBetween x z c
+    second : LeavesOnly moment images_since x.disk y.disk (λ c. images x.disk c ⊎ IsFoundBetween x y c)
+        → (c : List ℕ) → images y.disk c ⊎ IsFoundBetween y z c → images x.disk c ⊎ IsFoundBetween x z c
     second run c h = ⊎_elim (λ i. first c (run.each c (counts y.disk (moment x.disk) c run.later i))) (λ f. inr (found_sooner c f)) h
 
     left_again : IsSome (contents x.disk) → LeavesOnly moment images_since x.disk z.disk (λ c. images x.disk c ⊎ IsFoundBetween x z c)

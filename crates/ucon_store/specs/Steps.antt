@@ -1,8 +1,7 @@
 -- What a step answers and does.
-use Rattle.std.specs.Prelude.{◌≡◌, ℕ, List, [], ◌∷◌, ◌++◌, length, true, Option, Some, None}
+use Rattle.std.specs.Prelude.{◌≡◌, ℕ, length, true, Some, None}
 use Rattle.ucon_model.specs.declared.command.Entry.{Entry}
-use Rattle.ucon_model.specs.declared.reply.Reply.{Reply}
-use Rattle.ucon_model.specs.History.{History, said, changes, grown}
+use Rattle.ucon_model.specs.History.{said, changes, grown}
 use Rattle.ucon_model.specs.Plain.{PlainPolicy}
 use Rattle.ucon_model.specs.Views.{reply_of}
 use Rattle.ucon_disk.specs.Causes.{raised}

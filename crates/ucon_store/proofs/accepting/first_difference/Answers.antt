@@ -1,4 +1,4 @@
-use Rattle.std.proofs.Common.{rules, ◌≡◌, ◌≢◌, ◌≤◌, length, sym, subst, arith}
+use Rattle.std.proofs.Common.{rules, ◌≡◌, ◌≢◌, length, sym, subst, arith}
 use Rattle.std.specs.Prelude.{min}
 use Rattle.ucon_store.proofs.Differences.{AreSameTo, ends_at}
 use Rattle.ucon_store.proofs.accepting.first_difference.Goals as goal

@@ -1,4 +1,3 @@
-use Rattle.std.proofs.Common.{◌≡◌}
 use Rattle.ucon_store.proofs.Differences.{AreSameTo}
 use Rattle.ucon_store.proofs.accepting.first_difference.Given as goal
 

@@ -1,21 +1,16 @@
-use Rattle.std.proofs.Common.{rules, ◌≡◌, ◌≢◌, ◌+◌, ◌*◌, ◌<◌, ◌≤◌, ◌∷◌, [], ◌++◌, ℕ, List, length, true, false, Bool, Option, None, Some, Ok, Err, refl, sym, ap, ◌∙◌, subst, arith}
-use Rattle.std.specs.Prelude.{IfSome, option_map}
-use Rattle.ucon_disk.specs.Disk.{Only, SameImages}
-use Rattle.ucon_disk.specs.Run.{LeavesOnly, LeavesAfter}
-use Rattle.ucon_journal.specs.Found.{counted, payloads_from}
-use Rattle.ucon_journal.specs.Found as journalled
-use Rattle.ucon_journal.specs.Journal.{disk_of, gate_of, payload_of, told_payloads}
-use Rattle.ucon_journal.specs.Opened.{opened, shut_at, with_payload, SamePayloads, Untouched}
+use Rattle.std.proofs.Common.{◌≡◌, ◌<◌, ◌∷◌, [], ℕ, List, length, Option, Err, sym, ap, ◌∙◌, subst}
+use Rattle.std.specs.Prelude.{IfSome}
+use Rattle.ucon_journal.specs.Found.{payloads_from}
+use Rattle.ucon_journal.specs.Journal.{disk_of, gate_of, payload_of}
 use Rattle.ucon_model.specs.Found.{found_in, damaged}
-use Rattle.ucon_model.specs.History.{History}
-use Rattle.ucon_model.specs.Plain.{Bytes, PlainPolicy}
+use Rattle.ucon_model.specs.Plain.{Bytes}
 use Rattle.ucon_syntax.specs.Policies.{accepted}
-use Rattle.ucon_store.specs.Found.{found, Holds, Tells, IsFoundAs, Opens}
+use Rattle.ucon_store.specs.Found.{found}
 use Rattle.ucon_journal.specs.declared.fault.TakeFault.TheVariants as taking
 use Rattle.ucon_store.specs.declared.fault.StoreFault.{StoreFault}
 use Rattle.ucon_store.specs.Opening.{HasReason}
-use Rattle.ucon_store.proofs.Openings.{says_all, says_none, says_long_policy, more_told, none_told}
-use Rattle.ucon_store.proofs.Runs.{read_opens, then_opens}
+use Rattle.ucon_store.proofs.Openings.{says_all, says_long_policy, more_told}
+use Rattle.ucon_store.proofs.Runs.{then_opens}
 use Rattle.ucon_store.proofs.Taking.{taking_reason}
 use Rattle.ucon_store.proofs.opening.load.Goals as goal
 

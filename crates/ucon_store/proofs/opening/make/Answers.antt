@@ -1,16 +1,10 @@
-use Rattle.std.proofs.Common.{rules, ◌≡◌, ◌≢◌, ◌+◌, ◌*◌, ◌<◌, ◌≤◌, ◌∷◌, [], ◌++◌, ℕ, List, length, true, false, Bool, Option, None, Some, Ok, Err, refl, sym, ap, ◌∙◌, subst, arith}
-use Rattle.std.specs.Prelude.{IfSome, option_map}
-use Rattle.ucon_disk.specs.Disk.{Only, SameImages}
-use Rattle.ucon_disk.specs.Run.{LeavesOnly, LeavesAfter}
-use Rattle.ucon_journal.specs.Found.{counted, payloads_from}
-use Rattle.ucon_journal.specs.Found as journalled
-use Rattle.ucon_journal.specs.Journal.{disk_of, gate_of, payload_of, told_payloads}
-use Rattle.ucon_journal.specs.Opened.{opened, shut_at, with_payload, SamePayloads, Untouched}
-use Rattle.ucon_model.specs.Found.{found_in, damaged}
+use Rattle.std.proofs.Common.{◌≡◌, ◌*◌, ◌≤◌, [], length, refl, sym, ap, ◌∙◌, subst, arith}
+use Rattle.std.specs.Prelude.{option_map}
+use Rattle.ucon_disk.specs.Run.{LeavesAfter}
+use Rattle.ucon_journal.specs.Journal.{disk_of, gate_of, told_payloads}
+use Rattle.ucon_journal.specs.Opened.{shut_at, with_payload, SamePayloads}
 use Rattle.ucon_model.specs.History.{History}
-use Rattle.ucon_model.specs.Plain.{Bytes, PlainPolicy}
 use Rattle.ucon_syntax.specs.Policies.{accepted}
-use Rattle.ucon_store.specs.Found.{found, Holds, Tells, IsFoundAs, Opens}
 use Rattle.ucon_store.proofs.Openings.{holds_made, holds_moved, none_found}
 use Rattle.ucon_store.proofs.Runs.{mend_fresh_opens, make_opens}
 use Rattle.ucon_store.proofs.opening.make.Goals as goal

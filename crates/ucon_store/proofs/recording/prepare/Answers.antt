@@ -1,6 +1,5 @@
-use Rattle.std.proofs.Common.{◌≡◌, ◌∷◌, [], ◌++◌, ◌≤◌, List, length, Some, refl, sym, ap, ◌∙◌, arith}
+use Rattle.std.proofs.Common.{◌≡◌, ◌∷◌, [], ◌++◌, ◌≤◌, length, Some, sym, ap, ◌∙◌, arith}
 use Rattle.ucon_model.specs.declared.command.Command.{Command}
-use Rattle.ucon_model.specs.declared.command.Entry.{Entry}
 use Rattle.ucon_model.specs.History.{said, changes}
 use Rattle.ucon_model.specs.Payload.{most_payload, Told, entry_told, told, payload_spelling, payload_read}
 use Rattle.ucon_model.specs.Plain.{PlainReply}

@@ -1,10 +1,8 @@
-use Rattle.std.proofs.Common.{rules, ◌≡◌, ◌≢◌, ◌∷◌, [], ◌++◌, ℕ, List, length, false, true, Ok, Err, Option, Some, None, refl, sym, ap, ◌∙◌, subst}
+use Rattle.std.proofs.Common.{rules, ◌≡◌, ◌≢◌, ◌∷◌, [], ◌++◌, ℕ, List, false, true, Ok, Err, Option, Some, sym, ap, ◌∙◌, subst}
 use Rattle.std.specs.Prelude.{MatchOption}
 use Rattle.ucon_model.specs.declared.command.Entry.{Entry}
-use Rattle.ucon_model.specs.Block.{after}
-use Rattle.ucon_model.specs.Found.{taken}
-use Rattle.ucon_model.specs.History.{History, trace, said, changes}
-use Rattle.ucon_model.specs.Payload.{payload_read, payload_spelling, told}
+use Rattle.ucon_model.specs.History.{trace}
+use Rattle.ucon_model.specs.Payload.{payload_read, told}
 use Rattle.ucon_model.specs.Plain.{PlainPolicy, PlainReply}
 use Rattle.ucon_model.specs.Views.{reply_of}
 use Rattle.ucon_store.proofs.Stepping.{one_policy, trace_longer}

@@ -1,4 +1,4 @@
-use Rattle.std.proofs.Common.{◌≡◌, ◌-◌, ◌^◌, ℕ}
+use Rattle.std.proofs.Common.{◌≡◌, ◌-◌, ◌^◌}
 use Rattle.ucon_disk.specs.Disk.{SameImages}
 use Rattle.ucon_disk.specs.Run.{LeavesOnly}
 use Rattle.ucon_journal.specs.Journal.{disk_of, gate_of, IsReading}

@@ -1,4 +1,4 @@
-use Rattle.std.proofs.Common.{rules, ◌≡◌, ◌+◌, ◌*◌, ◌<◌, ◌≤◌, ℕ, ◌∷◌, [], ◌++◌, length, false, true, Bool, Ok, Err, Option, Some, None, List, refl, sym, ap, ◌∙◌, subst, arith}
+use Rattle.std.proofs.Common.{rules, ◌≡◌, ◌+◌, ◌<◌, ℕ, ◌∷◌, [], length, false, true, Ok, Err, Some, List, refl, sym, ap, ◌∙◌, subst, arith}
 use Rattle.std.specs.Prelude.{IfSome}
 use Rattle.ucon_journal.specs.declared.fault.TakeFault.TheVariants as taking
 use Rattle.ucon_journal.specs.Journal.{disk_of, gate_of, payload_of}
@@ -10,7 +10,7 @@ use Rattle.ucon_store.specs.declared.fault.StoreFault.{StoreFault}
 use Rattle.ucon_store.specs.Faults.{of_take}
 use Rattle.ucon_store.specs.Found.{found}
 use Rattle.ucon_store.specs.Opening.{HasReason}
-use Rattle.ucon_store.proofs.Openings.{says_next, says_wrong, says_long, says_ended, says_moved, holds_moved, more_told, none_told}
+use Rattle.ucon_store.proofs.Openings.{says_next, says_long, says_ended, says_moved, holds_moved, more_told, none_told}
 use Rattle.ucon_store.proofs.Stepping.{one_policy}
 use Rattle.ucon_store.proofs.Taking.{taking_reason}
 use Rattle.ucon_store.proofs.loading.Loaded.take_next.Goals as goal

@@ -1,19 +1,10 @@
-use Rattle.std.proofs.Common.{rules, ◌≡◌, ◌≢◌, ◌+◌, ◌*◌, ◌<◌, ◌≤◌, ◌∷◌, [], ◌++◌, ℕ, List, length, true, false, Bool, Option, None, Some, Ok, Err, refl, sym, ap, ◌∙◌, subst, arith}
-use Rattle.std.specs.Prelude.{IfSome, option_map}
-use Rattle.ucon_disk.specs.Disk.{Only, SameImages}
-use Rattle.ucon_disk.specs.Run.{LeavesOnly, LeavesAfter}
-use Rattle.ucon_journal.specs.Found.{counted, payloads_from}
-use Rattle.ucon_journal.specs.Found as journalled
-use Rattle.ucon_journal.specs.Journal.{disk_of, gate_of, payload_of, told_payloads}
-use Rattle.ucon_journal.specs.Opened.{opened, shut_at, with_payload, SamePayloads, Untouched}
-use Rattle.ucon_model.specs.Found.{found_in, damaged}
-use Rattle.ucon_model.specs.History.{History}
-use Rattle.ucon_model.specs.Plain.{Bytes, PlainPolicy}
-use Rattle.ucon_syntax.specs.Policies.{accepted}
-use Rattle.ucon_store.specs.Found.{found, Holds, Tells, IsFoundAs, Opens}
+use Rattle.std.proofs.Common.{◌≡◌, Some, sym, subst}
+use Rattle.ucon_disk.specs.Run.{LeavesAfter}
+use Rattle.ucon_journal.specs.Journal.{disk_of}
+use Rattle.ucon_store.specs.Found.{Tells, Opens}
 use Rattle.ucon_store.specs.declared.fault.StoreFault.{StoreFault}
 use Rattle.ucon_store.specs.Opening.{HasReason}
-use Rattle.ucon_store.proofs.Begun.{opening_reason, reason_before, found_before, journal_opened}
+use Rattle.ucon_store.proofs.Begun.{opening_reason, reason_before, found_before}
 use Rattle.ucon_store.proofs.Runs.{begin_opens, whole_opens}
 use Rattle.ucon_store.proofs.store.Store.open.Goals as goal
 

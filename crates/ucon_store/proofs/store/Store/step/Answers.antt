@@ -1,20 +1,19 @@
-use Rattle.std.proofs.Common.{rules, ◌≡◌, ◌∷◌, [], ◌++◌, ◌+◌, ◌≤◌, ℕ, List, length, true, false, Option, None, Some, refl, sym, ap, ◌∙◌, subst, arith}
+use Rattle.std.proofs.Common.{rules, ◌≡◌, ◌∷◌, [], ◌++◌, ◌+◌, ◌≤◌, List, length, true, Option, None, Some, refl, sym, ap, ◌∙◌, subst}
 use Rattle.std.specs.Prelude.{is_some, IsSome, IfSome}
 use Rattle.ucon_disk.specs.Causes.{raised}
 use Rattle.ucon_disk.specs.Run.{LeavesOnly}
-use Rattle.ucon_journal.specs.Journal.{disk_of, gate_of}
+use Rattle.ucon_journal.specs.Journal.{disk_of}
 use Rattle.ucon_model.specs.declared.command.Entry.{Entry}
-use Rattle.ucon_model.specs.History.{History, trace, said, changes}
+use Rattle.ucon_model.specs.History.{trace, changes}
 use Rattle.ucon_model.specs.Payload.{revocations_in}
-use Rattle.ucon_model.specs.Plain.{PlainPolicy, PlainReply}
-use Rattle.ucon_model.specs.Views.{reply_of}
+use Rattle.ucon_model.specs.Plain.{PlainReply}
 use Rattle.ucon_syntax.specs.Policies.{accepted}
 use Rattle.ucon_turn.specs.Lists.{Continues}
 use Rattle.ucon_store.specs.Events.{events, events_of, number_of}
 use Rattle.ucon_store.specs.Found.{IsFoundAs, IsFoundWith}
 use Rattle.ucon_store.specs.Kept.{Kept, IsKept}
 use Rattle.ucon_store.specs.Stays.{Stays}
-use Rattle.ucon_store.proofs.Recorded.{OneByOne, at_rest_as, run_perhaps, at_rest_with, found_at_rest, stays_more, stays_marked, events_more, events_marked}
+use Rattle.ucon_store.proofs.Recorded.{OneByOne, run_perhaps, at_rest_with, found_at_rest, stays_more, stays_marked, events_more, events_marked}
 use Rattle.ucon_store.proofs.Stepping.{unmarked, at_rest_moved, kept_marked, kept_more, left_since}
 use Rattle.ucon_store.proofs.store.Store.step.Goals as goal
 
