@@ -13,9 +13,9 @@ use Rattle.ucon_syntax.specs.Expressions.{place_at, level, factor_at, term_at, e
 use Rattle.ucon_syntax.specs.Formulas.{compare_at, unit_level, unit_at, conj_at, formula_at, square_at}
 use Rattle.ucon_syntax.specs.Items.{range_at, kind_at, attr_at, env_at, form_at, party_at, duty_at, pred_at, update_at}
 use Rattle.ucon_syntax.specs.Lists.{items_at}
-use Rattle.ucon_syntax.specs.Literals.{negative_at, int_at, member_at, texts_at, set_at, literal_at}
+use Rattle.ucon_token.specs.Literals.{literal_start, negative_at, int_at, member_at, texts_at, set_at, literal_at}
 use Rattle.ucon_syntax.specs.Policies.{preds_at, updates_at, right_at, attrs_at, envs_at, rights_at, policy_at, whole_at, reading_of}
-use Rattle.ucon_syntax.specs.Starts.{literal_start, factor_start, sum_sign, unit_start, op_of, side_of, kind_word, phase_of, test_sort, duty_word, when_of, name_in}
+use Rattle.ucon_syntax.specs.Starts.{factor_start, sum_sign, unit_start, op_of, side_of, kind_word, phase_of, test_sort, duty_word, when_of, name_in}
 use Rattle.ucon_syntax.specs.declared.read.SyntaxFault.{SyntaxFault}
 use Rattle.ucon_token.specs.Tokens.{is_symbol, is_word, is_joined, word_of, number_of, text_of as token_text, sign_of, flaw_at}
 use Rattle.ucon_top.specs.Accepted.{HasPolicy, IsAccepted}
