@@ -1,6 +1,7 @@
 //! A script, read line by line.
 
 ghost use Rattle.std.specs.Prelude.{◌≡◌, ◌<◌, ◌+◌, Some, option_map, OnOk};
+ghost use Rattle.std.specs.Option.{ForSome};
 ghost use Rattle.ucon_model.specs.Document.{is_skipped, said_told, line_told};
 ghost use Rattle.ucon_script.specs.Document.{Gives, spelled_line};
 ghost use Rattle.ucon_script.specs.Lines.{client_after, count_after};
@@ -25,12 +26,15 @@ pub struct Cursor {
     pub client: Option<Caller>,
     /// How many command lines stand above.
     pub said: u32,
+    ghost few: { ForSome client (λ c. c.0 < 64) },
 }
 
 impl Cursor {
     /// The script whose first line has this number.
     pub fn new(number: u32) -> Cursor
-        ensures { result ≡ record { number = number; client = None; said = 0 } }
+        ensures number { result.number ≡ number }
+        ensures client { result.client ≡ None }
+        ensures said { result.said ≡ 0 }
     {
         Cursor {
             number,
@@ -76,6 +80,7 @@ fn command_line<'a>(
     said: u32,
     line: &'a [u8],
 ) -> Result<LineText<'a>, DocFault>
+    requires { ForSome client (λ c. c.0 < 64) }
     ensures told { Gives (λ l. Some (spelled_line l)) result (said_told number client said line.now) }
     ensures room { OnOk result (said < 262144) }
 {

@@ -1,6 +1,6 @@
 //! Headings: `client N`.
 
-ghost use Rattle.std.specs.Prelude.{◌≡◌, option_map, IfOk};
+ghost use Rattle.std.specs.Prelude.{◌≡◌, ◌<◌, option_map, IfOk};
 ghost use Rattle.ucon_model.specs.Document.{caller_of, number_spelled, heading_told};
 ghost use Rattle.ucon_script.specs.Document.{Gives};
 
@@ -15,6 +15,7 @@ const MOST_CLIENTS: u128 = 64;
 pub fn heading(number: u32, spelling: &[u8]) -> Result<Caller, DocFault>
     ensures told { Gives (λ _. None) result (heading_told number (number_spelled spelling.now)) }
     ensures client { IfOk result (λ c. Some c ≡ option_map caller_of (number_spelled spelling.now)) }
+    ensures few { IfOk result (λ c. c.0 < 64) }
 {
     match number_spelled(spelling, MOST_CLIENTS) {
         None => Err(DocFault::BadHeading(number)),

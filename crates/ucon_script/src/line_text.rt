@@ -1,6 +1,6 @@
 //! Command lines where they stand in a document.
 
-ghost use Rattle.std.specs.Prelude.{◌≡◌, IfOk, IsOk};
+ghost use Rattle.std.specs.Prelude.{◌≡◌, ◌<◌, IfOk, IsOk};
 ghost use Rattle.ucon_model.specs.CommandLine.{line_read};
 
 use crate::Line;
@@ -9,7 +9,7 @@ use ucon_base::{NoMemory, Rows};
 use ucon_command::{LineFault, read_command};
 use ucon_model::Caller;
 
-/// A command line by its bytes, which are known to spell a command. So it takes 24 bytes of memory, and not the room of the longest
+/// A command line by its bytes, which are known to spell a command, below a heading of one of at most 64 clients. So it takes 24 bytes of memory, and not the room of the longest
 /// command.
 #[derive(Clone, Copy, Debug)]
 pub struct LineText<'a> {
@@ -19,6 +19,7 @@ pub struct LineText<'a> {
     /// Without the newline.
     pub text: &'a [u8],
     ghost spelled: { IsOk (line_read text.now) },
+    ghost few: { caller.0 < 64 },
 }
 
 impl<'a> LineText<'a> {

@@ -1,7 +1,7 @@
 -- How a run ends.
 use Rattle.std.specs.Prelude.{ℕ}
 use Rattle.ucon_top.specs.declared.outcome.Outcome.{Outcome}
-use Rattle.ucon_top.specs.declared.outcome.Outcome.TheVariants.{Done, Usage, Policy, Script, SourceFault, SinkFault, NoMemory, TooLong}
+use Rattle.ucon_top.specs.declared.outcome.Outcome.TheVariants.{Done, Usage, Policy, Script, SourceFault, SinkFault, DiskFault, Damaged, NotJournal, NoMemory, OtherPolicy, TooLong}
 use Rattle.ucon_flow.specs.declared.source.ReadFault.{ReadFault}
 use Rattle.ucon_flow.specs.declared.source.ReadFault.TheVariants as reads
 use Rattle.ucon_syntax.specs.declared.read.SyntaxFault.{SyntaxFault}
@@ -22,7 +22,11 @@ status_of (Policy f) = 2
 status_of (Script f) = 3
 status_of SourceFault = 4
 status_of SinkFault = 5
+status_of DiskFault = 6
+status_of (Damaged number place) = 7
+status_of NotJournal = 8
 status_of (NoMemory e) = 9
+status_of (OtherPolicy place) = 10
 status_of TooLong = 11
 
 -- what refuses a document whose policy part has this fault, whose policy has this one, or whose script has this one
@@ -54,12 +58,8 @@ by_reading (reads.NoMemory e) = NoMemory e
 abbrev pub IsUnwritten : Outcome → Type 0
 IsUnwritten Done = ⊥
 IsUnwritten SinkFault = ⊥
-IsUnwritten Usage = Unit {0}
-IsUnwritten (Policy f) = Unit {0}
-IsUnwritten (Script f) = Unit {0}
-IsUnwritten SourceFault = Unit {0}
-IsUnwritten (NoMemory e) = Unit {0}
-IsUnwritten TooLong = Unit {0}
+IsUnwritten DiskFault = ⊥
+IsUnwritten outcome = Unit {0}
 
 -- how a run ends whose document was not refused
 abbrev pub IsUnrefused : Outcome → Type 0

@@ -13,7 +13,7 @@ use Rattle.ucon_script.specs.declared.doc_fault.DocFault.TheVariants as scripts
 use Rattle.ucon_top.specs.declared.outcome.PolicyFault.{PolicyFault}
 use Rattle.ucon_top.specs.declared.outcome.PolicyFault.TheVariants.{Syntax, Typing}
 use Rattle.ucon_top.specs.declared.outcome.Outcome.{Outcome}
-use Rattle.ucon_top.specs.declared.outcome.Outcome.TheVariants.{Done, Usage, Policy, Script, SourceFault, SinkFault, NoMemory, TooLong}
+use Rattle.ucon_top.specs.declared.outcome.Outcome.TheVariants.{Done, Usage, Policy, Script, SourceFault, SinkFault, DiskFault, Damaged, NotJournal, NoMemory, OtherPolicy, TooLong}
 
 -- words, and the place, item or line where
 abbrev pub told_at : Bytes → ℕ → Bytes
@@ -62,6 +62,10 @@ cause_words (Policy f) = codes "policy: " ++ policy_words f
 cause_words (Script f) = codes "script: " ++ script_words f
 cause_words SourceFault = codes "source fault"
 cause_words SinkFault = codes "sink fault"
+cause_words DiskFault = codes "disk fault"
+cause_words (Damaged number place) = told_at (codes "damaged record ") number ++ told_at (codes " at ") place
+cause_words NotJournal = codes "not a journal"
+cause_words (OtherPolicy place) = told_at (codes "other policy at ") place
 cause_words (NoMemory e) = codes "no memory"
 cause_words TooLong = codes "input too long"
 

@@ -10,6 +10,7 @@ mod laws;
 mod number;
 mod outcome;
 mod printing;
+mod reporting;
 mod summary;
 #[cfg(test)]
 mod tests;
@@ -21,4 +22,5 @@ pub use form::Form;
 pub use laws::{accepted_documents_are_not_refused, generated_documents_are_accepted};
 pub use outcome::{Ended, Outcome, PolicyFault, Refused};
 pub use printing::fault_text;
+pub use reporting::report;
 pub use top::run;

@@ -37,9 +37,20 @@ fn put_cause(out: &mut Vec<u8>, outcome: &Outcome) -> Result<(), NoMemory>
         Outcome::Usage => put(out, b"usage"),
         Outcome::SourceFault => put(out, b"source fault"),
         Outcome::SinkFault => put(out, b"sink fault"),
+        Outcome::DiskFault => put(out, b"disk fault"),
+        Outcome::Damaged { number, place } => put_damaged(out, *number, *place),
+        Outcome::NotJournal => put(out, b"not a journal"),
+        Outcome::OtherPolicy(place) => put_at(out, b"other policy at ", *place),
         Outcome::NoMemory(_) => put(out, b"no memory"),
         Outcome::TooLong => put(out, b"input too long"),
     }
+}
+
+fn put_damaged(out: &mut Vec<u8>, number: u64, place: u64) -> Result<(), NoMemory>
+    ensures { OnOk result (out.new.items ≡ out.old.items ++ cause_words (Outcome.Damaged number place)) }
+{
+    put_at(out, b"damaged record ", number)?;
+    put_at(out, b" at ", place)
 }
 
 fn put_policy(out: &mut Vec<u8>, fault: &PolicyFault) -> Result<(), NoMemory>

@@ -1,6 +1,7 @@
 use super::*;
 use std::alloc::Global;
 use std::test::Fail;
+use ucon_disk::MemDisk;
 use ucon_flow::{MemSink, MemSource};
 use ucon_vectors::{
     CAPPED, Example, Row, Words, generated_rows, guide_examples, language_examples, typing_faults,
@@ -19,12 +20,17 @@ fn numbers(alloc: Global, all: &[u64]) -> Result<Vec<u64>, Fail> {
     Ok(Vec::from_slice(alloc, all)?)
 }
 
+/// For the forms that make no call of it.
+fn no_disk(alloc: Global) -> MemDisk {
+    MemDisk::new(alloc, Vec::new(alloc), Vec::new(alloc), Some(0))
+}
+
 /// How a form ends over a document, and what it writes.
-fn ran(alloc: Global, form: &str, document: &[u8]) -> Result<(Ended, Vec<u8>), Fail> {
+fn ran(alloc: Global, form: &str, document: &[u8]) -> Result<(Outcome, Vec<u8>), Fail> {
     let mut source = MemSource::new(Vec::from_slice(alloc, document)?, 7, Vec::new(alloc));
     let mut sink = MemSink::new(alloc, 3, Vec::new(alloc));
-    let ended = run(alloc, &words(alloc, &[form])?, &mut source, &mut sink);
-    Ok((ended, Vec::from_slice(alloc, sink.bytes())?))
+    let ended = run(alloc, &words(alloc, &[form])?, &mut source, &mut sink, no_disk(alloc));
+    Ok((ended.outcome, Vec::from_slice(alloc, sink.bytes())?))
 }
 
 /// A row's policy, the divider and its script.
@@ -40,7 +46,7 @@ fn document(alloc: Global, row: &Row) -> Result<Vec<u8>, Fail> {
 fn worked_rows_print_what_they_say(rt: HostRuntime) -> Result<(), Fail> {
     for row in worked_rows() {
         let found = ran(rt.alloc(), "trial", &document(rt.alloc(), &row)?)?;
-        assert_eq!(rt; found.0.status, 0, "{}", row.name);
+        assert_eq!(rt; found.0.status(), 0, "{}", row.name);
         assert_eq!(rt; found.1.as_slice(), row.output, "{}", row.name);
     }
     Ok(())
@@ -49,10 +55,10 @@ fn worked_rows_print_what_they_say(rt: HostRuntime) -> Result<(), Fail> {
 /// What a form prints: the output, or with another status the line of the fault.
 fn printed(alloc: Global, form: &str, document: &[u8]) -> Result<(u8, Vec<u8>), Fail> {
     let found = ran(alloc, form, document)?;
-    if found.0.status == 0 {
+    if found.0.status() == 0 {
         return Ok((0, found.1));
     }
-    Ok((found.0.status, fault_text(alloc, &found.0.outcome)?))
+    Ok((found.0.status(), fault_text(alloc, &found.0)?))
 }
 
 /// The user's page of the policy language tells the truth.
@@ -161,9 +167,9 @@ fn other_ends(rt: HostRuntime) -> Result<(), Fail> {
     let capped = ran(alloc, "check", CAPPED)?;
     assert_eq!(rt; capped.1.as_slice(), b"right use onA1 onA3\n".as_slice());
     let refused = ran(alloc, "check", b"right r {")?;
-    assert_eq!(rt; refused.0.status, 2);
+    assert_eq!(rt; refused.0.status(), 2);
     let script = ran(alloc, "check", b"%%\nclient 1\nlook\n")?;
-    assert_eq!(rt; script.0.status, 3);
+    assert_eq!(rt; script.0.status(), 3);
     let cases: [(&[&str], &[u64], &[u64], u8, &[u8], &[u8]); 5] = [
         (&["trial"], &[], &[], 0, b"0 1 ok\n", b""),
         (&["trial"], &[1], &[], 4, b"", b"ucon: source fault\n"),
@@ -175,7 +181,7 @@ fn other_ends(rt: HostRuntime) -> Result<(), Fail> {
         let bytes = Vec::from_slice(alloc, b"%%\nclient 0\nsubject a\n")?;
         let mut source = MemSource::new(bytes, 4, numbers(alloc, source_faults)?);
         let mut sink = MemSink::new(alloc, 1, numbers(alloc, sink_faults)?);
-        let ended = run(alloc, &words(alloc, all)?, &mut source, &mut sink);
+        let ended = run(alloc, &words(alloc, all)?, &mut source, &mut sink, no_disk(alloc));
         assert_eq!(rt; ended.status, status);
         assert_eq!(rt; sink.bytes(), output);
         assert_eq!(rt; fault_text(alloc, &ended.outcome)?.as_slice(), text);
@@ -191,18 +197,18 @@ fn long_input(rt: HostRuntime) -> Result<(), Fail> {
     bytes.resize(4_194_305, b'\n')?;
     let mut source = MemSource::new(bytes, 4096, Vec::new(alloc));
     let mut sink = MemSink::new(alloc, 1, Vec::new(alloc));
-    let ended = run(alloc, &words(alloc, &["trial"])?, &mut source, &mut sink);
+    let ended = run(alloc, &words(alloc, &["trial"])?, &mut source, &mut sink, no_disk(alloc));
     assert_eq!(rt; ended.status, 11);
     assert_eq!(rt; sink.bytes(), b"".as_slice());
     Ok(())
 }
 
 /// How `gen` ends over these words, and what it writes. The source would fail if it were read.
-fn generated(alloc: Global, all: &[&str]) -> Result<(Ended, Vec<u8>), Fail> {
+fn generated(alloc: Global, all: &[&str]) -> Result<(Outcome, Vec<u8>), Fail> {
     let mut source = MemSource::new(Vec::new(alloc), 7, numbers(alloc, &[0])?);
     let mut sink = MemSink::new(alloc, 3, Vec::new(alloc));
-    let ended = run(alloc, &words(alloc, all)?, &mut source, &mut sink);
-    Ok((ended, Vec::from_slice(alloc, sink.bytes())?))
+    let ended = run(alloc, &words(alloc, all)?, &mut source, &mut sink, no_disk(alloc));
+    Ok((ended.outcome, Vec::from_slice(alloc, sink.bytes())?))
 }
 
 #[test]
@@ -213,7 +219,7 @@ fn generated_documents_are_summed(rt: HostRuntime) -> Result<(), Fail> {
         output,
     } in generated_rows() {
         let found = generated(rt.alloc(), words)?;
-        assert_eq!(rt; found.0.status, status);
+        assert_eq!(rt; found.0.status(), status);
         assert_eq!(rt; found.1.as_slice(), output);
     }
     Ok(())
@@ -224,7 +230,7 @@ fn generated_documents_are_summed(rt: HostRuntime) -> Result<(), Fail> {
 fn generated_twice(rt: HostRuntime) -> Result<(), Fail> {
     let first = generated(rt.alloc(), &["gen", "7", "2000"])?;
     let second = generated(rt.alloc(), &["gen", "7", "2000"])?;
-    assert_eq!(rt; first.0.status, 0);
+    assert_eq!(rt; first.0.status(), 0);
     assert!(rt; first.1.starts_with(b"lines 2025\n".as_slice()));
     assert_eq!(rt; first.1.as_slice(), second.1.as_slice());
     Ok(())

@@ -13,6 +13,7 @@ use crate::document::output_of;
 use crate::form::{Form, read_form};
 use crate::outcome::{Ended, Outcome};
 use std::alloc::Global;
+use ucon_disk::Disk;
 use ucon_flow::{Sink, Source, read_all, write_all};
 use ucon_plain::PlainMonitor;
 use ucon_script::generate;
@@ -25,7 +26,13 @@ const LIMIT: usize = 4_194_304;
 /// `trial` runs the document that the input is, from the empty history, in the order of its lines, and writes one answer a line.
 /// `check` writes the core models of each right of the document's policy. `gen` makes a document, runs it as `trial` does and writes the
 /// summary; it reads nothing.
-pub fn run<S: Source, K: Sink>(alloc: Global, words: &[String], input: &mut S, out: &mut K) -> Ended
+pub fn run<S: Source, K: Sink, D: Disk>(
+    alloc: Global,
+    words: &[String],
+    input: &mut S,
+    out: &mut K,
+    disk: D,
+) -> Ended<D>
     // Status and outcome agree.
     ensures status { result.status ≡ status_of result.outcome }
 
@@ -54,19 +61,22 @@ pub fn run<S: Source, K: Sink>(alloc: Global, words: &[String], input: &mut S, o
     ensures unused { result.outcome ≡ Outcome.Usage → input.new ≡ input.old }
     ensures unread { IfSome (form_of (map (λ w. string_bytes w) words.now)) (λ form. (ReadsInput form → ⊥) → input.new ≡ input.old) }
     ensures unwritten { IsUnwritten result.outcome → out.new ≡ out.old }
+
+    // The disk is the journal's alone, which no form opens yet.
+    ensures untouched { result.disk ≡ disk }
 {
     let Some(form) = read_form(words) else {
-        return Ended::by(Outcome::Usage);
+        return Ended::by(Outcome::Usage, disk);
     };
     let bytes = match document_bytes(alloc, form, input) {
         Ok(bytes) => bytes,
-        Err(outcome) => return Ended::by(outcome),
+        Err(outcome) => return Ended::by(outcome, disk),
     };
     match output_of::<PlainMonitor>(alloc, form, &bytes) {
-        Err(refused) => Ended::by(Outcome::from(refused)),
+        Err(refused) => Ended::by(Outcome::from(refused), disk),
         Ok(text) => match write_all(out, &text) {
-            Ok(()) => Ended::by(Outcome::Done),
-            Err(_) => Ended::by(Outcome::SinkFault),
+            Ok(()) => Ended::by(Outcome::Done, disk),
+            Err(_) => Ended::by(Outcome::SinkFault, disk),
         },
     }
 }
