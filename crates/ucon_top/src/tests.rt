@@ -3,6 +3,7 @@ use std::alloc::Global;
 use std::test::Fail;
 use ucon_disk::MemDisk;
 use ucon_flow::{MemSink, MemSource};
+use ucon_script::{generate, read_script};
 use ucon_vectors::{
     CAPPED, Example, Row, Words, generated_rows, guide_examples, language_examples, typing_faults,
     well_typed_policies, worked_rows,
@@ -29,7 +30,13 @@ fn no_disk(alloc: Global) -> MemDisk {
 fn ran(alloc: Global, form: &str, document: &[u8]) -> Result<(Outcome, Vec<u8>), Fail> {
     let mut source = MemSource::new(Vec::from_slice(alloc, document)?, 7, Vec::new(alloc));
     let mut sink = MemSink::new(alloc, 3, Vec::new(alloc));
-    let ended = run(alloc, &words(alloc, &[form])?, &mut source, &mut sink, no_disk(alloc));
+    let ended = run(
+        alloc,
+        &words(alloc, &[form])?,
+        &mut source,
+        &mut sink,
+        no_disk(alloc),
+    );
     Ok((ended.outcome, Vec::from_slice(alloc, sink.bytes())?))
 }
 
@@ -181,7 +188,13 @@ fn other_ends(rt: HostRuntime) -> Result<(), Fail> {
         let bytes = Vec::from_slice(alloc, b"%%\nclient 0\nsubject a\n")?;
         let mut source = MemSource::new(bytes, 4, numbers(alloc, source_faults)?);
         let mut sink = MemSink::new(alloc, 1, numbers(alloc, sink_faults)?);
-        let ended = run(alloc, &words(alloc, all)?, &mut source, &mut sink, no_disk(alloc));
+        let ended = run(
+            alloc,
+            &words(alloc, all)?,
+            &mut source,
+            &mut sink,
+            no_disk(alloc),
+        );
         assert_eq!(rt; ended.status, status);
         assert_eq!(rt; sink.bytes(), output);
         assert_eq!(rt; fault_text(alloc, &ended.outcome)?.as_slice(), text);
@@ -197,7 +210,13 @@ fn long_input(rt: HostRuntime) -> Result<(), Fail> {
     bytes.resize(4_194_305, b'\n')?;
     let mut source = MemSource::new(bytes, 4096, Vec::new(alloc));
     let mut sink = MemSink::new(alloc, 1, Vec::new(alloc));
-    let ended = run(alloc, &words(alloc, &["trial"])?, &mut source, &mut sink, no_disk(alloc));
+    let ended = run(
+        alloc,
+        &words(alloc, &["trial"])?,
+        &mut source,
+        &mut sink,
+        no_disk(alloc),
+    );
     assert_eq!(rt; ended.status, 11);
     assert_eq!(rt; sink.bytes(), b"".as_slice());
     Ok(())
@@ -207,7 +226,13 @@ fn long_input(rt: HostRuntime) -> Result<(), Fail> {
 fn generated(alloc: Global, all: &[&str]) -> Result<(Outcome, Vec<u8>), Fail> {
     let mut source = MemSource::new(Vec::new(alloc), 7, numbers(alloc, &[0])?);
     let mut sink = MemSink::new(alloc, 3, Vec::new(alloc));
-    let ended = run(alloc, &words(alloc, all)?, &mut source, &mut sink, no_disk(alloc));
+    let ended = run(
+        alloc,
+        &words(alloc, all)?,
+        &mut source,
+        &mut sink,
+        no_disk(alloc),
+    );
     Ok((ended.outcome, Vec::from_slice(alloc, sink.bytes())?))
 }
 
@@ -228,10 +253,21 @@ fn generated_documents_are_summed(rt: HostRuntime) -> Result<(), Fail> {
 /// The same words make the same document and the same run.
 #[test]
 fn generated_twice(rt: HostRuntime) -> Result<(), Fail> {
-    let first = generated(rt.alloc(), &["gen", "7", "2000"])?;
-    let second = generated(rt.alloc(), &["gen", "7", "2000"])?;
+    let first = generated(rt.alloc(), &["gen", "7", "20000"])?;
+    let second = generated(rt.alloc(), &["gen", "7", "20000"])?;
     assert_eq!(rt; first.0.status(), 0);
-    assert!(rt; first.1.starts_with(b"lines 2025\n".as_slice()));
+    assert!(rt; first.1.starts_with(b"lines 20025\n".as_slice()));
     assert_eq!(rt; first.1.as_slice(), second.1.as_slice());
+    Ok(())
+}
+
+/// A small generated document: the opening lines and one more.
+#[test]
+fn a_generated_document(rt: HostRuntime) -> Result<(), Fail> {
+    let text = generate(rt.alloc(), 0, 1)?;
+    match read_script(rt.alloc(), &text) {
+        Ok(script) => assert_eq!(rt; script.lines.len(), 26),
+        Err(fault) => assert!(rt; false, "{fault:?}"),
+    }
     Ok(())
 }
