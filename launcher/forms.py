@@ -1,7 +1,7 @@
 """The forms of words that the program has, and what `--help` and `--version` say."""
 import re
 import subprocess
-from typing import Callable, Dict, List, NamedTuple, Optional
+from typing import Callable, Dict, List, NamedTuple, Optional, Tuple
 
 from launcher import program
 
@@ -31,7 +31,7 @@ KNOWN = [
     Form("play JOURNAL", "runs the script over a journal, a file that keeps each step", "./ucon play door.journal < door.ucon", keeps=True),
 ]
 # Forms that the program doesn't have yet. A name goes from here when its form comes.
-COMING = ("play",)
+COMING: Tuple[str, ...] = ()
 FORMS = [form for form in KNOWN if form.name not in COMING]
 
 # What the launcher itself does.

@@ -13,7 +13,7 @@ use Rattle.ucon_model.specs.declared.policy.When.{When}
 use Rattle.ucon_model.specs.declared.session.SessionRow.{SessionRow}
 use Rattle.ucon_model.specs.Plain.{Bytes, PlainPolicy, PlainRight, PlainUpdate}
 use Rattle.ucon_model.specs.Action.{Trace, write, extended}
-use Rattle.ucon_model.specs.Readings.{has_entity, declared_attr, session}
+use Rattle.ucon_model.specs.Readings.{in_force, has_entity, declared_attr, session}
 use Rattle.ucon_model.specs.Truth.{Readings, readings}
 use Rattle.ucon_model.specs.Decision.{right_named}
 use Rattle.ucon_model.specs.Updates.{same_when, entity_of, result, write_of, writes, updates_of, session_writes}
@@ -27,7 +27,7 @@ use Rattle.ucon_state.specs.Tables.{entity_number, session_in, readings_in}
 use Rattle.ucon_state.specs.Shown.{Shown}
 use Rattle.ucon_model.proofs.SortsOfValues.{typed_updates_fit}
 use Rattle.ucon_state.specs.Following.{Follows}
-use Rattle.ucon_actions.specs.Updating.{written_out, update_at}
+use Rattle.ucon_actions.specs.Updating.{written_out, update_at, updates_in}
 use Rattle.ucon_actions.proofs.ReadOff.{entity_there, readings_same, session_same}
 
 -- ---- the update at a place
@@ -114,6 +114,17 @@ on_ok (Err e) f h = h
 -- where there is no such session, nothing is written
 pub nothing_written : (P : PlainPolicy) (n : ℕ) (when : When) (T : Trace) → session T n ≡ None → extended T (session_writes P n when T) ≡ T
 nothing_written P n when T none = ap (λ (o : Option SessionRow). extended T (option_map_or (λ row. writes P row when (updates_of P row) T) o [])) none
+
+-- nor where the session's right has no updates
+pub none_to_write : (s : Shown) (P : PlainPolicy) (T : Trace) → Follows s P T → (n : ℕ) (when : When) → updates_in s n ≡ [] → extended T (session_writes P n when T) ≡ T
+none_to_write s P T h n when none =
+    ap (λ (o : Option SessionRow). extended T (option_map_or (λ row. writes P row when (updates_of (in_force P T) row) T) o [])) (session_same s P T h n)
+    ∙ by (session_in s.tables n) none
+  where
+    by : (o : Option SessionRow) → option_map_or (λ (right : PlainRight). right.updates) (option_and_then (λ (row : SessionRow). right_named s.policy.rights row.right) o) [] ≡ []
+        → extended T (option_map_or (λ row. writes P row when (updates_of (in_force P T) row) T) o []) ≡ T
+    by None none = refl
+    by (Some row) none = ap (λ (us : List PlainUpdate). extended T (writes P row when us T)) (ap (λ (Q : PlainPolicy). updates_of Q row) (sym h.policy) ∙ none)
 
 pub session_written : (P : PlainPolicy) (n : ℕ) (when : When) (T : Trace) (row : SessionRow) → session T n ≡ Some row
     → extended T (session_writes P n when T) ≡ written_out P row when (updates_of P row) T

@@ -1,16 +1,23 @@
 -- Updates, one after the other.
-use Rattle.std.specs.Prelude.{ℕ, List, slice_get}
-use Rattle.std.specs.Option.{option_to_list}
+use Rattle.std.specs.Prelude.{ℕ, List, [], slice_get}
+use Rattle.std.specs.Option.{option_map_or, option_to_list}
 use Rattle.ucon_model.specs.declared.policy.When.{When}
 use Rattle.ucon_model.specs.declared.session.SessionRow.{SessionRow}
 use Rattle.ucon_model.specs.Plain.{PlainPolicy, PlainUpdate}
 use Rattle.ucon_model.specs.Action.{Trace, extended}
 use Rattle.ucon_model.specs.Readings.{in_force}
+use Rattle.ucon_model.specs.Lookup.{right_read}
 use Rattle.ucon_model.specs.Updates.{writes, updates_of}
+use Rattle.ucon_state.specs.Shown.{Shown}
+use Rattle.ucon_state.specs.Tables.{readings_in}
 
 -- the trace after the writes of these updates of a time
 abbrev pub written_out : PlainPolicy → SessionRow → When → List PlainUpdate → Trace → Trace
 written_out P row when us T = extended T (writes P row when us T)
+
+-- the updates of session n's right, as the tables tell them
+abbrev pub updates_in : Shown → ℕ → List PlainUpdate
+updates_in s n = option_map_or (λ right. right.updates) (right_read s.policy (readings_in s.policy s.tables) n) []
 
 -- the update at a place, from 0, of a session's right, in a list of at most one
 abbrev pub update_at : PlainPolicy → SessionRow → ℕ → List PlainUpdate

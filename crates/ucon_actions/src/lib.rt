@@ -13,6 +13,6 @@ mod usage;
 
 pub use outcome::{ActionFault, Outcome};
 pub use own::own_actions;
-pub use reading::{accessing, session, sessions};
+pub use reading::{accessing, session, session_state, sessions};
 pub use update::run_updates;
 pub use usage::{is_accessing, revoke};

@@ -51,7 +51,7 @@ pub fn own_actions(
             subject,
             right,
             object,
-        } => try_right(alloc, state, caller, *subject, *right, *object),
+        } => try_right(alloc, state, caller, subject, right, object),
         Command::Again(n) => try_again(alloc, state, caller, *n),
         Command::Beat(n) => beat(alloc, state, caller, *n),
         Command::End(n) => end(alloc, state, caller, *n),

@@ -1,16 +1,17 @@
 //! What is read off a state, as it is read off each trace that the state follows.
 
-ghost use Rattle.std.specs.Prelude.{◌≡◌, is_none, is_some, not, length, option_copied, option_map};
+ghost use Rattle.std.specs.Prelude.{◌≡◌, ◌<◌, IfSome, is_none, is_some, length, option_copied, option_map};
 ghost use Rattle.ucon_base.specs.Admits.{admits};
 ghost use Rattle.ucon_model.specs.Decision.{right_named};
 ghost use Rattle.ucon_model.specs.OwnActions.{names_act};
 ghost use Rattle.ucon_model.specs.Readings.{in_force, has_entity, entities, tick_of, acts, sessions, accessing, session, moment, attribute, declared_attr, declared_env};
 ghost use Rattle.ucon_actions.specs.Leads.{AfterEach};
 ghost use Rattle.ucon_state.specs.Tables.{entity_number, entities_of, session_in, moment_in, accessing_among};
-ghost use Rattle.ucon_state.specs.Shown.{shown};
+ghost use Rattle.ucon_state.specs.Shown.{right_name, right_names, shown};
+ghost use Rattle.ucon_state.specs.Stored.{name_at};
 
 use ucon_base::{Int, Name, Side, Value};
-use ucon_model::{SessionRow, View};
+use ucon_model::{SessionRow, SessionState, View};
 use ucon_state::State;
 
 #[tactic(auto, using(crate::proofs::ReadOff::entity_there))]
@@ -19,6 +20,16 @@ pub fn has_entity(state: &State, side: Side, name: &Name) -> bool
     ensures trace { AfterEach (shown state.now) (λ P T. has_entity side name.now T ≡ result) }
 {
     state.find(side, name).is_some()
+}
+
+/// The number of an entity among those of its side. None where it isn't there.
+pub fn find_entity(state: &State, side: Side, name: &Name) -> Option<u32>
+    ensures number { result ≡ entity_number (shown state.now).tables side name.now }
+    ensures named { IfSome result (λ n. name_at (entities_of side (shown state.now).tables) n ≡ name.now) }
+    ensures within { IfSome result (λ n. n < length (entities_of side (shown state.now).tables)) }
+    ensures trace { AfterEach (shown state.now) (λ P T. has_entity side name.now T ≡ is_some result) }
+{
+    state.find(side, name)
 }
 
 #[tactic(auto, using(crate::proofs::ReadOff::entities_same))]
@@ -67,12 +78,14 @@ pub fn env_admits(state: &State, name: &Name, v: &Value) -> Option<bool>
     }
 }
 
-/// Whether the policy in force has a right of this name.
-pub fn has_right(state: &State, name: &Name) -> bool
-    ensures policy { result ≡ is_some (right_named (shown state.now).policy.rights name.now) }
-    ensures trace { AfterEach (shown state.now) (λ P T. is_none (right_named (in_force P T).rights name.now) ≡ not result) }
+/// The number of a right. None where the policy in force hasn't it.
+pub fn find_right(state: &State, name: &Name) -> Option<u32>
+    ensures named { IfSome result (λ n. right_name state.now n ≡ name.now) }
+    ensures within { IfSome result (λ n. n < length (right_names state.now)) }
+    ensures policy { is_some result ≡ is_some (right_named (shown state.now).policy.rights name.now) }
+    ensures trace { AfterEach (shown state.now) (λ P T. is_none (right_named (in_force P T).rights name.now) ≡ is_none result) }
 {
-    state.checked().policy().right(name).is_some()
+    state.find_right(name)
 }
 
 /// Whether an obligation of the policy in force names the action.
@@ -117,6 +130,14 @@ pub fn session(state: &State, n: u32) -> Option<SessionRow>
     ensures trace { AfterEach (shown state.now) (λ P T. session T n ≡ result) }
 {
     state.session(n)
+}
+
+/// The state of a session.
+pub fn session_state(state: &State, n: u32) -> Option<SessionState>
+    ensures tables { result ≡ option_map (λ row. row.state) (session_in (shown state.now).tables n) }
+    ensures trace { AfterEach (shown state.now) (λ P T. option_map (λ row. row.state) (session T n) ≡ result) }
+{
+    state.session_state(n)
 }
 
 /// The tick at which an act was last done. None where it never was.

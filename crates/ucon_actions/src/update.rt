@@ -1,13 +1,13 @@
 //! Updates of a session's right.
 
-ghost use Rattle.std.specs.Prelude.{◌≡◌, ◌<◌, length, map, Some, OnOk};
+ghost use Rattle.std.specs.Prelude.{◌≡◌, ◌<◌, [], false, length, map, Some, OnOk};
 ghost use Rattle.ucon_model.specs.Action.{extended};
 ghost use Rattle.ucon_model.specs.Updates.{same_when, entity_of, updates_of, session_writes};
 ghost use Rattle.ucon_model.specs.Views.{policy_of, update_of};
 ghost use Rattle.ucon_actions.specs.Leads.{IsFollowing, Leads, KeepsBase};
 ghost use Rattle.ucon_state.specs.Shown.{shown};
 ghost use Rattle.ucon_state.specs.Tables.{session_in};
-ghost use Rattle.ucon_actions.specs.Updating.{one_written_out};
+ghost use Rattle.ucon_actions.specs.Updating.{one_written_out, updates_in};
 
 use crate::attributes::write;
 use std::alloc::{AllocError, Global};
@@ -71,6 +71,16 @@ fn run_update(
     write(state, side, &entity_of(side, row), &attr, value)
 }
 
+/// Whether the right of session n has updates.
+fn has_updates(state: &State, n: u32) -> bool
+    ensures { result ≡ false → updates_in (shown state.now) n ≡ [] }
+{
+    match state.right(n) {
+        Some(right) => !right.updates.slice().is_empty(),
+        None => false,
+    }
+}
+
 /// Runs the updates of a time of the right of session n, in written order. A right with more updates than a `u32` counts is answered
 /// as want of memory.
 pub fn run_updates(alloc: Global, state: &mut State, n: u32, when: When) -> Result<(), NoMemory>
@@ -78,6 +88,9 @@ pub fn run_updates(alloc: Global, state: &mut State, n: u32, when: When) -> Resu
     ensures leads { OnOk result (Leads (shown state.old) (shown state.new) (λ P T. extended T (session_writes P n when T))) }
     ensures base { KeepsBase (shown state.old) (shown state.new) }
 {
+    if !has_updates(state, n) {
+        return Ok(());
+    }
     let Some(row) = state.session(n) else {
         return Ok(());
     };

@@ -14,11 +14,11 @@ ghost use Rattle.ucon_model.specs.Updates.{session_writes};
 ghost use Rattle.ucon_actions.specs.Gives.{Gives, Makes, Refuses, Unchanged};
 ghost use Rattle.ucon_actions.specs.Leads.{AfterEach, IsFollowing, KeepsBase, Leads};
 ghost use Rattle.ucon_actions.specs.Sessions.{IsIn, beaten, done_or_refused, done_unless, ended, looked_at, requested};
-ghost use Rattle.ucon_state.specs.Shown.{shown};
+ghost use Rattle.ucon_state.specs.Shown.{AreThere, object_name, right_name, shown, subject_name};
 ghost use Rattle.ucon_state.specs.Tables.{entity_number, session_in, readings_in, accessing_among};
 
 use crate::outcome::{ActionFault, Outcome, require};
-use crate::reading::{accessing, has_entity, has_right, session, sessions};
+use crate::reading::{accessing, find_entity, find_right, session, sessions};
 use crate::update::run_updates;
 use std::alloc::Global;
 use ucon_base::{Name, NoMemory, Side};
@@ -107,26 +107,27 @@ fn decide(alloc: Global, state: &mut State, n: u32) -> Result<Head, NoMemory>
     }
 }
 
-/// Makes a session and decides on it.
+/// Makes a session, by the numbers of its right and its entities, and decides on it.
 fn request(
     alloc: Global,
     state: &mut State,
     caller: Caller,
-    subject: Name,
-    right: Name,
-    object: Name,
+    right: u32,
+    subject: u32,
+    object: u32,
 ) -> Result<Head, NoMemory>
     requires following { IsFollowing (shown state.old) }
-    requires right { IsSome (right_named (shown state.old).policy.rights right) }
-    requires subject { IsSome (entity_number (shown state.old).tables sides.Subject subject) }
-    requires object { IsSome (entity_number (shown state.old).tables sides.Object object) }
+    requires there { AreThere state.old right subject object }
+    requires right { IsSome (right_named (shown state.old).policy.rights (right_name state.old right)) }
+    requires subject { IsSome (entity_number (shown state.old).tables sides.Subject (subject_name state.old subject)) }
+    requires object { IsSome (entity_number (shown state.old).tables sides.Object (object_name state.old object)) }
     requires few { length (shown state.old).tables.sessions < 1048576 }
     requires room { accessing_among (shown state.old).tables.sessions < 65536 }
-    ensures made { IfOk result (λ head. AfterEach (shown state.old) (λ P T.
-        Makes head (shown state.new) P T (requested P T caller subject right object))) }
+    ensures made { IfOk result (λ head. AfterEach (shown state.old) (λ P T. Makes head (shown state.new) P T
+        (requested P T caller (subject_name state.old subject) (right_name state.old right) (object_name state.old object)))) }
     ensures base { KeepsBase (shown state.old) (shown state.new) }
 {
-    let n = state.add_session(caller, right, subject, object)?;
+    let n = state.add_numbered_session(caller, right, subject, object)?;
     decide(alloc, state, n)
 }
 
@@ -135,25 +136,22 @@ pub fn try_right(
     alloc: Global,
     state: &mut State,
     caller: Caller,
-    subject: Name,
-    right: Name,
-    object: Name,
+    subject: &Name,
+    right: &Name,
+    object: &Name,
 ) -> Result<Outcome, ActionFault>
     requires { IsFollowing (shown state.old) }
-    ensures given { IfOk result (λ o. Gives o (shown state.old) (shown state.new) (λ P T. try_right P T caller subject right object)) }
-    ensures refused { IfErr result (λ e. Refuses e (shown state.old) (λ P T. try_right P T caller subject right object)) }
+    ensures given { IfOk result (λ o. Gives o (shown state.old) (shown state.new) (λ P T. try_right P T caller subject.now right.now object.now)) }
+    ensures refused { IfErr result (λ e. Refuses e (shown state.old) (λ P T. try_right P T caller subject.now right.now object.now)) }
     ensures unchanged { IfErr result (λ e. Unchanged e (shown state.old) (shown state.new)) }
     ensures base { KeepsBase (shown state.old) (shown state.new) }
 {
-    require(has_right(state, &right), Refusal::NoRight)?;
-    require(
-        has_entity(state, Side::Subject, &subject),
-        Refusal::NoSubject,
-    )?;
-    require(has_entity(state, Side::Object, &object), Refusal::NoObject)?;
+    let right = find_right(state, right).ok_or(Refusal::NoRight)?;
+    let subject = find_entity(state, Side::Subject, subject).ok_or(Refusal::NoSubject)?;
+    let object = find_entity(state, Side::Object, object).ok_or(Refusal::NoObject)?;
     require(sessions(state) < 1_048_576, Refusal::FullSessions)?;
     require(accessing(state) < 65536, Refusal::FullAccessing)?;
-    let head = request(alloc, state, caller, subject, right, object)?;
+    let head = request(alloc, state, caller, right, subject, object)?;
     Ok(Outcome::Made(head))
 }
 

@@ -7,10 +7,10 @@ use Rattle.std.proofs.lemmas.List.{length-map, map-append}
 use Rattle.ucon_model.specs.declared.command.Entry.{Entry}
 use Rattle.ucon_model.specs.LegalRun.{Answer as Told, Answered, IsLegalRun, own_answers, history_made}
 use Rattle.ucon_script.specs.declared.document.Line.{Line}
-use Rattle.ucon_client.specs.declared.event.Event.{Event}
+use Rattle.ucon_store.specs.declared.event.Event.{Event}
 use Rattle.ucon_client.specs.declared.part.Part.{Part}
-use Rattle.ucon_client.specs.Kept.{Kept}
-use Rattle.ucon_client.specs.Events.{events, events_of, number_of}
+use Rattle.ucon_store.specs.Kept.{Kept}
+use Rattle.ucon_store.specs.Events.{events, events_of, number_of}
 use Rattle.ucon_client.specs.Answers.{IsAnswered, IsPart, Keeps, answer_of, asked, entry_of, lines_in, number, told_in, told_of}
 use Rattle.ucon_client.specs.Clients.{AreRising, AreJoined, Served, answered, told_by, faulted}
 use Rattle.ucon_base.specs.Elements.{Each, each_append}
@@ -58,14 +58,14 @@ each_part Q part_of [] h = tt
 each_part Q part_of (x ∷ xs) h = (h 0 x (omega arith), each_part Q part_of xs (λ k d lt. h (suc k) d (omega (arith, lt))))
 
 -- what closing the turn says of all clients
-pub closed_legal : (P : PlainPolicy) (opened store closed : Kept) (seen : List Event) (taken : List ℕ) (clients : List Served)
+pub closed_legal : {D : Type 0} (P : PlainPolicy) (opened store closed : Kept D) (seen : List Event) (taken : List ℕ) (clients : List Served)
     → opened ≡ store → store.mark ≡ None → AreJoined P opened.entries seen taken clients → events_of closed ≡ seen
     → Continues (λ e. Has (0 ∷ taken) (number_of e)) (events_of opened) (events_of closed)
     → IsLegalRun P own_answers store.entries (told_by clients) × (history_made store.entries (told_by clients) ≡ closed.entries)
     × (faulted (told_by clients) ≡ option_to_list closed.mark)
-closed_legal P opened store closed seen taken clients same none joined list callers =
+closed_legal {D} P opened store closed seen taken clients same none joined list callers =
     legal_together P store.entries closed.entries closed.mark taken clients
-    (subst (λ (z : Kept × List Event). AreJoined P z.0.entries z.1 taken clients) (λ i. (same i, sym list i)) joined)
+    (subst (λ (z : Kept D × List Event). AreJoined P z.0.entries z.1 taken clients) (λ i. (same i, sym list i)) joined)
     (subst (λ (l : List Event). Continues (λ e. Has (0 ∷ taken) (number_of e)) l (events_of closed))
     (ap events_of same ∙ ap (events store.entries) none) callers)
 

@@ -5,9 +5,10 @@ use Rattle.ucon_turn.specs.Lists.{Has, Continues, ByOthers}
 use Rattle.ucon_client.proofs.Seats.{has_front, has_last}
 use Rattle.ucon_model.specs.Plain.{PlainPolicy}
 use Rattle.ucon_model.specs.History.{History}
-use Rattle.ucon_client.specs.declared.event.Event.{Event}
-use Rattle.ucon_client.specs.declared.event.Event.TheVariants.{Done}
-use Rattle.ucon_client.specs.Events.{EndsAtMark, number_of}
+use Rattle.ucon_store.specs.declared.event.Event.{Event}
+use Rattle.ucon_store.specs.declared.event.Event.TheVariants.{Done}
+use Rattle.ucon_store.specs.Events.{number_of}
+use Rattle.ucon_client.specs.Events.{EndsAtMark}
 use Rattle.ucon_client.specs.Clients.{AreRight, Served, AreRising, AreJoined}
 use Rattle.ucon_base.specs.Elements.{Each, each_append, each_both, each_map}
 use Rattle.ucon_client.proofs.Listing.{ends_done}

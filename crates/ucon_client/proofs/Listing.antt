@@ -5,9 +5,10 @@ use Rattle.std.proofs.Math.Seq.{drop-append_seam}
 use Rattle.std.proofs.lemmas.List.{append-nil, drop-append-le, length-drop}
 use Rattle.ucon_model.specs.declared.command.Entry.{Entry}
 use Rattle.ucon_model.specs.History.{History}
-use Rattle.ucon_client.specs.declared.event.Event.{Event}
-use Rattle.ucon_client.specs.declared.event.Event.TheVariants.{Done, Failed}
-use Rattle.ucon_client.specs.Events.{events, entries_in, marks_in, EndsAtMark}
+use Rattle.ucon_store.specs.declared.event.Event.{Event}
+use Rattle.ucon_store.specs.declared.event.Event.TheVariants.{Done, Failed}
+use Rattle.ucon_store.specs.Events.{events}
+use Rattle.ucon_client.specs.Events.{entries_in, marks_in, EndsAtMark}
 use Rattle.ucon_client.specs.Clients.{numbered_from, behind}
 use Rattle.ucon_client.proofs.Placing.{numbered_append}
 

@@ -14,9 +14,10 @@ use Rattle.ucon_model.specs.Plain.{PlainPolicy}
 use Rattle.ucon_model.specs.Spelling.{reply_spelling}
 use Rattle.ucon_model.specs.History.{History, said, changes}
 use Rattle.ucon_model.specs.LegalRun.{Answer, no_memory, disk_fault, stopped, placed, Answered, tells_change, with_record, recorded, stands_on, IsSaid, Saw, StaysStopped, AreInOrder, own_answers, is_disk_fault}
-use Rattle.ucon_client.specs.declared.event.Event.{Event}
-use Rattle.ucon_client.specs.declared.event.Event.TheVariants.{Done, Failed}
-use Rattle.ucon_client.specs.Events.{entries_in, marks_in, EndsAtMark, number_of, appended}
+use Rattle.ucon_store.specs.declared.event.Event.{Event}
+use Rattle.ucon_store.specs.declared.event.Event.TheVariants.{Done, Failed}
+use Rattle.ucon_store.specs.Events.{number_of}
+use Rattle.ucon_client.specs.Events.{entries_in, marks_in, EndsAtMark, appended}
 use Rattle.ucon_client.specs.Clients.{Tells, Steps, answered, numbered_from, behind, faulted, Shows, IsSaidIn, WouldChange, AreRight}
 use Rattle.ucon_base.specs.Elements.{Each, each_append, each_both, each_map}
 use Rattle.ucon_client.proofs.Listing.{entries_append, marks_append, entries_done, marks_done, ends_done, ends_more, no_front, no_rest, nothing_more, behind_append}

@@ -10,9 +10,10 @@ use Rattle.ucon_model.specs.Plain.{PlainPolicy, PlainReply}
 use Rattle.ucon_model.specs.Spelling.{reply_spelling}
 use Rattle.ucon_model.specs.History.{History, said, changes}
 use Rattle.ucon_model.specs.LegalRun.{Answer, no_memory, disk_fault, stopped, placed, tells_change}
-use Rattle.ucon_client.specs.declared.event.Event.{Event}
-use Rattle.ucon_client.specs.declared.event.Event.TheVariants.{Done, Failed}
-use Rattle.ucon_client.specs.Events.{events, marks_in, number_of, appended}
+use Rattle.ucon_store.specs.declared.event.Event.{Event}
+use Rattle.ucon_store.specs.declared.event.Event.TheVariants.{Done, Failed}
+use Rattle.ucon_store.specs.Events.{events, number_of}
+use Rattle.ucon_client.specs.Events.{marks_in, appended}
 use Rattle.ucon_client.specs.Clients.{Stepped, Tells, Steps}
 use Rattle.ucon_client.proofs.Listing.{entries_in-events, marks_in-events, ends_events}
 

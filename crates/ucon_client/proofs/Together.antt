@@ -12,9 +12,10 @@ use Rattle.ucon_model.specs.declared.command.Entry.{Entry}
 use Rattle.ucon_model.specs.Plain.{PlainPolicy}
 use Rattle.ucon_model.specs.History.{History, said, changes}
 use Rattle.ucon_model.specs.LegalRun.{Answer, no_memory, disk_fault, stopped, placed, Answered, recorded, by_place, history_made, AreNumberedFrom, IsSaid, AreInOrder, own_answers, is_disk_fault, is_stopped, IsLegalRun}
-use Rattle.ucon_client.specs.declared.event.Event.{Event}
-use Rattle.ucon_client.specs.declared.event.Event.TheVariants.{Done, Failed}
-use Rattle.ucon_client.specs.Events.{events, entries_in, marks_in, EndsAtMark, number_of}
+use Rattle.ucon_store.specs.declared.event.Event.{Event}
+use Rattle.ucon_store.specs.declared.event.Event.TheVariants.{Done, Failed}
+use Rattle.ucon_store.specs.Events.{events, number_of}
+use Rattle.ucon_client.specs.Events.{entries_in, marks_in, EndsAtMark}
 use Rattle.ucon_client.specs.Clients.{numbered_from, behind, faulted, Shows, IsSaidIn, WouldChange, AreRight, Served, told_by, AreRising, AreJoined}
 use Rattle.ucon_base.specs.Elements.{Each, each_always, each_append, each_both, each_map, filter_all, filter_none}
 use Rattle.ucon_client.proofs.Placing.{put_all, by_place-append, are_numbered, numbered_entries, joined_numbered}

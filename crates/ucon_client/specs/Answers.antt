@@ -1,5 +1,5 @@
 -- What a client's lines are answered.
-use Rattle.std.specs.Prelude.{◌≡◌, ℕ, ◌+◌, ◌<◌, ◌≤◌, List, [], ◌∷◌, ◌++◌, map, length, Option, Some, Result, Ok, Err, slice_index_or}
+use Rattle.std.specs.Prelude.{◌≡◌, ℕ, ◌+◌, ◌<◌, ◌≤◌, List, [], ◌∷◌, ◌++◌, map, length, Some, Result, Ok, Err, slice_index_or}
 use Rattle.ucon_base.specs.Elements.{Each}
 use Rattle.ucon_turn.specs.Lists.{Continues, ByOthers}
 use Rattle.ucon_turn.specs.Turns.{Opening, Knowledge, IsSeatOf}
@@ -7,17 +7,18 @@ use Rattle.ucon_model.specs.declared.command.Entry.{Entry}
 use Rattle.ucon_model.specs.Plain.{PlainPolicy}
 use Rattle.ucon_model.specs.Spelling.{reply_spelling}
 use Rattle.ucon_model.specs.Views.{reply_of}
-use Rattle.ucon_model.specs.History.{History}
 use Rattle.ucon_model.specs.LegalRun.{Answer as Told, placed, no_memory, disk_fault, stopped, Answered}
 use Rattle.ucon_script.specs.declared.document.Line.{Line}
-use Rattle.ucon_client.specs.declared.store.Placed.{Placed}
-use Rattle.ucon_client.specs.declared.store.StepFault.{StepFault}
-use Rattle.ucon_client.specs.declared.store.StepFault.TheVariants as faults
+use Rattle.ucon_syntax.specs.Policies.{accepted}
+use Rattle.ucon_store.specs.declared.placed.Placed.{Placed}
+use Rattle.ucon_store.specs.declared.fault.StepFault.{StepFault}
+use Rattle.ucon_store.specs.declared.fault.StepFault.TheVariants as faults
 use Rattle.ucon_client.specs.declared.answer.Answer.{Answer}
 use Rattle.ucon_client.specs.declared.answer.Answer.TheVariants as answers
 use Rattle.ucon_client.specs.declared.part.Part.{Part}
-use Rattle.ucon_client.specs.declared.event.Event.{Event}
-use Rattle.ucon_client.specs.Events.{number_of}
+use Rattle.ucon_store.specs.declared.event.Event.{Event}
+use Rattle.ucon_store.specs.Events.{number_of}
+use Rattle.ucon_store.specs.Kept.{Kept}
 use Rattle.ucon_client.specs.Clients.{Steps, AreRight, answered, Served, told_by}
 
 -- what a line asks, and by whom
@@ -27,7 +28,7 @@ entry_of l = record { caller = l.caller; command = l.command }
 -- the answer to a line, by what its step answered
 abbrev pub answered_by : Result Placed StepFault → Answer
 answered_by (Ok p) = answers.Placed p
-answered_by (Err faults.NoMemory) = answers.NoMemory
+answered_by (Err (faults.NoMemory e)) = answers.NoMemory
 answered_by (Err faults.DiskFault) = answers.DiskFault
 answered_by (Err faults.Stopped) = answers.Stopped
 
@@ -77,20 +78,20 @@ pub record IsPart (p : Part) : Type 0 where
   pub room : length p.lines.items ≤ length p.answers.items + p.answers.spare
 
 -- The seat is one of this turn, and has the client's number plus 1; what the client was answered is right for the list that its seat has
--- seen, under the policy of the store that was handed in.
-pub record Serves {E : Type 0} (policy : Option PlainPolicy) (opening : History) (turn : Opening E) (p : Part) (seat : Knowledge E Event) : Type 0 where
+-- seen, behind the history of the store that was handed in and under its policy.
+pub record Serves {D : Type 0} (turn : Opening (Kept D)) (p : Part) (seat : Knowledge (Kept D) Event) : Type 0 where
   pub seated : IsSeatOf turn seat
   pub number : seat.number ≡ p.number + 1
   pub part : IsPart p
-  pub right : (P : PlainPolicy) → policy ≡ Some P → AreRight P p.number opening seat.seen (told_of p)
+  pub right : (P : PlainPolicy) → accepted turn.opened.policy ≡ Some P → AreRight P p.number turn.opened.entries seat.seen (told_of p)
 
 -- One more line is answered, the next one. Its step found a list that begins with all that the seat had seen, with nothing of its own
 -- behind, and the seat has then seen the list that the step left.
-pub record AnswersOne {E : Type 0} (policy : Option PlainPolicy) (was now : Part) (seat : Knowledge E Event) (seen : List Event) : Type 0 where
+pub record AnswersOne {D : Type 0} (turn : Opening (Kept D)) (was now : Part) (seat : Knowledge (Kept D) Event) (seen : List Event) : Type 0 where
   pub line : Line
   pub answer : Answer
   pub before : List Event
   pub next : line ≡ slice_index_or was.lines.items (length was.answers.items) line
   pub answers : now.answers.items ≡ was.answers.items ++ answer ∷ []
   pub others : Continues (ByOthers number_of seat.number seat.taken) seat.seen before
-  pub step : (P : PlainPolicy) → policy ≡ Some P → Steps P (entry_of line) before seen (answer_of answer)
+  pub step : (P : PlainPolicy) → accepted turn.opened.policy ≡ Some P → Steps P (entry_of line) before seen (answer_of answer)

@@ -8,7 +8,7 @@ use Rattle.ucon_model.specs.Plain.{PlainPolicy}
 use Rattle.ucon_model.specs.Spelling.{reply_spelling}
 use Rattle.ucon_model.specs.History.{History, said, changes, grown}
 use Rattle.ucon_model.specs.LegalRun.{Answer, no_memory, disk_fault, stopped, placed, Answered, IsSaid, AreInOrder, own_answers, recorded, is_disk_fault}
-use Rattle.ucon_client.specs.declared.event.Event.{Event}
+use Rattle.ucon_store.specs.declared.event.Event.{Event}
 use Rattle.ucon_client.specs.Events.{entries_in, marks_in, EndsAtMark, appended}
 
 -- ---- one step

@@ -1,20 +1,10 @@
--- The list of a store behind a turn: the entries of its history and, after a disk fault, one mark with the entry that failed.
-use Rattle.std.specs.Prelude.{◌≡◌, ℕ, ◌+◌, List, [], ◌∷◌, ◌++◌, map, Option, Some, None, if◌then◌else◌}
+-- The list of a store behind a turn, part by part: the entries of its history and, after a disk fault, one mark with the entry that failed.
+use Rattle.std.specs.Prelude.{◌≡◌, List, [], ◌∷◌, if◌then◌else◌}
 use Rattle.ucon_model.specs.declared.command.Entry.{Entry}
 use Rattle.ucon_model.specs.History.{History}
 use Rattle.ucon_model.specs.LegalRun.{Answer, no_memory, disk_fault, stopped, placed, tells_change}
-use Rattle.ucon_client.specs.declared.event.Event.{Event}
-use Rattle.ucon_client.specs.declared.event.Event.TheVariants.{Done, Failed}
-use Rattle.ucon_client.specs.Kept.{Kept}
-
--- the list of a store with this history and this mark
-abbrev pub events : History → Option Entry → List Event
-events H None = map Done H
-events H (Some e) = map Done H ++ Failed e ∷ []
-
--- the list of a store
-abbrev pub events_of : Kept → List Event
-events_of s = events s.entries s.mark
+use Rattle.ucon_store.specs.declared.event.Event.{Event}
+use Rattle.ucon_store.specs.declared.event.Event.TheVariants.{Done, Failed}
 
 -- the entries of the history
 abbrev pub entries_in : List Event → History
@@ -33,11 +23,6 @@ abbrev pub EndsAtMark : List Event → Type 0
 EndsAtMark [] = Unit {0}
 EndsAtMark (Done e ∷ log) = EndsAtMark log
 EndsAtMark (Failed e ∷ log) = log ≡ []
-
--- the number that an item has for the turn: its client's, plus 1, since 0 is the number of the seat that opened the turn
-abbrev pub number_of : Event → ℕ
-number_of (Done e) = e.caller.0 + 1
-number_of (Failed e) = e.caller.0 + 1
 
 -- what a line's step appends, by its answer
 abbrev pub appended : Entry → Answer → List Event

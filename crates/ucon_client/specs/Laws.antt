@@ -4,8 +4,8 @@ use Rattle.ucon_turn.specs.Lists.{Begins}
 use Rattle.ucon_model.specs.declared.command.Entry.{Entry}
 use Rattle.ucon_model.specs.Plain.{PlainPolicy}
 use Rattle.ucon_model.specs.LegalRun.{Answer, disk_fault, stopped}
-use Rattle.ucon_client.specs.declared.event.Event.{Event}
-use Rattle.ucon_client.specs.declared.event.Event.TheVariants.{Failed}
+use Rattle.ucon_store.specs.declared.event.Event.{Event}
+use Rattle.ucon_store.specs.declared.event.Event.TheVariants.{Failed}
 use Rattle.ucon_client.specs.Events.{marks_in}
 use Rattle.ucon_client.specs.Clients.{Steps}
 

@@ -3,7 +3,7 @@
 ghost use Rattle.std.specs.Prelude.{◌≡◌};
 ghost use Rattle.ucon_client.specs.Answers.{answered_by};
 
-use crate::store::{Placed, StepFault};
+use ucon_store::{Placed, StepFault};
 
 /// What a line is answered: a reply with its place, or why its step was not taken.
 #[derive(Debug, Drop)]
@@ -20,7 +20,7 @@ impl From<Result<Placed, StepFault>> for Answer {
     fn from(said: Result<Placed, StepFault>) -> Answer {
         match said {
             Ok(placed) => Answer::Placed(placed),
-            Err(StepFault::NoMemory) => Answer::NoMemory,
+            Err(StepFault::NoMemory(_)) => Answer::NoMemory,
             Err(StepFault::DiskFault) => Answer::DiskFault,
             Err(StepFault::Stopped) => Answer::Stopped,
         }

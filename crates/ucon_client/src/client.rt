@@ -3,44 +3,46 @@
 ghost use Rattle.std.specs.Prelude.{◌≡◌, ◌↔◌, ◌+◌, ◌<◌, true, false, [], length};
 ghost use Rattle.ucon_turn.specs.Turns.{IsSeatOf};
 ghost use Rattle.ucon_client.specs.Answers.{IsPart, IsAnswered, Keeps, Serves, AnswersOne};
-ghost use Rattle.ucon_client.specs.Events.{events_of};
+ghost use Rattle.ucon_store.specs.Events.{events_of};
 
 use crate::gate::Gate;
 use crate::part::Part;
 use crate::step::Step;
-use crate::store::{Keeper, Store};
 use std::alloc::Global;
 use std::sync::Wait;
+use ucon_disk::Disk;
+use ucon_state::Engine;
+use ucon_store::Store;
 use ucon_turn::{Seat, Turn};
 
 /// A client of a store behind a turn.
 #[derive(Drop)]
-pub struct Client<K: Keeper> {
+pub struct Client<E: Engine, D: Disk> {
     pub part: Part,
-    pub seat: Seat<Store<K>>,
+    pub seat: Seat<Store<E, D>>,
 }
 
-impl<K: Keeper> Client<K> {
+impl<E: Engine, D: Disk> Client<E, D> {
     /// A client none of whose lines is answered, with a seat that has seen nothing yet but the opening list.
-    pub fn new(turn: &Turn<Store<K>>, part: Part, seat: Seat<Store<K>>) -> Client<K>
+    pub fn new(turn: &Turn<Store<E, D>>, part: Part, seat: Seat<Store<E, D>>) -> Client<E, D>
         requires seat { IsSeatOf turn.now seat × (seat.number ≡ part.number + 1) }
         requires part { IsPart part × (part.answers.items ≡ []) }
         requires unmarked { turn.now.opened.mark ≡ None }
         requires seen { seat.seen ≡ events_of turn.now.opened }
         ensures client { (result.part ≡ part) × (result.seat ≡ seat) }
-        ensures serves { Serves (K.accepted turn.now.opened.policy) turn.now.opened.entries turn.now result.part result.seat }
+        ensures serves { Serves turn.now result.part result.seat }
     {
         Client { part, seat }
     }
 
     /// Answers the next line in the client's turn, which it waits for. False where all lines are answered.
-    pub fn turn<R: Wait>(&mut self, rt: &R, alloc: Global, turn: &Turn<Store<K>>) -> bool
-        requires { Serves (K.accepted turn.now.opened.policy) turn.now.opened.entries turn.now self.old.part self.old.seat }
-        ensures serves { Serves (K.accepted turn.now.opened.policy) turn.now.opened.entries turn.now self.new.part self.new.seat }
+    pub fn turn<R: Wait>(&mut self, rt: &R, alloc: Global, turn: &Turn<Store<E, D>>) -> bool
+        requires { Serves turn.now self.old.part self.old.seat }
+        ensures serves { Serves turn.now self.new.part self.new.seat }
         ensures ends { (result ≡ false) ↔ IsAnswered self.old.part }
         ensures still { result ≡ false → self.new ≡ self.old }
         ensures answers { result ≡ true
-            → AnswersOne (K.accepted turn.now.opened.policy) self.old.part self.new.part self.old.seat self.new.seat.seen }
+            → AnswersOne turn.now self.old.part self.new.part self.old.seat self.new.seat.seen }
         ensures kept { Keeps self.old.part self.new.part }
     {
         if self.part.is_answered() {
@@ -50,11 +52,11 @@ impl<K: Keeper> Client<K> {
         true
     }
 
-    fn answer_next<R: Wait>(&mut self, rt: &R, alloc: Global, turn: &Turn<Store<K>>)
-        requires serves { Serves (K.accepted turn.now.opened.policy) turn.now.opened.entries turn.now self.old.part self.old.seat }
+    fn answer_next<R: Wait>(&mut self, rt: &R, alloc: Global, turn: &Turn<Store<E, D>>)
+        requires serves { Serves turn.now self.old.part self.old.seat }
         requires more { length self.old.part.answers.items < length self.old.part.lines.items }
-        ensures serves { Serves (K.accepted turn.now.opened.policy) turn.now.opened.entries turn.now self.new.part self.new.seat }
-        ensures answers { AnswersOne (K.accepted turn.now.opened.policy) self.old.part self.new.part self.old.seat self.new.seat.seen }
+        ensures serves { Serves turn.now self.new.part self.new.seat }
+        ensures answers { AnswersOne turn.now self.old.part self.new.part self.old.seat self.new.seat.seen }
         ensures kept { Keeps self.old.part self.new.part }
     {
         let line = &self.part.lines.slice()[self.part.answers.len()];
@@ -68,11 +70,11 @@ impl<K: Keeper> Client<K> {
         &mut self,
         rt: &R,
         alloc: Global,
-        turn: &Turn<Store<K>>,
+        turn: &Turn<Store<E, D>>,
         gate: &G,
     )
-        requires { Serves (K.accepted turn.now.opened.policy) turn.now.opened.entries turn.now self.old.part self.old.seat }
-        ensures serves { Serves (K.accepted turn.now.opened.policy) turn.now.opened.entries turn.now self.new.part self.new.seat }
+        requires { Serves turn.now self.old.part self.old.seat }
+        ensures serves { Serves turn.now self.new.part self.new.seat }
         ensures all { IsAnswered self.new.part }
         ensures kept { Keeps self.old.part self.new.part }
     {

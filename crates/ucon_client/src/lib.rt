@@ -4,20 +4,16 @@
 mod answer;
 mod client;
 mod dividing;
-mod event;
 mod gate;
 mod laws;
 mod part;
 mod serving;
 mod step;
-mod store;
 
 pub use answer::Answer;
 pub use client::Client;
 pub use dividing::divide;
-pub use event::{Base, Event};
 pub use gate::{Gate, OpenGate};
 pub use laws::{a_seen_mark_stops, faults_are_marked};
 pub use part::Part;
 pub use serving::{serve, serve_all};
-pub use store::{Keeper, Placed, StepFault, Store};

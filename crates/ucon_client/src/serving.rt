@@ -9,29 +9,33 @@ ghost use Rattle.ucon_model.specs.Plain.{PlainPolicy};
 ghost use Rattle.ucon_model.specs.LegalRun.{IsLegalRun, own_answers, history_made};
 ghost use Rattle.ucon_client.specs.Answers.{IsPart, IsAnswered, Serves, Keeps, asked, lines_in, number, served_of, told_in};
 ghost use Rattle.ucon_client.specs.Clients.{AreRising, AreJoined, faulted};
-ghost use Rattle.ucon_client.specs.Events.{events_of};
+ghost use Rattle.ucon_syntax.specs.Policies.{accepted};
+ghost use Rattle.ucon_store.specs.Events.{events_of};
+ghost use Rattle.ucon_store.specs.Stays.{Stays};
 
 use crate::client::Client;
 use crate::gate::Gate;
 use crate::part::Part;
-use crate::store::{Keeper, Store};
 use std::alloc::Global;
 use std::sync::Wait;
 use std::thread;
 use std::thread::Threads;
 use ucon_base::NoMemory;
+use ucon_disk::Disk;
+use ucon_state::Engine;
+use ucon_store::Store;
 use ucon_turn::{Seat, Turn};
 
 /// Answers all lines of all clients, each client in a thread of its own. The gate is told of each line.
-pub fn serve_all<K: Keeper + Send, G: Gate + Sync, R: Threads + Wait + Sync>(
+pub fn serve_all<E: Engine + Send, D: Disk + Send, G: Gate + Sync, R: Threads + Wait + Sync>(
     rt: &R,
     alloc: Global,
-    clients: &mut [Client<K>],
-    turn: &Turn<Store<K>>,
+    clients: &mut [Client<E, D>],
+    turn: &Turn<Store<E, D>>,
     gate: &G,
 )
-    requires { All (λ c. Serves (K.accepted turn.now.opened.policy) turn.now.opened.entries turn.now c.part c.seat) clients.old }
-    ensures serves { All (λ c. Serves (K.accepted turn.now.opened.policy) turn.now.opened.entries turn.now c.part c.seat) clients.new }
+    requires { All (λ c. Serves turn.now c.part c.seat) clients.old }
+    ensures serves { All (λ c. Serves turn.now c.part c.seat) clients.new }
     ensures all { All (λ c. IsAnswered c.part) clients.new }
     ensures kept { (k : ℕ) (d : _) → k < length clients.old → Keeps (slice_index_or clients.old k d).part (slice_index_or clients.new k d).part }
     ensures length { length clients.new ≡ length clients.old }
@@ -46,11 +50,11 @@ pub fn serve_all<K: Keeper + Send, G: Gate + Sync, R: Threads + Wait + Sync>(
 }
 
 /// Splits a seat for each part, by rising client number.
-fn seat_all<K: Keeper>(
-    turn: &Turn<Store<K>>,
-    seat: &mut Seat<Store<K>>,
+fn seat_all<E: Engine, D: Disk>(
+    turn: &Turn<Store<E, D>>,
+    seat: &mut Seat<Store<E, D>>,
     parts: Vec<Part>,
-    clients: &mut Vec<Client<K>>,
+    clients: &mut Vec<Client<E, D>>,
 )
     requires turn { IsSeatOf turn.now seat.old × (seat.old.number ≡ 0) × (seat.old.given ≡ []) }
     requires seen { (turn.now.opened.mark ≡ None) × (seat.old.seen ≡ events_of turn.now.opened) }
@@ -59,7 +63,7 @@ fn seat_all<K: Keeper>(
     requires room { (clients.old.items ≡ []) × (vec_len parts ≤ vec_capacity clients.old) }
     ensures turn { IsSeatOf turn.now seat.new × (seat.new.number ≡ 0) × (seat.new.taken ≡ seat.old.taken) × (seat.new.seen ≡ seat.old.seen) }
     ensures given { Each (Has (map (λ p. p.number + 1) parts.items)) seat.new.given }
-    ensures serves { All (λ c. Serves (K.accepted turn.now.opened.policy) turn.now.opened.entries turn.now c.part c.seat) clients.new.items }
+    ensures serves { All (λ c. Serves turn.now c.part c.seat) clients.new.items }
     ensures parts { map (λ c. c.part) clients.new.items ≡ parts.items }
 {
     for part in parts {
@@ -69,21 +73,21 @@ fn seat_all<K: Keeper>(
 }
 
 /// Takes all seats back, by rising client number, and keeps the answered parts.
-fn join_all<K: Keeper>(
-    turn: &Turn<Store<K>>,
-    seat: &mut Seat<Store<K>>,
-    clients: Vec<Client<K>>,
+fn join_all<E: Engine, D: Disk>(
+    turn: &Turn<Store<E, D>>,
+    seat: &mut Seat<Store<E, D>>,
+    clients: Vec<Client<E, D>>,
     parts: &mut Vec<Part>,
 )
     requires turn { IsSeatOf turn.now seat.old × (seat.old.number ≡ 0) × (seat.old.taken ≡ []) }
     requires seen { (turn.now.opened.mark ≡ None) × (seat.old.seen ≡ events_of turn.now.opened) }
-    requires serves { All (λ c. Serves (K.accepted turn.now.opened.policy) turn.now.opened.entries turn.now c.part c.seat) clients.items }
+    requires serves { All (λ c. Serves turn.now c.part c.seat) clients.items }
     requires rising { AreRising (map number (map (λ c. c.part) clients.items)) }
     requires room { (parts.old.items ≡ []) × (vec_len clients ≤ vec_capacity parts.old) }
     ensures turn { IsSeatOf turn.now seat.new × (seat.new.number ≡ 0) × (seat.new.given ≡ seat.old.given) }
     ensures parts { parts.new.items ≡ map (λ c. c.part) clients.items }
     ensures back { Each (λ p. Has seat.new.taken (p.number + 1)) parts.new.items }
-    ensures joined { (P : PlainPolicy) → K.accepted turn.now.opened.policy ≡ Some P
+    ensures joined { (P : PlainPolicy) → accepted turn.now.opened.policy ≡ Some P
         → AreJoined P turn.now.opened.entries seat.new.seen seat.new.taken (map served_of parts.new.items) }
 {
     for client in clients {
@@ -94,52 +98,62 @@ fn join_all<K: Keeper>(
 }
 
 /// Answers the lines of all parts through one store, each part in a thread of its own. All memory but that of the steps is taken before the
-/// first line, and where there is none for it the store comes back as it was. The answers of all together are a legal run.
-pub fn serve<K: Keeper + Send, G: Gate + Sync, R: Threads + Wait + Sync>(
+/// first line, and where there is none for it the store and the parts come back as they were. The answers of all together are a legal run.
+pub fn serve<E: Engine + Send, D: Disk + Send, G: Gate + Sync, R: Threads + Wait + Sync>(
     rt: &R,
     alloc: Global,
-    store: Store<K>,
+    store: Store<E, D>,
     parts: Vec<Part>,
     gate: &G,
-) -> Result<(Store<K>, Vec<Part>), (Store<K>, NoMemory)>
+) -> Result<(Store<E, D>, Vec<Part>), (Store<E, D>, Vec<Part>, NoMemory)>
     requires unmarked { store.mark ≡ None }
     requires parts { Each (λ p. IsPart p × (p.answers.items ≡ [])) parts.items }
     requires rising { AreRising (map number parts.items) }
-    ensures err { IfErr result (λ e. e.0 ≡ store) }
+    ensures err { IfErr result (λ e. (e.0 ≡ store) × (e.1 ≡ parts)) }
     ensures policy { IfOk result (λ r. r.0.policy ≡ store.policy) }
-    ensures stays { IfOk result (λ r. K.stays store r.0) }
+    ensures stays { IfOk result (λ r. Stays D.contents D.images D.moment D.images_since D.faults store r.0) }
     ensures asked { IfOk result (λ r. map asked r.1.items ≡ map asked parts.items) }
     ensures all { IfOk result (λ r. Each IsAnswered r.1.items) }
     ensures lines { IfOk result (λ r. map (λ t. t.line) (told_in r.1.items) ≡ lines_in parts.items) }
     ensures clients { IfOk result (λ r. Each (λ t. t.line.caller.0 < 64) (told_in r.1.items)) }
-    ensures legal { IfOk result (λ r. (P : PlainPolicy) → K.accepted store.policy ≡ Some P
+    ensures legal { IfOk result (λ r. (P : PlainPolicy) → accepted store.policy ≡ Some P
         → IsLegalRun P own_answers store.entries (told_in r.1.items)) }
-    ensures made { IfOk result (λ r. (P : PlainPolicy) → K.accepted store.policy ≡ Some P
+    ensures made { IfOk result (λ r. (P : PlainPolicy) → accepted store.policy ≡ Some P
         → history_made store.entries (told_in r.1.items) ≡ r.0.entries) }
-    ensures fault { IfOk result (λ r. (P : PlainPolicy) → K.accepted store.policy ≡ Some P
+    ensures fault { IfOk result (λ r. (P : PlainPolicy) → accepted store.policy ≡ Some P
         → faulted (told_in r.1.items) ≡ option_to_list r.0.mark) }
 {
-    let count = parts.len();
-    let mut clients = match Vec::with_capacity(alloc, count) {
-        Ok(clients) => clients,
-        Err(want) => return Err((store, want.into())),
-    };
-    let mut answered = match Vec::with_capacity(alloc, count) {
-        Ok(answered) => answered,
-        Err(want) => {
-            clients.destroy_empty();
-            return Err((store, want.into()));
-        }
+    let (mut clients, mut answered) = match room_for(alloc, parts.len()) {
+        Ok(room) => room,
+        Err(want) => return Err((store, parts, want)),
     };
     let (turn, mut seat) = match Turn::open(alloc, store) {
         Ok(opened) => opened,
-        Err(refused) => {
+        Err((store, want)) => {
             clients.destroy_empty();
-            return Err(refused);
+            answered.destroy_empty();
+            return Err((store, parts, want));
         }
     };
     seat_all(&turn, &mut seat, parts, &mut clients);
     serve_all(rt, alloc, clients.as_mut_slice(), &turn, gate);
     join_all(&turn, &mut seat, clients, &mut answered);
     Ok((turn.close(seat), answered))
+}
+
+/// Room for so many clients, and for so many answered parts.
+fn room_for<E: Engine, D: Disk>(
+    alloc: Global,
+    count: usize,
+) -> Result<(Vec<Client<E, D>>, Vec<Part>), NoMemory>
+    ensures { IfOk result (λ r. (r.0.items ≡ []) × (r.1.items ≡ []) × (count ≤ vec_capacity r.0) × (count ≤ vec_capacity r.1)) }
+{
+    let clients = Vec::with_capacity(alloc, count)?;
+    match Vec::with_capacity(alloc, count) {
+        Ok(parts) => Ok((clients, parts)),
+        Err(want) => {
+            clients.destroy_empty();
+            Err(want.into())
+        }
+    }
 }

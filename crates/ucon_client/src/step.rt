@@ -2,14 +2,17 @@
 
 ghost use Rattle.std.specs.Prelude.{◌≡◌, ◌+◌, ◌<◌, Some};
 ghost use Rattle.ucon_model.specs.Plain.{PlainPolicy};
+ghost use Rattle.ucon_syntax.specs.Policies.{accepted};
 ghost use Rattle.ucon_client.specs.Answers.{entry_of, answer_of};
 ghost use Rattle.ucon_client.specs.Clients.{Steps};
 
 use crate::answer::Answer;
-use crate::store::{Keeper, Store};
 use std::alloc::Global;
+use ucon_disk::Disk;
 use ucon_model::texts_tell_changes;
 use ucon_script::Line;
+use ucon_state::Engine;
+use ucon_store::Store;
 use ucon_turn::Job;
 
 /// The step of one line.
@@ -20,19 +23,19 @@ pub(crate) struct Step<'a> {
     ghost few: { line.now.caller.0 < 64 },
 }
 
-impl<K: Keeper> Job<Store<K>> for Step<'_> {
+impl<E: Engine, D: Disk> Job<Store<E, D>> for Step<'_> {
     type Answer = Answer;
 
     ghost by = { λ j. j.line.now.caller.0 + 1 };
 
-    ghost did = { λ j b before after said k. (P : PlainPolicy) → K.accepted b.policy ≡ Some P
+    ghost did = { λ j b before after said k. (P : PlainPolicy) → accepted b.policy ≡ Some P
         → Steps P (entry_of j.line.now) before after (answer_of said) };
 
     fn number(&self) -> u32 {
         self.line.caller.0 as u32 + 1
     }
 
-    fn run(&mut self, store: &mut Store<K>) -> Answer {
+    fn run(&mut self, store: &mut Store<E, D>) -> Answer {
         texts_tell_changes();
         Answer::from(store.step(self.alloc, self.line.caller, &self.line.command))
     }

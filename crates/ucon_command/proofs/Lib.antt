@@ -1,9 +1,12 @@
-pub mod Cuts
+pub mod Growing
 pub mod Histories
 pub mod InLine
 pub mod Joined
+pub mod Judged
+pub mod KnownWords
 pub mod Lengths
 pub mod Payloads
+pub mod Placed
 pub mod ReadLines
 pub mod ReadReplies
 pub mod Revoked

@@ -72,7 +72,7 @@ number_from (Some (negsuc m)) n h = absurd (nothing h)
 pub number_is : (bs : Bytes) (n : ℕ) → number_in bs ≡ Some n → decimal n ≡ bs
 number_is bs n h = integer_is bs (pos n) (number_from (integer_in bs) n h)
 
-said_is : {A : Type 0} (o : Option A) (r : LineRefusal) (x : A) → ok_or o r ≡ Ok x → o ≡ Some x
+pub said_is : {A : Type 0} (o : Option A) (r : LineRefusal) (x : A) → ok_or o r ≡ Ok x → o ≡ Some x
 said_is None r x h = absurd (refused h)
 said_is (Some y) r x h = ap result_ok h
 

@@ -1,170 +1,215 @@
 //! What the words of a line say, by its form.
 
-ghost use Rattle.std.specs.Prelude.{◌≡◌, ◌≤◌, length, map, MatchResult};
-ghost use Rattle.ucon_model.specs.CommandLine.{side_in, name_in, value_in, integer_in, number_in, with_rest, one_word, names_of, three_names, place_of, value_words, set_of, set_words, env_of, env_words};
-ghost use Rattle.ucon_command.specs.Words.{word_of, BeginWithin};
+ghost use Rattle.std.specs.Prelude.{◌≡◌, ◌≤◌, ◌<◌, [], ◌∷◌, length, drop, IfNone, IfOk, IfSome, IsOk, IsTrue, Ok, MatchOption, MatchResult};
+ghost use Rattle.std.specs.Result.{result_ok};
+ghost use Rattle.ucon_base.specs.NameBytes.{is_name};
+ghost use Rattle.ucon_model.specs.CommandLine.{name_in, integer_in, number_in, one_word, names_of, three_names, place_of, value_words, set_words, env_words, words_of};
+ghost use Rattle.ucon_command.specs.Cuts.{AreCuts, IsSecond, between, ends_in_name, has_name, words_at, words_from};
 ghost use Rattle.ucon_command.specs.Faults.{IsRefusal};
+ghost use Rattle.ucon_command.specs.Words.{word_of};
 
+use crate::cuts::Cuts;
 use crate::kinds::{integer_word, name_word, number_word, side_word, value_word};
 use crate::line_fault::LineFault;
-use crate::words::Word;
+use crate::words::{Word, last_word, next_word, word_between, word_count};
 use std::alloc::Global;
-use ucon_base::{Int, Name, Side};
-use ucon_model::Command;
+use ucon_base::Side;
 
-/// A word with the rest of the line.
-pub fn with_rest<'a>(line: &'a [u8], w: &Word<'a>) -> Word<'a>
-    requires { w.now.at ≤ length line.now }
-    ensures { word_of result ≡ with_rest line.now (word_of w.now) }
+/// Where a line's second word begins, if it has no third.
+fn one_word(line: &[u8], second: Option<usize>) -> Option<usize>
+    requires { IfSome second (λ at. at ≤ length line.now) }
+    ensures { MatchOption result (length (words_from second line.now) ≡ 1 → ⊥) (λ a. (a ≤ length line.now) × (words_from second line.now ≡ record { at = a; text = drop a line.now } ∷ [])) }
 {
-    Word {
-        at: w.at,
-        text: &line[w.at..],
+    let a = second?;
+    match next_word(line, a) {
+        None => Some(a),
+        Some(_) => None,
     }
 }
 
-/// `subject N` and `object N`.
-#[tactic(auto, unfolding(ucon_model::specs::CommandLine::one_word))]
-pub fn one_name(words: &[Word<'_>]) -> Result<Name, LineFault>
-    ensures { MatchResult result (λ n. one_word name_in (map word_of words.now) ≡ Ok n) (IsRefusal (one_word name_in (map word_of words.now))) }
+/// Where the three words behind a line's first begin, if there are no more.
+fn three_words(line: &[u8], second: Option<usize>) -> Option<(usize, usize, usize)>
+    requires { IfSome second (λ at. at ≤ length line.now) }
+    ensures none { IfNone result (length (words_from second line.now) ≡ 3 → ⊥) }
+    ensures words { IfSome result (λ p. words_from second line.now
+        ≡ record { at = p.0; text = between p.0 p.1 line.now } ∷ record { at = p.1; text = between p.1 p.2 line.now } ∷ record { at = p.2; text = drop p.2 line.now } ∷ []) }
+    ensures within { IfSome result (λ p. (p.0 < p.1) × (p.1 < p.2) × (p.2 ≤ length line.now)) }
 {
-    match words {
-        [_, w] => name_word(w),
-        _ => Err(LineFault::WrongCount(words.len())),
+    let a = second?;
+    let b = next_word(line, a)?;
+    let c = next_word(line, b)?;
+    match next_word(line, c) {
+        None => Some((a, b, c)),
+        Some(_) => None,
     }
 }
 
-/// `tick T`.
-#[tactic(auto, unfolding(ucon_model::specs::CommandLine::one_word))]
-pub fn one_integer(alloc: Global, words: &[Word<'_>]) -> Result<Int, LineFault>
-    ensures { MatchResult result (λ n. one_word integer_in (map word_of words.now) ≡ Ok n) (IsRefusal (one_word integer_in (map word_of words.now))) }
+/// Where a variable's name and its value begin, which takes the rest of the line.
+fn env_places(line: &[u8], second: Option<usize>) -> Option<(usize, usize)>
+    requires { IfSome second (λ at. at ≤ length line.now) }
+    ensures none { IfNone result (length (words_from second line.now) < 2) }
+    ensures words { IfSome result (λ p. words_from second line.now ≡ record { at = p.0; text = between p.0 p.1 line.now } ∷ words_at p.1 line.now) }
+    ensures within { IfSome result (λ p. (p.0 < p.1) × (p.1 ≤ length line.now) × (0 < length (words_at p.1 line.now))) }
 {
-    match words {
-        [_, w] => integer_word(alloc, w),
-        _ => Err(LineFault::WrongCount(words.len())),
-    }
+    let a = second?;
+    let b = next_word(line, a)?;
+    Some((a, b))
 }
 
-/// `again n`, `beat n`, `end n` and `look n`.
-#[tactic(auto, unfolding(ucon_model::specs::CommandLine::one_word))]
-pub fn one_number(alloc: Global, words: &[Word<'_>]) -> Result<u32, LineFault>
-    ensures { MatchResult result (λ n. one_word number_in (map word_of words.now) ≡ Ok n) (IsRefusal (one_word number_in (map word_of words.now))) }
+/// Where a side, an entity's name, an attribute's and its value begin, which takes the rest of the line.
+fn set_places(line: &[u8], second: Option<usize>) -> Option<(usize, usize, usize, usize)>
+    requires { IfSome second (λ at. at ≤ length line.now) }
+    ensures none { IfNone result (length (words_from second line.now) < 4) }
+    ensures words { IfSome result (λ p. words_from second line.now
+        ≡ record { at = p.0; text = between p.0 p.1 line.now } ∷ record { at = p.1; text = between p.1 p.2 line.now } ∷ record { at = p.2; text = between p.2 p.3 line.now } ∷ words_at p.3 line.now) }
+    ensures within { IfSome result (λ p. (p.0 < p.1) × (p.1 < p.2) × (p.2 < p.3) × (p.3 ≤ length line.now) × (0 < length (words_at p.3 line.now))) }
 {
-    match words {
-        [_, w] => number_word(alloc, w),
-        _ => Err(LineFault::WrongCount(words.len())),
+    let a = second?;
+    let b = next_word(line, a)?;
+    let c = next_word(line, b)?;
+    let d = next_word(line, c)?;
+    Some((a, b, c, d))
+}
+
+/// `subject N` and `object N`: where the name begins.
+#[tactic(auto, unfolding(ucon_model::specs::CommandLine::one_word), using(crate::proofs::Placed::one_miscounted))]
+pub fn one_name(line: &[u8], second: Option<usize>) -> Result<u16, LineFault>
+    requires short { length line.now ≤ 8192 }
+    requires second { IsSecond second line.now }
+    ensures { MatchResult result (λ n. (one_word name_in (words_of line.now) ≡ Ok (drop n line.now)) × IsTrue (ends_in_name n line.now)) (IsRefusal (one_word name_in (words_of line.now))) }
+{
+    let Some(name) = one_word(line, second) else {
+        return Err(LineFault::WrongCount(word_count(line)));
+    };
+    name_word(&last_word(line, name))?;
+    Ok(name as u16)
+}
+
+/// `tick T`: where the integer begins.
+#[tactic(auto, unfolding(ucon_model::specs::CommandLine::one_word), using(crate::proofs::Placed::one_miscounted))]
+pub fn one_integer(alloc: Global, line: &[u8], second: Option<usize>) -> Result<u16, LineFault>
+    requires short { length line.now ≤ 8192 }
+    requires second { IsSecond second line.now }
+    ensures { MatchResult result (λ t. IsOk (one_word integer_in (words_of line.now)) × (result_ok (one_word integer_in (words_of line.now)) ≡ integer_in (drop t line.now)) × (t ≤ length line.now)) (IsRefusal (one_word integer_in (words_of line.now))) }
+{
+    let Some(tick) = one_word(line, second) else {
+        return Err(LineFault::WrongCount(word_count(line)));
+    };
+    integer_word(alloc, &last_word(line, tick))?;
+    Ok(tick as u16)
+}
+
+/// `again n`, `beat n`, `end n` and `look n`: the session's number.
+#[tactic(auto, unfolding(ucon_model::specs::CommandLine::one_word), using(crate::proofs::Placed::one_miscounted))]
+pub fn one_number(alloc: Global, line: &[u8], second: Option<usize>) -> Result<u32, LineFault>
+    requires short { length line.now ≤ 8192 }
+    requires second { IsSecond second line.now }
+    ensures { MatchResult result (λ n. one_word number_in (words_of line.now) ≡ Ok n) (IsRefusal (one_word number_in (words_of line.now))) }
+{
+    match one_word(line, second) {
+        Some(session) => number_word(alloc, &last_word(line, session)),
+        None => Err(LineFault::WrongCount(word_count(line))),
     }
 }
 
 #[tactic(auto, unfolding(ucon_model::specs::CommandLine::names_of))]
-fn names_of(a: &Word<'_>, b: &Word<'_>, c: &Word<'_>) -> Result<(Name, Name, Name), LineFault>
-    ensures { MatchResult result (λ t. names_of (word_of a.now) (word_of b.now) (word_of c.now) ≡ Ok t) (IsRefusal (names_of (word_of a.now) (word_of b.now) (word_of c.now))) }
+fn names_of(a: &Word<'_>, b: &Word<'_>, c: &Word<'_>) -> Result<(), LineFault>
+    ensures read { MatchResult result (λ _. names_of (word_of a.now) (word_of b.now) (word_of c.now) ≡ Ok (a.now.text.now, b.now.text.now, c.now.text.now)) (IsRefusal (names_of (word_of a.now) (word_of b.now) (word_of c.now))) }
+    ensures names { IfOk result (λ _. IsTrue (is_name a.now.text.now) × IsTrue (is_name b.now.text.now) × IsTrue (is_name c.now.text.now)) }
 {
-    let a = name_word(a)?;
-    let b = name_word(b)?;
-    let c = name_word(c)?;
-    Ok((a, b, c))
+    name_word(a)?;
+    name_word(b)?;
+    name_word(c)
 }
 
-/// `act S ACT O` and `try S RIGHT O`.
-#[tactic(auto, unfolding(ucon_model::specs::CommandLine::three_names))]
-pub fn three_names(words: &[Word<'_>]) -> Result<(Name, Name, Name), LineFault>
-    ensures { MatchResult result (λ t. three_names (map word_of words.now) ≡ Ok t) (IsRefusal (three_names (map word_of words.now))) }
+/// `act S ACT O` and `try S RIGHT O`: where the names begin.
+#[tactic(auto, unfolding(ucon_model::specs::CommandLine::three_names), using(crate::proofs::Placed::three_miscounted))]
+pub fn three_names(line: &[u8], second: Option<usize>) -> Result<(u16, u16, u16), LineFault>
+    requires short { length line.now ≤ 8192 }
+    requires second { IsSecond second line.now }
+    ensures read { MatchResult result (λ p. three_names (words_of line.now) ≡ Ok (between p.0 p.1 line.now, between p.1 p.2 line.now, drop p.2 line.now)) (IsRefusal (three_names (words_of line.now))) }
+    ensures words { IfOk result (λ p. IsTrue (has_name p.0 p.1 line.now) × IsTrue (has_name p.1 p.2 line.now) × IsTrue (ends_in_name p.2 line.now)) }
 {
-    match words {
-        [_, a, b, c] => names_of(a, b, c),
-        _ => Err(LineFault::WrongCount(words.len())),
-    }
+    let Some((a, b, c)) = three_words(line, second) else {
+        return Err(LineFault::WrongCount(word_count(line)));
+    };
+    names_of(
+        &word_between(line, a, b),
+        &word_between(line, b, c),
+        &last_word(line, c),
+    )?;
+    Ok((a as u16, b as u16, c as u16))
 }
 
+/// The side that an entity and its attribute are of.
 #[tactic(auto, unfolding(ucon_model::specs::CommandLine::place_of))]
-fn place_of(
-    side: &Word<'_>,
-    name: &Word<'_>,
-    attr: &Word<'_>,
-) -> Result<(Side, Name, Name), LineFault>
-    ensures { MatchResult result (λ p. place_of (word_of side.now) (word_of name.now) (word_of attr.now) ≡ Ok p) (IsRefusal (place_of (word_of side.now) (word_of name.now) (word_of attr.now))) }
+fn place_of(side: &Word<'_>, name: &Word<'_>, attr: &Word<'_>) -> Result<Side, LineFault>
+    ensures read { MatchResult result (λ s. place_of (word_of side.now) (word_of name.now) (word_of attr.now) ≡ Ok (s, name.now.text.now, attr.now.text.now)) (IsRefusal (place_of (word_of side.now) (word_of name.now) (word_of attr.now))) }
+    ensures names { IfOk result (λ _. IsTrue (is_name name.now.text.now) × IsTrue (is_name attr.now.text.now)) }
 {
     let side = side_word(side)?;
-    let name = name_word(name)?;
-    let attr = name_word(attr)?;
-    Ok((side, name, attr))
+    name_word(name)?;
+    name_word(attr)?;
+    Ok(side)
 }
 
-/// `value s|o N ATTR`.
-#[tactic(auto, unfolding(ucon_model::specs::CommandLine::value_words))]
-pub fn value_words(words: &[Word<'_>]) -> Result<(Side, Name, Name), LineFault>
-    ensures { MatchResult result (λ p. value_words (map word_of words.now) ≡ Ok p) (IsRefusal (value_words (map word_of words.now))) }
+/// `value s|o N ATTR`: the side, and where the names begin.
+#[tactic(auto, unfolding(ucon_model::specs::CommandLine::value_words), using(crate::proofs::Placed::value_miscounted))]
+pub fn value_words(line: &[u8], second: Option<usize>) -> Result<(Side, u16, u16), LineFault>
+    requires short { length line.now ≤ 8192 }
+    requires second { IsSecond second line.now }
+    ensures read { MatchResult result (λ p. value_words (words_of line.now) ≡ Ok (p.0, between p.1 p.2 line.now, drop p.2 line.now)) (IsRefusal (value_words (words_of line.now))) }
+    ensures words { IfOk result (λ p. IsTrue (has_name p.1 p.2 line.now) × IsTrue (ends_in_name p.2 line.now)) }
 {
-    match words {
-        [_, side, name, attr] => place_of(side, name, attr),
-        _ => Err(LineFault::WrongCount(words.len())),
-    }
-}
-
-#[tactic(auto, unfolding(ucon_model::specs::CommandLine::set_of))]
-fn set_of(
-    alloc: Global,
-    side: &Word<'_>,
-    name: &Word<'_>,
-    attr: &Word<'_>,
-    value: &Word<'_>,
-) -> Result<Command, LineFault>
-    ensures { MatchResult result (λ c. set_of (place_of (word_of side.now) (word_of name.now) (word_of attr.now)) (word_of value.now) ≡ Ok c) (IsRefusal (set_of (place_of (word_of side.now) (word_of name.now) (word_of attr.now)) (word_of value.now))) }
-{
-    let (side, name, attr) = place_of(side, name, attr)?;
-    let value = value_word(alloc, value)?;
-    Ok(Command::Set {
-        side,
-        name,
-        attr,
-        value,
-    })
+    let Some((a, b, c)) = three_words(line, second) else {
+        return Err(LineFault::WrongCount(word_count(line)));
+    };
+    let side = place_of(
+        &word_between(line, a, b),
+        &word_between(line, b, c),
+        &last_word(line, c),
+    )?;
+    Ok((side, b as u16, c as u16))
 }
 
 /// `set s|o N ATTR VALUE`.
-#[tactic(auto, unfolding(ucon_model::specs::CommandLine::set_words))]
-pub fn set_words<'a>(
-    alloc: Global,
-    line: &'a [u8],
-    words: &[Word<'a>],
-) -> Result<Command, LineFault>
-    requires { BeginWithin line.now words.now }
-    ensures { MatchResult result (λ c. set_words line.now (map word_of words.now) ≡ Ok c) (IsRefusal (set_words line.now (map word_of words.now))) }
+#[tactic(auto, unfolding(ucon_model::specs::CommandLine::set_words, ucon_model::specs::CommandLine::set_of), using(crate::proofs::Placed::set_miscounted))]
+pub fn set_words(alloc: Global, line: &[u8], second: Option<usize>) -> Result<Cuts, LineFault>
+    requires short { length line.now ≤ 8192 }
+    requires second { IsSecond second line.now }
+    ensures { MatchResult result (λ k. AreCuts k line.now (set_words line.now (words_of line.now))) (IsRefusal (set_words line.now (words_of line.now))) }
 {
-    match words {
-        [_, side, name, attr, value, ..] => {
-            let value = with_rest(line, value);
-            set_of(alloc, side, name, attr, &value)
-        }
-        _ => Err(LineFault::WrongCount(words.len())),
-    }
-}
-
-#[tactic(auto, unfolding(ucon_model::specs::CommandLine::env_of))]
-fn env_of(alloc: Global, name: &Word<'_>, value: &Word<'_>) -> Result<Command, LineFault>
-    ensures { MatchResult result (λ c. env_of (word_of name.now) (word_of value.now) ≡ Ok c) (IsRefusal (env_of (word_of name.now) (word_of value.now))) }
-{
-    let name = name_word(name)?;
-    let value = value_word(alloc, value)?;
-    Ok(Command::Env { name, value })
+    let Some((a, b, c, d)) = set_places(line, second) else {
+        return Err(LineFault::WrongCount(word_count(line)));
+    };
+    let side = place_of(
+        &word_between(line, a, b),
+        &word_between(line, b, c),
+        &word_between(line, c, d),
+    )?;
+    value_word(alloc, &last_word(line, d))?;
+    Ok(Cuts::Set {
+        side,
+        name: b as u16,
+        attr: c as u16,
+        value: d as u16,
+    })
 }
 
 /// `env VAR VALUE`.
-#[tactic(auto, unfolding(ucon_model::specs::CommandLine::env_words))]
-pub fn env_words<'a>(
-    alloc: Global,
-    line: &'a [u8],
-    words: &[Word<'a>],
-) -> Result<Command, LineFault>
-    requires { BeginWithin line.now words.now }
-    ensures { MatchResult result (λ c. env_words line.now (map word_of words.now) ≡ Ok c) (IsRefusal (env_words line.now (map word_of words.now))) }
+#[tactic(auto, unfolding(ucon_model::specs::CommandLine::env_words, ucon_model::specs::CommandLine::env_of), using(crate::proofs::Placed::env_miscounted))]
+pub fn env_words(alloc: Global, line: &[u8], second: Option<usize>) -> Result<Cuts, LineFault>
+    requires short { length line.now ≤ 8192 }
+    requires second { IsSecond second line.now }
+    ensures { MatchResult result (λ k. AreCuts k line.now (env_words line.now (words_of line.now))) (IsRefusal (env_words line.now (words_of line.now))) }
 {
-    match words {
-        [_, name, value, ..] => {
-            let value = with_rest(line, value);
-            env_of(alloc, name, &value)
-        }
-        _ => Err(LineFault::WrongCount(words.len())),
-    }
+    let Some((a, b)) = env_places(line, second) else {
+        return Err(LineFault::WrongCount(word_count(line)));
+    };
+    name_word(&word_between(line, a, b))?;
+    value_word(alloc, &last_word(line, b))?;
+    Ok(Cuts::Env {
+        name: a as u16,
+        value: b as u16,
+    })
 }

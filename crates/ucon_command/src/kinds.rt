@@ -1,6 +1,7 @@
 //! What a word says, by its kind.
 
-ghost use Rattle.std.specs.Prelude.{◌≡◌, IfOk, MatchResult};
+ghost use Rattle.std.specs.Prelude.{◌≡◌, IfOk, IsTrue, MatchResult};
+ghost use Rattle.ucon_base.specs.NameBytes.{is_name};
 ghost use Rattle.ucon_model.specs.CommandLine.{side_in, name_in, value_in, integer_of, integer_in, number_of, number_in, said};
 ghost use Rattle.ucon_command.specs.Words.{word_of};
 ghost use Rattle.ucon_command.specs.Faults.{IsRefusal};
@@ -27,6 +28,12 @@ pub fn name_in(bytes: &[u8]) -> Option<Name>
     ensures { result ≡ name_in bytes.now }
 {
     Name::read(bytes).ok()
+}
+
+fn is_name(bytes: &[u8]) -> bool
+    ensures { result ≡ is_name bytes.now }
+{
+    Name::read(bytes).is_ok()
 }
 
 /// The value that the bytes spell.
@@ -81,11 +88,16 @@ pub fn side_word(w: &Word<'_>) -> Result<Side, LineFault>
     side_in(w.text).ok_or(LineFault::BadWord(w.at))
 }
 
-/// The name that a word is.
-pub fn name_word(w: &Word<'_>) -> Result<Name, LineFault>
-    ensures { MatchResult result (λ n. said name_in (word_of w.now) ≡ Ok n) (IsRefusal (said name_in (word_of w.now))) }
+/// That a word is a name.
+pub fn name_word(w: &Word<'_>) -> Result<(), LineFault>
+    ensures said { MatchResult result (λ _. said name_in (word_of w.now) ≡ Ok w.now.text.now) (IsRefusal (said name_in (word_of w.now))) }
+    ensures name { IfOk result (λ _. IsTrue (is_name w.now.text.now)) }
 {
-    name_in(w.text).ok_or(LineFault::BadWord(w.at))
+    if is_name(w.text) {
+        Ok(())
+    } else {
+        Err(LineFault::BadWord(w.at))
+    }
 }
 
 /// The value that a word spells.

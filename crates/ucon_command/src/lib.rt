@@ -1,9 +1,13 @@
 //! Command lines and replies: the one text of each, both ways.
 #![tactic(auto)]
 
+mod command_line;
 mod commands;
+mod cuts;
+mod cutting;
 mod forms;
 mod in_form;
+mod judging;
 mod kinds;
 mod laws;
 mod line_fault;
@@ -18,7 +22,9 @@ mod spelling;
 mod tests;
 mod words;
 
+pub use command_line::CommandLine;
 pub use commands::command_text;
+pub use cuts::Cuts;
 pub use laws::{
     commands_are_read_back, histories_are_found, payloads_are_read_back, replies_are_read_back,
     steps_are_taken_as_spelled,
@@ -28,5 +34,5 @@ pub use lines::read_command;
 pub use payload::{payload_text, read_payload};
 pub use payload_fault::PayloadFault;
 pub use reading::read_reply;
-pub use replies::reply_text;
+pub use replies::{put_reply, reply_text};
 pub use reply_fault::ReplyFault;

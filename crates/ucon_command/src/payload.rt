@@ -16,7 +16,7 @@ use crate::line_fault::LineFault;
 use crate::lines::read_command;
 use crate::payload_fault::PayloadFault;
 use crate::reading::read_reply;
-use crate::replies::put_reply;
+use crate::replies::put_spelling;
 use crate::reply_fault::ReplyFault;
 use crate::spelling::put_session;
 use itoa::Buffer;
@@ -60,7 +60,7 @@ fn put_payload(
     put(out, b" ")?;
     put_command(alloc, out, command)?;
     put(out, b"\n")?;
-    put_reply(alloc, out, reply)
+    put_spelling(alloc, out, reply)
 }
 
 /// The step of which the bytes are the text, or the place of the first part that is none. Bytes that begin with no client's number and a

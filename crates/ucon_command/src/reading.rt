@@ -8,11 +8,10 @@ ghost use Rattle.ucon_model.specs.Views.{reply_of};
 ghost use Rattle.ucon_command.specs.Words.{word_of, BeginWithin};
 ghost use Rattle.ucon_command.specs.Faults.{IsUnread, IsNoReply};
 
-use crate::forms::with_rest;
 use crate::kinds::{name_in, number_in, value_in};
 use crate::replies::{refusal_words, state_word};
 use crate::reply_fault::ReplyFault;
-use crate::words::{Word, words};
+use crate::words::{Word, last_word, words};
 use std::alloc::Global;
 use ucon_base::{Name, Rows};
 use ucon_model::{Head, Refusal, Reply, Revoked, SessionState};
@@ -227,7 +226,7 @@ fn value_reply<'a>(alloc: Global, bytes: &'a [u8], words: &[Word<'a>]) -> Result
 {
     match words {
         [value, ..] => {
-            let value = with_rest(bytes, value);
+            let value = last_word(bytes, value.at);
             let v = value_in(alloc, value.text)?.ok_or(ReplyFault::BadReply)?;
             Ok(Reply::Value(v))
         }

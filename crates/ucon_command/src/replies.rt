@@ -14,24 +14,33 @@ use std::alloc::Global;
 use ucon_base::{Name, NoMemory, put};
 use ucon_model::{Head, Refusal, Reply, Revoked, SessionState};
 
-/// Most replies that revoke nobody have no more.
-const LIKELY_BYTES: usize = 48;
-
 /// The one text of a reply, which has no newline in it: at most 4306 bytes, and 52 for each revocation.
-#[tactic(auto, using(crate::proofs::InLine::reply_in_line, crate::proofs::Lengths::reply_short, crate::proofs::ReadReplies::reply_back))]
 pub fn reply_text(alloc: Global, reply: &Reply) -> Result<Vec<u8>, NoMemory>
     ensures text { IfOk result (λ t. t.items ≡ reply_spelling (reply_of reply.now)) }
     ensures read_back { reply_read (reply_spelling (reply_of reply.now)) ≡ Some (reply_of reply.now) }
     ensures one_line { Lacks 10 (reply_spelling (reply_of reply.now)) }
     ensures short { length (reply_spelling (reply_of reply.now)) ≤ most_reply (reply_of reply.now) }
 {
-    reply_in_form(reply);
-    let mut text = Vec::with_capacity(alloc, LIKELY_BYTES)?;
+    let mut text = Vec::new(alloc);
     put_reply(alloc, &mut text, reply)?;
     Ok(text)
 }
 
+/// Adds the one text of a reply, which has no newline in it: at most 4306 bytes, and 52 for each revocation. Where there is no memory, some of it may stand
+/// there: a caller gives the text up.
+#[tactic(auto, using(crate::proofs::InLine::reply_in_line, crate::proofs::Lengths::reply_short, crate::proofs::ReadReplies::reply_back))]
 pub fn put_reply(alloc: Global, out: &mut Vec<u8>, reply: &Reply) -> Result<(), NoMemory>
+    ensures text { OnOk result (out.new.items ≡ out.old.items ++ reply_spelling (reply_of reply.now)) }
+    ensures read_back { reply_read (reply_spelling (reply_of reply.now)) ≡ Some (reply_of reply.now) }
+    ensures one_line { Lacks 10 (reply_spelling (reply_of reply.now)) }
+    ensures short { length (reply_spelling (reply_of reply.now)) ≤ most_reply (reply_of reply.now) }
+{
+    reply_in_form(reply);
+    put_spelling(alloc, out, reply)
+}
+
+/// Adds the one text of a reply.
+pub fn put_spelling(alloc: Global, out: &mut Vec<u8>, reply: &Reply) -> Result<(), NoMemory>
     ensures { OnOk result (out.new.items ≡ out.old.items ++ reply_spelling (reply_of reply.now)) }
 {
     match reply {

@@ -1,4 +1,5 @@
 pub mod SameTexts
 pub mod Places
 pub mod Agreeing
+pub mod Rows
 pub mod NoSets

@@ -1,14 +1,23 @@
 -- What is asked of a session: a predicate, all predicates or an update of its right.
-use Rattle.std.specs.Prelude.{ℕ, Bool, true, Option, option_and_then, option_map, slice_get}
+use Rattle.std.specs.Prelude.{ℕ, pos, Bool, true, [], Option, option_and_then, option_map, slice_get, unwrap_or}
 use Rattle.std.specs.Option.{option_map_or}
 use Rattle.ucon_base.specs.declared.value.Value.{Value}
 use Rattle.ucon_model.specs.declared.session.SessionRow.{SessionRow}
+use Rattle.ucon_model.specs.declared.session.SessionState.TheVariants.{Requesting}
 use Rattle.ucon_model.specs.Plain.{PlainPolicy, PlainRight, PlainPredicate, PlainUpdate}
 use Rattle.ucon_model.specs.Readings.{declared_attr}
 use Rattle.ucon_model.specs.Truth.{Readings, value_of, truth}
 use Rattle.ucon_model.specs.Decision.{right_named}
 use Rattle.ucon_model.specs.Updates.{fitted_to}
 use Rattle.ucon_eval.specs.Sums.{test_makes_no_set}
+
+-- a session without names
+abbrev pub no_session : SessionRow
+no_session = record { caller = record { 0 = 0 }; right = []; subject = []; object = []; state = Requesting; start = pos 0 }
+
+-- session n; where it isn't there, a session without names
+abbrev pub row_at : Readings → ℕ → SessionRow
+row_at R n = unwrap_or (R.row n) no_session
 
 -- the right of session n
 abbrev pub right_of_session : PlainPolicy → Readings → ℕ → Option PlainRight

@@ -2,15 +2,15 @@
 
 ghost use Rattle.std.specs.Prelude.{◌≡◌, ◌+◌, ◌-◌, ◌^◌, ◌&&◌, not, min, map, option_map, option_copied, true, Some, IsSome};
 ghost use Rattle.ucon_model.specs.Truth.{truth};
-ghost use Rattle.ucon_model.specs.Decision.{right_named, first_false, first_false_of, failing, no_right, verdict};
-ghost use Rattle.ucon_model.specs.Views.{right_of, predicate_of, test_of};
+ghost use Rattle.ucon_model.specs.Decision.{first_false, failing, no_right, verdict};
+ghost use Rattle.ucon_model.specs.Views.{predicate_of, test_of};
 ghost use Rattle.ucon_eval.specs.Sums.{preds_make_no_set, tests_make_no_set};
-ghost use Rattle.ucon_eval.specs.Asked.{right_of_session, predicate_at, truth_at, makes_no_set_at};
+ghost use Rattle.ucon_eval.specs.Asked.{row_at, predicate_at, truth_at, makes_no_set_at};
 ghost use Rattle.ucon_eval.specs.Sort.{sort_of};
 
 use crate::test::is_true;
 use ucon_base::{Name, Steps};
-use ucon_model::{Phase, Predicate, Right, SessionRow, Test, Verdict, View};
+use ucon_model::{Phase, Predicate, Test, Verdict, View};
 
 /// Which predicates are asked.
 #[derive(Clone, Copy)]
@@ -35,41 +35,28 @@ fn is_of(sort: Sort, p: &Predicate) -> bool
 }
 
 /// The label of the first predicate of a sort that is false.
-fn first_false<V: View>(
-    view: &V,
-    session: u32,
-    row: &SessionRow,
-    sort: Sort,
-    preds: &[Predicate],
-) -> Option<Name>
-    requires row { (V.readings view.now).row session ≡ Some row.now }
-    requires no_set { preds_make_no_set (V.readings view.now) row.now (map predicate_of preds.now) ≡ true }
-    ensures { result ≡ first_false (V.readings view.now) row.now (sort_of sort) (map predicate_of preds.now) }
+fn first_false<V: View>(view: &V, session: u32, sort: Sort, preds: &[Predicate]) -> Option<Name>
+    requires there { IsSome ((V.readings view.now).row session) }
+    requires no_set { preds_make_no_set (V.readings view.now) (row_at (V.readings view.now) session) (map predicate_of preds.now) ≡ true }
+    ensures { result ≡ first_false (V.readings view.now) (row_at (V.readings view.now) session) (sort_of sort) (map predicate_of preds.now) }
 {
     for p in preds {
-        if is_of(sort, p) && !is_true(view, session, row, &p.test) {
+        if is_of(sort, p) && !is_true(view, session, &p.test) {
             return Some(p.label);
         }
     }
     None
 }
 
-/// The right of a session.
-pub fn right<'a, V: View>(view: &'a V, row: &SessionRow) -> Option<&'a Right>
-    ensures { option_map right_of (option_copied result) ≡ right_named (V.policy view.now).rights row.now.right }
-{
-    view.checked().policy().right(&row.right)
-}
-
 /// A predicate of the session's right by its place, from 0.
-#[tactic(auto, using(crate::proofs::Places::place_of_view))]
-fn predicate<'a, V: View>(view: &'a V, row: &SessionRow, at: u32) -> Option<&'a Predicate>
-    ensures { option_map predicate_of (option_copied result) ≡ predicate_at (V.policy view.now) row.now at }
+#[tactic(auto, using(crate::proofs::Places::place_of_view, crate::proofs::Rows::right_at))]
+fn predicate<V: View>(view: &V, session: u32, at: u32) -> Option<&Predicate>
+    requires there { IsSome ((V.readings view.now).row session) }
+    ensures { option_map predicate_of (option_copied result)
+        ≡ predicate_at (V.policy view.now) (row_at (V.readings view.now) session) at }
 {
-    match right(view, row) {
-        Some(right) => right.preds.at(at as usize),
-        None => None,
-    }
+    let right = view.right(session)?;
+    right.preds.at(at as usize)
 }
 
 /// Whether a predicate of the session's right, by its place from 0, is true. It takes no memory.
@@ -78,25 +65,10 @@ pub fn truth<V: View>(view: &V, session: u32, pred: u32) -> bool
     requires no_set { makes_no_set_at (V.policy view.now) (V.readings view.now) session pred ≡ true }
     ensures { truth_at (V.policy view.now) (V.readings view.now) session pred ≡ Some result }
 {
-    let Some(row) = view.session(session) else {
+    let Some(p) = predicate(view, session, pred) else {
         unreachable!()
     };
-    let Some(p) = predicate(view, &row, pred) else {
-        unreachable!()
-    };
-    is_true(view, session, &row, &p.test)
-}
-
-/// The label of the session's first predicate of a sort that is false.
-fn first_false_of<V: View>(view: &V, session: u32, row: &SessionRow, sort: Sort) -> Option<Name>
-    requires row { (V.readings view.now).row session ≡ Some row.now }
-    requires no_set { tests_make_no_set (V.policy view.now) (V.readings view.now) session ≡ true }
-    ensures { result ≡ first_false_of (V.policy view.now) (V.readings view.now) (sort_of sort) row.now }
-{
-    match right(view, row) {
-        Some(right) => first_false(view, session, row, sort, right.preds.slice()),
-        None => None,
-    }
+    is_true(view, session, &p.test)
 }
 
 /// The verdict on a session. It takes no memory.
@@ -105,13 +77,14 @@ pub fn verdict<V: View>(view: &V, session: u32) -> Verdict
     requires no_set { tests_make_no_set (V.policy view.now) (V.readings view.now) session ≡ true }
     ensures { result ≡ verdict (V.policy view.now) (V.readings view.now) session }
 {
-    let Some(row) = view.session(session) else {
-        unreachable!()
+    let Some(right) = view.right(session) else {
+        return Verdict::Permit;
     };
-    if let Some(label) = first_false_of(view, session, &row, Sort::PreCheck) {
+    let preds = right.preds.slice();
+    if let Some(label) = first_false(view, session, Sort::PreCheck, preds) {
         return Verdict::Deny(label);
     }
-    match first_false_of(view, session, &row, Sort::PreDuty) {
+    match first_false(view, session, Sort::PreDuty, preds) {
         Some(label) => Verdict::Wait(label),
         None => Verdict::Permit,
     }
@@ -126,11 +99,8 @@ pub fn failing<V: View>(view: &V, session: u32, steps: &mut Steps) -> Option<Nam
     ensures steps { steps.new ≡ min (steps.old + 1) (2 ^ 64 - 1) }
 {
     steps.tick();
-    let Some(row) = view.session(session) else {
-        unreachable!()
-    };
-    match right(view, &row) {
-        Some(right) => first_false(view, session, &row, Sort::Ongoing, right.preds.slice()),
+    match view.right(session) {
+        Some(right) => first_false(view, session, Sort::Ongoing, right.preds.slice()),
         None => Some(no_right()),
     }
 }

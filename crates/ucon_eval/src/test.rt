@@ -1,21 +1,22 @@
 //! Whether the test of a predicate holds for a session.
 
-ghost use Rattle.std.specs.Prelude.{◌≡◌, ◌+ℤ◌, int_le, Some, true};
+ghost use Rattle.std.specs.Prelude.{◌≡◌, ◌+ℤ◌, int_le, IsSome, true};
 ghost use Rattle.ucon_model.specs.Truth.{value_of, holds, in_time, is_done, truth};
 ghost use Rattle.ucon_model.specs.Views.{expr_of, formula_of, test_of};
+ghost use Rattle.ucon_eval.specs.Asked.{row_at};
 ghost use Rattle.ucon_eval.specs.Worth.{worth_value};
 ghost use Rattle.ucon_eval.specs.Sums.{makes_no_set, formula_makes_no_set, test_makes_no_set};
 
 use crate::arithmetic::later;
 use crate::worth::Worth;
 use ucon_base::Int;
-use ucon_model::{Expr, Form, Formula, Obligation, SessionRow, Test, View};
+use ucon_model::{Expr, Form, Formula, Obligation, Test, View};
 
 /// What an expression is worth for a session.
-pub fn worth_of<'a, V: View>(view: &'a V, session: u32, row: &SessionRow, e: &'a Expr) -> Worth<'a>
-    requires row { (V.readings view.now).row session ≡ Some row.now }
-    requires no_set { makes_no_set ((V.readings view.now).at row.now) (expr_of e.now) ≡ true }
-    ensures { worth_value result ≡ value_of ((V.readings view.now).at row.now) (expr_of e.now) }
+pub fn worth_of<'a, V: View>(view: &'a V, session: u32, e: &'a Expr) -> Worth<'a>
+    requires there { IsSome ((V.readings view.now).row session) }
+    requires no_set { makes_no_set ((V.readings view.now).at (row_at (V.readings view.now) session)) (expr_of e.now) ≡ true }
+    ensures { worth_value result ≡ value_of ((V.readings view.now).at (row_at (V.readings view.now) session)) (expr_of e.now) }
 {
     match e {
         Expr::Lit(v) => Worth::of(v),
@@ -23,27 +24,38 @@ pub fn worth_of<'a, V: View>(view: &'a V, session: u32, row: &SessionRow, e: &'a
             Some(v) => Worth::of(v),
             None => Worth::Int(Int::zero()),
         },
-        Expr::Add(a, b) => worth_of(view, session, row, a).plus(&worth_of(view, session, row, b)),
-        Expr::Sub(a, b) => worth_of(view, session, row, a).minus(&worth_of(view, session, row, b)),
-        Expr::Mul(a, b) => worth_of(view, session, row, a).times(&worth_of(view, session, row, b)),
-        Expr::Size(a) => worth_of(view, session, row, a).size(),
+        Expr::Add(a, b) => worth_of(view, session, a).plus(&worth_of(view, session, b)),
+        Expr::Sub(a, b) => worth_of(view, session, a).minus(&worth_of(view, session, b)),
+        Expr::Mul(a, b) => worth_of(view, session, a).times(&worth_of(view, session, b)),
+        Expr::Size(a) => worth_of(view, session, a).size(),
     }
 }
 
-fn holds<V: View>(view: &V, session: u32, row: &SessionRow, f: &Formula) -> bool
-    requires row { (V.readings view.now).row session ≡ Some row.now }
-    requires no_set { formula_makes_no_set ((V.readings view.now).at row.now) (formula_of f.now) ≡ true }
-    ensures { result ≡ holds (V.readings view.now) row.now (formula_of f.now) }
+fn holds<V: View>(view: &V, session: u32, f: &Formula) -> bool
+    requires there { IsSome ((V.readings view.now).row session) }
+    requires no_set { formula_makes_no_set ((V.readings view.now).at (row_at (V.readings view.now) session)) (formula_of f.now) ≡ true }
+    ensures { result ≡ holds (V.readings view.now) (row_at (V.readings view.now) session) (formula_of f.now) }
 {
     match f {
-        Formula::And(f, g) => holds(view, session, row, f) && holds(view, session, row, g),
-        Formula::Or(f, g) => holds(view, session, row, f) || holds(view, session, row, g),
-        Formula::Not(f) => !holds(view, session, row, f),
+        Formula::And(f, g) => holds(view, session, f) && holds(view, session, g),
+        Formula::Or(f, g) => holds(view, session, f) || holds(view, session, g),
+        Formula::Not(f) => !holds(view, session, f),
         Formula::Compare(op, a, b) => {
-            worth_of(view, session, row, a).compares(*op, &worth_of(view, session, row, b))
+            worth_of(view, session, a).compares(*op, &worth_of(view, session, b))
         }
-        Formula::Lasts(n) => is_within(view.tick(), row.start, *n),
+        Formula::Lasts(n) => is_within(view.tick(), start(view, session), *n),
     }
+}
+
+/// The start of a session.
+fn start<V: View>(view: &V, session: u32) -> Int
+    requires there { IsSome ((V.readings view.now).row session) }
+    ensures { result ≡ (row_at (V.readings view.now) session).start }
+{
+    let Some(start) = view.start(session) else {
+        unreachable!()
+    };
+    start
 }
 
 /// Whether it is not yet more than n ticks since then. The sum is not clamped.
@@ -67,24 +79,23 @@ fn in_time(now: Int, start: Int, form: Form, last: Option<Int>) -> bool
     }
 }
 
-fn is_done<V: View>(view: &V, row: &SessionRow, o: &Obligation) -> bool
-    ensures { result ≡ is_done (V.readings view.now) row.now o.now }
+fn is_done<V: View>(view: &V, session: u32, o: &Obligation) -> bool
+    requires there { IsSome ((V.readings view.now).row session) }
+    ensures { result ≡ is_done (V.readings view.now) (row_at (V.readings view.now) session) o.now }
 {
-    let subject = o.by_subject.unwrap_or(row.subject);
-    let object = o.on_object.unwrap_or(row.object);
-    let last = view.moment(&subject, &o.action, &object);
-    in_time(view.tick(), row.start, o.form, last)
+    let last = view.done_at(session, o);
+    in_time(view.tick(), start(view, session), o.form, last)
 }
 
 /// Whether a test is true for a session.
-pub fn is_true<V: View>(view: &V, session: u32, row: &SessionRow, test: &Test) -> bool
-    requires row { (V.readings view.now).row session ≡ Some row.now }
-    requires no_set { test_makes_no_set ((V.readings view.now).at row.now) (test_of test.now) ≡ true }
-    ensures { result ≡ truth (V.readings view.now) row.now (test_of test.now) }
+pub fn is_true<V: View>(view: &V, session: u32, test: &Test) -> bool
+    requires there { IsSome ((V.readings view.now).row session) }
+    requires no_set { test_makes_no_set ((V.readings view.now).at (row_at (V.readings view.now) session)) (test_of test.now) ≡ true }
+    ensures { result ≡ truth (V.readings view.now) (row_at (V.readings view.now) session) (test_of test.now) }
 {
     match test {
-        Test::A(f) => holds(view, session, row, f),
-        Test::B(o) => is_done(view, row, o),
-        Test::C(f) => holds(view, session, row, f),
+        Test::A(f) => holds(view, session, f),
+        Test::B(o) => is_done(view, session, o),
+        Test::C(f) => holds(view, session, f),
     }
 }

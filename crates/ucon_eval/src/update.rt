@@ -1,26 +1,19 @@
 //! What an update writes.
 
-ghost use Rattle.std.specs.Prelude.{◌≡◌, map, option_map, option_copied, Some, IfOk, IsSome};
+ghost use Rattle.std.specs.Prelude.{◌≡◌, map, option_map, option_copied, IfOk, IsSome, Some};
 ghost use Rattle.ucon_model.specs.Truth.{value_of};
 ghost use Rattle.ucon_model.specs.Updates.{fitted_to};
 ghost use Rattle.ucon_model.specs.Views.{expr_of, update_of};
-ghost use Rattle.ucon_eval.specs.Asked.{result_read, update_at, result_at};
+ghost use Rattle.ucon_eval.specs.Asked.{row_at, result_read, update_at, result_at};
 
 use crate::arithmetic::{difference, fitted, product, size, sum};
-use crate::decide::right;
 use std::alloc::Global;
 use ucon_base::{Int, NoMemory, Value};
-use ucon_model::{AttrDecl, Expr, SessionRow, Update, View};
+use ucon_model::{AttrDecl, Expr, Update, View};
 
-fn value_of<V: View>(
-    alloc: Global,
-    view: &V,
-    session: u32,
-    row: &SessionRow,
-    e: &Expr,
-) -> Result<Value, NoMemory>
-    requires { (V.readings view.now).row session ≡ Some row.now }
-    ensures { IfOk result (λ v. v ≡ value_of ((V.readings view.now).at row.now) (expr_of e.now)) }
+fn value_of<V: View>(alloc: Global, view: &V, session: u32, e: &Expr) -> Result<Value, NoMemory>
+    requires { IsSome ((V.readings view.now).row session) }
+    ensures { IfOk result (λ v. v ≡ value_of ((V.readings view.now).at (row_at (V.readings view.now) session)) (expr_of e.now)) }
 {
     match e {
         Expr::Lit(v) => v.copy(alloc),
@@ -29,18 +22,18 @@ fn value_of<V: View>(
             None => Ok(Value::Int(Int::zero())),
         },
         Expr::Add(a, b) => {
-            let left = value_of(alloc, view, session, row, a)?;
-            sum(alloc, left, value_of(alloc, view, session, row, b)?)
+            let left = value_of(alloc, view, session, a)?;
+            sum(alloc, left, value_of(alloc, view, session, b)?)
         }
         Expr::Sub(a, b) => {
-            let left = value_of(alloc, view, session, row, a)?;
-            difference(alloc, left, value_of(alloc, view, session, row, b)?)
+            let left = value_of(alloc, view, session, a)?;
+            difference(alloc, left, value_of(alloc, view, session, b)?)
         }
         Expr::Mul(a, b) => {
-            let left = value_of(alloc, view, session, row, a)?;
-            Ok(product(left, value_of(alloc, view, session, row, b)?))
+            let left = value_of(alloc, view, session, a)?;
+            Ok(product(left, value_of(alloc, view, session, b)?))
         }
-        Expr::Size(a) => Ok(size(value_of(alloc, view, session, row, a)?)),
+        Expr::Size(a) => Ok(size(value_of(alloc, view, session, a)?)),
     }
 }
 
@@ -55,30 +48,23 @@ fn fitted_to(attr: Option<&AttrDecl>, v: Value) -> Value
 }
 
 /// What an update writes for a session.
-fn result_of<V: View>(
-    alloc: Global,
-    view: &V,
-    session: u32,
-    row: &SessionRow,
-    u: &Update,
-) -> Result<Value, NoMemory>
-    requires { (V.readings view.now).row session ≡ Some row.now }
-    ensures { IfOk result (λ v. v ≡ result_read (V.policy view.now) (V.readings view.now) row.now (update_of u.now)) }
+fn result_of<V: View>(alloc: Global, view: &V, session: u32, u: &Update) -> Result<Value, NoMemory>
+    requires { IsSome ((V.readings view.now).row session) }
+    ensures { IfOk result (λ v. v ≡ result_read (V.policy view.now) (V.readings view.now) (row_at (V.readings view.now) session) (update_of u.now)) }
 {
-    let value = value_of(alloc, view, session, row, &u.value)?;
+    let value = value_of(alloc, view, session, &u.value)?;
     let policy = view.checked().policy();
     Ok(fitted_to(policy.attr(u.side, &u.attr), value))
 }
 
 /// An update of the session's right by its place, from 0.
-#[tactic(auto, using(crate::proofs::Places::place_of_view))]
-pub fn update_at<'a, V: View>(view: &'a V, row: &SessionRow, at: u32) -> Option<&'a Update>
-    ensures { option_map update_of (option_copied result) ≡ update_at (V.policy view.now) row.now at }
+#[tactic(auto, using(crate::proofs::Places::place_of_view, crate::proofs::Rows::right_at))]
+fn update_at<V: View>(view: &V, session: u32, at: u32) -> Option<&Update>
+    requires { IsSome ((V.readings view.now).row session) }
+    ensures { option_map update_of (option_copied result) ≡ update_at (V.policy view.now) (row_at (V.readings view.now) session) at }
 {
-    match right(view, row) {
-        Some(right) => right.updates.at(at as usize),
-        None => None,
-    }
+    let right = view.right(session)?;
+    right.updates.at(at as usize)
 }
 
 /// The result of an update of the session's right, by its place from 0: its expression's value, clamped to the declared range where
@@ -92,11 +78,8 @@ pub fn result<V: View>(
     requires { IsSome (result_at (V.policy view.now) (V.readings view.now) session update) }
     ensures { IfOk result (λ v. result_at (V.policy view.now) (V.readings view.now) session update ≡ Some v) }
 {
-    let Some(row) = view.session(session) else {
+    let Some(u) = update_at(view, session, update) else {
         unreachable!()
     };
-    let Some(u) = update_at(view, &row, update) else {
-        unreachable!()
-    };
-    result_of(alloc, view, session, &row, u)
+    result_of(alloc, view, session, u)
 }

@@ -86,8 +86,9 @@ impl<T: Drop> Feeder<T> {
         self.put(rt, Item::End);
     }
 
-    /// Puts an item into the inbox. The channel hands it back where it can't take it, and is then asked again.
-    fn put<R: Wait>(&mut self, rt: &R, item: Item<T>)
+    /// Feeds an item behind all that was fed before: a line, or the end word. It waits as `feed` does. The channel hands the item back
+    /// where it can't take it, and is then asked again.
+    pub fn put<R: Wait>(&mut self, rt: &R, item: Item<T>)
         requires { self.old.fed.ended ≡ false }
         ensures { self.new ≡ record self.old { fed = told_after self.old.fed item } }
     {

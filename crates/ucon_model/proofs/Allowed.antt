@@ -1,5 +1,5 @@
 -- What every trace of a history is, and what the next action may be.
-use Rattle.std.proofs.Common.{◌≡◌, ℕ, Bool, true, false, cond, List, [], ◌∷◌, ◌++◌, refl, ap, arith}
+use Rattle.std.proofs.Common.{◌≡◌, ℕ, Bool, true, false, cond, List, [], ◌∷◌, ◌++◌, refl, ap, subst, arith}
 use Rattle.std.specs.Prelude.{Option, Some, None, option_map, nat_eq, IsTrue}
 use Rattle.std.specs.Str.{bytes_eq}
 use Rattle.std.proofs.lemmas.Bool.{or_right, ne_eqb}
@@ -12,8 +12,9 @@ use Rattle.ucon_model.specs.Action.{Action, Trace, subject, object, write, env, 
 use Rattle.ucon_model.specs.Readings.{has_entity, attribute, session, changed_if}
 use Rattle.ucon_model.specs.Legal.{IsLegal, AreLegal, RevocationsAreLegal}
 use Rattle.ucon_model.specs.Fitting.{AttributeAdmits, ValuesFit}
-use Rattle.ucon_model.specs.Sound.{IsNumbered, IsGrounded, IsSound}
+use Rattle.ucon_model.specs.Sound.{IsNumbered, IsGrounded, IsTimely, IsSound}
 use Rattle.ucon_model.specs.Typing.{IsTyped}
+use Rattle.ucon_model.proofs.Timely.{timely-step}
 use Rattle.ucon_model.proofs.ValuesStayFit.{fit-write, fit-subject, fit-object, fit-env, fit-empty}
 
 -- ---- the next action
@@ -47,7 +48,7 @@ revocations-allowed P T (a ∷ actions) h = revocations-allowed P (a ∷ T) acti
 
 -- ---- sessions are numbered from 1
 
-still_none : (same : Bool) (change : SessionRow → SessionRow) (o : Option SessionRow) → o ≡ None → changed_if same change o ≡ None
+pub still_none : (same : Bool) (change : SessionRow → SessionRow) (o : Option SessionRow) → o ≡ None → changed_if same change o ≡ None
 still_none true change o e = ap (option_map change) e
 still_none false change o e = e
 
@@ -116,15 +117,17 @@ fit-step P T a typed allowed h = record { attributes = attributes; variables = h
 pub record IsSoundIfTyped (P : PlainPolicy) (T : Trace) : Type 0 where
   pub numbered : IsNumbered T
   pub grounded : (n : ℕ) → IsGrounded T (session T n)
+  pub timely : IsTimely T
   pub fit : IsTyped P → ValuesFit P T
 
 pub sound-empty : (P : PlainPolicy) → IsSoundIfTyped P []
-sound-empty P = record { numbered = record { zeroth = refl; beyond = λ n lt. refl }; grounded = λ n. tt; fit = fit-empty P }
+sound-empty P = record { numbered = record { zeroth = refl; beyond = λ n lt. refl }; grounded = λ n. tt; timely = λ s a o m e. absurd cc; fit = fit-empty P }
 
 pub sound-step : (P : PlainPolicy) (T : Trace) (a : Action) → IsSoundIfTyped P T → IsAllowed P T a → IsSoundIfTyped P (a ∷ T)
 sound-step P T a h allowed = record {
   numbered = numbered-step P T a h.numbered allowed;
   grounded = λ n. grounded-step P T a allowed n (h.grounded n);
+  timely = timely-step T a h.timely (λ t is. subst (IsAllowed P T) is allowed);
   fit = λ typed. fit-step P T a typed allowed (h.fit typed);
 }
 
@@ -135,7 +138,7 @@ sound-extended P T (a ∷ actions) h allowed = sound-extended P (a ∷ T) action
 -- ---- under a well typed policy
 
 pub sound_before : (P : PlainPolicy) → IsTyped P → IsSound P []
-sound_before P typed = let h = sound-empty P in record { numbered = h.numbered; grounded = h.grounded; fit = h.fit typed }
+sound_before P typed = let h = sound-empty P in record { numbered = h.numbered; grounded = h.grounded; timely = h.timely; fit = h.fit typed }
 
 allowed_if_legal : (P : PlainPolicy) (T : Trace) (a : Action) → IsLegal P T a → IsAllowed P T a
 allowed_if_legal P T (write side name attr v) h = (h.0, λ typed. h.1)
@@ -144,5 +147,5 @@ allowed_if_legal P T a h = h
 pub sound_after_action : (P : PlainPolicy) → IsTyped P → (T : Trace) (a : Action) → IsSound P T → IsLegal P T a → IsSound P (a ∷ T)
 sound_after_action P typed T a h legal =
     let sure : IsTyped P → ValuesFit P T = λ _. h.fit in
-    let next = sound-step P T a (record { numbered = h.numbered; grounded = h.grounded; fit = sure }) (allowed_if_legal P T a legal) in
-    record { numbered = next.numbered; grounded = next.grounded; fit = next.fit typed }
+    let next = sound-step P T a (record { numbered = h.numbered; grounded = h.grounded; timely = h.timely; fit = sure }) (allowed_if_legal P T a legal) in
+    record { numbered = next.numbered; grounded = next.grounded; timely = next.timely; fit = next.fit typed }

@@ -45,7 +45,7 @@ there_or_room : {A : Type 0} (o : Option A) (limit k : ℕ) → (is_none o && na
 there_or_room None limit k h = inr (leb-false limit k h)
 there_or_room (Some x) limit k h = inl refl
 
-not_back : (t now : ℤ) → int_lt t now ≡ false → now ≤ℤ t
+pub not_back : (t now : ℤ) → int_lt t now ≡ false → now ≤ℤ t
 not_back t now e = omega (arith, ints)
 
 requesting_state : (s : SessionState) → is_requesting s ≡ true → s ≡ states.Requesting

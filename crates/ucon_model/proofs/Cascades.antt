@@ -38,7 +38,7 @@ none_accessing : (T : Trace) (n : ℕ) → session T n ≡ None → IsAccessing 
 none_accessing T n e accessing = subst (λ o. IsSomeAnd o (λ row. row.state ≡ Accessing)) e accessing
 
 -- an accessing session is one of those numbered
-numbered_one : (T : Trace) (n : ℕ) → IsNumbered T → IsAccessing T n → (1 ≤ n) × (n ≤ sessions T)
+pub numbered_one : (T : Trace) (n : ℕ) → IsNumbered T → IsAccessing T n → (1 ≤ n) × (n ≤ sessions T)
 numbered_one T n h accessing =
     let not_zero : n ≡ 0 → ⊥ = λ e. none_accessing T n (subst (λ m. session T m ≡ None) (sym e) h.zeroth) accessing in
     let not_beyond : sessions T < n → ⊥ = λ lt. none_accessing T n (h.beyond n lt) accessing in
@@ -55,7 +55,7 @@ found_here P T a k f (inr other) low fails before rest =
     let not_here : fails_at P T a ≡ None = before a (omega (arith, low, other.1)) in
     rw not_here (rest (omega (arith, low, other.1)))
 
-least_found : (P : PlainPolicy) (T : Trace) (a k : ℕ) (f : ℕ × Bytes) → a ≤ f.0 → f.0 < a + k → fails_at P T f.0 ≡ Some f.1
+pub least_found : (P : PlainPolicy) (T : Trace) (a k : ℕ) (f : ℕ × Bytes) → a ≤ f.0 → f.0 < a + k → fails_at P T f.0 ≡ Some f.1
     → ((m : ℕ) → m < f.0 → fails_at P T m ≡ None) → least_from P T a k ≡ Some f
 least_found P T a zero f low high fails before = absurd (omega (arith, low, high))
 least_found P T a (suc k) f low high fails before =
@@ -66,17 +66,17 @@ legal_is_least P T f h legal =
     let one = numbered_one T f.0 h legal.0 in
     least_found P T 1 (sessions T) f one.0 (omega (arith, one.1)) (fails_if P T f.0 f.1 legal.0 legal.1) legal.2
 
-none_found : (P : PlainPolicy) (T : Trace) (a k : ℕ) → ((n : ℕ) → fails_at P T n ≡ None) → least_from P T a k ≡ None
+pub none_found : (P : PlainPolicy) (T : Trace) (a k : ℕ) → ((n : ℕ) → fails_at P T n ≡ None) → least_from P T a k ≡ None
 none_found P T a zero nobody = refl
 none_found P T a (suc k) nobody = rw (nobody a) (none_found P T (a + 1) k nobody)
 
 -- ---- each cascade is the settling
 
-none_within : (P : PlainPolicy) (T : Trace) (k : ℕ) → least_failing P T ≡ None → settle_within k P T ≡ []
+pub none_within : (P : PlainPolicy) (T : Trace) (k : ℕ) → least_failing P T ≡ None → settle_within k P T ≡ []
 none_within P T zero e = refl
 none_within P T (suc k) e = rw e refl
 
-turn_within : (P : PlainPolicy) (T : Trace) (k : ℕ) (f : ℕ × Bytes) (actions : List Action) → least_failing P T ≡ Some f → accessing T ≤ k
+pub turn_within : (P : PlainPolicy) (T : Trace) (k : ℕ) (f : ℕ × Bytes) (actions : List Action) → least_failing P T ≡ Some f → accessing T ≤ k
     → ((k : ℕ) → accessing (extended T (revocation P T f)) ≤ k → settle_within k P (extended T (revocation P T f)) ≡ actions)
     → settle_within k P T ≡ revocation P T f ++ actions
 turn_within P T zero f actions e le rest = absurd (omega (arith, falls P T f e, le))

@@ -56,7 +56,7 @@ in_turn P T k (Some f) rest =
     let U : Trace = extended T (revocation P T f) in
     omega (arith, revoked_in-revocation P T f (settle_within k P U), rest U)
 
-one_a_turn : (k : ℕ) (P : PlainPolicy) (T : Trace) → length (revoked_in (settle_within k P T)) ≤ k
+pub one_a_turn : (k : ℕ) (P : PlainPolicy) (T : Trace) → length (revoked_in (settle_within k P T)) ≤ k
 one_a_turn zero P T = omega arith
 one_a_turn (suc k) P T = in_turn P T k (least_failing P T) (one_a_turn k P)
 

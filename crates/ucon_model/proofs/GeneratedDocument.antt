@@ -1,11 +1,10 @@
 -- Draws, and the shortest generated document.
-use Rattle.std.proofs.Common.{◌≡◌, ℕ, List, [], ◌∷◌, ◌++◌, refl, map}
+use Rattle.std.proofs.Common.{◌≡◌, List, [], ◌∷◌, ◌++◌, refl, map}
 use Rattle.std.specs.Prelude.{codes}
 use Rattle.std.specs.Fmt.{digits}
 use Rattle.ucon_model.specs.Plain.{Bytes}
 use Rattle.ucon_model.specs.CommandLine.{command_spelling}
-use Rattle.ucon_model.specs.Document.{caller_of}
-use Rattle.ucon_model.specs.Generated.{next_x, below, drawn, part_lines, text_of, entry_lines, all_drawn, seeded, opening, generated_policy, generated_head, generated}
+use Rattle.ucon_model.specs.Generated.{next_x, below, drawn, text_of, entry_lines, all_drawn, seeded, opening, generated_policy, generated_head, generated}
 
 draws : map (λ x. below 8 (next_x x)) (0 ∷ next_x 0 ∷ next_x (next_x 0) ∷ 18446744073709551615 ∷ []) ≡ 7 ∷ 0 ∷ 1 ∷ 0 ∷ []
 unfolding next_x below

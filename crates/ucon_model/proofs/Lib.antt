@@ -1,6 +1,7 @@
 pub mod Extending
 pub mod Settling
 pub mod SerialRuns
+mod StoredRuns
 pub mod Lacking
 pub mod ReadBack
 pub mod TellsChange
@@ -38,3 +39,25 @@ pub mod SortsOfValues
 pub mod Meaningful
 pub mod Numbering
 mod Printed
+mod Timely
+mod Alike
+mod Frames
+mod TargetWrites
+mod Readers
+mod Revoking
+mod Turns
+mod Firsts
+mod Working
+mod WorkEnds
+mod Acts
+mod Deadlines
+mod OwnMakes
+mod OwnCovers
+mod Sums
+mod Touches
+mod PassedDeadlines
+mod OwnTouches
+mod Drafts
+mod WorkOfACap
+mod WithinTurns
+mod Agreeing

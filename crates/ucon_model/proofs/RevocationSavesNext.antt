@@ -41,17 +41,17 @@ core_models = refl
 places : places_read use_right ≡ refs.Object (codes "users") ∷ refs.Object (codes "most") ∷ []
 places = refl
 
-abbrev scene : List Entry
+abbrev pub scene : List Entry
 scene = by 0 (commands.Subject (codes "a")) ∷ by 0 (commands.Subject (codes "b")) ∷ by 0 (commands.Subject (codes "c"))
     ∷ by 0 (commands.Subject (codes "d")) ∷ by 0 (commands.Object (codes "x")) ∷ []
 
-abbrev try_use : Bytes → Entry
+abbrev pub try_use : Bytes → Entry
 try_use s = by 1 (commands.Try s (codes "use") (codes "x"))
 
 abbrev users : Entry
 users = by 1 (commands.Value Object (codes "x") (codes "users"))
 
-abbrev three_users : List Entry
+abbrev pub three_users : List Entry
 three_users = scene ++ try_use (codes "a") ∷ try_use (codes "b") ∷ try_use (codes "c") ∷ []
 
 three_permitted : serial capped [] three_users ≡ (1, ok) ∷ (2, ok) ∷ (3, ok) ∷ (4, ok) ∷ (5, ok)

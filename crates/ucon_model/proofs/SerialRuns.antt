@@ -19,7 +19,7 @@ numbered_by : (b : Bool) (H : History) (line : Entry) (place : ℕ) (others : Li
 numbered_by true H line place others e h = (e ∙ length_push H line, subst (λ (n : ℕ). AreNumberedFrom n others) (length_push H line) h)
 numbered_by false H line place others e h = h
 
-numbered_next : (P : PlainPolicy) (H : History) (line : Entry) (a : Answer) (others : List (ℕ × Entry)) → IsNext P H line a
+pub numbered_next : (P : PlainPolicy) (H : History) (line : Entry) (a : Answer) (others : List (ℕ × Entry)) → IsNext P H line a
     → AreNumberedFrom (length (history_after H line a)) others → AreNumberedFrom (length H) (with_record line a others)
 numbered_next P H line no_memory others is h = h
 numbered_next P H line disk_fault others is h = absurd is
@@ -34,13 +34,13 @@ stays_first : (n : ℕ) (x : ℕ × Entry) (xs : List (ℕ × Entry)) → x.0 �
 stays_first n x [] e h = refl
 stays_first n x (y ∷ ys) e h = rw (le-leb x.0 y.0 (omega (arith, e, h.0)))
 
-by_place-numbered : (n : ℕ) (xs : List (ℕ × Entry)) → AreNumberedFrom n xs → by_place xs ≡ xs
+pub by_place-numbered : (n : ℕ) (xs : List (ℕ × Entry)) → AreNumberedFrom n xs → by_place xs ≡ xs
 by_place-numbered n [] h = refl
 by_place-numbered n (x ∷ xs) h = ap (put_by_place x) (by_place-numbered (n + 1) xs h.1) ∙ stays_first n x xs h.0 h.1
 
 -- ---- the history that is made
 
-abbrev led_to : History → List Answered → History
+abbrev pub led_to : History → List Answered → History
 led_to H told = H ++ map (λ x. x.1) (recorded told)
 
 led_by : (b : Bool) (H : History) (line : Entry) (place : ℕ) (others : List (ℕ × Entry))
@@ -48,7 +48,7 @@ led_by : (b : Bool) (H : History) (line : Entry) (place : ℕ) (others : List (�
 led_by true H line place others = sym (append_assoc H (line ∷ []) (map (λ x. x.1) others))
 led_by false H line place others = refl
 
-led_next : (H : History) (line : Entry) (a : Answer) (others : List (ℕ × Entry))
+pub led_next : (H : History) (line : Entry) (a : Answer) (others : List (ℕ × Entry))
     → H ++ map (λ x. x.1) (with_record line a others) ≡ history_after H line a ++ map (λ x. x.1) others
 led_next H line no_memory others = refl
 led_next H line disk_fault others = refl
@@ -59,7 +59,7 @@ grown_by : (b : Bool) (H : History) (line : Entry) → length H ≤ length (cond
 grown_by true H line = omega (arith, length_push H line)
 grown_by false H line = omega arith
 
-grown_after : (H : History) (line : Entry) (a : Answer) → length H ≤ length (history_after H line a)
+pub grown_after : (H : History) (line : Entry) (a : Answer) → length H ≤ length (history_after H line a)
 grown_after H line no_memory = omega arith
 grown_after H line disk_fault = omega arith
 grown_after H line stopped = omega arith
@@ -71,7 +71,7 @@ stands_by : (b : Bool) (H : History) (line : Entry) (place : ℕ) → place ≡ 
 stands_by true H line place e = omega (arith, e, length_push H line)
 stands_by false H line place e = e
 
-said_next : (P : PlainPolicy) (opening : ℕ) (whole H later : History) (line : Entry) (a : Answer) → IsNext P H line a → opening ≤ length H
+pub said_next : (P : PlainPolicy) (opening : ℕ) (whole H later : History) (line : Entry) (a : Answer) → IsNext P H line a → opening ≤ length H
     → whole ≡ H ++ later → IsSaid P opening whole line a
 said_next P opening whole H later line no_memory is le e = tt
 said_next P opening whole H later line disk_fault is le e = tt
@@ -92,25 +92,25 @@ all_said P opening whole H (t ∷ told) run le e = (
 -- ---- the order
 
 -- the history has all that an answer tells
-abbrev Has : History → Answer → Type 0
+abbrev pub Has : History → Answer → Type 0
 Has H no_memory = Unit {0}
 Has H disk_fault = ⊥
 Has H stopped = ⊥
 Has H (placed place text) = place ≤ length H
 
-has_still : (H : History) (line : Entry) (a earlier : Answer) → Has H earlier → Has (history_after H line a) earlier
+pub has_still : (H : History) (line : Entry) (a earlier : Answer) → Has H earlier → Has (history_after H line a) earlier
 has_still H line a no_memory has = tt
 has_still H line a disk_fault has = has
 has_still H line a stopped has = has
 has_still H line a (placed place text) has = omega (arith, has, grown_after H line a)
 
-has_next : (P : PlainPolicy) (H : History) (line : Entry) (a : Answer) → IsNext P H line a → Has (history_after H line a) a
+pub has_next : (P : PlainPolicy) (H : History) (line : Entry) (a : Answer) → IsNext P H line a → Has (history_after H line a) a
 has_next P H line no_memory is = tt
 has_next P H line disk_fault is = is
 has_next P H line stopped is = is
 has_next P H line (placed place text) is = omega (arith, is.1)
 
-saw_next : (P : PlainPolicy) (H : History) (line : Entry) (earlier a : Answer) → Has H earlier → IsNext P H line a → Saw earlier a × StaysStopped earlier a
+pub saw_next : (P : PlainPolicy) (H : History) (line : Entry) (earlier a : Answer) → Has H earlier → IsNext P H line a → Saw earlier a × StaysStopped earlier a
 saw_next P H line no_memory a has is = (tt, tt)
 saw_next P H line disk_fault a has is = absurd has
 saw_next P H line stopped a has is = absurd has
@@ -135,10 +135,10 @@ in_order P H (t ∷ told) run =
 -- ---- the causes
 
 -- neither a disk fault nor stopped
-abbrev IsSound : Answer → Type 0
+abbrev pub IsSound : Answer → Type 0
 IsSound a = (is_disk_fault a ≡ false) × (is_stopped a ≡ false)
 
-sound_next : (P : PlainPolicy) (H : History) (line : Entry) (a : Answer) → IsNext P H line a → IsSound a
+pub sound_next : (P : PlainPolicy) (H : History) (line : Entry) (a : Answer) → IsNext P H line a → IsSound a
 sound_next P H line no_memory is = (refl, refl)
 sound_next P H line disk_fault is = absurd is
 sound_next P H line stopped is = absurd is

@@ -53,7 +53,7 @@ turned_off true None = refl
 turned_off true (Some row) = refl
 turned_off false o = refl
 
-after_revoke : (T : Trace) (n m : ℕ) (label : Bytes) → is_accessing (session (revoke n label ∷ T) m) ≡ cond (nat_eq m n) false (is_accessing (session T m))
+pub after_revoke : (T : Trace) (n m : ℕ) (label : Bytes) → is_accessing (session (revoke n label ∷ T) m) ≡ cond (nat_eq m n) false (is_accessing (session T m))
 after_revoke T n m label = turned_off (nat_eq m n) (session T m)
 
 fewer : (b x : Bool) → cond (cond b false x) 1 0 ≤ cond x 1 0

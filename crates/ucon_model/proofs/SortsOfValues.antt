@@ -208,10 +208,10 @@ value_sorted P at reads u (size a) s h = size_sorted (expr_sort P u a) s (value_
 
 -- ---- results of updates
 
-at_most : (a b : ℤ) → a ≤ℤ b → int_le a b ≡ true
+pub at_most : (a b : ℤ) → a ≤ℤ b → int_le a b ≡ true
 at_most a b le = grind (arith, ints)
 
-is_at_most : (a b : ℤ) → int_le a b ≡ true → a ≤ℤ b
+pub is_at_most : (a b : ℤ) → int_le a b ≡ true → a ≤ℤ b
 is_at_most a b h = grind (arith, ints)
 
 clamp_fits : (low high z : ℤ) → low ≤ℤ high → admits (kinds.Int low high) (fitted (kinds.Int low high) (values.Int z)) ≡ true

@@ -1,7 +1,7 @@
 -- Legal runs: which answers the lines of a run may have.
 use Rattle.std.specs.Prelude.{◌≡◌, ℕ, ◌+◌, ◌-◌, ◌≤◌, Bool, true, false, ◌||◌, IsTrue, nat_eq, nat_le, List, [], ◌∷◌, ◌++◌, length, take, map, count_by, codes, if◌then◌else◌}
 use Rattle.std.specs.List.{list_any, starts_with}
-pub use Rattle.ucon_base.specs.Elements.{Each}
+use Rattle.ucon_base.specs.Elements.{Each}
 use Rattle.ucon_model.specs.declared.command.Caller.{Caller}
 use Rattle.ucon_model.specs.declared.command.Entry.{Entry}
 use Rattle.ucon_model.specs.Plain.{Bytes, PlainPolicy}

@@ -32,5 +32,11 @@ pub mod Spells
 pub mod Limits
 pub mod Generated
 pub mod Summary
+pub mod StoredRun
 pub mod Payload
 pub mod Found
+pub mod Reach
+pub mod Deadlines
+pub mod Work
+pub mod Groups
+pub mod Touches

@@ -4,7 +4,7 @@ use Rattle.std.specs.Option.{option_map_or}
 use Rattle.ucon_model.specs.declared.policy.When.TheVariants.{AfterRevoke}
 use Rattle.ucon_model.specs.declared.reply.Revoked.{Revoked}
 use Rattle.ucon_model.specs.Plain.{Bytes, PlainPolicy}
-use Rattle.ucon_model.specs.Action.{Action, Trace, revoke, followed_by}
+use Rattle.ucon_model.specs.Action.{Action, Trace, revoke, extended, followed_by}
 use Rattle.ucon_model.specs.Readings.{in_force, session, sessions, is_accessing, accessing}
 use Rattle.ucon_model.specs.Truth.{readings}
 use Rattle.ucon_model.specs.Decision.{failing}
@@ -32,6 +32,10 @@ abbrev pub settle_within : ℕ → PlainPolicy → Trace → List Action
 settle_within zero P T = []
 settle_within (suc turns) P T =
     option_map_or (λ f. followed_by (revocation P T f) (settle_within turns P) T) (least_failing P T) []
+
+-- the trace after so many turns
+abbrev pub settled_to : ℕ → PlainPolicy → Trace → Trace
+settled_to turns P T = extended T (settle_within turns P T)
 
 -- Nothing where no accessing session fails; else the least that fails is revoked, its updates run, and what is left is settled. Each
 -- turn leaves one accessing session fewer, so there are no more turns than accessing sessions.

@@ -1,5 +1,5 @@
 -- The replies of a run in the order of its text, and their summary.
-use Rattle.std.specs.Prelude.{◌≡◌, ℕ, ◌+◌, List, [], ◌∷◌, ◌++◌, length, map, Option, Some, None, codes}
+use Rattle.std.specs.Prelude.{◌≡◌, ℕ, ◌+◌, List, [], ◌∷◌, ◌++◌, length, Option, Some, None, codes}
 use Rattle.std.specs.Fmt.{decimal}
 use Rattle.ucon_model.specs.declared.command.Entry.{Entry}
 use Rattle.ucon_model.specs.declared.reply.Head.{Head}

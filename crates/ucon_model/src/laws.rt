@@ -1,6 +1,6 @@
 //! Laws of the definitions. A law is a function without parameters that does nothing: its contract is what is proved.
 
-ghost use Rattle.std.specs.Prelude.{◌≡◌, ◌+◌, ◌<◌, ◌≤◌, ◌↔◌, ℕ, List, [], ◌∷◌, length, map, true, Some, None};
+ghost use Rattle.std.specs.Prelude.{◌≡◌, ◌+◌, ◌<◌, ◌≤◌, ◌↔◌, ℕ, List, Option, [], ◌∷◌, length, map, true, Some, None};
 ghost use Rattle.ucon_model.specs.declared.command.Caller.{Caller};
 ghost use Rattle.ucon_model.specs.declared.command.Command.{Command};
 ghost use Rattle.ucon_model.specs.declared.command.Entry.{Entry};
@@ -14,7 +14,8 @@ ghost use Rattle.ucon_model.specs.Fitting.{PlacesFit, UpdatesFit, ValuesFit};
 ghost use Rattle.ucon_model.specs.History.{History, grown, said, trace};
 ghost use Rattle.ucon_model.specs.Legal.{AreLegal, IsCascade, IsLegal, RevocationsAreLegal};
 ghost use Rattle.ucon_base.specs.Elements.{Each};
-ghost use Rattle.ucon_model.specs.LegalRun.{Answered, IsLegalRun, IsSerialRun, in_text_order};
+ghost use Rattle.ucon_model.specs.LegalRun.{Answered, IsLegalRun, IsSerialRun, history_made, in_text_order};
+ghost use Rattle.ucon_model.specs.StoredRun.{LeadsTo, failed_line};
 ghost use Rattle.ucon_model.specs.Meaning.{expr_means, test_means};
 ghost use Rattle.ucon_model.specs.Output.{FitsLine, answers_read, output};
 ghost use Rattle.ucon_model.specs.OwnActions.{make, own};
@@ -122,6 +123,14 @@ pub fn settling_is_the_only_cascade()
 /// A serial run after a history is a legal run after it, in the order of its text.
 pub fn serial_runs_are_legal()
     ensures { (P : PlainPolicy) (G : History) (told : List Answered) → IsSerialRun P G told → IsLegalRun P in_text_order G told }
+{}
+
+/// A run in text order over a store is a legal run. The history that is made is the one that it leads to, and the line that met a disk fault
+/// is the one with which it broke off.
+pub fn runs_over_a_store_are_legal()
+    ensures legal { (P : PlainPolicy) (G : History) (told : List Answered) (H : History) (failed : Option Entry) → LeadsTo P G told H failed → IsLegalRun P in_text_order G told }
+    ensures made { (P : PlainPolicy) (G : History) (told : List Answered) (H : History) (failed : Option Entry) → LeadsTo P G told H failed → history_made G told ≡ H }
+    ensures failed { (P : PlainPolicy) (G : History) (told : List Answered) (H : History) (failed : Option Entry) → LeadsTo P G told H failed → failed_line told ≡ failed }
 {}
 
 /// An output whose answers fit their lines is read back as the answers that it was written from.

@@ -1,6 +1,7 @@
 //! The types that every layer shares, what they mean, and the laws of these definitions.
 #![tactic(auto)]
 
+mod cascade;
 mod checked;
 mod command;
 mod core_model;
@@ -10,8 +11,19 @@ mod laws;
 mod policy;
 mod reply;
 mod session;
+mod texts;
+mod traces;
 mod view;
 
+pub use cascade::{
+    actions_leave_the_rest, acts_make_nobody_fail, covering_work_has_the_least,
+    decisions_read_their_places, drafts_are_blocks, firsts_go_on_covering, firsts_have_the_least,
+    judgements_are_paid_for, nobody_fails_after_settling, one_judgement_serves_all_alike,
+    own_work_is_read_off, settling_goes_turn_by_turn, the_index_names_the_readers,
+    ticks_change_at_limits, unreached_sessions_fail_as_before, updates_write_their_targets,
+    work_begins_with_the_concerned, work_goes_on_covering, working_off_firsts_is_settling,
+    working_off_is_settling, writes_reach_their_readers,
+};
 pub use checked::Checked;
 pub use command::{Caller, Command, Entry};
 pub use core_model::{Core, CoreKind};
@@ -21,10 +33,16 @@ pub use laws::{
     blocks_are_legal, faults_name_items, grown_histories_go_on, legal_actions_keep_traces_sound,
     no_usage_goes_on_failing, outputs_are_read_back, places_hold_their_sorts,
     predicates_and_updates_mean_something, revocations_are_few, revocations_are_legal,
-    serial_runs_are_legal, settling_ends, settling_is_the_only_cascade, tests_are_typed,
-    the_least_failing_is_found, updates_fit, usages_are_few, values_fit,
+    runs_over_a_store_are_legal, serial_runs_are_legal, settling_ends,
+    settling_is_the_only_cascade, tests_are_typed, the_least_failing_is_found, updates_fit,
+    usages_are_few, values_fit,
 };
 pub use policy::{AttrDecl, EnvDecl, Phase, Policy, Predicate, Right, Test, Update, When};
 pub use reply::{Head, Refusal, Reply, Revoked};
 pub use session::{SessionRow, SessionState, Verdict};
+pub use texts::texts_lack_bytes;
+pub use traces::{
+    actions_are_done_in_order, readings_that_agree_are_one, turns_follow_each_other,
+    writes_leave_sessions,
+};
 pub use view::View;

@@ -1,12 +1,13 @@
 //! What a decision reads.
 
-ghost use Rattle.std.specs.Prelude.{◌≡◌, option_copied};
+ghost use Rattle.std.specs.Prelude.{◌≡◌, option_copied, option_map};
 ghost use Rattle.ucon_model.specs.Plain.{PlainPolicy};
 ghost use Rattle.ucon_model.specs.Truth.{Readings};
 ghost use Rattle.ucon_model.specs.Checked.{checked_policy};
-ghost use Rattle.ucon_model.specs.Lookup.{value_read};
+ghost use Rattle.ucon_model.specs.Lookup.{done_read, right_read, start_read, value_read};
+ghost use Rattle.ucon_model.specs.Views.{right_of};
 
-use crate::{Checked, Ref, SessionRow};
+use crate::{Checked, Obligation, Ref, Right, SessionRow};
 use ucon_base::{Int, Name, Value};
 
 /// A policy with what can be read under it, as by the readings of a trace. No call takes memory.
@@ -22,6 +23,14 @@ pub trait View {
     fn session(&self, session: u32) -> Option<SessionRow>
         ensures { result ≡ (readings self.now).row session };
 
+    /// The right of a session. None where there is no such session, or the policy hasn't its right.
+    fn right(&self, session: u32) -> Option<&Right>
+        ensures { option_map right_of (option_copied result) ≡ right_read (policy self.now) (readings self.now) session };
+
+    /// The tick at which a session's usage began, 0 until then. None where there is no such session.
+    fn start(&self, session: u32) -> Option<Int>
+        ensures { result ≡ start_read (readings self.now) session };
+
     /// The value of a place for a session: of its own subject or object, or of a variable. None where the session or the name
     /// isn't there.
     fn value(&self, session: u32, place: &Ref) -> Option<&Value>
@@ -33,4 +42,9 @@ pub trait View {
     /// The tick at which an act was last done. None where it never was.
     fn moment(&self, subject: &Name, action: &Name, object: &Name) -> Option<Int>
         ensures { result ≡ (readings self.now).done_at subject.now action.now object.now };
+
+    /// The tick at which the act was last done that an obligation asks for, by or on the session's own where it names nobody. None
+    /// where it never was, or there is no such session.
+    fn done_at(&self, session: u32, duty: &Obligation) -> Option<Int>
+        ensures { result ≡ done_read (readings self.now) session duty.now };
 }

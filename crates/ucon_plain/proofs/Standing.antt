@@ -1,6 +1,6 @@
 -- Own actions, and then the settling after them.
-use Rattle.std.proofs.Common.{◌≡◌, ◌∙◌, sym, ap, refl, ℕ, false, List, []}
-use Rattle.std.specs.Prelude.{Option, None, option_map}
+use Rattle.std.proofs.Common.{◌≡◌, ◌∙◌, sym, ap, refl, ℕ, false, List, [], ◌++◌}
+use Rattle.std.specs.Prelude.{Option, option_map}
 use Rattle.ucon_model.specs.declared.command.Caller.{Caller}
 use Rattle.ucon_model.specs.declared.command.Command.{Command}
 use Rattle.ucon_model.specs.declared.reply.Head.{Head}
@@ -9,12 +9,9 @@ use Rattle.ucon_model.specs.declared.session.SessionRow.{SessionRow}
 use Rattle.ucon_model.specs.Plain.{PlainPolicy, made}
 use Rattle.ucon_model.specs.Action.{Action, Trace, extended}
 use Rattle.ucon_model.specs.OwnActions.{Own, refuse, tell, make, own}
-use Rattle.ucon_model.specs.Settle.{fails_at, settle, revoked_in}
+use Rattle.ucon_model.specs.Settle.{settle, revoked_in}
 use Rattle.ucon_model.specs.Block.{own_block, own_reply, after, reply}
 use Rattle.ucon_model.specs.History.{changes}
-use Rattle.ucon_model.proofs.Extending.{extended-append}
-use Rattle.ucon_model.proofs.LeastFailing.{nobody_fails}
-use Rattle.ucon_model.proofs.Settling.{least_failing-settle}
 use Rattle.ucon_state.specs.Engine.{state_of}
 use Rattle.ucon_state.specs.Following.{Follows}
 use Rattle.ucon_state.specs.Shown.{Shown}
@@ -33,14 +30,14 @@ pub made_reply : (P : PlainPolicy) (T : Trace) (caller : Caller) (c : Command) (
     → revoked ≡ revoked_in (settle P (extended T actions)) → made head revoked ≡ reply P T caller c
 made_reply P T caller c head actions revoked is told = ap (λ (rs : List Revoked). made head rs) told ∙ sym (ap (own_reply P T) is)
 
-pub made_after : (P : PlainPolicy) (T : Trace) (caller : Caller) (c : Command) (head : Head) (actions : List Action) → own P T caller c ≡ make head actions
-    → extended (extended T actions) (settle P (extended T actions)) ≡ after P T caller c
-made_after P T caller c head actions is =
-    sym (extended-append T actions (settle P (extended T actions))) ∙ sym (ap (λ (o : Own). extended T (own_block P T o)) is)
+-- actions are done in their order
+abbrev DoneInOrder : Type 0
+DoneInOrder = (T : Trace) (first later : List Action) → extended T (first ++ later) ≡ extended (extended T first) later
 
--- after the settling nobody fails
-pub nobody_left : (s : Shown) (P : PlainPolicy) (U : Trace) → Follows s P (extended U (settle P U)) → (n : ℕ) → fails_at P (extended U (settle P U)) n ≡ None
-nobody_left s P U h = nobody_fails P (extended U (settle P U)) h.sound.numbered (least_failing-settle P U)
+pub made_after : DoneInOrder → (P : PlainPolicy) (T : Trace) (caller : Caller) (c : Command) (head : Head) (actions : List Action)
+    → own P T caller c ≡ make head actions → extended (extended T actions) (settle P (extended T actions)) ≡ after P T caller c
+made_after in_order P T caller c head actions is =
+    sym (in_order T actions (settle P (extended T actions))) ∙ sym (ap (λ (o : Own). extended T (own_block P T o)) is)
 
 -- where the reply changes nothing, the trace stays
 no_action : (P : PlainPolicy) (T : Trace) (o : Own) → changes (own_reply P T o) ≡ false → own_block P T o ≡ []

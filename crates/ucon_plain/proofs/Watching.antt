@@ -1,31 +1,33 @@
 -- The first of the watched sessions that fails is the least that fails, and only a permission makes one more to be watched.
 use Rattle.std.proofs.Common.{◌≡◌, ◌∙◌, ◌⊎◌, inl, inr, ℕ, zero, suc, ◌<◌, ◌≤◌, Bool, true, false, cond, List, [], ◌∷◌, length, drop, slice_index_or, refl, sym, ap, subst, arith}
-use Rattle.std.specs.Prelude.{◌≢◌, nat_eq, Option, Some, None, IsSomeAnd, option_and_then}
+use Rattle.std.specs.Prelude.{◌≢◌, nat_eq, Option, Some, None, IsSomeAnd, ◌&&◌, option_and_then, option_map}
 use Rattle.std.specs.List.{list_any}
 use Rattle.std.specs.Option.{option_map_or}
 use Rattle.std.proofs.lemmas.Bool.Decides.{eqb_tells}
+use Rattle.std.proofs.lemmas.Option.{same_Some}
 use Rattle.ucon_model.specs.declared.command.Caller.{Caller}
 use Rattle.ucon_model.specs.declared.command.Command.{Command}
 use Rattle.ucon_model.specs.declared.reply.Head.{Head}
 use Rattle.ucon_model.specs.OwnActions.{own, make}
 use Rattle.ucon_model.specs.declared.session.SessionRow.{SessionRow}
+use Rattle.ucon_model.specs.declared.session.SessionState.{SessionState}
 use Rattle.ucon_model.specs.declared.session.SessionState.TheVariants.{Accessing}
 use Rattle.ucon_model.specs.Plain.{Bytes, PlainPredicate, PlainRight, PlainPolicy}
-use Rattle.ucon_model.specs.Action.{Action, Trace, extended}
+use Rattle.ucon_model.specs.Action.{Action, Trace, revoke, extended}
 use Rattle.ucon_model.specs.Readings.{session, is_accessing, is_accessing_state}
 use Rattle.ucon_model.specs.Truth.{Readings, readings}
 use Rattle.ucon_model.specs.Decision.{right_named, ongoing, first_false, no_right, failing_of, failing}
 use Rattle.ucon_base.specs.Elements.{Each}
 use Rattle.ucon_model.specs.Settle.{fails_at, least_failing}
+use Rattle.ucon_model.specs.Legal.{IsLegal}
 use Rattle.ucon_model.specs.Sound.{IsNumbered}
-use Rattle.ucon_model.proofs.LeastFailing.{chosen_is_legal, nobody_fails}
 use Rattle.ucon_plain.specs.Rising.{rises, has}
 use Rattle.ucon_plain.proofs.Rising.{Rises, rises_so}
 use Rattle.ucon_plain.specs.Monitor.{before}
 use Rattle.ucon_state.specs.Shown.{Shown}
 use Rattle.ucon_state.specs.Tables.{Tables, session_in}
 use Rattle.ucon_state.specs.Following.{Follows}
-use Rattle.ucon_plain.specs.Watching.{may_fail, may_fail_in, Covers, Includes, HeadIsWatched, NobodyMore, first_in}
+use Rattle.ucon_plain.specs.Watching.{asks_of, may_fail, may_fail_in, Covers, Includes, HeadIsWatched, NobodyMore, first_in}
 use Rattle.ucon_plain.proofs.Permits.{permits, more, permitted_is_told}
 use Rattle.ucon_actions.proofs.ReadOff.{session_same}
 
@@ -107,17 +109,26 @@ fails_so P T n l (Some row) at accessing is =
     let goes_on : is_accessing (session T n) ≡ true = ap is_accessing at ∙ ap is_accessing_state accessing in
     rw goes_on is
 
-least_by : (P : PlainPolicy) (T : Trace) (ns : List ℕ) (o : Option (ℕ × Bytes)) → IsNumbered T → Rises ns → CoversAfter P T ns → least_failing P T ≡ o
+-- where no least one is found, nobody fails
+abbrev pub NobodyIsLeft : Type 0
+NobodyIsLeft = (P : PlainPolicy) (T : Trace) → IsNumbered T → least_failing P T ≡ None → (n : ℕ) → fails_at P T n ≡ None
+
+-- the least one that is found may be revoked
+abbrev pub LeastIsLegal : Type 0
+LeastIsLegal = (P : PlainPolicy) (T : Trace) (n : ℕ) (label : Bytes) → IsNumbered T → least_failing P T ≡ Some (n, label) → IsLegal P T (revoke n label)
+
+least_by : NobodyIsLeft → LeastIsLegal → (P : PlainPolicy) (T : Trace) (ns : List ℕ) (o : Option (ℕ × Bytes)) → IsNumbered T → Rises ns → CoversAfter P T ns → least_failing P T ≡ o
     → first_in (fails_at P T) ns ≡ o
-least_by P T ns None numbered rises covers e = none_in (fails_at P T) ns (nobody_fails P T numbered e)
-least_by P T ns (Some f) numbered rises covers e =
-    let legal = chosen_is_legal P T f numbered e in
+least_by nobody chosen P T ns None numbered rises covers e = none_in (fails_at P T) ns (nobody P T numbered e)
+least_by nobody chosen P T ns (Some f) numbered rises covers e =
+    let legal = chosen P T f.0 f.1 numbered e in
     let fails : fails_at P T f.0 ≡ Some f.1 = fails_so P T f.0 f.1 (session T f.0) refl legal.0 legal.1 in
     first_of (fails_at P T) ns f.0 f.1 rises (covers f.0 (who_fails_may P T f.0 f.1 fails)) fails legal.2
 
 -- the first of the watched sessions that fails is the least that fails
-pub first_is_least : (P : PlainPolicy) (T : Trace) (ns : List ℕ) → IsNumbered T → rises ns ≡ true → CoversAfter P T ns → first_in (fails_at P T) ns ≡ least_failing P T
-first_is_least P T ns numbered rise covers = least_by P T ns (least_failing P T) numbered (rises_so ns rise) covers refl
+first_is_least : NobodyIsLeft → LeastIsLegal → (P : PlainPolicy) (T : Trace) (ns : List ℕ) → IsNumbered T → rises ns ≡ true → CoversAfter P T ns
+    → first_in (fails_at P T) ns ≡ least_failing P T
+first_is_least nobody chosen P T ns numbered rise covers = least_by nobody chosen P T ns (least_failing P T) numbered (rises_so ns rise) covers refl
 
 -- ---- of a state
 
@@ -133,8 +144,9 @@ pub covers_after : (s : Shown) (P : PlainPolicy) (T : Trace) (ns : List ℕ) →
 covers_after s P T ns h covers = λ n may. covers n (may_after s P T h n ∙ may)
 
 -- the first of the watched sessions that fails is the least that fails after the trace that the state follows
-pub first_is_told : (s : Shown) (P : PlainPolicy) (T : Trace) (ns : List ℕ) → Follows s P T → rises ns ≡ true → Covers s ns → first_in (fails_at P T) ns ≡ least_failing P T
-first_is_told s P T ns h rise covers = first_is_least P T ns h.sound.numbered rise (covers_after s P T ns h covers)
+pub first_is_told : NobodyIsLeft → LeastIsLegal → (s : Shown) (P : PlainPolicy) (T : Trace) (ns : List ℕ) → Follows s P T → rises ns ≡ true → Covers s ns
+    → first_in (fails_at P T) ns ≡ least_failing P T
+first_is_told nobody chosen s P T ns h rise covers = first_is_least nobody chosen P T ns h.sound.numbered rise (covers_after s P T ns h covers)
 
 -- after actions that permit nobody, nobody more may fail
 pub nobody_more : (s s' : Shown) (P : PlainPolicy) (T : Trace) (actions : List Action) → Follows s P T → Follows s' P (extended T actions)
@@ -180,3 +192,24 @@ watched_still s s1 P T caller c head actions ns ms h h1 is covers includes told 
 pub opening_may : (s s1 : Shown) (n : ℕ) → s1.policy ≡ s.policy → s1.opening ≡ s.tables → may_fail_in (before s1) n ≡ true → may_fail_in s n ≡ true
 opening_may s s1 n policy tables may =
     ap (λ (t : Tables). may_fail s.policy (session_in t n)) (sym tables) ∙ ap (λ (Q : PlainPolicy). may_fail Q (session_in s1.opening n)) (sym policy) ∙ may
+
+-- ---- what is asked of a session, part by part
+
+pub asks_by_right : (P : PlainPolicy) (o : Option SessionRow)
+    → option_map_or (λ r. list_any ongoing r.preds) (option_and_then (λ row. right_named P.rights row.right) o) true ≡ asks_of P o
+asks_by_right P None = refl
+asks_by_right P (Some row) = refl
+
+pub may_fail_by_parts : (P : PlainPolicy) (o : Option SessionRow)
+    → may_fail P o ≡ option_map_or (λ state. is_accessing_state state && asks_of P o) (option_map (λ row. row.state) o) false
+may_fail_by_parts P None = refl
+may_fail_by_parts P (Some row) = refl
+
+pub goes_on_by_state : (o : Option SessionRow) → is_accessing o ≡ option_map_or is_accessing_state (option_map (λ row. row.state) o) false
+goes_on_by_state None = refl
+goes_on_by_state (Some row) = refl
+
+-- a session whose state is told is there
+pub told_is_there : (o : Option SessionRow) (state : SessionState) → option_map (λ row. row.state) o ≡ Some state → (row : SessionRow) × (o ≡ Some row) × (row.state ≡ state)
+told_is_there None state is = absurd cc
+told_is_there (Some row) state is = (row, refl, same_Some row.state state is)

@@ -16,6 +16,10 @@ use Rattle.ucon_plain.specs.Rising.{has}
 abbrev pub asks : PlainPolicy → Bytes → Bool
 asks P name = option_map_or (λ r. list_any ongoing r.preds) (right_named P.rights name) true
 
+-- the same, of a session's right
+abbrev pub asks_of : PlainPolicy → Option SessionRow → Bool
+asks_of P o = option_map_or (λ row. asks P row.right) o true
+
 -- whether a session is accessing, and its right has an ongoing predicate or is not there
 abbrev pub may_fail : PlainPolicy → Option SessionRow → Bool
 may_fail P None = false

@@ -15,8 +15,7 @@ use crate::watched::Watched;
 use std::alloc::Global;
 use ucon_base::{NoMemory, Steps};
 use ucon_model::{
-    Caller, Checked, Command, Reply, SessionState, View, blocks_are_legal,
-    settling_is_the_only_cascade,
+    Caller, Checked, Command, Reply, SessionState, blocks_are_legal, settling_is_the_only_cascade,
 };
 use ucon_state::{Drafted, Engine, State, each_action_is_followed};
 
@@ -73,8 +72,7 @@ impl Engine for PlainMonitor {
     }
 
     fn status(&self, session: u32) -> Option<SessionState> {
-        let row = self.state.session(session)?;
-        Some(row.state)
+        self.state.session_state(session)
     }
 }
 

@@ -10,10 +10,10 @@ ghost use Rattle.ucon_state.specs.Shown.{shown};
 
 use crate::watched::Watched;
 use std::alloc::Global;
-use ucon_actions::{accessing, is_accessing, revoke, session};
+use ucon_actions::{accessing, is_accessing, revoke, session_state};
 use ucon_base::{Name, NoMemory, Rows, Steps};
 use ucon_eval::{failing, typed_tests_make_no_set};
-use ucon_model::Revoked;
+use ucon_model::{Revoked, the_least_failing_is_found, turns_follow_each_other};
 use ucon_state::State;
 
 /// The label by which session n fails, if it is accessing.
@@ -22,8 +22,7 @@ fn fails_at(state: &State, n: u32, steps: &mut Steps) -> Option<Name>
     ensures { AfterEach (shown state.now) (λ P T. fails_at P T n ≡ result) }
 {
     typed_tests_make_no_set();
-    let row = session(state, n)?;
-    if !is_accessing(row.state) {
+    if !is_accessing(session_state(state, n)?) {
         return None;
     }
     failing(state, n, steps)
@@ -35,6 +34,7 @@ fn least_failing(state: &State, watched: &Watched, steps: &mut Steps) -> Option<
     requires covers { Covers (shown state.now) (numbers_of watched.now) }
     ensures { AfterEach (shown state.now) (λ P T. least_failing P T ≡ result) }
 {
+    the_least_failing_is_found();
     let numbers = watched.numbers();
     for n in numbers {
         if let Some(label) = fails_at(state, *n, steps) {
@@ -78,6 +78,7 @@ pub fn settle(
     ensures fewer { OnOk result (NobodyMore (shown state.old) (shown state.new)) }
     ensures base { KeepsBase (shown state.old) (shown state.new) }
 {
+    turns_follow_each_other();
     let mut revoked = Rows::new(alloc);
     let turns = accessing(state);
     'turns: for _ in 0..turns {

@@ -4,20 +4,23 @@ ghost use Rattle.std.specs.Prelude.{◌≡◌, ℕ, None, true, IfOk, OnErr, OnO
 ghost use Rattle.ucon_model.specs.Block.{after, reply};
 ghost use Rattle.ucon_model.specs.History.{changes};
 ghost use Rattle.ucon_model.specs.Settle.{fails_at};
-ghost use Rattle.ucon_model.specs.Views.{policy_of, reply_of};
+ghost use Rattle.ucon_model.specs.Views.{reply_of};
 ghost use Rattle.ucon_actions.specs.Leads.{AfterEach, IsFollowing, KeepsBase, Leads};
 ghost use Rattle.ucon_plain.specs.Monitor.{before};
 ghost use Rattle.ucon_plain.specs.Rising.{has};
 ghost use Rattle.ucon_plain.specs.Watched.{numbers_of};
-ghost use Rattle.ucon_plain.specs.Watching.{asks, may_fail_in, Covers, HeadIsWatched, Includes};
+ghost use Rattle.ucon_plain.specs.Watching.{asks_of, may_fail_in, Covers, HeadIsWatched, Includes};
 ghost use Rattle.ucon_state.specs.Shown.{shown};
+ghost use Rattle.ucon_state.specs.Tables.{session_in};
 
 use crate::settle::settle;
 use crate::watched::Watched;
 use std::alloc::Global;
-use ucon_actions::{ActionFault, Outcome, is_accessing, own_actions, session};
-use ucon_base::{Name, NoMemory, Steps};
-use ucon_model::{Caller, Command, Head, Policy, Reply, View};
+use ucon_actions::{ActionFault, Outcome, is_accessing, own_actions, session_state};
+use ucon_base::{NoMemory, Steps};
+use ucon_model::{
+    Caller, Command, Head, Reply, View, actions_are_done_in_order, nobody_fails_after_settling,
+};
 use ucon_state::State;
 
 /// Want of memory gives back what undoing gave before the step.
@@ -72,6 +75,8 @@ fn make_step(
     ensures watched { Includes (numbers_of watched.old) (numbers_of watched.new) }
     ensures base { KeepsBase (shown state.old) (shown state.new) }
 {
+    actions_are_done_in_order();
+    nobody_fails_after_settling();
     match own_actions(alloc, state, caller, command) {
         Err(ActionFault::NoMemory(refused)) => Err(refused),
         Err(ActionFault::Refused(r)) => Ok(Reply::Refused(r)),
@@ -108,20 +113,21 @@ fn watch(state: &State, watched: &mut Watched, n: u32) -> Result<(), NoMemory>
 }
 
 /// Whether a session is accessing, and its right has an ongoing predicate or isn't there.
+#[tactic(auto, using(crate::proofs::Watching::may_fail_by_parts))]
 fn may_fail(state: &State, n: u32) -> bool
     ensures { result ≡ may_fail_in (shown state.now) n }
 {
-    match session(state, n) {
-        Some(row) => is_accessing(row.state) && asks(state.checked().policy(), &row.right),
+    match session_state(state, n) {
+        Some(session) => is_accessing(session) && asks(state, n),
         None => false,
     }
 }
 
-/// Whether the right of this name has an ongoing predicate, or isn't there.
-fn asks(policy: &Policy, right: &Name) -> bool
-    ensures { result ≡ asks (policy_of policy.now) right.now }
+/// Whether the right of a session has an ongoing predicate, or isn't there.
+fn asks(state: &State, n: u32) -> bool
+    ensures { result ≡ asks_of (shown state.now).policy (session_in (shown state.now).tables n) }
 {
-    match policy.right(right) {
+    match state.right(n) {
         Some(right) => right.has_ongoing(),
         None => true,
     }

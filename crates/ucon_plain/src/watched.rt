@@ -8,7 +8,7 @@ ghost use Rattle.ucon_state.specs.Shown.{shown};
 ghost use Rattle.ucon_state.specs.Tables.{session_in};
 
 use std::alloc::Global;
-use ucon_actions::{is_accessing, session};
+use ucon_actions::{is_accessing, session_state};
 use ucon_base::NoMemory;
 use ucon_state::State;
 
@@ -66,11 +66,12 @@ fn keep_accessing(numbers: &mut Vec<u32>, state: &State)
 }
 
 /// Whether a session is there and accessing.
+#[tactic(auto, using(crate::proofs::Watching::goes_on_by_state))]
 fn goes_on(state: &State, n: u32) -> bool
     ensures { result ≡ is_accessing (session_in (shown state.now).tables n) }
 {
-    match session(state, n) {
-        Some(row) => is_accessing(row.state),
+    match session_state(state, n) {
+        Some(session) => is_accessing(session),
         None => false,
     }
 }

@@ -28,7 +28,7 @@ spelled (Err refusal) = Look 0
 
 -- a command line where it stands, as the definition has it
 abbrev pub spelled_line : LineText → ScriptLine
-spelled_line l = record { number = l.number; caller = l.caller; command = spelled (line_read l.text.now) }
+spelled_line l = record { number = l.number; caller = l.caller; command = spelled (line_read l.command.text.now) }
 
 -- the command lines of a script that was read where it stands
 abbrev pub lines_spelled : Script → List ScriptLine

@@ -1,10 +1,18 @@
 //! Laws of the definitions. A law is a function without parameters that does nothing: its contract is what is proved.
 
-ghost use Rattle.std.specs.Prelude.{◌≡◌, ◌≤◌, ℕ, length, IsOkAnd};
-ghost use Rattle.ucon_model.specs.Document.{document_read, entries_of, policy_part};
+ghost use Rattle.std.specs.Prelude.{◌≡◌, ◌≤◌, ℕ, length, IsOkAnd, None};
+ghost use Rattle.ucon_model.specs.Document.{document_read, entries_of, lines_of, policy_part, script_lines, script_number};
+ghost use Rattle.ucon_model.specs.Plain.{Bytes};
 ghost use Rattle.ucon_model.specs.Generated.{generated, generated_entries, generated_policy, text_of};
+ghost use Rattle.ucon_script.specs.Lines.{told_from};
 
 use ucon_command::commands_are_read_back;
+
+/// A document's command lines are those that its script's lines say, told one after the other as a reader of the script tells them: each by its
+/// number, the client of the nearest heading above, and the number of command lines above.
+pub fn documents_are_read_line_by_line()
+    ensures { (bytes : Bytes) → let lines = lines_of bytes in document_read bytes ≡ told_from (script_number lines) None 0 (script_lines lines) }
+{}
 
 /// The script of a generated document is never refused: it says the generated entries. What stands before it is the generated policy.
 pub fn generated_documents_are_read()

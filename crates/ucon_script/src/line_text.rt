@@ -1,24 +1,22 @@
 //! Command lines where they stand in a document.
 
-ghost use Rattle.std.specs.Prelude.{◌≡◌, ◌<◌, IfOk, IsOk};
-ghost use Rattle.ucon_model.specs.CommandLine.{line_read};
+ghost use Rattle.std.specs.Prelude.{◌≡◌, ◌<◌, IfOk};
 
 use crate::Line;
 use std::alloc::Global;
 use ucon_base::{NoMemory, Rows};
-use ucon_command::{LineFault, read_command};
+use ucon_command::CommandLine;
 use ucon_model::Caller;
 
-/// A command line by its bytes, which are known to spell a command, below a heading of one of at most 64 clients. So it takes 24 bytes of memory, and not the room of the longest
-/// command.
+/// A command line that was judged where it stands, below a heading of one of at most 64 clients. It takes 32 bytes of memory, and not the room of the
+/// longest command.
 #[derive(Clone, Copy, Debug)]
 pub struct LineText<'a> {
+    /// The line, without its newline.
+    pub command: CommandLine<'a>,
     /// The line's number in the document, whose first line has number 1.
     pub number: u32,
     pub caller: Caller,
-    /// Without the newline.
-    pub text: &'a [u8],
-    ghost spelled: { IsOk (line_read text.now) },
     ghost few: { caller.0 < 64 },
 }
 
@@ -29,15 +27,12 @@ impl<'a> LineText<'a> {
     pub fn line(&self, alloc: Global) -> Result<Line, NoMemory>
         ensures { IfOk result (λ line. line_of line ≡ spelled_line self.now) }
     {
-        match read_command(alloc, self.text) {
-            Ok(command) => Ok(Line {
-                number: self.number,
-                caller: self.caller,
-                command,
-            }),
-            Err(LineFault::NoMemory(refused)) => Err(refused),
-            Err(_) => unreachable!(),
-        }
+        let command = self.command.command(alloc)?;
+        Ok(Line {
+            number: self.number,
+            caller: self.caller,
+            command,
+        })
     }
 }
 

@@ -4,8 +4,8 @@ ghost use Rattle.std.specs.Prelude.{◌≡◌, ◌≤◌, ◌+◌, [], length};
 ghost use Rattle.ucon_model.specs.Document.{document_read, lines_of, script_told};
 ghost use Rattle.ucon_script.specs.Document.{Gives, lines_said, lines_spelled};
 
-use crate::cursor::Cursor;
 use crate::part::{cut, find_divider};
+use crate::script_reader::ScriptReader;
 use crate::{DocFault, Document, Script};
 use std::alloc::Global;
 use ucon_base::Rows;
@@ -43,12 +43,12 @@ fn script_from(alloc: Global, number: u32, text: &[u8]) -> Result<Script<'_>, Do
     requires { number + length text.now ≤ 4194304 }
     ensures { Gives lines_spelled result (script_told number [] (lines_of text.now)) }
 {
-    let mut cursor = Cursor::new(number);
+    let mut reader = ScriptReader::new(number);
     let mut lines = Rows::new(alloc);
     let mut rest = text;
     while !rest.is_empty() {
         let (line, after) = cut(rest, b'\n');
-        if let Some(line) = cursor.line(alloc, line)? {
+        if let Some(line) = reader.line(alloc, line)? {
             lines.push(line)?;
         }
         rest = after;

@@ -60,8 +60,8 @@ fn lines_stand_where_they_are(rt: HostRuntime) -> Result<(), Fail> {
     match read_script(rt.alloc(), text) {
         Ok(script) => match script.lines.slice() {
             [first, second] => {
-                assert!(rt; first.text == b"look 7".as_slice());
-                assert!(rt; second.text == b"end 1".as_slice());
+                assert!(rt; first.command.text == b"look 7".as_slice());
+                assert!(rt; second.command.text == b"end 1".as_slice());
                 assert_eq!(rt; (first.number, second.number), (5, 7));
                 assert_eq!(rt; (first.caller, second.caller), (Caller(3), Caller(3)));
             }

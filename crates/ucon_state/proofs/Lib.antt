@@ -4,5 +4,6 @@ pub mod Entities
 pub mod Acts
 pub mod Sounds
 pub mod Places
-pub mod Moved
+pub mod Moves
+pub mod Numbered
 pub mod Following

@@ -9,7 +9,7 @@ use Rattle.ucon_base.specs.declared.value.Side.{Side}
 use Rattle.ucon_base.specs.declared.value.Side.TheVariants as sides
 use Rattle.ucon_model.specs.Plain.{Bytes, PlainPolicy}
 use Rattle.ucon_model.specs.Readings.{same_side, declared_attr, attrs_of, attr_position}
-use Rattle.ucon_state.specs.Tables.{Tables, entities_of, cell_at}
+use Rattle.ucon_state.specs.Tables.{TablesOf, entities_of, cell_at}
 use Rattle.ucon_state.specs.Sound.{IsSound, CellsAreThere}
 
 -- a place is that of the first item that passes, and it is within the list
@@ -61,7 +61,7 @@ place_where_declared P side attr =
     some_place (λ d. bytes_eq attr d.name) (attrs_of P side) ∙ ap is_some (find_filter (λ d. same_side side d.side) (λ d. bytes_eq attr d.name) P.attrs)
 
 -- an entity that is there has a cell for each attribute that is declared for its side
-pub cell_where_declared : (P : PlainPolicy) (t : Tables) (side : Side) (entity : ℕ) (attr : Bytes) → entity < length (entities_of side t)
+pub cell_where_declared : {S : Type 0} (P : PlainPolicy) (t : TablesOf S) (side : Side) (entity : ℕ) (attr : Bytes) → entity < length (entities_of side t)
     → is_some (cell_at P t side entity attr) ≡ is_some (declared_attr P.attrs side attr)
 cell_where_declared P t side entity attr within =
     let e = item_at (entities_of side t) entity within in
@@ -73,7 +73,7 @@ cell_where_declared P t side entity attr within =
     by first (Some place) = refl
 
 -- the cell of an attribute by the entity's first cell and the attribute's place
-pub cell_by_parts : (P : PlainPolicy) (t : Tables) (side : Side) (entity : ℕ) (attr : Bytes) (first place : Option ℕ)
+pub cell_by_parts : {S : Type 0} (P : PlainPolicy) (t : TablesOf S) (side : Side) (entity : ℕ) (attr : Bytes) (first place : Option ℕ)
     → first ≡ option_map (λ e. e.1) (slice_get (entities_of side t) entity) → place ≡ attr_position P side attr
     → cell_at P t side entity attr ≡ option_and_then (λ f. option_map (λ p. f + p) place) first
 cell_by_parts P t side entity attr first place is_first is_place =
@@ -85,7 +85,7 @@ cell_by_parts P t side entity attr first place is_first is_place =
     by (Some e) = refl
 
 -- and it is there
-pub cell_is_there : (P : PlainPolicy) (t : Tables) (side : Side) (entity : ℕ) (attr : Bytes) (first place : ℕ) → IsSound P t
+pub cell_is_there : {S : Type 0} (P : PlainPolicy) (t : TablesOf S) (side : Side) (entity : ℕ) (attr : Bytes) (first place : ℕ) → IsSound P t
     → option_map (λ e. e.1) (slice_get (entities_of side t) entity) ≡ Some first → attr_position P side attr ≡ Some place → first + place < length t.cells
 cell_is_there P t side entity attr first place s is_first is_place = by (slice_get (entities_of side t) entity) refl is_first
   where
@@ -101,7 +101,7 @@ cell_is_there P t side entity attr first place s is_first is_place = by (slice_g
         omega (arith, cells side e there, position_within (λ d. bytes_eq attr d.name) (attrs_of P side) place is_place, same)
 
 -- the cell of an attribute is there
-pub cell_in_range : (P : PlainPolicy) (t : Tables) (side : Side) (entity : ℕ) (attr : Bytes) (cell : ℕ) → IsSound P t
+pub cell_in_range : {S : Type 0} (P : PlainPolicy) (t : TablesOf S) (side : Side) (entity : ℕ) (attr : Bytes) (cell : ℕ) → IsSound P t
     → cell_at P t side entity attr ≡ Some cell → cell < length t.cells
 cell_in_range P t side entity attr cell s is = by (slice_get (entities_of side t) entity) refl (attr_position P side attr) refl is
   where

@@ -7,13 +7,12 @@ use Rattle.indexmap.specs.IndexMap.{insert_entry}
 use Rattle.ucon_base.specs.declared.value.Side.{Side}
 use Rattle.ucon_base.specs.declared.value.Side.TheVariants as sides
 use Rattle.ucon_base.specs.declared.value.Value.{Value}
-use Rattle.ucon_model.specs.declared.session.SessionRow.{SessionRow}
 use Rattle.ucon_model.specs.Plain.{Bytes, PlainPolicy}
 use Rattle.ucon_state.specs.declared.act.Act.{Act}
 use Rattle.ucon_model.specs.Readings.{attrs_of}
-use Rattle.ucon_state.specs.Tables.{Tables, entities_of, same_act}
+use Rattle.ucon_state.specs.Tables.{TablesOf, entities_of, same_act}
 use Rattle.ucon_state.proofs.Lists.{inserted_length, kept_length}
-use Rattle.ucon_state.specs.Applied.{opening_tables, defaults_of, with_entity, with_cell, with_variable, with_tick, with_act, with_row, with_new_session}
+use Rattle.ucon_state.specs.Applied.{opening_of, defaults_of, with_entity, with_cell, with_variable, with_tick, with_act, with_new_session}
 use Rattle.ucon_state.specs.Sound.{IsSound, CellsAreThere}
 
 -- what one item contains is that item
@@ -24,7 +23,7 @@ only x y there = at there.0 there.1 there.2
     at zero within is = is
     at (suc k) within is = absurd (omega (arith, within))
 
-module _ (P : PlainPolicy) (t : Tables) (s : IsSound P t) where
+module _ {S : Type 0} (P : PlainPolicy) (t : TablesOf S) (s : IsSound P t) where
   pub few_entities : (side : Side) → length (entities_of side t) ≤ 16384
   few_entities sides.Subject = s.subjects
   few_entities sides.Object = s.objects
@@ -35,8 +34,8 @@ module _ (P : PlainPolicy) (t : Tables) (s : IsSound P t) where
   pub variable_sound : (place : ℕ) (v : Value) → IsSound P (with_variable t place v)
   variable_sound place v = record { subjects = s.subjects; objects = s.objects; acts = s.acts; sessions = s.sessions; cells = s.cells; variables = length-set t.variables place v ∙ s.variables; subject_cells = s.subject_cells; object_cells = s.object_cells }
 
-  pub row_sound : (place : ℕ) (row : SessionRow) → IsSound P (with_row t place row)
-  row_sound place row = record { subjects = s.subjects; objects = s.objects; acts = s.acts; sessions = subst (λ n. n ≤ 1048576) (sym (length-set t.sessions place row)) s.sessions; cells = s.cells; variables = s.variables; subject_cells = s.subject_cells; object_cells = s.object_cells }
+  pub sessions_sound : (sessions : List S) → length sessions ≡ length t.sessions → IsSound P (record t { sessions = sessions })
+  sessions_sound sessions same = record { subjects = s.subjects; objects = s.objects; acts = s.acts; sessions = subst (λ n. n ≤ 1048576) (sym same) s.sessions; cells = s.cells; variables = s.variables; subject_cells = s.subject_cells; object_cells = s.object_cells }
 
   pub cell_sound : (cell : ℕ) (v : Value) → IsSound P (with_cell t cell v)
   cell_sound cell v =
@@ -52,7 +51,7 @@ module _ (P : PlainPolicy) (t : Tables) (s : IsSound P t) where
         object_cells = λ e there. subst (λ n. e.1 + length (attrs_of P sides.Object) ≤ n) same (s.object_cells e there);
       }
 
-  pub session_sound : (row : SessionRow) → length t.sessions < 1048576 → IsSound P (with_new_session t row)
+  pub session_sound : (row : S) → length t.sessions < 1048576 → IsSound P (with_new_session t row)
   session_sound row room = record { subjects = s.subjects; objects = s.objects; acts = s.acts; sessions = omega (arith, room, length-append t.sessions (row ∷ [])); cells = s.cells; variables = s.variables; subject_cells = s.subject_cells; object_cells = s.object_cells }
 
   pub act_sound : (a : Act) → IsSome (lookup (same_act a) t.acts) ⊎ (length t.acts < 1048576) → IsSound P (with_act t a)
@@ -101,7 +100,7 @@ module _ (P : PlainPolicy) (t : Tables) (s : IsSound P t) where
   }
 
 -- before all actions
-pub opening_sound : (P : PlainPolicy) → IsSound P (opening_tables P)
+pub opening_sound : {S : Type 0} (P : PlainPolicy) → IsSound P (opening_of {S = S} P)
 opening_sound P = record {
   subjects = omega arith;
   objects = omega arith;

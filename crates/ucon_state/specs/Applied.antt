@@ -13,44 +13,44 @@ use Rattle.ucon_model.specs.Plain.{Bytes, PlainPolicy}
 use Rattle.ucon_model.specs.Action.{Action, Trace, subject, object, write, env, tick, act, tries, wait, permit, deny, ends, revoke}
 use Rattle.ucon_state.specs.declared.act.Act.{Act}
 use Rattle.ucon_model.specs.Readings.{attrs_of, env_position}
-use Rattle.ucon_state.specs.Tables.{Tables, cell_of, same_act, session_in}
+use Rattle.ucon_state.specs.Tables.{TablesOf, Tables, cell_of, same_act, session_in}
 
 -- the defaults of the attributes of a side
 abbrev pub defaults_of : PlainPolicy → Side → List Value
 defaults_of P side = map (λ d. d.start) (attrs_of P side)
 
 -- with a new entity behind the others, which has this first cell
-abbrev pub with_name : Tables → Side → Bytes → ℕ → Tables
+abbrev pub with_name : {S : Type 0} → TablesOf S → Side → Bytes → ℕ → TablesOf S
 with_name t sides.Subject name first = record t { subjects = t.subjects ++ (name, first) ∷ [] }
 with_name t sides.Object name first = record t { objects = t.objects ++ (name, first) ∷ [] }
 
 -- with a new entity, whose cells come behind the others and hold these values
-abbrev pub with_new_entity : Tables → Side → Bytes → List Value → Tables
+abbrev pub with_new_entity : {S : Type 0} → TablesOf S → Side → Bytes → List Value → TablesOf S
 with_new_entity t side name values = record (with_name t side name (length t.cells)) { cells = t.cells ++ values }
 
 -- with a new entity, whose attributes have their defaults
-abbrev pub with_entity : PlainPolicy → Tables → Side → Bytes → Tables
+abbrev pub with_entity : {S : Type 0} → PlainPolicy → TablesOf S → Side → Bytes → TablesOf S
 with_entity P t side name = with_new_entity t side name (defaults_of P side)
 
 -- with this value in a cell
-abbrev pub with_cell : Tables → ℕ → Value → Tables
+abbrev pub with_cell : {S : Type 0} → TablesOf S → ℕ → Value → TablesOf S
 with_cell t cell v = record t { cells = slice_set t.cells cell v }
 
 -- with this value as that of the variable at a place
-abbrev pub with_variable : Tables → ℕ → Value → Tables
+abbrev pub with_variable : {S : Type 0} → TablesOf S → ℕ → Value → TablesOf S
 with_variable t place v = record t { variables = slice_set t.variables place v }
 
 -- with this tick
-abbrev pub with_tick : Tables → ℤ → Tables
+abbrev pub with_tick : {S : Type 0} → TablesOf S → ℤ → TablesOf S
 with_tick t now = record t { tick = now }
 
 -- with this act as done now: in its own place, or behind the others where it was never done
-abbrev pub with_act : Tables → Act → Tables
+abbrev pub with_act : {S : Type 0} → TablesOf S → Act → TablesOf S
 with_act t a = record t { acts = insert_entry same_act t.acts a t.tick }
 
 -- with a new session behind the others
-abbrev pub with_new_session : Tables → SessionRow → Tables
-with_new_session t row = record t { sessions = t.sessions ++ row ∷ [] }
+abbrev pub with_new_session : {S : Type 0} → TablesOf S → S → TablesOf S
+with_new_session t session = record t { sessions = t.sessions ++ session ∷ [] }
 
 -- a session as it is tried
 abbrev pub tried : Caller → Bytes → Bytes → Bytes → SessionRow
@@ -93,8 +93,8 @@ applied P (ends n) t = with_state t n Ended
 applied P (revoke n label) t = with_state t n Revoked
 
 -- before all actions: no entities, each variable at its default, tick 0
-abbrev pub opening_tables : PlainPolicy → Tables
-opening_tables P = record {
+abbrev pub opening_of : {S : Type 0} → PlainPolicy → TablesOf S
+opening_of P = record {
   subjects = [];
   objects = [];
   cells = [];
@@ -103,6 +103,9 @@ opening_tables P = record {
   acts = [];
   sessions = [];
 }
+
+abbrev pub opening_tables : PlainPolicy → Tables
+opening_tables P = opening_of P
 
 -- the tables after a trace
 abbrev pub tables_of : PlainPolicy → Trace → Tables

@@ -1,5 +1,6 @@
 pub mod Tables
 pub mod Applied
+pub mod Stored
 pub mod Undo
 pub mod Sound
 pub mod Views

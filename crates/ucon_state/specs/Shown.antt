@@ -1,11 +1,12 @@
 -- What a state shows.
-use Rattle.std.specs.Prelude.{List}
+use Rattle.std.specs.Prelude.{ℕ, ◌<◌, List, length}
 use Rattle.ucon_model.specs.Checked.{checked_policy}
 use Rattle.ucon_model.specs.Action.{Action}
-use Rattle.ucon_model.specs.Plain.{PlainPolicy}
+use Rattle.ucon_model.specs.Plain.{Bytes, PlainPolicy}
 use Rattle.ucon_state.specs.declared.change.Change.{Change}
 use Rattle.ucon_state.specs.declared.state.State.{State}
 use Rattle.ucon_state.specs.Applied.{applied}
+use Rattle.ucon_state.specs.Stored.{Stored, name_at, named, right_at}
 use Rattle.ucon_state.specs.Tables.{Tables}
 use Rattle.ucon_state.specs.Undo.{all_undone}
 use Rattle.ucon_state.specs.Views.{lists_of}
@@ -16,12 +17,32 @@ pub record Shown : Type 0 where
   pub tables : Tables
   pub opening : Tables
 
--- what these tables show, with these changes to undo
-abbrev pub showing : PlainPolicy → Tables → List Change → Shown
-showing P tables changes = record { policy = P; tables = tables; opening = all_undone changes tables }
+-- what these tables show, by the names of rights, with these changes to undo
+abbrev pub showing : PlainPolicy → List Bytes → Stored → List Change → Shown
+showing P rights t changes = record { policy = P; tables = named rights t; opening = named rights (all_undone changes t) }
+
+-- the names of the rights that sessions may have; a right's number is its place, from 0
+abbrev pub right_names : State → List Bytes
+right_names s = s.rights.items
 
 abbrev pub shown : State → Shown
-shown s = showing (checked_policy s.checked) (lists_of s.tables) s.changes.items
+shown s = showing (checked_policy s.checked) (right_names s) (lists_of s.tables) s.changes.items
+
+-- the name of the right, the subject or the object with this number
+abbrev pub right_name : State → ℕ → Bytes
+right_name s number = right_at (right_names s) number
+
+abbrev pub subject_name : State → ℕ → Bytes
+subject_name s number = name_at (shown s).tables.subjects number
+
+abbrev pub object_name : State → ℕ → Bytes
+object_name s number = name_at (shown s).tables.objects number
+
+-- there are a right, a subject and an object with these numbers
+pub record AreThere (s : State) (right subject object : ℕ) : Type 0 where
+  pub right_below : right < length (right_names s)
+  pub subject_below : subject < length (shown s).tables.subjects
+  pub object_below : object < length (shown s).tables.objects
 
 -- a change: only the tables are others, and undoing gives what it gave before
 abbrev pub changed_to : Shown → Tables → Shown

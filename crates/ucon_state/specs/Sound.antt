@@ -1,19 +1,22 @@
 -- What holds of the tables of every state.
-use Rattle.std.specs.Prelude.{◌≡◌, ◌≤◌, ◌<◌, ◌+◌, ◌^◌, ℕ, List, length, drop, Contains}
+use Rattle.std.specs.Prelude.{◌≡◌, ◌≤◌, ◌<◌, ◌+◌, ◌^◌, ℕ, List, length, drop, Contains, position, is_some, true}
+use Rattle.std.specs.Str.{bytes_eq}
 use Rattle.ucon_base.specs.declared.value.Side.{Side}
 use Rattle.ucon_base.specs.declared.value.Side.TheVariants as sides
 use Rattle.ucon_model.specs.Plain.{Bytes, PlainPolicy}
+use Rattle.ucon_model.specs.Decision.{right_named}
 use Rattle.ucon_state.specs.declared.change.Change.{Change}
 use Rattle.ucon_model.specs.Readings.{attrs_of}
-use Rattle.ucon_state.specs.Tables.{Tables, entities_of}
+use Rattle.ucon_state.specs.Tables.{TablesOf, entities_of}
+use Rattle.ucon_state.specs.Stored.{Stored, AreNumbered}
 use Rattle.ucon_state.specs.Undo.{all_undone}
 
 -- the cells of each entity of a side are there
-abbrev pub CellsAreThere : PlainPolicy → Tables → Side → Type 0
+abbrev pub CellsAreThere : {S : Type 0} → PlainPolicy → TablesOf S → Side → Type 0
 CellsAreThere P t side = (e : Bytes × ℕ) → Contains (entities_of side t) e → e.1 + length (attrs_of P side) ≤ length t.cells
 
 -- the limits hold, each declared variable has its place, and each entity its cells
-pub record IsSound (P : PlainPolicy) (t : Tables) : Type 0 where
+pub record IsSound {S : Type 0} (P : PlainPolicy) (t : TablesOf S) : Type 0 where
   pub subjects : length t.subjects ≤ 16384
   pub objects : length t.objects ≤ 16384
   pub acts : length t.acts ≤ 1048576
@@ -23,6 +26,15 @@ pub record IsSound (P : PlainPolicy) (t : Tables) : Type 0 where
   pub subject_cells : CellsAreThere P t sides.Subject
   pub object_cells : CellsAreThere P t sides.Object
 
--- the tables are sound, now and at each stage of undoing these changes
-abbrev pub AllSound : PlainPolicy → List Change → Tables → Type 0
-AllSound P changes t = (kept : ℕ) → IsSound P (all_undone (drop kept changes) t)
+-- the rights of a policy are among these, which a 32-bit number counts
+pub record HasRights (P : PlainPolicy) (rights : List Bytes) : Type 0 where
+  pub few : length rights < 2 ^ 32
+  pub all : (name : Bytes) → is_some (right_named P.rights name) ≡ true → is_some (position (bytes_eq name) rights) ≡ true
+
+-- sound tables, whose sessions' numbers have their names
+abbrev pub IsKept : PlainPolicy → List Bytes → Stored → Type 0
+IsKept P rights t = IsSound P t × AreNumbered rights t.subjects t.objects t.sessions
+
+-- the tables are so, now and at each stage of undoing these changes
+abbrev pub AllSound : PlainPolicy → List Bytes → List Change → Stored → Type 0
+AllSound P rights changes t = (kept : ℕ) → IsKept P rights (all_undone (drop kept changes) t)

@@ -1,9 +1,9 @@
 -- What the tables of `src/` stand for.
 use Rattle.ucon_state.specs.declared.tables.Tables.{Tables as Kept}
-use Rattle.ucon_state.specs.Tables.{Tables}
+use Rattle.ucon_state.specs.Stored.{Stored}
 
 -- the lists that the tables hold
-abbrev pub lists_of : Kept → Tables
+abbrev pub lists_of : Kept → Stored
 lists_of t = record {
   subjects = t.subjects.entries;
   objects = t.objects.entries;

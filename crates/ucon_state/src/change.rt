@@ -1,7 +1,7 @@
 //! What is needed to undo a change.
 
 use ucon_base::{Int, Side, Value};
-use ucon_model::SessionRow;
+use ucon_model::SessionState;
 
 /// One change, by what it wrote over or how much was there before.
 #[derive(Debug, Drop)]
@@ -16,5 +16,6 @@ pub enum Change {
     Moment(usize, Int),
     /// A session was added last.
     Session,
-    Row(usize, SessionRow),
+    /// The session at a place was in this state, with this start.
+    Moved(usize, SessionState, Int),
 }

@@ -1,11 +1,11 @@
-//! The defaults that the declarations of a policy give.
+//! What the declarations of a policy give to begin with: defaults, and the names of rights.
 
 ghost use Rattle.std.specs.Prelude.{◌≡◌, IfOk, map};
 ghost use Rattle.ucon_model.specs.Checked.{checked_policy};
 ghost use Rattle.ucon_state.specs.Applied.{defaults_of};
 
 use std::alloc::Global;
-use ucon_base::{NoMemory, Side, Value};
+use ucon_base::{Name, NoMemory, Side, Value};
 use ucon_model::Checked;
 
 /// The defaults of the attributes of a side.
@@ -30,4 +30,15 @@ pub fn env_defaults(alloc: Global, checked: &Checked) -> Result<Vec<Value>, NoMe
         defaults.push(decl.start.copy(alloc)?)?;
     }
     Ok(defaults)
+}
+
+/// The names of the rights.
+pub fn right_names(alloc: Global, checked: &Checked) -> Result<Vec<Name>, NoMemory>
+    ensures { IfOk result (λ names. names.items ≡ map (λ r. r.name) (checked_policy checked.now).rights) }
+{
+    let mut names = Vec::new(alloc);
+    for right in checked.policy().rights.slice() {
+        names.push(right.name)?;
+    }
+    Ok(names)
 }

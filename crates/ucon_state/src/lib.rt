@@ -7,6 +7,7 @@ mod counts;
 mod defaults;
 mod engine;
 mod laws;
+mod session;
 mod state;
 mod tables;
 mod view;

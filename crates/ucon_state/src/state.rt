@@ -1,23 +1,28 @@
 //! The state of a policy, and its changes.
 
-ghost use Rattle.std.specs.Prelude.{◌≡◌, ◌≤ℤ◌, ◌<◌, ◌+◌, ◌⊎◌, length, slice_get, Some, None, OnOk, OnErr, IfOk, IfSome, IsSome, IsSomeAnd, IsTrue, is_some};
+ghost use Rattle.std.specs.Prelude.{◌≡◌, ◌≤ℤ◌, ◌<◌, ◌+◌, ◌⊎◌, length, position, slice_get, Some, None, OnOk, OnErr, IfOk, IfSome, IsSome, IsSomeAnd, IsTrue, is_some};
+ghost use Rattle.std.specs.Str.{bytes_eq};
 ghost use Rattle.ucon_base.specs.Admits.{admits};
+ghost use Rattle.ucon_base.specs.declared.value.Side.TheVariants as sides;
 ghost use Rattle.ucon_model.specs.Action as actions;
 ghost use Rattle.ucon_model.specs.Checked.{checked_policy};
+ghost use Rattle.ucon_model.specs.Decision.{right_named};
 ghost use Rattle.ucon_model.specs.Readings.{declared_attr, declared_env, env_position};
-ghost use Rattle.ucon_state.specs.Applied.{opening_tables, with_entity, with_cell, with_state, may_become, moved_to};
-ghost use Rattle.ucon_state.specs.Sound.{AllSound, IsSound};
+ghost use Rattle.ucon_state.specs.Applied.{opening_tables, with_entity, with_cell, with_state, may_become};
+ghost use Rattle.ucon_state.specs.Sound.{AllSound, HasRights, IsSound};
+ghost use Rattle.ucon_state.specs.Stored.{name_at, start_in};
 ghost use Rattle.ucon_state.specs.Tables.{entities_of, entity_number, cell_at, CellAdmits, attribute_in, counts_in, moment_in, session_in};
 ghost use Rattle.ucon_state.specs.Views.{lists_of};
 
 use crate::act::Act;
 use crate::change::Change;
 use crate::counts::Counts;
-use crate::defaults::{attr_defaults, env_defaults};
+use crate::defaults::{attr_defaults, env_defaults, right_names};
+use crate::session::Session;
 use crate::tables::Tables;
 use std::alloc::{AllocError, Global};
 use ucon_base::{Int, Name, NoMemory, Side, Value};
-use ucon_model::{Caller, Checked, SessionRow, SessionState};
+use ucon_model::{Caller, Checked, SessionState};
 
 /// The number of a cell.
 pub type CellId = u32;
@@ -28,12 +33,15 @@ pub struct State {
     alloc: Global,
     pub(crate) checked: Checked,
     pub(crate) tables: Tables,
+    /// The names of the rights that sessions may have, each at the place that is its number.
+    pub(crate) rights: Vec<Name>,
     changes: Vec<Change>,
-    ghost sound: { AllSound (checked_policy checked) changes.items (lists_of tables) },
+    ghost sound: { AllSound (checked_policy checked) rights.items changes.items (lists_of tables) },
+    ghost has_rights: { HasRights (checked_policy checked) rights.items },
 }
 
 impl State {
-    ghost use Rattle.ucon_state.specs.Shown.{shown, changed_by, changed_to};
+    ghost use Rattle.ucon_state.specs.Shown.{shown, changed_by, changed_to, right_names, right_name, subject_name, object_name, AreThere};
 
     /// No entities, each variable at its default, tick 0.
     pub fn new(alloc: Global, checked: Checked) -> Result<State, NoMemory>
@@ -41,18 +49,36 @@ impl State {
         ensures tables { IfOk result (λ s. (shown s).tables ≡ opening_tables (checked_policy checked)) }
         ensures opening { IfOk result (λ s. (shown s).opening ≡ opening_tables (checked_policy checked)) }
     {
+        let rights = right_names(alloc, &checked)?;
+        if rights.len() > u32::MAX as usize {
+            return Err(NoMemory::from(AllocError));
+        }
         let variables = env_defaults(alloc, &checked)?;
         Ok(State {
             alloc,
             checked,
             tables: Tables::new(alloc, variables),
+            rights,
             changes: Vec::new(alloc),
         })
     }
 
+    /// The number of a right of the policy, from 0. None where the policy hasn't it.
+    pub fn find_right(&self, name: &Name) -> Option<u32>
+        ensures named { IfSome result (λ n. right_name self.now n ≡ name.now) }
+        ensures within { IfSome result (λ n. n < length (right_names self.now)) }
+        ensures there { is_some result ≡ is_some (right_named (shown self.now).policy.rights name.now) }
+    {
+        self.checked.policy().right(name)?;
+        let number = number_of(&self.rights, name)?;
+        Some(number as u32)
+    }
+
     /// The number of an entity among those of its side, from 0. None where it isn't there.
+    #[tactic(auto, using(crate::proofs::Numbered::name_of_number))]
     pub fn find(&self, side: Side, name: &Name) -> Option<u32>
         ensures number { result ≡ entity_number (shown self.now).tables side name.now }
+        ensures named { IfSome result (λ n. name_at (entities_of side (shown self.now).tables) n ≡ name.now) }
         ensures there { IfSome result (λ n. n < length (entities_of side (shown self.now).tables)) }
     {
         let number = self.tables.entity_number(side, name)?;
@@ -158,19 +184,50 @@ impl State {
         subject: Name,
         object: Name,
     ) -> Result<u32, NoMemory>
-        requires { length (shown self.old).tables.sessions < 1048576 }
+        requires few { length (shown self.old).tables.sessions < 1048576 }
+        requires right { IsSome (right_named (shown self.old).policy.rights right) }
+        requires subject { IsSome (entity_number (shown self.old).tables sides.Subject subject) }
+        requires object { IsSome (entity_number (shown self.old).tables sides.Object object) }
         ensures ok { OnOk result (shown self.new
             ≡ changed_by (shown self.old) (actions.tries (length (shown self.old).tables.sessions + 1) caller subject right object)) }
         ensures number { IfOk result (λ n. n ≡ length (shown self.old).tables.sessions + 1) }
         ensures err { OnErr result (shown self.new ≡ shown self.old) }
     {
+        let Some(right) = self.find_right(&right) else {
+            unreachable!()
+        };
+        let Some(subject) = self.find(Side::Subject, &subject) else {
+            unreachable!()
+        };
+        let Some(object) = self.find(Side::Object, &object) else {
+            unreachable!()
+        };
+        self.add_numbered_session(caller, right, subject, object)
+    }
+
+    /// Adds a session that is requesting, by the numbers of its right, its subject and its object, and gives its own, from 1.
+    pub fn add_numbered_session(
+        &mut self,
+        caller: Caller,
+        right: u32,
+        subject: u32,
+        object: u32,
+    ) -> Result<u32, NoMemory>
+        requires few { length (shown self.old).tables.sessions < 1048576 }
+        requires there { AreThere self.old right subject object }
+        ensures ok { OnOk result (shown self.new
+            ≡ changed_by (shown self.old) (actions.tries (length (shown self.old).tables.sessions + 1) caller
+            (subject_name self.old subject) (right_name self.old right) (object_name self.old object))) }
+        ensures number { IfOk result (λ n. n ≡ length (shown self.old).tables.sessions + 1) }
+        ensures err { OnErr result (shown self.new ≡ shown self.old) }
+    {
         self.changes.reserve(1)?;
-        let change = self.tables.add_session(SessionRow {
+        let change = self.tables.add_session(Session {
             caller,
+            state: SessionState::Requesting,
             right,
             subject,
             object,
-            state: SessionState::Requesting,
             start: Int::zero(),
         })?;
         self.changes.push_reserved(change);
@@ -185,8 +242,8 @@ impl State {
     {
         self.changes.reserve(1)?;
         let place = session as usize - 1;
-        let row = moved_to(&self.tables.sessions[place], state, self.tables.tick);
-        let change = self.tables.set_row(place, row);
+        let start = start_in(state, self.tables.tick, self.tables.sessions[place].start);
+        let change = self.tables.move_session(place, state, start);
         self.changes.push_reserved(change);
         Ok(())
     }
@@ -220,17 +277,20 @@ impl State {
     }
 }
 
-/// The row of a session that goes into a state at a tick.
-fn moved_to(row: &SessionRow, state: SessionState, now: Int) -> SessionRow
-    ensures { result ≡ moved_to state now row.now }
+/// The place of a name among these.
+fn number_of(names: &[Name], name: &Name) -> Option<usize>
+    ensures { result ≡ position (bytes_eq name.now) names.now }
+{
+    names.iter().position(|n| *name == *n)
+}
+
+/// When a session starts that goes into a state: now where it becomes accessing, else as before.
+fn start_in(state: SessionState, now: Int, before: Int) -> Int
+    ensures { result ≡ start_in state now before }
 {
     match state {
-        SessionState::Accessing => SessionRow {
-            state,
-            start: now,
-            ..*row
-        },
-        _ => SessionRow { state, ..*row },
+        SessionState::Accessing => now,
+        _ => before,
     }
 }
 

@@ -1,17 +1,18 @@
 //! The tables: what is there now.
 
-ghost use Rattle.std.specs.Prelude.{◌≡◌, ◌-◌, ◌<◌, IfOk, OnOk, OnErr, IfSome, None, slice_get, slice_set, option_map, length};
-ghost use Rattle.ucon_state.specs.Tables.{accessing_among, accessing_in};
+ghost use Rattle.std.specs.Prelude.{◌≡◌, ◌-◌, ◌<◌, IfOk, OnOk, OnErr, IfSome, None, slice_get, slice_set, option_copied, option_map, length};
+ghost use Rattle.ucon_state.specs.Stored.{accessing_in, accessing_of};
 
 use crate::act::Act;
 use crate::change::Change;
+use crate::session::Session;
 use indexmap::IndexMap;
 use std::alloc::Global;
 use std::mem;
 use ucon_base::{Int, Name, NoMemory, Side, Value};
-use ucon_model::{SessionRow, SessionState};
+use ucon_model::SessionState;
 
-/// Entities stand by name with their first cell, acts with their moment. A variable and a session's row stand at their places.
+/// Entities stand by name with their first cell, acts with their moment. A variable and a session stand at their places.
 #[derive(Drop)]
 pub struct Tables {
     pub subjects: IndexMap<Name, usize>,
@@ -20,15 +21,16 @@ pub struct Tables {
     pub variables: Vec<Value>,
     pub tick: Int,
     pub acts: IndexMap<Act, Int>,
-    pub sessions: Vec<SessionRow>,
+    pub sessions: Vec<Session>,
     pub accessing: usize,
-    ghost counted: { accessing ≡ accessing_among sessions.items },
+    ghost counted: { accessing ≡ accessing_of sessions.items },
 }
 
 impl Tables {
     ghost use Rattle.std.specs.Prelude.{[], pos};
     ghost use Rattle.ucon_state.specs.Tables.{session_in, moment_in, entities_of, entity_number};
-    ghost use Rattle.ucon_state.specs.Applied.{with_name, with_new_entity, with_cell, with_variable, with_tick, with_act, with_row, with_new_session};
+    ghost use Rattle.ucon_state.specs.Applied.{with_name, with_new_entity, with_cell, with_variable, with_tick, with_act, with_new_session};
+    ghost use Rattle.ucon_state.specs.Stored.{name_at, with_moved};
     ghost use Rattle.ucon_state.specs.Undo.{undone};
     ghost use Rattle.ucon_state.specs.Views.{lists_of};
 
@@ -73,12 +75,23 @@ impl Tables {
         Some(*first)
     }
 
-    pub fn session(&self, n: u32) -> Option<SessionRow>
-        ensures { result ≡ session_in (lists_of self.now) n }
+    /// The name of the entity with this number.
+    pub fn name(&self, side: Side, entity: u32) -> &Name
+        requires { entity < length (entities_of side (lists_of self.now)) }
+        ensures { result.now ≡ name_at (entities_of side (lists_of self.now)) entity }
+    {
+        let Some((name, _)) = self.entities(side).get_index(entity as usize) else {
+            unreachable!()
+        };
+        name
+    }
+
+    pub fn session(&self, n: u32) -> Option<&Session>
+        ensures { option_copied result ≡ session_in (lists_of self.now) n }
     {
         match n {
             0 => None,
-            n => self.sessions.get(n as usize - 1).copied(),
+            n => self.sessions.get(n as usize - 1),
         }
     }
 
@@ -175,31 +188,37 @@ impl Tables {
         }
     }
 
-    /// Adds a session that is requesting.
-    pub fn add_session(&mut self, row: SessionRow) -> Result<Change, NoMemory>
-        ensures ok { OnOk result (lists_of self.new ≡ with_new_session (lists_of self.old) row) }
+    /// Adds a session.
+    pub fn add_session(&mut self, session: Session) -> Result<Change, NoMemory>
+        ensures ok { OnOk result (lists_of self.new ≡ with_new_session (lists_of self.old) session) }
         ensures undone { IfOk result (λ c. undone c (lists_of self.new) ≡ lists_of self.old) }
         ensures err { OnErr result (lists_of self.new ≡ lists_of self.old) }
     {
-        self.sessions.push(row)?;
-        self.accessing += accessing_in(&row);
+        self.sessions.push(session)?;
+        self.accessing += accessing_in(&session);
         Ok(Change::Session)
     }
 
-    /// Writes the row of a session at its place.
-    #[tactic(auto, using(crate::proofs::Lists::written_back))]
-    pub fn set_row(&mut self, place: usize, row: SessionRow) -> Change
+    /// The session at a place goes into a state, with this start.
+    #[tactic(auto, using(crate::proofs::Moves::written_is_moved, crate::proofs::Moves::moved_back))]
+    pub fn move_session(&mut self, place: usize, state: SessionState, start: Int) -> Change
         requires { place < length (lists_of self.old).sessions }
-        ensures tables { lists_of self.new ≡ with_row (lists_of self.old) place row }
+        ensures tables { lists_of self.new ≡ with_moved (lists_of self.old) place state start }
         ensures undone { undone result (lists_of self.new) ≡ lists_of self.old }
     {
-        let before = mem::replace(&mut self.sessions[place], row);
-        self.accessing = self.accessing - accessing_in(&before) + accessing_in(&row);
-        Change::Row(place, before)
+        let before = self.sessions[place];
+        let session = Session {
+            state,
+            start,
+            ..before
+        };
+        self.sessions[place] = session;
+        self.accessing = self.accessing - accessing_in(&before) + accessing_in(&session);
+        Change::Moved(place, before.state, before.start)
     }
 
     /// Undoes a change.
-    #[tactic(auto, using(crate::proofs::Lists::written_past))]
+    #[tactic(auto, using(crate::proofs::Lists::written_past, crate::proofs::Moves::moved_past))]
     pub fn undo(&mut self, change: Change)
         ensures { lists_of self.new ≡ undone change (lists_of self.old) }
     {
@@ -217,9 +236,9 @@ impl Tables {
                 }
             }
             Change::Session => self.remove_session(),
-            Change::Row(place, before) => {
+            Change::Moved(place, state, start) => {
                 if place < self.sessions.len() {
-                    let _ = self.set_row(place, before);
+                    let _ = self.move_session(place, state, start);
                 }
             }
         }
@@ -238,17 +257,17 @@ impl Tables {
     fn remove_session(&mut self)
         ensures { lists_of self.new ≡ undone Change.Session (lists_of self.old) }
     {
-        if let Some(row) = self.sessions.pop() {
-            self.accessing -= accessing_in(&row);
+        if let Some(session) = self.sessions.pop() {
+            self.accessing -= accessing_in(&session);
         }
     }
 }
 
 /// 1 for a session that is accessing.
-fn accessing_in(row: &SessionRow) -> usize
-    ensures { result ≡ accessing_in row.now }
+fn accessing_in(session: &Session) -> usize
+    ensures { result ≡ accessing_in session.now }
 {
-    match row.state {
+    match session.state {
         SessionState::Accessing => 1,
         _ => 0,
     }

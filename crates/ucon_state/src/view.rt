@@ -1,20 +1,32 @@
 //! What a state gives to read.
 
-ghost use Rattle.std.specs.Prelude.{◌≡◌, option_copied};
-ghost use Rattle.ucon_state.specs.Tables.{attribute_in, variable_in, readings_in};
-ghost use Rattle.ucon_state.specs.Shown.{shown};
+ghost use Rattle.std.specs.Prelude.{◌≡◌, ◌<◌, length, option_and_then, option_copied, option_map, slice_get, unwrap_or};
+ghost use Rattle.ucon_model.specs.Checked.{checked_policy};
+ghost use Rattle.ucon_state.specs.Views.{lists_of};
+ghost use Rattle.ucon_state.specs.Tables.{attribute_in, cell_at, readings_in, session_in, variable_in};
+ghost use Rattle.ucon_state.specs.Shown.{right_name, right_names, shown};
+ghost use Rattle.ucon_state.specs.Stored.{NumbersAreBelow, row_of};
 
+use crate::session::Session;
 use crate::state::{State, cell_number};
 use ucon_base::{Int, Name, Side, Value};
-use ucon_model::{Checked, Ref, SessionRow, View};
+use ucon_model::{Checked, Obligation, Ref, Right, SessionRow, SessionState, View};
 
 impl State {
     /// The value of an attribute of an entity. None where one of them isn't there.
     pub fn attribute(&self, side: Side, name: &Name, attr: &Name) -> Option<&Value>
         ensures { option_copied result ≡ attribute_in (shown self.now).policy (shown self.now).tables side name.now attr.now }
     {
-        let entity = self.tables.entity_number(side, name)?;
-        let cell = cell_number(&self.checked, &self.tables, side, entity, attr)?;
+        let entity = self.find(side, name)?;
+        self.attribute_at(side, entity, attr)
+    }
+
+    /// The value of an attribute of the entity with this number. None where the attribute isn't declared for that side.
+    fn attribute_at(&self, side: Side, entity: u32, attr: &Name) -> Option<&Value>
+        ensures { option_copied result ≡ option_and_then (slice_get (lists_of self.now.tables).cells)
+            (cell_at (checked_policy self.now.checked) (lists_of self.now.tables) side entity attr.now) }
+    {
+        let cell = cell_number(&self.checked, &self.tables, side, entity as usize, attr)?;
         self.tables.cells.get(cell)
     }
 
@@ -23,6 +35,38 @@ impl State {
     {
         let place = self.checked.policy().env_position(name)?;
         self.tables.variables.get(place)
+    }
+
+    /// The state of a session. None where there is no such session.
+    pub fn session_state(&self, session: u32) -> Option<SessionState>
+        ensures { result ≡ option_map (λ row. row.state) (session_in (shown self.now).tables session) }
+    {
+        let session = self.tables.session(session)?;
+        Some(session.state)
+    }
+
+    /// The name of the right with this number.
+    fn right_name(&self, right: u32) -> &Name
+        requires { right < length (right_names self.now) }
+        ensures { result.now ≡ right_name self.now right }
+    {
+        &self.rights[right as usize]
+    }
+
+    /// A session with its names.
+    fn row(&self, session: &Session) -> SessionRow
+        requires { NumbersAreBelow (length (right_names self.now)) (length (shown self.now).tables.subjects)
+            (length (shown self.now).tables.objects) session.now }
+        ensures { result ≡ row_of (right_names self.now) (shown self.now).tables.subjects (shown self.now).tables.objects session.now }
+    {
+        SessionRow {
+            caller: session.caller,
+            right: *self.right_name(session.right),
+            subject: *self.tables.name(Side::Subject, session.subject),
+            object: *self.tables.name(Side::Object, session.object),
+            state: session.state,
+            start: session.start,
+        }
     }
 }
 
@@ -36,14 +80,26 @@ impl View for State {
     }
 
     fn session(&self, session: u32) -> Option<SessionRow> {
-        self.tables.session(session)
+        let session = self.tables.session(session)?;
+        Some(self.row(session))
+    }
+
+    fn right(&self, session: u32) -> Option<&Right> {
+        let session = self.tables.session(session)?;
+        let name = self.right_name(session.right);
+        self.checked.policy().right(name)
+    }
+
+    fn start(&self, session: u32) -> Option<Int> {
+        let session = self.tables.session(session)?;
+        Some(session.start)
     }
 
     fn value(&self, session: u32, place: &Ref) -> Option<&Value> {
-        let row = self.tables.session(session)?;
+        let session = self.tables.session(session)?;
         match place {
-            Ref::Subject(attr) => self.attribute(Side::Subject, &row.subject, attr),
-            Ref::Object(attr) => self.attribute(Side::Object, &row.object, attr),
+            Ref::Subject(attr) => self.attribute_at(Side::Subject, session.subject, attr),
+            Ref::Object(attr) => self.attribute_at(Side::Object, session.object, attr),
             Ref::Env(name) => self.variable(name),
         }
     }
@@ -54,5 +110,24 @@ impl View for State {
 
     fn moment(&self, subject: &Name, action: &Name, object: &Name) -> Option<Int> {
         self.tables.moment(subject, action, object)
+    }
+
+    fn done_at(&self, session: u32, duty: &Obligation) -> Option<Int> {
+        let session = self.tables.session(session)?;
+        let own_subject = self.tables.name(Side::Subject, session.subject);
+        let own_object = self.tables.name(Side::Object, session.object);
+        let subject = name_or(&duty.by_subject, own_subject);
+        let object = name_or(&duty.on_object, own_object);
+        self.tables.moment(subject, &duty.action, object)
+    }
+}
+
+/// The name that is given, or else this one.
+fn name_or<'a>(given: &'a Option<Name>, own: &'a Name) -> &'a Name
+    ensures { result.now ≡ unwrap_or given.now own.now }
+{
+    match given {
+        Some(name) => name,
+        None => own,
     }
 }

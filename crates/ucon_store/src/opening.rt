@@ -1,6 +1,6 @@
 //! How a store is opened.
 
-ghost use Rattle.std.specs.Prelude.{◌≡◌, ◌≢◌, ◌+◌, ◌≤◌, ◌∷◌, [], ℕ, List, length, None, IsSome, IfSome, IfOk, IfErr, OnOk, ◌⊎◌};
+ghost use Rattle.std.specs.Prelude.{◌≡◌, ◌≢◌, ◌+◌, ◌≤◌, ◌∷◌, [], ℕ, List, length, None, IsSome, IfSome, IfOk, IfErr, OnOk, is_some, ◌⊎◌};
 ghost use Rattle.ucon_base.specs.Memory.{out_of_memory};
 ghost use Rattle.ucon_disk.specs.Disk.{Only};
 ghost use Rattle.ucon_disk.specs.Run.{LeavesAfter};
@@ -44,6 +44,7 @@ pub(crate) fn load<E: Engine, D: Disk>(
     ensures reason { IfErr result (λ fault. HasReason fault policy.now (D.contents (disk_of journal.old))
         (D.faults (disk_of journal.old)) (D.faults (disk_of journal.new))) }
     ensures images { LeavesAfter D.contents D.images D.moment D.images_since (disk_of journal.old) (disk_of journal.new) (Opens policy.now) }
+    ensures tells { OnOk result (is_some (D.contents (disk_of journal.new)) ≡ is_some (D.contents (disk_of journal.old))) }
     ensures unfailed { OnOk result (D.faults (disk_of journal.new) ≡ D.faults (disk_of journal.old)) }
 {
     match journal.next() {
@@ -72,6 +73,7 @@ fn go_on<E: Engine, D: Disk>(
     ensures reason { IfErr result (λ fault. HasReason fault policy.now (D.contents (disk_of journal.old))
         (D.faults (disk_of journal.old)) (D.faults (disk_of journal.new))) }
     ensures images { LeavesAfter D.contents D.images D.moment D.images_since (disk_of journal.old) (disk_of journal.new) (Opens policy.now) }
+    ensures tells { OnOk result (is_some (D.contents (disk_of journal.new)) ≡ is_some (D.contents (disk_of journal.old))) }
     ensures unfailed { OnOk result (D.faults (disk_of journal.new) ≡ D.faults (disk_of journal.old)) }
 {
     let mut loaded = begin(alloc, journal.payload())?;
@@ -131,6 +133,7 @@ fn make<E: Engine, D: Disk>(
     ensures reason { IfErr result (λ fault. HasReason fault policy.now (D.contents (disk_of journal.old))
         (D.faults (disk_of journal.old)) (D.faults (disk_of journal.new))) }
     ensures images { LeavesAfter D.contents D.images D.moment D.images_since (disk_of journal.old) (disk_of journal.new) (Opens policy.now) }
+    ensures tells { OnOk result (is_some (D.contents (disk_of journal.new)) ≡ is_some (D.contents (disk_of journal.old))) }
     ensures unfailed { OnOk result (D.faults (disk_of journal.new) ≡ D.faults (disk_of journal.old)) }
 {
     let loaded = begin(alloc, policy)?;

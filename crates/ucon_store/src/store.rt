@@ -1,6 +1,6 @@
 //! The store.
 
-ghost use Rattle.std.specs.Prelude.{◌≡◌, ◌↔◌, ◌⊎◌, ◌∷◌, [], ◌++◌, ℕ, List, length, true, false, None, Some, IsSome, IfSome, IfOk, IfErr, OnOk, IsErrOf, ◌≤◌, ◌<◌, ◌+◌, ◌^◌, option_copied};
+ghost use Rattle.std.specs.Prelude.{◌≡◌, ◌↔◌, ◌⊎◌, ◌∷◌, [], ◌++◌, ℕ, List, length, true, false, None, Some, IsSome, IfSome, IfOk, IfErr, OnOk, IsErrOf, ◌≤◌, ◌<◌, ◌+◌, ◌^◌, option_copied, is_some};
 ghost use Rattle.ucon_base.specs.Memory.{out_of_memory};
 ghost use Rattle.ucon_disk.specs.Disk.{Only};
 ghost use Rattle.ucon_disk.specs.Run.{LeavesAfter, LeavesOnly};
@@ -71,6 +71,7 @@ impl<E: Engine, D: Disk> Store<E, D> {
         ensures images { IfOk result (λ s. LeavesAfter D.contents D.images D.moment D.images_since disk s.disk (Opens policy.now)) }
         ensures at_rest { IfOk result (λ s. Only (D.contents s.disk) (D.images s.disk)) }
         ensures holds { IfOk result (λ s. IfSome (D.contents s.disk) (λ file. IsFoundAs policy.now file s.entries)) }
+        ensures tells { IfOk result (λ s. is_some (D.contents s.disk) ≡ is_some (D.contents disk)) }
         ensures unfailed { IfOk result (λ s. D.faults s.disk ≡ D.faults disk) }
         ensures reason { IfErr result (λ e. HasReason e.1 policy.now (D.contents disk) (D.faults disk) (D.faults e.0)) }
         ensures images_err { IfErr result (λ e. LeavesAfter D.contents D.images D.moment D.images_since disk e.0 (Opens policy.now)) }

@@ -6,7 +6,7 @@ use Rattle.ucon_model.specs.declared.command.Entry.{Entry}
 use Rattle.ucon_model.specs.Plain.{PlainPolicy, PlainReply}
 use Rattle.ucon_model.specs.History.{History, said, changes, grown}
 use Rattle.ucon_model.specs.Summary.{LineReply, IsReplyRun, IsReplyNext, history_behind}
-use Rattle.ucon_top.specs.Hearing.{HasHeard, HearsMore, line_of, replied}
+use Rattle.ucon_top.specs.Hearing.{HasHeard, line_of, replied}
 use Rattle.ucon_top.specs.OneAnswer.{Answers, Replies}
 
 -- ---- the lines so far

@@ -1,7 +1,11 @@
 pub mod Along
+pub mod Closing
 pub mod GeneratedPolicy
+pub mod Adding
 pub mod Refusing
 pub mod Replies
 pub mod Summing
 pub mod Tallying
 pub mod Transcribing
+pub mod Stepwise
+pub mod Playing

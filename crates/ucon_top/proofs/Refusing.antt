@@ -1,6 +1,6 @@
 -- An accepted document is never refused.
-use Rattle.std.proofs.Common.{◌≡◌, ℕ, true, false, refl, sym, ap, subst, ◌∙◌}
-use Rattle.std.specs.Prelude.{Option, Some, None, option_map, is_none, Result, Ok, Err, List}
+use Rattle.std.proofs.Common.{◌≡◌, ℕ, true, subst}
+use Rattle.std.specs.Prelude.{Option, Some, None, option_map, is_none, Result, Ok, List}
 use Rattle.ucon_model.specs.Plain.{Bytes, PlainPolicy}
 use Rattle.ucon_model.specs.Document.{ScriptLine, DocumentRefusal, document_read, policy_part}
 use Rattle.ucon_model.specs.Spells.{Spells, TextFault, IsTextFault}
@@ -13,10 +13,10 @@ use Rattle.ucon_check.specs.declared.fault.CheckFault.{CheckFault}
 use Rattle.ucon_check.specs.declared.fault.CheckFault.TheVariants as checks
 use Rattle.ucon_command.specs.declared.line_fault.LineFault.{LineFault}
 use Rattle.ucon_command.specs.declared.line_fault.LineFault.TheVariants as lines
-use Rattle.ucon_script.specs.Document.{IsCause, IsLineCause}
+use Rattle.ucon_script.specs.Document.{IsLineCause}
 use Rattle.ucon_script.specs.declared.doc_fault.DocFault.{DocFault}
 use Rattle.ucon_script.specs.declared.doc_fault.DocFault.TheVariants as faults
-use Rattle.ucon_top.specs.Accepted.{HasPolicy, IsAccepted, HasTypeFault, HasScriptFault, IsPolicyFault, IsScriptFault, IsRefusedBy}
+use Rattle.ucon_top.specs.Accepted.{IsAccepted, HasTypeFault, IsPolicyFault, IsScriptFault, IsRefusedBy}
 use Rattle.ucon_top.specs.declared.outcome.PolicyFault.{PolicyFault}
 use Rattle.ucon_top.specs.declared.outcome.PolicyFault.TheVariants.{Syntax, Typing}
 use Rattle.ucon_top.specs.declared.outcome.Outcome.{Outcome}

@@ -1,14 +1,13 @@
 -- A run by its replies: it is a legal run, and where each line was a step or refused it is the only one.
-use Rattle.std.proofs.Common.{◌≡◌, ℕ, suc, ◌+◌, ◌<◌, ◌≤◌, Bool, true, false, cond, List, [], ◌∷◌, ◌++◌, map, length, refl, sym, ap, subst, ◌∙◌, arith}
-use Rattle.std.specs.Prelude.{Option, Some, None, IsSome}
+use Rattle.std.proofs.Common.{◌≡◌, ℕ, suc, ◌+◌, ◌≤◌, Bool, false, cond, List, [], ◌∷◌, ◌++◌, map, length, refl, sym, ap, ◌∙◌, arith}
+use Rattle.std.specs.Prelude.{Option, Some, None}
 use Rattle.ucon_model.specs.declared.command.Entry.{Entry}
 use Rattle.ucon_model.specs.declared.reply.Head.TheVariants as heads
-use Rattle.ucon_model.specs.Plain.{Bytes, PlainPolicy, PlainReply, refused, made, value_is, status}
+use Rattle.ucon_model.specs.Plain.{PlainPolicy, PlainReply, refused, made, value_is, status}
 use Rattle.ucon_model.specs.Spelling.{reply_spelling}
-use Rattle.ucon_model.specs.History.{History, said, changes, grown}
-use Rattle.ucon_base.specs.Elements.{Each}
-use Rattle.ucon_model.specs.LegalRun.{Answered, placed, no_memory, tells_change, history_after, IsNext, IsSerialRun, is_disk_fault, is_stopped}
-use Rattle.ucon_model.specs.Summary.{LineReply, answer_of, answered, history_behind, IsReplyNext, IsReplyRun, whole_run, Counts, with_line, with_reply, counted_from, counts}
+use Rattle.ucon_model.specs.History.{History, said, grown}
+use Rattle.ucon_model.specs.LegalRun.{tells_change, history_after, IsNext, IsSerialRun, is_disk_fault, is_stopped}
+use Rattle.ucon_model.specs.Summary.{LineReply, answer_of, answered, history_behind, IsReplyNext, IsReplyRun, whole_run, Counts, with_line, counted_from}
 use Rattle.ucon_model.proofs.TellsChange.{tells_change-reply_spelling}
 use Rattle.ucon_top.specs.Hearing.{line_of}
 use Rattle.ucon_top.specs.Printed.{IsUnfaulted}

@@ -1,9 +1,9 @@
 -- The summary of a run.
-use Rattle.std.proofs.Common.{◌≡◌, ◌<◌, ◌^◌, List, [], map, length, refl, sym, ap, ◌∙◌, arith}
+use Rattle.std.proofs.Common.{◌≡◌, ◌<◌, ◌^◌, List, [], map, length, sym, ap, ◌∙◌, arith}
 use Rattle.std.proofs.lemmas.List.{length-map}
 use Rattle.ucon_model.specs.declared.command.Entry.{Entry}
 use Rattle.ucon_model.specs.Plain.{Bytes, PlainPolicy}
-use Rattle.ucon_model.specs.Summary.{LineReply, answered, counts, no_lines, summary, whole_run}
+use Rattle.ucon_model.specs.Summary.{answered, no_lines, summary, whole_run}
 use Rattle.ucon_model.proofs.SerialRuns.{serial-legal}
 use Rattle.ucon_top.specs.declared.summary.Tally.{Tally}
 use Rattle.ucon_top.specs.Hearing.{HasHeard, line_of}

@@ -1,9 +1,9 @@
 -- Answers, counted.
-use Rattle.std.proofs.Common.{◌≡◌, ℕ, ◌+◌, ◌-◌, ◌*◌, ◌^◌, ◌<◌, ◌≤◌, min, List, [], ◌∷◌, ◌++◌, length, refl, sym, ap, ◌∙◌, arith, length-append}
-use Rattle.std.specs.Prelude.{Option, Some, None}
+use Rattle.std.proofs.Common.{◌≡◌, ℕ, ◌+◌, ◌-◌, ◌^◌, ◌<◌, ◌≤◌, List, [], ◌∷◌, ◌++◌, length, refl, sym, ap, ◌∙◌, arith, length-append}
+use Rattle.std.specs.Prelude.{Some, None}
 use Rattle.ucon_model.specs.declared.reply.Head.TheVariants as heads
 use Rattle.ucon_model.specs.Plain.{PlainReply, refused, made, value_is, status}
-use Rattle.ucon_model.specs.Summary.{LineReply, Counts, with_reply, with_line, counted_from, counts}
+use Rattle.ucon_model.specs.Summary.{LineReply, Counts, with_reply, with_line, counted_from}
 use Rattle.ucon_top.specs.declared.summary.Tally.{Tally}
 use Rattle.ucon_top.specs.Tallies.{counts_of, more, after_line, after_reply, revocations, total, IsTally}
 

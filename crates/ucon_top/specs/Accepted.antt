@@ -23,6 +23,11 @@ pub record HasPolicy (bytes : Bytes) (P : PlainPolicy) : Type 0 where
   pub spelled : Spells (policy_part bytes) P
   pub typed : IsTyped P
 
+-- it spells some well typed policy
+pub record HasSomePolicy (bytes : Bytes) : Type 0 where
+  pub policy : PlainPolicy
+  pub has_policy : HasPolicy bytes policy
+
 -- a document has a policy, and its script says these lines
 pub record IsAccepted (bytes : Bytes) : Type 0 where
   pub short : length bytes ≤ 4194304

@@ -10,6 +10,8 @@ use Rattle.ucon_check.specs.declared.fault.CheckFault.{CheckFault}
 use Rattle.ucon_check.specs.declared.fault.CheckFault.TheVariants as checks
 use Rattle.ucon_script.specs.declared.doc_fault.DocFault.{DocFault}
 use Rattle.ucon_script.specs.declared.doc_fault.DocFault.TheVariants as scripts
+use Rattle.ucon_store.specs.declared.fault.StoreFault.{StoreFault}
+use Rattle.ucon_store.specs.declared.fault.StoreFault.TheVariants as stores
 use Rattle.ucon_top.specs.declared.outcome.PolicyFault.TheVariants.{Syntax, Typing}
 use Rattle.ucon_top.specs.declared.outcome.Refused.{Refused}
 use Rattle.ucon_top.specs.declared.outcome.Refused.TheVariants as refusals
@@ -54,12 +56,55 @@ by_reading reads.SourceFault = SourceFault
 by_reading reads.TooLong = TooLong
 by_reading (reads.NoMemory e) = NoMemory e
 
+-- how a run ends whose journal could not be opened
+abbrev pub by_opening : StoreFault → Outcome
+by_opening stores.NotJournal = NotJournal
+by_opening (stores.Damaged number place) = Damaged number place
+by_opening (stores.OtherPolicy place) = OtherPolicy place
+by_opening stores.DiskFault = DiskFault
+by_opening (stores.NoMemory e) = NoMemory e
+
+-- how a run ends that had its document
+abbrev pub IsOfDocument : Outcome → Type 0
+IsOfDocument Usage = ⊥
+IsOfDocument SourceFault = ⊥
+IsOfDocument TooLong = ⊥
+IsOfDocument outcome = Unit {0}
+
+-- how a run without a journal ends that had its document
+abbrev pub IsOfPrinting : Outcome → Type 0
+IsOfPrinting Done = Unit {0}
+IsOfPrinting (Policy f) = Unit {0}
+IsOfPrinting (Script f) = Unit {0}
+IsOfPrinting SinkFault = Unit {0}
+IsOfPrinting (NoMemory e) = Unit {0}
+IsOfPrinting outcome = ⊥
+
+-- how a run ends whose document was accepted
+abbrev pub IsOfAccepted : Outcome → Type 0
+IsOfAccepted Done = Unit {0}
+IsOfAccepted SinkFault = Unit {0}
+IsOfAccepted DiskFault = Unit {0}
+IsOfAccepted (Damaged number place) = Unit {0}
+IsOfAccepted NotJournal = Unit {0}
+IsOfAccepted (OtherPolicy place) = Unit {0}
+IsOfAccepted outcome = ⊥
+
 -- how a run ends that wrote nothing
 abbrev pub IsUnwritten : Outcome → Type 0
 IsUnwritten Done = ⊥
 IsUnwritten SinkFault = ⊥
 IsUnwritten DiskFault = ⊥
 IsUnwritten outcome = Unit {0}
+
+-- how a run ends that made no call of the disk: its words or its document were refused, or the document wasn't read
+abbrev pub IsUntouched : Outcome → Type 0
+IsUntouched Usage = Unit {0}
+IsUntouched (Policy f) = Unit {0}
+IsUntouched (Script f) = Unit {0}
+IsUntouched SourceFault = Unit {0}
+IsUntouched TooLong = Unit {0}
+IsUntouched outcome = ⊥
 
 -- how a run ends whose document was not refused
 abbrev pub IsUnrefused : Outcome → Type 0

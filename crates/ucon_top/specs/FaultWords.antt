@@ -1,5 +1,5 @@
 -- The line that is printed of an outcome.
-use Rattle.std.specs.Prelude.{ℕ, List, [], ◌∷◌, ◌++◌, codes}
+use Rattle.std.specs.Prelude.{ℕ, [], ◌∷◌, ◌++◌, codes}
 use Rattle.std.specs.Fmt.{decimal}
 use Rattle.ucon_model.specs.Plain.{Bytes}
 use Rattle.ucon_syntax.specs.declared.read.SyntaxFault.{SyntaxFault}

@@ -4,7 +4,7 @@ use Rattle.std.specs.Str.{bytes_eq}
 use Rattle.ucon_model.specs.Document.{number_spelled}
 use Rattle.ucon_model.specs.Plain.{Bytes}
 use Rattle.ucon_top.specs.declared.form.Form.{Form}
-use Rattle.ucon_top.specs.declared.form.Form.TheVariants.{Trial, Check, Gen}
+use Rattle.ucon_top.specs.declared.form.Form.TheVariants.{Trial, Check, Gen, Play}
 
 -- the form that is one word
 abbrev pub word_form : Bytes → Option Form
@@ -22,9 +22,15 @@ size_of n = if nat_le 1 n && nat_le n 100000 then Some n else None
 abbrev pub gen_form : Bytes → Bytes → Option Form
 gen_form seed size = option_and_then (λ s. option_and_then (λ n. Some (Gen s n)) (option_and_then size_of (number_spelled size))) (option_and_then seed_of (number_spelled seed))
 
+-- `play` with the journal's path
+abbrev pub play_form : Bytes → Option Form
+play_form [] = None
+play_form (b ∷ path) = Some Play
+
 -- the form that these words are
 abbrev pub form_of : List Bytes → Option Form
 form_of (word ∷ []) = word_form word
+form_of (word ∷ path ∷ []) = if bytes_eq word (codes "play") then play_form path else None
 form_of (word ∷ seed ∷ size ∷ []) = if bytes_eq word (codes "gen") then gen_form seed size else None
 form_of words = None
 
@@ -33,3 +39,14 @@ abbrev pub HasSize : Form → Type 0
 HasSize Trial = Unit {0}
 HasSize Check = Unit {0}
 HasSize (Gen seed size) = size ≤ 100000
+HasSize Play = Unit {0}
+
+-- the form runs its document over a journal
+abbrev pub IsPlay : Form → Type 0
+IsPlay Play = Unit {0}
+IsPlay form = ⊥
+
+-- the form makes no call of the disk
+abbrev pub IsAlone : Form → Type 0
+IsAlone Play = ⊥
+IsAlone form = Unit {0}

@@ -1,7 +1,7 @@
 -- What `check` prints.
 use Rattle.std.specs.Prelude.{List, [], ◌∷◌, ◌++◌, codes}
 use Rattle.ucon_model.specs.declared.core_model.Core.{Core}
-use Rattle.ucon_model.specs.Plain.{Bytes, PlainRight, PlainPolicy}
+use Rattle.ucon_model.specs.Plain.{Bytes, PlainRight}
 use Rattle.ucon_model.specs.Cores.{core_models_of, core_name}
 
 -- core models, each behind a space

@@ -12,7 +12,7 @@ ghost use Rattle.ucon_top.specs.OneAnswer.{Answers, entry_of};
 use crate::hearer::Hearer;
 use std::alloc::Global;
 use ucon_base::{NoMemory, Steps};
-use ucon_model::grown_histories_go_on;
+use ucon_model::{Caller, Command, grown_histories_go_on};
 use ucon_script::LineText;
 use ucon_state::{Drafted, Engine};
 
@@ -78,9 +78,27 @@ fn step<E: Engine>(
     ensures stands { OnOk result ((P : PlainPolicy) (H : History) → StandsFor E.follows engine.old P H → StandsFor E.follows engine.new P (grown P H (entry_of line.now))) }
     ensures err { OnErr result (FollowsLike E.follows engine.old engine.new) }
 {
-    grown_histories_go_on();
     let line = line.line(alloc)?;
-    let drafted = engine.draft(line.caller, &line.command, steps)?;
+    step_by(engine, steps, line.caller, &line.command)
+}
+
+/// The same of a caller's command.
+fn step_by<E: Engine>(
+    engine: &mut E,
+    steps: &mut Steps,
+    caller: Caller,
+    command: &Command,
+) -> Result<Drafted, NoMemory>
+    requires { IsIdle E.follows engine.old }
+    ensures idle { IsIdle E.follows engine.new }
+    ensures reply { IfOk result (λ d. (P : PlainPolicy) (H : History) → StandsFor E.follows engine.old P H → reply_of d.reply ≡ said P H caller command.now) }
+    ensures changes { IfOk result (λ d. d.changes ≡ changes (reply_of d.reply)) }
+    ensures stands { OnOk result ((P : PlainPolicy) (H : History) → StandsFor E.follows engine.old P H
+        → StandsFor E.follows engine.new P (grown P H (record { caller = caller; command = command.now }))) }
+    ensures err { OnErr result (FollowsLike E.follows engine.old engine.new) }
+{
+    grown_histories_go_on();
+    let drafted = engine.draft(caller, command, steps)?;
     if drafted.changes {
         engine.keep();
     }

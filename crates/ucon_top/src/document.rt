@@ -1,10 +1,11 @@
 //! What a form prints of a document.
 
-ghost use Rattle.std.specs.Prelude.{◌≡◌, ◌≤◌, length, Ok, IfOk, IfErr};
+ghost use Rattle.std.specs.Prelude.{◌≡◌, ◌≤◌, length, Ok, IfOk, IfErr, OnOk};
 ghost use Rattle.ucon_model.specs.Checked.{checked_policy};
 ghost use Rattle.ucon_model.specs.Document.{document_read, entries_of};
 ghost use Rattle.ucon_script.specs.Document.{lines_spelled};
-ghost use Rattle.ucon_top.specs.Accepted.{HasPolicy, IsRefused};
+ghost use Rattle.ucon_top.specs.Accepted.{HasPolicy, HasSomePolicy, IsRefused};
+ghost use Rattle.ucon_top.specs.Form.{IsAlone};
 ghost use Rattle.ucon_top.specs.Printed.{IsFormOutput, IsOutputOf};
 
 use crate::check::models_text;
@@ -19,9 +20,10 @@ use ucon_script::{Script, policy_part, read_script};
 use ucon_state::Engine;
 use ucon_syntax::read_policy;
 
-/// What a form prints of the document that the bytes are, or why the document is refused.
+/// What a form without a journal prints of the document that the bytes are, or why the document is refused.
 pub fn output_of<E: Engine>(alloc: Global, form: Form, bytes: &[u8]) -> Result<Vec<u8>, Refused>
-    requires { length bytes.now ≤ 4194304 }
+    requires short { length bytes.now ≤ 4194304 }
+    requires alone { IsAlone form }
     ensures ok { IfOk result (λ text. IsOutputOf form bytes.now text.items) }
     ensures err { IfErr result (λ r. IsRefused r bytes.now) }
 {
@@ -29,6 +31,17 @@ pub fn output_of<E: Engine>(alloc: Global, form: Form, bytes: &[u8]) -> Result<V
     let script = read_lines(alloc, &checked, bytes)?;
     let text = form_output::<E>(alloc, form, checked, &script)?;
     Ok(text)
+}
+
+/// The command lines of a document whose policy is accepted, where they stand.
+pub fn read_accepted<'a>(alloc: Global, bytes: &'a [u8]) -> Result<Script<'a>, Refused>
+    requires { length bytes.now ≤ 4194304 }
+    ensures policy { OnOk result (HasSomePolicy bytes.now) }
+    ensures says { IfOk result (λ d. document_read bytes.now ≡ Ok (lines_spelled d)) }
+    ensures err { IfErr result (λ r. IsRefused r bytes.now) }
+{
+    let checked = read_checked(alloc, bytes)?;
+    read_lines(alloc, &checked, bytes)
 }
 
 /// The policy of a document, checked.
@@ -53,18 +66,20 @@ fn read_lines<'a>(alloc: Global, checked: &Checked, bytes: &'a [u8]) -> Result<S
     Ok(script)
 }
 
-/// What a form prints of a policy and lines.
+/// What a form without a journal prints of a policy and lines.
 fn form_output<E: Engine>(
     alloc: Global,
     form: Form,
     checked: Checked,
     script: &Script<'_>,
 ) -> Result<Vec<u8>, NoMemory>
+    requires { IsAlone form }
     ensures { IfOk result (λ text. IsFormOutput form (checked_policy checked) (entries_of (lines_spelled script.now)) text.items) }
 {
     match form {
         Form::Trial => trial_output::<E>(alloc, checked, script),
         Form::Check => models_text(alloc, &checked),
         Form::Gen { seed: _, size: _ } => trial_summary::<E>(alloc, checked, script),
+        Form::Play => unreachable!(),
     }
 }

@@ -2,7 +2,7 @@
 
 ghost use Rattle.std.specs.Prelude.{◌≡◌, ◌≤◌, map, option_and_then, string_bytes, IfSome};
 ghost use Rattle.ucon_model.specs.Document.{number_spelled};
-ghost use Rattle.ucon_top.specs.Form.{HasSize, form_of, gen_form, seed_of, size_of, word_form};
+ghost use Rattle.ucon_top.specs.Form.{HasSize, form_of, gen_form, play_form, seed_of, size_of, word_form};
 
 use ucon_script::number_spelled;
 
@@ -15,6 +15,8 @@ pub enum Form {
     Check,
     /// `gen SEED SIZE`: makes a document from a seed and a number of lines, runs it as `trial` does, and tells the summary.
     Gen { seed: u64, size: u32 },
+    /// `play JOURNAL`: runs the document over a journal, in the order of its lines.
+    Play,
 }
 
 /// The most lines of a generated document, behind its opening ones.
@@ -27,6 +29,7 @@ pub fn read_form(words: &[String]) -> Option<Form>
 {
     match words {
         [word] => word_form(word.as_bytes()),
+        [word, path] if word.as_bytes() == b"play".as_slice() => play_form(path.as_bytes()),
         [word, seed, size] if word.as_bytes() == b"gen".as_slice() => {
             gen_form(seed.as_bytes(), size.as_bytes())
         }
@@ -54,6 +57,17 @@ fn gen_form(seed: &[u8], size: &[u8]) -> Option<Form>
     let seed = read_seed(seed)?;
     let size = read_size(size)?;
     Some(Form::Gen { seed, size })
+}
+
+/// A path is any word but the empty one.
+fn play_form(path: &[u8]) -> Option<Form>
+    ensures form { result ≡ play_form path.now }
+    ensures size { IfSome result HasSize }
+{
+    match path {
+        [] => None,
+        _ => Some(Form::Play),
+    }
 }
 
 /// A number of 64 bits.

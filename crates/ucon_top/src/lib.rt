@@ -7,10 +7,13 @@ mod document;
 mod form;
 mod hearer;
 mod laws;
+mod line_answer;
 mod number;
 mod outcome;
+mod play;
 mod printing;
 mod reporting;
+mod stepping;
 mod summary;
 #[cfg(test)]
 mod tests;

@@ -5,8 +5,9 @@ use ucon_disk::MemDisk;
 use ucon_flow::{MemSink, MemSource};
 use ucon_script::{generate, read_script};
 use ucon_vectors::{
-    CAPPED, Example, Row, Words, generated_rows, guide_examples, language_examples, typing_faults,
-    well_typed_policies, worked_rows,
+    CAPPED, Example, LOOKING, Played, Row, SUBJECTS_B_AND_C, WITH_A, Words, generated_rows,
+    guide_examples, language_examples, played_rows, typing_faults, well_typed_policies,
+    worked_rows,
 };
 
 fn words(alloc: Global, all: &[&str]) -> Result<Vec<String>, Fail> {
@@ -268,6 +269,116 @@ fn a_generated_document(rt: HostRuntime) -> Result<(), Fail> {
     match read_script(rt.alloc(), &text) {
         Ok(script) => assert_eq!(rt; script.lines.len(), 26),
         Err(fault) => assert!(rt; false, "{fault:?}"),
+    }
+    Ok(())
+}
+
+/// How `play` ends over a document, a disk and a sink, and what it writes.
+fn played(
+    alloc: Global,
+    document: &[u8],
+    disk: MemDisk,
+    mut sink: MemSink,
+) -> Result<(Ended<MemDisk>, Vec<u8>), Fail> {
+    let mut source = MemSource::new(Vec::from_slice(alloc, document)?, 7, Vec::new(alloc));
+    let all = words(alloc, &["play", "j"])?;
+    let ended = run(alloc, &all, &mut source, &mut sink, disk);
+    Ok((ended, Vec::from_slice(alloc, sink.bytes())?))
+}
+
+/// A disk that stops after this many calls.
+fn stopping(alloc: Global, file: &[u8], calls: u64) -> Result<MemDisk, Fail> {
+    Ok(MemDisk::new(
+        alloc,
+        Vec::from_slice(alloc, file)?,
+        Vec::new(alloc),
+        Some(calls),
+    ))
+}
+
+/// Documents over a journal, and what its file holds behind them.
+#[test]
+fn journals_hold_what_was_acknowledged(rt: HostRuntime) -> Result<(), Fail> {
+    for row in played_rows() {
+        let agrees = play_row(rt.alloc(), &row)?;
+        assert!(rt; agrees.status, "the status of {}", row.name);
+        assert!(rt; agrees.output, "what {} writes", row.name);
+        assert!(rt; agrees.told, "what {} tells", row.name);
+        assert!(rt; agrees.left, "what {} leaves", row.name);
+    }
+    Ok(())
+}
+
+/// What comes out as a row says.
+#[derive(Drop)]
+struct Agrees {
+    status: bool,
+    output: bool,
+    told: bool,
+    left: bool,
+}
+
+fn play_row(alloc: Global, row: &Played) -> Result<Agrees, Fail> {
+    let file = Vec::from_slice(alloc, row.file)?;
+    let disk = MemDisk::new(alloc, file, numbers(alloc, row.disk_faults)?, None);
+    let sink = MemSink::new(alloc, 1, numbers(alloc, row.sink_faults)?);
+    let (ended, output) = played(alloc, row.document, disk, sink)?;
+    let told = fault_text(alloc, &ended.outcome)?;
+    Ok(Agrees {
+        status: ended.status == row.status,
+        output: same(&output, row.output),
+        told: same(&told, row.told),
+        left: same(ended.disk.contents(), row.left),
+    })
+}
+
+fn same(one: &[u8], other: &[u8]) -> bool {
+    one == other
+}
+
+/// The number of entries that are found in a file: the place of a reply that changes nothing.
+fn entries_found(alloc: Global, file: Vec<u8>) -> Result<(u8, Vec<u8>), Fail> {
+    let disk = MemDisk::new(alloc, file, Vec::new(alloc), None);
+    let sink = MemSink::new(alloc, 3, Vec::new(alloc));
+    let (ended, output) = played(alloc, LOOKING, disk, sink)?;
+    Ok((ended.status, output))
+}
+
+/// What is told of a file in which every step of this output is found, behind one step before it, and at most one more.
+fn found_behind(output: &[u8]) -> (&'static [u8], &'static [u8]) {
+    if output == b"0 2 ok\n0 3 ok\n".as_slice() {
+        (b"0 3 no session\n", b"0 3 no session\n")
+    } else if output == b"0 2 ok\n0 - disk fault\n".as_slice() {
+        (b"0 2 no session\n", b"0 3 no session\n")
+    } else if output == b"0 - disk fault\n0 - stopped\n".as_slice() {
+        (b"0 1 no session\n", b"0 2 no session\n")
+    } else {
+        (b"0 1 no session\n", b"0 1 no session\n")
+    }
+}
+
+/// A disk that stops after each number of calls of a run of two steps, and files that a crash may leave then: what is found there has every
+/// step that was answered, and at most one more.
+#[test]
+fn crashes_leave_what_was_answered(rt: HostRuntime) -> Result<(), Fail> {
+    let alloc = rt.alloc();
+    for calls in 0..24u64 {
+        let disk = stopping(alloc, WITH_A, calls)?;
+        let sink = MemSink::new(alloc, 3, Vec::new(alloc));
+        let (ended, output) = played(alloc, SUBJECTS_B_AND_C, disk, sink)?;
+        let (least, most) = found_behind(&output);
+        for fill in [0u8, 1, 255] {
+            let mut fills = Vec::new(alloc);
+            fills.resize(40, fill)?;
+            for len in 44..84u64 {
+                if let Some(file) = ended.disk.image(len, &fills)? {
+                    let (status, text) = entries_found(alloc, file)?;
+                    assert_eq!(rt; status, 0);
+                    let text = text.as_slice();
+                    assert!(rt; text == least || text == most, "{calls} {len} {fill}");
+                }
+            }
+        }
     }
     Ok(())
 }

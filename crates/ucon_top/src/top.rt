@@ -1,17 +1,20 @@
 //! The top call.
 
-ghost use Rattle.std.specs.Prelude.{◌≡◌, ◌↔◌, ◌⊎◌, ◌<◌, ◌≤◌, ◌+◌, None, length, map, string_bytes, IfSome, IfOk, IfErr, OnOk};
+ghost use Rattle.std.specs.Prelude.{◌≡◌, ◌↔◌, ◌<◌, ◌≤◌, ◌+◌, None, Some, length, map, string_bytes, IfSome, IfOk, IfErr, OnOk};
 ghost use Rattle.std.specs.Io.KnownBytes.{IsAtEnd};
+ghost use Rattle.ucon_disk.specs.Causes.{raised};
 ghost use Rattle.ucon_flow.specs.Causes.{Rose};
 ghost use Rattle.ucon_top.specs.Accepted.{IsRefusedBy, IsAccepted};
-ghost use Rattle.ucon_top.specs.Ending.{status_of, IsUnwritten};
-ghost use Rattle.ucon_top.specs.Form.{form_of, HasSize};
+ghost use Rattle.ucon_top.specs.Ending.{status_of, IsOfAccepted, IsOfPrinting, IsUntouched, IsUnwritten};
+ghost use Rattle.ucon_top.specs.Form.{form_of, HasSize, IsAlone, IsPlay};
 ghost use Rattle.ucon_top.specs.Unread.{IsUnread};
+ghost use Rattle.ucon_top.specs.Played.{HasPlayedInput};
 ghost use Rattle.ucon_top.specs.Printed.{Adds, IsOutputOf, IsCutOutputOf, ReadsInput, document_of};
 
 use crate::document::output_of;
 use crate::form::{Form, read_form};
 use crate::outcome::{Ended, Outcome};
+use crate::play::play;
 use std::alloc::Global;
 use ucon_disk::Disk;
 use ucon_flow::{Sink, Source, read_all, write_all};
@@ -25,7 +28,8 @@ const LIMIT: usize = 4_194_304;
 ///
 /// `trial` runs the document that the input is, from the empty history, in the order of its lines, and writes one answer a line.
 /// `check` writes the core models of each right of the document's policy. `gen` makes a document, runs it as `trial` does and writes the
-/// summary; it reads nothing.
+/// summary; it reads nothing. `play` runs the document over the journal on the disk, and writes one answer a line when all are answered.
+#[tactic(auto, using(crate::proofs::Adding::adds_document))]
 pub fn run<S: Source, K: Sink, D: Disk>(
     alloc: Global,
     words: &[String],
@@ -40,11 +44,13 @@ pub fn run<S: Source, K: Sink, D: Disk>(
     ensures usage { (result.outcome ≡ Outcome.Usage) ↔ (form_of (map (λ w. string_bytes w) words.now) ≡ None) }
     ensures source { result.outcome ≡ Outcome.SourceFault → Rose (S.faults input.old) (S.faults input.new) }
     ensures too_long { result.outcome ≡ Outcome.TooLong → IfSome (S.left input.old) (λ bytes. 4194304 < length bytes) }
-    ensures refused { IfSome (form_of (map (λ w. string_bytes w) words.now)) (λ form. IfSome (document_of form (S.left input.old)) (IsRefusedBy result.outcome)) }
-    ensures accepted { (result.outcome ≡ Outcome.Done) ⊎ (result.outcome ≡ Outcome.SinkFault)
+    ensures refused { IfSome (form_of (map (λ w. string_bytes w) words.now)) (λ form.
+        IfSome (document_of form (S.left input.old)) (IsRefusedBy result.outcome)) }
+    ensures accepted { IsOfAccepted result.outcome
         → IfSome (form_of (map (λ w. string_bytes w) words.now)) (λ form. IfSome (document_of form (S.left input.old)) IsAccepted) }
     ensures sink { result.outcome ≡ Outcome.SinkFault → Rose (K.faults out.old) (K.faults out.new) }
-    ensures read { result.outcome ≡ Outcome.Done → IfSome (form_of (map (λ w. string_bytes w) words.now)) (λ form. ReadsInput form → IsAtEnd (S.left input.new)) }
+    ensures read { IsOfAccepted result.outcome
+        → IfSome (form_of (map (λ w. string_bytes w) words.now)) (λ form. ReadsInput form → IsAtEnd (S.left input.new)) }
 
     // At most one read for each byte within the limit, and one more, whatever the outcome.
     ensures reads { S.reads input.new ≤ S.reads input.old + 4194305 }
@@ -53,17 +59,27 @@ pub fn run<S: Source, K: Sink, D: Disk>(
     // answers are read from these bytes; for `check` the core models; for `gen` the summary of a legal run. Where the sink failed they are
     // the front of such an output.
     ensures done { result.outcome ≡ Outcome.Done
-        → IfSome (form_of (map (λ w. string_bytes w) words.now)) (λ form. Adds (IsOutputOf form) (document_of form (S.left input.old)) (K.contents out.old) (K.contents out.new)) }
+        → IfSome (form_of (map (λ w. string_bytes w) words.now)) (λ form. IsAlone form
+        → Adds (IsOutputOf form) (document_of form (S.left input.old)) (K.contents out.old) (K.contents out.new)) }
     ensures cut_short { result.outcome ≡ Outcome.SinkFault
-        → IfSome (form_of (map (λ w. string_bytes w) words.now)) (λ form. Adds (IsCutOutputOf form) (document_of form (S.left input.old)) (K.contents out.old) (K.contents out.new)) }
+        → IfSome (form_of (map (λ w. string_bytes w) words.now)) (λ form. IsAlone form
+        → Adds (IsCutOutputOf form) (document_of form (S.left input.old)) (K.contents out.old) (K.contents out.new)) }
 
     // Otherwise nothing is written; and for wrong words, and for `gen`, nothing is read.
     ensures unused { result.outcome ≡ Outcome.Usage → input.new ≡ input.old }
     ensures unread { IfSome (form_of (map (λ w. string_bytes w) words.now)) (λ form. (ReadsInput form → ⊥) → input.new ≡ input.old) }
     ensures unwritten { IsUnwritten result.outcome → out.new ≡ out.old }
 
-    // The disk is the journal's alone, which no form opens yet.
-    ensures untouched { result.disk ≡ disk }
+    // Of `play`, by how it ended: the bytes written are the output of a legal run behind the history as which the journal was found, and the
+    // history that is made is journalled; or the journal wasn't opened, for this reason, and what was found in its file is still found.
+    ensures played { IfSome (form_of (map (λ w. string_bytes w) words.now)) (λ form. IsPlay form
+        → HasPlayedInput D.contents D.images D.moment D.images_since D.faults result.outcome (S.left input.old) disk result.disk
+        (K.contents out.old) (K.contents out.new)) }
+    ensures fault { result.outcome ≡ Outcome.DiskFault → D.faults result.disk ≡ raised (D.faults disk) }
+
+    // No other form makes a call of the disk, nor does `play` before its document is accepted.
+    ensures untouched { IsUntouched result.outcome → result.disk ≡ disk }
+    ensures alone { IfSome (form_of (map (λ w. string_bytes w) words.now)) (λ form. IsAlone form → result.disk ≡ disk) }
 {
     let Some(form) = read_form(words) else {
         return Ended::by(Outcome::Usage, disk);
@@ -72,11 +88,31 @@ pub fn run<S: Source, K: Sink, D: Disk>(
         Ok(bytes) => bytes,
         Err(outcome) => return Ended::by(outcome, disk),
     };
-    match output_of::<PlainMonitor>(alloc, form, &bytes) {
-        Err(refused) => Ended::by(Outcome::from(refused), disk),
+    match form {
+        Form::Play => play::<PlainMonitor, K, D>(alloc, &bytes, out, disk),
+        Form::Trial | Form::Check | Form::Gen { seed: _, size: _ } => {
+            Ended::by(print_output(alloc, form, &bytes, out), disk)
+        }
+    }
+}
+
+/// Writes what a form without a journal prints of the document that the bytes are, or the front of it where the sink fails.
+fn print_output<K: Sink>(alloc: Global, form: Form, bytes: &[u8], out: &mut K) -> Outcome
+    requires short { length bytes.now ≤ 4194304 }
+    requires alone { IsAlone form }
+    ensures ends { IsOfPrinting result }
+    ensures refused { IsRefusedBy result bytes.now }
+    ensures accepted { IsOfAccepted result → IsAccepted bytes.now }
+    ensures sink { result ≡ Outcome.SinkFault → Rose (K.faults out.old) (K.faults out.new) }
+    ensures done { result ≡ Outcome.Done → Adds (IsOutputOf form) (Some bytes.now) (K.contents out.old) (K.contents out.new) }
+    ensures cut_short { result ≡ Outcome.SinkFault → Adds (IsCutOutputOf form) (Some bytes.now) (K.contents out.old) (K.contents out.new) }
+    ensures unwritten { IsUnwritten result → out.new ≡ out.old }
+{
+    match output_of::<PlainMonitor>(alloc, form, bytes) {
+        Err(refused) => Outcome::from(refused),
         Ok(text) => match write_all(out, &text) {
-            Ok(()) => Ended::by(Outcome::Done, disk),
-            Err(_) => Ended::by(Outcome::SinkFault, disk),
+            Ok(()) => Outcome::Done,
+            Err(_) => Outcome::SinkFault,
         },
     }
 }
@@ -92,7 +128,7 @@ fn document_bytes<S: Source>(alloc: Global, form: Form, input: &mut S) -> Result
     ensures unread { (ReadsInput form → ⊥) → input.new ≡ input.old }
 {
     match form {
-        Form::Trial | Form::Check => Ok(read_all(alloc, input, LIMIT)?),
+        Form::Trial | Form::Check | Form::Play => Ok(read_all(alloc, input, LIMIT)?),
         Form::Gen { seed, size } => Ok(generate(alloc, seed, size)?),
     }
 }

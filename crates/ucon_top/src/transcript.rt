@@ -14,7 +14,7 @@ use crate::hearer::Hearer;
 use crate::number::put_number;
 use std::alloc::Global;
 use ucon_base::NoMemory;
-use ucon_command::reply_text;
+use ucon_command::put_reply as put_reply_text;
 use ucon_model::Reply;
 use ucon_script::LineText;
 
@@ -49,13 +49,13 @@ impl Hearer for Transcript {
     }
 
     fn no_memory(&mut self, line: &LineText<'_>) -> Result<(), NoMemory> {
-        put_no_memory(&mut self.text, line)?;
+        put_unplaced(&mut self.text, line, b"- no memory")?;
         Ok(())
     }
 }
 
 /// Adds the line of a reply with its place.
-fn put_reply(
+pub fn put_reply(
     alloc: Global,
     out: &mut Vec<u8>,
     line: &LineText<'_>,
@@ -69,19 +69,18 @@ fn put_reply(
     put_client(out, line)?;
     put_number(out, place)?;
     out.push(b' ')?;
-    let reply = reply_text(alloc, reply)?;
-    out.extend_from_slice(&reply)?;
+    put_reply_text(alloc, out, reply)?;
     out.push(b'\n')?;
     Ok(())
 }
 
-/// Adds the line that says that there was no memory.
-fn put_no_memory(out: &mut Vec<u8>, line: &LineText<'_>) -> Result<(), NoMemory>
-    ensures text { OnOk result (out.new.items ≡ out.old.items ++ answer_line (answered (replied (entry_of line.now) None))) }
+/// Adds the line of an answer without a place.
+pub fn put_unplaced(out: &mut Vec<u8>, line: &LineText<'_>, answer: &[u8]) -> Result<(), NoMemory>
+    ensures text { OnOk result (out.new.items ≡ out.old.items ++ (decimal line.now.caller.0 ++ 32 ∷ answer.now ++ 10 ∷ [])) }
     ensures client { OnOk result (line.now.caller.0 < 256) }
 {
     put_client(out, line)?;
-    out.extend_from_slice(b"- no memory")?;
+    out.extend_from_slice(answer)?;
     out.push(b'\n')?;
     Ok(())
 }

@@ -1,9 +1,10 @@
 -- The answers of one thread to one caller's additions, as the list goes on.
 use Rattle.std.proofs.Common.{◌≡◌, ◌≢◌, ℕ, ◌+◌, ◌==◌, Bool, true, false, List, [], ◌∷◌, ◌++◌, length, refl, inl, inr, ⊎_elim, ap, sym, ◌∙◌, subst, arith, suc, if◌then◌else◌, eq-eqb, ne_eqb}
 use Rattle.std.proofs.lemmas.List.{append-nil}
-use Rattle.ucon_turn.specs.Lists.{Each, Has, Continues, ByOthers, continues_trans}
+use Rattle.ucon_base.specs.Elements.{Each, each_map, each_both}
+use Rattle.ucon_turn.specs.Lists.{Has, Continues, ByOthers, continues_trans}
 use Rattle.ucon_turn.specs.Additions.{total_of, serial_from, serial}
-use Rattle.ucon_turn.proofs.Lists.{each_map, each_both, continues_map}
+use Rattle.ucon_turn.proofs.Lists.{continues_map}
 
 abbrev Addition : Type 0
 Addition = ℕ × ℕ

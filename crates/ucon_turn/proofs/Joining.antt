@@ -10,7 +10,8 @@ use Rattle.ucon_turn.specs.declared.table.SeatView.{SeatView}
 use Rattle.ucon_turn.specs.declared.table.Stage.TheVariants.{Idle}
 use Rattle.ucon_turn.specs.Lists.{Begins, ByOthers, longer, begins_trans}
 use Rattle.ucon_turn.specs.Rule.{rank, weight, IsLive, Fits, Ruled, spent, joined}
-use Rattle.ucon_turn.proofs.Lists.{each_both, continues_map, between, longer_is}
+use Rattle.ucon_base.specs.Elements.{each_both}
+use Rattle.ucon_turn.proofs.Lists.{continues_map, between, longer_is}
 use Rattle.ucon_turn.proofs.Seats.{Places, places_set, Pairs, pairs_set, set_swap, tickets_set, spot_set}
 use Rattle.ucon_turn.proofs.Rounds.{away, resting, LiveApart}
 

@@ -6,9 +6,10 @@ use lib.ListN.{get_elem?}
 use Rattle.atomic_table.specs.Table.{State, Splits}
 use Rattle.ucon_turn.specs.declared.table.SeatView.{SeatView}
 use Rattle.ucon_turn.specs.declared.table.Stage.TheVariants.{Idle}
-use Rattle.ucon_turn.specs.Lists.{Each, Has, ByOthers}
+use Rattle.ucon_base.specs.Elements.{Each, each_map}
+use Rattle.ucon_turn.specs.Lists.{Has, ByOthers}
 use Rattle.ucon_turn.specs.Rule.{rank, top, IsLive, Knows, Fits, Ruled, parted, child}
-use Rattle.ucon_turn.proofs.Lists.{each_map, continues_map, between, has_not, top_above}
+use Rattle.ucon_turn.proofs.Lists.{continues_map, between, has_not, top_above}
 use Rattle.ucon_turn.proofs.Seats.{Places, places_set, places_snoc, pairs_set, pairs_snoc, tickets_set, tickets_snoc, spot_set, spot_snoc}
 use Rattle.ucon_turn.proofs.Rounds.{away, resting, LiveApart}
 

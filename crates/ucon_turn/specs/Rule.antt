@@ -10,7 +10,8 @@ use Rattle.std.specs.declared.snapshot.Snapshot.{Snapshot}
 use Rattle.ucon_turn.specs.declared.table.SeatView.{SeatView}
 use Rattle.ucon_turn.specs.declared.table.Stage.{Stage}
 use Rattle.ucon_turn.specs.declared.table.Stage.TheVariants.{Spent, Idle, Joined, Waiting, Up, Holding, Booked}
-use Rattle.ucon_turn.specs.Lists.{Each, Has, Begins, Continues, ByOthers, longer}
+use Rattle.ucon_base.specs.Elements.{Each}
+use Rattle.ucon_turn.specs.Lists.{Has, Begins, Continues, ByOthers, longer}
 use Rattle.ucon_turn.specs.Turns.{Knowledge}
 
 -- tickets and counts stand in the words modulo this

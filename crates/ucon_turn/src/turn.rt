@@ -1,6 +1,7 @@
 //! The turn itself.
 ghost use Rattle.std.specs.Prelude.{◌≡◌, ◌≢◌, ◌⊎◌, ◌<◌, List, [], ◌∷◌, IfOk, IfErr};
-ghost use Rattle.ucon_turn.specs.Lists.{Each, Has, Begins, Continues, ByOthers};
+ghost use Rattle.ucon_base.specs.Elements.{Each};
+ghost use Rattle.ucon_turn.specs.Lists.{Has, Begins, Continues, ByOthers};
 ghost use Rattle.ucon_turn.specs.Turns.{IsSeatOf};
 
 use crate::seat::{Seat, SeatToken};

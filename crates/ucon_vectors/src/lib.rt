@@ -4,6 +4,7 @@
 mod clients;
 mod generated;
 mod guide;
+mod journals;
 mod language;
 mod typing;
 mod worked;
@@ -11,6 +12,7 @@ mod worked;
 pub use clients::{Meeting, two_clients};
 pub use generated::{Words, generated_rows};
 pub use guide::guide_examples;
+pub use journals::{LOOKING, Played, SUBJECTS_B_AND_C, WITH_A, played_rows};
 pub use language::language_examples;
 pub use typing::{typing_faults, well_typed_policies};
 pub use worked::{CAPPED, PAY_PER_USE, worked_rows};

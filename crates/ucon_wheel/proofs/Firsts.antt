@@ -1,11 +1,11 @@
 -- The first pair that isn't hidden, in the order's words and in the wheel's.
-use Rattle.std.proofs.Common.{◌≡◌, ℕ, ℤ, List, [], ◌∷◌, map, filter, Some, None, Option, option_map, Bool, true, false, not, cond, ◌&&◌, refl, sym, ap, ◌∙◌, if◌then◌else◌}
-use Rattle.std.specs.Prelude.{find, ◌==◌, int_lt}
+use Rattle.std.proofs.Common.{◌≡◌, ℤ, List, [], ◌∷◌, map, filter, Some, None, Option, option_map, Bool, true, false, not, cond, ◌&&◌, refl, sym, ap, ◌∙◌, if◌then◌else◌}
+use Rattle.std.specs.Prelude.{find, int_lt}
 use Rattle.std.specs.Ordering.{is_lt}
 use Rattle.std.specs.declared.ops.Bound.{Bound}
 use Rattle.std.specs.declared.ops.Bound.TheVariants.{Unbounded}
 use Rattle.std.specs.BTreeMap.Range.{entries_between}
-use Rattle.ucon_wheel.specs.Deadlines.{Pair, Deadlines, pair_cmp, shown, first, later, first_below, first_behind, due, first_of}
+use Rattle.ucon_wheel.specs.Deadlines.{Pair, Deadlines, pair_cmp, shown, first, later, first_below, first_behind, due}
 use Rattle.ucon_wheel.specs.Marks.{behind}
 
 abbrev pub below : ℤ → Option Pair → Option Pair
@@ -52,12 +52,3 @@ first_behind_from v after pairs start found found_is start_is pairs_is =
 
 pub due_is : (v : Deadlines) (tick : ℤ) (after : Option Pair) → due v tick after ≡ below tick (first_behind v after)
 due_is v tick after = below_first tick (later after (shown v))
-
-of_first : (session : ℕ) (pair : Pair) (hidden : Bool) (es : List (Pair × Bool)) (t : Bool) → (pair.1 == session) ≡ t → find (λ p. p.1 == session) (map (λ e. e.0) (filter (λ e. not e.1) es)) ≡ option_map (λ e. e.0) (find (λ e. not e.1 && (e.0.1 == session)) es) → find (λ p. p.1 == session) (map (λ e. e.0) (filter {X = Pair × Bool} (λ e. not e.1) ((pair, hidden) ∷ es))) ≡ option_map (λ e. e.0) (find {X = Pair × Bool} (λ e. not e.1 && (e.0.1 == session)) ((pair, hidden) ∷ es))
-of_first session pair true es t is rest = rest
-of_first session pair false es true is rest = rw is refl
-of_first session pair false es false is rest = rw is rest
-
-pub of_shown : (session : ℕ) (es : List (Pair × Bool)) → find (λ p. p.1 == session) (map (λ e. e.0) (filter (λ e. not e.1) es)) ≡ option_map (λ e. e.0) (find (λ e. not e.1 && (e.0.1 == session)) es)
-of_shown session [] = refl
-of_shown session (e ∷ es) = of_first session e.0 e.1 es (e.0.1 == session) refl (of_shown session es)

@@ -1,3 +1,5 @@
+pub mod Behind
+pub mod Earliest
 pub mod Firsts
 pub mod Lined
 pub mod Linking

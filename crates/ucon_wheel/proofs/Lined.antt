@@ -1,14 +1,14 @@
 -- The lists hold the pairs: one comes, or goes.
-use Rattle.std.proofs.Common.{◌≡◌, ◌≢◌, ◌⊎◌, inl, inr, ℕ, zero, suc, ◌+◌, ◌-◌, ◌<◌, ◌≤◌, pos, List, [], ◌∷◌, ◌++◌, map, set, get_or, length, sum_by, Some, None, Option, option_map, is_some, refl, sym, ap, ◌∙◌, subst, arith, append_assoc, length-append, get_or-set_same, get_or-set_other}
+use Rattle.std.proofs.Common.{◌≡◌, ◌⊎◌, inl, inr, ℕ, zero, suc, ◌+◌, ◌-◌, ◌<◌, ◌≤◌, pos, List, [], ◌∷◌, ◌++◌, map, set, length, sum_by, Some, None, Option, is_some, refl, sym, ap, ◌∙◌, subst, arith, append_assoc, length-append, get_or-set_same, get_or-set_other}
 use Rattle.std.proofs.lemmas.List.{map-append, length-set}
 use Rattle.std.proofs.lemmas.List.Sums.{sum_by-cons}
-use Rattle.ucon_links.specs.Lists.{Item, Lists, first_or, last_or, list_at, listed_nodes, nodes_of, node_count, place_of, without, unlink, unlink_item, link_behind, IsListed, IsAbsent, IsDistinct}
+use Rattle.ucon_links.specs.Lists.{Lists, first_or, list_at, listed_nodes, nodes_of, node_count, without, unlink, unlink_item, link_behind, IsListed, IsAbsent, IsDistinct}
 use Rattle.ucon_wheel.specs.declared.lines.Deadline.{Deadline}
-use Rattle.ucon_wheel.specs.Deadlines.{Pair, first}
-use Rattle.ucon_wheel.specs.Lines.{Linked, Has, HasPair, HasNext, HasItem, IsOwned, IsSound, IsKnown, IsNodeOf, deadline_at, pair_at, before_last, linked, without_pair, put_before}
+use Rattle.ucon_wheel.specs.Deadlines.{Pair}
+use Rattle.ucon_wheel.specs.Lines.{Linked, Has, HasPair, HasNext, IsOwned, IsSound, IsKnown, IsNodeOf, deadline_at, pair_at, before_last, linked, without_pair, put_before}
 use Rattle.ucon_wheel.proofs.Linking.{list_within, in_middle, some_of}
-use Rattle.ucon_wheel.proofs.Members.{Split, split, here, widen, narrow, source, absent_differs, absent_where}
-use Rattle.ucon_wheel.proofs.Ordered.{IsInOrder, Apart, apart_front, put_before-apart, put_before-none, without_pair-apart}
+use Rattle.ucon_wheel.proofs.Members.{split, here, widen, narrow, source}
+use Rattle.ucon_wheel.proofs.Ordered.{IsInOrder, apart_front, put_before-apart, put_before-none, without_pair-apart}
 use Rattle.ucon_wheel.proofs.OneList.{ids, PlaceLaw, distinct_at, distinct_front, absent_front, front_of, without-first, distinct_pull}
 use Rattle.ucon_wheel.proofs.Owning.{OneChanges, owned_with, owned_without}
 
@@ -282,14 +282,8 @@ pairs_kept ds new kept (x ∷ xs) =
     let this : pair_at new x ≡ pair_at ds x = λ i. (kept x.0 i, x.1) in
     ap (λ p. p ∷ map (pair_at new) xs) this ∙ ap (λ ps. pair_at ds x ∷ ps) (pairs_kept ds new kept xs)
 
--- the first node, where there is one before the end
-pub record IsFirst (nodes : List (ℕ × ℕ)) (node : ℕ) : Type 0 where
-  pub owner : ℕ
-  pub rest : List (ℕ × ℕ)
-  pub parts : nodes ≡ (node, owner) ∷ rest
-
 module _ (order own : Lists) (ds : List Deadline) (end : ℕ) (s : IsSound order own ds end) (node : ℕ) where
-  no_node : (nodes : List (ℕ × ℕ)) → IsDistinct (ids (nodes ++ (end, 0) ∷ [])) → Some node ≡ first_or None (nodes ++ (end, 0) ∷ []) → node ≡ end → nodes ≡ []
+  pub no_node : (nodes : List (ℕ × ℕ)) → IsDistinct (ids (nodes ++ (end, 0) ∷ [])) → Some node ≡ first_or None (nodes ++ (end, 0) ∷ []) → node ≡ end → nodes ≡ []
   no_node [] distinct is at_end = refl
   no_node (x ∷ xs) distinct is at_end =
       let same : end ≡ x.0 = sym at_end ∙ some_of is in
@@ -298,24 +292,6 @@ module _ (order own : Lists) (ds : List Deadline) (end : ℕ) (s : IsSound order
       at_the_end : (ys : List (ℕ × ℕ)) → IsAbsent x.0 (ids (ys ++ (end, 0) ∷ [])) → end ≡ x.0 → ⊥
       at_the_end [] absent same = absent.0 same
       at_the_end (y ∷ ys) absent same = at_the_end ys absent.1 same
-
-  pub no_first : IsDistinct (nodes_of order) → Some node ≡ first_or None (list_at order.lists 0) → node ≡ end → s.nodes ≡ []
-  no_first distinct is at_end =
-      let list = list_is order own ds end s in
-      let once = subst (λ xs. IsDistinct (ids xs)) list (distinct_at order.lists 0 (distinct_front (listed_nodes order.lists) (map (λ i. i.node) order.hidden) distinct)) in
-      no_node s.nodes once (is ∙ ap (first_or None) list) at_end
-
-  first_node : (nodes : List (ℕ × ℕ)) → Some node ≡ first_or None (nodes ++ (end, 0) ∷ []) → node ≢ end → IsFirst nodes node
-  first_node [] is differs = absurd (differs (some_of is))
-  first_node (x ∷ xs) is differs = let same : x.0 ≡ node = sym (some_of is) in record { owner = x.1; rest = xs; parts = ap (λ n. (n, x.1) ∷ xs) same }
-
-  pub the_first : Some node ≡ first_or None (list_at order.lists 0) → node ≢ end → IsFirst s.nodes node
-  the_first is differs = first_node s.nodes (is ∙ ap (first_or None) (list_is order own ds end s)) differs
-
-pub get_default : (ds : List Deadline) (i : ℕ) (d e : Deadline) → i < length ds → get_or ds i d ≡ get_or ds i e
-get_default [] i d e within = absurd (omega arith)
-get_default (x ∷ ds) zero d e within = refl
-get_default (x ∷ ds) (suc i) d e within = get_default ds i d e (omega arith)
 
 -- before any pair has come
 pub begun : (order own order_new : Lists) (ds : List Deadline) (end : ℕ) → order.lists ≡ [] ∷ [] → order.hidden ≡ [] → own.lists ≡ [] → order_new ≡ link_behind order 0 None end 0 → 1 ≤ order.spare → order.spare ≤ length ds → IsSound order_new own ds end

@@ -1,6 +1,6 @@
 -- Members of lists.
-use Rattle.std.proofs.Common.{◌≡◌, ◌≢◌, ◌⊎◌, inl, inr, ℕ, List, [], ◌∷◌, ◌++◌, map, refl, sym, ap, ◌∙◌, subst}
-use Rattle.ucon_links.specs.Lists.{IsAbsent, IsDistinct}
+use Rattle.std.proofs.Common.{◌≡◌, ◌≢◌, ◌⊎◌, inl, inr, ℕ, List, [], ◌∷◌, ◌++◌, map, refl, ap, ◌∙◌, subst}
+use Rattle.ucon_links.specs.Lists.{IsAbsent}
 use Rattle.ucon_wheel.specs.Lines.{Has}
 
 -- a member, with those in front and behind

@@ -1,13 +1,13 @@
 -- Where a pair stands among pairs in order.
-use Rattle.std.proofs.Common.{◌≡◌, List, [], ◌∷◌, ◌++◌, map, Some, None, Option, Bool, true, false, refl, sym, ap, ◌∙◌, subst}
+use Rattle.std.proofs.Common.{◌≡◌, List, [], ◌∷◌, ◌++◌, Some, None, true, false, refl, sym, ap, ◌∙◌}
 use Rattle.std.specs.declared.cmp.Ordering.{Ordering}
 use Rattle.std.specs.declared.cmp.Ordering.TheVariants.{Less, Equal, Greater}
 use Rattle.std.specs.Ordering.{is_eq, is_lt, ordering_reverse}
 use Rattle.std.specs.List.{AllByRecursion}
 use Rattle.std.specs.List.Sorted.{IsStrictlySortedBy}
 use Rattle.ucon_wheel.specs.Deadlines.{Pair, pair_cmp, is_pair, first, later}
-use Rattle.ucon_wheel.specs.Lines.{Has, without_pair, put_before}
-use Rattle.ucon_wheel.proofs.Marking.{pair_total, pair_same, pair_self}
+use Rattle.ucon_wheel.specs.Lines.{without_pair, put_before}
+use Rattle.ucon_wheel.proofs.Marking.{pair_total, pair_self}
 
 -- none of them is the pair
 abbrev pub Apart : Pair → List Pair → Type 0

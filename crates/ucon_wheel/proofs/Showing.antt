@@ -1,5 +1,5 @@
 -- Which pairs are shown once one is put, hidden or taken away.
-use Rattle.std.proofs.Common.{◌≡◌, ◌⊎◌, inl, inr, ℕ, suc, ◌+◌, ◌<◌, ◌≤◌, List, [], ◌∷◌, ◌++◌, map, filter, slice_get, length, Some, None, Option, IsSome, Bool, true, false, not, cond, refl, sym, ap, ◌∙◌, subst, arith}
+use Rattle.std.proofs.Common.{◌≡◌, inl, inr, ℕ, ◌<◌, List, [], ◌∷◌, ◌++◌, map, filter, slice_get, Some, IsSome, Bool, true, false, not, cond, refl, sym, ap, ◌∙◌, subst}
 use Rattle.std.specs.declared.cmp.Ordering.TheVariants.{Less, Equal, Greater}
 use Rattle.std.specs.declared.cmp.Ordering.{Ordering}
 use Rattle.std.specs.Ordering.{is_eq, match_ordering}
@@ -8,7 +8,7 @@ use Rattle.std.specs.List.{AllByRecursion}
 use Rattle.std.specs.List.Sorted.{IsStrictlySortedBy}
 use Rattle.std.specs.Map.{lookup, set_value, remove_entry}
 use Rattle.std.proofs.lemmas.Map.Steps.{set_value_same}
-use Rattle.ucon_wheel.specs.Deadlines.{Pair, Deadlines, pair_cmp, is_pair, state_of, IsShown, shown, first, later, first_behind, put, take_back, hide, unhide, forget_hidden}
+use Rattle.ucon_wheel.specs.Deadlines.{Pair, Deadlines, pair_cmp, is_pair, state_of, IsShown, shown, first, later, put, take_back, unhide}
 use Rattle.ucon_wheel.specs.Lines.{Has, HasNext, without_pair, put_before}
 use Rattle.ucon_wheel.proofs.Marking.{pair_same, pair_self, lookup_set, set_set}
 use Rattle.ucon_wheel.proofs.Members.{split}

@@ -1,8 +1,7 @@
 -- A walk through a session's list.
-use Rattle.std.proofs.Common.{◌≡◌, ◌≢◌, inl, inr, ◌⊎◌, ℕ, zero, suc, ◌+◌, ◌<◌, Bool, true, false, eqb, List, [], ◌∷◌, ◌++◌, map, length, Some, None, Option, option_map, is_some, IsSome, if◌then◌else◌, ◌==◌, refl, sym, ap, ◌∙◌, subst, arith, append_assoc}
+use Rattle.std.proofs.Common.{◌≡◌, ℕ, suc, ◌<◌, List, [], ◌∷◌, ◌++◌, map, length, Some, None, Option, option_map, is_some, if◌then◌else◌, ◌==◌, refl, sym, ap, ◌∙◌, subst, arith, append_assoc}
 use Rattle.std.proofs.lemmas.Bool.{ne_eqb, eq-eqb}
-use Rattle.std.proofs.lemmas.List.{map-append}
-use Rattle.ucon_links.specs.Lists.{Item, Lists, first_or, last_or, list_at, listed_nodes, nodes_of, place_of, owner_of, or_else, hidden_at, IsListed, IsAbsent, IsDistinct}
+use Rattle.ucon_links.specs.Lists.{Lists, first_or, list_at, listed_nodes, nodes_of, place_of, owner_of, or_else, hidden_at, IsListed, IsAbsent, IsDistinct}
 use Rattle.ucon_wheel.specs.Lines.{Has}
 use Rattle.ucon_wheel.proofs.Members.{split}
 use Rattle.ucon_wheel.proofs.Linking.{list_within, in_middle, some_of}

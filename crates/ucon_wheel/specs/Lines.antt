@@ -1,5 +1,5 @@
 -- Pairs as linked lists: all of them in order, and those of each session. No public clause cites this module.
-use Rattle.std.specs.Prelude.{◌≡◌, ℕ, ◌+◌, ◌<◌, ◌≤◌, ◌⊎◌, ℤ, pos, List, [], ◌∷◌, ◌++◌, map, length, slice_index_or, Option, Some, None, if◌then◌else◌}
+use Rattle.std.specs.Prelude.{◌≡◌, ℕ, ◌+◌, ◌<◌, ◌≤◌, ◌⊎◌, ℤ, ◌≤ℤ◌, pos, List, [], ◌∷◌, ◌++◌, map, length, slice_index_or, Option, Some, None, if◌then◌else◌}
 use Rattle.ucon_links.specs.Lists.{Lists, list_at, node_count, IsDistinct}
 use Rattle.ucon_wheel.specs.Deadlines.{Pair, is_pair}
 use Rattle.ucon_wheel.specs.declared.lines.Deadline.{Deadline}
@@ -90,3 +90,13 @@ IsItemOf own deadlines pair item = (node : ℕ) × Has (list_at own.lists pair.1
 abbrev pub IsNodeOf : Lists → List Deadline → ℕ → Option Pair → ℕ → Type 0
 IsNodeOf own deadlines end None node = node ≡ end
 IsNodeOf own deadlines end (Some next) node = (item : ℕ) × Has (list_at own.lists next.1) (item, node) × (deadline_at deadlines node ≡ next.0)
+
+-- the node of one of the items has the deadline
+abbrev pub HasDeadline : List Deadline → List (ℕ × ℕ) → ℤ → Type 0
+HasDeadline deadlines items tick = (y : ℕ × ℕ) × Has items y × (deadline_at deadlines y.1 ≡ tick)
+
+-- the earliest deadline of the items' nodes, none where there are no items
+abbrev pub IsEarliest : List Deadline → List (ℕ × ℕ) → Option Deadline → Type 0
+IsEarliest deadlines items None = (y : ℕ × ℕ) → Has items y → ⊥
+IsEarliest deadlines items (Some first) =
+    HasDeadline deadlines items first.tick × ((y : ℕ × ℕ) → Has items y → first.tick ≤ℤ deadline_at deadlines y.1)

@@ -1,9 +1,9 @@
 //! Pairs as linked lists: all of them in order, and those of each session.
 
-ghost use Rattle.std.specs.Prelude.{◌≡◌, ℕ, List, ◌+◌, ◌-◌, ◌^◌, ◌<◌, ◌≤◌, [], ◌∷◌, ◌++◌, length, vec_len, Some, slice_set, IfOk, OnOk, OnErr, IsTrue, ◌↔◌};
+ghost use Rattle.std.specs.Prelude.{◌≡◌, ◌≢◌, ℕ, List, ◌+◌, ◌-◌, ◌^◌, ◌<◌, ◌≤◌, ◌≤ℤ◌, ◌⊎◌, ◌==◌, [], ◌∷◌, ◌++◌, length, vec_len, Some, None, find, option_map, slice_set, IfSome, IfOk, OnOk, OnErr, IsTrue, ◌↔◌};
 ghost use Rattle.ucon_links.specs.Lists.{list_at, node_count, nodes_of, IsListed, IsAbsent, IsDistinct};
-ghost use Rattle.ucon_wheel.specs.Deadlines.{pair_cmp, first};
-ghost use Rattle.ucon_wheel.specs.Lines.{Has, HasPair, HasNext, IsKnown, IsItemOf, IsNodeOf, deadline_at, without_pair, put_before};
+ghost use Rattle.ucon_wheel.specs.Deadlines.{pair_cmp, first, later};
+ghost use Rattle.ucon_wheel.specs.Lines.{Has, HasPair, HasNext, IsKnown, IsItemOf, IsNodeOf, IsEarliest, deadline_at, without_pair, put_before};
 ghost use Rattle.std.specs.List.Sorted.{IsStrictlySortedBy};
 
 use std::alloc::{AllocError, Global};
@@ -84,6 +84,52 @@ fn node_of(own: &Links, deadlines: &[Deadline], end: NodeId, next: Option<(i64, 
         Some(pair) => own.owner(item_of(own, deadlines, pair)),
         None => end,
     }
+}
+
+// The pair of a node of the first list, unless it is the end.
+fn pair_of(order: &Links, deadlines: &[Deadline], end: NodeId, node: NodeId) -> Option<(i64, u32)>
+    requires there { HasPair (list_at order.now.lists 0) node }
+    requires within { node ≢ end → node < length deadlines.now }
+    ensures end { node ≡ end → result ≡ None }
+    ensures pair { node ≢ end → (owner : ℕ) → Has (list_at order.now.lists 0) (node, owner)
+        → result ≡ Some (deadline_at deadlines.now node, owner) }
+{
+    nodes_stand_where_listed();
+    order.nodes_are_distinct();
+    if node == end {
+        return None;
+    }
+    let deadline = deadlines[node as usize];
+    Some(deadline.pair(order.owner(node)))
+}
+
+// The earlier of a deadline and another one, if there is another.
+fn earlier(first: Option<Deadline>, this: Deadline) -> Deadline
+    ensures this { result.tick ≤ℤ this.tick }
+    ensures first { IfSome first (λ d. result.tick ≤ℤ d.tick) }
+    ensures one { (result ≡ this) ⊎ (first ≡ Some result) }
+{
+    match first {
+        Some(first) if first.tick <= this.tick => first,
+        _ => this,
+    }
+}
+
+// The earliest deadline of a session's list.
+fn earliest(own: &Links, deadlines: &[Deadline], session: u32) -> Option<Deadline>
+    requires session { session < length own.now.lists }
+    requires within { (y : ℕ × ℕ) → Has (list_at own.now.lists session) y → y.1 < length deadlines.now }
+    ensures { IsEarliest deadlines.now (list_at own.now.lists session) result }
+{
+    nodes_stand_where_listed();
+    let mut first: Option<Deadline> = None;
+    let mut at = own.first(session);
+    while let Some(item) = at {
+        let node = own.owner(item);
+        first = Some(earlier(first, deadlines[node as usize]));
+        at = own.next(item);
+    }
+    first
 }
 
 /// Pairs of a deadline and a session, all of them in one list and those of each session in one of its own.
@@ -244,14 +290,36 @@ impl Lines {
     pub fn first(&self) -> Option<(i64, u32)>
         ensures { result ≡ first self.now.pairs }
     {
-        nodes_stand_where_listed();
         let Some(node) = self.order.first(0) else {
             return None;
         };
-        if node == self.end {
+        pair_of(&self.order, &self.deadlines, self.end, node)
+    }
+
+    /// The pair behind one.
+    pub fn behind(&self, pair: (i64, u32)) -> Option<(i64, u32)>
+        requires there { Has self.now.pairs pair }
+        requires ordered { IsStrictlySortedBy pair_cmp self.now.pairs }
+        ensures { result ≡ first (later (Some pair) self.now.pairs) }
+    {
+        nodes_stand_where_listed();
+        self.order.nodes_are_distinct();
+        let item = item_of(&self.own, &self.deadlines, pair);
+        let Some(next) = self.order.next(self.own.owner(item)) else {
             return None;
+        };
+        pair_of(&self.order, &self.deadlines, self.end, next)
+    }
+
+    /// The earliest deadline of a session. Only that session's pairs are walked.
+    pub fn first_of(&self, session: u32) -> Option<Deadline>
+        requires { IsStrictlySortedBy pair_cmp self.now.pairs }
+        ensures { option_map (λ d. d.tick) result ≡ option_map (λ pair. pair.0) (find (λ pair. pair.1 == session) self.now.pairs) }
+    {
+        if session < self.own.list_count() {
+            earliest(&self.own, &self.deadlines, session)
+        } else {
+            None
         }
-        let deadline = self.deadlines[node as usize];
-        Some(deadline.pair(self.order.owner(node)))
     }
 }

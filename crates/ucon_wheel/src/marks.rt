@@ -70,19 +70,6 @@ fn first_shown(pairs: &BTreeMap<(i64, u32), bool>, start: Bound<(i64, u32)>) -> 
     }
 }
 
-// The first pair of a session that isn't hidden.
-fn first_shown_of(pairs: &BTreeMap<(i64, u32), bool>, session: u32) -> Option<(i64, u32)>
-    ensures { result ≡ option_map (λ e. e.0) (find (λ e. not e.1 && (e.0.1 == session)) pairs.now.entries) }
-{
-    let found = pairs
-        .iter()
-        .find(|(pair, hidden)| !**hidden && pair.1 == session);
-    match found {
-        Some((pair, _)) => Some(*pair),
-        None => None,
-    }
-}
-
 impl Marks {
     /// No pairs.
     pub fn new(alloc: Global) -> Marks
@@ -178,12 +165,5 @@ impl Marks {
         ensures ordered { IsStrictlySortedBy pair_cmp (shown self.now) }
     {
         first_shown(&self.pairs, behind(after))
-    }
-
-    /// The first pair of a session that isn't hidden.
-    pub fn first_of(&self, session: u32) -> Option<(i64, u32)>
-        ensures { result ≡ find (λ pair. pair.1 == session) (shown self.now) }
-    {
-        first_shown_of(&self.pairs, session)
     }
 }

@@ -193,11 +193,13 @@ impl Wheel {
     {
         match after {
             None => self.lines.first(),
+            Some(pair) if self.marks.has(pair) => self.lines.behind(pair),
             Some(_) => self.marks.first_behind(after),
         }
     }
 
-    /// The least pair behind `after` that isn't hidden, if its deadline is below the tick.
+    /// The least pair behind `after` that isn't hidden, if its deadline is below the tick. Hidden pairs are passed over only where
+    /// `after` itself is hidden or not there.
     pub fn due(&self, tick: Int, after: Option<(i64, u32)>) -> Option<(i64, u32)>
         ensures due { result ≡ due self.now tick after }
         ensures ordered { IsStrictlySortedBy pair_cmp (shown self.now) }
@@ -210,11 +212,11 @@ impl Wheel {
         }
     }
 
-    /// The least deadline of a session that isn't hidden.
+    /// The least deadline of a session that isn't hidden. Only that session's pairs are walked.
     pub fn first_of(&self, session: u32) -> Option<i64>
         ensures { result ≡ first_of self.now session }
     {
-        let pair = self.marks.first_of(session)?;
-        Some(deadline_of(pair))
+        let deadline = self.lines.first_of(session)?;
+        Some(deadline.tick)
     }
 }

@@ -42,7 +42,7 @@ names_step : (es : List (Bytes × ℕ)) (name : Bytes) (f : ℕ) (side : Side) (
 names_step es name f side T h new = map_push (λ e. e.0) es (name, f) ∙ rw (new, h.names) refl
 
 -- each name stands at its number, an older one where it stood
-number_by : (names : List Bytes) (name e : Bytes) (i : ℕ) → position (bytes_eq name) names ≡ None → (slice_get names i ≡ Some e → position (bytes_eq e) names ≡ Some i)
+pub number_by : (names : List Bytes) (name e : Bytes) (i : ℕ) → position (bytes_eq name) names ≡ None → (slice_get names i ≡ Some e → position (bytes_eq e) names ≡ Some i)
     → (i ≡ length names) ⊎ ((i < length names) ⊎ (length names < i)) → slice_get (names ++ name ∷ []) i ≡ Some e → position (bytes_eq e) (names ++ name ∷ []) ≡ Some i
 number_by names name e i new old (inl last) at =
     let same : name ≡ e = same_Some name e (sym (added_there names (name ∷ []) i 0 (omega (arith, last))) ∙ at) in
@@ -51,7 +51,7 @@ number_by names name e i new old (inl last) at =
 number_by names name e i new old (inr (inl lt)) at = place_kept (bytes_eq e) names name i (old (sym (still_there names (name ∷ []) i lt) ∙ at))
 number_by names name e i new old (inr (inr gt)) at = let past = not_there (names ++ name ∷ []) i (omega (arith, length_push names name, gt)) in absurd cc
 
-not_placed : (o : Option ℕ) → is_some o ≡ false → o ≡ None
+pub not_placed : (o : Option ℕ) → is_some o ≡ false → o ≡ None
 not_placed None e = refl
 not_placed (Some i) e = absurd cc
 

@@ -1,7 +1,8 @@
 //! Callers that add to one counter in threads of their own, and keep their answers.
 ghost use Rattle.std.specs.Prelude.{◌≡◌, ◌⊎◌, ℕ, ◌+◌, ◌<◌, ◌≤◌, ◌^◌, [], ◌∷◌, length, IfSome};
 ghost use denote.Param.Send.{IsSync};
-ghost use Rattle.ucon_turn.specs.Lists.{Each, Has};
+ghost use Rattle.ucon_base.specs.Elements.{Each};
+ghost use Rattle.ucon_turn.specs.Lists.{Has};
 ghost use Rattle.ucon_turn.specs.Turns.{IsSeatOf};
 ghost use Rattle.ucon_turn.specs.Additions.{serial};
 

@@ -1,6 +1,6 @@
 use Rattle.std.proofs.Common.{refl, ◌∷◌, ◌+◌, length, subst, sym}
 use Rattle.ucon_model.specs.Action.{tries}
-use Rattle.ucon_state.specs.Shown.{shown}
+use Rattle.ucon_state.specs.Shown.{object_name, right_name, shown, subject_name}
 use Rattle.ucon_actions.specs.Sessions.{IsIn}
 use Rattle.ucon_model.specs.declared.session.SessionState.TheVariants.{Requesting}
 use Rattle.ucon_actions.proofs.Stepping.{one_step}
@@ -15,29 +15,29 @@ decide-requires-clause-following c =
     let h = c.requires.following.follows in
     record {
       policy = P;
-      trace = tries (length s.tables.sessions + 1) c.args.caller c.args.subject c.args.right c.args.object ∷ T;
-      follows = one_step s (shown c.add_session.new.self) P T (tries (length s.tables.sessions + 1) c.args.caller c.args.subject c.args.right c.args.object) _ h
-          (tries_legal s P T h c.args.caller c.args.right c.args.subject c.args.object c.requires.right c.requires.subject c.requires.object c.requires.few) c.in_ok-n.ensures.ok refl;
+      trace = tries (length s.tables.sessions + 1) c.args.caller (subject_name c.args.state.now c.args.subject) (right_name c.args.state.now c.args.right) (object_name c.args.state.now c.args.object) ∷ T;
+      follows = one_step s (shown c.add_numbered_session.new.self) P T (tries (length s.tables.sessions + 1) c.args.caller (subject_name c.args.state.now c.args.subject) (right_name c.args.state.now c.args.right) (object_name c.args.state.now c.args.object)) _ h
+          (tries_legal s P T h c.args.caller (right_name c.args.state.now c.args.right) (subject_name c.args.state.now c.args.subject) (object_name c.args.state.now c.args.object) c.requires.right c.requires.subject c.requires.object c.requires.few) c.in_ok-n.ensures.ok refl;
     }
 
 pub decide-requires-clause-requesting : goal.decide-requires-clause-requesting
 decide-requires-clause-requesting c =
     let s = shown c.args.state.now in
-    let s1 = shown c.add_session.new.self in
+    let s1 = shown c.add_numbered_session.new.self in
     let P = c.requires.following.policy in
     let T = c.requires.following.trace in
     let h = c.requires.following.follows in
     let n = length s.tables.sessions + 1 in
-    let requesting = requests s1 P T n c.args.caller c.args.right c.args.subject c.args.object
-    (one_step s s1 P T (tries n c.args.caller c.args.subject c.args.right c.args.object) _ h
-    (tries_legal s P T h c.args.caller c.args.right c.args.subject c.args.object c.requires.right c.requires.subject c.requires.object c.requires.few) c.in_ok-n.ensures.ok refl) in
+    let requesting = requests s1 P T n c.args.caller (right_name c.args.state.now c.args.right) (subject_name c.args.state.now c.args.subject) (object_name c.args.state.now c.args.object)
+    (one_step s s1 P T (tries n c.args.caller (subject_name c.args.state.now c.args.subject) (right_name c.args.state.now c.args.right) (object_name c.args.state.now c.args.object)) _ h
+    (tries_legal s P T h c.args.caller (right_name c.args.state.now c.args.right) (subject_name c.args.state.now c.args.subject) (object_name c.args.state.now c.args.object) c.requires.right c.requires.subject c.requires.object c.requires.few) c.in_ok-n.ensures.ok refl) in
     subst (λ (m : _). IsIn s1.tables m Requesting) (sym c.in_ok-n.ensures.number) requesting
 
 pub returns-clause-made : goal.returns-clause-made
 returns-clause-made c =
     let s = shown c.args.state.now in
-    let s1 = shown c.add_session.new.self in
-    request_made c.decide.result s s1 (shown c.decide.new.state) c.in_ok-n.n c.args.caller c.args.right c.args.subject c.args.object c.in_ok-n.ensures.number
-    (λ P T h. one_step s s1 P T (tries (length s.tables.sessions + 1) c.args.caller c.args.subject c.args.right c.args.object) _ h
-    (tries_legal s P T h c.args.caller c.args.right c.args.subject c.args.object c.requires.right c.requires.subject c.requires.object c.requires.few) c.in_ok-n.ensures.ok refl)
+    let s1 = shown c.add_numbered_session.new.self in
+    request_made c.decide.result s s1 (shown c.decide.new.state) c.in_ok-n.n c.args.caller (right_name c.args.state.now c.args.right) (subject_name c.args.state.now c.args.subject) (object_name c.args.state.now c.args.object) c.in_ok-n.ensures.number
+    (λ P T h. one_step s s1 P T (tries (length s.tables.sessions + 1) c.args.caller (subject_name c.args.state.now c.args.subject) (right_name c.args.state.now c.args.right) (object_name c.args.state.now c.args.object)) _ h
+    (tries_legal s P T h c.args.caller (right_name c.args.state.now c.args.right) (subject_name c.args.state.now c.args.subject) (object_name c.args.state.now c.args.object) c.requires.right c.requires.subject c.requires.object c.requires.few) c.in_ok-n.ensures.ok refl)
     c.decide.ensures.made

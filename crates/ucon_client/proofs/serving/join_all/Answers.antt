@@ -2,11 +2,11 @@ use Rattle.std.proofs.Common.{rules, ◌≡◌, ℕ, ◌+◌, ◌<◌, List, [],
 use Rattle.std.proofs.lemmas.List.{append_assoc, get_or_at, length-append, length_push, map-append}
 use Rattle.ucon_turn.specs.Lists.{Has, Continues, ByOthers}
 use Rattle.ucon_client.specs.declared.client.Client.{Client}
-use Rattle.ucon_client.specs.declared.event.Event.{Event}
+use Rattle.ucon_store.specs.declared.event.Event.{Event}
 use Rattle.ucon_client.specs.declared.part.Part.{Part}
 use Rattle.ucon_client.specs.Answers.{Serves, number, served_of}
 use Rattle.ucon_client.specs.Clients.{AreJoined, AreRising, Served}
-use Rattle.ucon_client.specs.Events.{events, number_of}
+use Rattle.ucon_store.specs.Events.{events, number_of}
 use Rattle.ucon_base.specs.Elements.{Each, each_append, each_map}
 use Rattle.ucon_client.proofs.Joining.{begins_joined, stays_joined}
 use Rattle.ucon_client.proofs.Parts.{rising_parts, below_served}
@@ -44,7 +44,7 @@ loop-client-preserved g c =
     let j = c.join.ensures in
     let opened = c.args.turn.now.opened in
     let G = opened.entries in
-    let C : Type 0 = Client g.row.K.Denot in
+    let C : Type 0 = Client g.row.E.Denot g.row.D.Denot in
     let part_of : C → Part = λ d. d.part in
     let client : C = c.in-Some.client in
     let done : List C = c.loop-client.yielded in
@@ -55,7 +55,7 @@ loop-client-preserved g c =
     let clients : c.args.clients.items ≡ done ++ client ∷ rest = i.clients ∙ ap (λ l. done ++ l) c.in-Some.ensures.steps.0 in
     let few : length done < length c.args.clients.items = omega (arith, ap length clients, length-append done (client ∷ rest)) in
     let at : get_or c.args.clients.items (length done) client ≡ client = ap (λ l. get_or l (length done) client) clients ∙ get_or_at done client rest client (length done) refl in
-    let s = subst (λ (d : C). Serves (g.K.Keeper.accepted opened.policy) G c.args.turn.now d.part d.seat) at (c.requires.serves (length done) client few) in
+    let s = subst (λ (d : C). Serves c.args.turn.now d.part d.seat) at (c.requires.serves (length done) client few) in
     let n : ℕ = client.part.number in
     let numbers : map number (map part_of c.args.clients.items) ≡ map number (map part_of done ++ client.part ∷ map part_of rest) =
     ap (map number) (ap (map part_of) clients ∙ map-append part_of done (client ∷ rest)) in

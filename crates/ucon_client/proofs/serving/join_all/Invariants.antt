@@ -4,6 +4,7 @@ use Rattle.ucon_base.specs.Elements.{Each}
 use Rattle.ucon_turn.specs.Lists.{Has}
 use Rattle.ucon_turn.specs.Turns.{IsSeatOf}
 use Rattle.ucon_model.specs.Plain.{PlainPolicy}
+use Rattle.ucon_syntax.specs.Policies.{accepted}
 use Rattle.ucon_client.specs.Answers.{served_of}
 use Rattle.ucon_client.specs.Clients.{AreJoined}
 use Rattle.ucon_client.proofs.serving.join_all.Given as goal
@@ -11,7 +12,7 @@ use Rattle.ucon_client.proofs.serving.join_all.Given as goal
 abbrev pub invariant-loop-client : goal.invariant-loop-client
 invariant-loop-client g l = record {
   turn : IsSeatOf l.fn.turn l.seat × (l.seat.number ≡ 0) × (l.seat.given ≡ l.fn.seat.given);
-  joined : (P : PlainPolicy) → g.K.Keeper.accepted l.fn.turn.opened.policy ≡ Some P
+  joined : (P : PlainPolicy) → accepted l.fn.turn.opened.policy ≡ Some P
       → AreJoined P l.fn.turn.opened.entries l.seat.seen l.seat.taken (map served_of l.parts.items);
   back : Each (λ p. Has l.seat.taken (p.number + 1)) l.parts.items;
   answered : l.parts.items ≡ map (λ c. c.part) l.yielded;

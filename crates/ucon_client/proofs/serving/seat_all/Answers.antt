@@ -32,13 +32,12 @@ pub loop-part-preserved : goal.loop-part-preserved
 loop-part-preserved g c =
     let i = c.loop-part.invariant in
     let s = c.split-token.ensures in
-    let C : Type 0 = Client g.row.K.Denot in
+    let C : Type 0 = Client g.row.E.Denot g.row.D.Denot in
     let client : C = c.new.result in
     let part : Part = c.in-Some.part in
     let done = c.loop-part.yielded in
     let rest = c.next.new.self.rest.items in
-    let opened = c.args.turn.now.opened in
-    let Fair : C → Type 0 = λ d. Serves (g.K.Keeper.accepted opened.policy) opened.entries c.args.turn.now d.part d.seat in
+    let Fair : C → Type 0 = λ d. Serves c.args.turn.now d.part d.seat in
     let parts : c.args.parts.items ≡ done ++ part ∷ rest = i.parts ∙ ap (λ l. done ++ l) c.in-Some.ensures.steps.0 in
     let long : length (done ++ part ∷ []) ≡ length done + 1 = length_push done part in
     let items : c.push_reserved.new.self.items ≡ c.loop-part.clients.items ++ client ∷ [] = c.push_reserved.ensures.items in

@@ -10,7 +10,7 @@ abbrev pub invariant-loop-part : goal.invariant-loop-part
 invariant-loop-part g l = record {
   turn : IsSeatOf l.fn.turn l.seat × (l.seat.number ≡ 0) × (l.seat.taken ≡ l.fn.seat.taken) × (l.seat.seen ≡ l.fn.seat.seen);
   given : Each (Has (map (λ p. p.number + 1) l.yielded)) l.seat.given;
-  serves : All (λ c. Serves (g.K.Keeper.accepted l.fn.turn.opened.policy) l.fn.turn.opened.entries l.fn.turn c.part c.seat) l.clients.items;
+  serves : All (λ c. Serves l.fn.turn c.part c.seat) l.clients.items;
   seated : map (λ c. c.part) l.clients.items ≡ l.yielded;
   parts : l.fn.parts.items ≡ l.yielded ++ l.part-iterator.rest.items;
   room : (vec_len l.clients ≡ length l.yielded) × (length l.fn.parts.items ≤ vec_capacity l.clients);

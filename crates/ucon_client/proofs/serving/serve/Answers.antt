@@ -6,13 +6,14 @@ use Rattle.ucon_client.specs.declared.client.Client.{Client}
 use Rattle.ucon_client.specs.declared.part.Part.{Part}
 use Rattle.ucon_client.specs.Answers.{IsAnswered, IsPart, asked, number, served_of}
 use Rattle.ucon_client.specs.Clients.{AreRising}
-use Rattle.ucon_client.specs.Kept.{Kept}
+use Rattle.ucon_syntax.specs.Policies.{accepted}
+use Rattle.ucon_store.specs.Kept.{Kept}
 use Rattle.ucon_client.proofs.Ending.{asked_still, rising_still, back_still, each_part, closed_legal, lines_still, clients_told}
 use Rattle.ucon_client.proofs.serving.serve.Goals as goal
 
 pub join_all-requires-clause-rising : goal.join_all-requires-clause-rising
 join_all-requires-clause-rising g c =
-    let C : Type 0 = Client g.row.K.Denot in
+    let C : Type 0 = Client g.row.E.Denot g.row.D.Denot in
     let part_of : C → Part = λ d. d.part in
     let old : List C = c.seat_all.new.clients.items in
     let now : List C = c.serve_all.new.clients in
@@ -25,7 +26,7 @@ join_all-requires-clause-rising g c =
 
 pub returns-clause-asked : goal.returns-clause-asked
 returns-clause-asked g c =
-    let C : Type 0 = Client g.row.K.Denot in
+    let C : Type 0 = Client g.row.E.Denot g.row.D.Denot in
     let part_of : C → Part = λ d. d.part in
     let old : List C = c.seat_all.new.clients.items in
     let now : List C = c.serve_all.new.clients in
@@ -37,7 +38,7 @@ returns-clause-asked g c =
 
 pub returns-clause-all : goal.returns-clause-all
 returns-clause-all g c =
-    let C : Type 0 = Client g.row.K.Denot in
+    let C : Type 0 = Client g.row.E.Denot g.row.D.Denot in
     let part_of : C → Part = λ d. d.part in
     let old : List C = c.seat_all.new.clients.items in
     let now : List C = c.serve_all.new.clients in
@@ -48,7 +49,7 @@ returns-clause-all g c =
 
 pub close-requires-clause-joined : goal.close-requires-clause-joined
 close-requires-clause-joined g c =
-    let C : Type 0 = Client g.row.K.Denot in
+    let C : Type 0 = Client g.row.E.Denot g.row.D.Denot in
     let part_of : C → Part = λ d. d.part in
     let old : List C = c.seat_all.new.clients.items in
     let now : List C = c.serve_all.new.clients in
@@ -63,28 +64,28 @@ close-requires-clause-joined g c =
 
 pub returns-clause-legal : goal.returns-clause-legal
 returns-clause-legal g c = λ P is.
-    let opened : Kept = c.in-Ok-open.opened.0.opened in
+    let opened : Kept g.row.D.Denot = c.in-Ok-open.opened.0.opened in
     let same : opened ≡ c.args.store = c.in-Ok-open.ensures.turn.0 in
     (closed_legal P opened c.args.store c.close.result c.join_all.new.seat.seen c.join_all.new.seat.taken (map served_of c.join_all.new.parts.items)
-    same c.requires.unmarked (c.join_all.ensures.joined P (ap (λ (s : Kept). g.K.Keeper.accepted s.policy) same ∙ is)) c.close.ensures.list c.close.ensures.callers).0
+    same c.requires.unmarked (c.join_all.ensures.joined P (ap (λ (s : Kept g.row.D.Denot). accepted s.policy) same ∙ is)) c.close.ensures.list c.close.ensures.callers).0
 
 pub returns-clause-made : goal.returns-clause-made
 returns-clause-made g c = λ P is.
-    let opened : Kept = c.in-Ok-open.opened.0.opened in
+    let opened : Kept g.row.D.Denot = c.in-Ok-open.opened.0.opened in
     let same : opened ≡ c.args.store = c.in-Ok-open.ensures.turn.0 in
     (closed_legal P opened c.args.store c.close.result c.join_all.new.seat.seen c.join_all.new.seat.taken (map served_of c.join_all.new.parts.items)
-    same c.requires.unmarked (c.join_all.ensures.joined P (ap (λ (s : Kept). g.K.Keeper.accepted s.policy) same ∙ is)) c.close.ensures.list c.close.ensures.callers).1
+    same c.requires.unmarked (c.join_all.ensures.joined P (ap (λ (s : Kept g.row.D.Denot). accepted s.policy) same ∙ is)) c.close.ensures.list c.close.ensures.callers).1
 
 pub returns-clause-fault : goal.returns-clause-fault
 returns-clause-fault g c = λ P is.
-    let opened : Kept = c.in-Ok-open.opened.0.opened in
+    let opened : Kept g.row.D.Denot = c.in-Ok-open.opened.0.opened in
     let same : opened ≡ c.args.store = c.in-Ok-open.ensures.turn.0 in
     (closed_legal P opened c.args.store c.close.result c.join_all.new.seat.seen c.join_all.new.seat.taken (map served_of c.join_all.new.parts.items)
-    same c.requires.unmarked (c.join_all.ensures.joined P (ap (λ (s : Kept). g.K.Keeper.accepted s.policy) same ∙ is)) c.close.ensures.list c.close.ensures.callers).2
+    same c.requires.unmarked (c.join_all.ensures.joined P (ap (λ (s : Kept g.row.D.Denot). accepted s.policy) same ∙ is)) c.close.ensures.list c.close.ensures.callers).2
 
 pub returns-clause-lines : goal.returns-clause-lines
 returns-clause-lines g c =
-    let C : Type 0 = Client g.row.K.Denot in
+    let C : Type 0 = Client g.row.E.Denot g.row.D.Denot in
     let part_of : C → Part = λ d. d.part in
     let old : List C = c.seat_all.new.clients.items in
     let now : List C = c.serve_all.new.clients in
@@ -98,7 +99,7 @@ returns-clause-lines g c =
 
 pub returns-clause-clients : goal.returns-clause-clients
 returns-clause-clients g c =
-    let C : Type 0 = Client g.row.K.Denot in
+    let C : Type 0 = Client g.row.E.Denot g.row.D.Denot in
     let part_of : C → Part = λ d. d.part in
     let old : List C = c.seat_all.new.clients.items in
     let now : List C = c.serve_all.new.clients in

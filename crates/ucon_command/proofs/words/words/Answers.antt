@@ -1,7 +1,7 @@
 use Rattle.std.proofs.Common.{◌≡◌, ◌+◌, drop, sym, ap, ◌∙◌, arith, length-drop}
 use Rattle.std.proofs.lemmas.List.{drop-drop}
 use Rattle.ucon_model.specs.CommandLine.{words_of}
-use Rattle.ucon_command.proofs.Cuts.{word_more, last_word, within_more}
+use Rattle.ucon_command.proofs.Growing.{word_more, last_word, within_more}
 use Rattle.ucon_command.proofs.words.words.Goals as goal
 
 pub loop-len-preserved : goal.loop-len-preserved

@@ -11,7 +11,8 @@ returns-in-Some c = λ P T h.
     let s = shown c.args.state.now in
     let ns = c.numbers-numbers.result.now in
     let same = sym c.numbers-numbers.ensures.numbers in
-    let told = first_is_told s P T ns h (subst (λ xs. rises xs ≡ true) same c.numbers-numbers.ensures.rise) (subst (Covers s) same c.requires.covers) in
+    let found = c.the_least_failing_is_found.ensures in
+    let told = first_is_told found.nobody found.somebody s P T ns h (subst (λ xs. rises xs ≡ true) same c.numbers-numbers.ensures.rise) (subst (Covers s) same c.requires.covers) in
     sym told ∙ sym (c.loop-n.invariant P T h) ∙ found_at (fails_at P T) ns c.loop-n.n-index c.in-Some.label c.loop-n-test.true (c.fails_at.ensures P T h ∙ c.in-Some.is)
 
 pub returns : goal.returns
@@ -19,5 +20,6 @@ returns c = λ P T h.
     let s = shown c.args.state.now in
     let ns = c.numbers-numbers.result.now in
     let same = sym c.numbers-numbers.ensures.numbers in
-    let told = first_is_told s P T ns h (subst (λ xs. rises xs ≡ true) same c.numbers-numbers.ensures.rise) (subst (Covers s) same c.requires.covers) in
+    let found = c.the_least_failing_is_found.ensures in
+    let told = first_is_told found.nobody found.somebody s P T ns h (subst (λ xs. rises xs ≡ true) same c.numbers-numbers.ensures.rise) (subst (Covers s) same c.requires.covers) in
     sym told ∙ sym (c.loop-n.invariant P T h) ∙ none_left (fails_at P T) ns c.loop-n.n-index c.loop-n-test.false

@@ -1,11 +1,10 @@
 use Rattle.std.proofs.Common.{◌≡◌}
 use Rattle.ucon_model.specs.Plain.{PlainPolicy}
 use Rattle.ucon_model.specs.Action.{Trace}
-use Rattle.ucon_model.specs.Settle.{settle_within, revoked_in}
+use Rattle.ucon_model.specs.Settle.{settle_within, settled_to, revoked_in}
 use Rattle.ucon_state.specs.Following.{Follows}
 use Rattle.ucon_state.specs.Shown.{shown}
 use Rattle.ucon_actions.specs.Leads.{Leads, KeepsBase}
-use Rattle.ucon_actions.proofs.Turns.{settled_to}
 use Rattle.ucon_plain.specs.Watching.{NobodyMore}
 use Rattle.ucon_plain.proofs.settle.settle.Given as goal
 

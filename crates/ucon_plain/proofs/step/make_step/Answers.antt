@@ -7,7 +7,7 @@ use Rattle.ucon_actions.specs.Gives.{Makes}
 use Rattle.ucon_state.specs.Following.{Follows}
 use Rattle.ucon_state.specs.Shown.{shown}
 use Rattle.ucon_plain.specs.Watched.{numbers_of}
-use Rattle.ucon_plain.proofs.Standing.{made_actions, made_after, nobody_left}
+use Rattle.ucon_plain.proofs.Standing.{made_actions, made_after}
 use Rattle.ucon_plain.proofs.Watching.{watched_still}
 use Rattle.ucon_plain.proofs.step.make_step.Goals as goal
 
@@ -37,7 +37,7 @@ returns-in_ok-revoked-in-Ok-Made-clause-changed c _ = λ P T h.
     let s1 = shown c.own_actions.new.state in
     let given : Makes c.in-Ok-Made.head s1 P T (own P T c.args.caller c.args.command.now) = rw c.in-Ok-Made.field-0-is at (c.in-Ok-Made.ensures.given P T h) in
     let done = made_actions c.in-Ok-Made.head s1 P T _ given in
-    subst (λ (U : Trace). Follows (shown c.settle.new.state) P U) (made_after P T c.args.caller c.args.command.now c.in-Ok-Made.head done.0 done.1)
+    subst (λ (U : Trace). Follows (shown c.settle.new.state) P U) (made_after c.actions_are_done_in_order.ensures P T c.args.caller c.args.command.now c.in-Ok-Made.head done.0 done.1)
     (c.in_ok-revoked-in-Ok-Made.ensures.leads P (extended T done.0) done.2)
 
 pub returns-in_ok-revoked-in-Ok-Made-clause-nobody : goal.returns-in_ok-revoked-in-Ok-Made-clause-nobody
@@ -45,8 +45,8 @@ returns-in_ok-revoked-in-Ok-Made-clause-nobody c _ = λ P T h n.
     let s1 = shown c.own_actions.new.state in
     let given : Makes c.in-Ok-Made.head s1 P T (own P T c.args.caller c.args.command.now) = rw c.in-Ok-Made.field-0-is at (c.in-Ok-Made.ensures.given P T h) in
     let done = made_actions c.in-Ok-Made.head s1 P T _ given in
-    subst (λ (U : Trace). fails_at P U n ≡ None) (made_after P T c.args.caller c.args.command.now c.in-Ok-Made.head done.0 done.1)
-    (nobody_left (shown c.settle.new.state) P (extended T done.0) (c.in_ok-revoked-in-Ok-Made.ensures.leads P (extended T done.0) done.2) n)
+    subst (λ (U : Trace). fails_at P U n ≡ None) (made_after c.actions_are_done_in_order.ensures P T c.args.caller c.args.command.now c.in-Ok-Made.head done.0 done.1)
+    (c.nobody_fails_after_settling.ensures.nobody P (extended T done.0) n done.2.sound.numbered)
 
 pub returns-in_ok-revoked-in-Ok-Made-clause-covers : goal.returns-in_ok-revoked-in-Ok-Made-clause-covers
 returns-in_ok-revoked-in-Ok-Made-clause-covers c =

@@ -1,4 +1,4 @@
-use Rattle.std.proofs.Common.{◌≡◌, ◌≢◌, ◌∙◌, ◌<◌, ℕ, [], ◌∷◌, ◌++◌, length, ap, sym, subst, is_some, Some}
+use Rattle.std.proofs.Common.{◌≡◌, ◌≢◌, ◌∙◌, ◌<◌, ℕ, [], ◌∷◌, ◌++◌, length, ap, sym, subst, is_some}
 use Rattle.std.proofs.lemmas.Bool.{false≢true}
 use Rattle.ucon_links.specs.Lists.{list_at}
 use Rattle.ucon_wheel.specs.Lines.{deadline_at}

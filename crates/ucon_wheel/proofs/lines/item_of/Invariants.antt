@@ -1,4 +1,4 @@
-use Rattle.std.proofs.Common.{◌≡◌, ◌≢◌, List, ℕ}
+use Rattle.std.proofs.Common.{◌≢◌, List, ℕ}
 use Rattle.ucon_links.specs.Lists.{list_at, nodes_of, IsDistinct}
 use Rattle.ucon_wheel.specs.Lines.{Has, deadline_at}
 use Rattle.ucon_wheel.proofs.Walking.{IsAt, rest_length}

@@ -1,5 +1,5 @@
 use Rattle.std.proofs.Common.{◌∙◌, ◌-◌, ap, List, ℕ, Some, None}
-use Rattle.ucon_links.specs.Lists.{Lists, link_behind}
+use Rattle.ucon_links.specs.Lists.{link_behind}
 use Rattle.ucon_wheel.proofs.Linking.{listed, preceded, behind_is}
 use Rattle.ucon_wheel.proofs.lines.link_before.Goals as goal
 

@@ -1,5 +1,4 @@
 use Rattle.std.proofs.Common.{◌≡◌, ◌∙◌, ap, sym, subst, is_some}
-use Rattle.ucon_links.specs.Lists.{list_at}
 use Rattle.ucon_wheel.specs.Lines.{IsNodeOf}
 use Rattle.ucon_wheel.proofs.Linking.{some_of}
 use Rattle.ucon_wheel.proofs.Walking.{owner_at}

@@ -1,4 +1,4 @@
-use Rattle.std.proofs.Common.{◌≡◌, ◌∙◌, ◌-◌, List, Some, ap, sym, subst}
+use Rattle.std.proofs.Common.{◌∙◌, ◌-◌, List, Some, ap, sym, subst}
 use Rattle.ucon_wheel.specs.Deadlines.{Pair, first, later, shown}
 use Rattle.ucon_wheel.specs.Lines.{HasNext, put_before}
 use Rattle.ucon_wheel.proofs.Ordered.{IsInOrder}

@@ -4,7 +4,7 @@ use Rattle.ucon_client.proofs.client.Client.serve.Given as goal
 
 abbrev pub invariant-loop-place : goal.invariant-loop-place
 invariant-loop-place g l = record {
-  serves : Serves (g.K.Keeper.accepted l.turn.opened.policy) l.turn.opened.entries l.turn l.self.part l.self.seat;
+  serves : Serves l.turn l.self.part l.self.seat;
   count : l.place ≡ length l.self.part.answers.items;
   kept : Keeps l.fn.self.part l.self.part;
 }

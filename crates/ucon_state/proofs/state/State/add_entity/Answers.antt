@@ -1,28 +1,35 @@
 use Rattle.std.proofs.Common.{◌∙◌, sym, ap, subst, ◌++◌, ◌∷◌, [], ◌+◌, ◌<◌, ◌^◌, length, arith}
 use Rattle.ucon_model.specs.Checked.{checked_policy}
-use Rattle.ucon_state.specs.Sound.{IsSound}
+use Rattle.ucon_state.specs.Shown.{right_names}
+use Rattle.ucon_state.specs.Sound.{IsKept}
+use Rattle.ucon_state.specs.Stored.{named}
 use Rattle.ucon_state.specs.Views.{lists_of}
-use Rattle.ucon_state.proofs.Stages.{noted_sound, noted_shown, sound_now}
+use Rattle.ucon_state.proofs.Stages.{noted_sound, noted_shown, numbered_now, sound_now}
 use Rattle.ucon_state.specs.Applied.{defaults_of, with_new_entity}
+use Rattle.ucon_state.proofs.Numbered.{named_entity, numbered_entity}
 use Rattle.ucon_state.proofs.Sounds.{entity_sound}
 use Rattle.ucon_state.proofs.state.State.add_entity.Goals as goal
 
 pub invariant_of-self-2 : goal.invariant_of-self-2
 invariant_of-self-2 c =
     let P = checked_policy c.args.self.now.checked in
+    let R = right_names c.args.self.now in
     let t = lists_of c.args.self.now.tables in
     let added = c.push_reserved.ensures.items ∙ ap (λ cs. cs ++ c.in_ok-change.change ∷ []) c.reserve.ensures.items in
-    let before = sound_now P c.args.self.now.changes.items t c.args.self.now.sound in
+    let before = sound_now P R c.args.self.now.changes.items t c.args.self.now.sound in
     let is = c.in_ok-change.ensures.ok ∙ ap (λ vs. with_new_entity t c.args.side c.args.name vs) c.in_ok-defaults.ensures in
     let small : length t.cells + length (defaults_of P c.args.side) < 2 ^ 32 =
     subst (λ vs. length t.cells + length vs < 2 ^ 32) c.in_ok-defaults.ensures (omega (arith, c.if-len.false, c.len.ensures, c.len-2.ensures)) in
     let now = entity_sound P t before c.args.side c.args.name c.requires.room small in
-    record { sound = noted_sound P _ _ c.in_ok-change.change t _ added c.in_ok-change.ensures.undone c.args.self.now.sound (subst (IsSound P) (sym is) now) }
+    let numbered = numbered_now P R c.args.self.now.changes.items t c.args.self.now.sound in
+    record { sound = noted_sound P R _ _ c.in_ok-change.change t _ added c.in_ok-change.ensures.undone c.args.self.now.sound (subst (IsKept P R) (sym is) (now, numbered_entity R t numbered P c.args.side c.args.name c.requires.new)); has_rights = c.args.self.now.has_rights }
 
 pub returns-clause-ok : goal.returns-clause-ok
 returns-clause-ok c =
     let P = checked_policy c.args.self.now.checked in
+    let R = right_names c.args.self.now in
     let t = lists_of c.args.self.now.tables in
     let added = c.push_reserved.ensures.items ∙ ap (λ cs. cs ++ c.in_ok-change.change ∷ []) c.reserve.ensures.items in
     let is = c.in_ok-change.ensures.ok ∙ ap (λ vs. with_new_entity t c.args.side c.args.name vs) c.in_ok-defaults.ensures in
-    noted_shown P _ _ c.in_ok-change.change t _ _ added c.in_ok-change.ensures.undone is
+    let numbered = numbered_now P R c.args.self.now.changes.items t c.args.self.now.sound in
+    noted_shown P R _ _ c.in_ok-change.change t _ _ added c.in_ok-change.ensures.undone (ap (named R) is ∙ named_entity R t numbered P c.args.side c.args.name)

@@ -5,11 +5,13 @@ use Rattle.ucon_model.specs.Checked.{checked_policy}
 use Rattle.ucon_model.specs.Plain.{PlainPolicy}
 use Rattle.ucon_model.specs.Readings.{env_position}
 use Rattle.ucon_state.specs.Applied.{with_variable}
-use Rattle.ucon_state.specs.Sound.{IsSound}
+use Rattle.ucon_state.specs.Shown.{right_names}
+use Rattle.ucon_state.specs.Sound.{IsKept}
+use Rattle.ucon_state.specs.Stored.{named}
 use Rattle.ucon_state.specs.Views.{lists_of}
 use Rattle.ucon_state.proofs.Places.{found_place, position_within}
 use Rattle.ucon_state.proofs.Sounds.{variable_sound}
-use Rattle.ucon_state.proofs.Stages.{noted_sound, noted_shown, sound_now}
+use Rattle.ucon_state.proofs.Stages.{noted_sound, noted_shown, numbered_now, sound_now}
 use Rattle.ucon_state.proofs.state.State.set_env.Goals as goal
 
 pub unwrap-place-requires : goal.unwrap-place-requires
@@ -21,22 +23,26 @@ unwrap-place-requires c =
 pub set_variable-change-requires : goal.set_variable-change-requires
 set_variable-change-requires c =
     let P = checked_policy c.args.self.now.checked in
-    let before = sound_now P c.args.self.now.changes.items (lists_of c.args.self.now.tables) c.args.self.now.sound in
+    let R = right_names c.args.self.now in
+    let before = sound_now P R c.args.self.now.changes.items (lists_of c.args.self.now.tables) c.args.self.now.sound in
     let within = position_within (λ d. bytes_eq c.args.name.now d.name) P.envs c.unwrap-place.result (sym (c.env_position.ensures ∙ ap (λ (Q : PlainPolicy). env_position Q c.args.name.now) c.policy.ensures.policy) ∙ c.unwrap-place.ensures) in
     omega (arith, within, before.variables)
 
 pub invariant_of-self-2 : goal.invariant_of-self-2
 invariant_of-self-2 c =
     let P = checked_policy c.args.self.now.checked in
+    let R = right_names c.args.self.now in
     let t = lists_of c.args.self.now.tables in
     let added = c.push_reserved.ensures.items ∙ ap (λ cs. cs ++ c.set_variable-change.result ∷ []) c.reserve.ensures.items in
-    let now = variable_sound P t (sound_now P c.args.self.now.changes.items t c.args.self.now.sound) _ _ in
-    record { sound = noted_sound P _ _ c.set_variable-change.result t _ added c.set_variable-change.ensures.undone c.args.self.now.sound (subst (IsSound P) (sym c.set_variable-change.ensures.tables) now) }
+    let now = variable_sound P t (sound_now P R c.args.self.now.changes.items t c.args.self.now.sound) _ _ in
+    let numbered = numbered_now P R c.args.self.now.changes.items t c.args.self.now.sound in
+    record { sound = noted_sound P R _ _ c.set_variable-change.result t _ added c.set_variable-change.ensures.undone c.args.self.now.sound (subst (IsKept P R) (sym c.set_variable-change.ensures.tables) (now, numbered)); has_rights = c.args.self.now.has_rights }
 
 pub returns-clause-ok : goal.returns-clause-ok
 returns-clause-ok c =
     let P = checked_policy c.args.self.now.checked in
+    let R = right_names c.args.self.now in
     let t = lists_of c.args.self.now.tables in
     let added = c.push_reserved.ensures.items ∙ ap (λ cs. cs ++ c.set_variable-change.result ∷ []) c.reserve.ensures.items in
-    let is = c.set_variable-change.ensures.tables ∙ ap (λ o. option_map_or (λ place. with_variable t place c.args.value) o t) (sym c.unwrap-place.ensures ∙ (c.env_position.ensures ∙ ap (λ (Q : PlainPolicy). env_position Q c.args.name.now) c.policy.ensures.policy)) in
-    noted_shown P _ _ c.set_variable-change.result t _ _ added c.set_variable-change.ensures.undone is
+    let is = ap (named R) c.set_variable-change.ensures.tables ∙ ap (λ o. option_map_or (λ place. with_variable (named R t) place c.args.value) o (named R t)) (sym c.unwrap-place.ensures ∙ (c.env_position.ensures ∙ ap (λ (Q : PlainPolicy). env_position Q c.args.name.now) c.policy.ensures.policy)) in
+    noted_shown P R _ _ c.set_variable-change.result t _ _ added c.set_variable-change.ensures.undone is

@@ -1,22 +1,27 @@
 use Rattle.std.proofs.Common.{◌∙◌, sym, ap, subst, ◌++◌, ◌∷◌, []}
 use Rattle.ucon_model.specs.Checked.{checked_policy}
-use Rattle.ucon_state.specs.Sound.{IsSound}
+use Rattle.ucon_state.specs.Shown.{right_names}
+use Rattle.ucon_state.specs.Sound.{IsKept}
+use Rattle.ucon_state.specs.Stored.{named}
 use Rattle.ucon_state.specs.Views.{lists_of}
-use Rattle.ucon_state.proofs.Stages.{noted_sound, noted_shown, sound_now}
+use Rattle.ucon_state.proofs.Stages.{noted_sound, noted_shown, numbered_now, sound_now}
 use Rattle.ucon_state.proofs.Sounds.{tick_sound}
 use Rattle.ucon_state.proofs.state.State.set_tick.Goals as goal
 
 pub invariant_of-self-2 : goal.invariant_of-self-2
 invariant_of-self-2 c =
     let P = checked_policy c.args.self.now.checked in
+    let R = right_names c.args.self.now in
     let t = lists_of c.args.self.now.tables in
     let added = c.push_reserved.ensures.items ∙ ap (λ cs. cs ++ c.set_tick-change.result ∷ []) c.reserve.ensures.items in
-    let now = tick_sound P t (sound_now P c.args.self.now.changes.items t c.args.self.now.sound) c.args.tick in
-    record { sound = noted_sound P _ _ c.set_tick-change.result t _ added c.set_tick-change.ensures.undone c.args.self.now.sound (subst (IsSound P) (sym c.set_tick-change.ensures.tables) now) }
+    let now = tick_sound P t (sound_now P R c.args.self.now.changes.items t c.args.self.now.sound) c.args.tick in
+    let numbered = numbered_now P R c.args.self.now.changes.items t c.args.self.now.sound in
+    record { sound = noted_sound P R _ _ c.set_tick-change.result t _ added c.set_tick-change.ensures.undone c.args.self.now.sound (subst (IsKept P R) (sym c.set_tick-change.ensures.tables) (now, numbered)); has_rights = c.args.self.now.has_rights }
 
 pub returns-clause-ok : goal.returns-clause-ok
 returns-clause-ok c =
     let P = checked_policy c.args.self.now.checked in
+    let R = right_names c.args.self.now in
     let t = lists_of c.args.self.now.tables in
     let added = c.push_reserved.ensures.items ∙ ap (λ cs. cs ++ c.set_tick-change.result ∷ []) c.reserve.ensures.items in
-    noted_shown P _ _ c.set_tick-change.result t _ _ added c.set_tick-change.ensures.undone c.set_tick-change.ensures.tables
+    noted_shown P R _ _ c.set_tick-change.result t _ _ added c.set_tick-change.ensures.undone (ap (named R) c.set_tick-change.ensures.tables)

@@ -1,10 +1,12 @@
-use Rattle.std.proofs.Common.{◌≡◌, Some, sym, subst}
+use Rattle.std.proofs.Common.{◌≡◌, Some, None, sym, subst, arith}
 use Rattle.ucon_disk.specs.Run.{LeavesAfter}
 use Rattle.ucon_journal.specs.Journal.{disk_of}
 use Rattle.ucon_store.specs.Found.{Tells, Opens}
 use Rattle.ucon_store.specs.declared.fault.StoreFault.{StoreFault}
 use Rattle.ucon_store.specs.Opening.{HasReason}
 use Rattle.ucon_store.proofs.Begun.{opening_reason, reason_before, found_before}
+use Rattle.ucon_store.specs.Kept.{IsAtRestWith}
+use Rattle.ucon_store.proofs.Recorded.{left_at_rest}
 use Rattle.ucon_store.proofs.Runs.{begin_opens, whole_opens}
 use Rattle.ucon_store.proofs.store.Store.open.Goals as goal
 
@@ -44,3 +46,22 @@ pub returns-in-Ok-load-clause-images : goal.returns-in-Ok-load-clause-images
 returns-in-Ok-load-clause-images g c =
     whole_opens g.D.Disk.contents g.D.Disk.images g.D.Disk.moment g.D.Disk.images_since c.args.policy.now c.args.disk (disk_of c.in-Ok.journal) (disk_of c.load.new.journal)
     c.in-Ok.ensures.images c.in-Ok.ensures.bytes c.in-Ok.ensures.only c.load.ensures.images
+
+pub invariant_of-result : goal.invariant_of-result
+invariant_of-result g c =
+    let journal = c.load.new.journal in
+    let text = c.in-Ok-load.loaded.policy.items in
+    let H = c.in-Ok-load.loaded.entries.items in
+    let loaded = c.in-Ok-load.ensures.loaded in
+    let P = loaded.standing.P in
+    let rest : IsAtRestWith g.D.Disk.contents g.D.Disk.images journal text P H =
+    record { closed = c.in-Ok-load.ensures.closed; few = loaded.few; only = c.in-Ok-load.ensures.only; holds = loaded.holds } in
+    record {
+      P = P;
+      accepts = loaded.standing.accepts;
+      stands = loaded.standing.stands;
+      few = omega (arith, loaded.few, journal.gate_small);
+      rests = λ none. rest;
+      failed = λ e is. absurd (cc is);
+      left = left_at_rest g.D.Disk.contents g.D.Disk.images journal text P H rest None;
+    }

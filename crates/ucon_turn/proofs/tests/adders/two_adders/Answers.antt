@@ -1,5 +1,6 @@
 use Rattle.std.proofs.Common.{◌≢◌, ℕ, List, [], ◌∷◌, ap, sym, ◌∙◌, subst}
-use Rattle.ucon_turn.specs.Lists.{Each, Has, Continues, ByOthers}
+use Rattle.ucon_base.specs.Elements.{Each}
+use Rattle.ucon_turn.specs.Lists.{Has, Continues, ByOthers}
 use Rattle.ucon_turn.specs.Additions.{serial}
 use Rattle.ucon_turn.proofs.Additions.{serial_on, only_two}
 use Rattle.ucon_turn.proofs.tests.adders.two_adders.Goals as goal

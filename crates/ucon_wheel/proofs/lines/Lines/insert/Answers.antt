@@ -1,4 +1,4 @@
-use Rattle.std.proofs.Common.{◌≡◌, ◌∙◌, ap, sym, subst, List, length, ◌<◌, ◌≤◌, ◌-◌}
+use Rattle.std.proofs.Common.{◌∙◌, ap, sym, subst, List, length, ◌<◌, ◌≤◌, ◌-◌}
 use Rattle.ucon_wheel.specs.declared.lines.Deadline.{Deadline}
 use Rattle.ucon_wheel.specs.Deadlines.{Pair}
 use Rattle.ucon_wheel.specs.Lines.{Linked, HasNext, IsKnown, IsNodeOf, put_before}

@@ -1,4 +1,4 @@
-use Rattle.std.proofs.Common.{◌≡◌, ◌∙◌, ◌≤◌, ap, arith, length}
+use Rattle.std.proofs.Common.{◌∙◌, ◌≤◌, ap, arith, length}
 use Rattle.ucon_links.specs.Lists.{Lists}
 use Rattle.ucon_wheel.proofs.Lined.{begun}
 use Rattle.ucon_wheel.proofs.lines.Lines.new.Goals as goal

@@ -1,6 +1,5 @@
-use Rattle.std.proofs.Common.{◌∙◌, ap, w64}
-use Rattle.std.specs.Map.{lookup}
-use Rattle.ucon_wheel.specs.Deadlines.{Deadlines, is_pair, state_of}
+use Rattle.std.proofs.Common.{◌∙◌, ap}
+use Rattle.ucon_wheel.specs.Deadlines.{Deadlines, state_of}
 use Rattle.ucon_wheel.proofs.Marking.{tells_some, tells_none}
 use Rattle.ucon_wheel.proofs.marks.Marks.has.Goals as goal
 

@@ -1,5 +1,4 @@
-use Rattle.std.proofs.Common.{◌≡◌, ◌∙◌, ◌∷◌, ◌++◌, ap, sym, subst, arith, length, [], Some, false, true, w64}
-use Rattle.std.specs.Map.{set_value}
+use Rattle.std.proofs.Common.{◌≡◌, ◌∙◌, ap, sym, subst, arith, length, [], Some, false, true}
 use Rattle.std.proofs.lemmas.Map.{length-set_value}
 use Rattle.ucon_wheel.specs.Deadlines.{Deadlines, is_pair, state_of, hide, unhide}
 use Rattle.ucon_wheel.proofs.Marking.{count_less, counted_mark, hide_seen, stack_pushed, unhide-hide}

@@ -1,6 +1,5 @@
-use Rattle.std.proofs.Common.{◌∙◌, ap, is_some, w64}
-use Rattle.std.specs.Map.{lookup}
-use Rattle.ucon_wheel.specs.Deadlines.{Deadlines, is_pair, state_of}
+use Rattle.std.proofs.Common.{◌∙◌, ap, is_some}
+use Rattle.ucon_wheel.specs.Deadlines.{Deadlines, state_of}
 use Rattle.ucon_wheel.proofs.marks.Marks.is_there.Goals as goal
 
 pub returns : goal.returns

@@ -1,5 +1,4 @@
-use Rattle.std.proofs.Common.{◌≡◌, ◌∙◌, ap, sym, subst, arith, length, None, false, w64}
-use Rattle.std.specs.BTreeMap.{insert_entry}
+use Rattle.std.proofs.Common.{◌≡◌, ◌∙◌, ap, sym, subst, arith, length, None}
 use Rattle.ucon_wheel.specs.Deadlines.{Deadlines, pair_cmp, state_of, put, take_back}
 use Rattle.ucon_wheel.proofs.Marking.{count_most, counted_put, length_insert, put_seen, stack_kept}
 use Rattle.ucon_wheel.proofs.Removing.{take_back-put}

@@ -1,5 +1,4 @@
-use Rattle.std.proofs.Common.{◌≡◌, ◌∙◌, ap, sym, subst, arith, length, reverse, Some, false, w64, List, Bool}
-use Rattle.std.specs.Map.{remove_entry}
+use Rattle.std.proofs.Common.{◌≡◌, ◌∙◌, ap, sym, subst, arith, length, reverse, Some, false, List, Bool}
 use Rattle.ucon_wheel.specs.Deadlines.{Pair, Deadlines, is_pair, state_of, take_back}
 use Rattle.ucon_wheel.specs.Marks.{IsStack}
 use Rattle.ucon_wheel.proofs.Removing.{stack_removed, counted_removed, length_removed}

@@ -1,10 +1,7 @@
-use Rattle.std.proofs.Common.{◌∙◌, ap, sym, subst, true, false, w64, to_z, of_z}
+use Rattle.std.proofs.Common.{◌∙◌, ap, sym, true, false, w64, to_z, of_z}
 use Rattle.std.specs.Prelude.{int_lt}
 use Rattle.std.proofs.lemmas.Int.{to_z-of_z}
-use Rattle.ucon_wheel.specs.Deadlines.{Deadlines, pair_cmp, shown}
 use Rattle.ucon_wheel.proofs.Firsts.{below, below_some, due_is}
-use Rattle.std.specs.List.Sorted.{IsStrictlySortedBy}
-use Rattle.ucon_wheel.proofs.Order.{sorted_shown}
 use Rattle.ucon_wheel.proofs.wheel.Wheel.due.Goals as goal
 
 pub returns-in_err-pair-clause-due : goal.returns-in_err-pair-clause-due

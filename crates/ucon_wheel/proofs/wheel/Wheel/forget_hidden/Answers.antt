@@ -1,4 +1,4 @@
-use Rattle.std.proofs.Common.{◌≡◌, ◌∙◌, ◌<◌, ◌≤◌, arith, length, ap, sym, subst}
+use Rattle.std.proofs.Common.{◌≡◌, ◌∙◌, arith, length, ap, sym, subst}
 use Rattle.ucon_wheel.specs.Deadlines.{Deadlines, shown}
 use Rattle.ucon_wheel.specs.Lines.{Has}
 use Rattle.ucon_wheel.proofs.Ordered.{IsInOrder}

@@ -1,4 +1,4 @@
-use Rattle.std.proofs.Common.{◌≡◌, ◌∙◌, ap, sym, subst}
+use Rattle.std.proofs.Common.{◌∙◌, sym, subst}
 use Rattle.ucon_wheel.specs.Deadlines.{Deadlines, IsShown}
 use Rattle.ucon_wheel.proofs.Showing.{put_shown, put_lacking}
 use Rattle.ucon_wheel.proofs.wheel.Wheel.put.Goals as goal

@@ -1,4 +1,4 @@
-use Rattle.std.proofs.Common.{◌≡◌, ℤ, w64, ◌∙◌, ◌<◌, ◌≤◌, refl, arith, List, length, ap, sym, subst}
+use Rattle.std.proofs.Common.{◌≡◌, ℤ, w64, ◌∙◌, ◌<◌, arith, length, ap, sym, subst}
 use Rattle.std.proofs.lemmas.Int.{to_z-of_z}
 use Rattle.ucon_wheel.specs.Deadlines.{Pair, Deadlines, IsShown, shown}
 use Rattle.ucon_wheel.specs.Lines.{Linked, Has, without_pair}

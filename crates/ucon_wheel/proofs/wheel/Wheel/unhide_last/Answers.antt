@@ -1,5 +1,5 @@
-use Rattle.std.proofs.Common.{◌≡◌, ◌∙◌, ◌<◌, ◌≤◌, ◌∷◌, inl, inr, refl, arith, List, length, ap, sym, subst}
-use Rattle.ucon_wheel.specs.Deadlines.{Pair, Deadlines, IsShown, shown}
+use Rattle.std.proofs.Common.{◌∙◌, ◌<◌, inl, inr, refl, arith, length, ap, sym, subst}
+use Rattle.ucon_wheel.specs.Deadlines.{Deadlines, IsShown, shown}
 use Rattle.ucon_wheel.specs.Lines.{Linked, Has, without_pair}
 use Rattle.ucon_wheel.proofs.Showing.{returns_shown}
 use Rattle.ucon_wheel.proofs.wheel.Wheel.unhide_last.Goals as goal

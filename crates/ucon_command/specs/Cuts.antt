@@ -1,0 +1,83 @@
+-- Where the words of a line stand, and the command that they give.
+use Rattle.std.specs.Prelude.{◌≡◌, ℕ, ◌-◌, ◌≤◌, ◌<◌, Bool, ◌&&◌, true, ◌==◌, nat_lt, nat_le, IsTrue, IsOk, List, [], ◌∷◌, drop, length, slice_range, Option, Some, None, option_map, IfSome, Result}
+use Rattle.std.specs.List.{slice_split}
+use Rattle.std.specs.Result.{result_ok}
+use Rattle.ucon_base.specs.NameBytes.{is_name}
+use Rattle.ucon_command.specs.declared.cuts.Cuts.{Cuts}
+use Rattle.ucon_command.specs.declared.cuts.Cuts.TheVariants as cuts
+use Rattle.ucon_model.specs.declared.command.Command.{Command}
+use Rattle.ucon_model.specs.declared.command.Command.TheVariants.{Subject, Object, Set, Env, Tick, Act, Try, Again, Beat, End, Look, Value as Value'}
+use Rattle.ucon_model.specs.CommandLine.{LineRefusal, Word, placed, words_of, value_in, integer_in}
+use Rattle.ucon_model.specs.Plain.{Bytes}
+
+-- ---- the words of a line
+
+-- the words from a place on
+abbrev pub words_at : ℕ → Bytes → List Word
+words_at at line = placed at (slice_split (λ b. b == 32) (drop at line))
+
+-- those from a place on, if there is one
+abbrev pub words_from : Option ℕ → Bytes → List Word
+words_from None line = []
+words_from (Some at) line = words_at at line
+
+-- the bytes of a line from one place up to the space before another
+abbrev pub between : ℕ → ℕ → Bytes → Bytes
+between at next line = slice_range line at (next - 1)
+
+-- the word that begins at a place, and behind which the next one begins at another, if there is one
+abbrev pub word_to : ℕ → Option ℕ → Bytes → Word
+word_to at None line = record { at = at; text = drop at line }
+word_to at (Some next) line = record { at = at; text = between at next line }
+
+-- a line's words are the first and those from this place on
+pub record IsSecond (second : Option ℕ) (line : Bytes) : Type 0 where
+  pub words : words_of line ≡ word_to 0 second line ∷ words_from second line
+  pub within : IfSome second (λ at. at ≤ length line)
+  pub behind : IfSome second (λ at. 0 < at)
+
+-- ---- the command
+
+-- the command that cuts give
+abbrev pub command_cut : Cuts → Bytes → Option Command
+command_cut (cuts.Subject name) line = Some (Subject (drop name line))
+command_cut (cuts.Object name) line = Some (Object (drop name line))
+command_cut (cuts.Set side name attr value) line = option_map (Set side (between name attr line) (between attr value line)) (value_in (drop value line))
+command_cut (cuts.Env name value) line = option_map (Env (between name value line)) (value_in (drop value line))
+command_cut (cuts.Tick tick) line = option_map Tick (integer_in (drop tick line))
+command_cut (cuts.Act subject action object) line = Some (Act (between subject action line) (between action object line) (drop object line))
+command_cut (cuts.Try subject right object) line = Some (Try (between subject right line) (between right object line) (drop object line))
+command_cut (cuts.Again session) line = Some (Again session)
+command_cut (cuts.Beat session) line = Some (Beat session)
+command_cut (cuts.End session) line = Some (End session)
+command_cut (cuts.Look session) line = Some (Look session)
+command_cut (cuts.Value side name attr) line = Some (Value' side (between name attr line) (drop attr line))
+
+-- whether a name stands at a place, behind which the next word begins at another
+abbrev pub has_name : ℕ → ℕ → Bytes → Bool
+has_name at next line = nat_lt at next && nat_le next (length line) && is_name (between at next line)
+
+-- whether a name takes the rest of a line
+abbrev pub ends_in_name : ℕ → Bytes → Bool
+ends_in_name at line = nat_le at (length line) && is_name (drop at line)
+
+-- whether the words that are names are some, and a value's place is one
+abbrev pub has_words : Cuts → Bytes → Bool
+has_words (cuts.Subject name) line = ends_in_name name line
+has_words (cuts.Object name) line = ends_in_name name line
+has_words (cuts.Set side name attr value) line = has_name name attr line && has_name attr value line
+has_words (cuts.Env name value) line = has_name name value line
+has_words (cuts.Tick tick) line = nat_le tick (length line)
+has_words (cuts.Act subject action object) line = has_name subject action line && has_name action object line && ends_in_name object line
+has_words (cuts.Try subject right object) line = has_name subject right line && has_name right object line && ends_in_name object line
+has_words (cuts.Again session) line = true
+has_words (cuts.Beat session) line = true
+has_words (cuts.End session) line = true
+has_words (cuts.Look session) line = true
+has_words (cuts.Value side name attr) line = has_name name attr line && ends_in_name attr line
+
+-- cuts give what is read of a line
+pub record AreCuts (k : Cuts) (line : Bytes) (read : Result Command LineRefusal) : Type 0 where
+  pub spelled : IsOk read
+  pub cut : result_ok read ≡ command_cut k line
+  pub words : IsTrue (has_words k line)

@@ -1,0 +1,46 @@
+//! A line that spells a command, judged once.
+
+ghost use Rattle.std.specs.Prelude.{◌≡◌, ◌<◌, length, Ok, Err, IfOk, IsOk, IsTrue, MatchResult};
+ghost use Rattle.std.specs.Result.{result_ok};
+ghost use Rattle.ucon_model.specs.CommandLine.{line_read};
+ghost use Rattle.ucon_command.specs.Cuts.{command_cut, has_words};
+ghost use Rattle.ucon_command.specs.Faults.{IsRefusal};
+
+use crate::cuts::Cuts;
+use crate::cutting::command_of;
+use crate::judging::cuts_of;
+use crate::line_fault::LineFault;
+use std::alloc::Global;
+use ucon_base::NoMemory;
+use ucon_model::Command;
+
+/// A line that is known to spell a command, and where the command's words stand in it. It takes 24 bytes of memory, and not the room of the longest
+/// command.
+#[derive(Clone, Copy, Debug)]
+pub struct CommandLine<'a> {
+    pub text: &'a [u8],
+    cuts: Cuts,
+    ghost spelled: { IsOk (line_read text.now) },
+    ghost cut: { result_ok (line_read text.now) ≡ command_cut cuts text.now },
+    ghost words: { IsTrue (has_words cuts text.now) },
+}
+
+impl<'a> CommandLine<'a> {
+    /// The line, if it spells a command, or the first refusal. Only a value that is a set takes memory while it is judged.
+    pub fn judge(alloc: Global, text: &'a [u8]) -> Result<CommandLine<'a>, LineFault>
+        ensures judged { MatchResult result (λ l. (l.text.now ≡ text.now) × IsOk (line_read text.now)) (IsRefusal (line_read text.now)) }
+        ensures long { 8192 < length text.now → result ≡ Err (LineFault.TooLong (length text.now)) }
+    {
+        match cuts_of(alloc, text) {
+            Ok(cuts) => Ok(CommandLine { text, cuts }),
+            Err(fault) => Err(fault),
+        }
+    }
+
+    /// The command.
+    pub fn command(&self, alloc: Global) -> Result<Command, NoMemory>
+        ensures { IfOk result (λ c. line_read self.now.text.now ≡ Ok c) }
+    {
+        command_of(alloc, self.text, self.cuts)
+    }
+}

@@ -1,0 +1,119 @@
+//! Builds a command from its line, whose words are known.
+
+ghost use Rattle.std.specs.Prelude.{◌≡◌, ◌<◌, ◌≤◌, drop, length, IfOk, IsSome, IsTrue, Some};
+ghost use Rattle.ucon_base.specs.NameBytes.{is_name};
+ghost use Rattle.ucon_base.specs.Reading.{value_read};
+ghost use Rattle.ucon_model.specs.CommandLine.{integer_in, value_in};
+ghost use Rattle.ucon_command.specs.Cuts.{between, command_cut, ends_in_name, has_name, has_words};
+
+use crate::cuts::Cuts;
+use std::alloc::Global;
+use ucon_base::{Int, Name, NoMemory, Value, ValueFault};
+use ucon_model::Command;
+
+/// The command that these cuts of a line give.
+#[tactic(auto, using(crate::proofs::KnownWords::both, crate::proofs::KnownWords::some_mapped))]
+pub fn command_of(alloc: Global, line: &[u8], cuts: Cuts) -> Result<Command, NoMemory>
+    requires words { IsTrue (has_words cuts line.now) }
+    requires some { IsSome (command_cut cuts line.now) }
+    ensures { IfOk result (λ c. command_cut cuts line.now ≡ Some c) }
+{
+    match cuts {
+        Cuts::Subject { name } => Ok(Command::Subject(last_name(line, name))),
+        Cuts::Object { name } => Ok(Command::Object(last_name(line, name))),
+        Cuts::Set {
+            side,
+            name,
+            attr,
+            value,
+        } => Ok(Command::Set {
+            side,
+            name: name_between(line, name, attr),
+            attr: name_between(line, attr, value),
+            value: last_value(alloc, line, value)?,
+        }),
+        Cuts::Env { name, value } => Ok(Command::Env {
+            name: name_between(line, name, value),
+            value: last_value(alloc, line, value)?,
+        }),
+        Cuts::Tick { tick } => Ok(Command::Tick(last_integer(alloc, line, tick)?)),
+        Cuts::Act {
+            subject,
+            action,
+            object,
+        } => Ok(Command::Act {
+            subject: name_between(line, subject, action),
+            action: name_between(line, action, object),
+            object: last_name(line, object),
+        }),
+        Cuts::Try {
+            subject,
+            right,
+            object,
+        } => Ok(Command::Try {
+            subject: name_between(line, subject, right),
+            right: name_between(line, right, object),
+            object: last_name(line, object),
+        }),
+        Cuts::Again(n) => Ok(Command::Again(n)),
+        Cuts::Beat(n) => Ok(Command::Beat(n)),
+        Cuts::End(n) => Ok(Command::End(n)),
+        Cuts::Look(n) => Ok(Command::Look(n)),
+        Cuts::Value { side, name, attr } => Ok(Command::Value {
+            side,
+            name: name_between(line, name, attr),
+            attr: last_name(line, attr),
+        }),
+    }
+}
+
+/// The name from one place up to the space before another.
+fn name_between(line: &[u8], at: u16, next: u16) -> Name
+    requires { IsTrue (has_name at next line.now) }
+    ensures { result ≡ between at next line.now }
+{
+    known_name(&line[at as usize..next as usize - 1])
+}
+
+/// The name that takes the rest of the line.
+fn last_name(line: &[u8], at: u16) -> Name
+    requires { IsTrue (ends_in_name at line.now) }
+    ensures { result ≡ drop at line.now }
+{
+    known_name(&line[at as usize..])
+}
+
+fn known_name(bytes: &[u8]) -> Name
+    requires { IsTrue (is_name bytes.now) }
+    ensures { result ≡ bytes.now }
+{
+    match Name::read(bytes) {
+        Ok(name) => name,
+        Err(_) => unreachable!(),
+    }
+}
+
+/// The value that takes the rest of the line.
+fn last_value(alloc: Global, line: &[u8], at: u16) -> Result<Value, NoMemory>
+    requires within { at ≤ length line.now }
+    requires value { IsSome (value_in (drop at line.now)) }
+    ensures { IfOk result (λ v. value_in (drop at line.now) ≡ Some v) }
+{
+    match Value::read(alloc, &line[at as usize..]) {
+        Ok(value) => Ok(value),
+        Err(ValueFault::NoMemory(refused)) => Err(refused),
+        Err(_) => unreachable!(),
+    }
+}
+
+/// The integer that takes the rest of the line.
+fn last_integer(alloc: Global, line: &[u8], at: u16) -> Result<Int, NoMemory>
+    requires within { at ≤ length line.now }
+    requires integer { IsSome (integer_in (drop at line.now)) }
+    ensures { IfOk result (λ n. integer_in (drop at line.now) ≡ Some n) }
+{
+    match last_value(alloc, line, at)? {
+        Value::Int(n) => Ok(n),
+        _ => unreachable!(),
+    }
+}

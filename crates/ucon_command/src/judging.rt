@@ -1,0 +1,101 @@
+//! Judges a line: by its form, where its words stand, or why it spells no command.
+
+ghost use Rattle.std.specs.Prelude.{◌≡◌, ◌<◌, ◌≤◌, ◌-◌, length, Ok, Err, IsTrue, MatchResult};
+ghost use Rattle.ucon_model.specs.CommandLine.{command_read, line_read, words_of};
+ghost use Rattle.ucon_command.specs.Cuts.{AreCuts, IsSecond, word_to};
+ghost use Rattle.ucon_command.specs.Faults.{IsRefusal};
+
+use crate::cuts::Cuts;
+use crate::forms::{
+    env_words, one_integer, one_name, one_number, set_words, three_names, value_words,
+};
+use crate::line_fault::LineFault;
+use crate::words::next_word;
+use std::alloc::Global;
+
+/// Where the words of a line's command stand, or the first refusal. A line of more than 8192 bytes is refused before any memory is taken.
+#[tactic(auto, unfolding(ucon_model::specs::CommandLine::line_read))]
+pub fn cuts_of(alloc: Global, line: &[u8]) -> Result<Cuts, LineFault>
+    ensures long { 8192 < length line.now → result ≡ Err (LineFault.TooLong (length line.now)) }
+    ensures cuts { MatchResult result (λ k. AreCuts k line.now (line_read line.now)) (IsRefusal (line_read line.now)) }
+{
+    if line.len() > 8192 {
+        return Err(LineFault::TooLong(line.len()));
+    }
+    let second = next_word(line, 0);
+    let first = first_word(line, second);
+    if first.is_empty() {
+        return Err(LineFault::NoWord);
+    }
+    form_cuts(alloc, line, first, second)
+}
+
+/// A line's first word, where the second one begins at this place, if there is one.
+fn first_word(line: &[u8], second: Option<usize>) -> &[u8]
+    requires { IsSecond second line.now }
+    ensures { result.now ≡ (word_to 0 second line.now).text }
+{
+    match second {
+        Some(next) => &line[..next - 1],
+        None => line,
+    }
+}
+
+/// The form that a line's first word begins.
+#[tactic(auto, unfolding(ucon_model::specs::CommandLine::command_read))]
+fn form_cuts(
+    alloc: Global,
+    line: &[u8],
+    first: &[u8],
+    second: Option<usize>,
+) -> Result<Cuts, LineFault>
+    requires short { length line.now ≤ 8192 }
+    requires second { IsSecond second line.now }
+    ensures { MatchResult result (λ k. AreCuts k line.now (command_read line.now first.now (words_of line.now))) (IsRefusal (command_read line.now first.now (words_of line.now))) }
+{
+    if first == b"subject".as_slice() {
+        return one_name(line, second).map(|name| Cuts::Subject { name });
+    }
+    if first == b"object".as_slice() {
+        return one_name(line, second).map(|name| Cuts::Object { name });
+    }
+    if first == b"set".as_slice() {
+        return set_words(alloc, line, second);
+    }
+    if first == b"env".as_slice() {
+        return env_words(alloc, line, second);
+    }
+    if first == b"tick".as_slice() {
+        return one_integer(alloc, line, second).map(|tick| Cuts::Tick { tick });
+    }
+    if first == b"act".as_slice() {
+        return three_names(line, second).map(|(subject, action, object)| Cuts::Act {
+            subject,
+            action,
+            object,
+        });
+    }
+    if first == b"try".as_slice() {
+        return three_names(line, second).map(|(subject, right, object)| Cuts::Try {
+            subject,
+            right,
+            object,
+        });
+    }
+    if first == b"again".as_slice() {
+        return one_number(alloc, line, second).map(Cuts::Again);
+    }
+    if first == b"beat".as_slice() {
+        return one_number(alloc, line, second).map(Cuts::Beat);
+    }
+    if first == b"end".as_slice() {
+        return one_number(alloc, line, second).map(Cuts::End);
+    }
+    if first == b"look".as_slice() {
+        return one_number(alloc, line, second).map(Cuts::Look);
+    }
+    if first == b"value".as_slice() {
+        return value_words(line, second).map(|(side, name, attr)| Cuts::Value { side, name, attr });
+    }
+    Err(LineFault::UnknownWord)
+}

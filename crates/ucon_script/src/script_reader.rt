@@ -1,0 +1,111 @@
+//! A script, read line by line.
+
+ghost use Rattle.std.specs.Prelude.{◌≡◌, ◌<◌, ◌+◌, Some, option_map, OnOk};
+ghost use Rattle.std.specs.Option.{ForSome};
+ghost use Rattle.ucon_model.specs.Document.{is_skipped, said_told, line_told};
+ghost use Rattle.ucon_script.specs.Document.{Gives, spelled_line};
+ghost use Rattle.ucon_script.specs.Lines.{client_after, count_after};
+
+use crate::doc_fault::fault_of;
+use crate::heading::heading;
+use crate::part::cut;
+use crate::{DocFault, LineText};
+use std::alloc::Global;
+use ucon_command::CommandLine;
+use ucon_model::Caller;
+
+/// The most command lines of a document.
+const MOST_LINES: u32 = 262_144;
+
+/// Reads a script's lines one by one, in their order.
+#[derive(Debug, Drop)]
+pub struct ScriptReader {
+    /// The number of the next line in the document, whose first line has number 1.
+    pub number: u32,
+    /// The client of the nearest heading above.
+    pub client: Option<Caller>,
+    /// How many command lines stand above.
+    pub said: u32,
+    ghost few: { ForSome client (λ c. c.0 < 64) },
+}
+
+impl ScriptReader {
+    /// A reader of the script whose first line has this number.
+    pub fn new(number: u32) -> ScriptReader
+        ensures number { result.number ≡ number }
+        ensures client { result.client ≡ None }
+        ensures said { result.said ≡ 0 }
+    {
+        ScriptReader {
+            number,
+            client: None,
+            said: 0,
+        }
+    }
+
+    /// The command line that the next line is, given without its newline; None where it is a heading or says nothing, being empty or begun with `#`. A
+    /// line that is refused is counted as read.
+    pub fn line<'a>(
+        &mut self,
+        alloc: Global,
+        line: &'a [u8],
+    ) -> Result<Option<LineText<'a>>, DocFault>
+        requires { self.old.number < u32.MAX }
+        ensures told { Gives (option_map spelled_line) result (line_told self.old.number self.old.client self.old.said line.now) }
+        ensures number { self.new.number ≡ self.old.number + 1 }
+        ensures client { OnOk result (self.new.client ≡ client_after self.old.client line.now) }
+        ensures said { OnOk result (self.new.said ≡ count_after self.old.said line.now) }
+    {
+        let number = self.number;
+        self.number += 1;
+        if is_skipped(line) {
+            return Ok(None);
+        }
+        let (word, rest) = cut(line, b' ');
+        if word == b"client".as_slice() {
+            let client = heading(number, rest)?;
+            self.client = Some(client);
+            return Ok(None);
+        }
+        let line = command_line(alloc, number, self.client, self.said, line)?;
+        self.said += 1;
+        Ok(Some(line))
+    }
+}
+
+/// The command line of this number, below a heading of this client, if any, and so many command lines.
+fn command_line<'a>(
+    alloc: Global,
+    number: u32,
+    client: Option<Caller>,
+    said: u32,
+    line: &'a [u8],
+) -> Result<LineText<'a>, DocFault>
+    requires { ForSome client (λ c. c.0 < 64) }
+    ensures told { Gives (λ l. Some (spelled_line l)) result (said_told number client said line.now) }
+    ensures room { OnOk result (said < 262144) }
+{
+    let Some(caller) = client else {
+        return Err(DocFault::BadHeading(number));
+    };
+    if said >= MOST_LINES {
+        return Err(DocFault::TooManyLines(number));
+    }
+    match CommandLine::judge(alloc, line) {
+        Ok(command) => Ok(LineText {
+            number,
+            caller,
+            command,
+        }),
+        Err(fault) => Err(fault_of(number, fault)),
+    }
+}
+
+fn is_skipped(line: &[u8]) -> bool
+    ensures { result ≡ is_skipped line.now }
+{
+    match line {
+        [] => true,
+        [first, ..] => *first == b'#',
+    }
+}

@@ -1,0 +1,50 @@
+-- How a run over a store ends, by how its output was written.
+use Rattle.std.proofs.Common.{◌≡◌, ℕ, Bool, false, List, refl, sym, subst, ◌∙◌}
+use Rattle.std.specs.Prelude.{Option, Some, None, is_some}
+use Rattle.std.specs.Io.KnownBytes.{Appends}
+use Rattle.ucon_flow.specs.Writing.{AppendsPrefix}
+use Rattle.ucon_model.specs.declared.command.Entry.{Entry}
+use Rattle.ucon_model.specs.Plain.{Bytes, PlainPolicy}
+use Rattle.ucon_store.specs.Kept.{Kept}
+use Rattle.ucon_top.specs.declared.outcome.Outcome.{Outcome}
+use Rattle.ucon_top.specs.declared.outcome.Outcome.TheVariants as outcomes
+use Rattle.ucon_top.specs.Closing.{EndsRun, IsOfRun, IsWritten}
+use Rattle.ucon_top.specs.Stepping.{AreAnswered, HaveOutput}
+
+no_mark : (mark : Option Entry) → is_some mark ≡ false → mark ≡ None
+no_mark None is = refl
+no_mark (Some e) is = absurd (cc is)
+
+-- an output was written in one of these ways
+pub of_run : (outcome : Outcome) (text : Bytes) (stopped : Bool) (before now : Option Bytes) (failed fails : ℕ) → IsWritten outcome text stopped before now failed fails → IsOfRun outcome
+of_run outcomes.Done text stopped before now failed fails w = tt
+of_run outcomes.SinkFault text stopped before now failed fails w = tt
+of_run outcomes.DiskFault text stopped before now failed fails w = tt
+of_run (outcomes.NoMemory e) text stopped before now failed fails w = tt
+of_run outcomes.Usage text stopped before now failed fails w = w
+of_run (outcomes.Policy f) text stopped before now failed fails w = w
+of_run (outcomes.Script f) text stopped before now failed fails w = w
+of_run outcomes.SourceFault text stopped before now failed fails w = w
+of_run (outcomes.Damaged number place) text stopped before now failed fails w = w
+of_run outcomes.NotJournal text stopped before now failed fails w = w
+of_run (outcomes.OtherPolicy place) text stopped before now failed fails w = w
+of_run outcomes.TooLong text stopped before now failed fails w = w
+
+module _ {D : Type 0} (P : PlainPolicy) (store closed : Kept D) (lines : List Entry) (text : Bytes) (stopped : Bool) (before now : Option Bytes) (failed fails : ℕ)
+    (answers : AreAnswered P store closed lines (HaveOutput (λ out. out ≡ text) lines)) (is_stopped : is_some closed.mark ≡ stopped) where
+  went_out : (so : Bytes → Type 0) → so text → AreAnswered P store closed lines (HaveOutput so lines)
+  went_out so holds = record { told = answers.told; steps = answers.steps; is_so = (answers.is_so.0, subst so (sym answers.is_so.1) holds) }
+
+  pub ends_so : (outcome : Outcome) → IsWritten outcome text stopped before now failed fails → EndsRun P store closed lines before now outcome
+  ends_so outcomes.Done w = (went_out (Appends before now) w.1, no_mark closed.mark (is_stopped ∙ w.0))
+  ends_so outcomes.DiskFault w = (went_out (Appends before now) w.1, is_stopped ∙ w.0)
+  ends_so outcomes.SinkFault w = went_out (AppendsPrefix before now) w.1
+  ends_so (outcomes.NoMemory e) w = absurd w
+  ends_so outcomes.Usage w = absurd w
+  ends_so (outcomes.Policy f) w = absurd w
+  ends_so (outcomes.Script f) w = absurd w
+  ends_so outcomes.SourceFault w = absurd w
+  ends_so (outcomes.Damaged number place) w = absurd w
+  ends_so outcomes.NotJournal w = absurd w
+  ends_so (outcomes.OtherPolicy place) w = absurd w
+  ends_so outcomes.TooLong w = absurd w

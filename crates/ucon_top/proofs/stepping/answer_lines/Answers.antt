@@ -1,0 +1,35 @@
+use Rattle.std.proofs.Common.{◌≡◌, List, map, get_or, sym, subst, ◌∙◌, ap, arith}
+use Rattle.std.proofs.lemmas.List.{length-map, map-append, take_all}
+use Rattle.std.proofs.Math.ListN.{get_or-map}
+use Rattle.ucon_model.specs.declared.command.Entry.{Entry}
+use Rattle.ucon_store.specs.Stays.{stays_again}
+use Rattle.ucon_syntax.specs.Policies.{accepted}
+use Rattle.ucon_top.specs.OneAnswer.{entry_of}
+use Rattle.ucon_top.specs.Stepping.{HaveSteps, told_line}
+use Rattle.ucon_top.proofs.Stepwise.{one_line_more}
+use Rattle.ucon_top.proofs.stepping.answer_lines.Goals as goal
+
+pub loop-line-preserved : goal.loop-line-preserved
+loop-line-preserved g c =
+    let lines = map entry_of c.args.lines.now in
+    let line = entry_of c.line-item.result in
+    let i = c.loop-line.line-index in
+    let so_far = c.loop-line.invariant in
+    let is : line ≡ get_or lines i line = ap entry_of c.line-item.is ∙ sym (get_or-map entry_of c.args.lines.now i c.line-item.result) in
+    record {
+      stays = stays_again g.D.Disk.contents g.D.Disk.images g.D.Disk.moment g.D.Disk.images_since g.D.Disk.faults g.met.D.Disk.counts_now
+          c.args.store.now c.loop-line.store c.answer_line-answer.new.store so_far.stays c.answer_line-answer.ensures.stays;
+      room = omega (arith, so_far.room, c.in-Ok.ensures.spare);
+      steps = λ P accepts.
+          rw (c.in-Ok.ensures.ok, map-append told_line c.loop-line.answered.items) (
+          one_line_more P c.args.store.now c.loop-line.store c.answer_line-answer.new.store lines i (map told_line c.loop-line.answered.items) line _
+          (omega (arith, length-map c.args.lines.now entry_of, c.loop-line-test.true)) is (so_far.steps P accepts)
+          (c.answer_line-answer.ensures.steps P (ap accepted so_far.stays.policy ∙ accepts))
+          );
+    }
+
+pub returns-clause-steps : goal.returns-clause-steps
+returns-clause-steps g c = λ P accepts.
+    subst (λ (es : List Entry). HaveSteps P c.args.store.now c.loop-line.store es (map told_line c.loop-line.answered.items))
+    (take_all c.loop-line.line-index (map entry_of c.args.lines.now) (omega (arith, length-map c.args.lines.now entry_of, c.loop-line-test.false)))
+    (c.loop-line.invariant.steps P accepts)

@@ -1,0 +1,29 @@
+use Rattle.std.proofs.Common.{map, sym, subst}
+use Rattle.std.specs.Prelude.{Result, Ok, Err, OnErr}
+use Rattle.ucon_store.specs.Kept.{Kept}
+use Rattle.ucon_top.specs.OneAnswer.{entry_of}
+use Rattle.ucon_top.specs.Stepping.{AreAnswered, told_line}
+use Rattle.ucon_top.proofs.Stepwise.{text_read, unanswered, untold}
+use Rattle.ucon_top.proofs.stepping.steps_text.Goals as goal
+
+pub returns-clause-text : goal.returns-clause-text
+returns-clause-text g c = λ P accepts.
+    let answers = c.in_ok-text.ensures in
+    text_read P c.outputs_are_read_back.ensures c.args.store.now c.answer_lines.new.store (map entry_of c.args.lines.now) (map told_line c.in_ok-answered.answered.items) _
+    (rw c.slice.ensures at answers.text) (rw c.slice.ensures at answers.fits) (rw c.slice.ensures at answers.clients) (c.in_ok-answered.ensures.steps P accepts)
+
+on_err : {T E : Type 0} (r : Result T E) (P : Type 0) → P → OnErr r P
+on_err (Ok v) P p = tt
+on_err (Err e) P p = p
+
+pub returns-in_err-answered-clause-no_memory : goal.returns-in_err-answered-clause-no_memory
+returns-in_err-answered-clause-no_memory g c =
+    let lines = map entry_of c.args.lines.now in
+    let old = c.args.store.now in
+    on_err c.from_residual.result _ (λ P accepts.
+    subst (λ (new : Kept g.row.D.Denot). AreAnswered P old new lines (λ told. Unit {0})) (sym c.in_err-answered.ensures.err) (unanswered P old lines c.requires))
+
+pub returns-in_err-text-clause-no_memory : goal.returns-in_err-text-clause-no_memory
+returns-in_err-text-clause-no_memory g c =
+    on_err c.from_residual-in_err-text.result _ (λ P accepts.
+    untold P c.args.store.now c.answer_lines.new.store (map entry_of c.args.lines.now) (map told_line c.in_ok-answered.answered.items) (c.in_ok-answered.ensures.steps P accepts))

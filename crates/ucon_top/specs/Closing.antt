@@ -1,0 +1,52 @@
+-- How a run over a store ends, between the opening and the closing of its journal.
+use Rattle.std.specs.Prelude.{◌≡◌, ℕ, Bool, true, false, List, Option, None, IsSome}
+use Rattle.std.specs.Io.KnownBytes.{Appends}
+use Rattle.ucon_flow.specs.Causes.{Rose}
+use Rattle.ucon_flow.specs.Writing.{AppendsPrefix}
+use Rattle.ucon_model.specs.declared.command.Entry.{Entry}
+use Rattle.ucon_model.specs.Plain.{Bytes, PlainPolicy}
+use Rattle.ucon_store.specs.Found.{IsFoundWith}
+use Rattle.ucon_store.specs.Kept.{Kept}
+use Rattle.ucon_store.specs.Stays.{Stays}
+use Rattle.ucon_top.specs.declared.outcome.Outcome.{Outcome}
+use Rattle.ucon_top.specs.declared.outcome.Outcome.TheVariants.{Done, SinkFault, DiskFault, NoMemory}
+use Rattle.ucon_top.specs.Stepping.{AreAnswered, HaveOutput}
+
+-- how a run over a store may end
+abbrev pub IsOfRun : Outcome → Type 0
+IsOfRun Done = Unit {0}
+IsOfRun SinkFault = Unit {0}
+IsOfRun DiskFault = Unit {0}
+IsOfRun (NoMemory e) = Unit {0}
+IsOfRun outcome = ⊥
+
+-- how the output was written, by how the run then ends
+abbrev pub IsWritten : Outcome → Bytes → Bool → Option Bytes → Option Bytes → ℕ → ℕ → Type 0
+IsWritten Done text stopped before now failed fails = (stopped ≡ false) × Appends before now text
+IsWritten DiskFault text stopped before now failed fails = (stopped ≡ true) × Appends before now text
+IsWritten SinkFault text stopped before now failed fails = Rose failed fails × AppendsPrefix before now text
+IsWritten outcome text stopped before now failed fails = ⊥
+
+-- how the run ended: the lines were answered, and where there was memory for it their output was written
+module _ {D : Type 0} (P : PlainPolicy) (store closed : Kept D) (lines : List Entry) (before now : Option Bytes) where
+  abbrev pub EndsRun : Outcome → Type 0
+  EndsRun Done = AreAnswered P store closed lines (HaveOutput (Appends before now) lines) × (closed.mark ≡ None)
+  EndsRun DiskFault = AreAnswered P store closed lines (HaveOutput (Appends before now) lines) × IsSome closed.mark
+  EndsRun SinkFault = AreAnswered P store closed lines (HaveOutput (AppendsPrefix before now) lines)
+  EndsRun (NoMemory e) = AreAnswered P store closed lines (λ told. Unit {0})
+  EndsRun outcome = ⊥
+
+module _ {D : Type 0} (contents : D → Option (List ℕ)) (images : D → List ℕ → Type 0) (moment : D → ℕ)
+    (images_since : D → ℕ → List ℕ → Type 0) (faults : D → ℕ) where
+  -- the store was closed, and gave its disk back
+  pub record Closes (store closed : Kept D) (disk : D) : Type 0 where
+    pub stays : Stays contents images moment images_since faults store closed
+    pub disk_is : disk ≡ closed.disk
+    pub left : IsSome (contents disk) → (c : List ℕ) → images disk c → IsFoundWith closed.policy closed.entries closed.mark c
+
+  -- and the run over it ended so
+  pub record IsClosedRun (P : PlainPolicy) (store : Kept D) (lines : List Entry) (outcome : Outcome) (disk : D)
+      (before now : Option Bytes) : Type 0 where
+    pub closed : Kept D
+    pub closes : Closes store closed disk
+    pub ends : EndsRun P store closed lines before now outcome

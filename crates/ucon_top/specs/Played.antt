@@ -1,0 +1,85 @@
+-- What playing a document over the disk of a journal leaves, and how it ends.
+use Rattle.std.specs.Prelude.{◌≡◌, ◌⊎◌, ℕ, List, [], ◌∷◌, ◌++◌, map, Option, Some, None, Ok, IsSome, IfSome}
+use Rattle.std.specs.Io.KnownBytes.{Appends}
+use Rattle.ucon_flow.specs.Writing.{AppendsPrefix}
+use Rattle.ucon_disk.specs.Causes.{raised}
+use Rattle.ucon_disk.specs.Run.{IsAtRest, LeavesAfter, LeavesOnly}
+use Rattle.ucon_turn.specs.Lists.{Begins}
+use Rattle.ucon_model.specs.declared.command.Entry.{Entry}
+use Rattle.ucon_model.specs.Document.{ScriptLine, document_read, entries_of, policy_part}
+use Rattle.ucon_model.specs.Plain.{Bytes, PlainPolicy}
+use Rattle.ucon_model.specs.History.{History}
+use Rattle.ucon_model.specs.LegalRun.{Answered, IsLegalRun, history_made, in_text_order}
+use Rattle.ucon_model.specs.StoredRun.{failed_line}
+use Rattle.ucon_store.specs.declared.fault.StoreFault.{StoreFault}
+use Rattle.ucon_store.specs.declared.fault.StoreFault.TheVariants as stores
+use Rattle.ucon_store.specs.Found.{IsFoundAs, IsFoundWith, Opens}
+use Rattle.ucon_store.specs.Opening.{HasReason}
+use Rattle.ucon_top.specs.declared.outcome.Outcome.{Outcome}
+use Rattle.ucon_top.specs.declared.outcome.Outcome.TheVariants.{Done, SinkFault, DiskFault, Damaged, NotJournal, NoMemory, OtherPolicy}
+use Rattle.ucon_top.specs.Accepted.{HasPolicy}
+use Rattle.ucon_top.specs.Stepping.{HaveOutput}
+
+-- a file is found as a history that has the opening one and begins this one, or as this one with the line that met a disk fault
+pub record IsFoundSince (text : Bytes) (opening H : History) (failed : Option Entry) (file : Bytes) : Type 0 where
+  pub history : History
+  pub found : IsFoundAs text file history
+  pub begun : Begins opening history
+  pub within : Begins history H ⊎ ((e : Entry) × (failed ≡ Some e) × (history ≡ H ++ e ∷ []))
+
+module _ {D : Type 0} (contents : D → Option (List ℕ)) (images : D → List ℕ → Type 0) (moment : D → ℕ)
+    (images_since : D → ℕ → List ℕ → Type 0) (faults : D → ℕ) where
+  -- A crash at any moment since leaves such a file, and a crash now leaves a file that is found as the whole history, or as it with the
+  -- line that met a disk fault.
+  pub record IsJournalled (text : Bytes) (opening H : History) (failed : Option Entry) (old new : D) : Type 0 where
+    pub since : LeavesOnly moment images_since old new (IsFoundSince text opening H failed)
+    pub now : (c : Bytes) → images new c → IsFoundWith text H failed c
+
+  -- The answers are a legal run behind the history as which the file was found, where the disk tells it. Where a line met a disk fault the
+  -- disk's count rose by one, and otherwise it didn't. Where the disk was at rest, the history that is made is journalled.
+  pub record IsPlayed (text : Bytes) (P : PlainPolicy) (old new : D) (told : List Answered) : Type 0 where
+    pub opening : History
+    pub opens : IfSome (contents old) (λ file. IsFoundAs text file opening)
+    pub legal : IsLegalRun P in_text_order opening told
+    pub unfailed : failed_line told ≡ None → faults new ≡ faults old
+    pub failed : (e : Entry) → failed_line told ≡ Some e → faults new ≡ raised (faults old)
+    pub journalled : (file : Bytes) → IsAtRest (contents old) (images old) file
+        → IsJournalled text opening (history_made opening told) (failed_line told) old new
+
+  -- the bytes are an accepted document, whose lines were played, and of the lines and their answers this is so
+  pub record IsRunOver (bytes : Bytes) (old new : D) (so : List Entry → List Answered → Type 0) : Type 0 where
+    pub policy : PlainPolicy
+    pub lines : List ScriptLine
+    pub has_policy : HasPolicy bytes policy
+    pub says : document_read bytes ≡ Ok lines
+    pub told : List Answered
+    pub lines_are : map (λ t. t.line) told ≡ entries_of lines
+    pub played : IsPlayed (policy_part bytes) policy old new told
+    pub is_so : so (entries_of lines) told
+
+  -- the journal wasn't opened for this reason, and what was found in its file is still found there; a foreign file is as it was
+  pub record IsUnopened (fault : StoreFault) (text : Bytes) (old new : D) : Type 0 where
+    pub reason : HasReason fault text (contents old) (faults old) (faults new)
+    pub images_kept : LeavesAfter contents images moment images_since old new (Opens text)
+
+  -- What holds of the disk, and of the bytes that were written, by how playing ended. Otherwise than by the causes named here it made no
+  -- call of the disk.
+  abbrev pub HasPlayed : Outcome → Bytes → D → D → Option Bytes → Option Bytes → Type 0
+  HasPlayed Done bytes old new before now =
+      IsRunOver bytes old new (λ lines told. (failed_line told ≡ None) × HaveOutput (Appends before now) lines told)
+  HasPlayed SinkFault bytes old new before now = IsRunOver bytes old new (HaveOutput (AppendsPrefix before now))
+  HasPlayed DiskFault bytes old new before now =
+      IsRunOver bytes old new (λ lines told. IsSome (failed_line told) × HaveOutput (Appends before now) lines told)
+      ⊎ (IsUnopened stores.DiskFault (policy_part bytes) old new × (now ≡ before))
+  HasPlayed NotJournal bytes old new before now = IsUnopened stores.NotJournal (policy_part bytes) old new
+  HasPlayed (Damaged number place) bytes old new before now = IsUnopened (stores.Damaged number place) (policy_part bytes) old new
+  HasPlayed (OtherPolicy place) bytes old new before now = IsUnopened (stores.OtherPolicy place) (policy_part bytes) old new
+  HasPlayed (NoMemory e) bytes old new before now =
+      (new ≡ old) ⊎ IsUnopened (stores.NoMemory e) (policy_part bytes) old new ⊎ IsRunOver bytes old new (λ lines told. Unit {0})
+  HasPlayed outcome bytes old new before now = new ≡ old
+
+  -- so it was played over some bytes, which are those of the input where the source tells them
+  pub record HasPlayedInput (outcome : Outcome) (input : Option Bytes) (old new : D) (before now : Option Bytes) : Type 0 where
+    pub bytes : Bytes
+    pub are : IfSome input (λ known. known ≡ bytes)
+    pub played : HasPlayed outcome bytes old new before now

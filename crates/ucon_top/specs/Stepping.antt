@@ -1,0 +1,77 @@
+-- What lines are answered over a store.
+use Rattle.std.specs.Prelude.{◌≡◌, ◌⊎◌, IsTrue, List, map, Some, None, Result, Ok, Err}
+use Rattle.ucon_model.specs.declared.command.Entry.{Entry}
+use Rattle.ucon_model.specs.Plain.{Bytes, PlainPolicy}
+use Rattle.ucon_model.specs.Spelling.{reply_spelling}
+use Rattle.ucon_model.specs.Views.{reply_of}
+use Rattle.ucon_model.specs.History.{said, changes}
+use Rattle.ucon_model.specs.LegalRun.{Answer, Answered, placed, no_memory, disk_fault, stopped, IsNext, history_after}
+use Rattle.ucon_model.specs.Output.{output, answers_read}
+use Rattle.ucon_model.specs.StoredRun.{LeadsTo}
+use Rattle.ucon_store.specs.declared.placed.Placed.{Placed}
+use Rattle.ucon_store.specs.declared.fault.StepFault.{StepFault}
+use Rattle.ucon_store.specs.declared.fault.StepFault.TheVariants as faults
+use Rattle.ucon_store.specs.Kept.{Kept}
+use Rattle.ucon_top.specs.declared.line_answer.LineAnswer.{LineAnswer}
+use Rattle.ucon_top.specs.declared.line_answer.LineAnswer.TheVariants as answers
+use Rattle.ucon_top.specs.declared.line_answer.AnsweredLine.{AnsweredLine}
+use Rattle.ucon_top.specs.OneAnswer.{entry_of}
+
+-- what a line is answered where its step was answered so
+abbrev pub answer_by : Result Placed StepFault → LineAnswer
+answer_by (Ok p) = answers.Placed p
+answer_by (Err faults.DiskFault) = answers.DiskFault
+answer_by (Err faults.Stopped) = answers.Stopped
+answer_by (Err (faults.NoMemory e)) = answers.NoMemory
+
+-- the answer, as the definitions have it
+abbrev pub answer_of : LineAnswer → Answer
+answer_of (answers.Placed p) = placed p.place (reply_spelling (reply_of p.reply))
+answer_of answers.NoMemory = no_memory
+answer_of answers.DiskFault = disk_fault
+answer_of answers.Stopped = stopped
+
+abbrev pub told_line : AnsweredLine → Answered
+told_line a = record { line = entry_of a.line; answer = answer_of a.answer }
+
+-- no step has failed, and the answer is the next one
+pub record IsAnswered {D : Type 0} (P : PlainPolicy) (old new : Kept D) (e : Entry) (a : Answer) : Type 0 where
+  pub unmarked : old.mark ≡ None
+  pub next : IsNext P old.entries e a
+  pub entries : new.entries ≡ history_after old.entries e a
+  pub mark : new.mark ≡ None
+
+-- the step would have changed something, and met a disk fault
+pub record Fails {D : Type 0} (P : PlainPolicy) (old new : Kept D) (e : Entry) (a : Answer) : Type 0 where
+  pub unmarked : old.mark ≡ None
+  pub answer : a ≡ disk_fault
+  pub would_change : IsTrue (changes (said P old.entries e.caller e.command))
+  pub entries : new.entries ≡ old.entries
+  pub mark : new.mark ≡ Some e
+
+-- an earlier step has failed
+pub record IsStopped {D : Type 0} (old new : Kept D) (a : Answer) : Type 0 where
+  pub failed : Entry
+  pub marked : old.mark ≡ Some failed
+  pub answer : a ≡ stopped
+  pub entries : new.entries ≡ old.entries
+  pub mark : new.mark ≡ Some failed
+
+-- a line was answered so
+abbrev pub Steps : {D : Type 0} → PlainPolicy → Kept D → Kept D → Entry → Answer → Type 0
+Steps P old new e a = IsAnswered P old new e a ⊎ Fails P old new e a ⊎ IsStopped old new a
+
+-- these lines were answered so, from a store to a store
+pub record HaveSteps {D : Type 0} (P : PlainPolicy) (old new : Kept D) (lines : List Entry) (told : List Answered) : Type 0 where
+  pub lines_are : map (λ t. t.line) told ≡ lines
+  pub leads : LeadsTo P old.entries told new.entries new.mark
+
+-- these lines were answered, from a store to a store, and of their answers this is so
+pub record AreAnswered {D : Type 0} (P : PlainPolicy) (old new : Kept D) (lines : List Entry) (so : List Answered → Type 0) : Type 0 where
+  pub told : List Answered
+  pub steps : HaveSteps P old new lines told
+  pub is_so : so told
+
+-- the answers of these lines are read back from their output, of which this is so
+abbrev pub HaveOutput : (Bytes → Type 0) → List Entry → List Answered → Type 0
+HaveOutput so lines told = (answers_read lines (output told) ≡ Some told) × so (output told)

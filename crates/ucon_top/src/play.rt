@@ -1,0 +1,91 @@
+//! Plays a document over a journal.
+
+ghost use Rattle.std.specs.Prelude.{◌≡◌, ◌≤◌, length, map, Some, None};
+ghost use Rattle.ucon_disk.specs.Causes.{raised};
+ghost use Rattle.ucon_flow.specs.Causes.{Rose};
+ghost use Rattle.ucon_model.specs.Plain.{PlainPolicy};
+ghost use Rattle.ucon_syntax.specs.Policies.{accepted};
+ghost use Rattle.ucon_top.specs.Accepted.{IsAccepted, IsRefusedBy};
+ghost use Rattle.ucon_top.specs.Closing.{IsClosedRun, IsOfRun, IsWritten};
+ghost use Rattle.ucon_top.specs.Ending.{IsOfAccepted, IsOfDocument, IsUntouched, IsUnwritten, status_of};
+ghost use Rattle.ucon_top.specs.OneAnswer.{entry_of};
+ghost use Rattle.ucon_top.specs.Played.{HasPlayed};
+
+use crate::document::read_accepted;
+use crate::outcome::{Ended, Outcome};
+use crate::stepping::steps_text;
+use std::alloc::Global;
+use ucon_disk::Disk;
+use ucon_flow::{Sink, write_all};
+use ucon_model::runs_over_a_store_are_legal;
+use ucon_script::{LineText, policy_part};
+use ucon_state::Engine;
+use ucon_store::Store;
+use ucon_syntax::accepted_texts_spell_typed_policies;
+
+/// Runs the document that the bytes are over the journal on the disk, and writes the output when all lines are answered.
+pub fn play<E: Engine, K: Sink, D: Disk>(
+    alloc: Global,
+    bytes: &[u8],
+    out: &mut K,
+    disk: D,
+) -> Ended<D>
+    requires { length bytes.now ≤ 4194304 }
+    ensures status { result.status ≡ status_of result.outcome }
+    ensures of_document { IsOfDocument result.outcome }
+    ensures refused { IsRefusedBy result.outcome bytes.now }
+    ensures accepted { IsOfAccepted result.outcome → IsAccepted bytes.now }
+    ensures sink { result.outcome ≡ Outcome.SinkFault → Rose (K.faults out.old) (K.faults out.new) }
+    ensures played { HasPlayed D.contents D.images D.moment D.images_since D.faults result.outcome bytes.now disk result.disk
+        (K.contents out.old) (K.contents out.new) }
+    ensures fault { result.outcome ≡ Outcome.DiskFault → D.faults result.disk ≡ raised (D.faults disk) }
+    ensures untouched { IsUntouched result.outcome → result.disk ≡ disk }
+    ensures unwritten { IsUnwritten result.outcome → out.new ≡ out.old }
+{
+    accepted_texts_spell_typed_policies();
+    runs_over_a_store_are_legal();
+    let script = match read_accepted(alloc, bytes) {
+        Ok(script) => script,
+        Err(refused) => return Ended::by(Outcome::from(refused), disk),
+    };
+    match Store::<E, D>::open(alloc, policy_part(bytes), disk) {
+        Ok(store) => play_lines(alloc, store, script.lines.slice(), out),
+        Err((disk, fault)) => Ended::by(Outcome::from(fault), disk),
+    }
+}
+
+/// Answers the lines, closes the store, and writes the output.
+fn play_lines<E: Engine, K: Sink, D: Disk>(
+    alloc: Global,
+    mut store: Store<E, D>,
+    lines: &[LineText<'_>],
+    out: &mut K,
+) -> Ended<D>
+    requires { store.mark ≡ None }
+    ensures status { result.status ≡ status_of result.outcome }
+    ensures of_run { IsOfRun result.outcome }
+    ensures run { (P : PlainPolicy) → accepted store.policy ≡ Some P
+        → IsClosedRun D.contents D.images D.moment D.images_since D.faults P store (map entry_of lines.now) result.outcome result.disk
+        (K.contents out.old) (K.contents out.new) }
+    ensures sink { result.outcome ≡ Outcome.SinkFault → Rose (K.faults out.old) (K.faults out.new) }
+    ensures unwritten { IsUnwritten result.outcome → out.new ≡ out.old }
+{
+    let text = steps_text(alloc, &mut store, lines);
+    let stopped = store.failed().is_some();
+    let disk = store.close();
+    match text {
+        Ok(text) => Ended::by(write_output(out, &text, stopped), disk),
+        Err(refused) => Ended::by(Outcome::NoMemory(refused), disk),
+    }
+}
+
+/// Writes the output of a run, and tells how it ends. A fault of the sink stands before one of the disk.
+fn write_output<K: Sink>(out: &mut K, text: &[u8], stopped: bool) -> Outcome
+    ensures { IsWritten result text.now stopped (K.contents out.old) (K.contents out.new) (K.faults out.old) (K.faults out.new) }
+{
+    match write_all(out, text) {
+        Err(_) => Outcome::SinkFault,
+        Ok(()) if stopped => Outcome::DiskFault,
+        Ok(()) => Outcome::Done,
+    }
+}

@@ -1,0 +1,83 @@
+//! Answers lines over a store, one after the other.
+
+ghost use Rattle.std.specs.Prelude.{◌≡◌, map, Some, None, IfOk, OnErr};
+ghost use Rattle.ucon_model.specs.Plain.{PlainPolicy};
+ghost use Rattle.ucon_syntax.specs.Policies.{accepted};
+ghost use Rattle.ucon_store.specs.Stays.{Stays};
+ghost use Rattle.ucon_top.specs.OneAnswer.{entry_of};
+ghost use Rattle.ucon_top.specs.Stepping.{AreAnswered, HaveOutput, HaveSteps, Steps, answer_of, told_line};
+
+use crate::line_answer::{AnsweredLine, LineAnswer, output_text};
+use std::alloc::Global;
+use ucon_base::{NoMemory, Rows};
+use ucon_disk::Disk;
+use ucon_model::{outputs_are_read_back, texts_tell_changes};
+use ucon_script::LineText;
+use ucon_state::Engine;
+use ucon_store::Store;
+
+/// Answers all lines, in their order, and then gives their output. Where there is no memory for that, each line was still answered: all of
+/// them, or, where there was no room for their answers, none but by want of memory.
+pub fn steps_text<E: Engine, D: Disk>(
+    alloc: Global,
+    store: &mut Store<E, D>,
+    lines: &[LineText<'_>],
+) -> Result<Vec<u8>, NoMemory>
+    requires { store.old.mark ≡ None }
+    ensures text { IfOk result (λ text. (P : PlainPolicy) → accepted store.old.policy ≡ Some P
+        → AreAnswered P store.old store.new (map entry_of lines.now) (HaveOutput (λ out. out ≡ text.items) (map entry_of lines.now))) }
+    ensures no_memory { OnErr result ((P : PlainPolicy) → accepted store.old.policy ≡ Some P
+        → AreAnswered P store.old store.new (map entry_of lines.now) (λ told. Unit {0})) }
+    ensures stays { Stays D.contents D.images D.moment D.images_since D.faults store.old store.new }
+{
+    outputs_are_read_back();
+    let answered = answer_lines(alloc, store, lines)?;
+    let text = output_text(alloc, answered.slice())?;
+    Ok(text)
+}
+
+/// Answers all lines, in their order. Room for all answers is taken before the first line.
+fn answer_lines<'a, E: Engine, D: Disk>(
+    alloc: Global,
+    store: &mut Store<E, D>,
+    lines: &[LineText<'a>],
+) -> Result<Rows<AnsweredLine<'a>>, NoMemory>
+    requires { store.old.mark ≡ None }
+    ensures steps { IfOk result (λ answered. (P : PlainPolicy) → accepted store.old.policy ≡ Some P
+        → HaveSteps P store.old store.new (map entry_of lines.now) (map told_line answered.items)) }
+    ensures stays { Stays D.contents D.images D.moment D.images_since D.faults store.old store.new }
+    ensures err { OnErr result (store.new ≡ store.old) }
+{
+    let mut answered = Rows::new(alloc);
+    answered.reserve(lines.len())?;
+    for line in lines {
+        let answer = answer_line(alloc, store, line);
+        let Ok(()) = answered.push(AnsweredLine {
+            line: *line,
+            answer,
+        }) else {
+            unreachable!()
+        };
+    }
+    Ok(answered)
+}
+
+/// Answers one line. Behind a disk fault each line is stopped, whatever memory there is.
+fn answer_line<E: Engine, D: Disk>(
+    alloc: Global,
+    store: &mut Store<E, D>,
+    line: &LineText<'_>,
+) -> LineAnswer
+    ensures steps { (P : PlainPolicy) → accepted store.old.policy ≡ Some P
+        → Steps P store.old store.new (entry_of line.now) (answer_of result) }
+    ensures stays { Stays D.contents D.images D.moment D.images_since D.faults store.old store.new }
+{
+    texts_tell_changes();
+    if store.failed().is_some() {
+        return LineAnswer::Stopped;
+    }
+    match line.line(alloc) {
+        Ok(line) => LineAnswer::from(store.step(alloc, line.caller, &line.command)),
+        Err(_) => LineAnswer::NoMemory,
+    }
+}

@@ -1,0 +1,16 @@
+use Rattle.std.proofs.Common.{List, ℕ}
+use Rattle.ucon_links.specs.Lists.{list_at, nodes_of, IsDistinct}
+use Rattle.ucon_wheel.specs.Lines.{IsEarliest}
+use Rattle.ucon_wheel.proofs.Walking.{IsAt, rest_length}
+use Rattle.ucon_wheel.proofs.lines.earliest.Given as goal
+
+abbrev pub invariant-loop-at : goal.invariant-loop-at
+invariant-loop-at l = record {
+  passed : List (ℕ × ℕ);
+  way : IsAt (list_at l.own.lists l.session) passed l.at;
+  earliest : IsEarliest l.deadlines passed l.first;
+  distinct : IsDistinct (nodes_of l.own);
+}
+
+abbrev pub decreases-loop-at : goal.decreases-loop-at
+decreases-loop-at l = rest_length (list_at l.own.lists l.session) l.at
