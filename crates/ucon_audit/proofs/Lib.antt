@@ -1,0 +1,4 @@
+pub mod Digits
+pub mod Following
+pub mod GoingOn
+pub mod Judged

@@ -1,0 +1,73 @@
+//! A recheck of sessions by several threads, whose answer is that of a plain loop.
+
+ghost use Rattle.std.specs.Prelude.{◌≡◌, true, All, IfOk, IsSome};
+ghost use Rattle.ucon_model.specs.Decision.{verdict};
+ghost use Rattle.ucon_eval.specs.Sums.{tests_make_no_set};
+ghost use Rattle.ucon_audit.specs.Recheck.{changed, unless_permitted};
+
+use rayon::prelude::*;
+use std::alloc::{AllocError, Global};
+use std::thread::Threads;
+use ucon_base::{NoMemory, Rows};
+use ucon_eval::verdict;
+use ucon_model::{Verdict, View};
+
+/// How many sessions a thread is worth: starting one takes as long as rechecking some hundreds.
+const SHARE: usize = 1_024;
+
+/// A session that wouldn't be permitted now, and why.
+#[derive(Clone, Copy, Debug, PartialEq, Eq)]
+pub struct Changed {
+    pub session: u32,
+    pub verdict: Verdict,
+}
+
+fn recheck_one<V: View>(view: &V, session: u32) -> Option<Changed>
+    requires there { IsSome ((V.readings view.now).row session) }
+    requires no_set { tests_make_no_set (V.policy view.now) (V.readings view.now) session ≡ true }
+    ensures { result ≡ unless_permitted session (verdict (V.policy view.now) (V.readings view.now) session) }
+{
+    match verdict(view, session) {
+        Verdict::Permit => None,
+        verdict => Some(Changed { session, verdict }),
+    }
+}
+
+/// Each thread rechecks a stretch of the sessions, and what they find is joined in order.
+fn recheck_shared<V: View + Sync, R: Threads + Sync>(
+    rt: &R,
+    alloc: Global,
+    view: &V,
+    sessions: &[u32],
+) -> Result<Vec<Changed>, AllocError>
+    requires there { All (λ n. IsSome ((V.readings view.now).row n)) sessions.now }
+    requires no_set { All (λ n. tests_make_no_set (V.policy view.now) (V.readings view.now) n ≡ true) sessions.now }
+    ensures { IfOk result (λ found. found.items ≡ changed (V.policy view.now) (V.readings view.now) sessions.now) }
+{
+    sessions
+        .par_iter()
+        .with_min_len(SHARE)
+        .filter_map(
+            |n: &u32| -> Option<Changed>
+                requires there { IsSome ((V.readings view.now).row n.now) }
+                requires no_set { tests_make_no_set (V.policy view.now) (V.readings view.now) n.now ≡ true }
+                ensures { result ≡ unless_permitted n.now (verdict (V.policy view.entry.now) (V.readings view.entry.now) n.now) }
+            { recheck_one(view, *n) },
+        )
+        .collect(rt, alloc)
+}
+
+/// The sessions whose verdict now isn't to permit, in the slice's order: what a plain loop finds, whatever threads there are.
+pub fn recheck<V: View + Sync, R: Threads + Sync>(
+    rt: &R,
+    alloc: Global,
+    view: &V,
+    sessions: &[u32],
+) -> Result<Rows<Changed>, NoMemory>
+    requires there { All (λ n. IsSome ((V.readings view.now).row n)) sessions.now }
+    requires no_set { All (λ n. tests_make_no_set (V.policy view.now) (V.readings view.now) n ≡ true) sessions.now }
+    ensures { IfOk result (λ rows. rows.items ≡ changed (V.policy view.now) (V.readings view.now) sessions.now) }
+{
+    let found = recheck_shared(rt, alloc, view, sessions)?;
+    Ok(Rows::from(found))
+}
