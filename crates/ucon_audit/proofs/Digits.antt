@@ -77,8 +77,7 @@ digits_are_text i (a ∷ b ∷ rest) even h =
     let pair : pair_value a b i ≡ Ok (x * 16 + y) = rw (high.value, low.value) refl in
     let small_low = low.small in
     let over : (x * 16 + y) / 16 ≡ x = omega (arith, small_low) in
-    let rest_of : (x * 16 + y) % 16 ≡ y = omega (arith, small_low) in
-    (
+    let rest_of : (x * 16 + y) % 16 ≡ y = omega (arith, small_low) in (
       (x * 16 + y) ∷ ih.0,
       decode_pairs-ok_pair i a b _ rest pair ∙ ap (cons_byte (x * 16 + y)) ih.1,
       rw (over, rest_of, high.digit, low.digit, ih.2) refl,

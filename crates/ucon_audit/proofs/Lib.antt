@@ -2,3 +2,4 @@ pub mod Digits
 pub mod Following
 pub mod GoingOn
 pub mod Judged
+pub mod Shared

@@ -1,6 +1,7 @@
 //! The head of a journal, and its text. Who kept an older head sees by it whether a journal goes on from there.
 
 ghost use Rattle.std.specs.Prelude.{◌≡◌, ◌↔◌, ◌∷◌, [], map, IfSome, IsTrue, is_some};
+ghost use Rattle.std.specs.List.{list_all};
 ghost use Rattle.ucon_audit.specs.Head.{Extends, head_after, head_from, head_text, is_head_digit, is_head_text};
 
 use hex::FromHex;
@@ -86,7 +87,13 @@ pub fn read_head(text: &[u8]) -> Option<[u8; 32]>
 fn is_head_text(text: &[u8]) -> bool
     ensures { result ≡ is_head_text text.now }
 {
-    text.len() == 64 && text.iter().all(|b| is_head_digit(*b))
+    text.len() == 64 && are_head_digits(text)
+}
+
+fn are_head_digits(text: &[u8]) -> bool
+    ensures { result ≡ list_all is_head_digit text.now }
+{
+    text.iter().all(|b| is_head_digit(*b))
 }
 
 fn is_head_digit(b: u8) -> bool

@@ -136,13 +136,29 @@ fn tried(alloc: Global, tries: u32) -> Result<State, Fail>
         obey(alloc, &mut state, &Command::Subject(subject))?;
         if number % 2 == 0 {
             let action = name(b"accept")?;
-            obey(alloc, &mut state, &Command::Act { subject, action, object })?;
+            obey(
+                alloc,
+                &mut state,
+                &Command::Act {
+                    subject,
+                    action,
+                    object,
+                },
+            )?;
         }
     }
     let right = name(b"play")?;
     for number in 0..tries {
         let subject = subject_name(number)?;
-        obey(alloc, &mut state, &Command::Try { subject, right, object })?;
+        obey(
+            alloc,
+            &mut state,
+            &Command::Try {
+                subject,
+                right,
+                object,
+            },
+        )?;
     }
     for number in [0u32, 5] {
         let set = Command::Set {

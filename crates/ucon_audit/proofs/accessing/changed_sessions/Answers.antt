@@ -1,6 +1,6 @@
 use Rattle.std.proofs.Common.{◌≡◌, ◌∙◌, ℕ, ap, filter_map}
-use Rattle.std.proofs.Crossing.{crosses}
 use denote.Param.Send.{sendable}
+use Rattle.ucon_audit.proofs.Shared.{state}
 use Rattle.rayon.proofs.ListFacts.{IfOk-then}
 use Rattle.ucon_model.specs.declared.session.Verdict.{Verdict}
 use Rattle.ucon_model.specs.Plain.{PlainPolicy}
@@ -18,7 +18,7 @@ recheck-requires-clause-no_set g c κs within =
     λ k d lt. no_sets_there c.typed_tests_make_no_set.ensures.all c.tables_keep_what_is_followed.ensures (shown c.args.state.now) f.policy f.trace f.follows _
 
 pub recheck-requires-sync-V : goal.recheck-requires-sync-V
-recheck-requires-sync-V g c κs within = search (sendable, crosses) depth 100
+recheck-requires-sync-V g c κs within = search (sendable, state) depth 20
 
 pub returns : goal.returns
 returns g c =

@@ -11,5 +11,5 @@ returns c =
     let len = length-map xs (λ p. p.items) in
     let few = c.if-kept-payloads.false in
     let within : n ≤ length (map (λ p. p.items) xs) = first_of (search rules, grind (arith, len, few)) in
-    let same = ap (head_after magic) (take-map (λ p. p.items) n xs) ∙ sym c.head_after.ensures in
+    let same = ap (head_after magic) (take-map (λ p. p.items) n xs) ∙ sym c.head_after-head.ensures in
     (λ yes. (within, same ∙ c.is_same_head.ensures.0 yes), λ e. c.is_same_head.ensures.1 (sym same ∙ e.1))
