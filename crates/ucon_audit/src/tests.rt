@@ -124,51 +124,78 @@ fn subject_name(number: u32) -> Result<Name, Fail> {
     name(&[b's', b'0' + (number % 10) as u8])
 }
 
-/// Ten subjects try one object in turn, so many times; those with an even number have accepted. Then the credit of two is gone.
+fn make_subject(alloc: Global, state: &mut State, number: u32) -> Result<(), Fail>
+    requires { IsFollowing (shown state.old) }
+    ensures { OnOk result (IsFollowing (shown state.new)) }
+{
+    let command = Command::Subject(subject_name(number)?);
+    obey(alloc, state, &command)
+}
+
+fn accept(alloc: Global, state: &mut State, number: u32) -> Result<(), Fail>
+    requires { IsFollowing (shown state.old) }
+    ensures { OnOk result (IsFollowing (shown state.new)) }
+{
+    let command = Command::Act {
+        subject: subject_name(number)?,
+        action: name(b"accept")?,
+        object: name(b"song")?,
+    };
+    obey(alloc, state, &command)
+}
+
+fn try_to_play(alloc: Global, state: &mut State, number: u32) -> Result<(), Fail>
+    requires { IsFollowing (shown state.old) }
+    ensures { OnOk result (IsFollowing (shown state.new)) }
+{
+    let command = Command::Try {
+        subject: subject_name(number)?,
+        right: name(b"play")?,
+        object: name(b"song")?,
+    };
+    obey(alloc, state, &command)
+}
+
+fn spend(alloc: Global, state: &mut State, number: u32) -> Result<(), Fail>
+    requires { IsFollowing (shown state.old) }
+    ensures { OnOk result (IsFollowing (shown state.new)) }
+{
+    let command = Command::Set {
+        side: Side::Subject,
+        name: subject_name(number)?,
+        attr: name(b"credit")?,
+        value: integer(1)?,
+    };
+    obey(alloc, state, &command)
+}
+
+/// A song and ten subjects, of which those with an even number have accepted.
+fn settled(alloc: Global, state: &mut State) -> Result<(), Fail>
+    requires { IsFollowing (shown state.old) }
+    ensures { OnOk result (IsFollowing (shown state.new)) }
+{
+    let song = Command::Object(name(b"song")?);
+    obey(alloc, state, &song)?;
+    for number in 0..10u32 {
+        make_subject(alloc, state, number)?;
+    }
+    for half in 0..5u32 {
+        accept(alloc, state, 2 * half)?;
+    }
+    Ok(())
+}
+
+/// The subjects try the song in turn, so many times. Then the credit of two is gone.
 fn tried(alloc: Global, tries: u32) -> Result<State, Fail>
     ensures { IfOk result (λ s. IsFollowing (shown s)) }
 {
     let mut state = opened(alloc)?;
-    let object = name(b"song")?;
-    obey(alloc, &mut state, &Command::Object(object))?;
-    for number in 0..10u32 {
-        let subject = subject_name(number)?;
-        obey(alloc, &mut state, &Command::Subject(subject))?;
-        if number % 2 == 0 {
-            let action = name(b"accept")?;
-            obey(
-                alloc,
-                &mut state,
-                &Command::Act {
-                    subject,
-                    action,
-                    object,
-                },
-            )?;
-        }
-    }
-    let right = name(b"play")?;
+    settled(alloc, &mut state)?;
     for number in 0..tries {
-        let subject = subject_name(number)?;
-        obey(
-            alloc,
-            &mut state,
-            &Command::Try {
-                subject,
-                right,
-                object,
-            },
-        )?;
+        try_to_play(alloc, &mut state, number)?;
     }
-    for number in [0u32, 5] {
-        let set = Command::Set {
-            side: Side::Subject,
-            name: subject_name(number)?,
-            attr: name(b"credit")?,
-            value: integer(1)?,
-        };
-        obey(alloc, &mut state, &set)?;
-    }
+    spend(alloc, &mut state, 0)?;
+    spend(alloc, &mut state, 5)?;
     Ok(state)
 }
 
@@ -206,33 +233,49 @@ fn found_in_turn(alloc: Global, state: &State, sessions: &[u32]) -> Result<Vec<C
     Ok(found)
 }
 
+fn found_by_threads(
+    rt: &HostRuntime,
+    state: &State,
+    sessions: &[u32],
+) -> Result<Rows<Changed>, Fail>
+    requires following { IsFollowing (shown state.now) }
+    requires there { All (λ n. IsSome (session_in (shown state.now).tables n)) sessions.now }
+{
+    Ok(changed_sessions(rt, rt.alloc(), state, sessions).map_err(|_| "no memory")?)
+}
+
 #[test]
 fn ten_thousand_sessions_are_rechecked_as_in_a_plain_loop(rt: HostRuntime) -> Result<(), Fail> {
-    let alloc = rt.alloc();
-    let state = tried(alloc, 10_000)?;
-    let sessions = sessions_there(alloc, &state, 10_000)?;
-    assert_eq!(rt; sessions.len(), 10_000);
-    let changed = changed_sessions(&rt, alloc, &state, &sessions).map_err(|_| "no memory")?;
-    let plain = found_in_turn(alloc, &state, &sessions)?;
+    let state = tried(rt.alloc(), 10_000)?;
+    let sessions = sessions_there(rt.alloc(), &state, 10_000)?;
+    let changed = found_by_threads(&rt, &state, &sessions)?;
+    let plain = found_in_turn(rt.alloc(), &state, &sessions)?;
     assert_eq!(rt; changed.slice(), plain.as_slice());
     // Of each ten the first and the sixth are denied, four of the others wait, and four are permitted.
-    assert_eq!(rt; changed.len(), 6_000);
+    assert_eq!(rt; (sessions.len(), changed.len()), (10_000, 6_000));
     let funds = Verdict::Deny(name(b"funds")?);
     let terms = Verdict::Wait(name(b"terms")?);
-    for (place, session, verdict) in [
-        (0usize, 1u32, funds),
-        (1, 2, terms),
-        (2, 4, terms),
-        (3, 6, funds),
-        (5_999, 10_000, terms),
-    ] {
-        assert_eq!(rt; changed.at(place), Some(&Changed { session, verdict }));
-    }
+    let first = Changed {
+        session: 1,
+        verdict: funds,
+    };
+    let last = Changed {
+        session: 10_000,
+        verdict: terms,
+    };
+    assert_eq!(rt; changed.at(0), Some(&first));
+    assert_eq!(rt; changed.at(5_999), Some(&last));
+    Ok(())
+}
+
+#[test]
+fn uses_that_go_on_are_rechecked(rt: HostRuntime) -> Result<(), Fail> {
+    let state = tried(rt.alloc(), 10_000)?;
+    let going_on = usages(rt.alloc(), &state).map_err(|_| "no memory")?;
+    let changed = changed_usages(&rt, rt.alloc(), &state).map_err(|_| "no memory")?;
+    let plain = found_in_turn(rt.alloc(), &state, going_on.slice())?;
     // Those that wait have no use that goes on.
-    let usages = usages(alloc, &state).map_err(|_| "no memory")?;
-    let changed = changed_usages(&rt, alloc, &state).map_err(|_| "no memory")?;
-    let plain = found_in_turn(alloc, &state, usages.slice())?;
-    assert_eq!(rt; (usages.len(), changed.len()), (5_000, 1_000));
+    assert_eq!(rt; (going_on.len(), changed.len()), (5_000, 1_000));
     assert_eq!(rt; changed.slice(), plain.as_slice());
     Ok(())
 }

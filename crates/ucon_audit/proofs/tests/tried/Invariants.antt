@@ -4,9 +4,3 @@ use Rattle.ucon_audit.proofs.tests.tried.Given as goal
 
 abbrev pub invariant-loop-number : goal.invariant-loop-number
 invariant-loop-number l = IsFollowing (shown l.state)
-
-abbrev pub invariant-loop-number-2 : goal.invariant-loop-number-2
-invariant-loop-number-2 l = IsFollowing (shown l.state)
-
-abbrev pub invariant-loop-number-3 : goal.invariant-loop-number-3
-invariant-loop-number-3 l = IsFollowing (shown l.state)
