@@ -1,9 +1,0 @@
-use Rattle.ucon_state.specs.Shown.{shown}
-use Rattle.ucon_actions.specs.Leads.{IsFollowing}
-use Rattle.ucon_audit.proofs.tests.settled.Given as goal
-
-abbrev pub invariant-loop-number : goal.invariant-loop-number
-invariant-loop-number l = IsFollowing (shown l.state)
-
-abbrev pub invariant-loop-half : goal.invariant-loop-half
-invariant-loop-half l = IsFollowing (shown l.state)
