@@ -7,6 +7,6 @@ mod parallel;
 #[cfg(test)]
 mod tests;
 
-pub use accessing::usages;
+pub use accessing::{changed_sessions, changed_usages, usages};
 pub use head::{Kept, extends, first_head, head_after, head_text, next_head, read_head};
 pub use parallel::{Changed, recheck};
