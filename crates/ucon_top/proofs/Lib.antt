@@ -1,4 +1,6 @@
 pub mod Along
+pub mod Answering
+pub mod Forms
 pub mod Closing
 pub mod GeneratedPolicy
 pub mod Adding
@@ -7,5 +9,7 @@ pub mod Replies
 pub mod Summing
 pub mod Tallying
 pub mod Transcribing
+pub mod Serving
 pub mod Stepwise
+pub mod Parted
 pub mod Playing

@@ -1,3 +1,5 @@
+mod serving;
+
 use super::*;
 use std::alloc::Global;
 use std::test::Fail;
@@ -31,7 +33,7 @@ fn no_disk(alloc: Global) -> MemDisk {
 fn ran(alloc: Global, form: &str, document: &[u8]) -> Result<(Outcome, Vec<u8>), Fail> {
     let mut source = MemSource::new(Vec::from_slice(alloc, document)?, 7, Vec::new(alloc));
     let mut sink = MemSink::new(alloc, 3, Vec::new(alloc));
-    let ended = run(
+    let ended = run_alone(
         alloc,
         &words(alloc, &[form])?,
         &mut source,
@@ -189,7 +191,7 @@ fn other_ends(rt: HostRuntime) -> Result<(), Fail> {
         let bytes = Vec::from_slice(alloc, b"%%\nclient 0\nsubject a\n")?;
         let mut source = MemSource::new(bytes, 4, numbers(alloc, source_faults)?);
         let mut sink = MemSink::new(alloc, 1, numbers(alloc, sink_faults)?);
-        let ended = run(
+        let ended = run_alone(
             alloc,
             &words(alloc, all)?,
             &mut source,
@@ -211,7 +213,7 @@ fn long_input(rt: HostRuntime) -> Result<(), Fail> {
     bytes.resize(4_194_305, b'\n')?;
     let mut source = MemSource::new(bytes, 4096, Vec::new(alloc));
     let mut sink = MemSink::new(alloc, 1, Vec::new(alloc));
-    let ended = run(
+    let ended = run_alone(
         alloc,
         &words(alloc, &["trial"])?,
         &mut source,
@@ -227,7 +229,7 @@ fn long_input(rt: HostRuntime) -> Result<(), Fail> {
 fn generated(alloc: Global, all: &[&str]) -> Result<(Outcome, Vec<u8>), Fail> {
     let mut source = MemSource::new(Vec::new(alloc), 7, numbers(alloc, &[0])?);
     let mut sink = MemSink::new(alloc, 3, Vec::new(alloc));
-    let ended = run(
+    let ended = run_alone(
         alloc,
         &words(alloc, all)?,
         &mut source,
@@ -282,7 +284,7 @@ fn played(
 ) -> Result<(Ended<MemDisk>, Vec<u8>), Fail> {
     let mut source = MemSource::new(Vec::from_slice(alloc, document)?, 7, Vec::new(alloc));
     let all = words(alloc, &["play", "j"])?;
-    let ended = run(alloc, &all, &mut source, &mut sink, disk);
+    let ended = run_alone(alloc, &all, &mut source, &mut sink, disk);
     Ok((ended, Vec::from_slice(alloc, sink.bytes())?))
 }
 
