@@ -254,7 +254,8 @@ fn are_in_order(told: &[ToldLine<'_>]) -> bool {
 }
 
 /// The answers in the order of their places are what `trial` prints of their lines in this order, behind the lines of the opening history.
-fn are_a_serial_run(
+fn are_a_serial_run<R: Threads + Wait + Sync>(
+    rt: &R,
     alloc: Global,
     opening: &str,
     mut told: Vec<ToldLine<'_>>,
@@ -267,7 +268,12 @@ fn are_a_serial_run(
         script.push_str(&format!(in alloc; "client {}\n{}\n", one.client, one.command)?)?;
         output.push_str(&format!(in alloc; "{} {} {}\n", one.client, one.place, one.reply)?)?;
     }
-    let (outcome, printed) = ran(alloc, "trial", &document(alloc, CAPPED, script.as_bytes())?)?;
+    let (outcome, printed) = ran(
+        rt,
+        alloc,
+        "trial",
+        &document(alloc, CAPPED, script.as_bytes())?,
+    )?;
     Ok(outcome == Outcome::Done && printed.ends_with(output.as_bytes()))
 }
 
@@ -309,7 +315,7 @@ fn eight_clients_have_one_history(rt: HostRuntime) -> Result<(), Fail> {
     assert_eq!(rt; answers.len(), 1600);
     assert!(rt; are_in_order(&answers));
     let steps = answers.iter().filter(|one| one.changes()).count();
-    assert!(rt; are_a_serial_run(alloc, entities(alloc)?.as_str(), answers)?);
+    assert!(rt; are_a_serial_run(&rt, alloc, entities(alloc)?.as_str(), answers)?);
     assert_eq!(rt; next_place(&rt, alloc, disk)?, steps.saturating_add(17));
     Ok(())
 }

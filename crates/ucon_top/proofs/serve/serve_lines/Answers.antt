@@ -17,7 +17,8 @@ returns-in-Err-clause-run g c = λ P accepts.
     let law = c.runs_over_a_store_are_legal.ensures in
     let laws : AreLegal = record { legal = law.legal; made = law.made; failed = law.failed } in
     let was = g.K.Sink.contents c.args.out.now in
-    closed_at_once g.D.Disk.contents g.D.Disk.images g.D.Disk.moment g.D.Disk.images_since g.D.Disk.faults own_answers P was was g.met.D.Disk.only_now laws
+    let only_now = (g.met.D.Disk g.world.𝓛 g.world.𝓜 g.world.𝓡 ((λ s x. x), (λ x. x), (λ x. x), (λ x. x))).only_now in
+    closed_at_once g.D.Disk.contents g.D.Disk.images g.D.Disk.moment g.D.Disk.images_since g.D.Disk.faults own_answers P was was only_now laws
     c.args.store (by_client (map entry_of c.args.lines.now)) c.by.result.disk c.by.result.outcome c.requires (c.by.ensures.disk ∙ c.close.ensures.disk)
     (rw c.by.ensures.disk c.close.ensures.left) (rw c.by.ensures.outcome (λ answers. answers))
 
@@ -41,12 +42,13 @@ returns-clause-run g c = λ P accepts.
     let law = c.runs_over_a_store_are_legal.ensures in
     let laws : AreLegal = record { legal = law.legal; made = law.made; failed = law.failed } in
     let was = g.K.Sink.contents c.args.out.now in
+    let only_now = (g.met.D.Disk g.world.𝓛 g.world.𝓜 g.world.𝓡 ((λ s x. x), (λ x. x), (λ x. x), (λ x. x))).only_now in
     let back = c.in-Err-serve.store in
     let same : back ≡ c.args.store = c.in-Err-serve.ensures.err.0 in
     let lines = by_client (map entry_of c.args.lines.now) in
     subst (λ (s : Kept g.row.D.Denot). IsClosedRun g.D.Disk.contents g.D.Disk.images g.D.Disk.moment g.D.Disk.images_since g.D.Disk.faults own_answers P s lines
     c.by-in-Err-serve.result.outcome c.by-in-Err-serve.result.disk was was) same
-    (closed_at_once g.D.Disk.contents g.D.Disk.images g.D.Disk.moment g.D.Disk.images_since g.D.Disk.faults own_answers P was was g.met.D.Disk.only_now laws
+    (closed_at_once g.D.Disk.contents g.D.Disk.images g.D.Disk.moment g.D.Disk.images_since g.D.Disk.faults own_answers P was was only_now laws
     back lines c.by-in-Err-serve.result.disk c.by-in-Err-serve.result.outcome (ap (λ (s : Kept g.row.D.Denot). s.mark) same ∙ c.requires)
     (c.by-in-Err-serve.ensures.disk ∙ c.close-in-Err-serve.ensures.disk) (rw c.by-in-Err-serve.ensures.disk c.close-in-Err-serve.ensures.left)
     (rw c.by-in-Err-serve.ensures.outcome (λ answers. answers)))
