@@ -2,6 +2,7 @@ pub mod Along
 pub mod Answering
 pub mod Forms
 pub mod Closing
+pub mod Crossing
 pub mod GeneratedPolicy
 pub mod Adding
 pub mod Refusing

@@ -1,14 +1,7 @@
 use Rattle.std.proofs.Common.{◌≡◌}
 use Rattle.ucon_top.specs.declared.form.Form.TheVariants.{Serve}
 use Rattle.ucon_top.proofs.Playing.{unread_played}
-use denote.Param.Send.{sendable}
-use Rattle.std.proofs.Crossing.{crosses}
-use Rattle.indexmap.proofs.map.IndexMap.TheSendSync as maps
 use Rattle.ucon_top.proofs.top.serve_input.Goals as goal
-
--- a monitor may go to another thread, as the maps of its tables may
-pub serve-requires-send-E : goal.serve-requires-send-E
-serve-requires-send-E g c κs within = search (maps.the_send, crosses, sendable) depth 40
 
 pub returns-in-Err-clause-played : goal.returns-in-Err-clause-played
 returns-in-Err-clause-played g c =
