@@ -1,12 +1,12 @@
 -- The exchange that adds a reply keeps the rule of the history.
-use Rattle.std.proofs.Common.{◌≡◌, ℕ, ◌+◌, ◌<◌, ◌≤◌, ◌^◌, ◌==◌, Bool, true, false, List, [], ◌∷◌, ◌++◌, length, refl, ap, sym, subst, arith, inl, length-append, None}
+use Rattle.std.proofs.Common.{◌≡◌, ℕ, ◌+◌, ◌<◌, ◌==◌, Bool, true, false, List, [], ◌∷◌, ◌++◌, length, refl, ap, sym, subst, arith, inl, length-append, None}
 use Rattle.std.proofs.lemmas.List.{append-nil}
 use Rattle.std.proofs.lemmas.Bool.Decides.{nat_tests}
 use mathlib.Core.List.{IsPrefix}
 use prog.Atomic.{either}
 use Rattle.logbook.specs.Pages.{Cell, cell, keeps, no_nib, step, Moves, Goes}
 use Rattle.ucon_board.specs.declared.told.Event.{Event}
-use Rattle.ucon_board.specs.declared.told.Event.TheVariants.{Opened, Replied}
+use Rattle.ucon_board.specs.declared.told.Event.TheVariants.{Replied}
 use Rattle.ucon_board.specs.declared.told.Published.{Published}
 use Rattle.ucon_board.specs.Told.{IsCounted, IsOpened, Adds}
 use Rattle.ucon_board.proofs.Prefixes.{prefix_whole}

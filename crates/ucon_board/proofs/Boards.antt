@@ -1,8 +1,8 @@
 -- How the boards of histories go on from each other.
-use Rattle.std.proofs.Common.{◌≡◌, ℕ, ◌+◌, ◌≤◌, ◌<◌, List, [], ◌∷◌, ◌++◌, map, length, length-append, refl, ap, sym, ◌∙◌, arith, true}
+use Rattle.std.proofs.Common.{◌≡◌, ◌⊎◌, inl, inr, Bool, false, nat_le, ℕ, suc, ◌+◌, ◌≤◌, List, [], ◌∷◌, ◌++◌, map, length, length-append, refl, ap, sym, ◌∙◌, arith, true}
+use Rattle.std.proofs.lemmas.Bool.Decides.{nat_tests}
 use mathlib.Core.List.{IsPrefix}
 use Rattle.ucon_model.specs.declared.session.SessionState.{SessionState}
-use Rattle.ucon_model.specs.Plain.{PlainReply}
 use Rattle.ucon_board.specs.declared.told.Published.{Published}
 use Rattle.ucon_board.specs.declared.told.Event.{Event}
 use Rattle.ucon_board.specs.declared.told.Event.TheVariants.{Opened, Replied}
@@ -17,11 +17,11 @@ replies_append (Replied p ∷ xs) ys = ap (λ l. reply_in p ∷ l) (replies_appe
 
 replies_count : (rs : List Published) → length (replies_in (map Replied rs)) ≡ length rs
 replies_count [] = refl
-replies_count (r ∷ rs) = ap (λ n. n + 1) (replies_count rs)
+replies_count (r ∷ rs) = ap suc (replies_count rs)
 
 events_count : (rs : List Published) → length (map Replied rs) ≡ length rs
 events_count [] = refl
-events_count (r ∷ rs) = ap (λ n. n + 1) (events_count rs)
+events_count (r ∷ rs) = ap suc (events_count rs)
 
 counted_at : (place : ℕ) (sessions : List SessionState) (rs : List Published) → length (board_of (events place sessions rs)).replies + 1 ≡ length (events place sessions rs)
 counted_at place sessions rs = omega (arith, replies_count rs, events_count rs)
@@ -52,7 +52,7 @@ pub posted_more : (log : List Event) (p : Published) → IsOpened log → board_
 posted_more log p o = rw o.3 (posted_at o.0 o.1 (map Replied o.2) p)
 
 same_board : (a b : Board) → a.opened_at ≡ b.opened_at → a.sessions ≡ b.sessions → a.replies ≡ b.replies → a ≡ b
-same_board a b p q r = cc (p, q, r)
+same_board a b p q r i = record { opened_at = p i; sessions = q i; replies = r i }
 
 -- a board that goes on from another and is at its place is that board
 pub same_place : (a b : Board) → GoesOn a b → place_of b ≤ place_of a → b ≡ a
@@ -65,3 +65,16 @@ no_lower a b g = omega (arith, g.opened_at, length-append a.replies g.replies.0,
 -- at the opening the word has counted none
 pub opens_counted : (place : ℕ) (sessions : List SessionState) → IsCounted ((0, true) ∷ []) (events place sessions [])
 opens_counted place sessions = record { opened = (place, sessions, [], refl); count = 0; words = refl; counted = refl }
+
+met : (a b whole : List Event) → IsOpened a → IsOpened b → IsPrefix a whole → IsPrefix b whole → (t : Bool) → nat_le (length a) (length b) ≡ t
+    → GoesOn (board_of a) (board_of b) ⊎ GoesOn (board_of b) (board_of a)
+met a b whole o p q r true is = inl (longer_goes_on a b o (prefix_shorter a b whole q r (grind (arith, nat_tests))))
+met a b whole o p q r false is = inr (longer_goes_on b a p (prefix_shorter b a whole r q (grind (arith, nat_tests))))
+
+-- of two beginnings of one history the longer goes on from the other
+pub beginnings_meet : (a b whole : List Event) → IsOpened a → IsOpened b → IsPrefix a whole → IsPrefix b whole → GoesOn (board_of a) (board_of b) ⊎ GoesOn (board_of b) (board_of a)
+beginnings_meet a b whole o p q r = met a b whole o p q r (nat_le (length a) (length b)) refl
+
+-- a history is no longer than the place behind it
+pub room_left : (log : List Event) (b : Board) (place : ℕ) → IsOpened log → board_of log ≡ b → place ≡ place_of b + 1 → length log ≤ place
+room_left log b place o is next = omega (arith, opened_count log o, ap (λ (c : Board). length c.replies) is, next)

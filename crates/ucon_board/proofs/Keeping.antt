@@ -1,5 +1,6 @@
 -- Each step of the two copies keeps their rule.
-use Rattle.std.proofs.Common.{◌≡◌, ◌≢◌, ◌⊎◌, ℕ, ◌+◌, ◌-◌, ◌≤◌, ◌<◌, List, [], ◌∷◌, ◌++◌, map, replicate, length, length-append, length-map, length-replicate, set, Option, Some, None, refl, sym, ap, ◌∙◌, subst, ⊎_elim, arith}
+use Rattle.std.proofs.Common.{◌≡◌, ◌≢◌, ℕ, ◌+◌, ◌≤◌, ◌<◌, List, [], ◌∷◌, ◌++◌, map, replicate, length, length-append, set, Option, Some, None, refl, sym, ap, ◌∙◌, subst, ⊎_elim, arith}
+use Rattle.std.proofs.lemmas.List.{length-map, length-replicate}
 use mathlib.Core.List.{IsPrefix}
 use mathlib.Core.Option.{some}
 use lib.ListN.{get_elem?}
@@ -7,6 +8,7 @@ use Rattle.crossbeam_utils.specs.Register.{Admits, TurnsAt, Forks, Merges}
 use Rattle.atomic_table.proofs.Lists.{at_set, at_snoc}
 use Rattle.ucon_model.specs.declared.session.SessionState.{SessionState}
 use Rattle.ucon_base.specs.Elements.{Each}
+use Rattle.ucon_board.specs.declared.told.Published.{Published}
 use Rattle.ucon_board.specs.declared.shown.Mark.{Mark}
 use Rattle.ucon_board.specs.declared.shown.Shown.{Shown}
 use Rattle.ucon_board.specs.Board.{Board, Naming, sayings, place_of, posted, state_in}
@@ -52,13 +54,13 @@ merges seat v other w x views h at apart there =
 
 -- a reply more keeps the tie
 pub tied_on : (x y : Shown) (m : Mark) → y.place ≡ m.place → y.rows.items ≡ after x.rows.items (sayings m.head m.revoked.items) → y.seen.log ≡ x.seen.log ++ replied m ∷ []
-    → m.place ≡ x.place + 1 → Each (λ (s : Naming). (0 < s.0) × (s.0 ≤ 1048576)) (sayings m.head m.revoked.items) → Tied x → Tied y
+    → m.place ≡ place_of (board_of x.seen.log) + 1 → Each (λ (s : Naming). (0 < s.0) × (s.0 ≤ 1048576)) (sayings m.head m.revoked.items) → Tied x → Tied y
 tied_on x y m place rows log next each t =
-    let p = record { head = m.head; revoked = m.revoked.items } in
+    let p : Published = record { head = m.head; revoked = m.revoked.items } in
     let board : board_of y.seen.log ≡ posted (board_of x.seen.log) (reply_in p) = ap board_of log ∙ posted_more x.seen.log p t.opened in
     record {
       opened = subst IsOpened (sym log) (opened_more x.seen.log p t.opened);
-      place = place ∙ (next ∙ (ap (λ n. n + 1) t.place ∙ (omega (arith, length-append (board_of x.seen.log).replies (reply_in p ∷ [])) ∙ sym (ap place_of board))));
+      place = place ∙ (next ∙ (omega (arith, length-append (board_of x.seen.log).replies (reply_in p ∷ [])) ∙ sym (ap place_of board)));
       wide = ap length rows ∙ (after_length (sayings m.head m.revoked.items) x.rows.items ∙ t.wide);
       states = λ n. ap (λ (r : Rows). row_at r n) rows ∙ (rows_posted 1048576 x.rows.items (board_of x.seen.log) (reply_in p) n t.wide each (t.states n) ∙ sym (ap (λ (b : Board). state_in b n) board));
     }
@@ -69,6 +71,15 @@ pub tied_first : (x : Shown) (place : ℕ) (sessions : List SessionState) (m : �
 tied_first x place sessions m wide at rows log = record {
   opened = (place, sessions, [], log);
   place = at ∙ (omega arith ∙ sym (ap (λ l. place_of (board_of l)) log));
-  wide = ap length rows ∙ (length-append (map Some sessions) (replicate m None) ∙ omega (arith, wide, length-map sessions Some, length-replicate m None));
+  wide = ap length rows ∙ (length-append (map Some sessions) (replicate m None) ∙ omega (arith, wide, length-map sessions Some, length-replicate {A = Option SessionState} m None));
   states = λ n. ap (λ (r : Rows). row_at r n) rows ∙ (rows_opened sessions m n ∙ sym (ap (λ l. state_in (board_of l) n) log));
+}
+
+-- what is shown stays tied where nothing of it changes
+pub tied_still : (x y : Shown) → y.place ≡ x.place → y.rows.items ≡ x.rows.items → y.seen ≡ x.seen → Tied x → Tied y
+tied_still x y place rows seen t = record {
+  opened = subst (λ (s : Told). IsOpened s.log) (sym seen) t.opened;
+  place = place ∙ (t.place ∙ ap (λ (s : Told). place_of (board_of s.log)) (sym seen));
+  wide = ap length rows ∙ t.wide;
+  states = λ n. ap (λ (r : Rows). row_at r n) rows ∙ (t.states n ∙ ap (λ (s : Told). state_in (board_of s.log) n) (sym seen));
 }

@@ -1,6 +1,7 @@
 -- What the rows say after an opening, and after a reply more.
-use Rattle.std.proofs.Common.{◌≡◌, ℕ, zero, suc, ◌+◌, ◌-◌, ◌≤◌, ◌<◌, ◌==◌, List, [], ◌∷◌, ◌++◌, map, replicate, length, length-append, append_assoc, fold, slice_get, slice_set, Option, Some, None, refl, ap, sym, ◌∙◌, arith, if◌then◌else◌}
-use Rattle.std.proofs.lemmas.List.{length-set, append-nil, set_past}
+use Rattle.std.proofs.Common.{◌≡◌, ℕ, zero, suc, ◌-◌, ◌≤◌, ◌<◌, ◌==◌, ◌≢◌, Bool, true, false, subst, List, [], ◌∷◌, ◌++◌, map, replicate, length, append_assoc, take, drop, take_all, slice_get, slice_set, Option, Some, None, refl, ap, sym, ◌∙◌, arith, if◌then◌else◌}
+use Rattle.std.proofs.lemmas.List.{length-set, length-map, append-nil, set_past}
+use Rattle.std.proofs.lemmas.Bool.Decides.{nat_tests}
 use Rattle.std.specs.Option.{option_or, option_flatten}
 use Rattle.ucon_base.specs.Elements.{Each}
 use Rattle.ucon_model.specs.declared.session.SessionState.{SessionState}
@@ -10,11 +11,11 @@ use Rattle.ucon_board.specs.Rule.{Rows, row_at, set_row, named, after}
 
 pub set_row_at : (rows : Rows) (n : ℕ) (s : SessionState) → 0 < n → set_row rows n s ≡ slice_set rows (n - 1) (Some s)
 set_row_at rows zero s pos = absurd (omega (arith, pos))
-set_row_at rows (suc n) s pos = refl
+set_row_at rows (suc n) s pos = let less : n ≡ suc n - 1 = omega arith in ap (λ m. slice_set rows m (Some s)) less
 
 pub set_row_none : (rows : Rows) (n : ℕ) (s : SessionState) → n ≡ 0 → set_row rows n s ≡ rows
-set_row_none rows zero s no = refl
-set_row_none rows (suc n) s no = absurd (omega (arith, no))
+set_row_none rows zero s z = refl
+set_row_none rows (suc n) s z = absurd (omega (arith, z))
 
 pub set_row_past : (rows : Rows) (n : ℕ) (s : SessionState) → length rows < n → set_row rows n s ≡ rows
 set_row_past rows zero s past = refl
@@ -22,7 +23,7 @@ set_row_past rows (suc n) s past = set_past rows n (Some s) (omega (arith, past)
 
 pub row_at_within : (rows : Rows) (n : ℕ) → 0 < n → row_at rows n ≡ option_flatten (slice_get rows (n - 1))
 row_at_within rows zero pos = absurd (omega (arith, pos))
-row_at_within rows (suc n) pos = refl
+row_at_within rows (suc n) pos = let less : n ≡ suc n - 1 = omega arith in ap (λ m. option_flatten (slice_get rows m)) less
 
 or_assoc : {A : Type 0} (a b c : Option A) → option_or (option_or a b) c ≡ option_or a (option_or b c)
 or_assoc None b c = refl
@@ -32,19 +33,39 @@ or_none : {A : Type 0} (a : Option A) → option_or a None ≡ a
 or_none None = refl
 or_none (Some x) = refl
 
+set_same : (rows : Rows) (n : ℕ) (s : SessionState) → n < length rows → slice_get (slice_set rows n (Some s)) n ≡ Some (Some s)
+set_same [] n s le = absurd (omega (arith, le))
+set_same (r ∷ rows) zero s le = refl
+set_same (r ∷ rows) (suc n) s le = set_same rows n s (omega (arith, le))
+
+set_other : (rows : Rows) (n k : ℕ) (s : SessionState) → n ≢ k → slice_get (slice_set rows n (Some s)) k ≡ slice_get rows k
+set_other [] n k s apart = refl
+set_other (r ∷ rows) zero zero s apart = absurd (apart refl)
+set_other (r ∷ rows) zero (suc k) s apart = refl
+set_other (r ∷ rows) (suc n) zero s apart = refl
+set_other (r ∷ rows) (suc n) (suc k) s apart = set_other rows n k s (λ e. apart (ap suc e))
+
+row_same : (rows : Rows) (n : ℕ) (s : SessionState) → 0 < n → n ≤ length rows → row_at (set_row rows n s) n ≡ Some s
+row_same rows zero s pos le = absurd (omega (arith, pos))
+row_same rows (suc n) s pos le = ap option_flatten (set_same rows n s (omega (arith, le)))
+
+row_other : (rows : Rows) (n k : ℕ) (s : SessionState) → n ≢ k → row_at (set_row rows n s) k ≡ row_at rows k
+row_other rows zero k s apart = refl
+row_other rows (suc n) zero s apart = refl
+row_other rows (suc n) (suc k) s apart = ap option_flatten (set_other rows n k s (λ e. apart (ap suc e)))
+
 -- one row written, as each row then reads
-written_reads : (rows : Rows) (n k : ℕ) (s : SessionState) → n < length rows
-    → option_flatten (slice_get (slice_set rows n (Some s)) k) ≡ option_or (if n == k then Some s else None) (option_flatten (slice_get rows k))
-written_reads [] n k s le = absurd (omega (arith, le))
-written_reads (r ∷ rows) zero zero s le = refl
-written_reads (r ∷ rows) zero (suc k) s le = refl
-written_reads (r ∷ rows) (suc n) zero s le = refl
-written_reads (r ∷ rows) (suc n) (suc k) s le = written_reads rows n k s (omega (arith, le))
+named_by : (rows : Rows) (n k : ℕ) (s : SessionState) → 0 < n → n ≤ length rows → (b : Bool) → (n == k) ≡ b
+    → row_at (set_row rows n s) k ≡ option_or (if b then Some s else None) (row_at rows k)
+named_by rows n k s pos le true is =
+    let same : n ≡ k = grind (arith, nat_tests) in
+    subst (λ j. row_at (set_row rows n s) j ≡ Some s) same (row_same rows n s pos le)
+named_by rows n k s pos le false is =
+    let apart : n ≢ k = grind (arith, nat_tests) in
+    row_other rows n k s apart
 
 named_reads : (rows : Rows) (n k : ℕ) (s : SessionState) → 0 < n → n ≤ length rows → row_at (set_row rows n s) k ≡ option_or (if n == k then Some s else None) (row_at rows k)
-named_reads rows zero k s pos le = absurd (omega (arith, pos))
-named_reads rows (suc n) zero s pos le = refl
-named_reads rows (suc n) (suc k) s pos le = written_reads rows n k s (omega (arith, le))
+named_reads rows n k s pos le = named_by rows n k s pos le (n == k) refl
 
 named_length : (rows : Rows) (n : ℕ) (s : SessionState) → length (set_row rows n s) ≡ length rows
 named_length rows zero s = refl
@@ -96,3 +117,20 @@ opened_reads (s ∷ sessions) m (suc k) = opened_reads sessions m k
 pub rows_opened : (sessions : List SessionState) (m k : ℕ) → row_at (map Some sessions ++ replicate m None) k ≡ opening_state sessions k
 rows_opened sessions m zero = refl
 rows_opened sessions m (suc k) = opened_reads sessions m k
+
+-- room is filled up with rows of nobody
+pub filled_up : (n m : ℕ) (sessions : List SessionState) (rows new : Rows) → rows ≡ map Some sessions → length sessions ≤ n → m ≡ length rows
+    → new ≡ take n rows ++ replicate (n - m) None → new ≡ map Some sessions ++ replicate (n - length sessions) None
+filled_up n m sessions rows new is few count made =
+    let long : length rows ≡ length sessions = ap length is ∙ length-map sessions Some in
+    made ∙ (ap (λ k. take n rows ++ replicate (n - k) None) (count ∙ long) ∙ ap (λ r. r ++ replicate (n - length sessions) None) (take_all n rows (omega (arith, long, few)) ∙ is))
+
+drop_all : {A : Type 0} (n : ℕ) (xs : List A) → length xs ≤ n → drop n xs ≡ []
+drop_all zero [] le = refl
+drop_all zero (x ∷ xs) le = absurd (omega (arith, le))
+drop_all (suc n) [] le = refl
+drop_all (suc n) (x ∷ xs) le = drop_all n xs (omega (arith, le))
+
+-- when all sessions were gone through, each has its row
+pub all_through : (n : ℕ) (sessions : List SessionState) (rows : Rows) → rows ++ map Some (drop n sessions) ≡ map Some sessions → length sessions ≤ n → rows ≡ map Some sessions
+all_through n sessions rows so le = sym (append-nil rows) ∙ (ap (λ l. rows ++ map Some l) (sym (drop_all n sessions le)) ∙ so)

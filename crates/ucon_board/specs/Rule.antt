@@ -60,10 +60,10 @@ SeesOn v x y w = Tied y × Fits y v × (w ≡ Some y.seen)
 -- the writer's end: it knows the history that is shown, and nothing waits to be published
 pub record IsPublished (end : Option Told) (shown : Shown) (pending : List Post) (told : Told) (place : ℕ) : Type 0 where
   pub known : end ≡ Some told
-  pub shown : shown.seen ≡ told
+  pub seen : shown.seen ≡ told
   pub none_pending : pending ≡ []
   pub opened : IsOpened told.log
-  pub place : place ≡ place_of (board_of told.log)
+  pub placed : place ≡ place_of (board_of told.log)
 
 -- the mark says what the reply does, at this place
 abbrev pub IsMarkOf : Mark → ℕ → PlainReply → Type 0

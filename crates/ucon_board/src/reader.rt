@@ -23,7 +23,7 @@ pub struct BoardReader {
 
 impl Model for BoardReader {
     ghost use Rattle.std.specs.Prelude.{◌≡◌, Some};
-    ghost use Rattle.left_right.specs.Sides.{view};
+    ghost use Rattle.left_right.specs.Sides.{view as known_at};
     ghost use Rattle.ucon_board.specs.Board.{Known};
     ghost use Rattle.ucon_board.specs.Told.{board_of, IsOpened};
 
@@ -31,14 +31,11 @@ impl Model for BoardReader {
 
     ghost view = { λ r. record { which = r.told.book; board = board_of r.told.log } };
 
-    ghost invariant = { λ r. (view r.inner.place ≡ Some r.told) × IsOpened r.told.log };
+    ghost invariant = { λ r. (known_at r.inner.place ≡ Some r.told) × IsOpened r.told.log };
 }
 
 /// What is shown, once the writer's end lets the reader in.
-fn enter<R: Wait>(
-    rt: &R,
-    reader: Reader<Shown, End, Shows>,
-) -> Reading<Shown, End, Shows>
+fn enter<R: Wait>(rt: &R, reader: Reader<Shown, End, Shows>) -> Reading<Shown, End, Shows>
     ensures { Tied result.part.value × Fits result.part.value (view reader.place) × (view result.place ≡ Some result.part.value.seen) }
 {
     let mut reader = reader;

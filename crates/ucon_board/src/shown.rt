@@ -109,7 +109,9 @@ impl Shown {
         ensures { IfOk result (λ s. (s.place ≡ place) × (s.rows.items ≡ map Some sessions.now ++ replicate (1048576 - length sessions.now) None) × (s.seen ≡ seen)) }
     {
         let mut rows = Vec::with_capacity(alloc, SESSIONS)?;
-        rows.extend(sessions.iter().map(|state| Some(*state)))?;
+        for state in sessions {
+            rows.push(Some(*state))?;
+        }
         rows.resize(SESSIONS, None)?;
         Ok(Shown { place, rows, seen })
     }

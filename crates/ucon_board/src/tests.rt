@@ -70,23 +70,23 @@ fn reply_at(alloc: Global, place: u64, label: Name) -> Result<Reply, NoMemory>
 fn publish_all<R: Wait>(
     rt: &R,
     alloc: Global,
-    mut writer: BoardWriter,
+    writer: &mut BoardWriter,
     label: Name,
     count: u64,
-) -> (BoardWriter, bool)
-    requires { (writer.still ≡ false) × (place_of writer.board ≡ 0) × (count < 2 ^ 32) }
+) -> bool
+    requires { (writer.old.still ≡ false) × (place_of writer.old.board ≡ 0) × (count < 2 ^ 32) }
 {
     let mut place = 0;
     for _ in 0..count {
         place += 1;
         let Ok(reply) = reply_at(alloc, place, label) else {
-            return (writer, false);
+            return false;
         };
         if writer.step(rt, alloc, place, &reply).is_err() {
-            return (writer, false);
+            return false;
         }
     }
-    (writer, true)
+    true
 }
 
 #[derive(Drop)]
@@ -126,12 +126,12 @@ fn seven_readers_never_go_back_beside_a_writer(rt: HostRuntime) -> Result<(), Fa
             });
         }
     }
-    let (rt_of, count) = (&rt, 20_000);
-    let ((writer, published), watchers) = join(
+    let (rt_of, writer_of, count) = (&rt, &mut writer, 2_000);
+    let (published, watchers) = join(
         &rt,
-        move || -> (BoardWriter, bool)
-            requires { (writer.still ≡ false) × (place_of writer.board ≡ 0) × (count < 2 ^ 32) }
-        { publish_all(rt_of, alloc, writer, label, count) },
+        move || -> bool
+            requires { (writer_of.now.still ≡ false) × (place_of writer_of.now.board ≡ 0) × (count < 2 ^ 32) }
+        { publish_all(rt_of, alloc, writer_of, label, count) },
         move || -> Vec<Watcher> {
             let mut watchers = watchers;
             for_each_mut(

@@ -1,6 +1,6 @@
 //! The history of a board, as proofs know it. It has no bytes but a word with the number of its replies.
 ghost use Rattle.std.specs.Prelude.{◌≡◌, ◌+◌, ◌<◌, ◌≤◌, ◌^◌, [], ◌∷◌, ◌++◌, length, IfOk};
-ghost use Rattle.ucon_board.specs.Told.{word_of, IsOpened, events, replied};
+ghost use Rattle.ucon_board.specs.Told.{word_of, events, replied};
 
 use crate::shown::Mark;
 use logbook::{Gain, Offer, Opening, Plain, Play, Rule, Seen, Start, Word};
@@ -91,7 +91,6 @@ pub struct History {
     count: u64,
     pub told: Told,
     ghost word_is: { word ≡ word_of told.book },
-    ghost opened: { IsOpened told.log },
     ghost counted: { count + 1 ≡ length told.log },
 }
 
@@ -137,7 +136,6 @@ impl History {
     pub fn go_on(&mut self, told: Told)
         requires book { told.book ≡ self.old.told.book }
         requires longer { (length told.log ≡ length self.old.told.log + 1) × (length told.log ≤ 2 ^ 64) }
-        requires opened { IsOpened told.log }
         ensures { self.new.told ≡ told }
     {
         let History {

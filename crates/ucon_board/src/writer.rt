@@ -35,14 +35,14 @@ impl Model for BoardWriter {
     ghost use Rattle.ucon_board.specs.Board.{Written};
     ghost use Rattle.ucon_board.specs.Told.{board_of};
     ghost use Rattle.std.specs.Prelude.{drop};
-    ghost use Rattle.left_right.specs.Sides.{view};
+    ghost use Rattle.left_right.specs.Sides.{view as known_at};
     ghost use Rattle.ucon_board.specs.Rule.{IsPublished};
 
     ghost Value = { Written };
 
     ghost view = { λ w. record { which = w.history.told.book; board = board_of w.history.told.log; still = w.still } };
 
-    ghost invariant = { λ w. IsPublished (view w.inner.desk.place) w.inner.desk.shown.value (drop w.inner.behind w.inner.log.items) w.history.told w.place };
+    ghost invariant = { λ w. IsPublished (known_at w.inner.desk.place) w.inner.desk.shown.value (drop w.inner.behind w.inner.log.items) w.history.told w.place };
 }
 
 /// A board at this place, with these states of sessions 1, 2 and so on. All room of both copies is taken here. It waits for nobody, since
@@ -114,7 +114,7 @@ impl BoardWriter {
             (rt, alloc, place, reply),
             |writer, (rt, alloc, place, reply)| -> (BoardWriter, Result<(), NoMemory>)
                 requires { (changes (reply_of reply.now) ≡ true) × NamesSessions (reply_of reply.now) × (place ≡ place_of writer.board + 1) }
-                ensures { Publishes writer result.0 (reply_of reply.now) result.1 }
+                ensures { Publishes writer result.0 (reply_of reply.entry.now) result.1 }
             { writer.publish(rt, alloc, place, reply) },
         )?;
         Ok(())

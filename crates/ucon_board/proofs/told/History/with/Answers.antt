@@ -1,4 +1,4 @@
-use Rattle.std.proofs.Common.{ap, sym, ◌∙◌, ◌≡◌, ◌+◌, length}
+use Rattle.std.proofs.Common.{ap, sym, ◌∙◌, length}
 use Rattle.ucon_board.proofs.Adding.{adds_moves}
 use Rattle.ucon_board.proofs.told.History.with.Goals as goal
 
