@@ -76,9 +76,8 @@ fn publish_all<R: Wait>(
 ) -> bool
     requires { (writer.old.still ≡ false) × (place_of writer.old.board ≡ 0) × (count < 2 ^ 32) }
 {
-    let mut place = 0;
-    for _ in 0..count {
-        place += 1;
+    for n in 0..count {
+        let place = n + 1;
         let Ok(reply) = reply_at(alloc, place, label) else {
             return false;
         };
@@ -120,10 +119,13 @@ fn seven_readers_never_go_back_beside_a_writer(rt: HostRuntime) -> Result<(), Fa
     let mut writer = board(&rt, alloc, 0, &sessions).map_err(|_| "no memory")?;
     for _ in 0..7 {
         if let Some(reader) = writer.reader() {
-            watchers.push_reserved(Watcher {
+            let watcher = Watcher {
                 reader,
                 went_well: false,
-            });
+            };
+            if watchers.push(watcher).is_err() {
+                break;
+            }
         }
     }
     let (rt_of, writer_of, count) = (&rt, &mut writer, 2_000);
