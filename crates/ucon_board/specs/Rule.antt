@@ -1,5 +1,5 @@
 -- The rule of the two copies: what is shown is what its history makes, and each end's history begins it.
-use Rattle.std.specs.Prelude.{◌≡◌, ℕ, zero, suc, List, [], ◌∷◌, ◌++◌, length, fold, slice_get, slice_set, Option, Some, None}
+use Rattle.std.specs.Prelude.{◌≡◌, ℕ, zero, suc, ◌-◌, List, [], ◌∷◌, ◌++◌, map, replicate, length, fold, slice_get, slice_set, Option, Some, None}
 use Rattle.std.specs.Option.{option_flatten}
 use mathlib.Core.List.{IsPrefix}
 use mathlib.Core.Option.{some}
@@ -25,6 +25,10 @@ Told = Seen Event ℕ Counted
 abbrev pub row_at : Rows → ℕ → Option SessionState
 row_at rows zero = None
 row_at rows (suc n) = option_flatten (slice_get rows n)
+
+-- the rows at the opening: one for each session that there may ever be
+abbrev pub opened_rows : List SessionState → Rows
+opened_rows sessions = map Some sessions ++ replicate (1048576 - length sessions) None
 
 -- the rows with a session in this state
 abbrev pub set_row : Rows → ℕ → SessionState → Rows

@@ -1,7 +1,7 @@
 //! What readers are shown.
 ghost use Rattle.std.specs.Prelude.{◌≡◌, ◌+◌, ◌-◌, ◌≤◌, [], ◌++◌, length, fold, take, map, replicate, IfOk, Some, None};
 ghost use Rattle.ucon_board.specs.Board.{named_by, revocation};
-ghost use Rattle.ucon_board.specs.Rule.{after, row_at, set_row};
+ghost use Rattle.ucon_board.specs.Rule.{after, opened_rows, row_at, set_row};
 
 use crate::told::Told;
 use left_right::Absorb;
@@ -106,7 +106,7 @@ impl Shown {
         seen: Told,
     ) -> Result<Shown, AllocError>
         requires { length sessions.now ≤ 1048576 }
-        ensures { IfOk result (λ s. (s.place ≡ place) × (s.rows.items ≡ map Some sessions.now ++ replicate (1048576 - length sessions.now) None) × (s.seen ≡ seen)) }
+        ensures { IfOk result (λ s. (s.place ≡ place) × (s.rows.items ≡ opened_rows sessions.now) × (s.seen ≡ seen)) }
     {
         let mut rows = Vec::with_capacity(alloc, SESSIONS)?;
         for state in sessions {

@@ -42,7 +42,8 @@ impl Model for BoardWriter {
 
     ghost view = { λ w. record { which = w.history.told.book; board = board_of w.history.told.log; still = w.still } };
 
-    ghost invariant = { λ w. IsPublished (known_at w.inner.desk.place) w.inner.desk.shown.value (drop w.inner.behind w.inner.log.items) w.history.told w.place };
+    ghost invariant = { λ w. IsPublished (known_at w.inner.desk.place) w.inner.desk.shown.value (drop w.inner.behind w.inner.log.items)
+        w.history.told w.place };
 }
 
 /// A board at this place, with these states of sessions 1, 2 and so on. All room of both copies is taken here. It waits for nobody, since
@@ -207,7 +208,8 @@ fn post(
     requires changes { changes (reply_of reply.now) ≡ true }
     requires room { length history.now.told.log < 2 ^ 64 }
     ensures desk { inner.new.desk ≡ inner.old.desk }
-    ensures ok { IfOk result (λ told. Posts (drop inner.old.behind inner.old.log.items) (drop inner.new.behind inner.new.log.items) history.now.told told place (reply_of reply.now)) }
+    ensures ok { IfOk result (λ told. Posts (drop inner.old.behind inner.old.log.items) (drop inner.new.behind inner.new.log.items)
+        history.now.told told place (reply_of reply.now)) }
     ensures err { OnErr result (drop inner.new.behind inner.new.log.items ≡ drop inner.old.behind inner.old.log.items) }
 {
     let Reply::Made { head, revoked } = reply else {
