@@ -29,6 +29,12 @@ KNOWN = [
     Form("check", "prints which core models of usage control each right makes", "./ucon check < examples/music.ucon"),
     Form("gen SEED SIZE", "draws SIZE commands from a number, runs them, and prints counts; reads nothing", "./ucon gen 1 1000"),
     Form("play JOURNAL", "runs the script over a journal, a file that keeps each step", "./ucon play door.journal < door.ucon", keeps=True),
+    Form(
+        "serve JOURNAL",
+        "runs each client of the script in a thread of its own, over a journal",
+        "./ucon serve door.journal < door.ucon",
+        keeps=True,
+    ),
 ]
 # Forms that the program doesn't have yet. A name goes from here when its form comes.
 COMING: Tuple[str, ...] = ()

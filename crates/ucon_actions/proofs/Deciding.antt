@@ -15,13 +15,12 @@ use Rattle.ucon_model.specs.declared.session.Verdict.{Verdict}
 use Rattle.ucon_model.specs.declared.session.Verdict.TheVariants.{Wait}
 use Rattle.ucon_model.specs.Plain.{Bytes, PlainPolicy}
 use Rattle.ucon_model.specs.Action.{Action, Trace, tries, wait, extended}
-use Rattle.ucon_model.specs.Readings.{session, sessions, is_accessing, is_accessing_state}
+use Rattle.ucon_model.specs.Readings.{session, sessions, accessing, is_accessing, is_accessing_state}
 use Rattle.ucon_model.specs.Truth.{Readings, readings}
 use Rattle.ucon_model.specs.Decision.{right_named, verdict}
 use Rattle.ucon_model.specs.Updates.{session_writes}
 use Rattle.ucon_model.specs.OwnActions.{Own, refuse, tell, make, after_action, by_verdict, decide, with_own, with_usage}
 use Rattle.ucon_model.specs.Legal.{IsLegal}
-use Rattle.ucon_model.proofs.Extending.{session-session_writes, accessing-session_writes}
 use Rattle.ucon_state.specs.Tables.{Tables, entity_number, session_in, readings_in, accessing_among}
 use Rattle.ucon_state.specs.Applied.{may_become}
 use Rattle.ucon_state.specs.Shown.{Shown}
@@ -50,18 +49,26 @@ move_by (Some row) before after may h = ap (λ (state : SessionState). may_becom
 pub may_move : (t : Tables) (n : ℕ) (before after : SessionState) → may_become before after ≡ true → IsIn t n before → IsSomeAnd (session_in t n) (λ row. IsTrue (may_become row.state after))
 may_move t n before after may h = move_by (session_in t n) before after may h
 
--- a session's updates leave the state of every session
-pub in_after_writes : (s s' : Shown) (P : PlainPolicy) (T : Trace) (n m : ℕ) (when : When) (state : SessionState) → Follows s P T → Follows s' P (extended T (session_writes P m when T))
-    → IsIn s.tables n state → IsIn s'.tables n state
-in_after_writes s s' P T n m when state h h' is =
-    in_tables s' P (extended T (session_writes P m when T)) h' n state
-    (subst (λ (o : Option SessionRow). Has o state) (sym (session-session_writes P m when T n)) (in_after s P T h n state is))
+-- a session's updates leave every session
+abbrev pub UpdatesLeaveSessions : Type 0
+UpdatesLeaveSessions = (P : PlainPolicy) (m : ℕ) (when : When) (T : Trace) (n : ℕ) → session (extended T (session_writes P m when T)) n ≡ session T n
 
 -- and how many are accessing
-pub accessing_after_writes : (s s' : Shown) (P : PlainPolicy) (T : Trace) (m : ℕ) (when : When) → Follows s P T → Follows s' P (extended T (session_writes P m when T))
+abbrev pub UpdatesLeaveAccessing : Type 0
+UpdatesLeaveAccessing = (P : PlainPolicy) (m : ℕ) (when : When) (T : Trace) → accessing (extended T (session_writes P m when T)) ≡ accessing T
+
+-- so they leave the state of every session
+pub in_after_writes : UpdatesLeaveSessions → (s s' : Shown) (P : PlainPolicy) (T : Trace) (n m : ℕ) (when : When) (state : SessionState) → Follows s P T → Follows s' P (extended T (session_writes P m when T))
+    → IsIn s.tables n state → IsIn s'.tables n state
+in_after_writes leave s s' P T n m when state h h' is =
+    in_tables s' P (extended T (session_writes P m when T)) h' n state
+    (subst (λ (o : Option SessionRow). Has o state) (sym (leave P m when T n)) (in_after s P T h n state is))
+
+-- and how many are accessing in the tables
+pub accessing_after_writes : UpdatesLeaveAccessing → (s s' : Shown) (P : PlainPolicy) (T : Trace) (m : ℕ) (when : When) → Follows s P T → Follows s' P (extended T (session_writes P m when T))
     → accessing_among s'.tables.sessions ≡ accessing_among s.tables.sessions
-accessing_after_writes s s' P T m when h h' =
-    sym (accessing_same s' P (extended T (session_writes P m when T)) h') ∙ accessing-session_writes P m when T ∙ accessing_same s P T h
+accessing_after_writes leave s s' P T m when h h' =
+    sym (accessing_same s' P (extended T (session_writes P m when T)) h') ∙ leave P m when T ∙ accessing_same s P T h
 
 -- ---- what may be asked of a session
 

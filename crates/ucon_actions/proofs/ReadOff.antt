@@ -7,7 +7,6 @@ use Rattle.ucon_model.specs.Plain.{Bytes, PlainPolicy}
 use Rattle.ucon_model.specs.Action.{Trace}
 use Rattle.ucon_model.specs.Readings.{tick_of, has_entity, entities, attribute, moment, acts, session, sessions, accessing}
 use Rattle.ucon_model.specs.Truth.{Readings, readings}
-use Rattle.ucon_eval.proofs.Agreeing.{agree_is_one}
 use Rattle.ucon_state.specs.declared.counts.Counts.{Counts}
 use Rattle.ucon_state.specs.Following.{Keeps, counts_of}
 use Rattle.ucon_state.specs.Shown.{Shown}
@@ -26,7 +25,9 @@ counts_same : (s : Shown) (P : PlainPolicy) (T : Trace) → Follows s P T → co
 counts_same s P T h = (keeps_if s P T h).counts_agree
 
 pub readings_same : (s : Shown) (P : PlainPolicy) (T : Trace) → Follows s P T → readings_in s.policy s.tables ≡ readings P T
-readings_same s P T h = agree_is_one (readings_in s.policy s.tables) (readings P T) (keeps_if s P T h).readings_agree
+readings_same s P T h = λ i.
+    let agree = (keeps_if s P T h).readings_agree in
+    record { now = agree.now i; row = λ n. agree.row n i; at = λ row place. agree.at row place i; done_at = λ a b c. agree.done_at a b c i }
 
 pub attribute_same : (s : Shown) (P : PlainPolicy) (T : Trace) → Follows s P T → (side : Side) (name attr : Bytes)
     → attribute_in s.policy s.tables side name attr ≡ attribute P T side name attr

@@ -21,7 +21,6 @@ use Rattle.ucon_model.specs.Fitting.{AttributeAdmits, ResultFits}
 use Rattle.ucon_base.specs.Elements.{Each}
 use Rattle.ucon_model.specs.Views.{update_of}
 use Rattle.ucon_model.specs.Sound.{IsGrounded}
-use Rattle.ucon_model.proofs.Extending.{session-writes}
 use Rattle.ucon_eval.specs.Asked as asked
 use Rattle.ucon_state.specs.Tables.{entity_number, session_in, readings_in}
 use Rattle.ucon_state.specs.Shown.{Shown}
@@ -130,8 +129,12 @@ pub session_written : (P : PlainPolicy) (n : ℕ) (when : When) (T : Trace) (row
     → extended T (session_writes P n when T) ≡ written_out P row when (updates_of P row) T
 session_written P n when T row is = ap (λ (o : Option SessionRow). extended T (option_map_or (λ row. writes P row when (updates_of P row) T) o [])) is
 
--- updates leave the session
-pub row_stays : (s s' : Shown) (P : PlainPolicy) (T : Trace) → Follows s P T → (n : ℕ) (row : SessionRow) (when : When) (us : List PlainUpdate) → session_in s.tables n ≡ Some row
+-- the writes of updates leave every session
+abbrev pub WritesLeaveSessions : Type 0
+WritesLeaveSessions = (P : PlainPolicy) (row : SessionRow) (when : When) (us : List PlainUpdate) (n : ℕ) (T : Trace) → session (extended T (writes P row when us T)) n ≡ session T n
+
+-- so they leave the session whose they are
+pub row_stays_by : WritesLeaveSessions → (s s' : Shown) (P : PlainPolicy) (T : Trace) → Follows s P T → (n : ℕ) (row : SessionRow) (when : When) (us : List PlainUpdate) → session_in s.tables n ≡ Some row
     → Follows s' P (written_out P row when us T) → session_in s'.tables n ≡ Some row
-row_stays s s' P T h n row when us is h' =
-    sym (session_same s' P (written_out P row when us T) h' n) ∙ session-writes P row when us n T ∙ session_same s P T h n ∙ is
+row_stays_by leave s s' P T h n row when us is h' =
+    sym (session_same s' P (written_out P row when us T) h' n) ∙ leave P row when us n T ∙ session_same s P T h n ∙ is

@@ -13,7 +13,7 @@ use crate::attributes::write;
 use std::alloc::{AllocError, Global};
 use ucon_base::{Name, NoMemory, Side};
 use ucon_eval::result;
-use ucon_model::{Policy, SessionRow, Update, View, When};
+use ucon_model::{Policy, SessionRow, Update, View, When, writes_leave_sessions};
 use ucon_state::State;
 
 fn updates_of<'a>(policy: &'a Policy, row: &SessionRow) -> &'a [Update]
@@ -88,6 +88,7 @@ pub fn run_updates(alloc: Global, state: &mut State, n: u32, when: When) -> Resu
     ensures leads { OnOk result (Leads (shown state.old) (shown state.new) (λ P T. extended T (session_writes P n when T))) }
     ensures base { KeepsBase (shown state.old) (shown state.new) }
 {
+    writes_leave_sessions();
     if !has_updates(state, n) {
         return Ok(());
     }

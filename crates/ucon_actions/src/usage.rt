@@ -24,7 +24,8 @@ use std::alloc::Global;
 use ucon_base::{Name, NoMemory, Side};
 use ucon_eval::{typed_tests_make_no_set, verdict};
 use ucon_model::{
-    Caller, Head, Refusal, SessionRow, SessionState, Verdict, When, the_least_failing_is_found,
+    Caller, Head, Refusal, SessionRow, SessionState, Verdict, When, actions_are_done_in_order,
+    the_least_failing_is_found, updates_write_their_targets, writes_leave_sessions,
 };
 use ucon_state::State;
 
@@ -81,6 +82,9 @@ fn permit(alloc: Global, state: &mut State, n: u32) -> Result<(), NoMemory>
     ensures leads { OnOk result (Leads (shown state.old) (shown state.new) (λ P T. extended T (session_writes P n Before T ++ permit n ∷ []))) }
     ensures base { KeepsBase (shown state.old) (shown state.new) }
 {
+    actions_are_done_in_order();
+    updates_write_their_targets();
+    writes_leave_sessions();
     run_updates(alloc, state, n, When::Before)?;
     state.set_session(n, SessionState::Accessing)
 }

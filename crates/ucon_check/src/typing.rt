@@ -1,7 +1,8 @@
 //! The first fault of a policy.
 
-ghost use Rattle.std.specs.Prelude.{◌≡◌, ◌+◌, [], map, option_map, IfOk, IfErr};
+ghost use Rattle.std.specs.Prelude.{◌≡◌, ◌+◌, [], map, false, option_map, Err, IfOk, IfErr};
 ghost use Rattle.ucon_model.specs.Checked.{checked_policy};
+ghost use Rattle.ucon_model.specs.Cores.{is_core};
 ghost use Rattle.ucon_model.specs.Views.{predicate_of, update_of, right_of, policy_of};
 ghost use Rattle.ucon_model.specs.Typing.{attr_fault, env_fault, predicate_fault, update_fault, first_fault_of, one_item, items_of, whole_fault, right_fault, type_fault, IsTyped};
 ghost use Rattle.ucon_check.specs.Numbers.{told_number};
@@ -76,9 +77,10 @@ fn check_updates(
     Ok(())
 }
 
-/// A right as a whole.
+/// A right as a whole. That it is of no core model is told whatever memory there is.
 fn check_whole(alloc: Global, right: &Right) -> Result<(), CheckFault>
-    ensures { Answers (whole_fault (right_of right.now)) result }
+    ensures told { Answers (whole_fault (right_of right.now)) result }
+    ensures sure { is_core (right_of right.now) ≡ false → result ≡ Err (CheckFault.NotCore right.now.name) }
 {
     if !is_core(right) {
         return Err(CheckFault::NotCore(right.name));

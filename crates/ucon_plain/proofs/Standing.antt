@@ -17,7 +17,6 @@ use Rattle.ucon_state.specs.Following.{Follows}
 use Rattle.ucon_state.specs.Shown.{Shown}
 use Rattle.ucon_state.specs.Tables.{session_in}
 use Rattle.ucon_actions.specs.Gives.{Makes}
-use Rattle.ucon_actions.proofs.ReadOff.{session_same}
 
 -- the actions that were made
 pub made_actions : (head : Head) (s : Shown) (P : PlainPolicy) (T : Trace) (d : Own) → Makes head s P T d
@@ -52,4 +51,4 @@ trace_stays P T caller c none = ap (extended T) (no_action P T (own P T caller c
 
 pub status_is : (s : Shown) (P : PlainPolicy) (T : Trace) → Follows s P T → (n : ℕ) (o : Option SessionRow) → session_in s.tables n ≡ o
     → option_map (λ (row : SessionRow). row.state) o ≡ state_of T n
-status_is s P T h n o is = ap (option_map (λ (row : SessionRow). row.state)) (sym is ∙ sym (session_same s P T h n))
+status_is s P T h n o is = ap (option_map (λ (row : SessionRow). row.state)) (sym is ∙ h.tables.sessions.rows n)

@@ -29,7 +29,6 @@ use Rattle.ucon_state.specs.Tables.{Tables, session_in}
 use Rattle.ucon_state.specs.Following.{Follows}
 use Rattle.ucon_plain.specs.Watching.{asks_of, may_fail, may_fail_in, Covers, Includes, HeadIsWatched, NobodyMore, first_in}
 use Rattle.ucon_plain.proofs.Permits.{permits, more, permitted_is_told}
-use Rattle.ucon_actions.proofs.ReadOff.{session_same}
 
 -- ---- only those that may fail do
 
@@ -131,6 +130,9 @@ first_is_least : NobodyIsLeft → LeastIsLegal → (P : PlainPolicy) (T : Trace)
 first_is_least nobody chosen P T ns numbered rise covers = least_by nobody chosen P T ns (least_failing P T) numbered (rises_so ns rise) covers refl
 
 -- ---- of a state
+
+session_same : (s : Shown) (P : PlainPolicy) (T : Trace) → Follows s P T → (n : ℕ) → session T n ≡ session_in s.tables n
+session_same s P T h n = sym (h.tables.sessions.rows n)
 
 -- who may fail in a state may fail after the trace that it follows
 may_after : (s : Shown) (P : PlainPolicy) (T : Trace) → Follows s P T → (n : ℕ) → may_fail_in s n ≡ may_fail P (session T n)

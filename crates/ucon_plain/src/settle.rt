@@ -12,16 +12,18 @@ use crate::watched::Watched;
 use std::alloc::Global;
 use ucon_actions::{accessing, is_accessing, revoke, session_state};
 use ucon_base::{Name, NoMemory, Rows, Steps};
-use ucon_eval::{failing, typed_tests_make_no_set};
+use ucon_eval::{failing, typed_tests_make_no_set, views_that_agree_decide_alike};
 use ucon_model::{Revoked, the_least_failing_is_found, turns_follow_each_other};
-use ucon_state::State;
+use ucon_state::{State, tables_keep_what_is_followed};
 
 /// The label by which session n fails, if it is accessing.
 fn fails_at(state: &State, n: u32, steps: &mut Steps) -> Option<Name>
     requires { IsFollowing (shown state.now) }
     ensures { AfterEach (shown state.now) (λ P T. fails_at P T n ≡ result) }
 {
+    tables_keep_what_is_followed();
     typed_tests_make_no_set();
+    views_that_agree_decide_alike();
     if !is_accessing(session_state(state, n)?) {
         return None;
     }

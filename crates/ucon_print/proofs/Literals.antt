@@ -1,20 +1,20 @@
 -- Words, numbers, texts, symbols and literals as they are printed.
-use Rattle.std.proofs.Common.{◌≡◌, ℕ, ℤ, pos, negsuc, suc, ◌+◌, ◌<◌, ◌≤◌, Bool, true, false, cond, not, ◌&&◌, List, [], ◌∷◌, ◌++◌, length, Option, Some, None, option_map, is_none, decimal, refl, sym, ap, ◌∙◌, subst, arith, length-append, append_assoc}
+use Rattle.std.proofs.Common.{◌≡◌, ℕ, ℤ, pos, negsuc, suc, ◌+◌, ◌<◌, ◌≤◌, Bool, true, false, cond, not, ◌&&◌, List, [], ◌∷◌, ◌++◌, length, get_or, Option, Some, None, option_map, is_none, decimal, refl, sym, ap, ◌∙◌, subst, arith, length-append, append_assoc}
 use Rattle.std.specs.Prelude.{neg_ℤ, nat_le, nat_lt, position, codes}
-use Rattle.std.specs.List.{list_all, flat_map}
+use Rattle.std.specs.List.{list_all, flat_map, position_or_len}
 use Rattle.std.specs.Fmt.{signed_decimal}
+use Rattle.std.proofs.lemmas.Grind.{common_steps}
 use Rattle.std.proofs.lemmas.List.{take_all}
+use Rattle.std.proofs.lemmas.List.Sums.{fails_before_first, list_all-from_AllPass}
 use Rattle.std.proofs.lemmas.Bool.{and_parts, and_from, leb-true, ne_eqb}
 use Rattle.std.proofs.lemmas.Int.{ints}
 use Rattle.ucon_base.specs.NameBytes.{is_name, is_letter, is_word_byte, bad_place}
-use Rattle.ucon_base.specs.TextBytes.{is_text, bad_text_place}
+use Rattle.ucon_base.specs.TextBytes.{is_text, is_text_byte, bad_text_place}
 use Rattle.ucon_base.specs.Numbers.{InRange}
 use Rattle.ucon_base.specs.Value.{is_rising}
 use Rattle.ucon_base.specs.Spelling.{quoted, IsValue}
 use Rattle.ucon_base.specs.declared.value.Value.{Value}
 use Rattle.ucon_base.specs.declared.value.Value.TheVariants as values
-use Rattle.ucon_base.proofs.Passing.{all_pass}
-use Rattle.ucon_base.proofs.TextFront.{texty_is}
 use Rattle.ucon_model.specs.Plain.{Bytes}
 use Rattle.ucon_model.specs.Printing.{further_text, set_printing, literal_printing}
 use Rattle.ucon_base.specs.Tokens.{a_word, a_number, a_text, a_symbol, Symbol, colon, semicolon, comma, dot, dots, minus_sign, open_round, close_round, open_square, close_square, open_curly, close_curly, next_token, begin_of, skip, token_from, token_at, symbol_token, single, begins_word}
@@ -23,6 +23,22 @@ use Rattle.ucon_model.specs.Grammar as grammar
 use Rattle.ucon_print.proofs.Lexing.{Lexes, lexed, blank, new_line, symbol_byte, token_step, IsWord, IsText}
 use Rattle.ucon_print.proofs.Lexing as lexing
 use Rattle.ucon_print.proofs.Pieces.{Ends, Any, word_ends, number_ends, no_word, Puts, puts_none, puts_both, Printed, bare_append, clean_append, clean_one, not_beyond, nothing_printed, one_printed, before_printed, mapped_printed, left_printed, right_printed, same_printed, weaker}
+
+-- ---- bytes that all pass a test
+
+none_from : {A : Type 0} (o : Option A) → is_none o ≡ true → o ≡ None
+none_from None e = refl
+none_from (Some x) e = absurd cc
+
+passes : (b : Bool) → not b ≡ false → b ≡ true
+passes true e = refl
+passes false e = absurd cc
+
+-- where there is no place whose byte fails, each passes
+all_pass : (p : ℕ → Bool) (bs : Bytes) → position (λ b. not (p b)) bs ≡ None → list_all p bs ≡ true
+all_pass p bs none =
+    let whole : length bs ≤ position_or_len (λ b. not (p b)) bs = grind (arith, common_steps) in
+    list_all-from_AllPass p bs (λ k d lt. passes (p (get_or bs k d)) (fails_before_first (λ b. not (p b)) bs k d (omega (arith, lt, whole))))
 
 -- ---- words
 
@@ -59,7 +75,7 @@ name_printed name is = one_printed Ends word (λ n. None) (λ n. Unit {0}) name 
 pub text_puts : (t : Bytes) → is_text t ≡ true → Puts Any (quoted t) (a_text t ∷ [])
 text_puts t is =
     let parts = and_parts (nat_le (length t) 64) (is_none (bad_text_place t)) is in
-    let good : IsText t = record { bytes = texty_is t is; short = leb-true (length t) 64 parts.0 } in
+    let good : IsText t = record { bytes = all_pass is_text_byte t (none_from (bad_text_place t) parts.1); short = leb-true (length t) 64 parts.0 } in
     record { lexes = λ rest more e l. lexing.text t rest more good l }
 
 pub number_puts : (n : ℕ) → n ≤ 1000000000000000 → Puts Ends (decimal n) (a_number (pos n) ∷ [])

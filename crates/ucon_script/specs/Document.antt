@@ -1,5 +1,5 @@
 -- What a document that was read says, and what its fault says.
-use Rattle.std.specs.Prelude.{◌≡◌, ℕ, List, map, Result, Ok, Err, ⊤}
+use Rattle.std.specs.Prelude.{◌≡◌, ℕ, List, map, Option, Some, None, Result, Ok, Err, ⊤}
 use Rattle.ucon_command.specs.declared.line_fault.LineFault.{LineFault}
 use Rattle.ucon_command.specs.declared.line_fault.LineFault.TheVariants as faults
 use Rattle.ucon_model.specs.declared.command.Command.{Command}
@@ -55,6 +55,16 @@ IsCause read (BadLine n f) = IsLineCause n read f
 IsCause read (TooManyClients n) = read ≡ Err (too_many_clients n)
 IsCause read (TooManyLines n) = read ≡ Err (too_many_lines n)
 IsCause read (NoMemory e) = ⊤
+
+-- a fault where a line says this: all but a command is told whatever memory there is, so that there is no fault for a line that says
+-- nothing or is a heading, and a wrong heading, a line above the first heading and one command line too many have their own
+abbrev pub IsSure : Result (Option ScriptLine) DocumentRefusal → DocFault → Type 0
+IsSure (Ok None) f = ⊥
+IsSure (Ok (Some said)) f = ⊤
+IsSure (Err (too_many_clients n)) f = f ≡ TooManyClients n
+IsSure (Err (bad_heading n)) f = f ≡ BadHeading n
+IsSure (Err (too_many_lines n)) f = f ≡ TooManyLines n
+IsSure (Err (bad_line n cause)) f = ⊤
 
 -- what was returned, seen by a view, is what is read, unless memory ran out
 abbrev pub Gives : {X A : Type 0} → (X → A) → Result X DocFault → Result A DocumentRefusal → Type 0

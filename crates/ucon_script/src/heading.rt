@@ -1,8 +1,8 @@
 //! Headings: `client N`.
 
-ghost use Rattle.std.specs.Prelude.{◌≡◌, ◌<◌, option_map, IfOk};
+ghost use Rattle.std.specs.Prelude.{◌≡◌, ◌<◌, option_map, IfErr, IfOk};
 ghost use Rattle.ucon_model.specs.Document.{caller_of, number_spelled, heading_told};
-ghost use Rattle.ucon_script.specs.Document.{Gives};
+ghost use Rattle.ucon_script.specs.Document.{Gives, IsSure};
 
 use crate::DocFault;
 use crate::number::number_spelled;
@@ -16,6 +16,7 @@ pub fn heading(number: u32, spelling: &[u8]) -> Result<Caller, DocFault>
     ensures told { Gives (λ _. None) result (heading_told number (number_spelled spelling.now)) }
     ensures client { IfOk result (λ c. Some c ≡ option_map caller_of (number_spelled spelling.now)) }
     ensures few { IfOk result (λ c. c.0 < 64) }
+    ensures sure { IfErr result (IsSure (heading_told number (number_spelled spelling.now))) }
 {
     match number_spelled(spelling, MOST_CLIENTS) {
         None => Err(DocFault::BadHeading(number)),

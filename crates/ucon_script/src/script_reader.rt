@@ -1,9 +1,9 @@
 //! A script, read line by line.
 
-ghost use Rattle.std.specs.Prelude.{◌≡◌, ◌<◌, ◌+◌, Some, option_map, OnOk};
+ghost use Rattle.std.specs.Prelude.{◌≡◌, ◌<◌, ◌+◌, Some, option_map, IfErr, OnOk};
 ghost use Rattle.std.specs.Option.{ForSome};
 ghost use Rattle.ucon_model.specs.Document.{is_skipped, said_told, line_told};
-ghost use Rattle.ucon_script.specs.Document.{Gives, spelled_line};
+ghost use Rattle.ucon_script.specs.Document.{Gives, IsSure, spelled_line};
 ghost use Rattle.ucon_script.specs.Lines.{client_after, count_after};
 
 use crate::doc_fault::fault_of;
@@ -44,7 +44,7 @@ impl ScriptReader {
     }
 
     /// The command line that the next line is, given without its newline; None where it is a heading or says nothing, being empty or begun with `#`. A
-    /// line that is refused is counted as read.
+    /// line that is refused is counted as read. All but a command is told whatever memory there is.
     pub fn line<'a>(
         &mut self,
         alloc: Global,
@@ -52,6 +52,7 @@ impl ScriptReader {
     ) -> Result<Option<LineText<'a>>, DocFault>
         requires { self.old.number < u32.MAX }
         ensures told { Gives (option_map spelled_line) result (line_told self.old.number self.old.client self.old.said line.now) }
+        ensures sure { IfErr result (IsSure (line_told self.old.number self.old.client self.old.said line.now)) }
         ensures number { self.new.number ≡ self.old.number + 1 }
         ensures client { OnOk result (self.new.client ≡ client_after self.old.client line.now) }
         ensures said { OnOk result (self.new.said ≡ count_after self.old.said line.now) }
@@ -83,6 +84,7 @@ fn command_line<'a>(
 ) -> Result<LineText<'a>, DocFault>
     requires { ForSome client (λ c. c.0 < 64) }
     ensures told { Gives (λ l. Some (spelled_line l)) result (said_told number client said line.now) }
+    ensures sure { IfErr result (IsSure (said_told number client said line.now)) }
     ensures room { OnOk result (said < 262144) }
 {
     let Some(caller) = client else {

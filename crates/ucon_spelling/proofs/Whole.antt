@@ -8,8 +8,6 @@ use Rattle.ucon_base.specs.declared.value.Value.TheVariants.{Text}
 use Rattle.ucon_base.specs.declared.value_fault.ValueFault.{ValueFault}
 use Rattle.ucon_base.specs.declared.value_fault.ValueFault.TheVariants.{BadSpelling, TooLong, TooMany, OutOfRange, NoMemory}
 use Rattle.ucon_base.specs.Reading.{Member, bad_number_place, bad_integer_place, number_of, sized, spelled_integer, unless_bad, integer_read, text_len, bad_close, text_read, first_long, unless_long, set_of, opened, members, value_read}
-use Rattle.ucon_base.specs.Spelling.{IsValue, value_spelling}
-use Rattle.ucon_base.proofs.Values.{value_back}
 use Rattle.ucon_spelling.specs.Spellings.{IsSpelling, zero, positive, negative, Begins, Stops, up_to_text, IsStuck, FallsAt, StopsAt, IsBadPlace}
 use Rattle.ucon_spelling.proofs.Fronts.{Never, Told, Found, Refused, told_behind, stops_here}
 use Rattle.ucon_spelling.proofs.OfAKind.{EndsText, Other, empty_is_none, minus_only, zero_only, number_only, text_only, text_if, set_only, set_if}
@@ -336,6 +334,3 @@ pub read_is_spelled : (bs : List ℕ) (v : Value) → value_read bs ≡ Ok v →
 read_is_spelled bs v h =
     let e : bad (value_read bs) ≡ None = ap bad h in
     subst (Told IsSpelling FallsAt 0 bs) e (told bs)
-
-pub written_is_spelled : (v : Value) → IsValue v → IsSpelling (value_spelling v)
-written_is_spelled v h = read_is_spelled (value_spelling v) v (value_back v h)

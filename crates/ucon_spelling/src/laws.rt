@@ -7,13 +7,17 @@ ghost use Rattle.ucon_base.specs.declared.value.Value.{Value};
 ghost use Rattle.ucon_base.specs.declared.value_fault.ValueFault.TheVariants.{BadSpelling};
 ghost use Rattle.ucon_spelling.specs.Spellings.{IsSpelling, Begins, FallsAt, IsBadPlace};
 
+use ucon_base::values_are_read_back;
+
 /// Bytes are refused for their spelling, at some place, exactly where they are no spelling of any length. A value's spelling is one.
 pub fn spellings_are_what_is_not_bad()
     ensures spelled { (bytes : List ℕ) (p : ℕ) → IsSpelling bytes → value_read bytes ≢ Err (BadSpelling p) }
     ensures read { (bytes : List ℕ) (v : Value) → value_read bytes ≡ Ok v → IsSpelling bytes }
     ensures written { (v : Value) → IsValue v → IsSpelling (value_spelling v) }
     ensures refused { (bytes : List ℕ) → ¬ IsSpelling bytes → (p : ℕ) × (value_read bytes ≡ Err (BadSpelling p)) }
-{}
+{
+    values_are_read_back();
+}
 
 /// The place of a bad spelling is the opening `"` of a set's text that doesn't rise; where there is none, it is the first place where the
 /// bytes stop being the beginning of a spelling, or their length where they end too soon.

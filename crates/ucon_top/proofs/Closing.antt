@@ -3,6 +3,7 @@ use Rattle.std.proofs.Common.{◌≡◌, ℕ, Bool, false, List, refl, sym, subs
 use Rattle.std.specs.Prelude.{Option, Some, None, is_some}
 use Rattle.std.specs.Io.KnownBytes.{Appends}
 use Rattle.ucon_flow.specs.Writing.{AppendsPrefix}
+use Rattle.ucon_model.specs.declared.command.Caller.{Caller}
 use Rattle.ucon_model.specs.declared.command.Entry.{Entry}
 use Rattle.ucon_model.specs.Plain.{Bytes, PlainPolicy}
 use Rattle.ucon_store.specs.Kept.{Kept}
@@ -30,12 +31,12 @@ of_run outcomes.NotJournal text stopped before now failed fails w = w
 of_run (outcomes.OtherPolicy place) text stopped before now failed fails w = w
 of_run outcomes.TooLong text stopped before now failed fails w = w
 
-module _ {D : Type 0} (P : PlainPolicy) (store closed : Kept D) (lines : List Entry) (text : Bytes) (stopped : Bool) (before now : Option Bytes) (failed fails : ℕ)
-    (answers : AreAnswered P store closed lines (HaveOutput (λ out. out ≡ text) lines)) (is_stopped : is_some closed.mark ≡ stopped) where
-  went_out : (so : Bytes → Type 0) → so text → AreAnswered P store closed lines (HaveOutput so lines)
-  went_out so holds = record { told = answers.told; steps = answers.steps; is_so = (answers.is_so.0, subst so (sym answers.is_so.1) holds) }
+module _ {D : Type 0} (sees : Caller → Caller → Bool) (P : PlainPolicy) (store closed : Kept D) (lines : List Entry) (text : Bytes) (stopped : Bool) (before now : Option Bytes) (failed fails : ℕ)
+    (answers : AreAnswered sees P store closed lines (HaveOutput (λ out. out ≡ text) lines)) (is_stopped : is_some closed.mark ≡ stopped) where
+  went_out : (so : Bytes → Type 0) → so text → AreAnswered sees P store closed lines (HaveOutput so lines)
+  went_out so holds = record { told = answers.told; lines_are = answers.lines_are; run = answers.run; is_so = (answers.is_so.0, subst so (sym answers.is_so.1) holds) }
 
-  pub ends_so : (outcome : Outcome) → IsWritten outcome text stopped before now failed fails → EndsRun P store closed lines before now outcome
+  pub ends_so : (outcome : Outcome) → IsWritten outcome text stopped before now failed fails → EndsRun sees P store closed lines before now outcome
   ends_so outcomes.Done w = (went_out (Appends before now) w.1, no_mark closed.mark (is_stopped ∙ w.0))
   ends_so outcomes.DiskFault w = (went_out (Appends before now) w.1, is_stopped ∙ w.0)
   ends_so outcomes.SinkFault w = went_out (AppendsPrefix before now) w.1

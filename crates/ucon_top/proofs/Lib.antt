@@ -1,5 +1,8 @@
 pub mod Along
+pub mod Answering
+pub mod Forms
 pub mod Closing
+pub mod Crossing
 pub mod GeneratedPolicy
 pub mod Adding
 pub mod Refusing
@@ -7,5 +10,7 @@ pub mod Replies
 pub mod Summing
 pub mod Tallying
 pub mod Transcribing
+pub mod Serving
 pub mod Stepwise
+pub mod Parted
 pub mod Playing

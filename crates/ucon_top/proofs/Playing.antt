@@ -1,5 +1,5 @@
 -- From the opening of a journal to its closing: what was played over it.
-use Rattle.std.proofs.Common.{⊎_elim, ◌≡◌, ◌⊎◌, ℕ, true, false, List, [], refl, sym, ap, subst, ◌∙◌, inl, inr}
+use Rattle.std.proofs.Common.{Bool, ⊎_elim, ◌≡◌, ◌⊎◌, ℕ, true, false, List, [], refl, sym, ap, subst, ◌∙◌, inl, inr}
 use Rattle.std.specs.Prelude.{Option, Some, None, Ok, is_some, IsSome, IfSome}
 use Rattle.std.specs.Io.KnownBytes.{Appends}
 use Rattle.ucon_flow.specs.Writing.{AppendsPrefix}
@@ -7,28 +7,25 @@ use Rattle.ucon_disk.specs.Causes.{raised}
 use Rattle.ucon_disk.specs.Disk.{Only}
 use Rattle.ucon_disk.specs.Run.{IsAtRest, LeavesAfter, LeavesOnly, joined, weaker}
 use Rattle.ucon_turn.specs.Lists.{begins_refl}
+use Rattle.ucon_model.specs.declared.command.Caller.{Caller}
 use Rattle.ucon_model.specs.declared.command.Entry.{Entry}
 use Rattle.ucon_model.specs.Document.{ScriptLine, document_read, entries_of, policy_part}
 use Rattle.ucon_model.specs.Plain.{Bytes, PlainPolicy}
 use Rattle.ucon_model.specs.History.{History}
-use Rattle.ucon_model.specs.LegalRun.{Answered, IsLegalRun, history_made, in_text_order}
-use Rattle.ucon_model.specs.StoredRun.{LeadsTo, failed_line}
+use Rattle.ucon_model.specs.LegalRun.{Answered}
+use Rattle.ucon_model.specs.StoredRun.{failed_line}
 use Rattle.ucon_store.specs.Found.{IsFoundAs, IsFoundWith, Opens}
 use Rattle.ucon_store.specs.Kept.{Kept}
 use Rattle.ucon_store.specs.Stays.{IsFoundBetween}
+use Rattle.ucon_top.specs.declared.form.Form.{Form}
 use Rattle.ucon_top.specs.declared.outcome.Outcome.{Outcome}
 use Rattle.ucon_top.specs.declared.outcome.Outcome.TheVariants as outcomes
 use Rattle.ucon_top.specs.Accepted.{HasPolicy}
 use Rattle.ucon_top.specs.Closing.{Closes, EndsRun, IsClosedRun}
+use Rattle.ucon_top.specs.Form.{output_order, sees_by}
 use Rattle.ucon_top.specs.Played.{HasPlayed, HasPlayedInput, IsFoundSince, IsJournalled, IsPlayed, IsRunOver}
-use Rattle.ucon_top.specs.Stepping.{AreAnswered, HaveOutput}
+use Rattle.ucon_top.specs.Stepping.{AreAnswered, HaveOutput, IsRunBetween}
 use Rattle.ucon_top.specs.Unread.{IsUnread}
-
--- what the laws of runs over a store say
-pub record AreLegal : Type 0 where
-  pub legal : (P : PlainPolicy) (G : History) (told : List Answered) (H : History) (failed : Option Entry) → LeadsTo P G told H failed → IsLegalRun P in_text_order G told
-  pub made : (P : PlainPolicy) (G : History) (told : List Answered) (H : History) (failed : Option Entry) → LeadsTo P G told H failed → history_made G told ≡ H
-  pub failed : (P : PlainPolicy) (G : History) (told : List Answered) (H : History) (failed : Option Entry) → LeadsTo P G told H failed → failed_line told ≡ failed
 
 module _ {D : Type 0} (contents : D → Option (List ℕ)) (images : D → List ℕ → Type 0) (moment : D → ℕ) (images_since : D → ℕ → List ℕ → Type 0) (faults : D → ℕ) where
   -- what the opening of a store told
@@ -84,53 +81,54 @@ module _ {D : Type 0} (contents : D → Option (List ℕ)) (images : D → List 
 
     -- ---- the run
 
-    played : (laws : AreLegal) (P : PlainPolicy) (told : List Answered) → LeadsTo P store.entries told closed.entries closed.mark
-        → IsPlayed contents images moment images_since faults text P disk now told
-    played laws P told leads =
-        let made = laws.made P store.entries told closed.entries closed.mark leads in
-        let failed = laws.failed P store.entries told closed.entries closed.mark leads in
-        record {
-          opening = store.entries;
-          opens = opened.found;
-          legal = laws.legal P store.entries told closed.entries closed.mark leads;
-          unfailed = λ none. ap faults closes.disk_is ∙ closes.stays.unfailed (ap is_some (sym failed ∙ none) ∙ sym (ap is_some opened.unmarked)) ∙ opened.unfailed;
-          failed = λ e is. ap faults closes.disk_is ∙ closes.stays.failed opened.unmarked e (sym failed ∙ is) ∙ ap raised opened.unfailed;
-          journalled = λ file rest. rw (made, failed) (journalled file rest);
-        }
+    played : (sees : Caller → Caller → Bool) (P : PlainPolicy) (told : List Answered) → IsRunBetween sees P store closed told
+        → IsPlayed contents images moment images_since faults sees text P disk now told
+    played sees P told run = record {
+      opening = store.entries;
+      opens = opened.found;
+      legal = run.legal;
+      unfailed = λ none. ap faults closes.disk_is ∙ closes.stays.unfailed (ap is_some (sym run.failed ∙ none) ∙ sym (ap is_some opened.unmarked)) ∙ opened.unfailed;
+      failed = λ e is. ap faults closes.disk_is ∙ closes.stays.failed opened.unmarked e (sym run.failed ∙ is) ∙ ap raised opened.unfailed;
+      journalled = λ file rest. rw (run.made, run.failed) (journalled file rest);
+    }
 
-    module _ (laws : AreLegal) (bytes : Bytes) (P : PlainPolicy) (lines : List ScriptLine) (is_text : text ≡ policy_part bytes) (has_policy : HasPolicy bytes P)
+    module _ (form : Form) (bytes : Bytes) (P : PlainPolicy) (lines : List ScriptLine) (is_text : text ≡ policy_part bytes) (has_policy : HasPolicy bytes P)
         (says : document_read bytes ≡ Ok lines) (so : List Entry → List Answered → Type 0) (given : List Answered → Type 0) where
-      pub run_over : AreAnswered P store closed (entries_of lines) given → ((told : List Answered) → failed_line told ≡ closed.mark → given told → so (entries_of lines) told)
-          → IsRunOver contents images moment images_since faults bytes disk now so
+      pub run_over : AreAnswered (sees_by form) P store closed (output_order form (entries_of lines)) given
+          → ((told : List Answered) → failed_line told ≡ closed.mark → given told → so (output_order form (entries_of lines)) told)
+          → IsRunOver contents images moment images_since faults form bytes disk now so
       run_over run makes = record {
         policy = P;
         lines = lines;
         has_policy = has_policy;
         says = says;
         told = run.told;
-        lines_are = run.steps.lines_are;
-        played = subst (λ (t : Bytes). IsPlayed contents images moment images_since faults t P disk now run.told) is_text (played laws P run.told run.steps.leads);
-        is_so = makes run.told (laws.failed P store.entries run.told closed.entries closed.mark run.steps.leads) run.is_so;
+        lines_are = run.lines_are;
+        played = subst (λ (t : Bytes). IsPlayed contents images moment images_since faults (sees_by form) t P disk now run.told) is_text
+            (played (sees_by form) P run.told run.run);
+        is_so = makes run.told run.run.failed run.is_so;
       }
 
   -- how playing ends, by how the run over the store does
-  module _ (text : Bytes) (disk : D) (store : Kept D) (opened : IsOpened text disk store) (laws : AreLegal) (bytes : Bytes) (P : PlainPolicy) (lines : List ScriptLine)
+  module _ (text : Bytes) (disk : D) (store : Kept D) (opened : IsOpened text disk store) (form : Form) (bytes : Bytes) (P : PlainPolicy) (lines : List ScriptLine)
       (is_text : text ≡ policy_part bytes) (has_policy : HasPolicy bytes P) (says : document_read bytes ≡ Ok lines) (now : D) (was written : Option Bytes) where
     over : (closed : Kept D) → Closes contents images moment images_since faults store closed now → (so : List Entry → List Answered → Type 0) (given : List Answered → Type 0)
-        → AreAnswered P store closed (entries_of lines) given → ((told : List Answered) → failed_line told ≡ closed.mark → given told → so (entries_of lines) told)
-        → IsRunOver contents images moment images_since faults bytes disk now so
-    over closed closes = run_over text disk store closed now opened closes laws bytes P lines is_text has_policy says
+        → AreAnswered (sees_by form) P store closed (output_order form (entries_of lines)) given
+        → ((told : List Answered) → failed_line told ≡ closed.mark → given told → so (output_order form (entries_of lines)) told)
+        → IsRunOver contents images moment images_since faults form bytes disk now so
+    over closed closes = run_over text disk store closed now opened closes form bytes P lines is_text has_policy says
 
     ends : (closed : Kept D) → Closes contents images moment images_since faults store closed now → (outcome : Outcome)
-        → EndsRun P store closed (entries_of lines) was written outcome → HasPlayed contents images moment images_since faults outcome bytes disk now was written
+        → EndsRun (sees_by form) P store closed (output_order form (entries_of lines)) was written outcome
+        → HasPlayed contents images moment images_since faults form outcome bytes disk now was written
     ends closed closes outcomes.Done e =
         over closed closes (λ (es : List Entry) (told : List Answered). (failed_line told ≡ None) × HaveOutput (Appends was written) es told)
-        (HaveOutput (Appends was written) (entries_of lines)) e.0 (λ told failed output. (failed ∙ e.1, output))
+        (HaveOutput (Appends was written) (output_order form (entries_of lines))) e.0 (λ told failed output. (failed ∙ e.1, output))
     ends closed closes outcomes.SinkFault e =
-        over closed closes (HaveOutput (AppendsPrefix was written)) (HaveOutput (AppendsPrefix was written) (entries_of lines)) e (λ told failed output. output)
+        over closed closes (HaveOutput (AppendsPrefix was written)) (HaveOutput (AppendsPrefix was written) (output_order form (entries_of lines))) e (λ told failed output. output)
     ends closed closes outcomes.DiskFault e = inl (
         over closed closes (λ (es : List Entry) (told : List Answered). IsSome (failed_line told) × HaveOutput (Appends was written) es told)
-        (HaveOutput (Appends was written) (entries_of lines)) e.0 (λ told failed output. (subst (λ (o : Option Entry). IsSome o) (sym failed) e.1, output))
+        (HaveOutput (Appends was written) (output_order form (entries_of lines))) e.0 (λ told failed output. (subst (λ (o : Option Entry). IsSome o) (sym failed) e.1, output))
         )
     ends closed closes (outcomes.NoMemory m) e =
         inr (inr (over closed closes (λ (es : List Entry) (told : List Answered). Unit {0}) (λ (told : List Answered). Unit {0}) e (λ told failed nothing. tt)))
@@ -143,27 +141,27 @@ module _ {D : Type 0} (contents : D → Option (List ℕ)) (images : D → List 
     ends closed closes (outcomes.OtherPolicy place) e = absurd e
     ends closed closes outcomes.TooLong e = absurd e
 
-    pub ends_run : (outcome : Outcome) → IsClosedRun contents images moment images_since faults P store (entries_of lines) outcome now was written
-        → HasPlayed contents images moment images_since faults outcome bytes disk now was written
+    pub ends_run : (outcome : Outcome) → IsClosedRun contents images moment images_since faults (sees_by form) P store (output_order form (entries_of lines)) outcome now was written
+        → HasPlayed contents images moment images_since faults form outcome bytes disk now was written
     ends_run outcome run = ends run.closed run.closes outcome run.ends
 
   -- a run that met a disk fault raised the disk's count
-  pub run_raised : (P : PlainPolicy) (disk : D) (store : Kept D) → store.mark ≡ None → faults store.disk ≡ faults disk → (lines : List Entry) (now : D) (was written : Option Bytes)
-      → IsClosedRun contents images moment images_since faults P store lines outcomes.DiskFault now was written → faults now ≡ raised (faults disk)
-  run_raised P disk store unmarked unfailed lines now was written run = by_mark run.closed.mark refl run.ends.1
+  pub run_raised : (sees : Caller → Caller → Bool) (P : PlainPolicy) (disk : D) (store : Kept D) → store.mark ≡ None → faults store.disk ≡ faults disk → (lines : List Entry) (now : D) (was written : Option Bytes)
+      → IsClosedRun contents images moment images_since faults sees P store lines outcomes.DiskFault now was written → faults now ≡ raised (faults disk)
+  run_raised sees P disk store unmarked unfailed lines now was written run = by_mark run.closed.mark refl run.ends.1
     where
       by_mark : (mark : Option Entry) → run.closed.mark ≡ mark → IsSome mark → faults now ≡ raised (faults disk)
       by_mark None is some = absurd (let no : false ≡ true = some in (cc))
       by_mark (Some e) is some = ap faults run.closes.disk_is ∙ run.closes.stays.failed unmarked e is ∙ ap raised unfailed
 
 -- how playing ends that comes to no run
-module _ {D : Type 0} (contents : D → Option (List ℕ)) (images : D → List ℕ → Type 0) (moment : D → ℕ) (images_since : D → ℕ → List ℕ → Type 0) (faults : D → ℕ) where
+module _ {D : Type 0} (contents : D → Option (List ℕ)) (images : D → List ℕ → Type 0) (moment : D → ℕ) (images_since : D → ℕ → List ℕ → Type 0) (faults : D → ℕ) (form : Form) where
   -- a document that wasn't read was not played
   pub unread_played : (outcome : Outcome) (input : Option Bytes) (before now : ℕ) (disk : D) (was written : Option Bytes) → IsUnread input before now outcome
-      → HasPlayedInput contents images moment images_since faults outcome input disk disk was written
+      → HasPlayedInput contents images moment images_since faults form outcome input disk disk was written
   unread_played outcome input before now disk was written unread = over_input input (λ bytes. by_outcome outcome bytes unread)
     where
-      by_outcome : (o : Outcome) (bytes : Bytes) → IsUnread input before now o → HasPlayed contents images moment images_since faults o bytes disk disk was written
+      by_outcome : (o : Outcome) (bytes : Bytes) → IsUnread input before now o → HasPlayed contents images moment images_since faults form o bytes disk disk was written
       by_outcome outcomes.SourceFault bytes u = refl
       by_outcome outcomes.TooLong bytes u = refl
       by_outcome (outcomes.NoMemory e) bytes u = inl refl
@@ -177,7 +175,7 @@ module _ {D : Type 0} (contents : D → Option (List ℕ)) (images : D → List 
       by_outcome outcomes.NotJournal bytes u = absurd u
       by_outcome (outcomes.OtherPolicy place) bytes u = absurd u
 
-      over_input : (o : Option Bytes) → ((bytes : Bytes) → HasPlayed contents images moment images_since faults outcome bytes disk disk was written)
-          → HasPlayedInput contents images moment images_since faults outcome o disk disk was written
+      over_input : (o : Option Bytes) → ((bytes : Bytes) → HasPlayed contents images moment images_since faults form outcome bytes disk disk was written)
+          → HasPlayedInput contents images moment images_since faults form outcome o disk disk was written
       over_input None so = record { bytes = []; are = tt; played = so [] }
       over_input (Some bytes) so = record { bytes = bytes; are = refl; played = so bytes }

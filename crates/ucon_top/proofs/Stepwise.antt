@@ -4,13 +4,12 @@ use Rattle.std.specs.Prelude.{IsTrue, Option, Some, None}
 use Rattle.std.proofs.lemmas.List.{map-append, take_more}
 use Rattle.ucon_base.specs.Elements.{Each, each_append}
 use Rattle.ucon_model.specs.declared.command.Entry.{Entry}
-use Rattle.ucon_model.specs.Plain.{Bytes, PlainPolicy}
-use Rattle.ucon_model.specs.Output.{FitsLine, answers_read, output}
+use Rattle.ucon_model.specs.Plain.{PlainPolicy}
 use Rattle.ucon_model.specs.History.{History, said, changes}
-use Rattle.ucon_model.specs.LegalRun.{Answer, Answered, no_memory, disk_fault, stopped, IsNext, history_after}
+use Rattle.ucon_model.specs.LegalRun.{Answer, Answered, disk_fault, stopped, IsNext, history_after}
 use Rattle.ucon_model.specs.StoredRun.{LeadsTo}
 use Rattle.ucon_store.specs.Kept.{Kept}
-use Rattle.ucon_top.specs.Stepping.{AreAnswered, HaveOutput, Steps, HaveSteps}
+use Rattle.ucon_top.specs.Stepping.{Steps, HaveSteps}
 
 abbrev answered : Entry → Answer → Answered
 answered e a = record { line = e; answer = a }
@@ -44,19 +43,6 @@ leads_stopped P G (t ∷ told) H mark failed e some (inr off) = inr (
   sym some ∙ off.2,
 )
 
--- ---- no memory for any line
-
-abbrev wants_memory : Entry → Answered
-wants_memory e = answered e no_memory
-
-lines_wanting : (lines : List Entry) → map (λ (t : Answered). t.line) (map wants_memory lines) ≡ lines
-lines_wanting [] = refl
-lines_wanting (e ∷ lines) = ap (λ (es : List Entry). e ∷ es) (lines_wanting lines)
-
-leads_nowhere : (P : PlainPolicy) (H : History) (lines : List Entry) → LeadsTo P H (map wants_memory lines) H None
-leads_nowhere P H [] = (refl, refl)
-leads_nowhere P H (e ∷ lines) = inl (tt, leads_nowhere P H lines)
-
 -- ---- from store to store
 
 module _ {D : Type 0} (P : PlainPolicy) where
@@ -80,25 +66,3 @@ module _ {D : Type 0} (P : PlainPolicy) where
   -- no line is answered yet
   pub begun : (store : Kept D) (lines : List Entry) → store.mark ≡ None → HaveSteps P store store (take 0 lines) []
   begun store lines none = record { lines_are = refl; leads = (refl, none) }
-
-  -- the output of answers is read back
-  pub text_read : ((told : List Answered) → Each (λ t. FitsLine t.answer) told → Each (λ t. t.line.caller.0 < 256) told → answers_read (map (λ t. t.line) told) (output told) ≡ Some told)
-      → (old new : Kept D) (lines : List Entry) (told : List Answered) (text : Bytes) → text ≡ output told → Each (λ t. FitsLine t.answer) told → Each (λ t. t.line.caller.0 < 256) told
-      → HaveSteps P old new lines told → AreAnswered P old new lines (HaveOutput (λ out. out ≡ text) lines)
-  text_read back old new lines told text is fits clients steps = record {
-    told = told;
-    steps = steps;
-    is_so = (ap (λ (es : List Entry). answers_read es (output told)) (sym steps.lines_are) ∙ back told fits clients, sym is);
-  }
-
-  -- answers that are not written
-  pub untold : (old new : Kept D) (lines : List Entry) (told : List Answered) → HaveSteps P old new lines told → AreAnswered P old new lines (λ told. Unit {0})
-  untold old new lines told steps = record { told = told; steps = steps; is_so = tt }
-
-  -- where there is no room for the answers, there was no memory for any line
-  pub unanswered : (store : Kept D) (lines : List Entry) → store.mark ≡ None → AreAnswered P store store lines (λ told. Unit {0})
-  unanswered store lines none = record {
-    told = map wants_memory lines;
-    steps = record { lines_are = lines_wanting lines; leads = rw none (leads_nowhere P store.entries lines) };
-    is_so = tt;
-  }

@@ -9,12 +9,10 @@ use Rattle.ucon_base.specs.Elements.{Each}
 use Rattle.ucon_model.specs.LegalRun.{Answered}
 use Rattle.ucon_model.specs.Output.{FitsLine, answer_line, output, answers_read}
 use Rattle.ucon_model.specs.Summary.{LineReply, answer_of, answered}
-use Rattle.ucon_model.proofs.ReadBack.{answers_read-output}
-use Rattle.ucon_model.proofs.SerialRuns.{serial-legal}
 use Rattle.ucon_top.specs.Hearing.{HasHeard, line_of}
 use Rattle.ucon_top.specs.Printed.{IsRunOutput}
 use Rattle.ucon_top.specs.Transcript.{IsTranscript}
-use Rattle.ucon_top.proofs.Replies.{serial_run, unfaulted}
+use Rattle.ucon_top.proofs.Replies.{SerialIsLegal, TextsTell, serial_run, unfaulted}
 
 each-snoc : {A : Type 0} (P : A → Type 0) (xs : List A) (x : A) → Each P xs → P x → Each P (xs ++ x ∷ [])
 each-snoc P [] x all one = (one, tt)
@@ -40,10 +38,15 @@ each-answered P (t ∷ told) h = (h.0, each-answered P told h.1)
 lines_kept : (told : List LineReply) → map (λ (t : Answered). t.line) (map answered told) ≡ map line_of told
 lines_kept told = map-map (λ (t : Answered). t.line) answered told
 
-pub transcribed : (P : PlainPolicy) (lines : List Entry) (text : Bytes) → HasHeard P (IsTranscript text) lines → IsRunOutput P lines text
-transcribed P lines text h =
+-- an output whose answers fit their lines is read back
+abbrev pub OutputsAreReadBack : Type 0
+OutputsAreReadBack = (told : List Answered) → Each (λ t. FitsLine t.answer) told → Each (λ t. t.line.caller.0 < 256) told
+    → answers_read (map (λ (t : Answered). t.line) told) (output told) ≡ Some told
+
+pub transcribed : OutputsAreReadBack → TextsTell → SerialIsLegal → (P : PlainPolicy) (lines : List Entry) (text : Bytes) → HasHeard P (IsTranscript text) lines → IsRunOutput P lines text
+transcribed back tell serial P lines text h =
     let told = map answered h.told in
     let read : answers_read lines text ≡ Some told =
     ap (λ (es : List Entry). answers_read es text) (sym (lines_kept h.told ∙ h.lines_are)) ∙ ap (answers_read (map (λ (t : Answered). t.line) told)) h.heard.text_is
-    ∙ answers_read-output told (each-answered (λ t. FitsLine t.answer) h.told h.heard.fits) (each-answered (λ t. t.line.caller.0 < 256) h.told h.heard.clients) in
-    rw read (h.heard.text_is, serial-legal P [] told (serial_run P [] h.told h.run), unfaulted h.told)
+    ∙ back told (each-answered (λ t. FitsLine t.answer) h.told h.heard.fits) (each-answered (λ t. t.line.caller.0 < 256) h.told h.heard.clients) in
+    rw read (h.heard.text_is, serial P [] told (serial_run tell P [] h.told h.run), unfaulted h.told)

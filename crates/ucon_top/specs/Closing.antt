@@ -3,6 +3,7 @@ use Rattle.std.specs.Prelude.{◌≡◌, ℕ, Bool, true, false, List, Option, N
 use Rattle.std.specs.Io.KnownBytes.{Appends}
 use Rattle.ucon_flow.specs.Causes.{Rose}
 use Rattle.ucon_flow.specs.Writing.{AppendsPrefix}
+use Rattle.ucon_model.specs.declared.command.Caller.{Caller}
 use Rattle.ucon_model.specs.declared.command.Entry.{Entry}
 use Rattle.ucon_model.specs.Plain.{Bytes, PlainPolicy}
 use Rattle.ucon_store.specs.Found.{IsFoundWith}
@@ -28,12 +29,12 @@ IsWritten SinkFault text stopped before now failed fails = Rose failed fails × 
 IsWritten outcome text stopped before now failed fails = ⊥
 
 -- how the run ended: the lines were answered, and where there was memory for it their output was written
-module _ {D : Type 0} (P : PlainPolicy) (store closed : Kept D) (lines : List Entry) (before now : Option Bytes) where
+module _ {D : Type 0} (sees : Caller → Caller → Bool) (P : PlainPolicy) (store closed : Kept D) (lines : List Entry) (before now : Option Bytes) where
   abbrev pub EndsRun : Outcome → Type 0
-  EndsRun Done = AreAnswered P store closed lines (HaveOutput (Appends before now) lines) × (closed.mark ≡ None)
-  EndsRun DiskFault = AreAnswered P store closed lines (HaveOutput (Appends before now) lines) × IsSome closed.mark
-  EndsRun SinkFault = AreAnswered P store closed lines (HaveOutput (AppendsPrefix before now) lines)
-  EndsRun (NoMemory e) = AreAnswered P store closed lines (λ told. Unit {0})
+  EndsRun Done = AreAnswered sees P store closed lines (HaveOutput (Appends before now) lines) × (closed.mark ≡ None)
+  EndsRun DiskFault = AreAnswered sees P store closed lines (HaveOutput (Appends before now) lines) × IsSome closed.mark
+  EndsRun SinkFault = AreAnswered sees P store closed lines (HaveOutput (AppendsPrefix before now) lines)
+  EndsRun (NoMemory e) = AreAnswered sees P store closed lines (λ told. Unit {0})
   EndsRun outcome = ⊥
 
 module _ {D : Type 0} (contents : D → Option (List ℕ)) (images : D → List ℕ → Type 0) (moment : D → ℕ)
@@ -45,8 +46,8 @@ module _ {D : Type 0} (contents : D → Option (List ℕ)) (images : D → List 
     pub left : IsSome (contents disk) → (c : List ℕ) → images disk c → IsFoundWith closed.policy closed.entries closed.mark c
 
   -- and the run over it ended so
-  pub record IsClosedRun (P : PlainPolicy) (store : Kept D) (lines : List Entry) (outcome : Outcome) (disk : D)
+  pub record IsClosedRun (sees : Caller → Caller → Bool) (P : PlainPolicy) (store : Kept D) (lines : List Entry) (outcome : Outcome) (disk : D)
       (before now : Option Bytes) : Type 0 where
     pub closed : Kept D
     pub closes : Closes store closed disk
-    pub ends : EndsRun P store closed lines before now outcome
+    pub ends : EndsRun sees P store closed lines before now outcome

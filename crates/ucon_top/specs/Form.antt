@@ -1,10 +1,14 @@
 -- The forms of words.
-use Rattle.std.specs.Prelude.{ℕ, ◌^◌, ◌≤◌, nat_lt, nat_le, ◌&&◌, List, [], ◌∷◌, Option, Some, None, option_and_then, codes, if◌then◌else◌}
+use Rattle.std.specs.Prelude.{Bool, true, false, ℕ, ◌^◌, ◌≤◌, nat_lt, nat_le, ◌&&◌, List, [], ◌∷◌, Option, Some, None, option_and_then, codes, if◌then◌else◌}
 use Rattle.std.specs.Str.{bytes_eq}
+use Rattle.ucon_model.specs.declared.command.Caller.{Caller}
+use Rattle.ucon_model.specs.declared.command.Entry.{Entry}
 use Rattle.ucon_model.specs.Document.{number_spelled}
+use Rattle.ucon_model.specs.LegalRun.{in_text_order, own_answers}
+use Rattle.ucon_client.specs.Dividing.{by_client}
 use Rattle.ucon_model.specs.Plain.{Bytes}
 use Rattle.ucon_top.specs.declared.form.Form.{Form}
-use Rattle.ucon_top.specs.declared.form.Form.TheVariants.{Trial, Check, Gen, Play}
+use Rattle.ucon_top.specs.declared.form.Form.TheVariants.{Trial, Check, Gen, Play, Serve}
 
 -- the form that is one word
 abbrev pub word_form : Bytes → Option Form
@@ -22,15 +26,16 @@ size_of n = if nat_le 1 n && nat_le n 100000 then Some n else None
 abbrev pub gen_form : Bytes → Bytes → Option Form
 gen_form seed size = option_and_then (λ s. option_and_then (λ n. Some (Gen s n)) (option_and_then size_of (number_spelled size))) (option_and_then seed_of (number_spelled seed))
 
--- `play` with the journal's path
-abbrev pub play_form : Bytes → Option Form
-play_form [] = None
-play_form (b ∷ path) = Some Play
+-- `play` and `serve` with the journal's path
+abbrev pub journal_form : (word path : Bytes) → Option Form
+journal_form word [] = None
+journal_form word (b ∷ path) =
+    if bytes_eq word (codes "play") then Some Play else if bytes_eq word (codes "serve") then Some Serve else None
 
 -- the form that these words are
 abbrev pub form_of : List Bytes → Option Form
 form_of (word ∷ []) = word_form word
-form_of (word ∷ path ∷ []) = if bytes_eq word (codes "play") then play_form path else None
+form_of (word ∷ path ∷ []) = journal_form word path
 form_of (word ∷ seed ∷ size ∷ []) = if bytes_eq word (codes "gen") then gen_form seed size else None
 form_of words = None
 
@@ -40,13 +45,31 @@ HasSize Trial = Unit {0}
 HasSize Check = Unit {0}
 HasSize (Gen seed size) = size ≤ 100000
 HasSize Play = Unit {0}
+HasSize Serve = Unit {0}
 
 -- the form runs its document over a journal
-abbrev pub IsPlay : Form → Type 0
-IsPlay Play = Unit {0}
-IsPlay form = ⊥
+abbrev pub HasJournal : Form → Type 0
+HasJournal Play = Unit {0}
+HasJournal Serve = Unit {0}
+HasJournal form = ⊥
 
 -- the form makes no call of the disk
 abbrev pub IsAlone : Form → Type 0
 IsAlone Play = ⊥
+IsAlone Serve = ⊥
 IsAlone form = Unit {0}
+
+-- whether a form is asked for that runs each client in a thread of its own
+abbrev pub asks_for_threads : Option Form → Bool
+asks_for_threads (Some Serve) = true
+asks_for_threads form = false
+
+-- whose earlier answers a line's caller saw: by `serve` its own, and otherwise everybody's
+abbrev pub sees_by : Form → Caller → Caller → Bool
+sees_by Serve = own_answers
+sees_by form = in_text_order
+
+-- the order in which a form's output has the lines: by `serve` they stand client by client, by rising number, and otherwise as in the document
+abbrev pub output_order : Form → List Entry → List Entry
+output_order Serve lines = by_client lines
+output_order form lines = lines

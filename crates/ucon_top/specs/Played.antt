@@ -1,23 +1,26 @@
--- What playing a document over the disk of a journal leaves, and how it ends.
-use Rattle.std.specs.Prelude.{◌≡◌, ◌⊎◌, ℕ, List, [], ◌∷◌, ◌++◌, map, Option, Some, None, Ok, IsSome, IfSome}
+-- What running a document over the disk of a journal leaves, and how it ends: in the order of the text, or each client in a thread of its own.
+use Rattle.std.specs.Prelude.{◌≡◌, ◌⊎◌, ℕ, Bool, List, [], ◌∷◌, ◌++◌, map, Option, Some, None, Ok, IsSome, IfSome}
 use Rattle.std.specs.Io.KnownBytes.{Appends}
 use Rattle.ucon_flow.specs.Writing.{AppendsPrefix}
 use Rattle.ucon_disk.specs.Causes.{raised}
 use Rattle.ucon_disk.specs.Run.{IsAtRest, LeavesAfter, LeavesOnly}
 use Rattle.ucon_turn.specs.Lists.{Begins}
+use Rattle.ucon_model.specs.declared.command.Caller.{Caller}
 use Rattle.ucon_model.specs.declared.command.Entry.{Entry}
 use Rattle.ucon_model.specs.Document.{ScriptLine, document_read, entries_of, policy_part}
 use Rattle.ucon_model.specs.Plain.{Bytes, PlainPolicy}
 use Rattle.ucon_model.specs.History.{History}
-use Rattle.ucon_model.specs.LegalRun.{Answered, IsLegalRun, history_made, in_text_order}
+use Rattle.ucon_model.specs.LegalRun.{Answered, IsLegalRun, history_made}
 use Rattle.ucon_model.specs.StoredRun.{failed_line}
 use Rattle.ucon_store.specs.declared.fault.StoreFault.{StoreFault}
 use Rattle.ucon_store.specs.declared.fault.StoreFault.TheVariants as stores
 use Rattle.ucon_store.specs.Found.{IsFoundAs, IsFoundWith, Opens}
 use Rattle.ucon_store.specs.Opening.{HasReason}
+use Rattle.ucon_top.specs.declared.form.Form.{Form}
 use Rattle.ucon_top.specs.declared.outcome.Outcome.{Outcome}
 use Rattle.ucon_top.specs.declared.outcome.Outcome.TheVariants.{Done, SinkFault, DiskFault, Damaged, NotJournal, NoMemory, OtherPolicy}
 use Rattle.ucon_top.specs.Accepted.{HasPolicy}
+use Rattle.ucon_top.specs.Form.{output_order, sees_by}
 use Rattle.ucon_top.specs.Stepping.{HaveOutput}
 
 -- a file is found as a history that has the opening one and begins this one, or as this one with the line that met a disk fault
@@ -37,25 +40,25 @@ module _ {D : Type 0} (contents : D → Option (List ℕ)) (images : D → List 
 
   -- The answers are a legal run behind the history as which the file was found, where the disk tells it. Where a line met a disk fault the
   -- disk's count rose by one, and otherwise it didn't. Where the disk was at rest, the history that is made is journalled.
-  pub record IsPlayed (text : Bytes) (P : PlainPolicy) (old new : D) (told : List Answered) : Type 0 where
+  pub record IsPlayed (sees : Caller → Caller → Bool) (text : Bytes) (P : PlainPolicy) (old new : D) (told : List Answered) : Type 0 where
     pub opening : History
     pub opens : IfSome (contents old) (λ file. IsFoundAs text file opening)
-    pub legal : IsLegalRun P in_text_order opening told
+    pub legal : IsLegalRun P sees opening told
     pub unfailed : failed_line told ≡ None → faults new ≡ faults old
     pub failed : (e : Entry) → failed_line told ≡ Some e → faults new ≡ raised (faults old)
     pub journalled : (file : Bytes) → IsAtRest (contents old) (images old) file
         → IsJournalled text opening (history_made opening told) (failed_line told) old new
 
   -- the bytes are an accepted document, whose lines were played, and of the lines and their answers this is so
-  pub record IsRunOver (bytes : Bytes) (old new : D) (so : List Entry → List Answered → Type 0) : Type 0 where
+  pub record IsRunOver (form : Form) (bytes : Bytes) (old new : D) (so : List Entry → List Answered → Type 0) : Type 0 where
     pub policy : PlainPolicy
     pub lines : List ScriptLine
     pub has_policy : HasPolicy bytes policy
     pub says : document_read bytes ≡ Ok lines
     pub told : List Answered
-    pub lines_are : map (λ t. t.line) told ≡ entries_of lines
-    pub played : IsPlayed (policy_part bytes) policy old new told
-    pub is_so : so (entries_of lines) told
+    pub lines_are : map (λ t. t.line) told ≡ output_order form (entries_of lines)
+    pub played : IsPlayed (sees_by form) (policy_part bytes) policy old new told
+    pub is_so : so (output_order form (entries_of lines)) told
 
   -- the journal wasn't opened for this reason, and what was found in its file is still found there; a foreign file is as it was
   pub record IsUnopened (fault : StoreFault) (text : Bytes) (old new : D) : Type 0 where
@@ -64,22 +67,22 @@ module _ {D : Type 0} (contents : D → Option (List ℕ)) (images : D → List 
 
   -- What holds of the disk, and of the bytes that were written, by how playing ended. Otherwise than by the causes named here it made no
   -- call of the disk.
-  abbrev pub HasPlayed : Outcome → Bytes → D → D → Option Bytes → Option Bytes → Type 0
-  HasPlayed Done bytes old new before now =
-      IsRunOver bytes old new (λ lines told. (failed_line told ≡ None) × HaveOutput (Appends before now) lines told)
-  HasPlayed SinkFault bytes old new before now = IsRunOver bytes old new (HaveOutput (AppendsPrefix before now))
-  HasPlayed DiskFault bytes old new before now =
-      IsRunOver bytes old new (λ lines told. IsSome (failed_line told) × HaveOutput (Appends before now) lines told)
+  abbrev pub HasPlayed : Form → Outcome → Bytes → D → D → Option Bytes → Option Bytes → Type 0
+  HasPlayed form Done bytes old new before now =
+      IsRunOver form bytes old new (λ lines told. (failed_line told ≡ None) × HaveOutput (Appends before now) lines told)
+  HasPlayed form SinkFault bytes old new before now = IsRunOver form bytes old new (HaveOutput (AppendsPrefix before now))
+  HasPlayed form DiskFault bytes old new before now =
+      IsRunOver form bytes old new (λ lines told. IsSome (failed_line told) × HaveOutput (Appends before now) lines told)
       ⊎ (IsUnopened stores.DiskFault (policy_part bytes) old new × (now ≡ before))
-  HasPlayed NotJournal bytes old new before now = IsUnopened stores.NotJournal (policy_part bytes) old new
-  HasPlayed (Damaged number place) bytes old new before now = IsUnopened (stores.Damaged number place) (policy_part bytes) old new
-  HasPlayed (OtherPolicy place) bytes old new before now = IsUnopened (stores.OtherPolicy place) (policy_part bytes) old new
-  HasPlayed (NoMemory e) bytes old new before now =
-      (new ≡ old) ⊎ IsUnopened (stores.NoMemory e) (policy_part bytes) old new ⊎ IsRunOver bytes old new (λ lines told. Unit {0})
-  HasPlayed outcome bytes old new before now = new ≡ old
+  HasPlayed form NotJournal bytes old new before now = IsUnopened stores.NotJournal (policy_part bytes) old new
+  HasPlayed form (Damaged number place) bytes old new before now = IsUnopened (stores.Damaged number place) (policy_part bytes) old new
+  HasPlayed form (OtherPolicy place) bytes old new before now = IsUnopened (stores.OtherPolicy place) (policy_part bytes) old new
+  HasPlayed form (NoMemory e) bytes old new before now =
+      (new ≡ old) ⊎ IsUnopened (stores.NoMemory e) (policy_part bytes) old new ⊎ IsRunOver form bytes old new (λ lines told. Unit {0})
+  HasPlayed form outcome bytes old new before now = new ≡ old
 
   -- so it was played over some bytes, which are those of the input where the source tells them
-  pub record HasPlayedInput (outcome : Outcome) (input : Option Bytes) (old new : D) (before now : Option Bytes) : Type 0 where
+  pub record HasPlayedInput (form : Form) (outcome : Outcome) (input : Option Bytes) (old new : D) (before now : Option Bytes) : Type 0 where
     pub bytes : Bytes
     pub are : IfSome input (λ known. known ≡ bytes)
-    pub played : HasPlayed outcome bytes old new before now
+    pub played : HasPlayed form outcome bytes old new before now

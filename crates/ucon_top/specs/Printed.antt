@@ -9,7 +9,7 @@ use Rattle.ucon_model.specs.Generated.{generated}
 use Rattle.ucon_model.specs.Output.{output, answers_read}
 use Rattle.ucon_model.specs.Summary.{LineReply, IsReplyRun, whole_run, answered, counts, summary}
 use Rattle.ucon_top.specs.declared.form.Form.{Form}
-use Rattle.ucon_top.specs.declared.form.Form.TheVariants.{Trial, Check, Gen, Play}
+use Rattle.ucon_top.specs.declared.form.Form.TheVariants.{Trial, Check, Gen, Play, Serve}
 use Rattle.ucon_top.specs.Accepted.{HasPolicy}
 use Rattle.ucon_top.specs.Models.{rights_output}
 
@@ -33,12 +33,13 @@ pub record IsRunSummary (P : PlainPolicy) (lines : List Entry) (text : Bytes) : 
   pub unfaulted : IsUnfaulted (map answered told)
   pub whole : (counts told).steps + (counts told).refused ≡ (counts told).lines → told ≡ whole_run P [] lines
 
--- what a form prints of a policy and lines; `play`, whose output depends on its journal, prints nothing of them alone
+-- what a form prints of a policy and lines; `play` and `serve`, whose output depends on their journal, print nothing of them alone
 abbrev pub IsFormOutput : Form → PlainPolicy → List Entry → Bytes → Type 0
 IsFormOutput Trial P lines text = IsRunOutput P lines text
 IsFormOutput Check P lines text = text ≡ rights_output P.rights
 IsFormOutput (Gen seed size) P lines text = IsRunSummary P lines text
 IsFormOutput Play P lines text = ⊥
+IsFormOutput Serve P lines text = ⊥
 
 -- the bytes of the document that a form runs: those of the input, or, for `gen`, the generated ones
 abbrev pub document_of : Form → Option Bytes → Option Bytes
@@ -46,6 +47,7 @@ document_of Trial input = input
 document_of Check input = input
 document_of (Gen seed size) input = Some (generated seed size)
 document_of Play input = input
+document_of Serve input = input
 
 -- the form reads the input
 abbrev pub ReadsInput : Form → Type 0
@@ -53,6 +55,7 @@ ReadsInput Trial = Unit {0}
 ReadsInput Check = Unit {0}
 ReadsInput (Gen seed size) = ⊥
 ReadsInput Play = Unit {0}
+ReadsInput Serve = Unit {0}
 
 -- the bytes are an accepted document, and the text is what the form prints of it
 pub record IsOutputOf (form : Form) (bytes text : Bytes) : Type 0 where

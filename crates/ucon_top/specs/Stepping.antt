@@ -1,36 +1,18 @@
 -- What lines are answered over a store.
-use Rattle.std.specs.Prelude.{◌≡◌, ◌⊎◌, IsTrue, List, map, Some, None, Result, Ok, Err}
+use Rattle.std.specs.Prelude.{◌≡◌, ◌⊎◌, Bool, IsTrue, List, map, Some, None}
+use Rattle.ucon_model.specs.declared.command.Caller.{Caller}
 use Rattle.ucon_model.specs.declared.command.Entry.{Entry}
 use Rattle.ucon_model.specs.Plain.{Bytes, PlainPolicy}
-use Rattle.ucon_model.specs.Spelling.{reply_spelling}
-use Rattle.ucon_model.specs.Views.{reply_of}
 use Rattle.ucon_model.specs.History.{said, changes}
-use Rattle.ucon_model.specs.LegalRun.{Answer, Answered, placed, no_memory, disk_fault, stopped, IsNext, history_after}
+use Rattle.ucon_model.specs.LegalRun.{Answer, Answered, disk_fault, stopped, IsLegalRun, IsNext, history_after, history_made}
 use Rattle.ucon_model.specs.Output.{output, answers_read}
-use Rattle.ucon_model.specs.StoredRun.{LeadsTo}
-use Rattle.ucon_store.specs.declared.placed.Placed.{Placed}
-use Rattle.ucon_store.specs.declared.fault.StepFault.{StepFault}
-use Rattle.ucon_store.specs.declared.fault.StepFault.TheVariants as faults
+use Rattle.ucon_model.specs.StoredRun.{LeadsTo, failed_line}
 use Rattle.ucon_store.specs.Kept.{Kept}
-use Rattle.ucon_top.specs.declared.line_answer.LineAnswer.{LineAnswer}
-use Rattle.ucon_top.specs.declared.line_answer.LineAnswer.TheVariants as answers
 use Rattle.ucon_top.specs.declared.line_answer.AnsweredLine.{AnsweredLine}
+use Rattle.ucon_client.specs.Answers.{answer_of}
 use Rattle.ucon_top.specs.OneAnswer.{entry_of}
 
--- what a line is answered where its step was answered so
-abbrev pub answer_by : Result Placed StepFault → LineAnswer
-answer_by (Ok p) = answers.Placed p
-answer_by (Err faults.DiskFault) = answers.DiskFault
-answer_by (Err faults.Stopped) = answers.Stopped
-answer_by (Err (faults.NoMemory e)) = answers.NoMemory
-
--- the answer, as the definitions have it
-abbrev pub answer_of : LineAnswer → Answer
-answer_of (answers.Placed p) = placed p.place (reply_spelling (reply_of p.reply))
-answer_of answers.NoMemory = no_memory
-answer_of answers.DiskFault = disk_fault
-answer_of answers.Stopped = stopped
-
+-- a line with its answer, as the definitions have them
 abbrev pub told_line : AnsweredLine → Answered
 told_line a = record { line = entry_of a.line; answer = answer_of a.answer }
 
@@ -66,10 +48,18 @@ pub record HaveSteps {D : Type 0} (P : PlainPolicy) (old new : Kept D) (lines : 
   pub lines_are : map (λ t. t.line) told ≡ lines
   pub leads : LeadsTo P old.entries told new.entries new.mark
 
--- these lines were answered, from a store to a store, and of their answers this is so
-pub record AreAnswered {D : Type 0} (P : PlainPolicy) (old new : Kept D) (lines : List Entry) (so : List Answered → Type 0) : Type 0 where
+-- The answers are a legal run behind a store's history, where `sees` tells whose earlier answers a caller saw, and they make another store's
+-- history and mark.
+pub record IsRunBetween {D : Type 0} (sees : Caller → Caller → Bool) (P : PlainPolicy) (old new : Kept D) (told : List Answered) : Type 0 where
+  pub legal : IsLegalRun P sees old.entries told
+  pub made : history_made old.entries told ≡ new.entries
+  pub failed : failed_line told ≡ new.mark
+
+-- these lines were answered by such a run, and of their answers this is so
+pub record AreAnswered {D : Type 0} (sees : Caller → Caller → Bool) (P : PlainPolicy) (old new : Kept D) (lines : List Entry) (so : List Answered → Type 0) : Type 0 where
   pub told : List Answered
-  pub steps : HaveSteps P old new lines told
+  pub lines_are : map (λ t. t.line) told ≡ lines
+  pub run : IsRunBetween sees P old new told
   pub is_so : so told
 
 -- the answers of these lines are read back from their output, of which this is so

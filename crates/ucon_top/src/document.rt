@@ -80,6 +80,6 @@ fn form_output<E: Engine>(
         Form::Trial => trial_output::<E>(alloc, checked, script),
         Form::Check => models_text(alloc, &checked),
         Form::Gen { seed: _, size: _ } => trial_summary::<E>(alloc, checked, script),
-        Form::Play => unreachable!(),
+        Form::Play | Form::Serve => unreachable!(),
     }
 }

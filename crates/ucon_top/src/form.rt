@@ -2,7 +2,7 @@
 
 ghost use Rattle.std.specs.Prelude.{◌≡◌, ◌≤◌, map, option_and_then, string_bytes, IfSome};
 ghost use Rattle.ucon_model.specs.Document.{number_spelled};
-ghost use Rattle.ucon_top.specs.Form.{HasSize, form_of, gen_form, play_form, seed_of, size_of, word_form};
+ghost use Rattle.ucon_top.specs.Form.{HasSize, asks_for_threads, form_of, gen_form, journal_form, seed_of, size_of, word_form};
 
 use ucon_script::number_spelled;
 
@@ -17,6 +17,8 @@ pub enum Form {
     Gen { seed: u64, size: u32 },
     /// `play JOURNAL`: runs the document over a journal, in the order of its lines.
     Play,
+    /// `serve JOURNAL`: runs the document over a journal, each client in a thread of its own.
+    Serve,
 }
 
 /// The most lines of a generated document, behind its opening ones.
@@ -29,12 +31,19 @@ pub fn read_form(words: &[String]) -> Option<Form>
 {
     match words {
         [word] => word_form(word.as_bytes()),
-        [word, path] if word.as_bytes() == b"play".as_slice() => play_form(path.as_bytes()),
+        [word, path] => journal_form(word.as_bytes(), path.as_bytes()),
         [word, seed, size] if word.as_bytes() == b"gen".as_slice() => {
             gen_form(seed.as_bytes(), size.as_bytes())
         }
         _ => None,
     }
+}
+
+/// Whether the words ask for a form that starts threads.
+pub fn asks_for_threads(words: &[String]) -> bool
+    ensures { result ≡ asks_for_threads (form_of (map (λ w. string_bytes w) words.now)) }
+{
+    matches!(read_form(words), Some(Form::Serve))
 }
 
 fn word_form(word: &[u8]) -> Option<Form>
@@ -60,13 +69,18 @@ fn gen_form(seed: &[u8], size: &[u8]) -> Option<Form>
 }
 
 /// A path is any word but the empty one.
-fn play_form(path: &[u8]) -> Option<Form>
-    ensures form { result ≡ play_form path.now }
+fn journal_form(word: &[u8], path: &[u8]) -> Option<Form>
+    ensures form { result ≡ journal_form word.now path.now }
     ensures size { IfSome result HasSize }
 {
-    match path {
-        [] => None,
-        _ => Some(Form::Play),
+    if path.is_empty() {
+        None
+    } else if word == b"play".as_slice() {
+        Some(Form::Play)
+    } else if word == b"serve".as_slice() {
+        Some(Form::Serve)
+    } else {
+        None
     }
 }
 

@@ -10,9 +10,11 @@ mod laws;
 mod line_answer;
 mod number;
 mod outcome;
+mod parts_text;
 mod play;
 mod printing;
 mod reporting;
+mod serve;
 mod stepping;
 mod summary;
 #[cfg(test)]
@@ -26,4 +28,4 @@ pub use laws::{accepted_documents_are_not_refused, generated_documents_are_accep
 pub use outcome::{Ended, Outcome, PolicyFault, Refused};
 pub use printing::fault_text;
 pub use reporting::report;
-pub use top::run;
+pub use top::{run, run_alone};

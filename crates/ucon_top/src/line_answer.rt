@@ -1,45 +1,24 @@
-//! What lines are answered over a store.
+//! The output of answered lines.
 
-ghost use Rattle.std.specs.Prelude.{◌≡◌, ◌<◌, ◌++◌, ◌∷◌, [], map, length, OnOk, IfOk};
+ghost use Rattle.std.specs.Prelude.{◌≡◌, ◌<◌, ◌++◌, ◌∷◌, [], map, OnOk, IfOk};
+ghost use Rattle.std.specs.Fmt.{decimal};
 ghost use Rattle.ucon_base.specs.Elements.{Each};
-ghost use Rattle.ucon_model.specs.Output.{FitsLine, answer_line, output};
-ghost use Rattle.ucon_top.specs.Stepping.{answer_by, answer_of, told_line};
+ghost use Rattle.ucon_model.specs.Output.{FitsLine, answer_spelling, output};
+ghost use Rattle.ucon_client.specs.Answers.{answer_of};
+ghost use Rattle.ucon_top.specs.Stepping.{told_line};
 
 use crate::transcript::{put_reply, put_unplaced};
 use std::alloc::Global;
 use ucon_base::NoMemory;
+use ucon_client::Answer;
+use ucon_model::Caller;
 use ucon_script::LineText;
-use ucon_store::{Placed, StepFault};
-
-/// What a line is answered: a reply with its place, or why its step was not taken.
-#[derive(Debug, Drop)]
-pub enum LineAnswer {
-    Placed(Placed),
-    NoMemory,
-    /// The step met a disk fault.
-    DiskFault,
-    /// An earlier step met a disk fault.
-    Stopped,
-}
-
-impl From<Result<Placed, StepFault>> for LineAnswer {
-    ghost from_gives = { λ said answer. answer ≡ answer_by said };
-
-    fn from(said: Result<Placed, StepFault>) -> LineAnswer {
-        match said {
-            Ok(placed) => LineAnswer::Placed(placed),
-            Err(StepFault::DiskFault) => LineAnswer::DiskFault,
-            Err(StepFault::Stopped) => LineAnswer::Stopped,
-            Err(StepFault::NoMemory(_)) => LineAnswer::NoMemory,
-        }
-    }
-}
 
 /// A command line with its answer.
 #[derive(Debug, Drop)]
 pub struct AnsweredLine<'a> {
     pub line: LineText<'a>,
-    pub answer: LineAnswer,
+    pub answer: Answer,
 }
 
 /// One line for each answer.
@@ -50,21 +29,26 @@ pub fn output_text(alloc: Global, answered: &[AnsweredLine<'_>]) -> Result<Vec<u
 {
     let mut text = Vec::new(alloc);
     for one in answered {
-        put_answer(alloc, &mut text, one)?;
+        put_answer(alloc, &mut text, one.line.caller, &one.answer)?;
     }
     Ok(text)
 }
 
-fn put_answer(alloc: Global, out: &mut Vec<u8>, answered: &AnsweredLine<'_>) -> Result<(), NoMemory>
-    ensures text { OnOk result (out.new.items ≡ out.old.items ++ answer_line (told_line answered.now)) }
-    ensures fits { OnOk result (FitsLine (answer_of answered.now.answer)) }
-    ensures client { OnOk result (answered.now.line.caller.0 < 256) }
+/// Adds the line of an answer to a client.
+pub fn put_answer(
+    alloc: Global,
+    out: &mut Vec<u8>,
+    caller: Caller,
+    answer: &Answer,
+) -> Result<(), NoMemory>
+    ensures text { OnOk result (out.new.items ≡ out.old.items ++ (decimal caller.0 ++ 32 ∷ answer_spelling (answer_of answer.now) ++ 10 ∷ [])) }
+    ensures fits { OnOk result (FitsLine (answer_of answer.now)) }
+    ensures client { OnOk result (caller.0 < 256) }
 {
-    let line = &answered.line;
-    match &answered.answer {
-        LineAnswer::Placed(placed) => put_reply(alloc, out, line, placed.place, &placed.reply),
-        LineAnswer::NoMemory => put_unplaced(out, line, b"- no memory"),
-        LineAnswer::DiskFault => put_unplaced(out, line, b"- disk fault"),
-        LineAnswer::Stopped => put_unplaced(out, line, b"- stopped"),
+    match answer {
+        Answer::Placed(placed) => put_reply(alloc, out, caller, placed.place, &placed.reply),
+        Answer::NoMemory => put_unplaced(out, caller, b"- no memory"),
+        Answer::DiskFault => put_unplaced(out, caller, b"- disk fault"),
+        Answer::Stopped => put_unplaced(out, caller, b"- stopped"),
     }
 }

@@ -3,6 +3,7 @@
 ghost use Rattle.std.specs.Prelude.{◌≡◌, ◌≤◌, length, map, Some, None};
 ghost use Rattle.ucon_disk.specs.Causes.{raised};
 ghost use Rattle.ucon_flow.specs.Causes.{Rose};
+ghost use Rattle.ucon_model.specs.LegalRun.{in_text_order};
 ghost use Rattle.ucon_model.specs.Plain.{PlainPolicy};
 ghost use Rattle.ucon_syntax.specs.Policies.{accepted};
 ghost use Rattle.ucon_top.specs.Accepted.{IsAccepted, IsRefusedBy};
@@ -12,12 +13,12 @@ ghost use Rattle.ucon_top.specs.OneAnswer.{entry_of};
 ghost use Rattle.ucon_top.specs.Played.{HasPlayed};
 
 use crate::document::read_accepted;
+use crate::form::Form;
 use crate::outcome::{Ended, Outcome};
 use crate::stepping::steps_text;
 use std::alloc::Global;
 use ucon_disk::Disk;
 use ucon_flow::{Sink, write_all};
-use ucon_model::runs_over_a_store_are_legal;
 use ucon_script::{LineText, policy_part};
 use ucon_state::Engine;
 use ucon_store::Store;
@@ -36,14 +37,13 @@ pub fn play<E: Engine, K: Sink, D: Disk>(
     ensures refused { IsRefusedBy result.outcome bytes.now }
     ensures accepted { IsOfAccepted result.outcome → IsAccepted bytes.now }
     ensures sink { result.outcome ≡ Outcome.SinkFault → Rose (K.faults out.old) (K.faults out.new) }
-    ensures played { HasPlayed D.contents D.images D.moment D.images_since D.faults result.outcome bytes.now disk result.disk
+    ensures played { HasPlayed D.contents D.images D.moment D.images_since D.faults Form.Play result.outcome bytes.now disk result.disk
         (K.contents out.old) (K.contents out.new) }
     ensures fault { result.outcome ≡ Outcome.DiskFault → D.faults result.disk ≡ raised (D.faults disk) }
     ensures untouched { IsUntouched result.outcome → result.disk ≡ disk }
     ensures unwritten { IsUnwritten result.outcome → out.new ≡ out.old }
 {
     accepted_texts_spell_typed_policies();
-    runs_over_a_store_are_legal();
     let script = match read_accepted(alloc, bytes) {
         Ok(script) => script,
         Err(refused) => return Ended::by(Outcome::from(refused), disk),
@@ -65,7 +65,7 @@ fn play_lines<E: Engine, K: Sink, D: Disk>(
     ensures status { result.status ≡ status_of result.outcome }
     ensures of_run { IsOfRun result.outcome }
     ensures run { (P : PlainPolicy) → accepted store.policy ≡ Some P
-        → IsClosedRun D.contents D.images D.moment D.images_since D.faults P store (map entry_of lines.now) result.outcome result.disk
+        → IsClosedRun D.contents D.images D.moment D.images_since D.faults in_text_order P store (map entry_of lines.now) result.outcome result.disk
         (K.contents out.old) (K.contents out.new) }
     ensures sink { result.outcome ≡ Outcome.SinkFault → Rose (K.faults out.old) (K.faults out.new) }
     ensures unwritten { IsUnwritten result.outcome → out.new ≡ out.old }
@@ -80,7 +80,7 @@ fn play_lines<E: Engine, K: Sink, D: Disk>(
 }
 
 /// Writes the output of a run, and tells how it ends. A fault of the sink stands before one of the disk.
-fn write_output<K: Sink>(out: &mut K, text: &[u8], stopped: bool) -> Outcome
+pub(crate) fn write_output<K: Sink>(out: &mut K, text: &[u8], stopped: bool) -> Outcome
     ensures { IsWritten result text.now stopped (K.contents out.old) (K.contents out.new) (K.faults out.old) (K.faults out.new) }
 {
     match write_all(out, text) {

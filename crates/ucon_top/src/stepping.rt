@@ -1,17 +1,20 @@
 //! Answers lines over a store, one after the other.
 
 ghost use Rattle.std.specs.Prelude.{◌≡◌, map, Some, None, IfOk, OnErr};
+ghost use Rattle.ucon_model.specs.LegalRun.{in_text_order};
 ghost use Rattle.ucon_model.specs.Plain.{PlainPolicy};
+ghost use Rattle.ucon_client.specs.Answers.{answer_of};
 ghost use Rattle.ucon_syntax.specs.Policies.{accepted};
 ghost use Rattle.ucon_store.specs.Stays.{Stays};
 ghost use Rattle.ucon_top.specs.OneAnswer.{entry_of};
-ghost use Rattle.ucon_top.specs.Stepping.{AreAnswered, HaveOutput, HaveSteps, Steps, answer_of, told_line};
+ghost use Rattle.ucon_top.specs.Stepping.{AreAnswered, HaveOutput, HaveSteps, Steps, told_line};
 
-use crate::line_answer::{AnsweredLine, LineAnswer, output_text};
+use crate::line_answer::{AnsweredLine, output_text};
 use std::alloc::Global;
 use ucon_base::{NoMemory, Rows};
+use ucon_client::Answer;
 use ucon_disk::Disk;
-use ucon_model::{outputs_are_read_back, texts_tell_changes};
+use ucon_model::{outputs_are_read_back, runs_over_a_store_are_legal, texts_tell_changes};
 use ucon_script::LineText;
 use ucon_state::Engine;
 use ucon_store::Store;
@@ -25,12 +28,13 @@ pub fn steps_text<E: Engine, D: Disk>(
 ) -> Result<Vec<u8>, NoMemory>
     requires { store.old.mark ≡ None }
     ensures text { IfOk result (λ text. (P : PlainPolicy) → accepted store.old.policy ≡ Some P
-        → AreAnswered P store.old store.new (map entry_of lines.now) (HaveOutput (λ out. out ≡ text.items) (map entry_of lines.now))) }
+        → AreAnswered in_text_order P store.old store.new (map entry_of lines.now) (HaveOutput (λ out. out ≡ text.items) (map entry_of lines.now))) }
     ensures no_memory { OnErr result ((P : PlainPolicy) → accepted store.old.policy ≡ Some P
-        → AreAnswered P store.old store.new (map entry_of lines.now) (λ told. Unit {0})) }
+        → AreAnswered in_text_order P store.old store.new (map entry_of lines.now) (λ told. Unit {0})) }
     ensures stays { Stays D.contents D.images D.moment D.images_since D.faults store.old store.new }
 {
     outputs_are_read_back();
+    runs_over_a_store_are_legal();
     let answered = answer_lines(alloc, store, lines)?;
     let text = output_text(alloc, answered.slice())?;
     Ok(text)
@@ -67,17 +71,17 @@ fn answer_line<E: Engine, D: Disk>(
     alloc: Global,
     store: &mut Store<E, D>,
     line: &LineText<'_>,
-) -> LineAnswer
+) -> Answer
     ensures steps { (P : PlainPolicy) → accepted store.old.policy ≡ Some P
         → Steps P store.old store.new (entry_of line.now) (answer_of result) }
     ensures stays { Stays D.contents D.images D.moment D.images_since D.faults store.old store.new }
 {
     texts_tell_changes();
     if store.failed().is_some() {
-        return LineAnswer::Stopped;
+        return Answer::Stopped;
     }
     match line.line(alloc) {
-        Ok(line) => LineAnswer::from(store.step(alloc, line.caller, &line.command)),
-        Err(_) => LineAnswer::NoMemory,
+        Ok(line) => Answer::from(store.step(alloc, line.caller, &line.command)),
+        Err(_) => Answer::NoMemory,
     }
 }

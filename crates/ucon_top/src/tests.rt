@@ -1,6 +1,11 @@
+mod serving;
+
 use super::*;
 use std::alloc::Global;
+use std::sync::Wait;
 use std::test::Fail;
+use std::thread::Threads;
+use ucon_client::OpenGate;
 use ucon_disk::MemDisk;
 use ucon_flow::{MemSink, MemSource};
 use ucon_script::{generate, read_script};
@@ -28,15 +33,22 @@ fn no_disk(alloc: Global) -> MemDisk {
 }
 
 /// How a form ends over a document, and what it writes.
-fn ran(alloc: Global, form: &str, document: &[u8]) -> Result<(Outcome, Vec<u8>), Fail> {
+fn ran<R: Threads + Wait + Sync>(
+    rt: &R,
+    alloc: Global,
+    form: &str,
+    document: &[u8],
+) -> Result<(Outcome, Vec<u8>), Fail> {
     let mut source = MemSource::new(Vec::from_slice(alloc, document)?, 7, Vec::new(alloc));
     let mut sink = MemSink::new(alloc, 3, Vec::new(alloc));
     let ended = run(
+        rt,
         alloc,
         &words(alloc, &[form])?,
         &mut source,
         &mut sink,
         no_disk(alloc),
+        &OpenGate,
     );
     Ok((ended.outcome, Vec::from_slice(alloc, sink.bytes())?))
 }
@@ -53,7 +65,7 @@ fn document(alloc: Global, row: &Row) -> Result<Vec<u8>, Fail> {
 #[test]
 fn worked_rows_print_what_they_say(rt: HostRuntime) -> Result<(), Fail> {
     for row in worked_rows() {
-        let found = ran(rt.alloc(), "trial", &document(rt.alloc(), &row)?)?;
+        let found = ran(&rt, rt.alloc(), "trial", &document(rt.alloc(), &row)?)?;
         assert_eq!(rt; found.0.status(), 0, "{}", row.name);
         assert_eq!(rt; found.1.as_slice(), row.output, "{}", row.name);
     }
@@ -61,8 +73,13 @@ fn worked_rows_print_what_they_say(rt: HostRuntime) -> Result<(), Fail> {
 }
 
 /// What a form prints: the output, or with another status the line of the fault.
-fn printed(alloc: Global, form: &str, document: &[u8]) -> Result<(u8, Vec<u8>), Fail> {
-    let found = ran(alloc, form, document)?;
+fn printed<R: Threads + Wait + Sync>(
+    rt: &R,
+    alloc: Global,
+    form: &str,
+    document: &[u8],
+) -> Result<(u8, Vec<u8>), Fail> {
+    let found = ran(rt, alloc, form, document)?;
     if found.0.status() == 0 {
         return Ok((0, found.1));
     }
@@ -79,7 +96,7 @@ fn the_language_page_tells_what_is_printed(rt: HostRuntime) -> Result<(), Fail> 
         status,
         text,
     } in language_examples() {
-        let found = printed(rt.alloc(), form, document)?;
+        let found = printed(&rt, rt.alloc(), form, document)?;
         assert_eq!(rt; found.0, status, "{name}");
         assert_eq!(rt; found.1.as_slice(), text, "{name}");
     }
@@ -96,7 +113,7 @@ fn the_other_pages_tell_what_is_printed(rt: HostRuntime) -> Result<(), Fail> {
         status,
         text,
     } in guide_examples() {
-        let found = printed(rt.alloc(), form, document)?;
+        let found = printed(&rt, rt.alloc(), form, document)?;
         assert_eq!(rt; found.0, status, "{name}");
         assert_eq!(rt; found.1.as_slice(), text, "{name}");
     }
@@ -106,7 +123,7 @@ fn the_other_pages_tell_what_is_printed(rt: HostRuntime) -> Result<(), Fail> {
 #[test]
 fn typing_faults_come_in_order(rt: HostRuntime) -> Result<(), Fail> {
     for (policy, line) in typing_faults() {
-        let found = printed(rt.alloc(), "check", policy.as_bytes())?;
+        let found = printed(&rt, rt.alloc(), "check", policy.as_bytes())?;
         assert_eq!(rt; found.0, 2, "{policy}");
         assert_eq!(rt; found.1.as_slice(), line.as_bytes(), "{policy}");
     }
@@ -116,7 +133,7 @@ fn typing_faults_come_in_order(rt: HostRuntime) -> Result<(), Fail> {
 #[test]
 fn core_models_are_told(rt: HostRuntime) -> Result<(), Fail> {
     for (policy, models) in well_typed_policies() {
-        let found = printed(rt.alloc(), "check", policy.as_bytes())?;
+        let found = printed(&rt, rt.alloc(), "check", policy.as_bytes())?;
         assert_eq!(rt; found.0, 0, "{policy}");
         assert_eq!(rt; found.1.as_slice(), models.as_bytes(), "{policy}");
     }
@@ -161,7 +178,7 @@ fn places_are_counted(rt: HostRuntime) -> Result<(), Fail> {
             "ucon: policy: too many cells r 33\n",
         ),
     ] {
-        let found = printed(rt.alloc(), "check", &reading_all(rt.alloc(), more)?)?;
+        let found = printed(&rt, rt.alloc(), "check", &reading_all(rt.alloc(), more)?)?;
         assert_eq!(rt; found.0, status);
         assert_eq!(rt; found.1.as_slice(), line.as_bytes());
     }
@@ -172,11 +189,11 @@ fn places_are_counted(rt: HostRuntime) -> Result<(), Fail> {
 #[test]
 fn other_ends(rt: HostRuntime) -> Result<(), Fail> {
     let alloc = rt.alloc();
-    let capped = ran(alloc, "check", CAPPED)?;
+    let capped = ran(&rt, alloc, "check", CAPPED)?;
     assert_eq!(rt; capped.1.as_slice(), b"right use onA1 onA3\n".as_slice());
-    let refused = ran(alloc, "check", b"right r {")?;
+    let refused = ran(&rt, alloc, "check", b"right r {")?;
     assert_eq!(rt; refused.0.status(), 2);
-    let script = ran(alloc, "check", b"%%\nclient 1\nlook\n")?;
+    let script = ran(&rt, alloc, "check", b"%%\nclient 1\nlook\n")?;
     assert_eq!(rt; script.0.status(), 3);
     let cases: [(&[&str], &[u64], &[u64], u8, &[u8], &[u8]); 5] = [
         (&["trial"], &[], &[], 0, b"0 1 ok\n", b""),
@@ -190,11 +207,13 @@ fn other_ends(rt: HostRuntime) -> Result<(), Fail> {
         let mut source = MemSource::new(bytes, 4, numbers(alloc, source_faults)?);
         let mut sink = MemSink::new(alloc, 1, numbers(alloc, sink_faults)?);
         let ended = run(
+            &rt,
             alloc,
             &words(alloc, all)?,
             &mut source,
             &mut sink,
             no_disk(alloc),
+            &OpenGate,
         );
         assert_eq!(rt; ended.status, status);
         assert_eq!(rt; sink.bytes(), output);
@@ -212,11 +231,13 @@ fn long_input(rt: HostRuntime) -> Result<(), Fail> {
     let mut source = MemSource::new(bytes, 4096, Vec::new(alloc));
     let mut sink = MemSink::new(alloc, 1, Vec::new(alloc));
     let ended = run(
+        &rt,
         alloc,
         &words(alloc, &["trial"])?,
         &mut source,
         &mut sink,
         no_disk(alloc),
+        &OpenGate,
     );
     assert_eq!(rt; ended.status, 11);
     assert_eq!(rt; sink.bytes(), b"".as_slice());
@@ -224,15 +245,21 @@ fn long_input(rt: HostRuntime) -> Result<(), Fail> {
 }
 
 /// How `gen` ends over these words, and what it writes. The source would fail if it were read.
-fn generated(alloc: Global, all: &[&str]) -> Result<(Outcome, Vec<u8>), Fail> {
+fn generated<R: Threads + Wait + Sync>(
+    rt: &R,
+    alloc: Global,
+    all: &[&str],
+) -> Result<(Outcome, Vec<u8>), Fail> {
     let mut source = MemSource::new(Vec::new(alloc), 7, numbers(alloc, &[0])?);
     let mut sink = MemSink::new(alloc, 3, Vec::new(alloc));
     let ended = run(
+        rt,
         alloc,
         &words(alloc, all)?,
         &mut source,
         &mut sink,
         no_disk(alloc),
+        &OpenGate,
     );
     Ok((ended.outcome, Vec::from_slice(alloc, sink.bytes())?))
 }
@@ -244,7 +271,7 @@ fn generated_documents_are_summed(rt: HostRuntime) -> Result<(), Fail> {
         status,
         output,
     } in generated_rows() {
-        let found = generated(rt.alloc(), words)?;
+        let found = generated(&rt, rt.alloc(), words)?;
         assert_eq!(rt; found.0.status(), status);
         assert_eq!(rt; found.1.as_slice(), output);
     }
@@ -254,8 +281,8 @@ fn generated_documents_are_summed(rt: HostRuntime) -> Result<(), Fail> {
 /// The same words make the same document and the same run.
 #[test]
 fn generated_twice(rt: HostRuntime) -> Result<(), Fail> {
-    let first = generated(rt.alloc(), &["gen", "7", "20000"])?;
-    let second = generated(rt.alloc(), &["gen", "7", "20000"])?;
+    let first = generated(&rt, rt.alloc(), &["gen", "7", "20000"])?;
+    let second = generated(&rt, rt.alloc(), &["gen", "7", "20000"])?;
     assert_eq!(rt; first.0.status(), 0);
     assert!(rt; first.1.starts_with(b"lines 20025\n".as_slice()));
     assert_eq!(rt; first.1.as_slice(), second.1.as_slice());
@@ -274,7 +301,8 @@ fn a_generated_document(rt: HostRuntime) -> Result<(), Fail> {
 }
 
 /// How `play` ends over a document, a disk and a sink, and what it writes.
-fn played(
+fn played<R: Threads + Wait + Sync>(
+    rt: &R,
     alloc: Global,
     document: &[u8],
     disk: MemDisk,
@@ -282,7 +310,7 @@ fn played(
 ) -> Result<(Ended<MemDisk>, Vec<u8>), Fail> {
     let mut source = MemSource::new(Vec::from_slice(alloc, document)?, 7, Vec::new(alloc));
     let all = words(alloc, &["play", "j"])?;
-    let ended = run(alloc, &all, &mut source, &mut sink, disk);
+    let ended = run(rt, alloc, &all, &mut source, &mut sink, disk, &OpenGate);
     Ok((ended, Vec::from_slice(alloc, sink.bytes())?))
 }
 
@@ -300,7 +328,7 @@ fn stopping(alloc: Global, file: &[u8], calls: u64) -> Result<MemDisk, Fail> {
 #[test]
 fn journals_hold_what_was_acknowledged(rt: HostRuntime) -> Result<(), Fail> {
     for row in played_rows() {
-        let agrees = play_row(rt.alloc(), &row)?;
+        let agrees = play_row(&rt, rt.alloc(), &row)?;
         assert!(rt; agrees.status, "the status of {}", row.name);
         assert!(rt; agrees.output, "what {} writes", row.name);
         assert!(rt; agrees.told, "what {} tells", row.name);
@@ -318,11 +346,11 @@ struct Agrees {
     left: bool,
 }
 
-fn play_row(alloc: Global, row: &Played) -> Result<Agrees, Fail> {
+fn play_row<R: Threads + Wait + Sync>(rt: &R, alloc: Global, row: &Played) -> Result<Agrees, Fail> {
     let file = Vec::from_slice(alloc, row.file)?;
     let disk = MemDisk::new(alloc, file, numbers(alloc, row.disk_faults)?, None);
     let sink = MemSink::new(alloc, 1, numbers(alloc, row.sink_faults)?);
-    let (ended, output) = played(alloc, row.document, disk, sink)?;
+    let (ended, output) = played(rt, alloc, row.document, disk, sink)?;
     let told = fault_text(alloc, &ended.outcome)?;
     Ok(Agrees {
         status: ended.status == row.status,
@@ -337,10 +365,14 @@ fn same(one: &[u8], other: &[u8]) -> bool {
 }
 
 /// The number of entries that are found in a file: the place of a reply that changes nothing.
-fn entries_found(alloc: Global, file: Vec<u8>) -> Result<(u8, Vec<u8>), Fail> {
+fn entries_found<R: Threads + Wait + Sync>(
+    rt: &R,
+    alloc: Global,
+    file: Vec<u8>,
+) -> Result<(u8, Vec<u8>), Fail> {
     let disk = MemDisk::new(alloc, file, Vec::new(alloc), None);
     let sink = MemSink::new(alloc, 3, Vec::new(alloc));
-    let (ended, output) = played(alloc, LOOKING, disk, sink)?;
+    let (ended, output) = played(rt, alloc, LOOKING, disk, sink)?;
     Ok((ended.status, output))
 }
 
@@ -365,14 +397,14 @@ fn crashes_leave_what_was_answered(rt: HostRuntime) -> Result<(), Fail> {
     for calls in 0..24u64 {
         let disk = stopping(alloc, WITH_A, calls)?;
         let sink = MemSink::new(alloc, 3, Vec::new(alloc));
-        let (ended, output) = played(alloc, SUBJECTS_B_AND_C, disk, sink)?;
+        let (ended, output) = played(&rt, alloc, SUBJECTS_B_AND_C, disk, sink)?;
         let (least, most) = found_behind(&output);
         for fill in [0u8, 1, 255] {
             let mut fills = Vec::new(alloc);
             fills.resize(40, fill)?;
             for len in 44..84u64 {
                 if let Some(file) = ended.disk.image(len, &fills)? {
-                    let (status, text) = entries_found(alloc, file)?;
+                    let (status, text) = entries_found(&rt, alloc, file)?;
                     assert_eq!(rt; status, 0);
                     let text = text.as_slice();
                     assert!(rt; text == least || text == most, "{calls} {len} {fill}");

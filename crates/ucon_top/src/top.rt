@@ -1,21 +1,25 @@
 //! The top call.
 
-ghost use Rattle.std.specs.Prelude.{◌≡◌, ◌↔◌, ◌<◌, ◌≤◌, ◌+◌, None, Some, length, map, string_bytes, IfSome, IfOk, IfErr, OnOk};
+ghost use Rattle.std.specs.Prelude.{◌≡◌, ◌≢◌, ◌↔◌, ◌<◌, ◌≤◌, ◌+◌, false, None, Some, length, map, string_bytes, IfSome, IfOk, IfErr, OnOk};
 ghost use Rattle.std.specs.Io.KnownBytes.{IsAtEnd};
 ghost use Rattle.ucon_disk.specs.Causes.{raised};
 ghost use Rattle.ucon_flow.specs.Causes.{Rose};
 ghost use Rattle.ucon_top.specs.Accepted.{IsRefusedBy, IsAccepted};
 ghost use Rattle.ucon_top.specs.Ending.{status_of, IsOfAccepted, IsOfPrinting, IsUntouched, IsUnwritten};
-ghost use Rattle.ucon_top.specs.Form.{form_of, HasSize, IsAlone, IsPlay};
+ghost use Rattle.ucon_top.specs.Form.{form_of, HasSize, IsAlone, HasJournal, asks_for_threads};
 ghost use Rattle.ucon_top.specs.Unread.{IsUnread};
 ghost use Rattle.ucon_top.specs.Played.{HasPlayedInput};
 ghost use Rattle.ucon_top.specs.Printed.{Adds, IsOutputOf, IsCutOutputOf, ReadsInput, document_of};
 
 use crate::document::output_of;
-use crate::form::{Form, read_form};
+use crate::form::{Form, asks_for_threads, read_form};
 use crate::outcome::{Ended, Outcome};
 use crate::play::play;
+use crate::serve::serve;
 use std::alloc::Global;
+use std::sync::Wait;
+use std::thread::Threads;
+use ucon_client::Gate;
 use ucon_disk::Disk;
 use ucon_flow::{Sink, Source, read_all, write_all};
 use ucon_plain::PlainMonitor;
@@ -26,16 +30,16 @@ const LIMIT: usize = 4_194_304;
 
 /// Does what the words say, from the bytes read to the bytes written.
 ///
-/// `trial` runs the document that the input is, from the empty history, in the order of its lines, and writes one answer a line.
-/// `check` writes the core models of each right of the document's policy. `gen` makes a document, runs it as `trial` does and writes the
-/// summary; it reads nothing. `play` runs the document over the journal on the disk, and writes one answer a line when all are answered.
-#[tactic(auto, using(crate::proofs::Adding::adds_document))]
-pub fn run<S: Source, K: Sink, D: Disk>(
+/// `serve` runs the document over the journal on the disk, each client in a thread of its own, and writes one answer a line, client by client
+/// by rising number, when all threads have returned; the gate is told of each line. `run_alone` does all other forms.
+pub fn run<S: Source, K: Sink, D: Disk + Send, G: Gate + Sync, R: Threads + Wait + Sync>(
+    rt: &R,
     alloc: Global,
     words: &[String],
     input: &mut S,
     out: &mut K,
     disk: D,
+    gate: &G,
 ) -> Ended<D>
     // Status and outcome agree.
     ensures status { result.status ≡ status_of result.outcome }
@@ -72,8 +76,73 @@ pub fn run<S: Source, K: Sink, D: Disk>(
 
     // Of `play`, by how it ended: the bytes written are the output of a legal run behind the history as which the journal was found, and the
     // history that is made is journalled; or the journal wasn't opened, for this reason, and what was found in its file is still found.
-    ensures played { IfSome (form_of (map (λ w. string_bytes w) words.now)) (λ form. IsPlay form
-        → HasPlayedInput D.contents D.images D.moment D.images_since D.faults result.outcome (S.left input.old) disk result.disk
+    ensures played { IfSome (form_of (map (λ w. string_bytes w) words.now)) (λ form. HasJournal form
+        → HasPlayedInput D.contents D.images D.moment D.images_since D.faults form result.outcome (S.left input.old) disk result.disk
+        (K.contents out.old) (K.contents out.new)) }
+    ensures fault { result.outcome ≡ Outcome.DiskFault → D.faults result.disk ≡ raised (D.faults disk) }
+
+    // No other form makes a call of the disk, nor does `play` before its document is accepted.
+    ensures untouched { IsUntouched result.outcome → result.disk ≡ disk }
+    ensures alone { IfSome (form_of (map (λ w. string_bytes w) words.now)) (λ form. IsAlone form → result.disk ≡ disk) }
+{
+    if asks_for_threads(words) {
+        return serve_input(rt, alloc, input, out, disk, gate);
+    }
+    run_alone(alloc, words, input, out, disk)
+}
+
+/// Does what words say that ask for no threads, on this thread alone.
+///
+/// `trial` runs the document that the input is, from the empty history, in the order of its lines, and writes one answer a line.
+/// `check` writes the core models of each right of the document's policy. `gen` makes a document, runs it as `trial` does and writes the
+/// summary; it reads nothing. `play` runs the document over the journal on the disk, and writes one answer a line when all are answered.
+#[tactic(auto, using(crate::proofs::Adding::adds_document))]
+pub fn run_alone<S: Source, K: Sink, D: Disk>(
+    alloc: Global,
+    words: &[String],
+    input: &mut S,
+    out: &mut K,
+    disk: D,
+) -> Ended<D>
+    requires { asks_for_threads (form_of (map (λ w. string_bytes w) words.now)) ≡ false }
+
+    // Status and outcome agree.
+    ensures status { result.status ≡ status_of result.outcome }
+
+    // Each outcome has its cause. Want of memory alone may come at any moment.
+    ensures usage { (result.outcome ≡ Outcome.Usage) ↔ (form_of (map (λ w. string_bytes w) words.now) ≡ None) }
+    ensures source { result.outcome ≡ Outcome.SourceFault → Rose (S.faults input.old) (S.faults input.new) }
+    ensures too_long { result.outcome ≡ Outcome.TooLong → IfSome (S.left input.old) (λ bytes. 4194304 < length bytes) }
+    ensures refused { IfSome (form_of (map (λ w. string_bytes w) words.now)) (λ form.
+        IfSome (document_of form (S.left input.old)) (IsRefusedBy result.outcome)) }
+    ensures accepted { IsOfAccepted result.outcome
+        → IfSome (form_of (map (λ w. string_bytes w) words.now)) (λ form. IfSome (document_of form (S.left input.old)) IsAccepted) }
+    ensures sink { result.outcome ≡ Outcome.SinkFault → Rose (K.faults out.old) (K.faults out.new) }
+    ensures read { IsOfAccepted result.outcome
+        → IfSome (form_of (map (λ w. string_bytes w) words.now)) (λ form. ReadsInput form → IsAtEnd (S.left input.new)) }
+
+    // At most one read for each byte within the limit, and one more, whatever the outcome.
+    ensures reads { S.reads input.new ≤ S.reads input.old + 4194305 }
+
+    // With status 0 the bytes added to the sink are what the form prints of its document: for `trial` the output of a legal run, whose
+    // answers are read from these bytes; for `check` the core models; for `gen` the summary of a legal run. Where the sink failed they are
+    // the front of such an output.
+    ensures done { result.outcome ≡ Outcome.Done
+        → IfSome (form_of (map (λ w. string_bytes w) words.now)) (λ form. IsAlone form
+        → Adds (IsOutputOf form) (document_of form (S.left input.old)) (K.contents out.old) (K.contents out.new)) }
+    ensures cut_short { result.outcome ≡ Outcome.SinkFault
+        → IfSome (form_of (map (λ w. string_bytes w) words.now)) (λ form. IsAlone form
+        → Adds (IsCutOutputOf form) (document_of form (S.left input.old)) (K.contents out.old) (K.contents out.new)) }
+
+    // Otherwise nothing is written; and for wrong words, and for `gen`, nothing is read.
+    ensures unused { result.outcome ≡ Outcome.Usage → input.new ≡ input.old }
+    ensures unread { IfSome (form_of (map (λ w. string_bytes w) words.now)) (λ form. (ReadsInput form → ⊥) → input.new ≡ input.old) }
+    ensures unwritten { IsUnwritten result.outcome → out.new ≡ out.old }
+
+    // Of `play`, by how it ended: the bytes written are the output of a legal run behind the history as which the journal was found, and the
+    // history that is made is journalled; or the journal wasn't opened, for this reason, and what was found in its file is still found.
+    ensures played { IfSome (form_of (map (λ w. string_bytes w) words.now)) (λ form. HasJournal form
+        → HasPlayedInput D.contents D.images D.moment D.images_since D.faults form result.outcome (S.left input.old) disk result.disk
         (K.contents out.old) (K.contents out.new)) }
     ensures fault { result.outcome ≡ Outcome.DiskFault → D.faults result.disk ≡ raised (D.faults disk) }
 
@@ -93,6 +162,7 @@ pub fn run<S: Source, K: Sink, D: Disk>(
         Form::Trial | Form::Check | Form::Gen { seed: _, size: _ } => {
             Ended::by(print_output(alloc, form, &bytes, out), disk)
         }
+        Form::Serve => unreachable!(),
     }
 }
 
@@ -117,6 +187,36 @@ fn print_output<K: Sink>(alloc: Global, form: Form, bytes: &[u8], out: &mut K) -
     }
 }
 
+/// Serves the document that the input is.
+fn serve_input<S: Source, K: Sink, D: Disk + Send, G: Gate + Sync, R: Threads + Wait + Sync>(
+    rt: &R,
+    alloc: Global,
+    input: &mut S,
+    out: &mut K,
+    disk: D,
+    gate: &G,
+) -> Ended<D>
+    ensures status { result.status ≡ status_of result.outcome }
+    ensures usage { result.outcome ≢ Outcome.Usage }
+    ensures source { result.outcome ≡ Outcome.SourceFault → Rose (S.faults input.old) (S.faults input.new) }
+    ensures too_long { result.outcome ≡ Outcome.TooLong → IfSome (S.left input.old) (λ bytes. 4194304 < length bytes) }
+    ensures refused { IfSome (S.left input.old) (IsRefusedBy result.outcome) }
+    ensures accepted { IsOfAccepted result.outcome → IfSome (S.left input.old) IsAccepted }
+    ensures sink { result.outcome ≡ Outcome.SinkFault → Rose (K.faults out.old) (K.faults out.new) }
+    ensures read { IsOfAccepted result.outcome → IsAtEnd (S.left input.new) }
+    ensures reads { S.reads input.new ≤ S.reads input.old + 4194305 }
+    ensures unwritten { IsUnwritten result.outcome → out.new ≡ out.old }
+    ensures played { HasPlayedInput D.contents D.images D.moment D.images_since D.faults Form.Serve result.outcome (S.left input.old) disk result.disk
+        (K.contents out.old) (K.contents out.new) }
+    ensures fault { result.outcome ≡ Outcome.DiskFault → D.faults result.disk ≡ raised (D.faults disk) }
+    ensures untouched { IsUntouched result.outcome → result.disk ≡ disk }
+{
+    match document_bytes(alloc, Form::Serve, input) {
+        Ok(bytes) => serve::<PlainMonitor, K, D, G, R>(rt, alloc, &bytes, out, disk, gate),
+        Err(outcome) => Ended::by(outcome, disk),
+    }
+}
+
 /// The document that a form runs: the input's bytes, or for `gen` the generated ones. Else how the run ends.
 fn document_bytes<S: Source>(alloc: Global, form: Form, input: &mut S) -> Result<Vec<u8>, Outcome>
     requires { HasSize form }
@@ -128,7 +228,7 @@ fn document_bytes<S: Source>(alloc: Global, form: Form, input: &mut S) -> Result
     ensures unread { (ReadsInput form → ⊥) → input.new ≡ input.old }
 {
     match form {
-        Form::Trial | Form::Check | Form::Play => Ok(read_all(alloc, input, LIMIT)?),
+        Form::Trial | Form::Check | Form::Play | Form::Serve => Ok(read_all(alloc, input, LIMIT)?),
         Form::Gen { seed, size } => Ok(generate(alloc, seed, size)?),
     }
 }

@@ -2,9 +2,9 @@
 
 ghost use Rattle.std.specs.Prelude.{◌≡◌, ◌<◌, ◌++◌, ◌∷◌, [], Some, None, OnOk};
 ghost use Rattle.std.specs.Fmt.{decimal};
-ghost use Rattle.ucon_model.specs.Output.{Lacks, answer_line};
+ghost use Rattle.ucon_model.specs.LegalRun.{placed};
+ghost use Rattle.ucon_model.specs.Output.{Lacks, answer_spelling};
 ghost use Rattle.ucon_model.specs.Spelling.{reply_spelling};
-ghost use Rattle.ucon_model.specs.Summary.{answered};
 ghost use Rattle.ucon_model.specs.Views.{reply_of};
 ghost use Rattle.ucon_top.specs.Hearing.{HearsMore, replied};
 ghost use Rattle.ucon_top.specs.OneAnswer.{entry_of};
@@ -15,7 +15,7 @@ use crate::number::put_number;
 use std::alloc::Global;
 use ucon_base::NoMemory;
 use ucon_command::put_reply as put_reply_text;
-use ucon_model::Reply;
+use ucon_model::{Caller, Reply};
 use ucon_script::LineText;
 
 /// The lines of the answers so far.
@@ -44,12 +44,12 @@ impl Hearer for Transcript {
         place: u64,
         reply: &Reply,
     ) -> Result<(), NoMemory> {
-        put_reply(alloc, &mut self.text, line, place, reply)?;
+        put_reply(alloc, &mut self.text, line.caller, place, reply)?;
         Ok(())
     }
 
     fn no_memory(&mut self, line: &LineText<'_>) -> Result<(), NoMemory> {
-        put_unplaced(&mut self.text, line, b"- no memory")?;
+        put_unplaced(&mut self.text, line.caller, b"- no memory")?;
         Ok(())
     }
 }
@@ -58,15 +58,15 @@ impl Hearer for Transcript {
 pub fn put_reply(
     alloc: Global,
     out: &mut Vec<u8>,
-    line: &LineText<'_>,
+    caller: Caller,
     place: u64,
     reply: &Reply,
 ) -> Result<(), NoMemory>
-    ensures text { OnOk result (out.new.items ≡ out.old.items ++ answer_line (answered (replied (entry_of line.now) (Some (place, reply_of reply.now))))) }
+    ensures text { OnOk result (out.new.items ≡ out.old.items ++ (decimal caller.0 ++ 32 ∷ answer_spelling (placed place (reply_spelling (reply_of reply.now))) ++ 10 ∷ [])) }
     ensures one_line { OnOk result (Lacks 10 (reply_spelling (reply_of reply.now))) }
-    ensures client { OnOk result (line.now.caller.0 < 256) }
+    ensures client { OnOk result (caller.0 < 256) }
 {
-    put_client(out, line)?;
+    put_client(out, caller)?;
     put_number(out, place)?;
     out.push(b' ')?;
     put_reply_text(alloc, out, reply)?;
@@ -75,22 +75,22 @@ pub fn put_reply(
 }
 
 /// Adds the line of an answer without a place.
-pub fn put_unplaced(out: &mut Vec<u8>, line: &LineText<'_>, answer: &[u8]) -> Result<(), NoMemory>
-    ensures text { OnOk result (out.new.items ≡ out.old.items ++ (decimal line.now.caller.0 ++ 32 ∷ answer.now ++ 10 ∷ [])) }
-    ensures client { OnOk result (line.now.caller.0 < 256) }
+pub fn put_unplaced(out: &mut Vec<u8>, caller: Caller, answer: &[u8]) -> Result<(), NoMemory>
+    ensures text { OnOk result (out.new.items ≡ out.old.items ++ (decimal caller.0 ++ 32 ∷ answer.now ++ 10 ∷ [])) }
+    ensures client { OnOk result (caller.0 < 256) }
 {
-    put_client(out, line)?;
+    put_client(out, caller)?;
     out.extend_from_slice(answer)?;
     out.push(b'\n')?;
     Ok(())
 }
 
 /// Adds the client's number and a space.
-fn put_client(out: &mut Vec<u8>, line: &LineText<'_>) -> Result<(), NoMemory>
-    ensures text { OnOk result (out.new.items ≡ out.old.items ++ (decimal line.now.caller.0 ++ 32 ∷ [])) }
-    ensures client { OnOk result (line.now.caller.0 < 256) }
+fn put_client(out: &mut Vec<u8>, caller: Caller) -> Result<(), NoMemory>
+    ensures text { OnOk result (out.new.items ≡ out.old.items ++ (decimal caller.0 ++ 32 ∷ [])) }
+    ensures client { OnOk result (caller.0 < 256) }
 {
-    put_number(out, line.caller.0 as u64)?;
+    put_number(out, caller.0 as u64)?;
     out.push(b' ')?;
     Ok(())
 }

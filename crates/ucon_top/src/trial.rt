@@ -11,7 +11,7 @@ use crate::summary::Tally;
 use crate::transcript::Transcript;
 use std::alloc::Global;
 use ucon_base::NoMemory;
-use ucon_model::Checked;
+use ucon_model::{Checked, outputs_are_read_back, serial_runs_are_legal, texts_tell_changes};
 use ucon_script::Script;
 use ucon_state::Engine;
 
@@ -23,6 +23,9 @@ pub fn trial_output<E: Engine>(
 ) -> Result<Vec<u8>, NoMemory>
     ensures { IfOk result (λ text. IsRunOutput (checked_policy checked) (entries_of (lines_spelled script.now)) text.items) }
 {
+    outputs_are_read_back();
+    texts_tell_changes();
+    serial_runs_are_legal();
     let engine = E::begin(alloc, checked)?;
     let transcript = run_lines(alloc, engine, Transcript::new(alloc), script.lines.slice())?;
     Ok(transcript.text)
@@ -36,6 +39,8 @@ pub fn trial_summary<E: Engine>(
 ) -> Result<Vec<u8>, NoMemory>
     ensures { IfOk result (λ text. IsRunSummary (checked_policy checked) (entries_of (lines_spelled script.now)) text.items) }
 {
+    texts_tell_changes();
+    serial_runs_are_legal();
     let engine = E::begin(alloc, checked)?;
     let tally = run_lines(alloc, engine, Tally::new(), script.lines.slice())?;
     let text = tally.text(alloc)?;

@@ -9,7 +9,7 @@ use Rattle.ucon_state.specs.Shown.{shown}
 use Rattle.ucon_actions.specs.Updating.{written_out}
 use Rattle.ucon_actions.proofs.ReadOff.{session_same}
 use Rattle.ucon_actions.proofs.Writes.{written_out-more}
-use Rattle.ucon_actions.proofs.Updated.{nothing_written, session_written, row_stays}
+use Rattle.ucon_actions.proofs.Updated.{nothing_written, session_written, row_stays_by}
 use Rattle.ucon_actions.proofs.update.run_updates.Goals as goal
 
 pub returns-in_default-clause-leads : goal.returns-in_default-clause-leads
@@ -29,6 +29,7 @@ run_update-requires-clause-following c =
 pub run_update-requires-clause-row : goal.run_update-requires-clause-row
 run_update-requires-clause-row c =
     let s = shown c.args.state.now in
+    let row_stays = row_stays_by c.writes_leave_sessions.ensures.sessions in
     let P = c.requires.policy in
     row_stays s (shown c.loop-at.state) P c.requires.trace c.requires.follows c.args.n c.in-Some.row c.args.when (take c.loop-at.at (updates_of P c.in-Some.row)) (sym c.session.ensures ∙ c.in-Some.is)
     (c.loop-at.invariant.leads P c.requires.trace c.requires.follows)

@@ -3,7 +3,6 @@ use Rattle.ucon_model.specs.declared.policy.When.TheVariants.{Before}
 use Rattle.ucon_model.specs.declared.session.SessionState.TheVariants.{Requesting, Accessing}
 use Rattle.ucon_model.specs.Action.{permit, extended}
 use Rattle.ucon_model.specs.Updates.{session_writes}
-use Rattle.ucon_model.proofs.Extending.{extended-append}
 use Rattle.ucon_state.specs.Following.{Follows}
 use Rattle.ucon_state.specs.Shown.{shown}
 use Rattle.ucon_state.specs.Tables.{accessing_among}
@@ -19,7 +18,7 @@ set_session-requires c =
     let s1 = shown c.run_updates.new.state in
     let h = c.requires.following.follows in
     may_move s1.tables c.args.n Requesting Accessing refl
-    (in_after_writes s s1 c.requires.following.policy c.requires.following.trace c.args.n c.args.n Before Requesting h (c.in_ok-run_updates.ensures.leads c.requires.following.policy c.requires.following.trace h) c.requires.requesting)
+    (in_after_writes c.updates_write_their_targets.ensures.sessions s s1 c.requires.following.policy c.requires.following.trace c.args.n c.args.n Before Requesting h (c.in_ok-run_updates.ensures.leads c.requires.following.policy c.requires.following.trace h) c.requires.requesting)
 
 pub returns-clause-leads : goal.returns-clause-leads
 returns-clause-leads c =
@@ -28,8 +27,9 @@ returns-clause-leads c =
     let s2 = shown c.set_session.new.self in
     let h = c.requires.following.follows in
     let h1 = c.in_ok-run_updates.ensures.leads c.requires.following.policy c.requires.following.trace h in
-    let requesting = in_after_writes s s1 c.requires.following.policy c.requires.following.trace c.args.n c.args.n Before Requesting h h1 c.requires.requesting in
-    let room : accessing_among s1.tables.sessions < 65536 = omega (arith, accessing_after_writes s s1 c.requires.following.policy c.requires.following.trace c.args.n Before h h1, c.requires.room) in
+    let requesting = in_after_writes c.updates_write_their_targets.ensures.sessions s s1 c.requires.following.policy c.requires.following.trace c.args.n c.args.n Before Requesting h h1 c.requires.requesting in
+    let room : accessing_among s1.tables.sessions < 65536 = omega (arith, accessing_after_writes c.writes_leave_sessions.ensures.accessing s s1 c.requires.following.policy c.requires.following.trace c.args.n Before h h1, c.requires.room) in
+    let extended-append = c.actions_are_done_in_order.ensures in
     on_ok c.set_session.result
     (λ leads P T h. subst (Follows s2 P) (sym (extended-append T (session_writes P c.args.n Before T) (permit c.args.n ∷ []))) (leads P (extended T (session_writes P c.args.n Before T)) (c.in_ok-run_updates.ensures.leads P T h)))
     (leads_on c.set_session.result s1 s2 (permit c.args.n) _

@@ -36,4 +36,4 @@ returns c =
     (whole_of_right P before c.args.item r c.after-first_pred.result c.after-first_update.result (map predicate_of preds) (map update_of c.slice.result.now)
     c.after-first_pred.ensures (rw (length-map preds predicate_of) c.after-first_update.ensures) (ap (map predicate_of) c.slice-preds.ensures)
     (ap (map update_of) c.slice.ensures) c.in_ok-check_heading.ensures c.in_ok-check_predicates.ensures c.in_ok-check_updates.ensures)
-    c.check_whole.ensures
+    c.check_whole.ensures.told

@@ -1,5 +1,6 @@
 use Rattle.std.proofs.Common.{rules, ◌≡◌, map, sym, subst, ◌∙◌}
 use Rattle.std.specs.Prelude.{is_some}
+use Rattle.ucon_model.specs.LegalRun.{in_text_order}
 use Rattle.ucon_model.specs.Plain.{Bytes}
 use Rattle.ucon_top.specs.declared.outcome.Outcome.{Outcome}
 use Rattle.ucon_top.specs.Closing.{EndsRun, IsWritten}
@@ -23,8 +24,8 @@ returns-in-Ok-clause-run g c = λ P accepts.
     record {
       closed = closed;
       closes = record { stays = c.steps_text-text.ensures.stays; disk_is = c.by.ensures.disk ∙ c.close-disk.ensures.disk; left = rw c.by.ensures.disk c.close-disk.ensures.left };
-      ends = subst (λ (o : Outcome). EndsRun P store closed lines before now o) (sym c.by.ensures.outcome)
-          (ends_so P store closed lines c.in-Ok.text.items stopped before now failed fails (c.in-Ok.ensures.text P accepts) is_stopped c.write_output.result written);
+      ends = subst (λ (o : Outcome). EndsRun in_text_order P store closed lines before now o) (sym c.by.ensures.outcome)
+          (ends_so in_text_order P store closed lines c.in-Ok.text.items stopped before now failed fails (c.in-Ok.ensures.text P accepts) is_stopped c.write_output.result written);
     }
 
 pub returns-in-Err-clause-run : goal.returns-in-Err-clause-run
@@ -36,5 +37,5 @@ returns-in-Err-clause-run g c = λ P accepts.
     record {
       closed = closed;
       closes = record { stays = c.steps_text-text.ensures.stays; disk_is = c.by-in-Err.ensures.disk ∙ c.close-disk.ensures.disk; left = rw c.by-in-Err.ensures.disk c.close-disk.ensures.left };
-      ends = subst (λ (o : Outcome). EndsRun P store closed lines before before o) (sym c.by-in-Err.ensures.outcome) (c.in-Err.ensures.no_memory P accepts);
+      ends = subst (λ (o : Outcome). EndsRun in_text_order P store closed lines before before o) (sym c.by-in-Err.ensures.outcome) (c.in-Err.ensures.no_memory P accepts);
     }

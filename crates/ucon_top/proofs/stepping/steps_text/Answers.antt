@@ -1,16 +1,23 @@
 use Rattle.std.proofs.Common.{map, sym, subst}
 use Rattle.std.specs.Prelude.{Result, Ok, Err, OnErr}
+use Rattle.ucon_model.specs.LegalRun.{in_text_order}
 use Rattle.ucon_store.specs.Kept.{Kept}
 use Rattle.ucon_top.specs.OneAnswer.{entry_of}
 use Rattle.ucon_top.specs.Stepping.{AreAnswered, told_line}
-use Rattle.ucon_top.proofs.Stepwise.{text_read, unanswered, untold}
+use Rattle.ucon_top.proofs.Answering.{AreLegal, run_of_steps, text_read, unanswered, untold}
 use Rattle.ucon_top.proofs.stepping.steps_text.Goals as goal
 
 pub returns-clause-text : goal.returns-clause-text
 returns-clause-text g c = λ P accepts.
     let answers = c.in_ok-text.ensures in
-    text_read P c.outputs_are_read_back.ensures c.args.store.now c.answer_lines.new.store (map entry_of c.args.lines.now) (map told_line c.in_ok-answered.answered.items) _
-    (rw c.slice.ensures at answers.text) (rw c.slice.ensures at answers.fits) (rw c.slice.ensures at answers.clients) (c.in_ok-answered.ensures.steps P accepts)
+    let law = c.runs_over_a_store_are_legal.ensures in
+    let laws : AreLegal = record { legal = law.legal; made = law.made; failed = law.failed } in
+    let lines = map entry_of c.args.lines.now in
+    let told = map told_line c.in_ok-answered.answered.items in
+    let steps = c.in_ok-answered.ensures.steps P accepts in
+    text_read in_text_order P c.args.store.now c.answer_lines.new.store lines told steps.lines_are
+    (run_of_steps laws P c.args.store.now c.answer_lines.new.store lines told steps) c.outputs_are_read_back.ensures _
+    (rw c.slice.ensures at answers.text) (rw c.slice.ensures at answers.fits) (rw c.slice.ensures at answers.clients)
 
 on_err : {T E : Type 0} (r : Result T E) (P : Type 0) → P → OnErr r P
 on_err (Ok v) P p = tt
@@ -18,12 +25,21 @@ on_err (Err e) P p = p
 
 pub returns-in_err-answered-clause-no_memory : goal.returns-in_err-answered-clause-no_memory
 returns-in_err-answered-clause-no_memory g c =
+    let law = c.runs_over_a_store_are_legal.ensures in
+    let laws : AreLegal = record { legal = law.legal; made = law.made; failed = law.failed } in
     let lines = map entry_of c.args.lines.now in
     let old = c.args.store.now in
     on_err c.from_residual.result _ (λ P accepts.
-    subst (λ (new : Kept g.row.D.Denot). AreAnswered P old new lines (λ told. Unit {0})) (sym c.in_err-answered.ensures.err) (unanswered P old lines c.requires))
+    subst (λ (new : Kept g.row.D.Denot). AreAnswered in_text_order P old new lines (λ told. Unit {0})) (sym c.in_err-answered.ensures.err)
+    (unanswered laws P in_text_order old lines c.requires))
 
 pub returns-in_err-text-clause-no_memory : goal.returns-in_err-text-clause-no_memory
 returns-in_err-text-clause-no_memory g c =
+    let law = c.runs_over_a_store_are_legal.ensures in
+    let laws : AreLegal = record { legal = law.legal; made = law.made; failed = law.failed } in
+    let lines = map entry_of c.args.lines.now in
+    let told = map told_line c.in_ok-answered.answered.items in
     on_err c.from_residual-in_err-text.result _ (λ P accepts.
-    untold P c.args.store.now c.answer_lines.new.store (map entry_of c.args.lines.now) (map told_line c.in_ok-answered.answered.items) (c.in_ok-answered.ensures.steps P accepts))
+    let steps = c.in_ok-answered.ensures.steps P accepts in
+    untold in_text_order P c.args.store.now c.answer_lines.new.store lines told steps.lines_are
+    (run_of_steps laws P c.args.store.now c.answer_lines.new.store lines told steps))

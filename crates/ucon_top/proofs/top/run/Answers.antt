@@ -1,23 +1,52 @@
-use Rattle.std.specs.Prelude.{Option, Some, None, IfSome}
-use Rattle.ucon_top.specs.declared.form.Form.{Form}
-use Rattle.ucon_top.specs.Form.{IsPlay}
-use Rattle.ucon_top.specs.Played.{HasPlayedInput}
-use Rattle.ucon_top.proofs.Playing.{unread_played}
+use Rattle.std.proofs.Common.{◌≡◌, true, map}
+use Rattle.std.specs.Prelude.{Some, string_bytes}
+use Rattle.ucon_top.specs.declared.form.Form.TheVariants.{Serve}
+use Rattle.ucon_top.specs.Form.{asks_for_threads, form_of}
+use Rattle.ucon_top.proofs.Forms.{threads_are_serve}
 use Rattle.ucon_top.proofs.top.run.Goals as goal
 
--- whatever the form is
-of_each : (o : Option Form) (P : Form → Type 0) → ((form : Form) → P form) → IfSome o P
-of_each None P all = tt
-of_each (Some form) P all = all form
+pub returns-then-asks_for_threads-clause-usage : goal.returns-then-asks_for_threads-clause-usage
+returns-then-asks_for_threads-clause-usage g c =
+    let asks : asks_for_threads (form_of (map (λ w. string_bytes w) c.args.words.now)) ≡ true = cc in
+    let is : form_of (map (λ w. string_bytes w) c.args.words.now) ≡ Some Serve = threads_are_serve (form_of (map (λ w. string_bytes w) c.args.words.now)) asks in
+    rw is ((λ usage. absurd (c.serve_input.ensures.usage usage)), (λ none. absurd (cc none)))
 
-pub returns-in-Err-clause-played : goal.returns-in-Err-clause-played
-returns-in-Err-clause-played g c =
-    let input = g.S.Source.left c.args.input.now in
-    let was = g.K.Sink.contents c.args.out.now in
-    let played : HasPlayedInput g.D.Disk.contents g.D.Disk.images g.D.Disk.moment g.D.Disk.images_since g.D.Disk.faults c.by-in-Err.result.outcome input c.args.disk c.by-in-Err.result.disk was was =
-    rw (c.by-in-Err.ensures.outcome, c.by-in-Err.ensures.disk) (
-    unread_played g.D.Disk.contents g.D.Disk.images g.D.Disk.moment g.D.Disk.images_since g.D.Disk.faults c.in-Err.outcome input
-    (g.S.Source.faults c.args.input.now) (g.S.Source.faults c.document_bytes.new.input) c.args.disk was was c.in-Err.ensures.ends
-    ) in
-    of_each _ (λ (form : Form). IsPlay form → HasPlayedInput g.D.Disk.contents g.D.Disk.images g.D.Disk.moment g.D.Disk.images_since g.D.Disk.faults c.by-in-Err.result.outcome input c.args.disk c.by-in-Err.result.disk was was)
-    (λ form is_play. played)
+pub returns-then-asks_for_threads-clause-refused : goal.returns-then-asks_for_threads-clause-refused
+returns-then-asks_for_threads-clause-refused g c =
+    let asks : asks_for_threads (form_of (map (λ w. string_bytes w) c.args.words.now)) ≡ true = cc in
+    rw (threads_are_serve (form_of (map (λ w. string_bytes w) c.args.words.now)) asks) c.serve_input.ensures.refused
+
+pub returns-then-asks_for_threads-clause-accepted : goal.returns-then-asks_for_threads-clause-accepted
+returns-then-asks_for_threads-clause-accepted g c =
+    let asks : asks_for_threads (form_of (map (λ w. string_bytes w) c.args.words.now)) ≡ true = cc in
+    rw (threads_are_serve (form_of (map (λ w. string_bytes w) c.args.words.now)) asks) c.serve_input.ensures.accepted
+
+pub returns-then-asks_for_threads-clause-read : goal.returns-then-asks_for_threads-clause-read
+returns-then-asks_for_threads-clause-read g c = λ of_accepted.
+    let asks : asks_for_threads (form_of (map (λ w. string_bytes w) c.args.words.now)) ≡ true = cc in
+    rw (threads_are_serve (form_of (map (λ w. string_bytes w) c.args.words.now)) asks) (λ reads. c.serve_input.ensures.read of_accepted)
+
+pub returns-then-asks_for_threads-clause-done : goal.returns-then-asks_for_threads-clause-done
+returns-then-asks_for_threads-clause-done g c = λ done.
+    let asks : asks_for_threads (form_of (map (λ w. string_bytes w) c.args.words.now)) ≡ true = cc in
+    rw (threads_are_serve (form_of (map (λ w. string_bytes w) c.args.words.now)) asks) (λ alone. absurd alone)
+
+pub returns-then-asks_for_threads-clause-cut_short : goal.returns-then-asks_for_threads-clause-cut_short
+returns-then-asks_for_threads-clause-cut_short g c = λ fault.
+    let asks : asks_for_threads (form_of (map (λ w. string_bytes w) c.args.words.now)) ≡ true = cc in
+    rw (threads_are_serve (form_of (map (λ w. string_bytes w) c.args.words.now)) asks) (λ alone. absurd alone)
+
+pub returns-then-asks_for_threads-clause-unread : goal.returns-then-asks_for_threads-clause-unread
+returns-then-asks_for_threads-clause-unread g c =
+    let asks : asks_for_threads (form_of (map (λ w. string_bytes w) c.args.words.now)) ≡ true = cc in
+    rw (threads_are_serve (form_of (map (λ w. string_bytes w) c.args.words.now)) asks) (λ unread. absurd (unread tt))
+
+pub returns-then-asks_for_threads-clause-played : goal.returns-then-asks_for_threads-clause-played
+returns-then-asks_for_threads-clause-played g c =
+    let asks : asks_for_threads (form_of (map (λ w. string_bytes w) c.args.words.now)) ≡ true = cc in
+    rw (threads_are_serve (form_of (map (λ w. string_bytes w) c.args.words.now)) asks) (λ has_journal. c.serve_input.ensures.played)
+
+pub returns-then-asks_for_threads-clause-alone : goal.returns-then-asks_for_threads-clause-alone
+returns-then-asks_for_threads-clause-alone g c =
+    let asks : asks_for_threads (form_of (map (λ w. string_bytes w) c.args.words.now)) ≡ true = cc in
+    rw (threads_are_serve (form_of (map (λ w. string_bytes w) c.args.words.now)) asks) (λ alone. absurd alone)

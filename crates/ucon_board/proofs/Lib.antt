@@ -1,0 +1,5 @@
+pub mod Prefixes
+pub mod Boards
+pub mod Adding
+pub mod RowsKept
+pub mod Keeping

@@ -1,0 +1,110 @@
+-- Lines that were answered over a store by a legal run, and the output of their answers.
+use Rattle.std.proofs.Common.{◌≡◌, Bool, true, false, List, [], ◌∷◌, map, refl, sym, ap, ◌∙◌, inl}
+use Rattle.std.specs.Prelude.{◌<◌, IsTrue, Option, Some, None, if◌then◌else◌}
+use Rattle.std.specs.Option.{option_to_list}
+use Rattle.std.specs.List.{filter}
+use Rattle.ucon_base.specs.Elements.{Each, each_map}
+use Rattle.ucon_model.specs.declared.command.Caller.{Caller}
+use Rattle.ucon_model.specs.declared.command.Entry.{Entry}
+use Rattle.ucon_model.specs.Plain.{Bytes, PlainPolicy}
+use Rattle.ucon_model.specs.Output.{FitsLine, answers_read, output}
+use Rattle.ucon_model.specs.History.{History}
+use Rattle.ucon_model.specs.LegalRun.{Answered, no_memory, Saw, StaysStopped, AreInOrder, IsLegalRun, history_made, in_text_order, is_disk_fault}
+use Rattle.ucon_model.specs.StoredRun.{LeadsTo, failed_line}
+use Rattle.ucon_store.specs.Kept.{Kept}
+use Rattle.ucon_client.specs.Clients.{faulted}
+use Rattle.ucon_top.specs.Stepping.{AreAnswered, HaveOutput, HaveSteps, IsRunBetween}
+
+-- what the laws of runs over a store say
+pub record AreLegal : Type 0 where
+  pub legal : (P : PlainPolicy) (G : History) (told : List Answered) (H : History) (failed : Option Entry) → LeadsTo P G told H failed → IsLegalRun P in_text_order G told
+  pub made : (P : PlainPolicy) (G : History) (told : List Answered) (H : History) (failed : Option Entry) → LeadsTo P G told H failed → history_made G told ≡ H
+  pub failed : (P : PlainPolicy) (G : History) (told : List Answered) (H : History) (failed : Option Entry) → LeadsTo P G told H failed → failed_line told ≡ failed
+
+-- who sees fewer answers is owed less
+fewer_seen : (sees : Caller → Caller → Bool) (told : List Answered) → AreInOrder in_text_order told → AreInOrder sees told
+fewer_seen sees [] h = tt
+fewer_seen sees (t ∷ told) h = (
+  each_map (λ (later : Answered). IsTrue (in_text_order t.line.caller later.line.caller) → Saw t.answer later.answer × StaysStopped t.answer later.answer)
+      (λ (later : Answered). IsTrue (sees t.line.caller later.line.caller) → Saw t.answer later.answer × StaysStopped t.answer later.answer)
+      (λ later owed seen. owed refl) told h.0,
+  fewer_seen sees told h.1,
+)
+
+abbrev wants_memory : Entry → Answered
+wants_memory e = record { line = e; answer = no_memory }
+
+lines_wanting : (lines : List Entry) → map (λ (t : Answered). t.line) (map wants_memory lines) ≡ lines
+lines_wanting [] = refl
+lines_wanting (e ∷ lines) = ap (λ (es : List Entry). e ∷ es) (lines_wanting lines)
+
+leads_nowhere : (P : PlainPolicy) (H : History) (lines : List Entry) → LeadsTo P H (map wants_memory lines) H None
+leads_nowhere P H [] = (refl, refl)
+leads_nowhere P H (e ∷ lines) = inl (tt, leads_nowhere P H lines)
+
+module _ {D : Type 0} (laws : AreLegal) (P : PlainPolicy) where
+  -- steps in the order of the text
+  pub run_of_steps : (old new : Kept D) (lines : List Entry) (told : List Answered) → HaveSteps P old new lines told → IsRunBetween in_text_order P old new told
+  run_of_steps old new lines told steps = record {
+    legal = laws.legal P old.entries told new.entries new.mark steps.leads;
+    made = laws.made P old.entries told new.entries new.mark steps.leads;
+    failed = laws.failed P old.entries told new.entries new.mark steps.leads;
+  }
+
+  -- where there is no room for the answers, there was no memory for any line
+  pub unanswered : (sees : Caller → Caller → Bool) (store : Kept D) (lines : List Entry) → store.mark ≡ None → AreAnswered sees P store store lines (λ told. Unit {0})
+  unanswered sees store lines none =
+      let run = leads_nowhere P store.entries lines in
+      let legal = laws.legal P store.entries (map wants_memory lines) store.entries None run in record {
+        told = map wants_memory lines;
+        lines_are = lines_wanting lines;
+        run = record {
+          legal = record {
+            places = legal.places;
+            replies = legal.replies;
+            order = fewer_seen sees (map wants_memory lines) legal.order;
+            causes = legal.causes;
+          };
+          made = laws.made P store.entries (map wants_memory lines) store.entries None run;
+          failed = laws.failed P store.entries (map wants_memory lines) store.entries None run ∙ sym none;
+        };
+        is_so = tt;
+      }
+
+-- ---- the output
+
+abbrev pub AreReadBack : Type 0
+AreReadBack = (told : List Answered) → Each (λ t. FitsLine t.answer) told → Each (λ t. t.line.caller.0 < 256) told
+    → answers_read (map (λ t. t.line) told) (output told) ≡ Some told
+
+module _ {D : Type 0} (sees : Caller → Caller → Bool) (P : PlainPolicy) (old new : Kept D) (lines : List Entry) (told : List Answered)
+    (lines_are : map (λ (t : Answered). t.line) told ≡ lines) (run : IsRunBetween sees P old new told) where
+  -- the output of answers is read back
+  pub text_read : AreReadBack → (text : Bytes) → text ≡ output told → Each (λ t. FitsLine t.answer) told → Each (λ t. t.line.caller.0 < 256) told
+      → AreAnswered sees P old new lines (HaveOutput (λ out. out ≡ text) lines)
+  text_read back text is fits clients = record {
+    told = told;
+    lines_are = lines_are;
+    run = run;
+    is_so = (ap (λ (es : List Entry). answers_read es (output told)) (sym lines_are) ∙ back told fits clients, sym is);
+  }
+
+  -- answers that are not written
+  pub untold : AreAnswered sees P old new lines (λ told. Unit {0})
+  untold = record { told = told; lines_are = lines_are; run = run; is_so = tt }
+
+-- ---- the line that failed
+
+failed_by : (b : Bool) (t : Answered) (told : List Answered) (mark : Option Entry)
+    → (map (λ (s : Answered). s.line) (filter (λ (s : Answered). is_disk_fault s.answer) told) ≡ option_to_list mark → failed_line told ≡ mark)
+    → map (λ (s : Answered). s.line) (if b then t ∷ filter (λ (s : Answered). is_disk_fault s.answer) told else filter (λ (s : Answered). is_disk_fault s.answer) told) ≡ option_to_list mark
+    → (if b then Some t.line else failed_line told) ≡ mark
+failed_by true t told None later is = absurd (cc is)
+failed_by true t told (Some e) later is = let same : t.line ≡ e = cc (is) in ap Some same
+failed_by false t told mark later is = later is
+
+-- where the lines that met a disk fault are one at most, the first one is that
+pub failed_first : (told : List Answered) (mark : Option Entry) → faulted told ≡ option_to_list mark → failed_line told ≡ mark
+failed_first [] None is = refl
+failed_first [] (Some e) is = absurd (cc is)
+failed_first (t ∷ told) mark is = failed_by (is_disk_fault t.answer) t told mark (failed_first told mark) is

@@ -1,0 +1,126 @@
+//! Serves a document over a journal: each client in a thread of its own.
+
+ghost use Rattle.std.specs.Prelude.{◌≡◌, ◌<◌, ◌≤◌, length, map, Some, None};
+ghost use Rattle.ucon_base.specs.Elements.{Each};
+ghost use Rattle.ucon_disk.specs.Causes.{raised};
+ghost use Rattle.ucon_flow.specs.Causes.{Rose};
+ghost use Rattle.ucon_model.specs.LegalRun.{own_answers};
+ghost use Rattle.ucon_model.specs.Plain.{PlainPolicy};
+ghost use Rattle.ucon_syntax.specs.Policies.{accepted};
+ghost use Rattle.ucon_store.specs.Kept.{Kept};
+ghost use Rattle.ucon_store.specs.Stays.{Stays};
+ghost use Rattle.ucon_client.specs.Answers.{IsAnswered, told_in};
+ghost use Rattle.ucon_client.specs.Dividing.{by_client};
+ghost use Rattle.ucon_top.specs.Accepted.{IsAccepted, IsRefusedBy};
+ghost use Rattle.ucon_top.specs.Closing.{IsClosedRun, IsOfRun};
+ghost use Rattle.ucon_top.specs.Ending.{IsOfAccepted, IsOfDocument, IsUntouched, IsUnwritten, status_of};
+ghost use Rattle.ucon_top.specs.OneAnswer.{entry_of};
+ghost use Rattle.ucon_top.specs.Played.{HasPlayed};
+ghost use Rattle.ucon_top.specs.Stepping.{IsRunBetween};
+
+use crate::document::read_accepted;
+use crate::form::Form;
+use crate::outcome::{Ended, Outcome};
+use crate::parts_text::parts_text;
+use crate::play::write_output;
+use std::alloc::Global;
+use std::sync::Wait;
+use std::thread::Threads;
+use ucon_client::{Gate, Part, divide};
+use ucon_disk::Disk;
+use ucon_flow::Sink;
+use ucon_model::{outputs_are_read_back, runs_over_a_store_are_legal};
+use ucon_script::{LineText, policy_part};
+use ucon_state::Engine;
+use ucon_store::Store;
+use ucon_syntax::accepted_texts_spell_typed_policies;
+
+/// Runs the document that the bytes are over the journal on the disk, each client in a thread of its own, and writes the output, client by
+/// client, when all threads have returned. The gate is told of each line.
+pub fn serve<E: Engine + Send, K: Sink, D: Disk + Send, G: Gate + Sync, R: Threads + Wait + Sync>(
+    rt: &R,
+    alloc: Global,
+    bytes: &[u8],
+    out: &mut K,
+    disk: D,
+    gate: &G,
+) -> Ended<D>
+    requires { length bytes.now ≤ 4194304 }
+    ensures status { result.status ≡ status_of result.outcome }
+    ensures of_document { IsOfDocument result.outcome }
+    ensures refused { IsRefusedBy result.outcome bytes.now }
+    ensures accepted { IsOfAccepted result.outcome → IsAccepted bytes.now }
+    ensures sink { result.outcome ≡ Outcome.SinkFault → Rose (K.faults out.old) (K.faults out.new) }
+    ensures played { HasPlayed D.contents D.images D.moment D.images_since D.faults Form.Serve result.outcome bytes.now disk result.disk
+        (K.contents out.old) (K.contents out.new) }
+    ensures fault { result.outcome ≡ Outcome.DiskFault → D.faults result.disk ≡ raised (D.faults disk) }
+    ensures untouched { IsUntouched result.outcome → result.disk ≡ disk }
+    ensures unwritten { IsUnwritten result.outcome → out.new ≡ out.old }
+{
+    accepted_texts_spell_typed_policies();
+    let script = match read_accepted(alloc, bytes) {
+        Ok(script) => script,
+        Err(refused) => return Ended::by(Outcome::from(refused), disk),
+    };
+    match Store::<E, D>::open(alloc, policy_part(bytes), disk) {
+        Ok(store) => serve_lines(rt, alloc, store, script.lines.slice(), out, gate),
+        Err((disk, fault)) => Ended::by(Outcome::from(fault), disk),
+    }
+}
+
+/// Answers the lines of all clients, closes the store, and writes the output.
+fn serve_lines<E: Engine + Send, K: Sink, D: Disk + Send, G: Gate + Sync, R: Threads + Wait + Sync>(
+    rt: &R,
+    alloc: Global,
+    store: Store<E, D>,
+    lines: &[LineText<'_>],
+    out: &mut K,
+    gate: &G,
+) -> Ended<D>
+    requires { store.mark ≡ None }
+    ensures status { result.status ≡ status_of result.outcome }
+    ensures of_run { IsOfRun result.outcome }
+    ensures run { (P : PlainPolicy) → accepted store.policy ≡ Some P
+        → IsClosedRun D.contents D.images D.moment D.images_since D.faults own_answers P store (by_client (map entry_of lines.now))
+        result.outcome result.disk (K.contents out.old) (K.contents out.new) }
+    ensures sink { result.outcome ≡ Outcome.SinkFault → Rose (K.faults out.old) (K.faults out.new) }
+    ensures unwritten { IsUnwritten result.outcome → out.new ≡ out.old }
+{
+    runs_over_a_store_are_legal();
+    let parts = match divide(alloc, lines) {
+        Ok(parts) => parts,
+        Err(refused) => return Ended::by(Outcome::NoMemory(refused), store.close()),
+    };
+    match ucon_client::serve(rt, alloc, store, parts, gate) {
+        Ok((store, parts)) => end_served(alloc, store, &parts, out),
+        Err((store, _, refused)) => Ended::by(Outcome::NoMemory(refused), store.close()),
+    }
+}
+
+/// Closes the store over which all parts were answered, and writes their output.
+fn end_served<E: Engine, K: Sink, D: Disk>(
+    alloc: Global,
+    store: Store<E, D>,
+    parts: &[Part],
+    out: &mut K,
+) -> Ended<D>
+    requires all { Each IsAnswered parts.now }
+    requires clients { Each (λ t. t.line.caller.0 < 64) (told_in parts.now) }
+    ensures status { result.status ≡ status_of result.outcome }
+    ensures of_run { IsOfRun result.outcome }
+    ensures run { (P : PlainPolicy) (opened : Kept D) → Stays D.contents D.images D.moment D.images_since D.faults opened store
+        → IsRunBetween own_answers P opened store (told_in parts.now)
+        → IsClosedRun D.contents D.images D.moment D.images_since D.faults own_answers P opened (map (λ t. t.line) (told_in parts.now))
+        result.outcome result.disk (K.contents out.old) (K.contents out.new) }
+    ensures sink { result.outcome ≡ Outcome.SinkFault → Rose (K.faults out.old) (K.faults out.new) }
+    ensures unwritten { IsUnwritten result.outcome → out.new ≡ out.old }
+{
+    outputs_are_read_back();
+    let text = parts_text(alloc, parts);
+    let stopped = store.failed().is_some();
+    let disk = store.close();
+    match text {
+        Ok(text) => Ended::by(write_output(out, &text, stopped), disk),
+        Err(refused) => Ended::by(Outcome::NoMemory(refused), disk),
+    }
+}
