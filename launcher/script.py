@@ -17,6 +17,7 @@ FORMS = {
     "end": "n",
     "look": "n",
     "value": "SIDE NAME ATTR",
+    "amend": "POLICY",
 }
 NAME = re.compile(rb"[a-z][a-z0-9_]{0,31}")
 INTEGER = re.compile(rb"0|-?[1-9][0-9]*")
@@ -33,6 +34,7 @@ ALLOWED = {
     "n": "a session's number, 0 to 4294967295, without needless zeros",
     "VALUE": 'a value: an integer from -10^15 to 10^15, a text of at most 64 printable bytes in quotes without `"`,'
     ' or a set of rising texts, {"a","b"}, without blanks between them',
+    "POLICY": "a policy on one line, as one above the divider might be; an empty one is the one space behind `amend`",
 }
 
 
@@ -70,6 +72,9 @@ def fits(kind: str, raw: bytes) -> bool:
         return SESSION.fullmatch(raw) is not None and int(raw) < 2**32
     if kind == "T":
         return is_integer(raw)
+    if kind == "POLICY":
+        # The program alone judges a policy, and the word that it refused is this one.
+        return False
     return is_value(raw) if kind == "VALUE" else NAME.fullmatch(raw) is not None
 
 
@@ -83,7 +88,7 @@ def explained(document: Document, kind: str, number: int) -> Iterator[str]:
         "unknown word": unknown_word,
         "wrong count": wrong_count,
         "bad word": bad_word,
-        "too long": lambda *_: (Span(span.start, span.start + 1), ["a command has at most 8,192 bytes"]),
+        "too long": too_long,
         "too many lines": lambda *_: (span, ["a script has at most 262,144 commands"]),
     }[kind](line, span.start)
     if line.endswith(b"\r"):
@@ -109,6 +114,11 @@ def bad_heading(line: bytes, at: int):
 def too_many_clients(line: bytes, at: int):
     word = words_of(line, at)[1]
     return Span(word.at, word.at + len(word.raw)), ["clients are numbered from 0 to 63"]
+
+
+def too_long(line: bytes, at: int):
+    amends = line.startswith(b"amend ")
+    return Span(at, at + 1), ["a line that begins with `amend ` has at most 65,542 bytes" if amends else "a command has at most 8,192 bytes"]
 
 
 def no_word(line: bytes, at: int):
@@ -137,7 +147,7 @@ def form_text(first: str) -> str:
 
 
 def takes_rest(first: str) -> bool:
-    return FORMS[first].endswith("VALUE")
+    return FORMS[first].split()[-1] in ("VALUE", "POLICY")
 
 
 def wrong_count(line: bytes, at: int):
@@ -169,6 +179,8 @@ def bad_word(line: bytes, at: int):
 
 def reasons(kind: str, raw: bytes) -> List[str]:
     """What is known of why a word is refused."""
+    if kind == "POLICY":
+        return ["the policy is refused: alone in a file, `ucon check` tells its first fault and the place"]
     if raw == b"":
         return ["two spaces stand here, where one divides words"]
     if kind == "VALUE" and re.search(rb"[}\"0-9] +#", raw):

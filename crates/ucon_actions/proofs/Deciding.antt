@@ -15,7 +15,7 @@ use Rattle.ucon_model.specs.declared.session.Verdict.{Verdict}
 use Rattle.ucon_model.specs.declared.session.Verdict.TheVariants.{Wait}
 use Rattle.ucon_model.specs.Plain.{Bytes, PlainPolicy}
 use Rattle.ucon_model.specs.Action.{Action, Trace, tries, wait, extended}
-use Rattle.ucon_model.specs.Readings.{session, sessions, accessing, is_accessing, is_accessing_state}
+use Rattle.ucon_model.specs.Readings.{in_force, session, sessions, accessing, is_accessing, is_accessing_state}
 use Rattle.ucon_model.specs.Truth.{Readings, readings}
 use Rattle.ucon_model.specs.Decision.{right_named, verdict}
 use Rattle.ucon_model.specs.Updates.{session_writes}
@@ -72,7 +72,7 @@ accessing_after_writes leave s s' P T m when h h' =
 
 -- ---- what may be asked of a session
 
-pub verdict_same : (s : Shown) (P : PlainPolicy) (T : Trace) → Follows s P T → (n : ℕ) → verdict s.policy (readings_in s.policy s.tables) n ≡ verdict P (readings P T) n
+pub verdict_same : (s : Shown) (P : PlainPolicy) (T : Trace) → Follows s P T → (n : ℕ) → verdict s.policy (readings_in s.policy s.tables) n ≡ verdict (in_force P T) (readings P T) n
 verdict_same s P T h n = ap (λ (R : Readings). verdict s.policy R n) (readings_same s P T h) ∙ ap (λ (Q : PlainPolicy). verdict Q (readings P T) n) h.policy
 
 row_there : (o : Option SessionRow) (state : SessionState) → Has o state → IsSome o
@@ -86,12 +86,12 @@ session_there t n state is = row_there (session_in t n) state is
 -- ---- decisions
 
 -- a wait changes no table
-pub waits : (s : Shown) (P : PlainPolicy) (T : Trace) → Follows s P T → (n : ℕ) (label : Bytes) → IsIn s.tables n Requesting → verdict P (readings P T) n ≡ Wait label
+pub waits : (s : Shown) (P : PlainPolicy) (T : Trace) → Follows s P T → (n : ℕ) (label : Bytes) → IsIn s.tables n Requesting → verdict (in_force P T) (readings P T) n ≡ Wait label
     → Follows s P (wait n label ∷ T)
 waits s P T h n label requesting is = followed_after s P T (wait n label) h (in_after s P T h n Requesting requesting, is)
 
 -- what a verdict makes
-pub makes_by_verdict : (head : Head) (s' : Shown) (P : PlainPolicy) (T : Trace) (n : ℕ) (v : Verdict) → verdict P (readings P T) n ≡ v → Makes head s' P T (by_verdict P T n v)
+pub makes_by_verdict : (head : Head) (s' : Shown) (P : PlainPolicy) (T : Trace) (n : ℕ) (v : Verdict) → verdict (in_force P T) (readings P T) n ≡ v → Makes head s' P T (by_verdict P T n v)
     → Makes head s' P T (decide P T n)
 makes_by_verdict head s' P T n v is h = subst (λ (v : Verdict). Makes head s' P T (by_verdict P T n v)) (sym is) h
 

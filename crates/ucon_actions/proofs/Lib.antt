@@ -2,6 +2,7 @@ pub mod Writes
 pub mod ReadOff
 pub mod Stepping
 pub mod AttributeCells
+pub mod Keeping
 pub mod Making
 pub mod Typed
 pub mod Updated

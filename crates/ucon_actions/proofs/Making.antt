@@ -1,5 +1,5 @@
 -- What may be made: entities and acts.
-use Rattle.std.proofs.Common.{◌≡◌, ◌⊎◌, inl, inr, ◌∙◌, sym, ap, subst, refl, ◌<◌, ℕ, true, length}
+use Rattle.std.proofs.Common.{◌≡◌, ◌⊎◌, inl, inr, ◌∙◌, sym, ap, subst, refl, ◌<◌, ℕ, true, false, length}
 use Rattle.std.specs.Prelude.{ℤ, IsSome, Option, None, is_some}
 use Rattle.ucon_base.specs.declared.value.Side.{Side}
 use Rattle.ucon_base.specs.declared.value.Side.TheVariants as sides
@@ -7,11 +7,13 @@ use Rattle.ucon_model.specs.Plain.{Bytes, PlainPolicy}
 use Rattle.ucon_model.specs.Action.{Trace, act}
 use Rattle.ucon_model.specs.OwnActions.{new_entity, names_act}
 use Rattle.ucon_model.specs.Legal.{IsLegal}
+use Rattle.ucon_model.specs.Reach.{replaces}
 use Rattle.ucon_state.specs.Following.{Follows}
 use Rattle.ucon_state.specs.Shown.{Shown}
 use Rattle.ucon_state.specs.Tables.{entities_of, entity_number, moment_in}
 use Rattle.ucon_state.specs.Applied.{applied, with_entity}
 use Rattle.ucon_actions.proofs.ReadOff.{entity_there, entities_same, moment_same, acts_same}
+use Rattle.ucon_actions.proofs.Stepping.{LeavesPolicy}
 
 pub new_entity_legal : (s : Shown) (P : PlainPolicy) (T : Trace) → Follows s P T → (side : Side) (name : Bytes) → entity_number s.tables side name ≡ None
     → length (entities_of side s.tables) < 16384 → IsLegal P T (new_entity side name)
@@ -23,6 +25,14 @@ new_entity_legal s P T h sides.Object name new room =
 pub new_entity_applied : (s : Shown) (side : Side) (name : Bytes) → with_entity s.policy s.tables side name ≡ applied s.policy (new_entity side name) s.tables
 new_entity_applied s sides.Subject name = refl
 new_entity_applied s sides.Object name = refl
+
+pub new_entity_stays : (s : Shown) (side : Side) (name : Bytes) → LeavesPolicy s (new_entity side name)
+new_entity_stays s sides.Subject name = refl
+new_entity_stays s sides.Object name = refl
+
+pub new_entity_replaces_nothing : (side : Side) (name : Bytes) → replaces (new_entity side name) ≡ false
+new_entity_replaces_nothing sides.Subject name = refl
+new_entity_replaces_nothing sides.Object name = refl
 
 pub act_legal : (s : Shown) (P : PlainPolicy) (T : Trace) → Follows s P T → (u a o : Bytes) → IsSome (entity_number s.tables sides.Subject u) → IsSome (entity_number s.tables sides.Object o)
     → names_act s.policy.rights a ≡ true → IsSome (moment_in s.tables u a o) ⊎ (length s.tables.acts < 1048576) → IsLegal P T (act u a o)

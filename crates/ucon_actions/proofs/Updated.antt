@@ -86,11 +86,11 @@ pub result_admitted : (s : Shown) (P : PlainPolicy) (T : Trace) → Follows s P 
     → IsSomeAnd (declared_attr s.policy.attrs u.side u.attr) (λ d. IsTrue (admits d.kind v))
 result_admitted s P T h n at row u v is there given =
     let g = grounded_row s P T h n row is in
-    let each : Each (ResultFits P T row) (updates_of P row) = typed_updates_fit P h.typed T row h.sound.fit g.0 g.1 in
-    let here : slice_get (updates_of P row) at ≡ Some u = ap (λ (Q : PlainPolicy). slice_get (updates_of Q row) at) (sym h.policy) ∙ there in
-    let fits : AttributeAdmits P u.side u.attr (result P T row u) = each_at (ResultFits P T row) (updates_of P row) at u each here in
+    let each : Each (ResultFits P T row) (updates_of (in_force P T) row) = typed_updates_fit P T h.typed row h.sound.fit g.0 g.1 in
+    let here : slice_get (updates_of (in_force P T) row) at ≡ Some u = ap (λ (Q : PlainPolicy). slice_get (updates_of Q row) at) (sym h.policy) ∙ there in
+    let fits : AttributeAdmits (in_force P T) u.side u.attr (result P T row u) = each_at (ResultFits P T row) (updates_of (in_force P T) row) at u each here in
     subst (λ (Q : PlainPolicy). AttributeAdmits Q u.side u.attr v) (sym h.policy)
-    (subst (AttributeAdmits P u.side u.attr) (sym (value_is s P T h n at row u v is there given)) fits)
+    (subst (AttributeAdmits (in_force P T) u.side u.attr) (sym (value_is s P T h n at row u v is there given)) fits)
 
 -- ---- the trace after it
 
@@ -98,8 +98,8 @@ written : (P : PlainPolicy) (row : SessionRow) (when : When) (u : PlainUpdate) (
     → extended T (cond b (write_of P row u T ∷ []) []) ≡ write_of P row u T ∷ T
 written P row when u T b is = rw is refl
 
-pub one_written : (P : PlainPolicy) (row : SessionRow) (when : When) (at : ℕ) (u : PlainUpdate) (T : Trace) (name : Bytes) (v : Value) → slice_get (updates_of P row) at ≡ Some u
-    → same_when when u.when ≡ true → name ≡ entity_of u.side row → v ≡ result P T row u → write u.side name u.attr v ∷ T ≡ written_out P row when (update_at P row at) T
+pub one_written : (P : PlainPolicy) (row : SessionRow) (when : When) (at : ℕ) (u : PlainUpdate) (T : Trace) (name : Bytes) (v : Value) → slice_get (updates_of (in_force P T) row) at ≡ Some u
+    → same_when when u.when ≡ true → name ≡ entity_of u.side row → v ≡ result P T row u → write u.side name u.attr v ∷ T ≡ written_out P row when (update_at (in_force P T) row at) T
 one_written P row when at u T name v there chosen named is =
     ap (λ (e : Bytes). write u.side e u.attr v ∷ T) named ∙ ap (λ (w : Value). write u.side (entity_of u.side row) u.attr w ∷ T) is
     ∙ sym (ap (λ (o : Option PlainUpdate). written_out P row when (option_to_list o) T) there ∙ written P row when u T (same_when when u.when) chosen)
@@ -112,7 +112,7 @@ on_ok (Err e) f h = h
 
 -- where there is no such session, nothing is written
 pub nothing_written : (P : PlainPolicy) (n : ℕ) (when : When) (T : Trace) → session T n ≡ None → extended T (session_writes P n when T) ≡ T
-nothing_written P n when T none = ap (λ (o : Option SessionRow). extended T (option_map_or (λ row. writes P row when (updates_of P row) T) o [])) none
+nothing_written P n when T none = ap (λ (o : Option SessionRow). extended T (option_map_or (λ row. writes P row when (updates_of (in_force P T) row) T) o [])) none
 
 -- nor where the session's right has no updates
 pub none_to_write : (s : Shown) (P : PlainPolicy) (T : Trace) → Follows s P T → (n : ℕ) (when : When) → updates_in s n ≡ [] → extended T (session_writes P n when T) ≡ T
@@ -126,8 +126,8 @@ none_to_write s P T h n when none =
     by (Some row) none = ap (λ (us : List PlainUpdate). extended T (writes P row when us T)) (ap (λ (Q : PlainPolicy). updates_of Q row) (sym h.policy) ∙ none)
 
 pub session_written : (P : PlainPolicy) (n : ℕ) (when : When) (T : Trace) (row : SessionRow) → session T n ≡ Some row
-    → extended T (session_writes P n when T) ≡ written_out P row when (updates_of P row) T
-session_written P n when T row is = ap (λ (o : Option SessionRow). extended T (option_map_or (λ row. writes P row when (updates_of P row) T) o [])) is
+    → extended T (session_writes P n when T) ≡ written_out P row when (updates_of (in_force P T) row) T
+session_written P n when T row is = ap (λ (o : Option SessionRow). extended T (option_map_or (λ row. writes P row when (updates_of (in_force P T) row) T) o [])) is
 
 -- the writes of updates leave every session
 abbrev pub WritesLeaveSessions : Type 0

@@ -1,5 +1,7 @@
 -- What the code tells of a command's own actions.
-use Rattle.std.specs.Prelude.{◌≡◌}
+use Rattle.std.specs.Prelude.{◌≡◌, Bool, true, false}
+use Rattle.ucon_model.specs.declared.command.Command.{Command}
+use Rattle.ucon_model.specs.declared.command.Command.TheVariants.{Amend}
 use Rattle.ucon_model.specs.declared.reply.Head.{Head}
 use Rattle.ucon_model.specs.Action.{Trace, extended}
 use Rattle.ucon_model.specs.OwnActions.{Own, refuse, tell, make}
@@ -36,3 +38,8 @@ Refuses (NoMemory e) s own = Unit {0}
 abbrev pub Unchanged : ActionFault → Shown → Shown → Type 0
 Unchanged (Refused r) s s' = s' ≡ s
 Unchanged (NoMemory e) s s' = Unit {0}
+
+-- whether a command replaces the policy
+abbrev pub is_amendment : Command → Bool
+is_amendment (Amend a) = true
+is_amendment c = false

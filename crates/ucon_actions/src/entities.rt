@@ -3,7 +3,7 @@
 ghost use Rattle.std.specs.Prelude.{◌≡◌, ◌∷◌, ◌<◌, length, IfErr, IfOk, OnOk, None};
 ghost use Rattle.ucon_model.specs.OwnActions.{is_admin, no_entity, new_entity, full_entities, add_entity};
 ghost use Rattle.ucon_actions.specs.Gives.{Gives, Refuses, Unchanged};
-ghost use Rattle.ucon_actions.specs.Leads.{KeepsBase, Leads};
+ghost use Rattle.ucon_actions.specs.Leads.{IsFollowing, KeepsBase, Leads};
 ghost use Rattle.ucon_state.specs.Shown.{shown};
 ghost use Rattle.ucon_state.specs.Tables.{entities_of, entity_number};
 
@@ -11,7 +11,7 @@ use crate::outcome::{ActionFault, Outcome, require};
 use crate::reading::{entities, has_entity};
 use ucon_base::{Name, NoMemory, Side};
 use ucon_model::{Caller, Head, Refusal};
-use ucon_state::State;
+use ucon_state::{State, cells_are_of_one_attribute};
 
 /// Client 0 alone sets the scene.
 pub fn is_admin(caller: Caller) -> bool
@@ -42,11 +42,13 @@ fn full_entities(side: Side) -> Refusal
 
 /// An entity comes.
 fn make(state: &mut State, side: Side, name: Name) -> Result<(), NoMemory>
+    requires following { IsFollowing (shown state.old) }
     requires new { entity_number (shown state.old).tables side name ≡ None }
     requires room { length (entities_of side (shown state.old).tables) < 16384 }
     ensures leads { OnOk result (Leads (shown state.old) (shown state.new) (λ P T. new_entity side name ∷ T)) }
     ensures base { KeepsBase (shown state.old) (shown state.new) }
 {
+    cells_are_of_one_attribute();
     state.add_entity(side, name)?;
     Ok(())
 }
@@ -58,6 +60,7 @@ pub fn add_entity(
     side: Side,
     name: Name,
 ) -> Result<Outcome, ActionFault>
+    requires { IsFollowing (shown state.old) }
     ensures given { IfOk result (λ o. Gives o (shown state.old) (shown state.new) (λ P T. add_entity T caller side name)) }
     ensures refused { IfErr result (λ e. Refuses e (shown state.old) (λ P T. add_entity T caller side name)) }
     ensures unchanged { IfErr result (λ e. Unchanged e (shown state.old) (shown state.new)) }

@@ -2,6 +2,7 @@
 #![tactic(auto)]
 
 mod acts;
+mod amendments;
 mod attributes;
 mod entities;
 mod environment;
@@ -14,5 +15,5 @@ mod usage;
 pub use outcome::{ActionFault, Outcome};
 pub use own::own_actions;
 pub use reading::{accessing, session, session_state, sessions};
-pub use update::run_updates;
+pub use update::{entity_of, is_of, run_updates, updates_of};
 pub use usage::{is_accessing, revoke};

@@ -1,12 +1,13 @@
 //! A command's own actions, before sessions are rechecked.
 
-ghost use Rattle.std.specs.Prelude.{◌≡◌, IfErr, IfOk};
+ghost use Rattle.std.specs.Prelude.{◌≡◌, false, IfErr, IfOk};
 ghost use Rattle.ucon_model.specs.OwnActions.{own};
-ghost use Rattle.ucon_actions.specs.Gives.{Gives, Refuses, Unchanged};
-ghost use Rattle.ucon_actions.specs.Leads.{IsFollowing, KeepsBase};
+ghost use Rattle.ucon_actions.specs.Gives.{Gives, Refuses, Unchanged, is_amendment};
+ghost use Rattle.ucon_actions.specs.Leads.{IsFollowing, KeepsBase, KeepsOpening};
 ghost use Rattle.ucon_state.specs.Shown.{shown};
 
 use crate::acts::do_act;
+use crate::amendments::replace_policy;
 use crate::attributes::{set_attribute, tell_value};
 use crate::entities::add_entity;
 use crate::environment::{move_tick, set_variable};
@@ -29,7 +30,8 @@ pub fn own_actions(
     ensures given { IfOk result (λ o. Gives o (shown state.old) (shown state.new) (λ P T. own P T caller command.now)) }
     ensures refused { IfErr result (λ e. Refuses e (shown state.old) (λ P T. own P T caller command.now)) }
     ensures unchanged { IfErr result (λ e. Unchanged e (shown state.old) (shown state.new)) }
-    ensures base { KeepsBase (shown state.old) (shown state.new) }
+    ensures base { is_amendment command.now ≡ false → KeepsBase (shown state.old) (shown state.new) }
+    ensures opening { KeepsOpening (shown state.old) (shown state.new) }
 {
     match command {
         Command::Subject(name) => add_entity(state, caller, Side::Subject, *name),
@@ -57,5 +59,6 @@ pub fn own_actions(
         Command::End(n) => end(alloc, state, caller, *n),
         Command::Look(n) => look(state, *n),
         Command::Value { side, name, attr } => tell_value(alloc, state, *side, name, attr),
+        Command::Amend(amend) => replace_policy(alloc, state, caller, amend),
     }
 }

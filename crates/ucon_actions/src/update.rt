@@ -16,7 +16,8 @@ use ucon_eval::result;
 use ucon_model::{Policy, SessionRow, Update, View, When, writes_leave_sessions};
 use ucon_state::State;
 
-fn updates_of<'a>(policy: &'a Policy, row: &SessionRow) -> &'a [Update]
+/// The updates of a session's right in a policy; none where it isn't there.
+pub fn updates_of<'a>(policy: &'a Policy, row: &SessionRow) -> &'a [Update]
     ensures { map update_of result.now ≡ updates_of (policy_of policy.now) row.now }
 {
     match policy.right(&row.right) {
@@ -25,7 +26,8 @@ fn updates_of<'a>(policy: &'a Policy, row: &SessionRow) -> &'a [Update]
     }
 }
 
-fn is_of(u: &Update, when: When) -> bool
+/// Whether an update is of this time.
+pub fn is_of(u: &Update, when: When) -> bool
     ensures { result ≡ same_when when (update_of u.now).when }
 {
     match (when, u.when) {
@@ -37,7 +39,8 @@ fn is_of(u: &Update, when: When) -> bool
     }
 }
 
-fn entity_of(side: Side, row: &SessionRow) -> Name
+/// The session's entity of a side.
+pub fn entity_of(side: Side, row: &SessionRow) -> Name
     ensures { result ≡ entity_of side row.now }
 {
     match side {

@@ -8,7 +8,7 @@ ghost use Rattle.ucon_model.specs.declared.session.SessionState.TheVariants.{Req
 ghost use Rattle.ucon_model.specs.Readings.{is_accessing_state, session};
 ghost use Rattle.ucon_model.specs.Action.{permit, deny, extended};
 ghost use Rattle.ucon_model.specs.Decision.{right_named, verdict};
-ghost use Rattle.ucon_model.specs.OwnActions.{Own, with_own, with_usage, end_usage, is_requesting, decide, try_right, try_again};
+ghost use Rattle.ucon_model.specs.OwnActions.{Own, with_own, with_usage, end_usage, is_requesting, decide, lacks_right, try_right, try_again};
 ghost use Rattle.ucon_model.specs.Settle.{least_failing, revocation};
 ghost use Rattle.ucon_model.specs.Updates.{session_writes};
 ghost use Rattle.ucon_actions.specs.Gives.{Gives, Makes, Refuses, Unchanged};
@@ -159,7 +159,17 @@ pub fn try_right(
     Ok(Outcome::Made(head))
 }
 
-/// Decides afresh on a session that is requesting.
+/// Whether a session is there, and its right is not in the policy in force.
+fn lacks_right(state: &State, n: u32) -> bool
+    ensures { AfterEach (shown state.now) (λ P T. lacks_right P T n ≡ result) }
+{
+    match session(state, n) {
+        Some(row) => find_right(state, &row.right).is_none(),
+        None => false,
+    }
+}
+
+/// Decides afresh on a session that is requesting, whose right is in the policy in force.
 pub fn try_again(
     alloc: Global,
     state: &mut State,
@@ -172,6 +182,7 @@ pub fn try_again(
     ensures unchanged { IfErr result (λ e. Unchanged e (shown state.old) (shown state.new)) }
     ensures base { KeepsBase (shown state.old) (shown state.new) }
 {
+    require(!lacks_right(state, n), Refusal::NoRight)?;
     let row = own_session(state, caller, n)?;
     require(is_requesting(row.state), Refusal::NotRequesting)?;
     require(accessing(state) < 65536, Refusal::FullAccessing)?;

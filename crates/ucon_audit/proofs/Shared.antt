@@ -3,7 +3,7 @@
 use denote.Enum.Declared as enums
 use denote.Struct.Declared as structs
 use denote.Param.Send.{IsSync, enum_sync, recorded_sync, sendable, struct_sync}
-use Rattle.std.proofs.Crossing.{crosses}
+use Rattle.std.proofs.Crossing.{Box-sync, crosses}
 use Rattle.ucon_base.proofs.int.Int.TheSendSync as int
 use Rattle.ucon_base.proofs.value.Value.TheSendSync as value
 use Rattle.ucon_model.proofs.formula.Op.TheSendSync as op
@@ -34,8 +34,10 @@ use Rattle.ucon_model.specs.contracts.policy.Right as Right
 use Rattle.ucon_model.specs.contracts.policy.Test as Test
 use Rattle.ucon_model.specs.contracts.policy.Update as Update
 use Rattle.ucon_state.proofs.change.Change.TheSendSync as change
+use Rattle.ucon_state.proofs.layout.Layout.TheSendSync as layout
 use Rattle.ucon_state.proofs.tables.Tables.TheSendSync as tables
-use Rattle.ucon_state.specs.contracts.change.Change as Change
+use Rattle.ucon_state.specs.contracts.change.Before as Before
+use Rattle.ucon_state.specs.contracts.change.Undo as Undo
 use Rattle.ucon_state.specs.contracts.state.State as State
 
 expr_field_sync : IsSync (Expr.the_field).row
@@ -71,8 +73,20 @@ policy_field_sync = struct_sync (structs.shape Policy.the_type) (rows.the_sync A
 checked_field_sync : IsSync (Checked.the_field).row
 checked_field_sync = struct_sync (structs.shape Checked.the_type) (policy_field_sync, tt)
 
+before_field_sync : IsSync (Before.the_field).row
+before_field_sync = struct_sync (structs.shape Before.the_type) (checked_field_sync, (layout.the_field_sync, tt))
+
+before_sync : IsSync Before.the_row
+before_sync = recorded_sync (Before.the_field).row _ _ (Before.the_type).to_one before_field_sync
+
+undo_field_sync : IsSync (Undo.the_field).row
+undo_field_sync = enum_sync (enums.shape Undo.the_type) ((change.the_field_sync, tt), ((Box-sync Before.the_row before_sync, tt), tt))
+
+undo_sync : IsSync Undo.the_row
+undo_sync = recorded_sync (Undo.the_field).row _ _ (Undo.the_type).to_one undo_field_sync
+
 state_field_sync : IsSync (State.the_field).row
-state_field_sync = struct_sync (structs.shape State.the_type) (global.the_field_sync, (checked_field_sync, (tables.the_field_sync, (vec.the_sync Name.the_row Global.the_row ghosts name.the_sync global.the_sync, (vec.the_sync Change.the_row Global.the_row ghosts change.the_sync global.the_sync, tt)))))
+state_field_sync = struct_sync (structs.shape State.the_type) (global.the_field_sync, (checked_field_sync, (tables.the_field_sync, (vec.the_sync Name.the_row Global.the_row ghosts name.the_sync global.the_sync, (vec.the_sync Undo.the_row Global.the_row ghosts undo_sync global.the_sync, tt)))))
 
 pub state_sync : IsSync State.the_row
 state_sync = recorded_sync (State.the_field).row _ _ (State.the_type).to_one state_field_sync

@@ -16,7 +16,8 @@ use ucon_eval::{typed_tests_make_no_set, views_that_agree_decide_alike};
 use ucon_model::SessionState;
 use ucon_state::{State, tables_keep_what_is_followed};
 
-/// Of these sessions those whose verdict now isn't to permit, in the slice's order, after each trace that the state follows.
+/// Of these sessions those whose verdict now isn't to permit, in the slice's order, after each trace that the state follows, under the policy
+/// in force there. A session whose right an amendment took away is among them, denied by `no_right`.
 pub fn changed_sessions<R: Threads + Sync>(
     rt: &R,
     alloc: Global,

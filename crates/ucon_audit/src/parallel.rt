@@ -1,14 +1,14 @@
 //! A recheck of sessions by several threads, whose answer is that of a plain loop.
 
 ghost use Rattle.std.specs.Prelude.{◌≡◌, true, All, IfOk, IsSome};
-ghost use Rattle.ucon_model.specs.Decision.{verdict};
+ghost use Rattle.ucon_model.specs.Decision.{no_right};
 ghost use Rattle.ucon_eval.specs.Sums.{tests_make_no_set};
-ghost use Rattle.ucon_audit.specs.Recheck.{changed, unless_permitted};
+ghost use Rattle.ucon_audit.specs.Recheck.{changed, unless_permitted, verdict_now};
 
 use rayon::prelude::*;
 use std::alloc::{AllocError, Global};
 use std::thread::Threads;
-use ucon_base::{NoMemory, Rows};
+use ucon_base::{Name, NoMemory, Rows};
 use ucon_eval::verdict;
 use ucon_model::{Verdict, View};
 
@@ -22,12 +22,34 @@ pub struct Changed {
     pub verdict: Verdict,
 }
 
+/// The label by which a session is denied whose right is gone.
+fn no_right() -> Name
+    ensures { result ≡ no_right }
+{
+    match Name::read(b"no_right") {
+        Ok(label) => label,
+        Err(_) => unreachable!(),
+    }
+}
+
+/// The verdict on a session now. A session whose right was taken away by an amendment is denied by `no_right`.
+fn verdict_now<V: View>(view: &V, session: u32) -> Verdict
+    requires there { IsSome ((V.readings view.now).row session) }
+    requires no_set { tests_make_no_set (V.policy view.now) (V.readings view.now) session ≡ true }
+    ensures { result ≡ verdict_now (V.policy view.now) (V.readings view.now) session }
+{
+    match view.right(session) {
+        Some(_) => verdict(view, session),
+        None => Verdict::Deny(no_right()),
+    }
+}
+
 fn recheck_one<V: View>(view: &V, session: u32) -> Option<Changed>
     requires there { IsSome ((V.readings view.now).row session) }
     requires no_set { tests_make_no_set (V.policy view.now) (V.readings view.now) session ≡ true }
-    ensures { result ≡ unless_permitted session (verdict (V.policy view.now) (V.readings view.now) session) }
+    ensures { result ≡ unless_permitted session (verdict_now (V.policy view.now) (V.readings view.now) session) }
 {
-    match verdict(view, session) {
+    match verdict_now(view, session) {
         Verdict::Permit => None,
         verdict => Some(Changed { session, verdict }),
     }
@@ -51,13 +73,14 @@ fn recheck_shared<V: View + Sync, R: Threads + Sync>(
             |n: &u32| -> Option<Changed>
                 requires there { IsSome ((V.readings view.now).row n.now) }
                 requires no_set { tests_make_no_set (V.policy view.now) (V.readings view.now) n.now ≡ true }
-                ensures { result ≡ unless_permitted n.now (verdict (V.policy view.entry.now) (V.readings view.entry.now) n.now) }
+                ensures { result ≡ unless_permitted n.now (verdict_now (V.policy view.entry.now) (V.readings view.entry.now) n.now) }
             { recheck_one(view, *n) },
         )
         .collect(rt, alloc)
 }
 
-/// The sessions whose verdict now isn't to permit, in the slice's order: what a plain loop finds, whatever threads there are.
+/// The sessions whose verdict now isn't to permit, in the slice's order: what a plain loop finds, whatever threads there are. A session whose
+/// right the policy hasn't any more is among them, denied by `no_right`.
 pub fn recheck<V: View + Sync, R: Threads + Sync>(
     rt: &R,
     alloc: Global,

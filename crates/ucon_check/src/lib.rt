@@ -3,6 +3,7 @@
 
 mod cores;
 mod fault;
+mod follow;
 mod items;
 mod places;
 mod sorts;
@@ -12,6 +13,7 @@ mod typing;
 
 pub use cores::{core_models, core_models_of, core_name};
 pub use fault::CheckFault;
+pub use follow::{AmendFault, may_follow};
 pub use places::{places_read, reads};
 pub use typing::check;
 pub use ucon_model::{Core, CoreKind};

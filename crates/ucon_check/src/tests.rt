@@ -1,7 +1,7 @@
 use super::*;
 use std::alloc::Global;
 use std::test::Fail;
-use ucon_base::{Int, Kind, Name, Rows, Side, Value};
+use ucon_base::{Int, Kind, Name, Rows, Side, Text, TextSet, Value};
 use ucon_model::*;
 
 fn read(attr: &[u8]) -> Result<Expr, Fail> {
@@ -100,5 +100,66 @@ fn three_users_at_most(rt: HostRuntime) -> Result<(), Fail> {
         Ref::Object(Name::read(b"most")?),
     ];
     assert_eq!(rt; places.slice(), expected.as_slice());
+    Ok(())
+}
+
+/// The integers from 0 to this one.
+fn up_to(high: i64) -> Result<Kind, Fail> {
+    Ok(Kind::Int {
+        low: Int::zero(),
+        high: Int::new(high).ok_or("in range")?,
+    })
+}
+
+fn first_of(alloc: Global, kind: Kind) -> Result<Value, Fail> {
+    Ok(match kind {
+        Kind::Int { low, high: _ } => Value::Int(low),
+        Kind::Text => Value::Text(Text::read(b"")?),
+        Kind::Set => Value::Set(TextSet::empty(alloc)),
+    })
+}
+
+/// A policy with the attribute `o.a` and the variable `v` of these kinds.
+fn declares(alloc: Global, attr: Kind, env: Kind) -> Result<Checked, Fail> {
+    let mut attrs = Rows::new(alloc);
+    attrs.push(AttrDecl {
+        side: Side::Object,
+        name: Name::read(b"a")?,
+        kind: attr,
+        start: first_of(alloc, attr)?,
+    })?;
+    let mut envs = Rows::new(alloc);
+    envs.push(EnvDecl {
+        name: Name::read(b"v")?,
+        kind: env,
+        start: first_of(alloc, env)?,
+    })?;
+    let rights = Rows::new(alloc);
+    Ok(check(
+        alloc,
+        Policy {
+            attrs,
+            envs,
+            rights,
+        },
+    )?)
+}
+
+#[test]
+fn kinds_are_kept(rt: HostRuntime) -> Result<(), Fail> {
+    let alloc = rt.alloc();
+    let digits = up_to(9)?;
+    let old = declares(alloc, digits, Kind::Text)?;
+    let attr = Some(AmendFault::KindChanged(Name::read(b"a")?));
+    let env = Some(AmendFault::KindChanged(Name::read(b"v")?));
+    for (a, v, expected) in [
+        (digits, Kind::Text, None),
+        (up_to(8)?, Kind::Text, attr),
+        (digits, Kind::Set, env),
+        (Kind::Set, digits, attr),
+    ] {
+        let new = declares(alloc, a, v)?;
+        assert_eq!(rt; may_follow(&old, &new).err(), expected);
+    }
     Ok(())
 }

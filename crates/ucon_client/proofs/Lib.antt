@@ -10,3 +10,4 @@ pub mod Starting
 pub mod Parts
 pub mod Ending
 pub mod Divided
+pub mod Crossing

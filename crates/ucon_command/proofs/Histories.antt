@@ -17,11 +17,12 @@ use Rattle.ucon_model.specs.Plain.{Bytes, PlainPolicy, PlainReply}
 use Rattle.ucon_model.specs.Spelling.{reply_spelling}
 use Rattle.ucon_command.specs.Payloads.{AreSteps, IsStep, most_told}
 use Rattle.ucon_command.proofs.Payloads.{payload_back, payload_is, payload_short}
+use Rattle.ucon_command.proofs.ReadLines.{Accepts}
 
 -- ---- the texts of steps
 
-pub step_back : (t : Told) → IsStep t → payload_read (payload_spelling t) ≡ Ok t
-step_back t is = payload_back t is.client is.command is.reply
+pub step_back : (reads : Bytes → Option PlainPolicy) → Accepts reads → (t : Told) → IsStep t → payload_read reads (payload_spelling t) ≡ Ok t
+step_back reads accepts t is = payload_back reads accepts t is.client is.command is.reply
 
 pub step_short : (t : Told) → IsStep t → length (payload_spelling t) ≤ most_told t.reply
 step_short t is = payload_short t (omega (arith, is.client)) is.command is.reply
@@ -58,16 +59,16 @@ and_false false = refl
 
 -- ---- one record
 
-pub untaken : (P : PlainPolicy) (H : History) (payload : Bytes) (place : ℕ) → payload_read payload ≡ Err place → taken P H payload ≡ None
+pub untaken : (reads : Bytes → Option PlainPolicy) (P : PlainPolicy) (H : History) (payload : Bytes) (place : ℕ) → payload_read reads payload ≡ Err place → taken reads P H payload ≡ None
 unfolding taken
-untaken P H payload place h =
+untaken reads P H payload place h =
     ap (λ r. cond (nat_lt most_payload (length payload)) None (option_and_then (with_step P H) (result_ok r))) h ∙ either_none (nat_lt most_payload (length payload))
 
-pub untaken_long : (P : PlainPolicy) (H : History) (payload : Bytes) → most_payload < length payload → taken P H payload ≡ None
+pub untaken_long : (reads : Bytes → Option PlainPolicy) (P : PlainPolicy) (H : History) (payload : Bytes) → most_payload < length payload → taken reads P H payload ≡ None
 unfolding taken
-untaken_long P H payload lt = ap (λ b. cond b None (option_and_then (with_step P H) (result_ok (payload_read payload)))) (lt-ltb most_payload (length payload) lt)
+untaken_long reads P H payload lt = ap (λ b. cond b None (option_and_then (with_step P H) (result_ok (payload_read reads payload)))) (lt-ltb most_payload (length payload) lt)
 
-module _ (tells : (r : PlainReply) → tells_change (reply_spelling r) ≡ changes r) where
+module _ (reads : Bytes → Option PlainPolicy) (tells : (r : PlainReply) → tells_change (reply_spelling r) ≡ changes r) where
   same_changes : (r s : PlainReply) → reply_spelling r ≡ reply_spelling s → changes r ≡ changes s
   same_changes r s h = sym (tells r) ∙ ap tells_change h ∙ tells s
 
@@ -90,43 +91,43 @@ module _ (tells : (r : PlainReply) → tells_change (reply_spelling r) ≡ chang
       → (changes t.reply && bytes_eq (reply_spelling t.reply) (reply_spelling s)) ≡ (changes s && bytes_eq (payload_spelling (told (entry_told t) s)) payload)
   tests_agree t s payload is = tests_from (entry_told t) t.reply s _ _ refl refl ∙ ap (λ (bs : Bytes). changes s && bytes_eq (payload_spelling (told (entry_told t) s)) bs) is
 
-  pub taken_as_spelled : (P : PlainPolicy) (H : History) (payload : Bytes) (t : Told) → length payload ≤ most_payload → payload_read payload ≡ Ok t
-      → taken P H payload ≡ (if changes (said P H t.caller t.command) && bytes_eq (payload_spelling (told (entry_told t) (said P H t.caller t.command))) payload then Some (H ++ entry_told t ∷ []) else None)
+  pub taken_as_spelled : (P : PlainPolicy) (H : History) (payload : Bytes) (t : Told) → length payload ≤ most_payload → payload_read reads payload ≡ Ok t
+      → taken reads P H payload ≡ (if changes (said P H t.caller t.command) && bytes_eq (payload_spelling (told (entry_told t) (said P H t.caller t.command))) payload then Some (H ++ entry_told t ∷ []) else None)
   unfolding taken
   taken_as_spelled P H payload t short read =
       let fits : nat_lt most_payload (length payload) ≡ false = le-ltb most_payload (length payload) short in
-      let tests = tests_agree t (said P H t.caller t.command) payload (payload_is payload t read) in
-      ap (λ b. cond b None (option_and_then (with_step P H) (result_ok (payload_read payload)))) fits
+      let tests = tests_agree t (said P H t.caller t.command) payload (payload_is reads payload t read) in
+      ap (λ b. cond b None (option_and_then (with_step P H) (result_ok (payload_read reads payload)))) fits
       ∙ ap (λ r. option_and_then (with_step P H) (result_ok r)) read
       ∙ ap (λ b. cond b (Some (H ++ entry_told t ∷ [])) None) tests
 
-  pub taken_next : (P : PlainPolicy) (H : History) (e : Entry) → IsStep (told e (said P H e.caller e.command)) → IsTrue (changes (said P H e.caller e.command))
-      → taken P H (payload_spelling (told e (said P H e.caller e.command))) ≡ Some (H ++ e ∷ [])
-  taken_next P H e is changing =
+  pub taken_next : Accepts reads → (P : PlainPolicy) (H : History) (e : Entry) → IsStep (told e (said P H e.caller e.command)) → IsTrue (changes (said P H e.caller e.command))
+      → taken reads P H (payload_spelling (told e (said P H e.caller e.command))) ≡ Some (H ++ e ∷ [])
+  taken_next accepts P H e is changing =
       let t : Told = told e (said P H e.caller e.command) in
-      taken_as_spelled P H (payload_spelling t) t (step_fits t is) (step_back t is)
+      taken_as_spelled P H (payload_spelling t) t (step_fits t is) (step_back reads accepts t is)
       ∙ ap (λ b. cond (b && bytes_eq (payload_spelling t) (payload_spelling t)) (Some (H ++ e ∷ [])) None) changing
       ∙ ap (λ b. cond b (Some (H ++ e ∷ [])) None) (same_bytes (payload_spelling t))
 
   -- ---- what is written is found
 
-  found-behind : (text : Bytes) (P : PlainPolicy) (rest front : History) (number gate : ℕ) → IsProperFrom P front rest → AreSteps P front rest
-      → found_behind text P front number gate (payloads_behind P front rest) ≡ holds text P (front ++ rest) (gate_behind gate (payloads_behind P front rest))
-  found-behind text P [] front number gate proper steps = ap (λ H. holds text P H gate) (sym (append-nil front))
-  found-behind text P (e ∷ rest) front number gate proper steps =
+  found-behind : Accepts reads → (text : Bytes) (P : PlainPolicy) (rest front : History) (number gate : ℕ) → IsProperFrom P front rest → AreSteps P front rest
+      → found_behind reads text P front number gate (payloads_behind P front rest) ≡ holds text P (front ++ rest) (gate_behind gate (payloads_behind P front rest))
+  found-behind accepts text P [] front number gate proper steps = ap (λ H. holds text P H gate) (sym (append-nil front))
+  found-behind accepts text P (e ∷ rest) front number gate proper steps =
       let payload : Bytes = payload_spelling (told e (said P front e.caller e.command)) in
-      ap (λ o. unwrap_or (option_map (λ later. found_behind text P later (number + 1) (next_gate gate payload) (payloads_behind P (front ++ e ∷ []) rest)) o) (damaged number gate))
-      (taken_next P front e steps.0 proper.0)
-      ∙ found-behind text P rest (front ++ e ∷ []) (number + 1) (next_gate gate payload) proper.1 steps.1
+      ap (λ o. unwrap_or (option_map (λ later. found_behind reads text P later (number + 1) (next_gate gate payload) (payloads_behind P (front ++ e ∷ []) rest)) o) (damaged number gate))
+      (taken_next accepts P front e steps.0 proper.0)
+      ∙ found-behind accepts text P rest (front ++ e ∷ []) (number + 1) (next_gate gate payload) proper.1 steps.1
       ∙ ap (λ H. holds text P H (gate_behind (next_gate gate payload) (payloads_behind P (front ++ e ∷ []) rest))) (append_assoc front (e ∷ []) rest)
 
-  pub history_found : (reads : Bytes → Option PlainPolicy) (text : Bytes) (P : PlainPolicy) (H : History)
+  pub history_found : Accepts reads → (text : Bytes) (P : PlainPolicy) (H : History)
       → reads text ≡ Some P → length text ≤ most_payload → IsProper P H → AreSteps P [] H
       → found_in reads (payloads_of text P H) ≡ holds text P H (gate_behind first_gate (payloads_of text P H))
-  history_found reads text P H read short proper steps =
-      ap (λ o. unwrap_or (option_map (λ Q. found_behind text Q [] 1 (next_gate first_gate text) (payloads_behind P [] H)) o) (damaged 0 first_gate))
+  history_found accepts text P H read short proper steps =
+      ap (λ o. unwrap_or (option_map (λ Q. found_behind reads text Q [] 1 (next_gate first_gate text) (payloads_behind P [] H)) o) (damaged 0 first_gate))
       (ap (λ b. cond b None (reads text)) (le-ltb most_payload (length text) short) ∙ read)
-      ∙ found-behind text P H [] 1 (next_gate first_gate text) proper steps
+      ∙ found-behind accepts text P H [] 1 (next_gate first_gate text) proper steps
 
   -- ---- what is found was written
 
@@ -154,17 +155,17 @@ module _ (tells : (r : PlainReply) → tells_change (reply_spelling r) ≡ chang
       }
   taken_from P H payload t later false is h = absurd (nothing h)
 
-  taken_read : (P : PlainPolicy) (H : History) (payload : Bytes) (later : History) (r : Result Told ℕ) → payload_read payload ≡ r → length payload ≤ most_payload
-      → taken P H payload ≡ Some later → IsTaken P H payload later
+  taken_read : (P : PlainPolicy) (H : History) (payload : Bytes) (later : History) (r : Result Told ℕ) → payload_read reads payload ≡ r → length payload ≤ most_payload
+      → taken reads P H payload ≡ Some later → IsTaken P H payload later
   taken_read P H payload later (Ok t) read short h = taken_from P H payload t later _ refl (sym (taken_as_spelled P H payload t short read) ∙ h)
-  taken_read P H payload later (Err place) read short h = absurd (nothing (sym (untaken P H payload place read) ∙ h))
+  taken_read P H payload later (Err place) read short h = absurd (nothing (sym (untaken reads P H payload place read) ∙ h))
 
   taken_by_length : (P : PlainPolicy) (H : History) (payload : Bytes) (later : History) (long : Bool) → nat_lt most_payload (length payload) ≡ long
-      → taken P H payload ≡ Some later → IsTaken P H payload later
-  taken_by_length P H payload later true is h = absurd (nothing (sym (untaken_long P H payload (ltb-true most_payload (length payload) is)) ∙ h))
-  taken_by_length P H payload later false is h = taken_read P H payload later (payload_read payload) refl (ltb-false most_payload (length payload) is) h
+      → taken reads P H payload ≡ Some later → IsTaken P H payload later
+  taken_by_length P H payload later true is h = absurd (nothing (sym (untaken_long reads P H payload (ltb-true most_payload (length payload) is)) ∙ h))
+  taken_by_length P H payload later false is h = taken_read P H payload later (payload_read reads payload) refl (ltb-false most_payload (length payload) is) h
 
-  is_taken : (P : PlainPolicy) (H : History) (payload : Bytes) (later : History) → taken P H payload ≡ Some later → IsTaken P H payload later
+  is_taken : (P : PlainPolicy) (H : History) (payload : Bytes) (later : History) → taken reads P H payload ≡ Some later → IsTaken P H payload later
   is_taken P H payload later h = taken_by_length P H payload later (nat_lt most_payload (length payload)) refl h
 
   -- the parts of what is found
@@ -199,9 +200,9 @@ module _ (tells : (r : PlainReply) → tells_change (reply_spelling r) ≡ chang
     proper : IsProperFrom P front rest
 
   behind_taken : (text : Bytes) (P : PlainPolicy) (front : History) (number gate : ℕ) (payload : Bytes) (payloads : List Bytes) (found_text : Bytes) (Q : PlainPolicy) (H : History) (end : ℕ)
-      → ((later : History) → found_behind text P later (number + 1) (next_gate gate payload) payloads ≡ holds found_text Q H end → IsFoundBehind text P later (next_gate gate payload) payloads found_text Q H end)
-      → (o : Option History) → taken P front payload ≡ o
-      → unwrap_or (option_map (λ later. found_behind text P later (number + 1) (next_gate gate payload) payloads) o) (damaged number gate) ≡ holds found_text Q H end
+      → ((later : History) → found_behind reads text P later (number + 1) (next_gate gate payload) payloads ≡ holds found_text Q H end → IsFoundBehind text P later (next_gate gate payload) payloads found_text Q H end)
+      → (o : Option History) → taken reads P front payload ≡ o
+      → unwrap_or (option_map (λ later. found_behind reads text P later (number + 1) (next_gate gate payload) payloads) o) (damaged number gate) ≡ holds found_text Q H end
       → IsFoundBehind text P front gate (payload ∷ payloads) found_text Q H end
   behind_taken text P front number gate payload payloads found_text Q H end next None is h = absurd (false≢true (ap is_held h))
   behind_taken text P front number gate payload payloads found_text Q H end next (Some later) is h =
@@ -220,7 +221,7 @@ module _ (tells : (r : PlainReply) → tells_change (reply_spelling r) ≡ chang
       }
 
   behind_found : (text : Bytes) (P : PlainPolicy) (payloads : List Bytes) (front : History) (number gate : ℕ) (found_text : Bytes) (Q : PlainPolicy) (H : History) (end : ℕ)
-      → found_behind text P front number gate payloads ≡ holds found_text Q H end → IsFoundBehind text P front gate payloads found_text Q H end
+      → found_behind reads text P front number gate payloads ≡ holds found_text Q H end → IsFoundBehind text P front gate payloads found_text Q H end
   behind_found text P [] front number gate found_text Q H end h = record {
     rest = [];
     same_text = ap (text_in text) h;
@@ -232,34 +233,34 @@ module _ (tells : (r : PlainReply) → tells_change (reply_spelling r) ≡ chang
   }
   behind_found text P (payload ∷ payloads) front number gate found_text Q H end h =
       behind_taken text P front number gate payload payloads found_text Q H end
-      (λ later. behind_found text P payloads later (number + 1) (next_gate gate payload) found_text Q H end) (taken P front payload) refl h
+      (λ later. behind_found text P payloads later (number + 1) (next_gate gate payload) found_text Q H end) (taken reads P front payload) refl h
 
-  read_from : (reads : Bytes → Option PlainPolicy) (text : Bytes) (P : PlainPolicy) (long : Bool) → cond long None (reads text) ≡ Some P → reads text ≡ Some P
-  read_from reads text P true h = absurd (nothing h)
-  read_from reads text P false h = h
+  read_from : (text : Bytes) (P : PlainPolicy) (long : Bool) → cond long None (reads text) ≡ Some P → reads text ≡ Some P
+  read_from text P true h = absurd (nothing h)
+  read_from text P false h = h
 
   -- all that is known where a history is found
-  abbrev IsJournalOf : (Bytes → Option PlainPolicy) → List Bytes → Bytes → PlainPolicy → History → ℕ → Type 0
-  IsJournalOf reads payloads text P H gate = (payloads ≡ payloads_of text P H) × (gate ≡ gate_behind first_gate payloads) × (reads text ≡ Some P) × IsProper P H
+  abbrev IsJournalOf : List Bytes → Bytes → PlainPolicy → History → ℕ → Type 0
+  IsJournalOf payloads text P H gate = (payloads ≡ payloads_of text P H) × (gate ≡ gate_behind first_gate payloads) × (reads text ≡ Some P) × IsProper P H
 
-  from_first : (reads : Bytes → Option PlainPolicy) (first : Bytes) (payloads : List Bytes) (text : Bytes) (P : PlainPolicy) (H : History) (gate : ℕ)
+  from_first : (first : Bytes) (payloads : List Bytes) (text : Bytes) (P : PlainPolicy) (H : History) (gate : ℕ)
       → (o : Option PlainPolicy) → policy_taken reads first ≡ o
-      → unwrap_or (option_map (λ Q. found_behind first Q [] 1 (next_gate first_gate first) payloads) o) (damaged 0 first_gate) ≡ holds text P H gate
-      → IsJournalOf reads (first ∷ payloads) text P H gate
-  from_first reads first payloads text P H gate None is h = absurd (false≢true (ap is_held h))
-  from_first reads first payloads text P H gate (Some Q) is h =
+      → unwrap_or (option_map (λ Q. found_behind reads first Q [] 1 (next_gate first_gate first) payloads) o) (damaged 0 first_gate) ≡ holds text P H gate
+      → IsJournalOf (first ∷ payloads) text P H gate
+  from_first first payloads text P H gate None is h = absurd (false≢true (ap is_held h))
+  from_first first payloads text P H gate (Some Q) is h =
       let found = behind_found first Q payloads [] 1 (next_gate first_gate first) text P H gate h in
-      let Found : Bytes × PlainPolicy × History → Type 0 = λ x. IsJournalOf reads (first ∷ payloads) x.0 x.1 x.2 gate in
+      let Found : Bytes × PlainPolicy × History → Type 0 = λ x. IsJournalOf (first ∷ payloads) x.0 x.1 x.2 gate in
       let same : (first, Q, found.rest) ≡ (text, P, H) =
       ap (λ (x : Bytes). (x, Q, found.rest)) found.same_text ∙ ap (λ (x : PlainPolicy). (text, x, found.rest)) found.same_policy ∙ ap (λ (x : History). (text, P, x)) (sym found.whole) in
       subst Found same (
         ap (λ (ps : List Bytes). first ∷ ps) found.written,
         found.place,
-        read_from reads first Q (nat_lt most_payload (length first)) is,
+        read_from first Q (nat_lt most_payload (length first)) is,
         found.proper,
       )
 
-  pub found_history : (reads : Bytes → Option PlainPolicy) (payloads : List Bytes) (text : Bytes) (P : PlainPolicy) (H : History) (gate : ℕ)
-      → found_in reads payloads ≡ holds text P H gate → IsJournalOf reads payloads text P H gate
-  found_history reads [] text P H gate h = absurd (false≢true (ap is_held h))
-  found_history reads (first ∷ payloads) text P H gate h = from_first reads first payloads text P H gate (policy_taken reads first) refl h
+  pub found_history : (payloads : List Bytes) (text : Bytes) (P : PlainPolicy) (H : History) (gate : ℕ)
+      → found_in reads payloads ≡ holds text P H gate → IsJournalOf payloads text P H gate
+  found_history [] text P H gate h = absurd (false≢true (ap is_held h))
+  found_history (first ∷ payloads) text P H gate h = from_first first payloads text P H gate (policy_taken reads first) refl h

@@ -1,6 +1,6 @@
 -- The texts of commands and replies have no newline.
-use Rattle.std.proofs.Common.{◌≡◌, ℕ, suc, ◌<◌, ◌^◌, true, false, List, [], ◌∷◌, ◌++◌, refl, ap, arith}
-use Rattle.std.specs.Prelude.{ℤ, pos, negsuc, codes, not, ◌==◌}
+use Rattle.std.proofs.Common.{◌≡◌, ℕ, suc, ◌<◌, ◌^◌, Bool, true, false, List, [], ◌∷◌, ◌++◌, refl, ap, arith}
+use Rattle.std.specs.Prelude.{ℤ, pos, negsuc, codes, not, ◌||◌, ◌==◌}
 use Rattle.std.specs.Fmt.{decimal, signed_decimal}
 use Rattle.std.specs.List.{list_all}
 use Rattle.std.proofs.lemmas.Bool.{and_parts, ne_eqb}
@@ -16,12 +16,13 @@ use Rattle.ucon_base.specs.declared.value.Side.TheVariants as sides
 use Rattle.ucon_base.specs.NameBytes.{is_name}
 use Rattle.ucon_model.specs.declared.command.Command.{Command}
 use Rattle.ucon_model.specs.declared.command.Command.TheVariants as commands
+use Rattle.ucon_model.specs.Amending.{has_newline}
 use Rattle.ucon_model.specs.CommandLine.{command_words, command_spelling, IsCommand}
 use Rattle.ucon_command.proofs.Joined.{join}
 use Rattle.ucon_model.specs.declared.reply.Head.{Head}
 use Rattle.ucon_model.specs.declared.reply.Head.TheVariants as heads
 use Rattle.ucon_model.specs.declared.reply.Refusal.{Refusal}
-use Rattle.ucon_model.specs.declared.reply.Refusal.TheVariants.{NotAdmin, NoRight, NoSubject, NoObject, NoAttribute, NoVariable, NoAct, NoSession, NotYours, NotAccessing, NotRequesting, AlreadyThere, BadValue, TickBack, FullSubjects, FullObjects, FullActs, FullSessions, FullAccessing}
+use Rattle.ucon_model.specs.declared.reply.Refusal.TheVariants.{NotAdmin, NoRight, NoSubject, NoObject, NoAttribute, NoVariable, NoAct, NoSession, NotYours, NotAccessing, NotRequesting, AlreadyThere, BadValue, TickBack, KindChanged, FullSubjects, FullObjects, FullActs, FullSessions, FullAccessing}
 use Rattle.ucon_model.specs.declared.reply.Revoked.{Revoked}
 use Rattle.ucon_model.specs.declared.session.SessionState.{SessionState}
 use Rattle.ucon_model.specs.declared.session.SessionState.TheVariants as states
@@ -85,6 +86,7 @@ refusal_in_line NotRequesting = lacks-tested 10 (refusal_words NotRequesting) re
 refusal_in_line AlreadyThere = lacks-tested 10 (refusal_words AlreadyThere) refl
 refusal_in_line BadValue = lacks-tested 10 (refusal_words BadValue) refl
 refusal_in_line TickBack = lacks-tested 10 (refusal_words TickBack) refl
+refusal_in_line KindChanged = lacks-tested 10 (refusal_words KindChanged) refl
 refusal_in_line FullSubjects = lacks-tested 10 (refusal_words FullSubjects) refl
 refusal_in_line FullObjects = lacks-tested 10 (refusal_words FullObjects) refl
 refusal_in_line FullActs = lacks-tested 10 (refusal_words FullActs) refl
@@ -140,6 +142,14 @@ side_in_line : (side : Side) → Lacks 10 (side_word side)
 side_in_line sides.Subject = word (codes "s") refl
 side_in_line sides.Object = word (codes "o") refl
 
+none_of : (found rest : Bool) → (found || rest) ≡ false → (found ≡ false) × (rest ≡ false)
+none_of false rest e = (refl, e)
+none_of true rest e = absurd cc
+
+without_newline : (text : Bytes) → has_newline text ≡ false → Lacks 10 text
+without_newline [] h = tt
+without_newline (b ∷ bs) h = let none = none_of (b == 10) (has_newline bs) h in (none.0, without_newline bs none.1)
+
 name_in_line : (name : Bytes) → is_name name ≡ true → Lacks 10 name
 name_in_line name h = lacks-name 10 name refl h
 
@@ -156,6 +166,7 @@ words_in_line (commands.Beat n) h = (word (codes "beat") refl, (number_in_line n
 words_in_line (commands.End n) h = (word (codes "end") refl, (number_in_line n h, tt))
 words_in_line (commands.Look n) h = (word (codes "look") refl, (number_in_line n h, tt))
 words_in_line (commands.Value side name attr) h = (word (codes "value") refl, (side_in_line side, (name_in_line name h.0, (name_in_line attr h.1, tt))))
+words_in_line (commands.Amend a) h = (word (codes "amend") refl, (without_newline a.text h.one_line, tt))
 
 pub command_in_line : (c : Command) → IsCommand c → Lacks 10 (command_spelling c)
 unfolding command_spelling

@@ -1,7 +1,6 @@
 -- The cuts of a line give what is read of it.
 use Rattle.std.proofs.Common.{◌≡◌, ℕ, ◌+◌, ◌<◌, ◌≤◌, List, [], ◌∷◌, length, drop, Some, Ok, refl, sym, ap, subst, rules, ◌∙◌}
-use Rattle.std.specs.Prelude.{ℤ, Option, Result, IsOk, IsTrue, option_map, ok_or, ◌==◌}
-use Rattle.std.specs.List.{slice_split}
+use Rattle.std.specs.Prelude.{ℤ, Option, Result, IsOk, IsTrue, option_map}
 use Rattle.std.specs.Result.{result_ok}
 use Rattle.ucon_base.specs.declared.value.Side.{Side}
 use Rattle.ucon_base.specs.declared.value.Value.{Value}
@@ -16,11 +15,11 @@ use Rattle.ucon_command.specs.Cuts.{AreCuts, between, command_cut, has_name, has
 use Rattle.ucon_command.proofs.Joined.{split_some}
 use Rattle.ucon_command.proofs.SpelledLines.{said_is}
 
-cuts_give : (k : Cuts) (line : Bytes) (read : Result Command LineRefusal) (c : Command) → read ≡ Ok c → command_cut k line ≡ Some c → IsTrue (has_words k line) → AreCuts k line read
+pub cuts_give : (k : Cuts) (line : Bytes) (read : Result Command LineRefusal) (c : Command) → read ≡ Ok c → command_cut k line ≡ Some c → IsTrue (has_words k line) → AreCuts k line read
 cuts_give k line read c r given words = record { spelled = rw r refl; cut = ap result_ok r ∙ sym given; words = words }
 
 -- the words from a place on begin at it
-first_at : (line : Bytes) (at : ℕ) → (v : Bytes) × ((more : List Word) × (words_at at line ≡ record { at = at; text = v } ∷ more))
+pub first_at : (line : Bytes) (at : ℕ) → (v : Bytes) × ((more : List Word) × (words_at at line ≡ record { at = at; text = v } ∷ more))
 first_at line at =
     let s = split_some (drop at line) in
     (s.0, (placed (at + length s.0 + 1) s.1.0, ap (placed at) s.1.1))

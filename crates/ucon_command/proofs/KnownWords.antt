@@ -1,10 +1,7 @@
 -- What is known of the words that cuts give.
-use Rattle.std.proofs.Common.{◌≡◌, ℕ, Bool, true, false, Some, None, refl}
-use Rattle.std.specs.Prelude.{Option, option_map, option_and_then, ◌&&◌, IsSome, IsTrue, pos}
+use Rattle.std.proofs.Common.{Bool, true, false, Some, None, refl}
+use Rattle.std.specs.Prelude.{Option, option_map, ◌&&◌, IsSome, IsTrue}
 use Rattle.std.proofs.lemmas.Bool.{false≢true}
-use Rattle.ucon_base.specs.declared.value.Value.{Value}
-use Rattle.ucon_base.specs.declared.value.Value.TheVariants as values
-use Rattle.ucon_model.specs.CommandLine.{integer_of}
 
 pub both : (a b : Bool) → IsTrue (a && b) → IsTrue a × IsTrue b
 both true b h = (refl, h)

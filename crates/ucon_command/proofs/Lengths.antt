@@ -1,8 +1,8 @@
 -- How long the texts of a command and of a reply are at the most.
-use Rattle.std.proofs.Common.{◌≡◌, ℕ, suc, ◌+◌, ◌*◌, ◌≤◌, ◌<◌, ◌^◌, true, List, [], ◌∷◌, ◌++◌, length, refl, arith, length-append}
-use Rattle.std.specs.Prelude.{ℤ, pos, negsuc, nat_le, nat_lt, ◌&&◌, is_none, codes}
+use Rattle.std.proofs.Common.{◌≡◌, ℕ, suc, ◌+◌, ◌*◌, ◌≤◌, ◌<◌, ◌^◌, Bool, true, false, cond, List, [], ◌∷◌, ◌++◌, length, refl, arith, length-append}
+use Rattle.std.specs.Prelude.{ℤ, pos, negsuc, nat_eq, nat_le, nat_lt, ◌&&◌, is_none, codes}
 use Rattle.std.specs.Fmt.{decimal, signed_decimal}
-use Rattle.std.specs.List.{list_all}
+use Rattle.std.specs.List.{list_all, starts_with}
 use Rattle.std.proofs.lemmas.Bool.{and_parts, leb-true}
 use Rattle.std.proofs.lemmas.Fmt.{length-decimal-le}
 use Rattle.std.proofs.lemmas.Int.{ints}
@@ -16,13 +16,13 @@ use Rattle.ucon_base.specs.Spelling.{quoted, more_texts, set_spelling, value_spe
 use Rattle.ucon_base.specs.TextBytes.{is_text, bad_text_place}
 use Rattle.ucon_base.specs.Value.{is_rising}
 use Rattle.ucon_model.specs.declared.command.Command.{Command}
-use Rattle.ucon_model.specs.declared.command.Command.TheVariants.{Subject, Object, Set as Set', Env, Tick, Act, Try, Again, Beat, End, Look, Value as Value'}
-use Rattle.ucon_model.specs.CommandLine.{command_spelling, IsCommand}
+use Rattle.ucon_model.specs.declared.command.Command.TheVariants.{Subject, Object, Set as Set', Env, Tick, Act, Try, Again, Beat, End, Look, Value as Value', Amend}
+use Rattle.ucon_model.specs.CommandLine.{command_spelling, most_bytes, IsCommand}
 use Rattle.ucon_base.specs.Elements.{Each}
 use Rattle.ucon_model.specs.declared.reply.Head.{Head}
 use Rattle.ucon_model.specs.declared.reply.Head.TheVariants as heads
 use Rattle.ucon_model.specs.declared.reply.Refusal.{Refusal}
-use Rattle.ucon_model.specs.declared.reply.Refusal.TheVariants.{NotAdmin, NoRight, NoSubject, NoObject, NoAttribute, NoVariable, NoAct, NoSession, NotYours, NotAccessing, NotRequesting, AlreadyThere, BadValue, TickBack, FullSubjects, FullObjects, FullActs, FullSessions, FullAccessing}
+use Rattle.ucon_model.specs.declared.reply.Refusal.TheVariants.{NotAdmin, NoRight, NoSubject, NoObject, NoAttribute, NoVariable, NoAct, NoSession, NotYours, NotAccessing, NotRequesting, AlreadyThere, BadValue, TickBack, KindChanged, FullSubjects, FullObjects, FullActs, FullSessions, FullAccessing}
 use Rattle.ucon_model.specs.declared.reply.Revoked.{Revoked}
 use Rattle.ucon_model.specs.declared.session.SessionState.{SessionState}
 use Rattle.ucon_model.specs.declared.session.SessionState.TheVariants as states
@@ -90,7 +90,11 @@ one first w short le = omega (arith, length-join (first ∷ []) w (word_length f
 three : (first a b c : Bytes) → nat_le (length first) 32 ≡ true → length a ≤ 32 → length b ≤ 32 → length c ≤ 32 → length (join (first ∷ a ∷ b ∷ c ∷ [])) ≤ 8192
 three first a b c short x y z = omega (arith, length-join (first ∷ a ∷ b ∷ []) c (word_length first short, (x, (y, tt))) (omega (arith, z)))
 
-pub short : (c : Command) → IsCommand c → length (command_spelling c) ≤ 8192
+at_most : (b : Bool) → cond b 65542 8192 ≤ 65542
+at_most true = omega arith
+at_most false = omega arith
+
+pub short : (c : Command) → IsCommand c → length (command_spelling c) ≤ most_bytes (command_spelling c)
 unfolding command_spelling
 short (Subject name) h = one (codes "subject") name refl (omega (arith, length-name name h))
 short (Object name) h = one (codes "object") name refl (omega (arith, length-name name h))
@@ -105,6 +109,14 @@ short (Beat n) h = one (codes "beat") (decimal n) refl (omega (arith, length-num
 short (End n) h = one (codes "end") (decimal n) refl (omega (arith, length-number n h))
 short (Look n) h = one (codes "look") (decimal n) refl (omega (arith, length-number n h))
 short (Value' side name attr) h = three (codes "value") (side_word side) name attr refl (length-side side) (length-name name h.0) (length-name attr h.1)
+short (Amend a) h = omega (arith, h.spells.short)
+
+-- no line may be longer
+pub most : (line : Bytes) → most_bytes line ≤ 65542
+most line = at_most (starts_with nat_eq line (codes "amend "))
+
+pub short_all : (c : Command) → IsCommand c → length (command_spelling c) ≤ 65542
+short_all c h = omega (arith, short c h, most (command_spelling c))
 
 -- ---- replies
 
@@ -123,6 +135,7 @@ length-refusal NotRequesting = omega arith
 length-refusal AlreadyThere = omega arith
 length-refusal BadValue = omega arith
 length-refusal TickBack = omega arith
+length-refusal KindChanged = omega arith
 length-refusal FullSubjects = omega arith
 length-refusal FullObjects = omega arith
 length-refusal FullActs = omega arith

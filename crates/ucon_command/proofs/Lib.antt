@@ -1,3 +1,4 @@
+pub mod Amended
 pub mod Growing
 pub mod Histories
 pub mod InLine

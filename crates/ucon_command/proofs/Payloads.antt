@@ -1,6 +1,6 @@
 -- A step's payload is read as the step, and bytes that are read are the step's payload.
 use Rattle.std.proofs.Common.{◌≡◌, ℕ, suc, ◌+◌, ◌-◌, ◌*◌, ◌/◌, ◌%◌, ◌<◌, ◌≤◌, ◌^◌, Bool, true, false, cond, [], ◌∷◌, ◌++◌, length, take, drop, get_or, Some, None, Ok, Err, is_ok, is_some, subst, refl, sym, ap, ◌∙◌, arith, length-append, length-drop, inl, inr, ⊎_elim}
-use Rattle.std.specs.Prelude.{◌⊎◌, not, IfOk, MatchResult, Option, Result, option_map, option_and_then, ok_or, unwrap_or, nat_lt, ◌==◌, position}
+use Rattle.std.specs.Prelude.{◌⊎◌, ◌↔◌, not, IfOk, MatchResult, Option, Result, option_map, option_and_then, ok_or, unwrap_or, nat_lt, ◌==◌, position}
 use Rattle.std.specs.Fmt.{decimal}
 use Rattle.std.specs.List.{position_or_len}
 use Rattle.std.specs.Result.{result_ok, result_err, result_unwrap_or}
@@ -16,18 +16,21 @@ use Rattle.ucon_model.specs.CommandLine.{command_spelling, line_read, IsCommand,
 use Rattle.ucon_model.specs.Document.{caller_of}
 use Rattle.ucon_model.specs.Output.{Lacks, cut_at, number_read}
 use Rattle.ucon_model.specs.Payload.{Told, payload_spelling, caller_read, client_numbered, step_read, payload_read, ◌>>=◌}
-use Rattle.ucon_model.specs.Plain.{Bytes}
+use Rattle.ucon_model.specs.Plain.{Bytes, PlainPolicy}
+use Rattle.ucon_model.specs.Spells.{Spells}
+use Rattle.ucon_model.specs.Typing.{IsTyped}
+use Rattle.ucon_syntax.specs.Policies.{accepted}
 use Rattle.ucon_model.specs.ReplyText.{IsReply, reply_read}
 use Rattle.ucon_model.specs.Spelling.{reply_spelling}
 use Rattle.ucon_model.specs.declared.reply.Reply.{Reply}
 use Rattle.ucon_model.specs.Views.{reply_of}
 use Rattle.ucon_command.specs.declared.payload_fault.PayloadFault.{PayloadFault}
 use Rattle.ucon_command.specs.Payloads.{IsBadAt, most_told, told_of}
-use Rattle.ucon_command.proofs.Lengths.{short, reply_short}
+use Rattle.ucon_command.proofs.Lengths.{short_all, reply_short}
 use Rattle.ucon_command.proofs.SpelledLines.{command_is, same_bytes}
 use Rattle.ucon_command.proofs.SpelledReplies.{reply_is}
 use Rattle.ucon_command.proofs.InLine.{command_in_line}
-use Rattle.ucon_command.proofs.ReadLines.{command_back, number_lacks}
+use Rattle.ucon_command.proofs.ReadLines.{Accepts, command_back, number_lacks}
 use Rattle.ucon_command.proofs.ReadReplies.{reply_back}
 
 -- ---- what is written is read
@@ -42,18 +45,18 @@ number_back n lt = rw ((decimal_is_IsNumeral n (omega (arith, lt))).1, (bytes_eq
 pub caller_back : (n : ℕ) → n < 64 → caller_read (decimal n) ≡ Some (caller_of n)
 caller_back n lt = rw (number_back n lt, lt-ltb n 64 lt) refl
 
-step_back : (place : ℕ) (t : Told) → IsCommand t.command → IsReply t.reply → step_read place t.caller (command_spelling t.command ++ 10 ∷ reply_spelling t.reply) ≡ Ok t
+step_back : (reads : Bytes → Option PlainPolicy) → Accepts reads → (place : ℕ) (t : Told) → IsCommand t.command → IsReply t.reply → step_read reads place t.caller (command_spelling t.command ++ 10 ∷ reply_spelling t.reply) ≡ Ok t
 unfolding step_read
-step_back place t is_command is_reply =
-    rw (cut_at-append 10 (command_spelling t.command) (reply_spelling t.reply) (command_in_line t.command is_command), command_back t.command is_command, reply_back t.reply is_reply) refl
+step_back reads accepts place t is_command is_reply =
+    rw (cut_at-append 10 (command_spelling t.command) (reply_spelling t.reply) (command_in_line t.command is_command), command_back reads accepts t.command is_command, reply_back t.reply is_reply) refl
 
-pub payload_back : (t : Told) → t.caller.0 < 64 → IsCommand t.command → IsReply t.reply → payload_read (payload_spelling t) ≡ Ok t
+pub payload_back : (reads : Bytes → Option PlainPolicy) → Accepts reads → (t : Told) → t.caller.0 < 64 → IsCommand t.command → IsReply t.reply → payload_read reads (payload_spelling t) ≡ Ok t
 unfolding payload_read
-payload_back t lt is_command is_reply =
+payload_back reads accepts t lt is_command is_reply =
     rw (
       cut_at-append 32 (decimal t.caller.0) (command_spelling t.command ++ 10 ∷ reply_spelling t.reply) (number_lacks t.caller.0 (omega (arith, lt))),
       caller_back t.caller.0 lt,
-      step_back (length (decimal t.caller.0) + 1) t is_command is_reply,
+      step_back reads accepts (length (decimal t.caller.0) + 1) t is_command is_reply,
     ) refl
 
 pub payload_short : (t : Told) → t.caller.0 < 2 ^ 8 → IsCommand t.command → IsReply t.reply → length (payload_spelling t) ≤ most_told t.reply
@@ -61,16 +64,18 @@ payload_short t lt is_command is_reply =
     omega (
       arith,
       length-decimal-le 3 t.caller.0 (omega arith) (omega (arith, lt)) (omega (arith, lt)),
-      short t.command is_command,
+      short_all t.command is_command,
       reply_short t.reply is_reply,
       length-append (decimal t.caller.0) (32 ∷ (command_spelling t.command ++ 10 ∷ reply_spelling t.reply)),
       length-append (command_spelling t.command) (10 ∷ reply_spelling t.reply),
     )
 
 -- the same, of what the code holds
-pub text_back : (caller : Caller) (command : Command) (reply : Reply) → IsCommand command → IsReply (reply_of reply)
-    → caller.0 < 64 → payload_read (payload_spelling (told_of caller command reply)) ≡ Ok (told_of caller command reply)
-text_back caller command reply is_command is_reply lt = payload_back (told_of caller command reply) lt is_command is_reply
+pub text_back : ((text : Bytes) (p : PlainPolicy) → (accepted text ≡ Some p) ↔ (Spells text p × IsTyped p))
+    → (caller : Caller) (command : Command) (reply : Reply) → IsCommand command → IsReply (reply_of reply)
+    → caller.0 < 64 → payload_read accepted (payload_spelling (told_of caller command reply)) ≡ Ok (told_of caller command reply)
+text_back known caller command reply is_command is_reply lt =
+    payload_back accepted (λ text p spells typed. (known text p).1 (spells, typed)) (told_of caller command reply) lt is_command is_reply
 
 pub text_short : (caller : Caller) (command : Command) (reply : Reply) → caller.0 < 2 ^ 8 → IsCommand command → IsReply (reply_of reply)
     → length (payload_spelling (told_of caller command reply)) ≤ most_told (reply_of reply)
@@ -206,63 +211,65 @@ no_caller bs h = caller_none bs (caller_read bs) refl h
 
 -- ---- steps
 
-step_is : (place : ℕ) (caller : Caller) (bytes : Bytes) (t : Told) → step_read place caller bytes ≡ Ok t
-    → (caller ≡ t.caller) × (command_spelling t.command ++ 10 ∷ reply_spelling t.reply ≡ bytes)
-unfolding step_read
-step_is place caller bytes t h =
-    let cut = bind_is (ok_or (cut_at 10 bytes) place) _ t h in
-    let parts : Bytes × Bytes = cut.0 in
-    let first = bind_is (ok_or (result_ok (line_read parts.0)) place) _ t cut.1.1 in
-    let second = bind_is (ok_or (reply_read parts.1) (place + length parts.0 + 1)) _ t first.1.1 in
-    let same : record { caller = caller; command = first.0; reply = second.0 } ≡ t = ap (λ r. result_unwrap_or r t) second.1.1 in
-    let command : command_spelling first.0 ≡ parts.0 = command_is parts.0 first.0 (command_ok (line_read parts.0) first.0 (said_is _ place first.0 first.1.0)) in
-    let reply : reply_spelling second.0 ≡ parts.1 = reply_is parts.1 second.0 (said_is _ _ second.0 second.1.0) in (
-      ap (λ (u : Told). u.caller) same,
-      ap (λ (u : Told). command_spelling u.command ++ 10 ∷ reply_spelling u.reply) (sym same)
-          ∙ ap (λ (l : Bytes). l ++ 10 ∷ reply_spelling second.0) command ∙ ap (λ (l : Bytes). parts.0 ++ 10 ∷ l) reply
-          ∙ cut_is 10 bytes parts (said_is _ place parts cut.1.0),
-    )
+-- however the texts of policies are read
+module _ (reads : Bytes → Option PlainPolicy) where
+  step_is : (place : ℕ) (caller : Caller) (bytes : Bytes) (t : Told) → step_read reads place caller bytes ≡ Ok t
+      → (caller ≡ t.caller) × (command_spelling t.command ++ 10 ∷ reply_spelling t.reply ≡ bytes)
+  unfolding step_read
+  step_is place caller bytes t h =
+      let cut = bind_is (ok_or (cut_at 10 bytes) place) _ t h in
+      let parts : Bytes × Bytes = cut.0 in
+      let first = bind_is (ok_or (result_ok (line_read reads parts.0)) place) _ t cut.1.1 in
+      let second = bind_is (ok_or (reply_read parts.1) (place + length parts.0 + 1)) _ t first.1.1 in
+      let same : record { caller = caller; command = first.0; reply = second.0 } ≡ t = ap (λ r. result_unwrap_or r t) second.1.1 in
+      let command : command_spelling first.0 ≡ parts.0 = command_is reads parts.0 first.0 (command_ok (line_read reads parts.0) first.0 (said_is _ place first.0 first.1.0)) in
+      let reply : reply_spelling second.0 ≡ parts.1 = reply_is parts.1 second.0 (said_is _ _ second.0 second.1.0) in (
+        ap (λ (u : Told). u.caller) same,
+        ap (λ (u : Told). command_spelling u.command ++ 10 ∷ reply_spelling u.reply) (sym same)
+            ∙ ap (λ (l : Bytes). l ++ 10 ∷ reply_spelling second.0) command ∙ ap (λ (l : Bytes). parts.0 ++ 10 ∷ l) reply
+            ∙ cut_is 10 bytes parts (said_is _ place parts cut.1.0),
+      )
 
-payload_from : (bytes : Bytes) (t : Told) → payload_read bytes ≡ Ok t → (payload_spelling t ≡ bytes) × (t.caller.0 < 64)
-unfolding payload_read
-payload_from bytes t h =
-    let cut = bind_is (ok_or (cut_at 32 bytes) 0) _ t h in
-    let parts : Bytes × Bytes = cut.0 in
-    let client = bind_is (ok_or (caller_read parts.0) 0) _ t cut.1.1 in
-    let rest = step_is (length parts.0 + 1) client.0 parts.1 t client.1.1 in
-    let caller = caller_is parts.0 client.0 (said_is _ 0 client.0 client.1.0) in (
-      ap (λ (c : Caller). decimal c.0 ++ 32 ∷ (command_spelling t.command ++ 10 ∷ reply_spelling t.reply)) (sym rest.0)
-          ∙ ap (λ (w : Bytes). w ++ 32 ∷ (command_spelling t.command ++ 10 ∷ reply_spelling t.reply)) caller.0
-          ∙ ap (λ (w : Bytes). parts.0 ++ 32 ∷ w) rest.1 ∙ cut_is 32 bytes parts (said_is _ 0 parts cut.1.0),
-      (let P : Caller → Type 0 = λ c. c.0 < 64 in subst P rest.0 caller.1),
-    )
+  payload_from : (bytes : Bytes) (t : Told) → payload_read reads bytes ≡ Ok t → (payload_spelling t ≡ bytes) × (t.caller.0 < 64)
+  unfolding payload_read
+  payload_from bytes t h =
+      let cut = bind_is (ok_or (cut_at 32 bytes) 0) _ t h in
+      let parts : Bytes × Bytes = cut.0 in
+      let client = bind_is (ok_or (caller_read parts.0) 0) _ t cut.1.1 in
+      let rest = step_is (length parts.0 + 1) client.0 parts.1 t client.1.1 in
+      let caller = caller_is parts.0 client.0 (said_is _ 0 client.0 client.1.0) in (
+        ap (λ (c : Caller). decimal c.0 ++ 32 ∷ (command_spelling t.command ++ 10 ∷ reply_spelling t.reply)) (sym rest.0)
+            ∙ ap (λ (w : Bytes). w ++ 32 ∷ (command_spelling t.command ++ 10 ∷ reply_spelling t.reply)) caller.0
+            ∙ ap (λ (w : Bytes). parts.0 ++ 32 ∷ w) rest.1 ∙ cut_is 32 bytes parts (said_is _ 0 parts cut.1.0),
+        (let P : Caller → Type 0 = λ c. c.0 < 64 in subst P rest.0 caller.1),
+      )
 
-pub payload_is : (bytes : Bytes) (t : Told) → payload_read bytes ≡ Ok t → payload_spelling t ≡ bytes
-payload_is bytes t h = (payload_from bytes t h).0
+  pub payload_is : (bytes : Bytes) (t : Told) → payload_read reads bytes ≡ Ok t → payload_spelling t ≡ bytes
+  payload_is bytes t h = (payload_from bytes t h).0
 
-pub payload_caller : (bytes : Bytes) (t : Told) → payload_read bytes ≡ Ok t → t.caller.0 < 64
-payload_caller bytes t h = (payload_from bytes t h).1
+  pub payload_caller : (bytes : Bytes) (t : Told) → payload_read reads bytes ≡ Ok t → t.caller.0 < 64
+  payload_caller bytes t h = (payload_from bytes t h).1
 
--- what is read is spelled as it was, and of one of the 64 clients
-pub read_is : (bytes : Bytes) (r : Result (Caller × Command × Reply) PayloadFault) → MatchResult r (λ t. payload_read bytes ≡ Ok (told_of t.0 t.1 t.2)) (IsBadAt (payload_read bytes))
-    → (IfOk r (λ t. payload_spelling (told_of t.0 t.1 t.2) ≡ bytes)) × (IfOk r (λ t. t.0.0 < 64))
-read_is bytes (Ok t) h = payload_from bytes (told_of t.0 t.1 t.2) h
-read_is bytes (Err f) h = (tt, tt)
+  -- what is read is spelled as it was, and of one of the 64 clients
+  pub read_is : (bytes : Bytes) (r : Result (Caller × Command × Reply) PayloadFault) → MatchResult r (λ t. payload_read reads bytes ≡ Ok (told_of t.0 t.1 t.2)) (IsBadAt (payload_read reads bytes))
+      → (IfOk r (λ t. payload_spelling (told_of t.0 t.1 t.2) ≡ bytes)) × (IfOk r (λ t. t.0.0 < 64))
+  read_is bytes (Ok t) h = payload_from bytes (told_of t.0 t.1 t.2) h
+  read_is bytes (Err f) h = (tt, tt)
 
--- a fault of the command or the reply stands behind the caller
-refused_behind : {A B : Type 0} (place p : ℕ) (o : Option A) (f : A → Result B ℕ) → ((x : A) → f x ≡ Err p → place ≤ p) → (ok_or o place >>= f) ≡ Err p → place ≤ p
-refused_behind place p None f next h = omega (arith, (let same : place ≡ p = ap (λ r. unwrap_or (result_err r) p) h in same))
-refused_behind place p (Some x) f next h = next x h
+  -- a fault of the command or the reply stands behind the caller
+  refused_behind : {A B : Type 0} (place p : ℕ) (o : Option A) (f : A → Result B ℕ) → ((x : A) → f x ≡ Err p → place ≤ p) → (ok_or o place >>= f) ≡ Err p → place ≤ p
+  refused_behind place p None f next h = omega (arith, (let same : place ≡ p = ap (λ r. unwrap_or (result_err r) p) h in same))
+  refused_behind place p (Some x) f next h = next x h
 
-step_behind : (place : ℕ) (caller : Caller) (bytes : Bytes) (p : ℕ) → step_read place caller bytes ≡ Err p → place ≤ p
-unfolding step_read
-step_behind place caller bytes p h =
-    refused_behind place p (cut_at 10 bytes) _ (λ parts. refused_behind place p (result_ok (line_read parts.0)) _ (λ command k.
-    let behind : place + length parts.0 + 1 ≤ p = refused_behind (place + length parts.0 + 1) p (reply_read parts.1) _ (λ reply ok. absurd (false≢true (sym (ap is_ok ok)))) k in
-    omega (arith, behind))) h
+  step_behind : (place : ℕ) (caller : Caller) (bytes : Bytes) (p : ℕ) → step_read reads place caller bytes ≡ Err p → place ≤ p
+  unfolding step_read
+  step_behind place caller bytes p h =
+      refused_behind place p (cut_at 10 bytes) _ (λ parts. refused_behind place p (result_ok (line_read reads parts.0)) _ (λ command k.
+      let behind : place + length parts.0 + 1 ≤ p = refused_behind (place + length parts.0 + 1) p (reply_read parts.1) _ (λ reply ok. absurd (false≢true (sym (ap is_ok ok)))) k in
+      omega (arith, behind))) h
 
-pub no_client : (bytes : Bytes) (client rest : Bytes) (caller : Caller) → cut_at 32 bytes ≡ Some (client, rest) → caller_read client ≡ Some caller → payload_read bytes ≡ Err 0 → ⊥
-unfolding payload_read
-no_client bytes client rest caller cut is h =
-    let step : payload_read bytes ≡ step_read (length client + 1) caller rest = rw (cut, is) refl in
-    omega (arith, step_behind (length client + 1) caller rest 0 (sym step ∙ h))
+  pub no_client : (bytes : Bytes) (client rest : Bytes) (caller : Caller) → cut_at 32 bytes ≡ Some (client, rest) → caller_read client ≡ Some caller → payload_read reads bytes ≡ Err 0 → ⊥
+  unfolding payload_read
+  no_client bytes client rest caller cut is h =
+      let step : payload_read reads bytes ≡ step_read reads (length client + 1) caller rest = rw (cut, is) refl in
+      omega (arith, step_behind (length client + 1) caller rest 0 (sym step ∙ h))

@@ -1,10 +1,9 @@
 -- The words of a line where they stand in it.
-use Rattle.std.proofs.Common.{◌≡◌, ℕ, suc, Bool, ◌+◌, ◌-◌, ◌<◌, ◌≤◌, List, [], ◌∷◌, length, take, drop, Some, None, Ok, Err, refl, sym, ap, ◌∙◌, arith, length-take}
+use Rattle.std.proofs.Common.{◌≡◌, ℕ, suc, Bool, ◌+◌, ◌-◌, ◌<◌, List, [], ◌∷◌, length, take, drop, Some, None, Err, refl, sym, ap, ◌∙◌, arith, length-take}
 use Rattle.std.specs.Prelude.{Option, Result, position, ◌==◌}
 use Rattle.std.specs.List.{slice_split}
 use Rattle.std.proofs.lemmas.List.{drop-drop}
 use Rattle.std.proofs.lemmas.List.Splits.{length-slice_split}
-use Rattle.ucon_model.specs.declared.command.Command.{Command}
 use Rattle.ucon_model.specs.CommandLine.{LineRefusal, Word, placed, words_of, wrong_count, one_word, three_names, value_words, set_words, env_words}
 use Rattle.ucon_model.specs.Plain.{Bytes}
 use Rattle.ucon_command.specs.Cuts.{words_at, words_from, between, word_to, IsSecond}

@@ -11,7 +11,7 @@ use Rattle.ucon_command.specs.Faults.{IsUnread, IsNoReply}
 use Rattle.ucon_model.specs.declared.reply.Head.{Head}
 use Rattle.ucon_model.specs.declared.reply.Head.TheVariants as heads
 use Rattle.ucon_model.specs.declared.reply.Refusal.{Refusal}
-use Rattle.ucon_model.specs.declared.reply.Refusal.TheVariants.{NotAdmin, NoRight, NoSubject, NoObject, NoAttribute, NoVariable, NoAct, NoSession, NotYours, NotAccessing, NotRequesting, AlreadyThere, BadValue, TickBack, FullSubjects, FullObjects, FullActs, FullSessions, FullAccessing}
+use Rattle.ucon_model.specs.declared.reply.Refusal.TheVariants.{NotAdmin, NoRight, NoSubject, NoObject, NoAttribute, NoVariable, NoAct, NoSession, NotYours, NotAccessing, NotRequesting, AlreadyThere, BadValue, TickBack, KindChanged, FullSubjects, FullObjects, FullActs, FullSessions, FullAccessing}
 use Rattle.ucon_model.specs.declared.reply.Revoked.{Revoked}
 use Rattle.ucon_model.specs.declared.session.SessionState.{SessionState}
 use Rattle.ucon_model.specs.declared.session.SessionState.TheVariants as states
@@ -42,6 +42,7 @@ refusal_back NotRequesting = refl
 refusal_back AlreadyThere = refl
 refusal_back BadValue = refl
 refusal_back TickBack = refl
+refusal_back KindChanged = refl
 refusal_back FullSubjects = refl
 refusal_back FullObjects = refl
 refusal_back FullActs = refl

@@ -1,6 +1,6 @@
 -- A line that is read as a command is the command's text.
 use Rattle.std.proofs.Common.{◌≡◌, ℕ, ◌^◌, Bool, true, false, cond, List, [], ◌∷◌, ◌++◌, length, drop, Some, None, Ok, Err, is_ok, is_some, refl, sym, ap, ◌∙◌}
-use Rattle.std.specs.Prelude.{ℤ, pos, negsuc, Result, Option, codes, nat_lt, ok_or, unwrap_or, option_and_then, ◌==◌}
+use Rattle.std.specs.Prelude.{ℤ, pos, negsuc, Result, Option, codes, nat_lt, ok_or, option_map, unwrap_or, option_and_then, ◌==◌}
 use Rattle.std.specs.Fmt.{decimal, signed_decimal}
 use Rattle.std.specs.Result.{result_ok, result_unwrap_or}
 use Rattle.std.specs.Str.{bytes_eq}
@@ -17,9 +17,10 @@ use Rattle.ucon_base.specs.Reading.{value_read}
 use Rattle.ucon_base.specs.Spelling.{value_spelling, side_word}
 use Rattle.ucon_base.proofs.Values.{value_is}
 use Rattle.ucon_model.specs.declared.command.Command.{Command}
-use Rattle.ucon_model.specs.declared.command.Command.TheVariants.{Subject, Object, Set, Env, Tick, Act, Try, Again, Beat, End, Look, Value as Value'}
-use Rattle.ucon_model.specs.CommandLine.{command_words, command_spelling, LineRefusal, no_word, line_too_long, Word, placed, ◌>>=◌, side_in, name_in, value_in, integer_of, integer_in, number_of, number_in, one_word, names_of, three_names, place_of, value_words, set_of, set_words, env_of, env_words, made, command_read, words_read, line_read}
-use Rattle.ucon_model.specs.Plain.{Bytes}
+use Rattle.ucon_model.specs.declared.command.Command.TheVariants.{Subject, Object, Set, Env, Tick, Act, Try, Again, Beat, End, Look, Value as Value', Amend}
+use Rattle.ucon_model.specs.Amending.{has_newline}
+use Rattle.ucon_model.specs.CommandLine.{command_words, command_spelling, LineRefusal, no_word, line_too_long, Word, placed, ◌>>=◌, side_in, name_in, value_in, integer_of, integer_in, number_of, number_in, one_word, names_of, three_names, place_of, value_words, set_of, set_words, env_of, env_words, amendment_in, amend_words, made, command_read, words_read, most_bytes, line_read}
+use Rattle.ucon_model.specs.Plain.{Bytes, PlainPolicy, Amendment}
 use Rattle.ucon_command.proofs.Joined.{split, join, behind, drop-join}
 
 refused : {A : Type 0} {f : LineRefusal} {v : A} → Err f ≡ Ok v → ⊥
@@ -179,30 +180,53 @@ either : {G : Type 0} (b : Bool) (x y : Result Command LineRefusal) (c : Command
 either true x y c h f g = f refl h
 either false x y c h f g = g h
 
-form_is : (line first : Bytes) (ws : List Bytes) (c : Command) → line ≡ join (first ∷ ws) → command_read line first (placed 0 (first ∷ ws)) ≡ Ok c → join (command_words c) ≡ join (first ∷ ws)
-unfolding command_read
-form_is line first ws c is h =
-    let word : (w : Bytes) → bytes_eq first w ≡ true → w ≡ first = λ w e. sym (same_bytes first w e) in
-    either _ _ _ c h (λ e r. from Subject (λ x. x ∷ []) (codes "subject") first ws _ c (λ x. refl) (word _ e) (one_is name_in (λ x. x) name_is first ws) r) (λ h1.
-    either _ _ _ c h1 (λ e r. from Object (λ x. x ∷ []) (codes "object") first ws _ c (λ x. refl) (word _ e) (one_is name_in (λ x. x) name_is first ws) r) (λ h2.
-    either _ _ _ c h2 (λ e r. set_is line first ws c (word _ e) is r) (λ h3.
-    either _ _ _ c h3 (λ e r. env_is line first ws c (word _ e) is r) (λ h4.
-    either _ _ _ c h4 (λ e r. from Tick (λ x. signed_decimal x ∷ []) (codes "tick") first ws _ c (λ x. refl) (word _ e) (one_is integer_in signed_decimal integer_is first ws) r) (λ h5.
-    either _ _ _ c h5 (λ e r. from (λ t. Act t.0 t.1 t.2) (λ t. t.0 ∷ t.1 ∷ t.2 ∷ []) (codes "act") first ws _ c (λ x. refl) (word _ e) (three_is first ws) r) (λ h6.
-    either _ _ _ c h6 (λ e r. from (λ t. Try t.0 t.1 t.2) (λ t. t.0 ∷ t.1 ∷ t.2 ∷ []) (codes "try") first ws _ c (λ x. refl) (word _ e) (three_is first ws) r) (λ h7.
-    either _ _ _ c h7 (λ e r. from Again (λ x. decimal x ∷ []) (codes "again") first ws _ c (λ x. refl) (word _ e) (one_is number_in decimal number_is first ws) r) (λ h8.
-    either _ _ _ c h8 (λ e r. from Beat (λ x. decimal x ∷ []) (codes "beat") first ws _ c (λ x. refl) (word _ e) (one_is number_in decimal number_is first ws) r) (λ h9.
-    either _ _ _ c h9 (λ e r. from End (λ x. decimal x ∷ []) (codes "end") first ws _ c (λ x. refl) (word _ e) (one_is number_in decimal number_is first ws) r) (λ h10.
-    either _ _ _ c h10 (λ e r. from Look (λ x. decimal x ∷ []) (codes "look") first ws _ c (λ x. refl) (word _ e) (one_is number_in decimal number_is first ws) r) (λ h11.
-    either _ _ _ c h11 (λ e r. from (λ p. Value' p.0 p.1 p.2) (λ p. side_word p.0 ∷ p.1 ∷ p.2 ∷ []) (codes "value") first ws _ c (λ x. refl) (word _ e) (value_words_is first ws) r) (λ h12.
-    absurd (refused h12)))))))))))))
+-- however the texts of policies are read
+module _ (reads : Bytes → Option PlainPolicy) where
+  -- what a text is read as keeps the text
+  amendment_from : (text : Bytes) (policy : Option PlainPolicy) (a : Amendment) → option_map (λ p. record { text = text; policy = p }) policy ≡ Some a → a.text ≡ text
+  amendment_from text None a h = absurd (nothing h)
+  amendment_from text (Some p) a h = ap (λ o. (unwrap_or o a).text) (sym h)
 
-words_is : (line : Bytes) (ws : List Bytes) (c : Command) → line ≡ join ws → words_read line (placed 0 ws) ≡ Ok c → join (command_words c) ≡ line
-words_is line [] c is h = absurd (refused h)
-words_is line (w ∷ ws) c is h = either (length w == 0) (Err no_word) _ c h (λ e r. absurd (refused r)) (λ r. form_is line w ws c is r ∙ sym is)
+  one_line_from : (newline : Bool) (o : Option Amendment) (a : Amendment) → cond newline None o ≡ Some a → o ≡ Some a
+  one_line_from true o a h = absurd (nothing h)
+  one_line_from false o a h = h
 
-pub command_is : (line : Bytes) (c : Command) → line_read line ≡ Ok c → command_spelling c ≡ line
-unfolding line_read command_spelling
-command_is line c h =
-    either (nat_lt 8192 (length line)) (Err (line_too_long (length line))) _ c h (λ e r. absurd (refused r))
-    (λ r. words_is line (split line) c (sym (join_with_byte-slice_split 32 line)) r)
+  amendment_is : (text : Bytes) (a : Amendment) → amendment_in reads text ≡ Some a → a.text ≡ text
+  amendment_is text a h = amendment_from text (reads text) a (one_line_from (has_newline text) _ a h)
+
+  amend_is : (line first : Bytes) (ws : List Bytes) (c : Command) → codes "amend" ≡ first → line ≡ join (first ∷ ws) → amend_words reads line (placed 0 (first ∷ ws)) ≡ Ok c → join (command_words c) ≡ join (first ∷ ws)
+  unfolding amend_words
+  amend_is line first [] c w is h = absurd (refused h)
+  amend_is line first (v ∷ more) c w is h =
+      let x = made_is Amend _ c h in
+      let text : x.0.text ≡ join (v ∷ more) = amendment_is _ x.0 (said_is _ _ x.0 x.1.0) ∙ ap (drop (behind 0 (first ∷ []))) is ∙ drop-join (first ∷ []) (join (v ∷ more)) in
+      ap (λ k. join (command_words k)) (sym x.1.1) ∙ ap (λ b. join (b ∷ x.0.text ∷ [])) w ∙ ap (λ b. join (first ∷ b ∷ [])) text
+
+  form_is : (line first : Bytes) (ws : List Bytes) (c : Command) → line ≡ join (first ∷ ws) → command_read reads line first (placed 0 (first ∷ ws)) ≡ Ok c → join (command_words c) ≡ join (first ∷ ws)
+  unfolding command_read
+  form_is line first ws c is h =
+      let word : (w : Bytes) → bytes_eq first w ≡ true → w ≡ first = λ w e. sym (same_bytes first w e) in
+      either _ _ _ c h (λ e r. from Subject (λ x. x ∷ []) (codes "subject") first ws _ c (λ x. refl) (word _ e) (one_is name_in (λ x. x) name_is first ws) r) (λ h1.
+      either _ _ _ c h1 (λ e r. from Object (λ x. x ∷ []) (codes "object") first ws _ c (λ x. refl) (word _ e) (one_is name_in (λ x. x) name_is first ws) r) (λ h2.
+      either _ _ _ c h2 (λ e r. set_is line first ws c (word _ e) is r) (λ h3.
+      either _ _ _ c h3 (λ e r. env_is line first ws c (word _ e) is r) (λ h4.
+      either _ _ _ c h4 (λ e r. from Tick (λ x. signed_decimal x ∷ []) (codes "tick") first ws _ c (λ x. refl) (word _ e) (one_is integer_in signed_decimal integer_is first ws) r) (λ h5.
+      either _ _ _ c h5 (λ e r. from (λ t. Act t.0 t.1 t.2) (λ t. t.0 ∷ t.1 ∷ t.2 ∷ []) (codes "act") first ws _ c (λ x. refl) (word _ e) (three_is first ws) r) (λ h6.
+      either _ _ _ c h6 (λ e r. from (λ t. Try t.0 t.1 t.2) (λ t. t.0 ∷ t.1 ∷ t.2 ∷ []) (codes "try") first ws _ c (λ x. refl) (word _ e) (three_is first ws) r) (λ h7.
+      either _ _ _ c h7 (λ e r. from Again (λ x. decimal x ∷ []) (codes "again") first ws _ c (λ x. refl) (word _ e) (one_is number_in decimal number_is first ws) r) (λ h8.
+      either _ _ _ c h8 (λ e r. from Beat (λ x. decimal x ∷ []) (codes "beat") first ws _ c (λ x. refl) (word _ e) (one_is number_in decimal number_is first ws) r) (λ h9.
+      either _ _ _ c h9 (λ e r. from End (λ x. decimal x ∷ []) (codes "end") first ws _ c (λ x. refl) (word _ e) (one_is number_in decimal number_is first ws) r) (λ h10.
+      either _ _ _ c h10 (λ e r. from Look (λ x. decimal x ∷ []) (codes "look") first ws _ c (λ x. refl) (word _ e) (one_is number_in decimal number_is first ws) r) (λ h11.
+      either _ _ _ c h11 (λ e r. from (λ p. Value' p.0 p.1 p.2) (λ p. side_word p.0 ∷ p.1 ∷ p.2 ∷ []) (codes "value") first ws _ c (λ x. refl) (word _ e) (value_words_is first ws) r) (λ h12.
+      either _ _ _ c h12 (λ e r. amend_is line first ws c (word _ e) is r) (λ h13.
+      absurd (refused h13))))))))))))))
+
+  words_is : (line : Bytes) (ws : List Bytes) (c : Command) → line ≡ join ws → words_read reads line (placed 0 ws) ≡ Ok c → join (command_words c) ≡ line
+  words_is line [] c is h = absurd (refused h)
+  words_is line (w ∷ ws) c is h = either (length w == 0) (Err no_word) _ c h (λ e r. absurd (refused r)) (λ r. form_is line w ws c is r ∙ sym is)
+
+  pub command_is : (line : Bytes) (c : Command) → line_read reads line ≡ Ok c → command_spelling c ≡ line
+  unfolding line_read command_spelling
+  command_is line c h =
+      either (nat_lt (most_bytes line) (length line)) (Err (line_too_long (length line))) _ c h (λ e r. absurd (refused r))
+      (λ r. words_is line (split line) c (sym (join_with_byte-slice_split 32 line)) r)

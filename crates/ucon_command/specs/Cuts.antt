@@ -1,14 +1,17 @@
 -- Where the words of a line stand, and the command that they give.
 use Rattle.std.specs.Prelude.{◌≡◌, ℕ, ◌-◌, ◌≤◌, ◌<◌, Bool, ◌&&◌, true, ◌==◌, nat_lt, nat_le, IsTrue, IsOk, List, [], ◌∷◌, drop, length, slice_range, Option, Some, None, option_map, IfSome, Result}
+use Rattle.std.specs.Coded.{Coded-set, coded_option}
 use Rattle.std.specs.List.{slice_split}
 use Rattle.std.specs.Result.{result_ok}
 use Rattle.ucon_base.specs.NameBytes.{is_name}
 use Rattle.ucon_command.specs.declared.cuts.Cuts.{Cuts}
 use Rattle.ucon_command.specs.declared.cuts.Cuts.TheVariants as cuts
+use Rattle.ucon_model.specs.contracts.command.Command as the_command
 use Rattle.ucon_model.specs.declared.command.Command.{Command}
-use Rattle.ucon_model.specs.declared.command.Command.TheVariants.{Subject, Object, Set, Env, Tick, Act, Try, Again, Beat, End, Look, Value as Value'}
-use Rattle.ucon_model.specs.CommandLine.{LineRefusal, Word, placed, words_of, value_in, integer_in}
+use Rattle.ucon_model.specs.declared.command.Command.TheVariants.{Subject, Object, Set, Env, Tick, Act, Try, Again, Beat, End, Look, Value as Value', Amend}
+use Rattle.ucon_model.specs.CommandLine.{LineRefusal, Word, placed, words_of, value_in, integer_in, amendment_in}
 use Rattle.ucon_model.specs.Plain.{Bytes}
+use Rattle.ucon_syntax.specs.Policies.{accepted}
 
 -- ---- the words of a line
 
@@ -52,6 +55,11 @@ command_cut (cuts.Beat session) line = Some (Beat session)
 command_cut (cuts.End session) line = Some (End session)
 command_cut (cuts.Look session) line = Some (Look session)
 command_cut (cuts.Value side name attr) line = Some (Value' side (between name attr line) (drop attr line))
+command_cut (cuts.Amend policy) line = option_map Amend (amendment_in accepted (drop policy line))
+
+-- commands that may be missing are equal in one way at the most
+pub commands_are_a_set : IsSet (Option Command)
+commands_are_a_set = Coded-set (coded_option (the_command.the_row).coded)
 
 -- whether a name stands at a place, behind which the next word begins at another
 abbrev pub has_name : ℕ → ℕ → Bytes → Bool
@@ -61,7 +69,7 @@ has_name at next line = nat_lt at next && nat_le next (length line) && is_name (
 abbrev pub ends_in_name : ℕ → Bytes → Bool
 ends_in_name at line = nat_le at (length line) && is_name (drop at line)
 
--- whether the words that are names are some, and a value's place is one
+-- whether the words that are names are some, and a value's or a policy's place is one
 abbrev pub has_words : Cuts → Bytes → Bool
 has_words (cuts.Subject name) line = ends_in_name name line
 has_words (cuts.Object name) line = ends_in_name name line
@@ -75,6 +83,7 @@ has_words (cuts.Beat session) line = true
 has_words (cuts.End session) line = true
 has_words (cuts.Look session) line = true
 has_words (cuts.Value side name attr) line = has_name name attr line && ends_in_name attr line
+has_words (cuts.Amend policy) line = nat_le policy (length line)
 
 -- cuts give what is read of a line
 pub record AreCuts (k : Cuts) (line : Bytes) (read : Result Command LineRefusal) : Type 0 where

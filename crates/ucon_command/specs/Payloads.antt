@@ -25,9 +25,9 @@ IsBadAt read (NoMemory e) = ⊤
 abbrev pub most_reply : PlainReply → ℕ
 most_reply reply = 4306 + 52 * length (revocations_in reply)
 
--- nor is a payload, of which a command's text has at most 8192 bytes
+-- nor is a payload, of which a command's text has at most 65,542 bytes
 abbrev pub most_told : PlainReply → ℕ
-most_told reply = 8197 + most_reply reply
+most_told reply = 65547 + most_reply reply
 
 -- A step that can be spelled: of one of the 64 clients, of a command and a reply of names, values and numbers, with no more revocations than
 -- sessions can be accessing.

@@ -2,8 +2,9 @@
 
 ghost use Rattle.std.specs.Prelude.{◌≡◌, ◌<◌, length, Ok, Err, IfOk, IsOk, IsTrue, MatchResult};
 ghost use Rattle.std.specs.Result.{result_ok};
-ghost use Rattle.ucon_model.specs.CommandLine.{line_read};
-ghost use Rattle.ucon_command.specs.Cuts.{command_cut, has_words};
+ghost use Rattle.ucon_model.specs.CommandLine.{line_read, most_bytes};
+ghost use Rattle.ucon_syntax.specs.Policies.{accepted};
+ghost use Rattle.ucon_command.specs.Cuts.{command_cut, commands_are_a_set, has_words};
 ghost use Rattle.ucon_command.specs.Faults.{IsRefusal};
 
 use crate::cuts::Cuts;
@@ -20,16 +21,17 @@ use ucon_model::Command;
 pub struct CommandLine<'a> {
     pub text: &'a [u8],
     cuts: Cuts,
-    ghost spelled: { IsOk (line_read text.now) },
-    ghost cut: { result_ok (line_read text.now) ≡ command_cut cuts text.now },
+    ghost spelled: { IsOk (line_read accepted text.now) },
+    ghost cut: { result_ok (line_read accepted text.now) ≡ command_cut cuts text.now } by { commands_are_a_set _ _ },
     ghost words: { IsTrue (has_words cuts text.now) },
 }
 
 impl<'a> CommandLine<'a> {
-    /// The line, if it spells a command, or the first refusal. Only a value that is a set takes memory while it is judged.
+    /// The line, if it spells a command, or the first refusal. Only a value that is a set, and an amendment's
+    /// policy, take memory while it is judged.
     pub fn judge(alloc: Global, text: &'a [u8]) -> Result<CommandLine<'a>, LineFault>
-        ensures judged { MatchResult result (λ l. (l.text.now ≡ text.now) × IsOk (line_read text.now)) (IsRefusal (line_read text.now)) }
-        ensures long { 8192 < length text.now → result ≡ Err (LineFault.TooLong (length text.now)) }
+        ensures judged { MatchResult result (λ l. (l.text.now ≡ text.now) × IsOk (line_read accepted text.now)) (IsRefusal (line_read accepted text.now)) }
+        ensures long { most_bytes text.now < length text.now → result ≡ Err (LineFault.TooLong (length text.now)) }
     {
         match cuts_of(alloc, text) {
             Ok(cuts) => Ok(CommandLine { text, cuts }),
@@ -39,7 +41,7 @@ impl<'a> CommandLine<'a> {
 
     /// The command.
     pub fn command(&self, alloc: Global) -> Result<Command, NoMemory>
-        ensures { IfOk result (λ c. line_read self.now.text.now ≡ Ok c) }
+        ensures { IfOk result (λ c. line_read accepted self.now.text.now ≡ Ok c) }
     {
         command_of(alloc, self.text, self.cuts)
     }

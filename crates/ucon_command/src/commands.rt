@@ -1,24 +1,26 @@
 //! Commands as text.
 
-ghost use Rattle.std.specs.Prelude.{◌≡◌, ◌≤◌, ◌++◌, ◌∷◌, length, IfOk, OnOk, Ok};
+ghost use Rattle.std.specs.Prelude.{◌≡◌, ◌≤◌, ◌++◌, ◌∷◌, length, codes, IfOk, OnOk, Ok};
 ghost use Rattle.ucon_base.specs.Spelling.{side_word};
-ghost use Rattle.ucon_model.specs.CommandLine.{command_spelling, line_read};
+ghost use Rattle.ucon_model.specs.CommandLine.{command_spelling, line_read, most_bytes};
 ghost use Rattle.ucon_model.specs.Output.{Lacks};
+ghost use Rattle.ucon_syntax.specs.Policies.{accepted};
 
 use crate::in_form::command_in_form;
+use crate::laws::commands_are_read_back;
 use crate::spelling::{put_name, put_session, put_value};
 use std::alloc::Global;
 use ucon_base::{Name, NoMemory, Side, put, put_integer};
-use ucon_model::Command;
+use ucon_model::{Amend, Command};
 
-/// The one line that reads as the command: at most 8192 bytes, without a newline.
-#[tactic(auto, using(crate::proofs::Lengths::short, crate::proofs::ReadLines::command_back, crate::proofs::InLine::command_in_line))]
+/// The one line that reads as the command, without a newline: at most 65,542 bytes for an amendment, and 8192 for any other.
 pub fn command_text(alloc: Global, command: &Command) -> Result<Vec<u8>, NoMemory>
     ensures text { IfOk result (λ t. t.items ≡ command_spelling command.now) }
-    ensures read_back { line_read (command_spelling command.now) ≡ Ok command.now }
+    ensures read_back { line_read accepted (command_spelling command.now) ≡ Ok command.now }
     ensures one_line { Lacks 10 (command_spelling command.now) }
-    ensures short { length (command_spelling command.now) ≤ 8192 }
+    ensures short { length (command_spelling command.now) ≤ most_bytes (command_spelling command.now) }
 {
+    commands_are_read_back();
     command_in_form(command);
     let mut text = Vec::new(alloc);
     put_command(alloc, &mut text, command)?;
@@ -64,6 +66,7 @@ pub fn put_command(alloc: Global, out: &mut Vec<u8>, command: &Command) -> Resul
         Command::End(n) => put_session(out, b"end ", *n),
         Command::Look(n) => put_session(out, b"look ", *n),
         Command::Value { side, name, attr } => put_place(out, b"value ", *side, name, attr),
+        Command::Amend(amend) => put_amendment(out, amend),
     }
 }
 
@@ -97,4 +100,12 @@ fn put_place(
     put(out, word)?;
     put_named(out, side.word(), name)?;
     put_name(out, attr)
+}
+
+/// Adds the word and the policy's text.
+fn put_amendment(out: &mut Vec<u8>, amend: &Amend) -> Result<(), NoMemory>
+    ensures { OnOk result (out.new.items ≡ out.old.items ++ (codes "amend " ++ amend.now.text)) }
+{
+    put(out, b"amend ")?;
+    put(out, amend.text())
 }

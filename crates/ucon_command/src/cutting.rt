@@ -3,13 +3,15 @@
 ghost use Rattle.std.specs.Prelude.{◌≡◌, ◌<◌, ◌≤◌, drop, length, IfOk, IsSome, IsTrue, Some};
 ghost use Rattle.ucon_base.specs.NameBytes.{is_name};
 ghost use Rattle.ucon_base.specs.Reading.{value_read};
-ghost use Rattle.ucon_model.specs.CommandLine.{integer_in, value_in};
+ghost use Rattle.ucon_model.specs.CommandLine.{amendment_in, integer_in, value_in};
+ghost use Rattle.ucon_syntax.specs.Policies.{accepted};
 ghost use Rattle.ucon_command.specs.Cuts.{between, command_cut, ends_in_name, has_name, has_words};
 
+use crate::amendment::amendment_in;
 use crate::cuts::Cuts;
 use std::alloc::Global;
 use ucon_base::{Int, Name, NoMemory, Value, ValueFault};
-use ucon_model::Command;
+use ucon_model::{Amend, Command};
 
 /// The command that these cuts of a line give.
 #[tactic(auto, using(crate::proofs::KnownWords::both, crate::proofs::KnownWords::some_mapped))]
@@ -64,6 +66,7 @@ pub fn command_of(alloc: Global, line: &[u8], cuts: Cuts) -> Result<Command, NoM
             name: name_between(line, name, attr),
             attr: last_name(line, attr),
         }),
+        Cuts::Amend { policy } => Ok(Command::Amend(last_amendment(alloc, line, policy)?)),
     }
 }
 
@@ -115,5 +118,17 @@ fn last_integer(alloc: Global, line: &[u8], at: u16) -> Result<Int, NoMemory>
     match last_value(alloc, line, at)? {
         Value::Int(n) => Ok(n),
         _ => unreachable!(),
+    }
+}
+
+/// The amendment whose policy takes the rest of the line.
+fn last_amendment(alloc: Global, line: &[u8], at: u32) -> Result<Amend, NoMemory>
+    requires within { at ≤ length line.now }
+    requires amendment { IsSome (amendment_in accepted (drop at line.now)) }
+    ensures { IfOk result (λ a. amendment_in accepted (drop at line.now) ≡ Some a) }
+{
+    match amendment_in(alloc, &line[at as usize..])? {
+        Some(amend) => Ok(amend),
+        None => unreachable!(),
     }
 }

@@ -3,13 +3,14 @@
 ghost use Rattle.std.specs.Prelude.{◌≡◌, ◌≤◌, ◌<◌, [], ◌∷◌, length, drop, IfNone, IfOk, IfSome, IsOk, IsTrue, Ok, MatchOption, MatchResult};
 ghost use Rattle.std.specs.Result.{result_ok};
 ghost use Rattle.ucon_base.specs.NameBytes.{is_name};
-ghost use Rattle.ucon_model.specs.CommandLine.{name_in, integer_in, number_in, one_word, names_of, three_names, place_of, value_words, set_words, env_words, words_of};
+ghost use Rattle.ucon_model.specs.CommandLine.{name_in, integer_in, number_in, one_word, names_of, three_names, place_of, value_words, set_words, env_words, amend_words, words_of};
+ghost use Rattle.ucon_syntax.specs.Policies.{accepted};
 ghost use Rattle.ucon_command.specs.Cuts.{AreCuts, IsSecond, between, ends_in_name, has_name, words_at, words_from};
 ghost use Rattle.ucon_command.specs.Faults.{IsRefusal};
 ghost use Rattle.ucon_command.specs.Words.{word_of};
 
 use crate::cuts::Cuts;
-use crate::kinds::{integer_word, name_word, number_word, side_word, value_word};
+use crate::kinds::{amendment_word, integer_word, name_word, number_word, side_word, value_word};
 use crate::line_fault::LineFault;
 use crate::words::{Word, last_word, next_word, word_between, word_count};
 use std::alloc::Global;
@@ -212,4 +213,23 @@ pub fn env_words(alloc: Global, line: &[u8], second: Option<usize>) -> Result<Cu
         name: a as u16,
         value: b as u16,
     })
+}
+
+/// `amend POLICY`: where the policy begins, which takes the rest of the line.
+#[tactic(auto, unfolding(ucon_model::specs::CommandLine::amend_words), using(crate::proofs::Amended::amend_miscounted))]
+pub fn amend_words(alloc: Global, line: &[u8], second: Option<usize>) -> Result<Cuts, LineFault>
+    requires short { length line.now ≤ 65542 }
+    requires second { IsSecond second line.now }
+    ensures { MatchResult result (λ k. AreCuts k line.now (amend_words accepted line.now (words_of line.now)))
+        (IsRefusal (amend_words accepted line.now (words_of line.now))) }
+{
+    let Some(policy) = second else {
+        return Err(LineFault::WrongCount(word_count(line)));
+    };
+    match amendment_word(alloc, &last_word(line, policy)) {
+        Ok(()) => Ok(Cuts::Amend {
+            policy: policy as u32,
+        }),
+        Err(fault) => Err(fault),
+    }
 }

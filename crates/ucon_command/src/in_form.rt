@@ -6,13 +6,14 @@ ghost use Rattle.ucon_base.specs.Spelling.{IsValue};
 ghost use Rattle.ucon_base.specs.NameBytes.{is_name};
 ghost use Rattle.ucon_base.specs.Numbers.{InRange};
 ghost use Rattle.ucon_base.specs.TextBytes.{is_text};
+ghost use Rattle.ucon_model.specs.Amending.{IsAmendment};
 ghost use Rattle.ucon_model.specs.CommandLine.{IsCommand};
 ghost use Rattle.ucon_base.specs.Elements.{Each};
 ghost use Rattle.ucon_model.specs.ReplyText.{IsLabelled, IsHead, IsReply};
 ghost use Rattle.ucon_model.specs.Views.{reply_of};
 
 use ucon_base::{Int, Name, Text, Value};
-use ucon_model::{Command, Head, Reply, Revoked};
+use ucon_model::{Amend, Command, Head, Reply, Revoked};
 
 fn text_in_form(t: &Text)
     ensures { IsTrue (is_text t.now) }
@@ -71,6 +72,12 @@ fn place_in_form(name: &Name, attr: &Name)
     name_in_form(attr);
 }
 
+fn amendment_in_form(amend: &Amend)
+    ensures { IsAmendment amend.now }
+{
+    let _ = amend.text();
+}
+
 pub fn command_in_form(command: &Command)
     ensures { IsCommand command.now }
 {
@@ -110,6 +117,7 @@ pub fn command_in_form(command: &Command)
             name,
             attr,
         } => place_in_form(name, attr),
+        Command::Amend(amend) => amendment_in_form(amend),
     }
 }
 

@@ -1,25 +1,27 @@
 //! Judges a line: by its form, where its words stand, or why it spells no command.
 
-ghost use Rattle.std.specs.Prelude.{◌≡◌, ◌<◌, ◌≤◌, ◌-◌, length, Ok, Err, IsTrue, MatchResult};
-ghost use Rattle.ucon_model.specs.CommandLine.{command_read, line_read, words_of};
+ghost use Rattle.std.specs.Prelude.{◌≡◌, ◌<◌, ◌≤◌, ◌-◌, length, codes, Ok, Err, IsFalse, IsTrue, MatchResult};
+ghost use Rattle.std.specs.Str.{bytes_eq};
+ghost use Rattle.ucon_model.specs.CommandLine.{command_read, line_read, most_bytes, words_of};
+ghost use Rattle.ucon_syntax.specs.Policies.{accepted};
 ghost use Rattle.ucon_command.specs.Cuts.{AreCuts, IsSecond, word_to};
 ghost use Rattle.ucon_command.specs.Faults.{IsRefusal};
 
 use crate::cuts::Cuts;
 use crate::forms::{
-    env_words, one_integer, one_name, one_number, set_words, three_names, value_words,
+    amend_words, env_words, one_integer, one_name, one_number, set_words, three_names, value_words,
 };
 use crate::line_fault::LineFault;
 use crate::words::next_word;
 use std::alloc::Global;
 
-/// Where the words of a line's command stand, or the first refusal. A line of more than 8192 bytes is refused before any memory is taken.
+/// Where the words of a line's command stand, or the first refusal. A line of too many bytes is refused before any memory is taken.
 #[tactic(auto, unfolding(ucon_model::specs::CommandLine::line_read))]
 pub fn cuts_of(alloc: Global, line: &[u8]) -> Result<Cuts, LineFault>
-    ensures long { 8192 < length line.now → result ≡ Err (LineFault.TooLong (length line.now)) }
-    ensures cuts { MatchResult result (λ k. AreCuts k line.now (line_read line.now)) (IsRefusal (line_read line.now)) }
+    ensures long { most_bytes line.now < length line.now → result ≡ Err (LineFault.TooLong (length line.now)) }
+    ensures cuts { MatchResult result (λ k. AreCuts k line.now (line_read accepted line.now)) (IsRefusal (line_read accepted line.now)) }
 {
-    if line.len() > 8192 {
+    if line.len() > most_bytes(line) {
         return Err(LineFault::TooLong(line.len()));
     }
     let second = next_word(line, 0);
@@ -41,9 +43,40 @@ fn first_word(line: &[u8], second: Option<usize>) -> &[u8]
     }
 }
 
-/// The form that a line's first word begins.
-#[tactic(auto, unfolding(ucon_model::specs::CommandLine::command_read))]
+/// How many bytes a line may have.
+fn most_bytes(line: &[u8]) -> usize
+    ensures { result ≡ most_bytes line.now }
+{
+    if line.starts_with(b"amend ") {
+        65542
+    } else {
+        8192
+    }
+}
+
+/// The form that a line's first word begins. An amendment's line may be longer than the others.
+#[tactic(auto, using(crate::proofs::Amended::amend_form, crate::proofs::Amended::other_most, crate::proofs::Lengths::most))]
 fn form_cuts(
+    alloc: Global,
+    line: &[u8],
+    first: &[u8],
+    second: Option<usize>,
+) -> Result<Cuts, LineFault>
+    requires short { length line.now ≤ most_bytes line.now }
+    requires second { IsSecond second line.now }
+    requires first { first.now ≡ (word_to 0 second line.now).text }
+    ensures { MatchResult result (λ k. AreCuts k line.now (command_read accepted line.now first.now (words_of line.now))) (IsRefusal (command_read accepted line.now first.now (words_of line.now))) }
+{
+    if first == b"amend".as_slice() {
+        amend_words(alloc, line, second)
+    } else {
+        other_cuts(alloc, line, first, second)
+    }
+}
+
+/// The form that a line's first word begins, if that isn't `amend`.
+#[tactic(auto, unfolding(ucon_model::specs::CommandLine::command_read))]
+fn other_cuts(
     alloc: Global,
     line: &[u8],
     first: &[u8],
@@ -51,7 +84,8 @@ fn form_cuts(
 ) -> Result<Cuts, LineFault>
     requires short { length line.now ≤ 8192 }
     requires second { IsSecond second line.now }
-    ensures { MatchResult result (λ k. AreCuts k line.now (command_read line.now first.now (words_of line.now))) (IsRefusal (command_read line.now first.now (words_of line.now))) }
+    requires other { IsFalse (bytes_eq first.now (codes "amend")) }
+    ensures { MatchResult result (λ k. AreCuts k line.now (command_read accepted line.now first.now (words_of line.now))) (IsRefusal (command_read accepted line.now first.now (words_of line.now))) }
 {
     if first == b"subject".as_slice() {
         return one_name(line, second).map(|name| Cuts::Subject { name });

@@ -1,11 +1,13 @@
 //! What a word says, by its kind.
 
-ghost use Rattle.std.specs.Prelude.{◌≡◌, IfOk, IsTrue, MatchResult};
+ghost use Rattle.std.specs.Prelude.{◌≡◌, IfOk, IsOk, IsTrue, MatchResult};
 ghost use Rattle.ucon_base.specs.NameBytes.{is_name};
-ghost use Rattle.ucon_model.specs.CommandLine.{side_in, name_in, value_in, integer_of, integer_in, number_of, number_in, said};
+ghost use Rattle.ucon_model.specs.CommandLine.{side_in, name_in, value_in, integer_of, integer_in, number_of, number_in, amendment_in, said};
+ghost use Rattle.ucon_syntax.specs.Policies.{accepted};
 ghost use Rattle.ucon_command.specs.Words.{word_of};
 ghost use Rattle.ucon_command.specs.Faults.{IsRefusal};
 
+use crate::amendment::amendment_in;
 use crate::line_fault::LineFault;
 use crate::words::Word;
 use std::alloc::Global;
@@ -119,4 +121,14 @@ pub fn number_word(alloc: Global, w: &Word<'_>) -> Result<u32, LineFault>
     ensures { MatchResult result (λ n. said number_in (word_of w.now) ≡ Ok n) (IsRefusal (said number_in (word_of w.now))) }
 {
     number_in(alloc, w.text)?.ok_or(LineFault::BadWord(w.at))
+}
+
+/// That a word spells an amendment's policy.
+pub fn amendment_word(alloc: Global, w: &Word<'_>) -> Result<(), LineFault>
+    ensures { MatchResult result (λ _. IsOk (said (amendment_in accepted) (word_of w.now))) (IsRefusal (said (amendment_in accepted) (word_of w.now))) }
+{
+    match amendment_in(alloc, w.text)? {
+        Some(_) => Ok(()),
+        None => Err(LineFault::BadWord(w.at)),
+    }
 }

@@ -4,7 +4,7 @@ ghost use Rattle.std.specs.Prelude.{◌≡◌, ◌<◌, ◌≤◌, ◌∷◌, []
 ghost use Rattle.std.specs.Str.{bytes_eq};
 ghost use Rattle.ucon_model.specs.declared.command.Entry.{Entry};
 ghost use Rattle.ucon_model.specs.declared.command.Command.{Command};
-ghost use Rattle.ucon_model.specs.CommandLine.{IsCommand, command_spelling, line_read};
+ghost use Rattle.ucon_model.specs.CommandLine.{IsCommand, command_spelling, line_read, most_bytes};
 ghost use Rattle.ucon_model.specs.Found.{found_in, first_gate, gate_behind, holds, payloads_of, taken};
 ghost use Rattle.ucon_model.specs.History.{History, IsProper, changes, said};
 ghost use Rattle.ucon_model.specs.Output.{Lacks};
@@ -12,18 +12,22 @@ ghost use Rattle.ucon_model.specs.Payload.{Told, entry_told, most_payload, paylo
 ghost use Rattle.ucon_model.specs.Plain.{Bytes, PlainPolicy, PlainReply};
 ghost use Rattle.ucon_model.specs.ReplyText.{IsReply, reply_read};
 ghost use Rattle.ucon_model.specs.Spelling.{reply_spelling};
+ghost use Rattle.ucon_syntax.specs.Policies.{accepted};
 ghost use Rattle.ucon_command.specs.Payloads.{AreSteps, IsStep, most_told};
 
 use ucon_model::texts_tell_changes;
+use ucon_syntax::accepted_texts_spell_typed_policies;
 
 /// Each command's text is read as the command, and a line that is read is the text of the command read. No text of a command has a
 /// newline.
 pub fn commands_are_read_back()
-    ensures written { (c : Command) → IsCommand c → line_read (command_spelling c) ≡ Ok c }
-    ensures read { (line : List ℕ) (c : Command) → line_read line ≡ Ok c → command_spelling c ≡ line }
-    ensures short { (c : Command) → IsCommand c → length (command_spelling c) ≤ 8192 }
+    ensures written { (c : Command) → IsCommand c → line_read accepted (command_spelling c) ≡ Ok c }
+    ensures read { (line : List ℕ) (c : Command) → line_read accepted line ≡ Ok c → command_spelling c ≡ line }
+    ensures short { (c : Command) → IsCommand c → length (command_spelling c) ≤ most_bytes (command_spelling c) }
     ensures one_line { (c : Command) → IsCommand c → Lacks 10 (command_spelling c) }
-{}
+{
+    accepted_texts_spell_typed_policies();
+}
 
 /// Each reply's text is read as the reply, and bytes that are read are the text of the reply read.
 pub fn replies_are_read_back()
@@ -33,36 +37,40 @@ pub fn replies_are_read_back()
 
 /// Each step's payload is read as the step, and bytes that are read are the payload of the step read. Every payload fits its record.
 pub fn payloads_are_read_back()
-    ensures written { (t : Told) → IsStep t → payload_read (payload_spelling t) ≡ Ok t }
-    ensures read { (bytes : Bytes) (t : Told) → payload_read bytes ≡ Ok t → (payload_spelling t ≡ bytes) × (t.caller.0 < 64) }
+    ensures written { (t : Told) → IsStep t → payload_read accepted (payload_spelling t) ≡ Ok t }
+    ensures read { (bytes : Bytes) (t : Told) → payload_read accepted bytes ≡ Ok t → (payload_spelling t ≡ bytes) × (t.caller.0 < 64) }
     ensures short { (t : Told) → IsStep t → length (payload_spelling t) ≤ most_told t.reply }
     ensures fits { (t : Told) → IsStep t → length (payload_spelling t) ≤ most_payload }
-{}
+{
+    accepted_texts_spell_typed_policies();
+}
 
 /// A payload is taken exactly where it is the one that the serial run spells, and its reply changes something.
 pub fn steps_are_taken_as_spelled()
     ensures taken { (P : PlainPolicy) (H : History) (payload : Bytes) (t : Told)
-        → length payload ≤ most_payload → payload_read payload ≡ Ok t
+        → length payload ≤ most_payload → payload_read accepted payload ≡ Ok t
         → let reply = said P H t.caller t.command in
-        taken P H payload ≡ (if changes reply && bytes_eq (payload_spelling (told (entry_told t) reply)) payload
+        taken accepted P H payload ≡ (if changes reply && bytes_eq (payload_spelling (told (entry_told t) reply)) payload
         then Some (H ++ entry_told t ∷ []) else None) }
-    ensures unread { (P : PlainPolicy) (H : History) (payload : Bytes) (place : ℕ) → payload_read payload ≡ Err place → taken P H payload ≡ None }
-    ensures long { (P : PlainPolicy) (H : History) (payload : Bytes) → most_payload < length payload → taken P H payload ≡ None }
+    ensures unread { (P : PlainPolicy) (H : History) (payload : Bytes) (place : ℕ) → payload_read accepted payload ≡ Err place → taken accepted P H payload ≡ None }
+    ensures long { (P : PlainPolicy) (H : History) (payload : Bytes) → most_payload < length payload → taken accepted P H payload ≡ None }
     ensures next { (P : PlainPolicy) (H : History) (e : Entry)
         → IsStep (told e (said P H e.caller e.command)) → IsTrue (changes (said P H e.caller e.command))
-        → taken P H (payload_spelling (told e (said P H e.caller e.command))) ≡ Some (H ++ e ∷ []) }
+        → taken accepted P H (payload_spelling (told e (said P H e.caller e.command))) ≡ Some (H ++ e ∷ []) }
 {
+    accepted_texts_spell_typed_policies();
     texts_tell_changes();
 }
 
 /// What is found in a proper history's payloads is that history, and payloads in which a history is found are that history's.
 pub fn histories_are_found()
-    ensures written { (reads : Bytes → Option PlainPolicy) (text : Bytes) (P : PlainPolicy) (H : History)
-        → reads text ≡ Some P → length text ≤ most_payload → IsProper P H → AreSteps P [] H
-        → found_in reads (payloads_of text P H) ≡ holds text P H (gate_behind first_gate (payloads_of text P H)) }
-    ensures read { (reads : Bytes → Option PlainPolicy) (payloads : List Bytes) (text : Bytes) (P : PlainPolicy) (H : History) (gate : ℕ)
-        → found_in reads payloads ≡ holds text P H gate
-        → (payloads ≡ payloads_of text P H) × (gate ≡ gate_behind first_gate payloads) × (reads text ≡ Some P) × IsProper P H }
+    ensures written { (text : Bytes) (P : PlainPolicy) (H : History)
+        → accepted text ≡ Some P → length text ≤ most_payload → IsProper P H → AreSteps P [] H
+        → found_in accepted (payloads_of text P H) ≡ holds text P H (gate_behind first_gate (payloads_of text P H)) }
+    ensures read { (payloads : List Bytes) (text : Bytes) (P : PlainPolicy) (H : History) (gate : ℕ)
+        → found_in accepted payloads ≡ holds text P H gate
+        → (payloads ≡ payloads_of text P H) × (gate ≡ gate_behind first_gate payloads) × (accepted text ≡ Some P) × IsProper P H }
 {
+    accepted_texts_spell_typed_policies();
     texts_tell_changes();
 }

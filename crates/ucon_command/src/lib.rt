@@ -1,6 +1,7 @@
 //! Command lines and replies: the one text of each, both ways.
 #![tactic(auto)]
 
+mod amendment;
 mod command_line;
 mod commands;
 mod cuts;
@@ -22,6 +23,7 @@ mod spelling;
 mod tests;
 mod words;
 
+pub use amendment::read_accepted;
 pub use command_line::CommandLine;
 pub use commands::command_text;
 pub use cuts::Cuts;

@@ -8,6 +8,7 @@ ghost use Rattle.ucon_model.specs.Output.{cut_at};
 ghost use Rattle.ucon_model.specs.Payload.{caller_read, payload_read, payload_spelling, step_read};
 ghost use Rattle.ucon_model.specs.ReplyText.{reply_read};
 ghost use Rattle.ucon_model.specs.Views.{reply_of};
+ghost use Rattle.ucon_syntax.specs.Policies.{accepted};
 ghost use Rattle.ucon_command.specs.Payloads.{IsBadAt, most_told, told_of};
 
 use crate::commands::put_command;
@@ -23,6 +24,7 @@ use itoa::Buffer;
 use std::alloc::Global;
 use ucon_base::{NoMemory, put};
 use ucon_model::{Caller, Command, Reply};
+use ucon_syntax::accepted_texts_spell_typed_policies;
 
 /// Most payloads have no more.
 const LIKELY_BYTES: usize = 96;
@@ -37,9 +39,10 @@ pub fn payload_text(
 ) -> Result<Vec<u8>, NoMemory>
     ensures text { IfOk result (λ t. t.items ≡ payload_spelling (told_of caller command.now reply.now)) }
     ensures read_back { caller.0 < 64
-        → payload_read (payload_spelling (told_of caller command.now reply.now)) ≡ Ok (told_of caller command.now reply.now) }
+        → payload_read accepted (payload_spelling (told_of caller command.now reply.now)) ≡ Ok (told_of caller command.now reply.now) }
     ensures short { length (payload_spelling (told_of caller command.now reply.now)) ≤ most_told (reply_of reply.now) }
 {
+    accepted_texts_spell_typed_policies();
     command_in_form(command);
     reply_in_form(reply);
     let mut text = Vec::with_capacity(alloc, LIKELY_BYTES)?;
@@ -66,18 +69,18 @@ fn put_payload(
 /// The step of which the bytes are the text, or the place of the first part that is none. Bytes that begin with no client's number and a
 /// space are refused before any memory is taken.
 pub fn read_payload(alloc: Global, bytes: &[u8]) -> Result<(Caller, Command, Reply), PayloadFault>
-    ensures read { MatchResult result (λ t. payload_read bytes.now ≡ Ok (told_of t.0 t.1 t.2)) (IsBadAt (payload_read bytes.now)) }
+    ensures read { MatchResult result (λ t. payload_read accepted bytes.now ≡ Ok (told_of t.0 t.1 t.2)) (IsBadAt (payload_read accepted bytes.now)) }
     ensures spelled { IfOk result (λ t. payload_spelling (told_of t.0 t.1 t.2) ≡ bytes.now) }
     ensures client { IfOk result (λ t. t.0.0 < 64) }
-    ensures no_client { payload_read bytes.now ≡ Err 0 → result ≡ Err (PayloadFault.BadPlace 0) }
+    ensures no_client { payload_read accepted bytes.now ≡ Err 0 → result ≡ Err (PayloadFault.BadPlace 0) }
 {
     payload(alloc, bytes)
 }
 
 #[tactic(auto, unfolding(ucon_model::specs::Payload::payload_read))]
 fn payload(alloc: Global, bytes: &[u8]) -> Result<(Caller, Command, Reply), PayloadFault>
-    ensures no_client { payload_read bytes.now ≡ Err 0 → result ≡ Err (PayloadFault.BadPlace 0) }
-    ensures read { MatchResult result (λ t. payload_read bytes.now ≡ Ok (told_of t.0 t.1 t.2)) (IsBadAt (payload_read bytes.now)) }
+    ensures no_client { payload_read accepted bytes.now ≡ Err 0 → result ≡ Err (PayloadFault.BadPlace 0) }
+    ensures read { MatchResult result (λ t. payload_read accepted bytes.now ≡ Ok (told_of t.0 t.1 t.2)) (IsBadAt (payload_read accepted bytes.now)) }
 {
     let Some((client, behind)) = cut_at(b' ', bytes) else {
         return Err(PayloadFault::BadPlace(0));
@@ -97,7 +100,7 @@ fn step(
     bytes: &[u8],
 ) -> Result<(Caller, Command, Reply), PayloadFault>
     requires { place + length bytes.now < 2 ^ 64 }
-    ensures { MatchResult result (λ t. step_read place caller bytes.now ≡ Ok (told_of t.0 t.1 t.2)) (IsBadAt (step_read place caller bytes.now)) }
+    ensures { MatchResult result (λ t. step_read accepted place caller bytes.now ≡ Ok (told_of t.0 t.1 t.2)) (IsBadAt (step_read accepted place caller bytes.now)) }
 {
     let Some((line, text)) = cut_at(b'\n', bytes) else {
         return Err(PayloadFault::BadPlace(place));
@@ -109,7 +112,7 @@ fn step(
 
 /// The command of a line at this place.
 fn command_at(alloc: Global, place: usize, line: &[u8]) -> Result<Command, PayloadFault>
-    ensures { MatchResult result (λ c. ok_or (result_ok (line_read line.now)) place ≡ Ok c) (IsBadAt (ok_or (result_ok (line_read line.now)) place)) }
+    ensures { MatchResult result (λ c. ok_or (result_ok (line_read accepted line.now)) place ≡ Ok c) (IsBadAt (ok_or (result_ok (line_read accepted line.now)) place)) }
 {
     match read_command(alloc, line) {
         Ok(command) => Ok(command),

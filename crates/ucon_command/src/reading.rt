@@ -16,7 +16,7 @@ use std::alloc::Global;
 use ucon_base::{Name, Rows};
 use ucon_model::{Head, Refusal, Reply, Revoked, SessionState};
 
-const REFUSALS: [Refusal; 19] = [
+const REFUSALS: [Refusal; 20] = [
     Refusal::NotAdmin,
     Refusal::NoRight,
     Refusal::NoSubject,
@@ -31,6 +31,7 @@ const REFUSALS: [Refusal; 19] = [
     Refusal::AlreadyThere,
     Refusal::BadValue,
     Refusal::TickBack,
+    Refusal::KindChanged,
     Refusal::FullSubjects,
     Refusal::FullObjects,
     Refusal::FullActs,

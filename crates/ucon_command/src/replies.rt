@@ -80,6 +80,7 @@ pub fn refusal_words(r: Refusal) -> &'static [u8]
         Refusal::AlreadyThere => b"already there",
         Refusal::BadValue => b"bad value",
         Refusal::TickBack => b"tick back",
+        Refusal::KindChanged => b"kind changed",
         Refusal::FullSubjects => b"full subjects",
         Refusal::FullObjects => b"full objects",
         Refusal::FullActs => b"full acts",

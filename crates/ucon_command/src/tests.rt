@@ -5,7 +5,7 @@ use ucon_model::{Caller, Command, Head, Refusal, Reply, Revoked, SessionState};
 
 #[test]
 fn each_line_is_read_and_written_back(rt: HostRuntime) -> Result<(), Fail> {
-    let lines: [&[u8]; 20] = [
+    let lines: [&[u8]; 23] = [
         b"subject ann",
         b"object doc1",
         b"set s ann credit -1000000000000000",
@@ -26,6 +26,9 @@ fn each_line_is_read_and_written_back(rt: HostRuntime) -> Result<(), Fail> {
         b"value s ann credit",
         b"value o doc1 tags",
         b"subject a23456789_123456789_123456789_12",
+        b"amend ",
+        b"amend right r {}",
+        b"amend attr s a : int 0..9 = 0;  # as it was",
     ];
     for line in lines {
         let command = read_command(rt.alloc(), line)?;
@@ -70,7 +73,7 @@ fn words_stand_where_the_form_says(rt: HostRuntime) -> Result<(), Fail> {
 
 #[test]
 fn each_refusal_has_its_place(rt: HostRuntime) -> Result<(), Fail> {
-    let refused: [(&[u8], LineFault); 40] = [
+    let refused: [(&[u8], LineFault); 45] = [
         (&[b'a'; 8193], LineFault::TooLong(8193)),
         (&[b'a'; 8192], LineFault::UnknownWord),
         (b"", LineFault::NoWord),
@@ -89,6 +92,14 @@ fn each_refusal_has_its_place(rt: HostRuntime) -> Result<(), Fail> {
         (b"try ann read doc1 now", LineFault::WrongCount(5)),
         (b"value s ann", LineFault::WrongCount(3)),
         (b"again x", LineFault::BadWord(6)),
+        (b"amend", LineFault::WrongCount(1)),
+        (b"amends right r {}", LineFault::UnknownWord),
+        (b"amend right", LineFault::BadWord(6)),
+        (
+            b"amend right r { pre a t: s.k = 0; }",
+            LineFault::BadWord(6),
+        ),
+        (b"amend right r {\n}", LineFault::BadWord(6)),
         (b"beat -1", LineFault::BadWord(5)),
         (b"end ", LineFault::BadWord(4)),
         (b"end x", LineFault::BadWord(4)),
@@ -168,9 +179,28 @@ fn each_reply_is_read_and_written_back(rt: HostRuntime) -> Result<(), Fail> {
     Ok(())
 }
 
+/// An amendment's line may have 65,542 bytes, and no other line that begins so.
+#[test]
+fn amendments_may_be_long(rt: HostRuntime) -> Result<(), Fail> {
+    let alloc = rt.alloc();
+    let words: [(&[u8], usize, Option<LineFault>); 3] = [
+        (b"amend ", 65536, None),
+        (b"amend ", 65537, Some(LineFault::TooLong(65543))),
+        (b"amend", 8188, Some(LineFault::TooLong(8193))),
+    ];
+    for (word, more, expected) in words {
+        let mut line = Vec::from_slice(alloc, word)?;
+        for _ in 0..more {
+            line.push(if word.len() == 6 { b' ' } else { b'x' })?;
+        }
+        assert_eq!(rt; read_command(alloc, &line).err(), expected);
+    }
+    Ok(())
+}
+
 #[test]
 fn each_refusal_has_its_text(rt: HostRuntime) -> Result<(), Fail> {
-    let refusals: [(Refusal, &[u8]); 19] = [
+    let refusals: [(Refusal, &[u8]); 20] = [
         (Refusal::NotAdmin, b"not admin"),
         (Refusal::NoRight, b"no right"),
         (Refusal::NoSubject, b"no subject"),
@@ -185,6 +215,7 @@ fn each_refusal_has_its_text(rt: HostRuntime) -> Result<(), Fail> {
         (Refusal::AlreadyThere, b"already there"),
         (Refusal::BadValue, b"bad value"),
         (Refusal::TickBack, b"tick back"),
+        (Refusal::KindChanged, b"kind changed"),
         (Refusal::FullSubjects, b"full subjects"),
         (Refusal::FullObjects, b"full objects"),
         (Refusal::FullActs, b"full acts"),

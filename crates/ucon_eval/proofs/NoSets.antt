@@ -13,6 +13,7 @@ use Rattle.ucon_model.specs.declared.formula.Sort.TheVariants.{Integer, Text, Se
 use Rattle.ucon_model.specs.declared.session.SessionRow.{SessionRow}
 use Rattle.ucon_model.specs.Plain.{Bytes, PlainExpr, lit, read, plus, minus, times, size, PlainFormula, both, either, negation, compare, lasts, PlainTest, authorisation, duty, condition, PlainPredicate, PlainRight, PlainPolicy}
 use Rattle.ucon_model.specs.Action.{Trace}
+use Rattle.ucon_model.specs.Readings.{in_force}
 use Rattle.ucon_model.specs.Truth.{Readings, readings, place_of, value_of, read_or_zero}
 use Rattle.ucon_model.specs.Decision.{right_named}
 use Rattle.ucon_base.specs.Elements.{Each}
@@ -226,7 +227,7 @@ preds_without P R row fits (p ∷ ps) h =
 
 -- each declared place holds a value of the declared sort
 abbrev pub PlacesHold : Type 0
-PlacesHold = (P : PlainPolicy) (T : Trace) → ValuesFit P T → (row : SessionRow) → PlacesFit P (place_of P T row)
+PlacesHold = (P : PlainPolicy) (T : Trace) → ValuesFit P T → (row : SessionRow) → PlacesFit (in_force P T) (place_of P T row)
 
 -- each test is typed
 abbrev pub TestsTyped : Type 0
@@ -240,11 +241,11 @@ of_row : (test : SessionRow → Bool) (o : Option SessionRow) → ((row : Sessio
 of_row test None each = refl
 of_row test (Some row) each = each row
 
-tests_of_trace : PlacesHold → TestsTyped → (P : PlainPolicy) (T : Trace) → IsTyped P → ValuesFit P T → (n : ℕ) → tests_make_no_set P (readings P T) n ≡ true
+tests_of_trace : PlacesHold → TestsTyped → (P : PlainPolicy) (T : Trace) → IsTyped (in_force P T) → ValuesFit P T → (n : ℕ) → tests_make_no_set (in_force P T) (readings P T) n ≡ true
 tests_of_trace hold typed_tests P T typed fit n =
     of_row _ ((readings P T).row n)
-    (λ row. of_right (λ right. preds_make_no_set (readings P T) row right.preds) (right_named P.rights row.right)
-    (λ r is. preds_without P (readings P T) row (hold P T fit row) r.preds (typed_tests P typed row.right r is)))
+    (λ row. of_right (λ right. preds_make_no_set (readings P T) row right.preds) (right_named (in_force P T).rights row.right)
+    (λ r is. preds_without (in_force P T) (readings P T) row (hold P T fit row) r.preds (typed_tests (in_force P T) typed row.right r is)))
 
 -- ---- one predicate by its place
 
@@ -263,20 +264,20 @@ at_right : (Q : PlainPredicate → Bool) (o : Option PlainRight) (i : ℕ) → (
 at_right Q None i each = refl
 at_right Q (Some r) i each = each_at Q r.preds i (each r refl)
 
-test_of_trace : PlacesHold → TestsTyped → (P : PlainPolicy) (T : Trace) → IsTyped P → ValuesFit P T → (n i : ℕ) → makes_no_set_at P (readings P T) n i ≡ true
+test_of_trace : PlacesHold → TestsTyped → (P : PlainPolicy) (T : Trace) → IsTyped (in_force P T) → ValuesFit P T → (n i : ℕ) → makes_no_set_at (in_force P T) (readings P T) n i ≡ true
 test_of_trace hold typed_tests P T typed fit n i =
     of_row _ ((readings P T).row n)
-    (λ row. at_right (λ p. test_makes_no_set ((readings P T).at row) p.test) (right_named P.rights row.right) i
-    (λ r is. each_without P ((readings P T).at row) (hold P T fit row) r.preds (typed_tests P typed row.right r is)))
+    (λ row. at_right (λ p. test_makes_no_set ((readings P T).at row) p.test) (right_named (in_force P T).rights row.right) i
+    (λ r is. each_without (in_force P T) ((readings P T).at row) (hold P T fit row) r.preds (typed_tests (in_force P T) typed row.right r is)))
 
 -- ---- over readings that agree with a trace's
 
-pub tests_make_none : PlacesHold → TestsTyped → (P : PlainPolicy) (T : Trace) (R : Readings) → IsTyped P → ValuesFit P T → Agree R (readings P T) → (n : ℕ)
-    → tests_make_no_set P R n ≡ true
+pub tests_make_none : PlacesHold → TestsTyped → (P : PlainPolicy) (T : Trace) (R : Readings) → IsTyped (in_force P T) → ValuesFit P T → Agree R (readings P T) → (n : ℕ)
+    → tests_make_no_set (in_force P T) R n ≡ true
 tests_make_none hold typed_tests P T R typed fit agree n =
-    subst (λ (S : Readings). tests_make_no_set P S n ≡ true) (sym (agree_is_one R (readings P T) agree)) (tests_of_trace hold typed_tests P T typed fit n)
+    subst (λ (S : Readings). tests_make_no_set (in_force P T) S n ≡ true) (sym (agree_is_one R (readings P T) agree)) (tests_of_trace hold typed_tests P T typed fit n)
 
-pub test_makes_none : PlacesHold → TestsTyped → (P : PlainPolicy) (T : Trace) (R : Readings) → IsTyped P → ValuesFit P T → Agree R (readings P T) → (n i : ℕ)
-    → makes_no_set_at P R n i ≡ true
+pub test_makes_none : PlacesHold → TestsTyped → (P : PlainPolicy) (T : Trace) (R : Readings) → IsTyped (in_force P T) → ValuesFit P T → Agree R (readings P T) → (n i : ℕ)
+    → makes_no_set_at (in_force P T) R n i ≡ true
 test_makes_none hold typed_tests P T R typed fit agree n i =
-    subst (λ (S : Readings). makes_no_set_at P S n i ≡ true) (sym (agree_is_one R (readings P T) agree)) (test_of_trace hold typed_tests P T typed fit n i)
+    subst (λ (S : Readings). makes_no_set_at (in_force P T) S n i ≡ true) (sym (agree_is_one R (readings P T) agree)) (test_of_trace hold typed_tests P T typed fit n i)

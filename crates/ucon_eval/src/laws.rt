@@ -18,7 +18,8 @@ use ucon_model::{places_hold_their_sorts, tests_are_typed};
 
 /// Over the readings of a trace, an update's result is the trace's.
 pub fn results_are_those_of_the_trace()
-    ensures { (P : PlainPolicy) (T : Trace) (row : SessionRow) (u : PlainUpdate) → result_read P (readings P T) row u ≡ trace_result P T row u }
+    ensures { (P : PlainPolicy) (T : Trace) (row : SessionRow) (u : PlainUpdate)
+        → result_read (in_force P T) (readings P T) row u ≡ trace_result P T row u }
 {}
 
 /// Readings that agree point by point decide alike. So what holds over the readings of a history's trace holds over every view that

@@ -1,5 +1,5 @@
 -- A session stands at a place where it has an item.
-use Rattle.std.proofs.Common.{◌≡◌, ℕ, ◌<◌, length, Some, None, Option, is_some, true, sym, subst, arith}
+use Rattle.std.proofs.Common.{◌≡◌, ℕ, zero, suc, ◌<◌, ◌≤◌, List, [], ◌∷◌, refl, false, length, Some, None, Option, is_some, true, sym, subst, arith}
 use Rattle.ucon_links.specs.Lists.{Lists, first_or, list_at}
 use Rattle.ucon_index.specs.Dependents.{Place, has_session, is_there}
 use Rattle.ucon_index.specs.Tables.{places_from, IsPaired}
@@ -21,3 +21,13 @@ there_is session places sessions None paired within is = sym (gone-not_there ses
 there_is session places sessions (Some item) paired within is =
     let next = next_item session item places sessions paired within is in
     sym (there_spot session next.node places next.spot)
+
+beyond_all : (lists : List (List (ℕ × ℕ))) (session : ℕ) → length lists ≤ session → list_at lists session ≡ []
+beyond_all [] session beyond = refl
+beyond_all (xs ∷ rest) zero beyond = absurd (omega (arith, beyond))
+beyond_all (xs ∷ rest) (suc session) beyond = beyond_all rest session (omega (arith, beyond))
+
+-- nobody stands whose number is none of a session's
+pub beyond_is_not : (session : ℕ) (places sessions : Lists) → IsPaired places sessions → length sessions.lists ≤ session → is_there session (places_from 0 places.lists places.hidden) ≡ false
+beyond_is_not session places sessions paired beyond =
+    gone-not_there session (places_from 0 places.lists places.hidden) (no_items-gone session places sessions paired (beyond_all sessions.lists session beyond))

@@ -1,9 +1,11 @@
 -- A walk through a place goes through its list in the table.
-use Rattle.std.proofs.Common.{◌≡◌, ◌≢◌, ℕ, zero, suc, ◌+◌, ◌<◌, List, [], ◌∷◌, ◌++◌, length, map, Some, None, Option, Bool, true, false, eqb, cond, IsSome, is_some, option_map, refl, sym, ap, ◌∙◌, subst, arith, append_assoc, length-append}
+use Rattle.std.proofs.Common.{◌≡◌, ◌≢◌, ℕ, zero, suc, ◌+◌, ◌<◌, List, [], ◌∷◌, ◌++◌, length, map, Some, None, Option, Bool, true, false, eqb, cond, IsSome, is_some, option_map, Contains, refl, sym, ap, ◌∙◌, subst, arith, append_assoc, length-append}
 use Rattle.std.proofs.lemmas.List.{append-nil, length-map, map-append}
+use Rattle.std.proofs.lemmas.List.Elements.{Contains-append_right}
 use Rattle.std.proofs.lemmas.Bool.{eqb-true, eqb-false, ne_eqb, eq-eqb}
 use Rattle.ucon_links.specs.Lists.{Item, Lists, first_or, list_at, place_from, place_of, or_else, hidden_at, owner_of, listed_nodes, nodes_of, IsListed, IsAbsent, IsDistinct}
 use Rattle.ucon_index.specs.Dependents.{Place, Dependents, place_at, walked, stood_session, hidden_session, first_some, session_of}
+use Rattle.ucon_index.specs.Walk.{IsWalked, IsMet, left_from}
 use Rattle.ucon_index.specs.Tables.{stood_at, places_from, seen, InPlaces, IsPaired}
 use Rattle.ucon_index.proofs.Once.{distinct_front, distinct_back}
 use Rattle.ucon_index.proofs.OneList.{PlaceLaw}
@@ -106,24 +108,26 @@ session_has_owner places sessions v node is some =
     (subst (λ place. IsSome (first_some (option_map (λ item. item.owner) place) (hidden_session (places_from 0 places.lists places.hidden) node))) (place_seen places sessions (seen places sessions) refl node)
     (subst (λ (w : Dependents). IsSome (session_of w node)) (sym is) some))
 
--- so far a walk has met these sessions of a place, and it goes on at a node
-pub record IsWalked (v : Dependents) (place : ℕ) (met : List ℕ) (at : Option ℕ) : Type 0 where
-  pub front : List (ℕ × ℕ)
-  pub back : List (ℕ × ℕ)
-  pub there : (place_at v.places place).listed ≡ front ++ back
-  pub met_is : met ≡ map (λ x. x.1) front
-  pub at_is : at ≡ first_or None back
-
 pub walk_begins : (v : Dependents) (place : ℕ) (at : Option ℕ) → at ≡ first_or None (place_at v.places place).listed → IsWalked v place [] at
 walk_begins v place at is = record { front = []; back = (place_at v.places place).listed; there = refl; met_is = refl; at_is = is }
 
--- a node on the way is listed, has its session, and the walk goes on behind it
-pub record IsMet (v : Dependents) (place : ℕ) (met : List ℕ) (node : ℕ) : Type 0 where
-  pub session : ℕ
-  pub listed : IsListed (walked v) node
-  pub session_is : session_of v node ≡ Some session
-  pub short : length met < length (place_at v.places place).listed
-  pub more : (next : Option ℕ) → option_map (λ item. item.after) (place_of (walked v) node) ≡ Some next → IsWalked v place (met ++ session ∷ []) next
+-- the nodes of one place are distinct
+distinct_at : (lists : List (List (ℕ × ℕ))) (place : ℕ) → IsDistinct (listed_nodes lists) → IsDistinct (map (λ x. x.0) (list_at lists place))
+distinct_at [] place distinct = tt
+distinct_at (xs ∷ rest) zero distinct = distinct_front (map (λ x. x.0) xs) (listed_nodes rest) distinct
+distinct_at (xs ∷ rest) (suc place) distinct = distinct_at rest place (distinct_back (map (λ x. x.0) xs) (listed_nodes rest) distinct)
+
+other_node : (node : ℕ) (front : List (ℕ × ℕ)) (x : ℕ × ℕ) (back : List (ℕ × ℕ)) → IsAbsent node (map (λ y. y.0) (front ++ x ∷ back)) → x.0 ≢ node
+other_node node [] x back absent = absent.0
+other_node node (y ∷ front) x back absent = other_node node front x back absent.1
+
+left_at : (front : List (ℕ × ℕ)) (x : ℕ × ℕ) (back : List (ℕ × ℕ)) → IsDistinct (map (λ y. y.0) (front ++ x ∷ back)) → left_from (front ++ x ∷ back) (Some x.0) ≡ suc (length back)
+left_at [] x back distinct = rw (eq-eqb x.0 x.0 refl)
+left_at (y ∷ front) x back distinct = rw (ne_eqb y.0 x.0 (λ e. other_node y.0 front x back distinct.0 (sym e))) (left_at front x back distinct.1)
+
+left_behind : (front back : List (ℕ × ℕ)) → IsDistinct (map (λ y. y.0) (front ++ back)) → left_from (front ++ back) (first_or None back) ≡ length back
+left_behind front [] distinct = refl
+left_behind front (x ∷ back) distinct = left_at front x back distinct
 
 list_of_place : (places : List Place) (place : ℕ) → place < length places → list_at (map (λ p. p.listed) places) place ≡ (place_at places place).listed
 list_of_place [] place within = absurd (omega arith)
@@ -140,10 +144,16 @@ met_at law v place met node front (x ∷ back) distinct within there met_is at_i
     let size = length-append front (x ∷ back) in
     let whole = ap length there in
     let met_size = ap length met_is ∙ length-map front (λ x. x.1) in
+    let listed = list_of_place v.places place within ∙ there in
+    let own = subst (λ (xs : List (ℕ × ℕ)). IsDistinct (map (λ y. y.0) xs)) listed (distinct_at (walked v).lists place distinct) in
+    let behind = append_assoc front (x ∷ []) back in
+    let own_behind = subst (λ (xs : List (ℕ × ℕ)). IsDistinct (map (λ y. y.0) xs)) (sym behind) own in
     subst (IsMet v place met) same (record {
       session = x.1;
       listed = ap is_some is;
       session_is = ap (λ item. first_some (option_map (λ i. i.owner) item) (hidden_session v.places x.0)) is;
+      stands = subst (λ xs. Contains xs x.1) (sym (ap (map (λ y. y.1)) there ∙ map-append (λ y. y.1) front (x ∷ back)))
+          (Contains-append_right (map (λ y. y.1) front) (x.1 ∷ map (λ y. y.1) back) x.1 (0, omega arith, refl));
       short = omega arith;
       more = λ next after. record {
         front = front ++ x ∷ [];
@@ -152,6 +162,11 @@ met_at law v place met node front (x ∷ back) distinct within there met_is at_i
         met_is = ap (λ ns. ns ++ x.1 ∷ []) met_is ∙ sym (map-append (λ y. y.1) front (x ∷ []));
         at_is = some_of (sym after ∙ ap (option_map (λ item. item.after)) is);
       };
+      fewer = λ next after.
+          let at_is : next ≡ first_or None back = some_of (sym after ∙ ap (option_map (λ item. item.after)) is) in
+          let here = ap (λ xs. left_from xs (Some x.0)) there ∙ left_at front x back own in
+          let later = ap (λ xs. left_from xs next) (there ∙ sym behind) ∙ ap (left_from ((front ++ x ∷ []) ++ back)) at_is ∙ left_behind (front ++ x ∷ []) back own_behind in
+          omega (arith, here, later);
     })
   where
     some_of : {X : Type 0} {a b : X} → Some a ≡ Some b → a ≡ b

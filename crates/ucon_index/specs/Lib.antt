@@ -1,2 +1,3 @@
 pub mod Dependents
 pub mod Tables
+pub mod Walk

@@ -137,9 +137,11 @@ impl Index {
 
     /// Whether the session stands at a place: the condition of `hide` and `remove`.
     pub fn is_there(&self, session: u32) -> bool
-        requires { session < self.now.sessions }
         ensures { result ≡ is_there session self.now.places }
     {
+        if session >= self.sessions.list_count() {
+            return false;
+        }
         let first = self.sessions.first(session);
         first.is_some()
     }
@@ -191,6 +193,16 @@ impl Index {
         ensures { (before : Dependents) → UnhideGives count self.old before → self.new ≡ before }
     {
         for _ in 0..count {
+            self.unhide_last();
+        }
+    }
+
+    /// Puts all hidden sessions back in all their places.
+    pub fn unhide_everybody(&mut self)
+        requires { (before : Dependents) × UnhideGives (length self.old.hidden) self.old before }
+        ensures { (before : Dependents) → UnhideGives (length self.old.hidden) self.old before → self.new ≡ before }
+    {
+        while last_hidden(&self.places).is_some() {
             self.unhide_last();
         }
     }

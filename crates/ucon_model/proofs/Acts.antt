@@ -20,7 +20,7 @@ use Rattle.ucon_base.specs.Elements.{each_always}
 use Rattle.ucon_model.specs.History.{History, trace}
 use Rattle.ucon_model.specs.Sound.{IsTimely}
 use Rattle.ucon_model.proofs.SortsOfValues.{at_most, is_at_most}
-use Rattle.ucon_model.proofs.Histories.{sound_after}
+use Rattle.ucon_model.proofs.Histories.{sound_anyway}
 use Rattle.ucon_model.proofs.Alike.{value_alike}
 use Rattle.ucon_model.proofs.Frames.{in_force-step, place-step, said_of}
 
@@ -110,4 +110,4 @@ act_fails_none P T s a o n timely h = act_by P T s a o (is_accessing (session T 
 -- ---- no act was done after the tick
 
 pub timely_after : (P : PlainPolicy) (H : History) → IsTimely (trace P H)
-timely_after P H = (sound_after P H).timely
+timely_after P H = (sound_anyway P H).timely

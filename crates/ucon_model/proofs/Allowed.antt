@@ -8,43 +8,45 @@ use Rattle.ucon_base.specs.declared.value.Side.TheVariants.{Subject, Object}
 use Rattle.ucon_base.specs.declared.value.Value.{Value}
 use Rattle.ucon_model.specs.declared.session.SessionRow.{SessionRow}
 use Rattle.ucon_model.specs.Plain.{Bytes, PlainPolicy}
-use Rattle.ucon_model.specs.Action.{Action, Trace, subject, object, write, env, tries, permit, deny, ends, revoke, extended}
-use Rattle.ucon_model.specs.Readings.{has_entity, attribute, session, changed_if}
+use Rattle.ucon_model.specs.Action.{Action, Trace, subject, object, write, env, tries, permit, deny, ends, revoke, amend, extended}
+use Rattle.ucon_model.specs.Readings.{in_force, has_entity, attribute, session, changed_if}
 use Rattle.ucon_model.specs.Legal.{IsLegal, AreLegal, RevocationsAreLegal}
 use Rattle.ucon_model.specs.Fitting.{AttributeAdmits, ValuesFit}
 use Rattle.ucon_model.specs.Sound.{IsNumbered, IsGrounded, IsTimely, IsSound}
 use Rattle.ucon_model.specs.Typing.{IsTyped}
 use Rattle.ucon_model.proofs.Timely.{timely-step}
-use Rattle.ucon_model.proofs.ValuesStayFit.{fit-write, fit-subject, fit-object, fit-env, fit-empty}
+use Rattle.ucon_model.proofs.ValuesStayFit.{fit-write, fit-subject, fit-object, fit-env, fit-amend, fit-empty}
 
 -- ---- the next action
 
--- it is legal, but that the value of a write fits only where the policy is well typed
-abbrev pub IsAllowed : PlainPolicy → Trace → Action → Type 0
-IsAllowed P T (write side name attr v) =
-    IsTrue (has_entity side name T) × (IsTyped P → AttributeAdmits P side attr v)
-IsAllowed P T a = IsLegal P T a
+-- it is legal, but that under a premise alone the value of a write fits and an amendment is legal
+abbrev pub IsAllowed : Type 0 → PlainPolicy → Trace → Action → Type 0
+IsAllowed S P T (write side name attr v) =
+    IsTrue (has_entity side name T) × (S → AttributeAdmits (in_force P T) side attr v)
+IsAllowed S P T (amend text Q) = S → IsLegal P T (amend text Q)
+IsAllowed S P T a = IsLegal P T a
 
-abbrev pub AreAllowed : PlainPolicy → Trace → List Action → Type 0
-AreAllowed P T [] = Unit {0}
-AreAllowed P T (a ∷ actions) = IsAllowed P T a × AreAllowed P (a ∷ T) actions
+abbrev pub AreAllowed : Type 0 → PlainPolicy → Trace → List Action → Type 0
+AreAllowed S P T [] = Unit {0}
+AreAllowed S P T (a ∷ actions) = IsAllowed S P T a × AreAllowed S P (a ∷ T) actions
 
-pub allowed-append : (P : PlainPolicy) (T : Trace) (xs ys : List Action) → AreAllowed P T xs → AreAllowed P (extended T xs) ys → AreAllowed P T (xs ++ ys)
-allowed-append P T [] ys h k = k
-allowed-append P T (x ∷ xs) ys h k = (h.0, allowed-append P (x ∷ T) xs ys h.1 k)
+pub allowed-append : (S : Type 0) (P : PlainPolicy) (T : Trace) (xs ys : List Action) → AreAllowed S P T xs → AreAllowed S P (extended T xs) ys → AreAllowed S P T (xs ++ ys)
+allowed-append S P T [] ys h k = k
+allowed-append S P T (x ∷ xs) ys h k = (h.0, allowed-append S P (x ∷ T) xs ys h.1 k)
 
-legal_action : (P : PlainPolicy) (T : Trace) (a : Action) → IsTyped P → IsAllowed P T a → IsLegal P T a
-legal_action P T (write side name attr v) typed h = (h.0, h.1 typed)
-legal_action P T a typed h = h
+legal_action : (S : Type 0) (P : PlainPolicy) (T : Trace) (a : Action) → S → IsAllowed S P T a → IsLegal P T a
+legal_action S P T (write side name attr v) sure h = (h.0, h.1 sure)
+legal_action S P T (amend text Q) sure h = h sure
+legal_action S P T a sure h = h
 
-pub legal-allowed : (P : PlainPolicy) (T : Trace) (actions : List Action) → IsTyped P → AreAllowed P T actions → AreLegal P T actions
-legal-allowed P T [] typed h = tt
-legal-allowed P T (a ∷ actions) typed h = (legal_action P T a typed h.0, legal-allowed P (a ∷ T) actions typed h.1)
+pub legal-allowed : (S : Type 0) (P : PlainPolicy) (T : Trace) (actions : List Action) → S → AreAllowed S P T actions → AreLegal P T actions
+legal-allowed S P T [] sure h = tt
+legal-allowed S P T (a ∷ actions) sure h = (legal_action S P T a sure h.0, legal-allowed S P (a ∷ T) actions sure h.1)
 
-pub revocations-allowed : (P : PlainPolicy) (T : Trace) (actions : List Action) → AreAllowed P T actions → RevocationsAreLegal P T actions
-revocations-allowed P T [] h = tt
-revocations-allowed P T (revoke n label ∷ actions) h = (h.0, revocations-allowed P (revoke n label ∷ T) actions h.1)
-revocations-allowed P T (a ∷ actions) h = revocations-allowed P (a ∷ T) actions h.1
+pub revocations-allowed : (S : Type 0) (P : PlainPolicy) (T : Trace) (actions : List Action) → AreAllowed S P T actions → RevocationsAreLegal P T actions
+revocations-allowed S P T [] h = tt
+revocations-allowed S P T (revoke n label ∷ actions) h = (h.0, revocations-allowed S P (revoke n label ∷ T) actions h.1)
+revocations-allowed S P T (a ∷ actions) h = revocations-allowed S P (a ∷ T) actions h.1
 
 -- ---- sessions are numbered from 1
 
@@ -56,16 +58,16 @@ not_that_one : (same : Bool) (row : SessionRow) (o : Option SessionRow) → same
 not_that_one true row o off e = absurd cc
 not_that_one false row o off e = e
 
-numbered-step : (P : PlainPolicy) (T : Trace) (a : Action) → IsNumbered T → IsAllowed P T a → IsNumbered (a ∷ T)
-numbered-step P T (tries m c s r o) h next = record {
+numbered-step : (S : Type 0) (P : PlainPolicy) (T : Trace) (a : Action) → IsNumbered T → IsAllowed S P T a → IsNumbered (a ∷ T)
+numbered-step S P T (tries m c s r o) h next = record {
   zeroth = not_that_one (nat_eq 0 m) _ (session T 0) (ne_eqb 0 m (λ e. omega (arith, e, next.0))) h.zeroth;
   beyond = λ n le. not_that_one (nat_eq n m) _ (session T n) (ne_eqb n m (λ e. omega (arith, e, next.0, le))) (h.beyond n (omega (arith, le)));
 }
-numbered-step P T (permit m) h next = record { zeroth = still_none (nat_eq 0 m) _ (session T 0) h.zeroth; beyond = λ n le. still_none (nat_eq n m) _ (session T n) (h.beyond n le) }
-numbered-step P T (deny m l) h next = record { zeroth = still_none (nat_eq 0 m) _ (session T 0) h.zeroth; beyond = λ n le. still_none (nat_eq n m) _ (session T n) (h.beyond n le) }
-numbered-step P T (ends m) h next = record { zeroth = still_none (nat_eq 0 m) _ (session T 0) h.zeroth; beyond = λ n le. still_none (nat_eq n m) _ (session T n) (h.beyond n le) }
-numbered-step P T (revoke m l) h next = record { zeroth = still_none (nat_eq 0 m) _ (session T 0) h.zeroth; beyond = λ n le. still_none (nat_eq n m) _ (session T n) (h.beyond n le) }
-numbered-step P T a h next = record { zeroth = h.zeroth; beyond = h.beyond }
+numbered-step S P T (permit m) h next = record { zeroth = still_none (nat_eq 0 m) _ (session T 0) h.zeroth; beyond = λ n le. still_none (nat_eq n m) _ (session T n) (h.beyond n le) }
+numbered-step S P T (deny m l) h next = record { zeroth = still_none (nat_eq 0 m) _ (session T 0) h.zeroth; beyond = λ n le. still_none (nat_eq n m) _ (session T n) (h.beyond n le) }
+numbered-step S P T (ends m) h next = record { zeroth = still_none (nat_eq 0 m) _ (session T 0) h.zeroth; beyond = λ n le. still_none (nat_eq n m) _ (session T n) (h.beyond n le) }
+numbered-step S P T (revoke m l) h next = record { zeroth = still_none (nat_eq 0 m) _ (session T 0) h.zeroth; beyond = λ n le. still_none (nat_eq n m) _ (session T n) (h.beyond n le) }
+numbered-step S P T a h next = record { zeroth = h.zeroth; beyond = h.beyond }
 
 -- ---- the entities of sessions are there
 
@@ -90,62 +92,79 @@ grounded_if_changed T true change None each h = tt
 grounded_if_changed T true change (Some row) each h = each row h
 grounded_if_changed T false change o each h = h
 
-grounded-step : (P : PlainPolicy) (T : Trace) (a : Action) → IsAllowed P T a → (n : ℕ) → IsGrounded T (session T n) → IsGrounded (a ∷ T) (session (a ∷ T) n)
-grounded-step P T (tries m c s r o) allowed n h = grounded_if_new T (nat_eq n m) _ (session T n) (allowed.3, allowed.4) h
-grounded-step P T (permit m) allowed n h = grounded_if_changed T (nat_eq n m) _ (session T n) (λ row h. h) h
-grounded-step P T (deny m l) allowed n h = grounded_if_changed T (nat_eq n m) _ (session T n) (λ row h. h) h
-grounded-step P T (ends m) allowed n h = grounded_if_changed T (nat_eq n m) _ (session T n) (λ row h. h) h
-grounded-step P T (revoke m l) allowed n h = grounded_if_changed T (nat_eq n m) _ (session T n) (λ row h. h) h
-grounded-step P T a allowed n h = grounded_stays a T (session T n) h
+grounded-step : (S : Type 0) (P : PlainPolicy) (T : Trace) (a : Action) → IsAllowed S P T a → (n : ℕ) → IsGrounded T (session T n) → IsGrounded (a ∷ T) (session (a ∷ T) n)
+grounded-step S P T (tries m c s r o) allowed n h = grounded_if_new T (nat_eq n m) _ (session T n) (allowed.3, allowed.4) h
+grounded-step S P T (permit m) allowed n h = grounded_if_changed T (nat_eq n m) _ (session T n) (λ row h. h) h
+grounded-step S P T (deny m l) allowed n h = grounded_if_changed T (nat_eq n m) _ (session T n) (λ row h. h) h
+grounded-step S P T (ends m) allowed n h = grounded_if_changed T (nat_eq n m) _ (session T n) (λ row h. h) h
+grounded-step S P T (revoke m l) allowed n h = grounded_if_changed T (nat_eq n m) _ (session T n) (λ row h. h) h
+grounded-step S P T a allowed n h = grounded_stays a T (session T n) h
 
--- ---- values fit, where the policy is well typed
+-- ---- under a premise the policy in force is well typed, and values fit
 
-fit-step : (P : PlainPolicy) (T : Trace) (a : Action) → IsTyped P → IsAllowed P T a → ValuesFit P T → ValuesFit P (a ∷ T)
-fit-step P T (write side name attr v) typed allowed h = fit-write P T side name attr v (allowed.1 typed) h
-fit-step P T (env name v) typed allowed h = fit-env P T name v allowed h
-fit-step P T (subject name) typed allowed h = fit-subject P typed T name h
-fit-step P T (object name) typed allowed h = fit-object P typed T name h
-fit-step P T a typed allowed h = record { attributes = attributes; variables = h.variables }
+typed_step : (S : Type 0) (P : PlainPolicy) (T : Trace) (a : Action) → S → IsAllowed S P T a → IsTyped (in_force P T) → IsTyped (in_force P (a ∷ T))
+typed_step S P T (amend text Q) sure allowed typed = (allowed sure).1
+typed_step S P T a sure allowed typed = typed
+
+fit-step : (S : Type 0) (P : PlainPolicy) (T : Trace) (a : Action) → S → IsAllowed S P T a → IsTyped (in_force P T) → ValuesFit P T → ValuesFit P (a ∷ T)
+fit-step S P T (write side name attr v) sure allowed typed h = fit-write P T side name attr v (allowed.1 sure) h
+fit-step S P T (env name v) sure allowed typed h = fit-env P T name v allowed h
+fit-step S P T (subject name) sure allowed typed h = fit-subject P T name typed h
+fit-step S P T (object name) sure allowed typed h = fit-object P T name typed h
+fit-step S P T (amend text Q) sure allowed typed h = let legal = allowed sure in fit-amend P T text Q legal.1 legal.2 h
+fit-step S P T a sure allowed typed h = record { attributes = attributes; variables = h.variables }
   where
-    attributes : (side : Side) (e attr : Bytes) (v : Value) → attribute P (a ∷ T) side e attr ≡ Some v → AttributeAdmits P side attr v
+    attributes : (side : Side) (e attr : Bytes) (v : Value) → attribute P (a ∷ T) side e attr ≡ Some v → AttributeAdmits (in_force P T) side attr v
     attributes Subject e attr v is = h.attributes Subject e attr v is
     attributes Object e attr v is = h.attributes Object e attr v is
 
 -- ---- all of it
 
--- sound, as far as no type is asked for
-pub record IsSoundIfTyped (P : PlainPolicy) (T : Trace) : Type 0 where
+-- sound, and under a premise the policy in force is well typed and values fit
+pub record IsSoundIf (S : Type 0) (P : PlainPolicy) (T : Trace) : Type 0 where
   pub numbered : IsNumbered T
   pub grounded : (n : ℕ) → IsGrounded T (session T n)
   pub timely : IsTimely T
-  pub fit : IsTyped P → ValuesFit P T
+  pub typed : S → IsTyped (in_force P T)
+  pub fit : S → ValuesFit P T
 
-pub sound-empty : (P : PlainPolicy) → IsSoundIfTyped P []
-sound-empty P = record { numbered = record { zeroth = refl; beyond = λ n lt. refl }; grounded = λ n. tt; timely = λ s a o m e. absurd cc; fit = fit-empty P }
-
-pub sound-step : (P : PlainPolicy) (T : Trace) (a : Action) → IsSoundIfTyped P T → IsAllowed P T a → IsSoundIfTyped P (a ∷ T)
-sound-step P T a h allowed = record {
-  numbered = numbered-step P T a h.numbered allowed;
-  grounded = λ n. grounded-step P T a allowed n (h.grounded n);
-  timely = timely-step T a h.timely (λ t is. subst (IsAllowed P T) is allowed);
-  fit = λ typed. fit-step P T a typed allowed (h.fit typed);
+pub sound-empty : (S : Type 0) (P : PlainPolicy) → (S → IsTyped P) → IsSoundIf S P []
+sound-empty S P typed = record {
+  numbered = record { zeroth = refl; beyond = λ n lt. refl };
+  grounded = λ n. tt;
+  timely = λ s a o m e. absurd cc;
+  typed = typed;
+  fit = λ sure. fit-empty P (typed sure);
 }
 
-pub sound-extended : (P : PlainPolicy) (T : Trace) (actions : List Action) → IsSoundIfTyped P T → AreAllowed P T actions → IsSoundIfTyped P (extended T actions)
-sound-extended P T [] h allowed = h
-sound-extended P T (a ∷ actions) h allowed = sound-extended P (a ∷ T) actions (sound-step P T a h allowed.0) allowed.1
+pub sound-step : (S : Type 0) (P : PlainPolicy) (T : Trace) (a : Action) → IsSoundIf S P T → IsAllowed S P T a → IsSoundIf S P (a ∷ T)
+sound-step S P T a h allowed = record {
+  numbered = numbered-step S P T a h.numbered allowed;
+  grounded = λ n. grounded-step S P T a allowed n (h.grounded n);
+  timely = timely-step T a h.timely (λ t is. subst (IsAllowed S P T) is allowed);
+  typed = λ sure. typed_step S P T a sure allowed (h.typed sure);
+  fit = λ sure. fit-step S P T a sure allowed (h.typed sure) (h.fit sure);
+}
+
+pub sound-extended : (S : Type 0) (P : PlainPolicy) (T : Trace) (actions : List Action) → IsSoundIf S P T → AreAllowed S P T actions → IsSoundIf S P (extended T actions)
+sound-extended S P T [] h allowed = h
+sound-extended S P T (a ∷ actions) h allowed = sound-extended S P (a ∷ T) actions (sound-step S P T a h allowed.0) allowed.1
+
+allowed_if_legal : (S : Type 0) (P : PlainPolicy) (T : Trace) (a : Action) → IsLegal P T a → IsAllowed S P T a
+allowed_if_legal S P T (write side name attr v) h = (h.0, λ sure. h.1)
+allowed_if_legal S P T (amend text Q) h = λ sure. h
+allowed_if_legal S P T a h = h
 
 -- ---- under a well typed policy
 
 pub sound_before : (P : PlainPolicy) → IsTyped P → IsSound P []
-sound_before P typed = let h = sound-empty P in record { numbered = h.numbered; grounded = h.grounded; timely = h.timely; fit = h.fit typed }
+sound_before P typed = let h = sound-empty (Unit {0}) P (λ (sure : Unit {0}). typed) in record { numbered = h.numbered; grounded = h.grounded; timely = h.timely; fit = h.fit tt }
 
-allowed_if_legal : (P : PlainPolicy) (T : Trace) (a : Action) → IsLegal P T a → IsAllowed P T a
-allowed_if_legal P T (write side name attr v) h = (h.0, λ typed. h.1)
-allowed_if_legal P T a h = h
+pub sound_after_action : (P : PlainPolicy) (T : Trace) (a : Action) → IsTyped (in_force P T) → IsSound P T → IsLegal P T a → IsSound P (a ∷ T)
+sound_after_action P T a typed h legal =
+    let before : IsSoundIf (Unit {0}) P T = record { numbered = h.numbered; grounded = h.grounded; timely = h.timely; typed = λ sure. typed; fit = λ sure. h.fit } in
+    let next = sound-step (Unit {0}) P T a before (allowed_if_legal (Unit {0}) P T a legal) in
+    record { numbered = next.numbered; grounded = next.grounded; timely = next.timely; fit = next.fit tt }
 
-pub sound_after_action : (P : PlainPolicy) → IsTyped P → (T : Trace) (a : Action) → IsSound P T → IsLegal P T a → IsSound P (a ∷ T)
-sound_after_action P typed T a h legal =
-    let sure : IsTyped P → ValuesFit P T = λ _. h.fit in
-    let next = sound-step P T a (record { numbered = h.numbered; grounded = h.grounded; timely = h.timely; fit = sure }) (allowed_if_legal P T a legal) in
-    record { numbered = next.numbered; grounded = next.grounded; timely = next.timely; fit = next.fit typed }
+pub typed_after_action : (P : PlainPolicy) (T : Trace) (a : Action) → IsTyped (in_force P T) → IsLegal P T a → IsTyped (in_force P (a ∷ T))
+typed_after_action P T a typed legal = typed_step (Unit {0}) P T a tt (allowed_if_legal (Unit {0}) P T a legal) typed

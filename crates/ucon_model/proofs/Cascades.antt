@@ -10,7 +10,7 @@ use Rattle.ucon_model.specs.declared.session.SessionRow.{SessionRow}
 use Rattle.ucon_model.specs.declared.session.SessionState.TheVariants.{Accessing}
 use Rattle.ucon_model.specs.Plain.{Bytes, PlainPolicy}
 use Rattle.ucon_model.specs.Action.{Action, Trace, revoke, extended, followed_by}
-use Rattle.ucon_model.specs.Readings.{session, sessions, is_accessing_state, is_accessing, accessing}
+use Rattle.ucon_model.specs.Readings.{in_force, session, sessions, is_accessing_state, is_accessing, accessing}
 use Rattle.ucon_model.specs.Truth.{readings}
 use Rattle.ucon_model.specs.Decision.{failing}
 use Rattle.ucon_model.specs.OwnActions.{make, own}
@@ -19,8 +19,8 @@ use Rattle.ucon_model.specs.Legal.{IsAccessing, IsLegal, IsCascade, over, turn}
 use Rattle.ucon_model.specs.Settle.{fails_at, least_from, least_failing, revocation, settle_within, settle}
 use Rattle.ucon_model.proofs.Settling.{falls, none_left}
 use Rattle.ucon_model.specs.Sound.{IsNumbered}
-use Rattle.ucon_model.proofs.Allowed.{AreAllowed, IsSoundIfTyped, sound-extended}
-use Rattle.ucon_model.proofs.Histories.{allowed_revocation, sound_after}
+use Rattle.ucon_model.proofs.Allowed.{AreAllowed, IsSoundIf, sound-extended}
+use Rattle.ucon_model.proofs.Histories.{allowed_revocation, sound_anyway}
 use Rattle.ucon_model.proofs.AllowedOwn.{allowed-own}
 use Rattle.ucon_model.proofs.LeastFailing.{chosen_is_legal, nobody_fails}
 use Rattle.ucon_model.proofs.OwnCases.{OwnHas, makes}
@@ -31,7 +31,7 @@ is_accessing_if : (o : Option SessionRow) → IsSomeAnd o (λ row. row.state ≡
 is_accessing_if None h = absurd h
 is_accessing_if (Some row) h = ap is_accessing_state h
 
-fails_if : (P : PlainPolicy) (T : Trace) (n : ℕ) (label : Bytes) → IsAccessing T n → failing P (readings P T) n ≡ Some label → fails_at P T n ≡ Some label
+fails_if : (P : PlainPolicy) (T : Trace) (n : ℕ) (label : Bytes) → IsAccessing T n → failing (in_force P T) (readings P T) n ≡ Some label → fails_at P T n ≡ Some label
 fails_if P T n label accessing e = rw (is_accessing_if (session T n) accessing) e
 
 none_accessing : (T : Trace) (n : ℕ) → session T n ≡ None → IsAccessing T n → ⊥
@@ -82,31 +82,31 @@ pub turn_within : (P : PlainPolicy) (T : Trace) (k : ℕ) (f : ℕ × Bytes) (ac
 turn_within P T zero f actions e le rest = absurd (omega (arith, falls P T f e, le))
 turn_within P T (suc k) f actions e le rest = rw e (ap (λ (xs : List Action). revocation P T f ++ xs) (rest k (omega (arith, falls P T f e, le))))
 
-settle_within-cascade : (P : PlainPolicy) (T : Trace) (actions : List Action) → IsCascade P T actions → IsSoundIfTyped P T → (k : ℕ) → accessing T ≤ k
+settle_within-cascade : (P : PlainPolicy) (T : Trace) (actions : List Action) → IsCascade P T actions → IsSoundIf ⊥ P T → (k : ℕ) → accessing T ≤ k
     → settle_within k P T ≡ actions
 settle_within-cascade P T actions (over nobody) h k le = none_within P T k (none_found P T 1 (sessions T) nobody)
 settle_within-cascade P T actions (turn f rest legal cascade) h k le =
     let e : least_failing P T ≡ Some f = legal_is_least P T f h.numbered legal in
     let U : Trace = extended T (revocation P T f) in
-    let sound : IsSoundIfTyped P U = sound-extended P T (revocation P T f) h (allowed_revocation P T f h e) in
+    let sound : IsSoundIf ⊥ P U = sound-extended ⊥ P T (revocation P T f) h (allowed_revocation ⊥ P T f h e) in
     turn_within P T k f rest e le (settle_within-cascade P U rest cascade sound)
 
 -- ---- the settling is a cascade
 
-cascade_by : (P : PlainPolicy) (T : Trace) (k : ℕ) (o : Option (ℕ × Bytes)) → least_failing P T ≡ o → IsSoundIfTyped P T → accessing T ≤ suc k
-    → ((U : Trace) → IsSoundIfTyped P U → accessing U ≤ k → IsCascade P U (settle_within k P U))
+cascade_by : (P : PlainPolicy) (T : Trace) (k : ℕ) (o : Option (ℕ × Bytes)) → least_failing P T ≡ o → IsSoundIf ⊥ P T → accessing T ≤ suc k
+    → ((U : Trace) → IsSoundIf ⊥ P U → accessing U ≤ k → IsCascade P U (settle_within k P U))
     → IsCascade P T (option_map_or (λ f. followed_by (revocation P T f) (settle_within k P) T) o [])
 cascade_by P T k None is h le rest = over (nobody_fails P T h.numbered is)
 cascade_by P T k (Some f) is h le rest =
     let U : Trace = extended T (revocation P T f) in
-    let sound : IsSoundIfTyped P U = sound-extended P T (revocation P T f) h (allowed_revocation P T f h is) in
+    let sound : IsSoundIf ⊥ P U = sound-extended ⊥ P T (revocation P T f) h (allowed_revocation ⊥ P T f h is) in
     turn f (settle_within k P U) (chosen_is_legal P T f h.numbered is) (rest U sound (omega (arith, falls P T f is, le)))
 
-cascade_within : (k : ℕ) (P : PlainPolicy) (T : Trace) → IsSoundIfTyped P T → accessing T ≤ k → IsCascade P T (settle_within k P T)
+cascade_within : (k : ℕ) (P : PlainPolicy) (T : Trace) → IsSoundIf ⊥ P T → accessing T ≤ k → IsCascade P T (settle_within k P T)
 cascade_within zero P T h le = over (nobody_fails P T h.numbered (none_left P T (least_failing P T) refl le))
 cascade_within (suc k) P T h le = cascade_by P T k (least_failing P T) refl h le (cascade_within k P)
 
-only_cascade : (P : PlainPolicy) (T : Trace) (cascade : List Action) → IsSoundIfTyped P T → IsCascade P T cascade ↔ (cascade ≡ settle P T)
+only_cascade : (P : PlainPolicy) (T : Trace) (cascade : List Action) → IsSoundIf ⊥ P T → IsCascade P T cascade ↔ (cascade ≡ settle P T)
 only_cascade P T cascade h = (
   λ c. sym (settle_within-cascade P T cascade c h (accessing T) (omega arith)),
   λ e. subst (IsCascade P T) (sym e) (cascade_within (accessing T) P T h (omega arith)),
@@ -122,5 +122,5 @@ pub only_cascade_after : (P : PlainPolicy) (H : History) (caller : Caller) (c : 
     → IsCascade P (extended (trace P H) actions) cascade ↔ (cascade ≡ settle P (extended (trace P H) actions))
 only_cascade_after P H caller c head actions cascade e =
     let T : Trace = trace P H in
-    let allowed : AreAllowed P T actions = actions_of (AreAllowed P T) head actions (subst (OwnHas (AreAllowed P T)) e (allowed-own P T caller c (sound_after P H))) in
-    only_cascade P (extended T actions) cascade (sound-extended P T actions (sound_after P H) allowed)
+    let allowed : AreAllowed ⊥ P T actions = actions_of (AreAllowed ⊥ P T) head actions (subst (OwnHas (AreAllowed ⊥ P T)) e (allowed-own ⊥ P T caller c (λ no. absurd no) (sound_anyway P H))) in
+    only_cascade P (extended T actions) cascade (sound-extended ⊥ P T actions (sound_anyway P H) allowed)

@@ -4,6 +4,7 @@ use Rattle.std.specs.Prelude.{Ok, Err, codes, map, Some, None}
 use Rattle.ucon_model.specs.declared.command.Command.TheVariants as commands
 use Rattle.ucon_model.specs.Plain.{Bytes}
 use Rattle.ucon_model.specs.CommandLine.{no_word, unknown_word, bad_word, one_word, command_read, line_read}
+use Rattle.ucon_model.proofs.Scenes.{reads_empty}
 use Rattle.ucon_model.specs.Document.{too_many_clients, bad_heading, bad_line, caller_of, policy_part, heading_number, document_read}
 
 -- these lines, each with a newline
@@ -23,23 +24,23 @@ no_headings : map heading_number (codes "client" ∷ codes "client " ∷ codes "
     ≡ None ∷ None ∷ None ∷ None ∷ None ∷ None ∷ None ∷ []
 no_headings = refl
 
-one_line : document_read (text (codes "%%" ∷ codes "client 1" ∷ codes "look 1" ∷ [])) ≡ Ok (record { number = 3; caller = caller_of 1; command = commands.Look 1 } ∷ [])
+one_line : document_read reads_empty (text (codes "%%" ∷ codes "client 1" ∷ codes "look 1" ∷ [])) ≡ Ok (record { number = 3; caller = caller_of 1; command = commands.Look 1 } ∷ [])
 unfolding document_read line_read command_read one_word
 one_line = refl
 
 -- the policy's lines and those that are skipped count; a client may have several headings
-several_headings : document_read (text (codes "a" ∷ [] ∷ codes "%%" ∷ codes "client 2" ∷ codes "look 1" ∷ codes "# look 9" ∷ codes "client 0" ∷ codes "look 2" ∷ [] ∷ codes "client 2" ∷ codes "look 3" ∷ []))
+several_headings : document_read reads_empty (text (codes "a" ∷ [] ∷ codes "%%" ∷ codes "client 2" ∷ codes "look 1" ∷ codes "# look 9" ∷ codes "client 0" ∷ codes "look 2" ∷ [] ∷ codes "client 2" ∷ codes "look 3" ∷ []))
     ≡ Ok (record { number = 5; caller = caller_of 2; command = commands.Look 1 }
     ∷ record { number = 8; caller = caller_of 0; command = commands.Look 2 }
     ∷ record { number = 11; caller = caller_of 2; command = commands.Look 3 } ∷ [])
 unfolding document_read line_read command_read one_word
 several_headings = refl
 
-nothing_said : map document_read ([] ∷ codes "look 1" ∷ codes "%%" ∷ text (codes "%%" ∷ codes "client 1" ∷ []) ∷ []) ≡ Ok [] ∷ Ok [] ∷ Ok [] ∷ Ok [] ∷ []
+nothing_said : map (document_read reads_empty) ([] ∷ codes "look 1" ∷ codes "%%" ∷ text (codes "%%" ∷ codes "client 1" ∷ []) ∷ []) ≡ Ok [] ∷ Ok [] ∷ Ok [] ∷ Ok [] ∷ []
 unfolding document_read
 nothing_said = refl
 
-refused_scripts : map document_read
+refused_scripts : map (document_read reads_empty)
     (text (codes "%%" ∷ codes "client 0" ∷ codes "fly a" ∷ [])
     ∷ text (codes "%%" ∷ codes "client 64" ∷ [])
     ∷ text (codes "%%" ∷ codes "tick 1" ∷ [])

@@ -6,7 +6,7 @@ use Rattle.ucon_model.specs.declared.policy.When.{When}
 use Rattle.ucon_model.specs.declared.session.SessionRow.{SessionRow}
 use Rattle.ucon_model.specs.Plain.{PlainPolicy, PlainUpdate}
 use Rattle.ucon_model.specs.Action.{Action, Trace, extended, followed_by}
-use Rattle.ucon_model.specs.Readings.{session, sessions, accessing_up_to, accessing}
+use Rattle.ucon_model.specs.Readings.{in_force, session, sessions, accessing_up_to, accessing}
 use Rattle.ucon_model.specs.Updates.{same_when, write_of, writes, updates_of, session_writes}
 
 pub extended-append : (T : Trace) (xs ys : List Action) → extended T (xs ++ ys) ≡ extended (extended T xs) ys
@@ -39,22 +39,22 @@ pub sessions-writes : (P : PlainPolicy) (row : SessionRow) (when : When) (us : L
 sessions-writes P row when [] T = refl
 sessions-writes P row when (u ∷ us) T = sessions_one P row when u us T (same_when when u.when) (sessions-writes P row when us)
 
-of_row_session : (P : PlainPolicy) (when : When) (T : Trace) (n : ℕ) (o : Option SessionRow)
-    → session (extended T (option_map_or (λ row. writes P row when (updates_of P row) T) o [])) n ≡ session T n
-of_row_session P when T n None = refl
-of_row_session P when T n (Some row) = session-writes P row when (updates_of P row) n T
+of_row_session : (P Q : PlainPolicy) (when : When) (T : Trace) (n : ℕ) (o : Option SessionRow)
+    → session (extended T (option_map_or (λ row. writes P row when (updates_of Q row) T) o [])) n ≡ session T n
+of_row_session P Q when T n None = refl
+of_row_session P Q when T n (Some row) = session-writes P row when (updates_of Q row) n T
 
 -- a session's writes leave every session
 pub session-session_writes : (P : PlainPolicy) (m : ℕ) (when : When) (T : Trace) (n : ℕ) → session (extended T (session_writes P m when T)) n ≡ session T n
-session-session_writes P m when T n = of_row_session P when T n (session T m)
+session-session_writes P m when T n = of_row_session P (in_force P T) when T n (session T m)
 
-of_row_sessions : (P : PlainPolicy) (when : When) (T : Trace) (o : Option SessionRow)
-    → sessions (extended T (option_map_or (λ row. writes P row when (updates_of P row) T) o [])) ≡ sessions T
-of_row_sessions P when T None = refl
-of_row_sessions P when T (Some row) = sessions-writes P row when (updates_of P row) T
+of_row_sessions : (P Q : PlainPolicy) (when : When) (T : Trace) (o : Option SessionRow)
+    → sessions (extended T (option_map_or (λ row. writes P row when (updates_of Q row) T) o [])) ≡ sessions T
+of_row_sessions P Q when T None = refl
+of_row_sessions P Q when T (Some row) = sessions-writes P row when (updates_of Q row) T
 
 pub sessions-session_writes : (P : PlainPolicy) (m : ℕ) (when : When) (T : Trace) → sessions (extended T (session_writes P m when T)) ≡ sessions T
-sessions-session_writes P m when T = of_row_sessions P when T (session T m)
+sessions-session_writes P m when T = of_row_sessions P (in_force P T) when T (session T m)
 
 same_count : (T U : Trace) → ((n : ℕ) → session U n ≡ session T n) → (k : ℕ) → accessing_up_to U k ≡ accessing_up_to T k
 same_count T U same zero = refl

@@ -11,7 +11,7 @@ use Rattle.ucon_model.specs.declared.policy.When.TheVariants.{AfterRevoke}
 use Rattle.ucon_model.specs.declared.session.SessionRow.{SessionRow}
 use Rattle.ucon_model.specs.Plain.{Bytes, PlainPolicy, PlainUpdate}
 use Rattle.ucon_model.specs.Action.{Action, Trace, tries, permit, deny, ends, revoke, extended, followed_by}
-use Rattle.ucon_model.specs.Readings.{session, sessions, changed_if, is_accessing_state, is_accessing, accessing_up_to, accessing}
+use Rattle.ucon_model.specs.Readings.{in_force, session, sessions, changed_if, is_accessing_state, is_accessing, accessing_up_to, accessing}
 use Rattle.ucon_model.specs.Updates.{same_when, write_of, writes, updates_of}
 use Rattle.ucon_model.specs.OwnActions.{Own, refuse, tell, make, own}
 use Rattle.ucon_model.specs.Settle.{least_failing, revocation, settle_within, revoked_in}
@@ -19,9 +19,9 @@ use Rattle.ucon_model.specs.Block.{own_reply, after, block}
 use Rattle.ucon_model.specs.History.{History, trace_from, trace, said}
 use Rattle.ucon_model.specs.Payload.{revocations_in}
 use Rattle.ucon_model.proofs.OwnCases.{OwnHas, tells, makes}
-use Rattle.ucon_model.proofs.Allowed.{IsAllowed, AreAllowed, IsSoundIfTyped, sound-empty, sound-extended}
+use Rattle.ucon_model.proofs.Allowed.{IsAllowed, AreAllowed, IsSoundIf, sound-empty, sound-extended}
 use Rattle.ucon_model.proofs.AllowedOwn.{same_below, accessing-tries, allowed-own}
-use Rattle.ucon_model.proofs.Histories.{allowed-block, sound_after}
+use Rattle.ucon_model.proofs.Histories.{allowed-block, sound_anyway}
 
 -- ---- settling revokes no more than are accessing
 
@@ -37,17 +37,17 @@ revoked_in-writes P row when [] later T = refl
 revoked_in-writes P row when (u ∷ us) later T =
     write_first P row when u us T later (same_when when u.when) (revoked_in-writes P row when us later)
 
-revoked_in-writes_of : (P : PlainPolicy) (when : When) (T : Trace) (later : List Action) (o : Option SessionRow)
-    → revoked_in (option_map_or (λ row. writes P row when (updates_of P row) T) o [] ++ later) ≡ revoked_in later
-revoked_in-writes_of P when T later None = refl
-revoked_in-writes_of P when T later (Some row) = revoked_in-writes P row when (updates_of P row) later T
+revoked_in-writes_of : (P Q : PlainPolicy) (when : When) (T : Trace) (later : List Action) (o : Option SessionRow)
+    → revoked_in (option_map_or (λ row. writes P row when (updates_of Q row) T) o [] ++ later) ≡ revoked_in later
+revoked_in-writes_of P Q when T later None = refl
+revoked_in-writes_of P Q when T later (Some row) = revoked_in-writes P row when (updates_of Q row) later T
 
 -- a revocation's updates revoke nobody
 revoked_in-revocation : (P : PlainPolicy) (T : Trace) (f : ℕ × Bytes) (later : List Action)
     → length (revoked_in (revocation P T f ++ later)) ≡ suc (length (revoked_in later))
 revoked_in-revocation P T f later =
     let U : Trace = revoke f.0 f.1 ∷ T in
-    ap (λ revoked. suc (length revoked)) (revoked_in-writes_of P AfterRevoke U later (session U f.0))
+    ap (λ revoked. suc (length revoked)) (revoked_in-writes_of P (in_force P U) AfterRevoke U later (session U f.0))
 
 in_turn : (P : PlainPolicy) (T : Trace) (k : ℕ) (o : Option (ℕ × Bytes)) → ((U : Trace) → length (revoked_in (settle_within k P U)) ≤ k)
     → length (revoked_in (option_map_or (λ f. followed_by (revocation P T f) (settle_within k P) T) o [])) ≤ suc k
@@ -96,39 +96,39 @@ one_more : (T : Trace) (n k : ℕ) → accessing_up_to (permit n ∷ T) k ≤ ac
 one_more T n zero = omega arith
 one_more T n (suc k) = one_more_at T n k (eqb_tells (suc k) n) (one_more T n k)
 
-few-step : (P : PlainPolicy) (T : Trace) (a : Action) → IsAllowed P T a → accessing T ≤ 65536 → accessing (a ∷ T) ≤ 65536
-few-step P T (tries m c s r o) allowed few =
+few-step : (S : Type 0) (P : PlainPolicy) (T : Trace) (a : Action) → IsAllowed S P T a → accessing T ≤ 65536 → accessing (a ∷ T) ≤ 65536
+few-step S P T (tries m c s r o) allowed few =
     subst (λ (n : ℕ). accessing (tries n c s r o ∷ T) ≤ 65536) (sym allowed.0) (omega (arith, accessing-tries T c s r o, few))
-few-step P T (permit m) allowed few = omega (arith, one_more T m (sessions T), allowed.1)
-few-step P T (deny m l) allowed few = omega (arith, count_falls T (deny m l ∷ T) (λ n. switched_off (nat_eq n m) _ (session T n) (λ row. refl)) (sessions T), few)
-few-step P T (ends m) allowed few = omega (arith, count_falls T (ends m ∷ T) (λ n. switched_off (nat_eq n m) _ (session T n) (λ row. refl)) (sessions T), few)
-few-step P T (revoke m l) allowed few = omega (arith, count_falls T (revoke m l ∷ T) (λ n. switched_off (nat_eq n m) _ (session T n) (λ row. refl)) (sessions T), few)
-few-step P T a allowed few = omega (arith, count_falls T (a ∷ T) (λ n. omega arith) (sessions T), few)
+few-step S P T (permit m) allowed few = omega (arith, one_more T m (sessions T), allowed.1)
+few-step S P T (deny m l) allowed few = omega (arith, count_falls T (deny m l ∷ T) (λ n. switched_off (nat_eq n m) _ (session T n) (λ row. refl)) (sessions T), few)
+few-step S P T (ends m) allowed few = omega (arith, count_falls T (ends m ∷ T) (λ n. switched_off (nat_eq n m) _ (session T n) (λ row. refl)) (sessions T), few)
+few-step S P T (revoke m l) allowed few = omega (arith, count_falls T (revoke m l ∷ T) (λ n. switched_off (nat_eq n m) _ (session T n) (λ row. refl)) (sessions T), few)
+few-step S P T a allowed few = omega (arith, count_falls T (a ∷ T) (λ n. omega arith) (sessions T), few)
 
-few-extended : (P : PlainPolicy) (T : Trace) (actions : List Action) → AreAllowed P T actions → accessing T ≤ 65536 → accessing (extended T actions) ≤ 65536
-few-extended P T [] allowed few = few
-few-extended P T (a ∷ actions) allowed few = few-extended P (a ∷ T) actions allowed.1 (few-step P T a allowed.0 few)
+few-extended : (S : Type 0) (P : PlainPolicy) (T : Trace) (actions : List Action) → AreAllowed S P T actions → accessing T ≤ 65536 → accessing (extended T actions) ≤ 65536
+few-extended S P T [] allowed few = few
+few-extended S P T (a ∷ actions) allowed few = few-extended S P (a ∷ T) actions allowed.1 (few-step S P T a allowed.0 few)
 
 -- ---- histories
 
-few_from : (P : PlainPolicy) (T : Trace) (H : History) → IsSoundIfTyped P T → accessing T ≤ 65536 → accessing (trace_from P T H) ≤ 65536
+few_from : (P : PlainPolicy) (T : Trace) (H : History) → IsSoundIf ⊥ P T → accessing T ≤ 65536 → accessing (trace_from P T H) ≤ 65536
 few_from P T [] sound few = few
 few_from P T (e ∷ H) sound few =
     let actions : List Action = block P T e.caller e.command in
-    let allowed : AreAllowed P T actions = allowed-block P T e.caller e.command sound in
-    few_from P (after P T e.caller e.command) H (sound-extended P T actions sound allowed) (few-extended P T actions allowed few)
+    let allowed : AreAllowed ⊥ P T actions = allowed-block ⊥ P T e.caller e.command (λ no. absurd no) sound in
+    few_from P (after P T e.caller e.command) H (sound-extended ⊥ P T actions sound allowed) (few-extended ⊥ P T actions allowed few)
 
 pub few_accessing : (P : PlainPolicy) (H : History) → accessing (trace P H) ≤ 65536
-few_accessing P H = few_from P [] H (sound-empty P) (omega arith)
+few_accessing P H = few_from P [] H (sound-empty ⊥ P (λ no. absurd no)) (omega arith)
 
-few_revoked : (P : PlainPolicy) (T : Trace) (o : Own) → OwnHas (AreAllowed P T) o → accessing T ≤ 65536 → length (revocations_in (own_reply P T o)) ≤ 65536
-few_revoked P T (refuse r) allowed few = omega arith
-few_revoked P T (tell reply) (tells none) few = rw none (omega arith)
-few_revoked P T (make head actions) (makes allowed) few =
+few_revoked : (S : Type 0) (P : PlainPolicy) (T : Trace) (o : Own) → OwnHas (AreAllowed S P T) o → accessing T ≤ 65536 → length (revocations_in (own_reply P T o)) ≤ 65536
+few_revoked S P T (refuse r) allowed few = omega arith
+few_revoked S P T (tell reply) (tells none) few = rw none (omega arith)
+few_revoked S P T (make head actions) (makes allowed) few =
     let U : Trace = extended T actions in
-    omega (arith, one_a_turn (accessing U) P U, few-extended P T actions allowed few)
+    omega (arith, one_a_turn (accessing U) P U, few-extended S P T actions allowed few)
 
 pub few_revocations : (P : PlainPolicy) (H : History) (caller : Caller) (c : Command) → length (revocations_in (said P H caller c)) ≤ 65536
 few_revocations P H caller c =
     let T : Trace = trace P H in
-    few_revoked P T (own P T caller c) (allowed-own P T caller c (sound_after P H)) (few_accessing P H)
+    few_revoked ⊥ P T (own P T caller c) (allowed-own ⊥ P T caller c (λ no. absurd no) (sound_anyway P H)) (few_accessing P H)

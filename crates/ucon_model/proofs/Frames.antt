@@ -11,7 +11,7 @@ use Rattle.ucon_model.specs.declared.formula.Ref.{Ref}
 use Rattle.ucon_model.specs.declared.formula.Ref.TheVariants.{Subject, Object, Env}
 use Rattle.ucon_model.specs.declared.session.SessionRow.{SessionRow}
 use Rattle.ucon_model.specs.Plain.{Bytes, PlainPolicy}
-use Rattle.ucon_model.specs.Action.{Action, Trace, subject, object, write, env, tick, act, tries, permit, deny, ends, revoke, extended}
+use Rattle.ucon_model.specs.Action.{Action, Trace, subject, object, write, env, tick, act, tries, permit, deny, ends, revoke, amend, extended}
 use Rattle.ucon_model.specs.Readings.{in_force, tick_of, session, changed_if, is_accessing}
 use Rattle.ucon_model.specs.Truth.{readings, place_of, in_time}
 use Rattle.ucon_model.specs.Decision.{failing_of, failing}
@@ -23,6 +23,7 @@ use Rattle.ucon_model.proofs.Alike.{alike_fails}
 
 -- an action that doesn't replace the policy in force leaves it
 pub in_force-step : (P : PlainPolicy) (T : Trace) (a : Action) → replaces a ≡ false → in_force P (a ∷ T) ≡ in_force P T
+in_force-step P T (amend text Q) h = absurd cc
 in_force-step P T a h = refl
 
 -- an action leaves the value that is kept where it alters nothing
@@ -32,6 +33,8 @@ kept-step P T (write s n x v) (attribute_of sides.Object name attr) h = rw h ref
 kept-step P T (subject n) (attribute_of sides.Subject name attr) h = rw h refl
 kept-step P T (object n) (attribute_of sides.Object name attr) h = rw h refl
 kept-step P T (env n v) (variable_of name) h = rw h refl
+kept-step P T (amend text Q) (attribute_of side name attr) h = absurd cc
+kept-step P T (amend text Q) (variable_of name) h = absurd cc
 kept-step P T a (attribute_of sides.Subject name attr) h = refl
 kept-step P T a (attribute_of sides.Object name attr) h = refl
 kept-step P T a (variable_of name) h = refl

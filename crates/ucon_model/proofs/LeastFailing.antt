@@ -8,7 +8,7 @@ use Rattle.ucon_model.specs.declared.session.SessionState.{SessionState}
 use Rattle.ucon_model.specs.declared.session.SessionState.TheVariants.{Requesting, Denied, Accessing, Revoked, Ended}
 use Rattle.ucon_model.specs.Plain.{Bytes, PlainPolicy}
 use Rattle.ucon_model.specs.Action.{Trace, revoke}
-use Rattle.ucon_model.specs.Readings.{session, sessions, is_accessing_state, is_accessing}
+use Rattle.ucon_model.specs.Readings.{in_force, session, sessions, is_accessing_state, is_accessing}
 use Rattle.ucon_model.specs.Truth.{readings}
 use Rattle.ucon_model.specs.Decision.{failing}
 use Rattle.ucon_model.specs.Legal.{IsLegal}
@@ -73,7 +73,7 @@ least_from_lem P T a (suc k) f e = least_by P T a k f (fails_at P T a) refl (lea
 pub chosen_is_legal : (P : PlainPolicy) (T : Trace) (f : ℕ × Bytes) → IsNumbered T → least_failing P T ≡ Some f → IsLegal P T (revoke f.0 f.1)
 chosen_is_legal P T f h e =
     let least = least_from_lem P T 1 (sessions T) f e in
-    let both = both_hold (is_accessing (session T f.0)) (failing P (readings P T) f.0) f.1 least.fails in (
+    let both = both_hold (is_accessing (session T f.0)) (failing (in_force P T) (readings P T) f.0) f.1 least.fails in (
       accessing_row (session T f.0) both.0,
       both.1,
       λ m lt. from_here (λ m. m < f.0 → fails_at P T m ≡ None) 0 m (λ _. not_there P T 0 h.zeroth) (λ le lt. least.before m le lt) (omega arith) lt,

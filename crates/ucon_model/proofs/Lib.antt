@@ -16,6 +16,9 @@ pub mod EveryThirty
 pub mod Clamps
 pub mod FullSet
 pub mod NotYours
+mod AmendmentRevokes
+mod WhatComesBack
+mod RightsComeBack
 pub mod Ticks
 pub mod OwnCases
 pub mod Allowed
@@ -34,6 +37,8 @@ pub mod Documents
 mod GeneratedDocument
 pub mod FirstFaults
 pub mod TypedParts
+pub mod KindsStay
+pub mod ValuesGiven
 pub mod ValuesStayFit
 pub mod SortsOfValues
 pub mod Meaningful
@@ -61,3 +66,5 @@ mod Drafts
 mod WorkOfACap
 mod WithinTurns
 mod Agreeing
+mod OwnUsages
+mod Afterwards

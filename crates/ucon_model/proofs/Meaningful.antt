@@ -12,16 +12,16 @@ use Rattle.ucon_model.specs.declared.formula.Sort.TheVariants.{Integer, Text, Se
 use Rattle.ucon_model.specs.declared.session.SessionRow.{SessionRow}
 use Rattle.ucon_model.specs.Plain.{PlainExpr, lit, read, plus, minus, times, size, PlainFormula, both, either, negation, compare, lasts, PlainTest, authorisation, duty, condition, PlainUpdate, PlainRight, PlainPolicy}
 use Rattle.ucon_model.specs.Action.{Trace}
-use Rattle.ucon_model.specs.Readings.{has_entity, session}
+use Rattle.ucon_model.specs.Readings.{in_force, has_entity, session}
 use Rattle.ucon_model.specs.Truth.{place_of, value_of, read_or_zero}
 use Rattle.ucon_model.specs.Decision.{right_named}
-use Rattle.ucon_model.specs.History.{History, trace}
+use Rattle.ucon_model.specs.History.{History, AreCommands, trace}
 use Rattle.ucon_base.specs.Elements.{Each, each_map}
 use Rattle.ucon_model.specs.Places.{attr_place}
 use Rattle.ucon_model.specs.Typing.{value_sort, is_of, are_of_one_sort, place_sort, expr_sort, takes, is_typed_formula, is_typed_test, is_typed_update, IsTyped}
 use Rattle.ucon_model.specs.Meaning.{are_integers, adds, has_size, are_of_one_kind, is_text_and_set, may_compare, expr_means, formula_means, test_means}
 use Rattle.ucon_model.specs.Sound.{IsGrounded}
-use Rattle.ucon_model.proofs.Histories.{sound_after, values_fit_after}
+use Rattle.ucon_model.proofs.Histories.{sound_after, typed_after, values_fit_after}
 use Rattle.ucon_model.proofs.TypedParts.{typed_predicates, typed_updates}
 use Rattle.ucon_model.proofs.SortsOfValues.{left_true, right_true, both_true, is_of_some, one_sort, sum_by, size_by, read_sort, places_fit, places_there, value_sorted}
 
@@ -195,24 +195,29 @@ entities_of : (T : Trace) (o : Option SessionRow) (row : SessionRow) → IsGroun
 entities_of T None row h is = absurd cc
 entities_of T (Some r) row h is = let same : r ≡ row = cc in rw (← same) h
 
-reads_of : (P : PlainPolicy) → IsTyped P → (H : History) (n : ℕ) (row : SessionRow) → session (trace P H) n ≡ Some row → Reads P (place_of P (trace P H) row)
-reads_of P typed H n row is =
+reads_of : (P : PlainPolicy) → IsTyped P → (H : History) → AreCommands H → (n : ℕ) (row : SessionRow) → session (trace P H) n ≡ Some row
+    → Reads (in_force P (trace P H)) (place_of P (trace P H) row)
+reads_of P typed H commands n row is =
     let T = trace P H in
-    let there = entities_of T (session T n) row ((sound_after P H).grounded n) is in
+    let there = entities_of T (session T n) row ((sound_after (Unit {0}) P H (λ sure. typed) (λ sure. commands)).grounded n) is in
     record {
       there = places_there P T row there.0 there.1;
       sorted = λ place s declared. read_sort (place_of P T row place) s (places_there P T row there.0 there.1 place s declared)
-          (λ v holds. places_fit P T (values_fit_after P typed H) row place s v declared holds);
+          (λ v holds. places_fit P T (values_fit_after P typed H commands) row place s v declared holds);
     }
 
-pub predicates_mean : (P : PlainPolicy) → IsTyped P → (H : History) (n : ℕ) (row : SessionRow) (r : PlainRight) → session (trace P H) n ≡ Some row
-    → right_named P.rights row.right ≡ Some r → Each (λ p. test_means (place_of P (trace P H) row) p.test ≡ true) r.preds
-predicates_mean P typed H n row r is named =
-    each_map (λ p. is_typed_test P p.test ≡ true) (λ p. test_means (place_of P (trace P H) row) p.test ≡ true)
-    (λ p h. test_has_meaning P (place_of P (trace P H) row) (reads_of P typed H n row is) p.test h) r.preds (typed_predicates P typed row.right r named)
+pub predicates_mean : (P : PlainPolicy) → IsTyped P → (H : History) → AreCommands H → (n : ℕ) (row : SessionRow) (r : PlainRight) → session (trace P H) n ≡ Some row
+    → right_named (in_force P (trace P H)).rights row.right ≡ Some r → Each (λ p. test_means (place_of P (trace P H) row) p.test ≡ true) r.preds
+predicates_mean P typed H commands n row r is named =
+    let Q : PlainPolicy = in_force P (trace P H) in
+    each_map (λ p. is_typed_test Q p.test ≡ true) (λ p. test_means (place_of P (trace P H) row) p.test ≡ true)
+    (λ p h. test_has_meaning Q (place_of P (trace P H) row) (reads_of P typed H commands n row is) p.test h) r.preds
+    (typed_predicates Q (typed_after P typed H commands) row.right r named)
 
-pub updates_mean : (P : PlainPolicy) → IsTyped P → (H : History) (n : ℕ) (row : SessionRow) (r : PlainRight) → session (trace P H) n ≡ Some row
-    → right_named P.rights row.right ≡ Some r → Each (λ u. expr_means true (place_of P (trace P H) row) u.value ≡ true) r.updates
-updates_mean P typed H n row r is named =
-    each_map (λ u. is_typed_update P u ≡ true) (λ u. expr_means true (place_of P (trace P H) row) u.value ≡ true)
-    (λ u h. update_has_meaning P (place_of P (trace P H) row) (reads_of P typed H n row is) u h) r.updates (typed_updates P typed row.right r named)
+pub updates_mean : (P : PlainPolicy) → IsTyped P → (H : History) → AreCommands H → (n : ℕ) (row : SessionRow) (r : PlainRight) → session (trace P H) n ≡ Some row
+    → right_named (in_force P (trace P H)).rights row.right ≡ Some r → Each (λ u. expr_means true (place_of P (trace P H) row) u.value ≡ true) r.updates
+updates_mean P typed H commands n row r is named =
+    let Q : PlainPolicy = in_force P (trace P H) in
+    each_map (λ u. is_typed_update Q u ≡ true) (λ u. expr_means true (place_of P (trace P H) row) u.value ≡ true)
+    (λ u h. update_has_meaning Q (place_of P (trace P H) row) (reads_of P typed H commands n row is) u h) r.updates
+    (typed_updates Q (typed_after P typed H commands) row.right r named)

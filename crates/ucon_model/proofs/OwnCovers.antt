@@ -1,6 +1,6 @@
 -- The work that a command's own actions begin covers after them.
 use Rattle.std.proofs.Common.{◌≡◌, ℕ, ◌+◌, Bool, true, false, List, [], ◌∷◌, ◌++◌, refl, sym, ap, subst, ◌∙◌}
-use Rattle.std.specs.Prelude.{◌||◌, ◌&&◌, not, nat_eq, nat_le, int_lt, Option, Some, None, is_none, IsTrue}
+use Rattle.std.specs.Prelude.{◌||◌, ◌&&◌, not, nat_eq, nat_le, int_lt, Option, Some, None, is_none, is_some, IsTrue}
 use Rattle.std.specs.Option.{option_map_or}
 use Rattle.std.specs.List.{list_any}
 use Rattle.std.specs.Str.{bytes_eq}
@@ -14,7 +14,7 @@ use Rattle.ucon_base.specs.declared.value.Value.{Value}
 use Rattle.ucon_base.specs.Admits.{admits}
 use Rattle.ucon_model.specs.declared.command.Caller.{Caller}
 use Rattle.ucon_model.specs.declared.command.Command.{Command}
-use Rattle.ucon_model.specs.declared.command.Command.TheVariants.{Subject, Object, Set, Env, Tick, Act, Try, Again, Beat, End, Look, Value as Value'}
+use Rattle.ucon_model.specs.declared.command.Command.TheVariants.{Subject, Object, Set, Env, Tick, Act, Try, Again, Beat, End, Look, Value as Value', Amend}
 use Rattle.ucon_model.specs.declared.formula.Ref.{Ref}
 use Rattle.ucon_model.specs.declared.formula.Ref.TheVariants as refs
 use Rattle.ucon_model.specs.declared.policy.When.{When}
@@ -30,12 +30,13 @@ use Rattle.ucon_model.specs.Readings.{in_force, tick_of, has_entity, entities, a
 use Rattle.ucon_model.specs.Truth.{readings}
 use Rattle.ucon_model.specs.Decision.{right_named, verdict}
 use Rattle.ucon_model.specs.Updates.{session_writes}
-use Rattle.ucon_model.specs.OwnActions.{Own, refuse, tell, make, by_verdict, decide, is_admin, new_entity, add_entity, names_act, is_requesting, end_usage, own}
+use Rattle.ucon_model.specs.OwnActions.{Own, refuse, tell, make, by_verdict, decide, is_admin, new_entity, add_entity, names_act, lacks_right, is_requesting, end_usage, own}
+use Rattle.ucon_model.specs.MayFollow.{changed_kind}
 use Rattle.ucon_model.specs.Settle.{fails_at}
 use Rattle.ucon_model.specs.Sound.{IsGrounded, IsTimely}
 use Rattle.ucon_model.specs.Reach.{Timed, timed_of, places_of, Location, attribute_of, variable_of, location_of, replaces, alters, moves, reaches, permits, reads_at, readers, session_targets}
 use Rattle.ucon_model.specs.Deadlines.{is_due}
-use Rattle.ucon_model.specs.Work.{Work, nobody, only, joined, Covers, concerned, own_work}
+use Rattle.ucon_model.specs.Work.{Work, nobody, everybody, only, joined, Covers, concerned, own_work}
 use Rattle.ucon_model.proofs.OwnMakes.{Makes, unless, given, found, behind, usage}
 use Rattle.ucon_model.proofs.Readers.{nowhere, reaches-write, reaches-env, reaches-session_writes, session_targets-end, permits-session_writes, reached_by}
 use Rattle.ucon_model.proofs.Acts.{act_fails_none}
@@ -218,9 +219,9 @@ own_covers P T caller (Again n) grounded timely none =
     let work : Head → Work = own_work P T caller (Again n) in
     let Q : Head → List Action → Type 0 = λ head actions. Concern P T actions (work head) in
     covers-by P T work _ none
-    (found Q _ (session T n) _ (λ row. given Q (nat_eq row.caller.0 caller.0) _ _
+    (unless Q (lacks_right P T n) _ _ (λ kept. found Q _ (session T n) _ (λ row. given Q (nat_eq row.caller.0 caller.0) _ _
     (unless Q (not (is_requesting row.state)) _ _ (λ requesting. unless Q (nat_le 65536 (accessing T)) _ _ (λ seats.
-    decide_concerns P T T n (verdict (in_force P T) (readings P T) n) work (λ m. refl) (λ m label. refl) (λ m label. refl))))))
+    decide_concerns P T T n (verdict (in_force P T) (readings P T) n) work (λ m. refl) (λ m label. refl) (λ m label. refl)))))))
 own_covers P T caller (Beat n) grounded timely none =
     let work : Head → Work = own_work P T caller (Beat n) in
     let Q : Head → List Action → Type 0 = λ head actions. Covers P (extended T actions) (work head) in
@@ -235,6 +236,9 @@ own_covers P T caller (Look n) grounded timely none = found (λ head actions. Co
 own_covers P T caller (Value' side name attr) grounded timely none =
     let Q : Head → List Action → Type 0 = λ head actions. Covers P (extended T actions) nobody in
     unless Q (not (has_entity side name T)) _ _ (λ there. found Q _ (attribute P T side name attr) _ (λ v. tt))
+own_covers P T caller (Amend a) grounded timely none =
+    let Q : Head → List Action → Type 0 = λ head actions. Covers P (extended T actions) everybody in
+    unless Q (not (is_admin caller)) _ _ (λ admin. unless Q (is_some (changed_kind (in_force P T) a.policy)) _ _ (λ same. λ n label fails. refl))
 
 -- where nobody fails, the work that is read off a command and its head covers after the command's own actions
 pub covers-own : (P : PlainPolicy) (T : Trace) (caller : Caller) (c : Command) (head : Head) (actions : List Action)

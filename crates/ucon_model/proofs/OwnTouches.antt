@@ -1,6 +1,6 @@
 -- Who is in the work after a command's own actions is touched by them.
 use Rattle.std.proofs.Common.{◌≡◌, ◌⊎◌, inl, inr, ℕ, ◌+◌, ◌≤◌, Bool, true, false, cond, List, [], ◌∷◌, ◌++◌, refl, sym, ap, subst, ◌∙◌, arith}
-use Rattle.std.specs.Prelude.{◌&&◌, ◌||◌, not, nat_eq, nat_le, int_lt, Option, Some, None, is_none}
+use Rattle.std.specs.Prelude.{◌&&◌, ◌||◌, not, nat_eq, nat_le, int_lt, Option, Some, None, is_none, is_some}
 use Rattle.std.specs.Option.{option_map_or}
 use Rattle.std.specs.List.{list_any}
 use Rattle.std.proofs.Math.Bool.{or-false}
@@ -10,7 +10,7 @@ use Rattle.ucon_base.specs.declared.value.Side.TheVariants as sides
 use Rattle.ucon_base.specs.Admits.{admits}
 use Rattle.ucon_model.specs.declared.command.Caller.{Caller}
 use Rattle.ucon_model.specs.declared.command.Command.{Command}
-use Rattle.ucon_model.specs.declared.command.Command.TheVariants.{Subject, Object, Set, Env, Tick, Act, Try, Again, Beat, End, Look, Value as Value'}
+use Rattle.ucon_model.specs.declared.command.Command.TheVariants.{Subject, Object, Set, Env, Tick, Act, Try, Again, Beat, End, Look, Value as Value', Amend}
 use Rattle.ucon_model.specs.declared.policy.When.TheVariants.{Before, During, AfterEnd}
 use Rattle.ucon_model.specs.declared.reply.Head.{Head}
 use Rattle.ucon_model.specs.declared.reply.Head.TheVariants as heads
@@ -23,10 +23,11 @@ use Rattle.ucon_model.specs.Readings.{in_force, tick_of, has_entity, entities, a
 use Rattle.ucon_model.specs.Truth.{readings}
 use Rattle.ucon_model.specs.Decision.{right_named, verdict}
 use Rattle.ucon_model.specs.Updates.{session_writes}
-use Rattle.ucon_model.specs.OwnActions.{make, by_verdict, decide, is_admin, names_act, is_requesting, end_usage, own}
+use Rattle.ucon_model.specs.OwnActions.{make, by_verdict, decide, is_admin, names_act, lacks_right, is_requesting, end_usage, own}
 use Rattle.ucon_model.specs.Reach.{timed_of, Location, attribute_of, variable_of, permits, reads_at, readers, session_targets}
+use Rattle.ucon_model.specs.MayFollow.{changed_kind}
 use Rattle.ucon_model.specs.Deadlines.{limit_of, passes, deadlines, has_between}
-use Rattle.ucon_model.specs.Work.{Work, nobody, only, joined, own_work}
+use Rattle.ucon_model.specs.Work.{Work, nobody, everybody, only, joined, own_work}
 use Rattle.ucon_model.specs.Touches.{touches, touches_row, touches_by}
 use Rattle.ucon_model.proofs.Extending.{session-session_writes}
 use Rattle.ucon_model.proofs.Frames.{in_force-step, still_on}
@@ -42,6 +43,11 @@ row_touched : (o : Option SessionRow) (reads : SessionRow → Bool) (times : Ses
     → is_accessing o ≡ true → option_map_or reads o false ≡ true → 1 ≤ cond (is_accessing o) (option_map_or times o 0) 0 + 0
 row_touched None reads times each on h = absurd cc
 row_touched (Some row) reads times each on h = rw on (omega (arith, each row h))
+
+-- an amendment touches each accessing session
+each_touched : (o : Option SessionRow) → is_accessing o ≡ true → 1 ≤ cond (is_accessing o) (option_map_or (λ row. 1) o 0) 0 + 0
+each_touched None on = absurd cc
+each_touched (Some row) on = rw on (omega arith)
 
 one_location : (Q : PlainPolicy) (row : SessionRow) (location : Location) → list_any (reads_at Q row) (location ∷ []) ≡ true → 1 ≤ cond (reads_at Q row location) 1 0
 one_location Q row location h = let reads : reads_at Q row location ≡ true = sym (or-false (reads_at Q row location)) ∙ h in rw reads (omega arith)
@@ -149,9 +155,9 @@ own_touched P T caller (Try s r o) =
 own_touched P T caller (Again n) =
     let work : Head → Work = own_work P T caller (Again n) in
     let Q : Head → List Action → Type 0 = IsTouched P T work in
-    found Q _ (session T n) _ (λ row. given Q (nat_eq row.caller.0 caller.0) _ _
+    unless Q (lacks_right P T n) _ _ (λ kept. found Q _ (session T n) _ (λ row. given Q (nat_eq row.caller.0 caller.0) _ _
     (unless Q (not (is_requesting row.state)) _ _ (λ requesting. unless Q (nat_le 65536 (accessing T)) _ _ (λ seats.
-    by_verdict_touched P T T n (verdict (in_force P T) (readings P T) n) work refl (λ m on. refl) (λ m. refl) (λ m label. refl) (λ m label. refl)))))
+    by_verdict_touched P T T n (verdict (in_force P T) (readings P T) n) work refl (λ m on. refl) (λ m. refl) (λ m label. refl) (λ m label. refl))))))
 own_touched P T caller (Beat n) =
     usage (IsTouched P T (own_work P T caller (Beat n))) T caller n (make heads.Ok (session_writes P n During T)) (beat_touched P T n)
 own_touched P T caller (End n) = usage (IsTouched P T (own_work P T caller (End n))) T caller n (end_usage P T n) (end_touched P T n)
@@ -159,6 +165,10 @@ own_touched P T caller (Look n) = found (IsTouched P T (λ head. nobody)) _ (ses
 own_touched P T caller (Value' side name attr) =
     let Q : Head → List Action → Type 0 = IsTouched P T (λ head. nobody) in
     unless Q (not (has_entity side name T)) _ _ (λ there. found Q _ (attribute P T side name attr) _ (λ v. tt))
+own_touched P T caller (Amend a) =
+    let Q : Head → List Action → Type 0 = IsTouched P T (λ head. everybody) in
+    unless Q (not (is_admin caller)) _ _ (λ admin. unless Q (is_some (changed_kind (in_force P T) a.policy)) _ _ (λ same.
+    λ n on h. each_touched (session T n) on))
 
 -- who is accessing after a command's own actions and in the work that is read off it is touched by them
 pub touched-own : (P : PlainPolicy) (T : Trace) (caller : Caller) (c : Command) (head : Head) (actions : List Action) → own P T caller c ≡ make head actions

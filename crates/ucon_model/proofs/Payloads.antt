@@ -30,13 +30,13 @@ spelled : payload_spelling (told (by 0 (commands.Subject (codes "a"))) ok) ≡ s
 unfolding command_spelling digits
 spelled = refl
 
-read : payload_read subject_a ≡ Ok (told (by 0 (commands.Subject (codes "a"))) ok)
+read : payload_read reads_bare subject_a ≡ Ok (told (by 0 (commands.Subject (codes "a"))) ok)
 unfolding payload_read step_read line_read command_read one_word reply_read told_read made_read digits
 read = refl
 
 -- The first part that is none: the caller, where it is above 63, has a leading zero or no space behind it; the command, also where no
 -- newline ends it; the reply.
-refused_at : map payload_read (codes "64 end 7" ∷ codes "07 end 7" ∷ codes "7" ∷ [] ∷ codes "63 end 7" ∷ codes "63 end x\nok" ∷ codes "63 end 7\noj" ∷ codes "63 end 7\n" ∷ [])
+refused_at : map (payload_read reads_bare) (codes "64 end 7" ∷ codes "07 end 7" ∷ codes "7" ∷ [] ∷ codes "63 end 7" ∷ codes "63 end x\nok" ∷ codes "63 end 7\noj" ∷ codes "63 end 7\n" ∷ [])
     ≡ Err 0 ∷ Err 0 ∷ Err 0 ∷ Err 0 ∷ Err 3 ∷ Err 3 ∷ Err 9 ∷ Err 9 ∷ []
 unfolding payload_read step_read line_read command_read one_word reply_read told_read made_read digits
 refused_at = refl

@@ -1,6 +1,6 @@
 -- Words for the worked rows: who says what, and short policies.
-use Rattle.std.proofs.Common.{ℕ, []}
-use Rattle.std.specs.Prelude.{pos, None}
+use Rattle.std.proofs.Common.{ℕ, [], ◌∷◌}
+use Rattle.std.specs.Prelude.{pos, Option, Some, None}
 use Rattle.ucon_base.specs.declared.value.Side.{Side}
 use Rattle.ucon_base.specs.declared.value.Kind.TheVariants as kinds
 use Rattle.ucon_base.specs.declared.value.Value.TheVariants as values
@@ -12,7 +12,15 @@ use Rattle.ucon_model.specs.declared.formula.Ref.TheVariants as refs
 use Rattle.ucon_model.specs.declared.policy.AttrDecl.{AttrDecl}
 use Rattle.ucon_model.specs.declared.reply.Head.TheVariants as heads
 use Rattle.ucon_model.specs.declared.reply.Revoked.{Revoked}
-use Rattle.ucon_model.specs.Plain.{Bytes, PlainExpr, lit, read, PlainTest, duty, PlainReply, made}
+use Rattle.ucon_model.specs.Plain.{Bytes, PlainExpr, lit, read, PlainTest, duty, PlainPolicy, PlainReply, made}
+
+-- a policy that declares nothing, and how texts are read where the empty one alone is a policy's
+abbrev pub empty_policy : PlainPolicy
+empty_policy = record { attrs = []; envs = []; rights = [] }
+
+abbrev pub reads_empty : Bytes → Option PlainPolicy
+reads_empty [] = Some empty_policy
+reads_empty (b ∷ bs) = None
 
 -- a client's line
 abbrev pub by : ℕ → Command → Entry
@@ -21,6 +29,10 @@ by client c = record { caller = record { 0 = client }; command = c }
 -- client 0's line that moves the tick
 abbrev pub tick_to : ℕ → Entry
 tick_to t = by 0 (commands.Tick (pos t))
+
+-- client 0's line that replaces the policy in force
+abbrev pub amended : Bytes → PlainPolicy → Entry
+amended text policy = by 0 (commands.Amend (record { text = text; policy = policy }))
 
 -- an integer attribute with its range and default
 abbrev pub int_attr : Side → Bytes → ℕ → ℕ → ℕ → AttrDecl

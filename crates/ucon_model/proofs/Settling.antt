@@ -8,7 +8,7 @@ use Rattle.ucon_model.specs.declared.session.SessionRow.{SessionRow}
 use Rattle.ucon_model.specs.declared.session.SessionState.TheVariants.{Revoked}
 use Rattle.ucon_model.specs.Plain.{Bytes, PlainPolicy}
 use Rattle.ucon_model.specs.Action.{Trace, revoke, extended, followed_by}
-use Rattle.ucon_model.specs.Readings.{session, sessions, is_accessing, accessing_up_to, accessing}
+use Rattle.ucon_model.specs.Readings.{in_force, session, sessions, is_accessing, accessing_up_to, accessing}
 use Rattle.ucon_model.specs.Truth.{readings}
 use Rattle.ucon_model.specs.Decision.{failing}
 use Rattle.ucon_model.specs.Settle.{fails_at, least_from, least_failing, revocation, settle_within, settle}
@@ -36,7 +36,7 @@ found_by P T a k f (Some label) is rest h =
     record {
       low = omega (arith, e);
       high = omega (arith, e);
-      accessing = subst (λ (n : ℕ). is_accessing (session T n) ≡ true) e (by_test (is_accessing (session T a)) (failing P (readings P T) a) label is);
+      accessing = subst (λ (n : ℕ). is_accessing (session T n) ≡ true) e (by_test (is_accessing (session T a)) (failing (in_force P T) (readings P T) a) label is);
     }
 
 found_from : (P : PlainPolicy) (T : Trace) (a k : ℕ) (f : ℕ × Bytes) → least_from P T a k ≡ Some f → IsFound T a (a + k) f.0

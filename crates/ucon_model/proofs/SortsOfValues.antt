@@ -1,6 +1,6 @@
 -- Under a well typed policy each value is of the sort of its expression.
 use Rattle.std.proofs.Common.{◌≡◌, ◌∙◌, sym, refl, ap, inl, inr, Bool, true, false, cond, [], arith}
-use Rattle.std.specs.Prelude.{ℤ, ◌⊎◌, ◌≤ℤ◌, ◌&&◌, int_le, Option, Some, None, is_some, option_map, unwrap_or, IsTrue, IsSomeAnd}
+use Rattle.std.specs.Prelude.{ℤ, ◌⊎◌, ◌≤ℤ◌, ◌&&◌, int_le, Option, Some, None, is_some, option_map, IsTrue, IsSomeAnd}
 use Rattle.std.specs.Option.{option_map_or}
 use Rattle.std.proofs.lemmas.Int.{ints, clamps}
 use Rattle.std.proofs.lemmas.Option.{same_Some}
@@ -22,7 +22,7 @@ use Rattle.ucon_model.specs.declared.policy.EnvDecl.{EnvDecl}
 use Rattle.ucon_model.specs.declared.session.SessionRow.{SessionRow}
 use Rattle.ucon_model.specs.Plain.{Bytes, PlainExpr, lit, read, plus, minus, times, size, PlainUpdate, PlainRight, PlainPolicy}
 use Rattle.ucon_model.specs.Action.{Trace}
-use Rattle.ucon_model.specs.Readings.{has_entity, written, declared_attr, assigned, declared_env}
+use Rattle.ucon_model.specs.Readings.{in_force, has_entity, declared_attr, declared_env, given_attr, attribute, given_env}
 use Rattle.ucon_model.specs.Truth.{place_of, value_of, read_or_zero}
 use Rattle.ucon_model.specs.Decision.{right_named}
 use Rattle.ucon_model.specs.Updates.{fitted_to}
@@ -31,6 +31,7 @@ use Rattle.ucon_model.specs.Places.{attr_place}
 use Rattle.ucon_model.specs.Fitting.{ValuesFit, ResultFits, UpdatesFit, PlacesFit}
 use Rattle.ucon_model.specs.Typing.{sort_of, value_sort, same_sort, is_of, are_of_one_sort, sum_sort, product_sort, size_sort, place_sort, expr_sort, is_range, is_typed_update, IsTyped}
 use Rattle.ucon_model.proofs.TypedParts.{typed_attr, typed_updates}
+use Rattle.ucon_model.proofs.ValuesGiven.{attr_given, env_given}
 
 -- ---- tests that hold
 
@@ -88,30 +89,38 @@ env_admits : (o : Option EnvDecl) (s : Sort) (v : Value) → option_map (λ d. s
 env_admits None s v declared h = absurd h
 env_admits (Some d) s v declared h = admitted_sort d.kind v h ∙ same_Some (sort_of d.kind) s declared
 
-pub places_fit : (P : PlainPolicy) (T : Trace) → ValuesFit P T → (row : SessionRow) → PlacesFit P (place_of P T row)
-places_fit P T h row (Subject attr) s v declared is = attr_admits (declared_attr P.attrs sides.Subject attr) s v declared (h.attributes sides.Subject row.subject attr v is)
-places_fit P T h row (Object attr) s v declared is = attr_admits (declared_attr P.attrs sides.Object attr) s v declared (h.attributes sides.Object row.object attr v is)
-places_fit P T h row (Env name) s v declared is = env_admits (declared_env P.envs name) s v declared (h.variables name v is)
+pub places_fit : (P : PlainPolicy) (T : Trace) → ValuesFit P T → (row : SessionRow) → PlacesFit (in_force P T) (place_of P T row)
+places_fit P T h row (Subject attr) s v declared is =
+    attr_admits (declared_attr (in_force P T).attrs sides.Subject attr) s v declared (h.attributes sides.Subject row.subject attr v is)
+places_fit P T h row (Object attr) s v declared is =
+    attr_admits (declared_attr (in_force P T).attrs sides.Object attr) s v declared (h.attributes sides.Object row.object attr v is)
+places_fit P T h row (Env name) s v declared is = env_admits (declared_env (in_force P T).envs name) s v declared (h.variables name v is)
 
 -- where the session's subject and object are there, so is each place that is declared
-entity_value : (there : Bool) (o : Option AttrDecl) (value : AttrDecl → Value) (s : Sort) → there ≡ true → option_map (λ d. sort_of d.kind) o ≡ Some s
-    → is_some (cond there (option_map value o) None) ≡ true
-entity_value true None value s here declared = absurd cc
-entity_value true (Some d) value s here declared = refl
-entity_value false o value s here declared = absurd cc
+is_declared_so : {D : Type 0} (sort : D → Sort) (o : Option D) (s : Sort) → option_map sort o ≡ Some s → is_some o ≡ true
+is_declared_so sort None s declared = absurd cc
+is_declared_so sort (Some d) s declared = refl
 
-variable_value : (o : Option EnvDecl) (value : EnvDecl → Value) (s : Sort) → option_map (λ d. sort_of d.kind) o ≡ Some s → is_some (option_map value o) ≡ true
-variable_value None value s declared = absurd cc
-variable_value (Some d) value s declared = refl
+given_where : (there declared : Bool) (given : Option Value) → there ≡ true → declared ≡ true → is_some given ≡ true → is_some (cond (there && declared) given None) ≡ true
+given_where true true given here known is = is
+given_where true false given here known is = absurd cc
+given_where false declared given here known is = absurd cc
+
+entity_value : (P : PlainPolicy) (T : Trace) (side : Side) (e attr : Bytes) → IsTrue (has_entity side e T)
+    → is_some (declared_attr (in_force P T).attrs side attr) ≡ true → is_some (attribute P T side e attr) ≡ true
+entity_value P T side e attr there known =
+    given_where (has_entity side e T) (is_some (declared_attr (in_force P T).attrs side attr)) (given_attr P side e attr T) there known
+    (attr_given P T side e attr there known)
 
 pub places_there : (P : PlainPolicy) (T : Trace) (row : SessionRow) → IsTrue (has_entity sides.Subject row.subject T) → IsTrue (has_entity sides.Object row.object T)
-    → (place : Ref) (s : Sort) → place_sort P place ≡ Some s → is_some (place_of P T row place) ≡ true
+    → (place : Ref) (s : Sort) → place_sort (in_force P T) place ≡ Some s → is_some (place_of P T row place) ≡ true
 places_there P T row subject object (Subject attr) s declared =
-    entity_value (has_entity sides.Subject row.subject T) (declared_attr P.attrs sides.Subject attr) (λ d. unwrap_or (written sides.Subject row.subject attr T) d.start) s subject declared
+    entity_value P T sides.Subject row.subject attr subject (is_declared_so (λ d. sort_of d.kind) (declared_attr (in_force P T).attrs sides.Subject attr) s declared)
 places_there P T row subject object (Object attr) s declared =
-    entity_value (has_entity sides.Object row.object T) (declared_attr P.attrs sides.Object attr) (λ d. unwrap_or (written sides.Object row.object attr T) d.start) s object declared
+    entity_value P T sides.Object row.object attr object (is_declared_so (λ d. sort_of d.kind) (declared_attr (in_force P T).attrs sides.Object attr) s declared)
 places_there P T row subject object (Env name) s declared =
-    variable_value (declared_env P.envs name) (λ d. unwrap_or (assigned name T) d.start) s declared
+    let known = is_declared_so (λ d. sort_of d.kind) (declared_env (in_force P T).envs name) s declared in
+    given_where true (is_some (declared_env (in_force P T).envs name)) (given_env P name T) refl known (env_given P T name known)
 
 -- what is read at a place that is there is of the declared sort
 pub read_sort : (o : Option Value) (s : Sort) → is_some o ≡ true → ((v : Value) → o ≡ Some v → value_sort v ≡ s) → value_sort (read_or_zero o) ≡ s
@@ -239,16 +248,17 @@ attr_place_sort : (P : PlainPolicy) (side : Side) (attr : Bytes) → place_sort 
 attr_place_sort P sides.Subject attr = refl
 attr_place_sort P sides.Object attr = refl
 
-result_fits : (P : PlainPolicy) → IsTyped P → (T : Trace) → ValuesFit P T → (row : SessionRow) → IsTrue (has_entity sides.Subject row.subject T)
-    → IsTrue (has_entity sides.Object row.object T) → (u : PlainUpdate) → is_typed_update P u ≡ true → ResultFits P T row u
-result_fits P typed T h row subject object u ok =
-    let both = one_sort (place_sort P (attr_place u.side u.attr)) (expr_sort P true u.value) ok in
+result_fits : (P : PlainPolicy) (T : Trace) → IsTyped (in_force P T) → ValuesFit P T → (row : SessionRow) → IsTrue (has_entity sides.Subject row.subject T)
+    → IsTrue (has_entity sides.Object row.object T) → (u : PlainUpdate) → is_typed_update (in_force P T) u ≡ true → ResultFits P T row u
+result_fits P T typed h row subject object u ok =
+    let Q : PlainPolicy = in_force P T in
+    let both = one_sort (place_sort Q (attr_place u.side u.attr)) (expr_sort Q true u.value) ok in
     let at = place_of P T row in
-    let reads = λ (place : Ref) (s : Sort) (declared : place_sort P place ≡ Some s).
+    let reads = λ (place : Ref) (s : Sort) (declared : place_sort Q place ≡ Some s).
     read_sort (at place) s (places_there P T row subject object place s declared) (λ v is. places_fit P T h row place s v declared is) in
-    result_admitted (declared_attr P.attrs u.side u.attr) (value_of at u.value) both.0
-    (λ d there. left_true (is_range d.kind) (admits d.kind d.start) (typed_attr P typed u.side u.attr d there))
-    (sym (attr_place_sort P u.side u.attr) ∙ both.1.0) (value_sorted P at reads true u.value both.0 both.1.1)
+    result_admitted (declared_attr Q.attrs u.side u.attr) (value_of at u.value) both.0
+    (λ d there. left_true (is_range d.kind) (admits d.kind d.start) (typed_attr Q typed u.side u.attr d there))
+    (sym (attr_place_sort Q u.side u.attr) ∙ both.1.0) (value_sorted Q at reads true u.value both.0 both.1.1)
 
 each_update : (Q : PlainUpdate → Type 0) (o : Option PlainRight) → ((r : PlainRight) → o ≡ Some r → Each Q r.updates)
     → Each Q (option_map_or (λ (right : PlainRight). right.updates) o [])
@@ -256,8 +266,8 @@ each_update Q None h = tt
 each_update Q (Some r) h = h r refl
 
 -- the updates of a well typed policy give what their attributes admit
-pub typed_updates_fit : (P : PlainPolicy) → IsTyped P → UpdatesFit P
-typed_updates_fit P typed T row h subject object =
-    each_update (ResultFits P T row) (right_named P.rights row.right)
-    (λ r is. each_map (λ u. is_typed_update P u ≡ true) (ResultFits P T row) (result_fits P typed T h row subject object) r.updates
-    (typed_updates P typed row.right r is))
+pub typed_updates_fit : (P : PlainPolicy) (T : Trace) → IsTyped (in_force P T) → UpdatesFit P T
+typed_updates_fit P T typed row h subject object =
+    each_update (ResultFits P T row) (right_named (in_force P T).rights row.right)
+    (λ r is. each_map (λ u. is_typed_update (in_force P T) u ≡ true) (ResultFits P T row) (result_fits P T typed h row subject object) r.updates
+    (typed_updates (in_force P T) typed row.right r is))

@@ -1,7 +1,7 @@
 -- A reply's text tells whether the reply changes something.
 use Rattle.std.proofs.Common.{◌≡◌, refl}
 use Rattle.ucon_model.specs.declared.reply.Head.TheVariants as heads
-use Rattle.ucon_model.specs.declared.reply.Refusal.TheVariants.{NotAdmin, NoRight, NoSubject, NoObject, NoAttribute, NoVariable, NoAct, NoSession, NotYours, NotAccessing, NotRequesting, AlreadyThere, BadValue, TickBack, FullSubjects, FullObjects, FullActs, FullSessions, FullAccessing}
+use Rattle.ucon_model.specs.declared.reply.Refusal.TheVariants.{NotAdmin, NoRight, NoSubject, NoObject, NoAttribute, NoVariable, NoAct, NoSession, NotYours, NotAccessing, NotRequesting, AlreadyThere, BadValue, TickBack, KindChanged, FullSubjects, FullObjects, FullActs, FullSessions, FullAccessing}
 use Rattle.ucon_model.specs.Plain.{PlainReply, refused, made, value_is, status}
 use Rattle.ucon_model.specs.Spelling.{reply_spelling}
 use Rattle.ucon_model.specs.History.{changes}
@@ -22,6 +22,7 @@ tells_change-reply_spelling (refused NotRequesting) = refl
 tells_change-reply_spelling (refused AlreadyThere) = refl
 tells_change-reply_spelling (refused BadValue) = refl
 tells_change-reply_spelling (refused TickBack) = refl
+tells_change-reply_spelling (refused KindChanged) = refl
 tells_change-reply_spelling (refused FullSubjects) = refl
 tells_change-reply_spelling (refused FullObjects) = refl
 tells_change-reply_spelling (refused FullActs) = refl

@@ -1,7 +1,8 @@
--- Command lines: the one text of each command, and the command or the refusal that a line gives.
-use Rattle.std.specs.Prelude.{IsTrue, ℕ, ◌+◌, ◌^◌, ◌<◌, ℤ, pos, negsuc, ◌==◌, nat_lt, List, [], ◌∷◌, length, drop, Option, Some, None, Result, Ok, Err, ok_or, option_and_then, codes, if◌then◌else◌}
+-- Command lines: the one text of each command, and the command or the refusal that a line gives. How the text of an amendment's policy is
+-- read is an argument.
+use Rattle.std.specs.Prelude.{IsTrue, ℕ, ◌+◌, ◌^◌, ◌<◌, ℤ, pos, negsuc, ◌==◌, nat_lt, nat_eq, List, [], ◌∷◌, length, drop, Option, Some, None, Result, Ok, Err, ok_or, option_map, option_and_then, codes, if◌then◌else◌}
 use Rattle.std.specs.Fmt.{decimal, signed_decimal}
-use Rattle.std.specs.List.{slice_split, join_with_byte}
+use Rattle.std.specs.List.{slice_split, join_with_byte, starts_with}
 use Rattle.std.specs.Result.{result_ok}
 use Rattle.std.specs.Str.{bytes_eq}
 use Rattle.ucon_base.specs.declared.value.Side.{Side}
@@ -13,8 +14,9 @@ use Rattle.ucon_base.specs.Numbers.{InRange}
 use Rattle.ucon_base.specs.Reading.{value_read}
 use Rattle.ucon_base.specs.Spelling.{side_word, value_spelling, IsValue}
 use Rattle.ucon_model.specs.declared.command.Command.{Command}
-use Rattle.ucon_model.specs.declared.command.Command.TheVariants.{Subject, Object, Set, Env, Tick, Act, Try, Again, Beat, End, Look, Value as Value'}
-use Rattle.ucon_model.specs.Plain.{Bytes}
+use Rattle.ucon_model.specs.declared.command.Command.TheVariants.{Subject, Object, Set, Env, Tick, Act, Try, Again, Beat, End, Look, Value as Value', Amend}
+use Rattle.ucon_model.specs.Amending.{has_newline, IsAmendment}
+use Rattle.ucon_model.specs.Plain.{Bytes, PlainPolicy, Amendment}
 
 -- ---- what is written
 
@@ -32,12 +34,13 @@ command_words (Beat n) = codes "beat" ∷ decimal n ∷ []
 command_words (End n) = codes "end" ∷ decimal n ∷ []
 command_words (Look n) = codes "look" ∷ decimal n ∷ []
 command_words (Value' side name attr) = codes "value" ∷ side_word side ∷ name ∷ attr ∷ []
+command_words (Amend a) = codes "amend" ∷ a.text ∷ []
 
 -- the one text of a command: its words with a space between
 unfoldable pub command_spelling : Command → Bytes
 command_spelling c = join_with_byte 32 (command_words c)
 
--- a command of names, values, integers in range and numbers of sessions
+-- a command of names, values, integers in range, numbers of sessions, and amendments whose text spells their policy
 abbrev pub IsCommand : Command → Type 0
 IsCommand (Subject name) = IsTrue (is_name name)
 IsCommand (Object name) = IsTrue (is_name name)
@@ -51,11 +54,12 @@ IsCommand (Beat n) = n < 2 ^ 32
 IsCommand (End n) = n < 2 ^ 32
 IsCommand (Look n) = n < 2 ^ 32
 IsCommand (Value' side name attr) = IsTrue (is_name name) × IsTrue (is_name attr)
+IsCommand (Amend a) = IsAmendment a
 
 -- ---- what is read
 
--- Why a line is no command: it has more than 8192 bytes, so many; it is empty or begins with a space; its first word begins no line;
--- it has so many words, the first one included, and its form has not; the word at this place, from 0, is refused.
+-- Why a line is no command: it has more bytes than a line may have, so many; it is empty or begins with a space; its first word begins no
+-- line; it has so many words, the first one included, and its form has not; the word at this place, from 0, is refused.
 pub data LineRefusal : Type 0 where
   line_too_long : (n : ℕ) → LineRefusal
   no_word : LineRefusal
@@ -185,9 +189,18 @@ abbrev pub made : {A : Type 0} → (A → Command) → Result A LineRefusal → 
 made command (Ok x) = Ok (command x)
 made command (Err refusal) = Err refusal
 
+-- the amendment whose policy a text is read as; a text with a newline is none
+abbrev pub amendment_in : (Bytes → Option PlainPolicy) → Bytes → Option Amendment
+amendment_in reads text = if has_newline text then None else option_map (λ policy. record { text = text; policy = policy }) (reads text)
+
+-- a line of a text behind its first word, which takes the rest of the line
+unfoldable pub amend_words : (Bytes → Option PlainPolicy) → Bytes → List Word → Result Command LineRefusal
+amend_words reads line (w ∷ v ∷ more) = made Amend (said (amendment_in reads) (with_rest line v))
+amend_words reads line words = miscounted words
+
 -- the form that a line's first word begins
-unfoldable pub command_read : Bytes → Bytes → List Word → Result Command LineRefusal
-command_read line first words =
+unfoldable pub command_read : (Bytes → Option PlainPolicy) → Bytes → Bytes → List Word → Result Command LineRefusal
+command_read reads line first words =
     if bytes_eq first (codes "subject") then made Subject (one_word name_in words) else
     if bytes_eq first (codes "object") then made Object (one_word name_in words) else
     if bytes_eq first (codes "set") then set_words line words else
@@ -200,13 +213,19 @@ command_read line first words =
     if bytes_eq first (codes "end") then made End (one_word number_in words) else
     if bytes_eq first (codes "look") then made Look (one_word number_in words) else
     if bytes_eq first (codes "value") then made (λ p. Value' p.0 p.1 p.2) (value_words words) else
+    if bytes_eq first (codes "amend") then amend_words reads line words else
     Err unknown_word
 
 -- a line's words: the first may not be empty
-abbrev pub words_read : Bytes → List Word → Result Command LineRefusal
-words_read line [] = Err no_word
-words_read line (w ∷ words) = if length w.text == 0 then Err no_word else command_read line w.text (w ∷ words)
+abbrev pub words_read : (Bytes → Option PlainPolicy) → Bytes → List Word → Result Command LineRefusal
+words_read reads line [] = Err no_word
+words_read reads line (w ∷ words) = if length w.text == 0 then Err no_word else command_read reads line w.text (w ∷ words)
+
+-- how many bytes a line may have: a policy's 65,536 and 6 before them where it begins with `amend `, and 8,192 otherwise
+abbrev pub most_bytes : Bytes → ℕ
+most_bytes line = if starts_with nat_eq line (codes "amend ") then 65542 else 8192
 
 -- the command whose text a line is, or the first refusal
-unfoldable pub line_read : Bytes → Result Command LineRefusal
-line_read line = if nat_lt 8192 (length line) then Err (line_too_long (length line)) else words_read line (words_of line)
+unfoldable pub line_read : (Bytes → Option PlainPolicy) → Bytes → Result Command LineRefusal
+line_read reads line =
+    if nat_lt (most_bytes line) (length line) then Err (line_too_long (length line)) else words_read reads line (words_of line)

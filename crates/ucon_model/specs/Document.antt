@@ -1,4 +1,5 @@
--- How a document is divided: a policy, a divider, and a script of lines; what the lines say, and the first that is refused.
+-- How a document is divided: a policy, a divider, and a script of lines; what the lines say, and the first that is refused. How the text of a
+-- policy in a line is read is an argument.
 use Rattle.std.specs.Prelude.{ℕ, ◌+◌, Bool, true, false, not, ◌&&◌, ◌||◌, ◌==◌, nat_lt, List, [], ◌∷◌, ◌++◌, length, map, Option, Some, None, option_map, option_to_list, unwrap_or, Result, Ok, Err, codes, if◌then◌else◌}
 use Rattle.std.specs.List.{slice_split, before_first, after_first, list_all}
 use Rattle.std.specs.Str.{bytes_eq}
@@ -6,7 +7,7 @@ use Rattle.ucon_base.specs.Reading.{is_digit, number_of}
 use Rattle.ucon_model.specs.declared.command.Caller.{Caller}
 use Rattle.ucon_model.specs.declared.command.Command.{Command}
 use Rattle.ucon_model.specs.declared.command.Entry.{Entry}
-use Rattle.ucon_model.specs.Plain.{Bytes}
+use Rattle.ucon_model.specs.Plain.{Bytes, PlainPolicy}
 use Rattle.ucon_model.specs.CommandLine.{LineRefusal, line_read}
 
 -- ---- how a document is divided
@@ -106,17 +107,17 @@ command_told n client (Ok command) = Ok (Some (record { number = n; caller = cli
 command_told n client (Err cause) = Err (bad_line n cause)
 
 -- a command line, at this line, of a client if there is a heading above, and so many command lines above
-abbrev pub said_told : ℕ → Option Caller → ℕ → Bytes → Result (Option ScriptLine) DocumentRefusal
-said_told n None said l = Err (bad_heading n)
-said_told n (Some client) said l = if nat_lt said 262144 then command_told n client (line_read l) else Err (too_many_lines n)
+abbrev pub said_told : (Bytes → Option PlainPolicy) → ℕ → Option Caller → ℕ → Bytes → Result (Option ScriptLine) DocumentRefusal
+said_told reads n None said l = Err (bad_heading n)
+said_told reads n (Some client) said l = if nat_lt said 262144 then command_told n client (line_read reads l) else Err (too_many_lines n)
 
 -- what a script's line of this number says, below a heading of this client, if any, and so many command lines: a command line, if it
 -- is one, or why the document is refused at it
-abbrev pub line_told : ℕ → Option Caller → ℕ → Bytes → Result (Option ScriptLine) DocumentRefusal
-line_told n client said l =
+abbrev pub line_told : (Bytes → Option PlainPolicy) → ℕ → Option Caller → ℕ → Bytes → Result (Option ScriptLine) DocumentRefusal
+line_told reads n client said l =
     if is_skipped l then Ok None else
     if is_heading l then heading_told n (heading_number l) else
-    said_told n client said l
+    said_told reads n client said l
 
 -- what a line says before what the next ones say; the first refusal stands
 abbrev pub before_next : Result (Option ScriptLine) DocumentRefusal → Result (List ScriptLine) DocumentRefusal → Result (List ScriptLine) DocumentRefusal
@@ -125,9 +126,10 @@ before_next (Ok told) (Err r) = Err r
 before_next (Ok told) (Ok next) = Ok (option_to_list told ++ next)
 
 -- what the lines from this number on say, below these, the nearest first
-abbrev pub script_told : ℕ → List Bytes → List Bytes → Result (List ScriptLine) DocumentRefusal
-script_told n above [] = Ok []
-script_told n above (l ∷ ls) = before_next (line_told n (client_below above) (command_lines above) l) (script_told (n + 1) (l ∷ above) ls)
+abbrev pub script_told : (Bytes → Option PlainPolicy) → ℕ → List Bytes → List Bytes → Result (List ScriptLine) DocumentRefusal
+script_told reads n above [] = Ok []
+script_told reads n above (l ∷ ls) =
+    before_next (line_told reads n (client_below above) (command_lines above) l) (script_told reads (n + 1) (l ∷ above) ls)
 
 -- the number of the first line behind the divider, where these lines begin with the document's first
 abbrev pub script_number : List Bytes → ℕ
@@ -135,8 +137,8 @@ script_number [] = 1
 script_number (l ∷ ls) = if is_divider l then 2 else script_number ls + 1
 
 -- the command lines of a document, in order, or why it is refused, at the first line that is
-unfoldable pub document_read : Bytes → Result (List ScriptLine) DocumentRefusal
-document_read bytes = script_told (script_number (lines_of bytes)) [] (script_lines (lines_of bytes))
+unfoldable pub document_read : (Bytes → Option PlainPolicy) → Bytes → Result (List ScriptLine) DocumentRefusal
+document_read reads bytes = script_told reads (script_number (lines_of bytes)) [] (script_lines (lines_of bytes))
 
 -- a command line as an entry of a history
 abbrev pub entry_of : ScriptLine → Entry

@@ -32,9 +32,9 @@ abbrev pub ResultFits : PlainPolicy → Trace → SessionRow → PlainUpdate →
 ResultFits P T row u = AttributeAdmits (in_force P T) u.side u.attr (result P T row u)
 
 -- where all values of the trace fit, and a session's subject and object are there, the result of each update of its right fits
-abbrev pub UpdatesFit : PlainPolicy → Type 0
-UpdatesFit P =
-    (T : Trace) (row : SessionRow) → ValuesFit P T → IsTrue (has_entity Subject row.subject T) → IsTrue (has_entity Object row.object T)
+abbrev pub UpdatesFit : PlainPolicy → Trace → Type 0
+UpdatesFit P T =
+    (row : SessionRow) → ValuesFit P T → IsTrue (has_entity Subject row.subject T) → IsTrue (has_entity Object row.object T)
     → Each (ResultFits P T row) (updates_of (in_force P T) row)
 
 -- each place that is declared and holds a value holds one of the declared sort

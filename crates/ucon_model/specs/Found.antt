@@ -32,31 +32,32 @@ abbrev pub with_step : PlainPolicy → History → Told → Option History
 with_step P H t = if is_next_step P H t then Some (H ++ entry_told t ∷ []) else None
 
 -- these entries with the step that a payload tells; none where the record is wrong
-unfoldable pub taken : PlainPolicy → History → Bytes → Option History
-taken P H payload = if nat_lt most_payload (length payload) then None else option_and_then (with_step P H) (result_ok (payload_read payload))
+unfoldable pub taken : (Bytes → Option PlainPolicy) → PlainPolicy → History → Bytes → Option History
+taken reads P H payload =
+    if nat_lt most_payload (length payload) then None else option_and_then (with_step P H) (result_ok (payload_read reads payload))
 
 -- the policy of record 0; none where the record is wrong
 abbrev pub policy_taken : (Bytes → Option PlainPolicy) → Bytes → Option PlainPolicy
 policy_taken reads payload = if nat_lt most_payload (length payload) then None else reads payload
 
 -- what is found behind these entries, from the record of this number on, whose gate is here
-abbrev pub found_behind : Bytes → PlainPolicy → History → (number gate : ℕ) → List Bytes → Finding
-found_behind text P H number gate [] = holds text P H gate
-found_behind text P H number gate (payload ∷ payloads) =
+abbrev pub found_behind : (Bytes → Option PlainPolicy) → Bytes → PlainPolicy → History → (number gate : ℕ) → List Bytes → Finding
+found_behind reads text P H number gate [] = holds text P H gate
+found_behind reads text P H number gate (payload ∷ payloads) =
     unwrap_or
-    (option_map (λ later. found_behind text P later (number + 1) (next_gate gate payload) payloads) (taken P H payload))
+    (option_map (λ later. found_behind reads text P later (number + 1) (next_gate gate payload) payloads) (taken reads P H payload))
     (damaged number gate)
 
 -- what is found in the payloads of a journal's records that count
 abbrev pub found_in : (Bytes → Option PlainPolicy) → List Bytes → Finding
 found_in reads [] = fresh
 found_in reads (text ∷ payloads) =
-    unwrap_or (option_map (λ P. found_behind text P [] 1 (next_gate first_gate text) payloads) (policy_taken reads text)) (damaged 0 first_gate)
+    unwrap_or (option_map (λ P. found_behind reads text P [] 1 (next_gate first_gate text) payloads) (policy_taken reads text)) (damaged 0 first_gate)
 
 -- what is found where behind so many payloads, in which this is found, stand more
 abbrev pub found_on : (Bytes → Option PlainPolicy) → Finding → ℕ → List Bytes → Finding
 found_on reads fresh number payloads = found_in reads payloads
-found_on reads (holds text P H gate) number payloads = found_behind text P H number gate payloads
+found_on reads (holds text P H gate) number payloads = found_behind reads text P H number gate payloads
 found_on reads found number payloads = found
 
 -- ---- what a history leaves

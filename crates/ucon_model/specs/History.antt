@@ -5,14 +5,21 @@ use Rattle.ucon_model.specs.declared.command.Command.{Command}
 use Rattle.ucon_model.specs.declared.command.Entry.{Entry}
 use Rattle.ucon_model.specs.declared.formula.Ref.{Ref}
 use Rattle.ucon_model.specs.declared.session.SessionRow.{SessionRow}
+use Rattle.ucon_base.specs.Elements.{Each}
+use Rattle.ucon_model.specs.CommandLine.{IsCommand}
 use Rattle.ucon_model.specs.Plain.{Bytes, PlainPolicy, PlainReply, made}
 use Rattle.ucon_model.specs.Action.{Trace}
+use Rattle.ucon_model.specs.Readings.{in_force}
 use Rattle.ucon_model.specs.Truth.{Readings, readings}
 use Rattle.ucon_model.specs.Block.{after, reply}
 
 -- a caller's commands in the order in which they took place, the oldest first
 abbrev pub History : Type 0
 History = List Entry
+
+-- each entry's command is one that a line may give
+abbrev pub AreCommands : History → Type 0
+AreCommands H = Each (λ e. IsCommand e.command) H
 
 -- the trace after these entries, from a trace on
 abbrev pub trace_from : PlainPolicy → Trace → History → Trace
@@ -58,7 +65,8 @@ pub record Agree (R S : Readings) : Type 0 where
   pub at : (row : SessionRow) (place : Ref) → R.at row place ≡ S.at row place
   pub done_at : (s a o : Bytes) → R.done_at s a o ≡ S.done_at s a o
 
--- a keeper of state stands for a history: its policy is the history's, and what it gives to read is that of the history's trace
+-- a keeper of state stands for a history: its policy is the one in force after the history, and what it gives to read is that of the
+-- history's trace
 pub record StandsFor (policy : PlainPolicy) (given : Readings) (P : PlainPolicy) (H : History) : Type 0 where
-  pub policy_is : policy ≡ P
+  pub policy_is : policy ≡ in_force P (trace P H)
   pub readings_are : Agree given (readings P (trace P H))

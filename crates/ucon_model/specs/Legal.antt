@@ -6,12 +6,15 @@ use Rattle.ucon_base.specs.Admits.{admits}
 use Rattle.ucon_model.specs.declared.session.SessionState.TheVariants.{Requesting, Accessing}
 use Rattle.ucon_model.specs.declared.session.Verdict.TheVariants.{Wait, Deny}
 use Rattle.ucon_model.specs.Plain.{Bytes, PlainPolicy}
-use Rattle.ucon_model.specs.Action.{Action, Trace, subject, object, write, env, tick, act, tries, wait, permit, deny, ends, revoke, extended}
+use Rattle.ucon_model.specs.Action.{Action, Trace, subject, object, write, env, tick, act, tries, wait, permit, deny, ends, revoke, amend, extended}
 use Rattle.ucon_model.specs.Readings.{in_force, tick_of, has_entity, entities, declared_attr, declared_env, moment, session, sessions, accessing, acts}
 use Rattle.ucon_model.specs.Truth.{readings}
 use Rattle.ucon_model.specs.Decision.{right_named, verdict, failing}
+use Rattle.ucon_model.specs.MayFollow.{MayFollow}
 use Rattle.ucon_model.specs.OwnActions.{names_act}
 use Rattle.ucon_model.specs.Settle.{fails_at, revocation}
+use Rattle.ucon_model.specs.Spells.{Spells}
+use Rattle.ucon_model.specs.Typing.{IsTyped}
 
 -- session n waits for its decision
 abbrev pub IsRequesting : Trace → ℕ → Type 0
@@ -39,6 +42,7 @@ IsLegal P T (deny n label) = IsRequesting T n × (verdict (in_force P T) (readin
 IsLegal P T (permit n) = IsRequesting T n × (accessing T < 65536)
 IsLegal P T (ends n) = IsAccessing T n
 IsLegal P T (revoke n label) = IsAccessing T n × (failing (in_force P T) (readings P T) n ≡ Some label) × ((m : ℕ) → m < n → fails_at P T m ≡ None)
+IsLegal P T (amend text Q) = Spells text Q × IsTyped Q × MayFollow (in_force P T) Q
 
 -- each of these actions is legal after the trace and those before it
 abbrev pub AreLegal : PlainPolicy → Trace → List Action → Type 0

@@ -8,6 +8,8 @@ pub mod Readings
 pub mod Truth
 pub mod Decision
 pub mod Updates
+pub mod Usages
+pub mod Afterwards
 pub mod Legal
 pub mod OwnActions
 pub mod Settle
@@ -25,10 +27,13 @@ pub mod ReplyText
 pub mod Places
 pub mod Cores
 pub mod Typing
+pub mod MayFollow
+pub mod Coded
 pub mod Meaning
 pub mod Forms
 pub mod Grammar
 pub mod Spells
+pub mod Amending
 pub mod Limits
 pub mod Generated
 pub mod Summary

@@ -1,5 +1,5 @@
 -- What a command itself does, before accessing sessions are rechecked: it is refused, or it tells, or it makes actions.
-use Rattle.std.specs.Prelude.{ℕ, ℤ, ◌+◌, int_lt, Bool, true, false, ◌&&◌, not, nat_le, nat_eq, List, [], ◌∷◌, ◌++◌, is_none, if◌then◌else◌}
+use Rattle.std.specs.Prelude.{ℕ, ℤ, ◌+◌, int_lt, Bool, true, false, ◌&&◌, not, nat_le, nat_eq, List, [], ◌∷◌, ◌++◌, is_none, is_some, if◌then◌else◌}
 use Rattle.std.specs.Option.{option_map_or}
 use Rattle.std.specs.List.{list_any}
 use Rattle.std.specs.Str.{bytes_eq}
@@ -9,22 +9,23 @@ use Rattle.ucon_base.specs.declared.value.Value.{Value}
 use Rattle.ucon_base.specs.Admits.{admits}
 use Rattle.ucon_model.specs.declared.command.Caller.{Caller}
 use Rattle.ucon_model.specs.declared.command.Command.{Command}
-use Rattle.ucon_model.specs.declared.command.Command.TheVariants.{Subject, Object, Set, Env, Tick, Act, Try, Again, Beat, End, Look, Value as Value'}
+use Rattle.ucon_model.specs.declared.command.Command.TheVariants.{Subject, Object, Set, Env, Tick, Act, Try, Again, Beat, End, Look, Value as Value', Amend}
 use Rattle.ucon_model.specs.declared.policy.When.TheVariants.{Before, During, AfterEnd}
 use Rattle.ucon_model.specs.declared.reply.Head.{Head}
 use Rattle.ucon_model.specs.declared.reply.Head.TheVariants as heads
 use Rattle.ucon_model.specs.declared.reply.Refusal.{Refusal}
-use Rattle.ucon_model.specs.declared.reply.Refusal.TheVariants.{NotAdmin, NoRight, NoSubject, NoObject, NoAttribute, NoVariable, NoAct, NoSession, NotYours, NotAccessing, NotRequesting, AlreadyThere, BadValue, TickBack, FullSubjects, FullObjects, FullActs, FullSessions, FullAccessing}
+use Rattle.ucon_model.specs.declared.reply.Refusal.TheVariants.{NotAdmin, NoRight, NoSubject, NoObject, NoAttribute, NoVariable, NoAct, NoSession, NotYours, NotAccessing, NotRequesting, AlreadyThere, BadValue, TickBack, KindChanged, FullSubjects, FullObjects, FullActs, FullSessions, FullAccessing}
 use Rattle.ucon_model.specs.declared.session.SessionRow.{SessionRow}
 use Rattle.ucon_model.specs.declared.session.SessionState.{SessionState}
 use Rattle.ucon_model.specs.declared.session.SessionState.TheVariants.{Requesting}
 use Rattle.ucon_model.specs.declared.session.Verdict.{Verdict}
 use Rattle.ucon_model.specs.declared.session.Verdict.TheVariants.{Permit, Deny, Wait}
 use Rattle.ucon_model.specs.Plain.{Bytes, PlainTest, duty, PlainRight, PlainPolicy, PlainReply, value_is, status}
-use Rattle.ucon_model.specs.Action.{Action, Trace, subject, object, write, env, tick, act, tries, wait, permit, deny, ends}
+use Rattle.ucon_model.specs.Action.{Action, Trace, subject, object, write, env, tick, act, tries, wait, permit, deny, ends, amend}
 use Rattle.ucon_model.specs.Readings.{in_force, tick_of, has_entity, entities, attribute, declared_attr, declared_env, moment, session, sessions, is_accessing, accessing, acts}
 use Rattle.ucon_model.specs.Truth.{readings}
 use Rattle.ucon_model.specs.Decision.{right_named, verdict}
+use Rattle.ucon_model.specs.MayFollow.{changed_kind}
 use Rattle.ucon_model.specs.Updates.{session_writes}
 
 -- refused; a reading; or a reply's head with the actions, the first one first
@@ -150,9 +151,15 @@ abbrev pub is_requesting : SessionState → Bool
 is_requesting Requesting = true
 is_requesting s = false
 
+-- whether a session is there, and its right is not in the policy in force
+abbrev pub lacks_right : PlainPolicy → Trace → ℕ → Bool
+lacks_right P T n = option_map_or (λ row. is_none (right_named (in_force P T).rights row.right)) (session T n) false
+
 -- a session of the caller's own that is requesting is decided afresh
 abbrev pub try_again : PlainPolicy → Trace → Caller → ℕ → Own
-try_again P T caller n = with_own T caller n (λ row.
+try_again P T caller n =
+    if lacks_right P T n then refuse NoRight else
+    with_own T caller n (λ row.
     if not (is_requesting row.state) then refuse NotRequesting else
     if nat_le 65536 (accessing T) then refuse FullAccessing else
     decide P T n)
@@ -165,6 +172,15 @@ with_usage T caller n done =
 -- the usage ends, and its updates after the end run
 abbrev pub end_usage : PlainPolicy → Trace → ℕ → Own
 end_usage P T n = make (heads.Ended n) (ends n ∷ session_writes P n AfterEnd (ends n ∷ T))
+
+-- ---- amendments
+
+-- client 0 replaces the policy in force by one that changes no kind
+abbrev pub replace_policy : PlainPolicy → Trace → Caller → Bytes → PlainPolicy → Own
+replace_policy P T caller text Q =
+    if not (is_admin caller) then refuse NotAdmin else
+    if is_some (changed_kind (in_force P T) Q) then refuse KindChanged else
+    make heads.Ok (amend text Q ∷ [])
 
 -- ---- all commands
 
@@ -182,3 +198,4 @@ own P T caller (Beat n) = with_usage T caller n (make heads.Ok (session_writes P
 own P T caller (End n) = with_usage T caller n (end_usage P T n)
 own P T caller (Look n) = option_map_or (λ row. tell (status n row.state)) (session T n) (refuse NoSession)
 own P T caller (Value' side name attr) = tell_value P T side name attr
+own P T caller (Amend a) = replace_policy P T caller a.text a.policy

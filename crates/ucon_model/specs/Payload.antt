@@ -1,4 +1,5 @@
--- What a record's payload says of a step: who gave which command, and the reply to it; how it is spelled, and how it is read.
+-- What a record's payload says of a step: who gave which command, and the reply to it; how it is spelled, and how it is read. How the text of
+-- a policy is read is an argument.
 use Rattle.std.specs.Prelude.{ℕ, ◌+◌, nat_lt, List, [], ◌∷◌, ◌++◌, length, Option, Some, None, option_and_then, Result, Ok, Err, ok_or, if◌then◌else◌}
 use Rattle.std.specs.Fmt.{decimal}
 use Rattle.std.specs.Result.{result_ok}
@@ -9,7 +10,7 @@ use Rattle.ucon_model.specs.CommandLine.{command_spelling, line_read}
 use Rattle.ucon_model.specs.Document.{caller_of}
 use Rattle.ucon_model.specs.Output.{cut_at, number_read}
 use Rattle.ucon_model.specs.declared.reply.Revoked.{Revoked}
-use Rattle.ucon_model.specs.Plain.{Bytes, PlainReply, made}
+use Rattle.ucon_model.specs.Plain.{Bytes, PlainPolicy, PlainReply, made}
 use Rattle.ucon_model.specs.ReplyText.{reply_read}
 use Rattle.ucon_model.specs.Spelling.{reply_spelling}
 
@@ -59,18 +60,18 @@ abbrev pub caller_read : Bytes → Option Caller
 caller_read bytes = option_and_then client_numbered (number_read bytes)
 
 -- a caller's command up to the first newline, and the reply behind it, where the command begins at this place
-unfoldable pub step_read : ℕ → Caller → Bytes → Result Told ℕ
-step_read place caller bytes = do
+unfoldable pub step_read : (Bytes → Option PlainPolicy) → ℕ → Caller → Bytes → Result Told ℕ
+step_read reads place caller bytes = do
   parts ← ok_or (cut_at 10 bytes) place
-  command ← ok_or (result_ok (line_read parts.0)) place
+  command ← ok_or (result_ok (line_read reads parts.0)) place
   reply ← ok_or (reply_read parts.1) (place + length parts.0 + 1)
   Ok (record { caller = caller; command = command; reply = reply })
 
 -- The step that a payload tells, or the place of its first part that is none: 0 where the bytes up to the first space are no client's
 -- number or there is no space; the place behind the space where the bytes from there to the first newline are no command line or there is
 -- no newline; the place behind the newline where the rest is no reply's text.
-unfoldable pub payload_read : Bytes → Result Told ℕ
-payload_read bytes = do
+unfoldable pub payload_read : (Bytes → Option PlainPolicy) → Bytes → Result Told ℕ
+payload_read reads bytes = do
   parts ← ok_or (cut_at 32 bytes) 0
   caller ← ok_or (caller_read parts.0) 0
-  step_read (length parts.0 + 1) caller parts.1
+  step_read reads (length parts.0 + 1) caller parts.1

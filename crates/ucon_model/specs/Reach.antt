@@ -15,7 +15,7 @@ use Rattle.ucon_model.specs.declared.formula.Ref.TheVariants.{Subject, Object, E
 use Rattle.ucon_model.specs.declared.policy.When.{When}
 use Rattle.ucon_model.specs.declared.session.SessionRow.{SessionRow}
 use Rattle.ucon_model.specs.Plain.{Bytes, PlainFormula, both, either, negation, compare, lasts, PlainTest, authorisation, duty, condition, PlainUpdate, PlainRight, PlainPolicy}
-use Rattle.ucon_model.specs.Action.{Action, Trace, subject, object, write, env, tick, act, tries, permit, deny, ends, revoke}
+use Rattle.ucon_model.specs.Action.{Action, Trace, subject, object, write, env, tick, act, tries, permit, deny, ends, revoke, amend}
 use Rattle.ucon_model.specs.Readings.{in_force, same_side, attribute, variable, session}
 use Rattle.ucon_model.specs.Truth.{Readings, is_done}
 use Rattle.ucon_model.specs.Decision.{right_named, ongoing}
@@ -119,11 +119,12 @@ session_targets P T n when = option_map_or (λ row. targets row when (updates_of
 
 -- ---- what an action may change
 
--- whether an action replaces the policy in force; none does yet
+-- whether an action replaces the policy in force
 abbrev pub replaces : Action → Bool
+replaces (amend text Q) = true
 replaces a = false
 
--- whether an action may change what is kept there: it writes it, or makes its entity
+-- whether an action may change what is kept there: it writes it, or makes its entity, or replaces the policy in force
 abbrev pub alters : Action → Location → Bool
 alters (write side name attr v) location = same_location location (attribute_of side name attr)
 alters (env name v) location = same_location location (variable_of name)

@@ -1,5 +1,5 @@
 -- What can be read off a trace, by looking back through it. No current state is kept.
-use Rattle.std.specs.Prelude.{ℕ, suc, zero, ℤ, pos, ◌+◌, Bool, true, false, ◌&&◌, ◌||◌, nat_eq, ◌++◌, List, [], ◌∷◌, filter, find, position, Option, Some, None, option_map, is_none, unwrap_or, if◌then◌else◌}
+use Rattle.std.specs.Prelude.{ℕ, suc, zero, ℤ, pos, ◌+◌, Bool, true, false, ◌&&◌, ◌||◌, nat_eq, ◌++◌, List, [], ◌∷◌, filter, find, position, Option, Some, None, option_map, is_none, is_some, if◌then◌else◌}
 use Rattle.std.specs.Str.{bytes_eq}
 use Rattle.ucon_base.specs.declared.value.Side.{Side}
 use Rattle.ucon_base.specs.declared.value.Side.TheVariants.{Subject, Object}
@@ -10,12 +10,14 @@ use Rattle.ucon_model.specs.declared.session.SessionRow.{SessionRow}
 use Rattle.ucon_model.specs.declared.session.SessionState.{SessionState}
 use Rattle.ucon_model.specs.declared.session.SessionState.TheVariants.{Requesting, Denied, Accessing, Revoked, Ended}
 use Rattle.ucon_model.specs.Plain.{Bytes, PlainPolicy}
-use Rattle.ucon_model.specs.Action.{Trace, subject, object, write, env, tick, act, tries, permit, deny, ends, revoke}
+use Rattle.ucon_model.specs.Action.{Trace, subject, object, write, env, tick, act, tries, permit, deny, ends, revoke, amend}
 
--- The policy in force after a trace. No action replaces it yet, so it is always the policy that the trace began with; an action that
--- does will have its case here. Whatever asks a policy after a trace asks this one.
+-- The policy in force: that of the last amendment, else the one that the trace began with. Whatever asks a policy after a trace asks
+-- this one.
 abbrev pub in_force : PlainPolicy → Trace → PlainPolicy
-in_force P T = P
+in_force P [] = P
+in_force P (amend text Q ∷ T) = Q
+in_force P (a ∷ T) = in_force P T
 
 -- the tick of the last Tick, else 0
 abbrev pub tick_of : Trace → ℤ
@@ -58,18 +60,13 @@ same_side Subject Subject = true
 same_side Object Object = true
 same_side s t = false
 
--- the value of the last Write to an attribute of an entity since the entity was made
-abbrev pub written : Side → Bytes → Bytes → Trace → Option Value
-written side e attr [] = None
-written Subject e attr (subject name ∷ T) = if bytes_eq e name then None else written Subject e attr T
-written Object e attr (object name ∷ T) = if bytes_eq e name then None else written Object e attr T
-written side e attr (write s n a v ∷ T) =
-    if same_side side s && bytes_eq e n && bytes_eq attr a then Some v else written side e attr T
-written side e attr (a ∷ T) = written side e attr T
-
 -- the declaration of an attribute of a side
 abbrev pub declared_attr : List AttrDecl → Side → Bytes → Option AttrDecl
 declared_attr ds side attr = find (λ d. same_side side d.side && bytes_eq attr d.name) ds
+
+-- the declaration of a variable
+abbrev pub declared_env : List EnvDecl → Bytes → Option EnvDecl
+declared_env ds name = find (λ d. bytes_eq name d.name) ds
 
 -- the declarations of a side
 abbrev pub attrs_of : PlainPolicy → Side → List AttrDecl
@@ -79,28 +76,47 @@ attrs_of P side = filter (λ d. same_side side d.side) P.attrs
 abbrev pub attr_position : PlainPolicy → Side → Bytes → Option ℕ
 attr_position P side attr = position (λ d. bytes_eq attr d.name) (attrs_of P side)
 
--- an attribute of an entity that is there: the value of the last Write to it, else its declared default
-abbrev pub attribute : PlainPolicy → Trace → Side → Bytes → Bytes → Option Value
-attribute P T side e attr =
-    if has_entity side e T then option_map (λ d. unwrap_or (written side e attr T) d.start) (declared_attr (in_force P T).attrs side attr) else None
-
--- the value of the last Env of a variable
-abbrev pub assigned : Bytes → Trace → Option Value
-assigned name [] = None
-assigned name (env n v ∷ T) = if bytes_eq name n then Some v else assigned name T
-assigned name (a ∷ T) = assigned name T
-
--- the declaration of a variable
-abbrev pub declared_env : List EnvDecl → Bytes → Option EnvDecl
-declared_env ds name = find (λ d. bytes_eq name d.name) ds
-
 -- the position of a variable among the declarations, from 0
 abbrev pub env_position : PlainPolicy → Bytes → Option ℕ
 env_position P name = position (λ d. bytes_eq name d.name) P.envs
 
--- a variable: the value of its last Env, else its declared default
+-- the default of an attribute, where the policy declares it
+abbrev pub attr_default : PlainPolicy → Side → Bytes → Option Value
+attr_default P side attr = option_map (λ d. d.start) (declared_attr P.attrs side attr)
+
+-- the default of a variable, where the policy declares it
+abbrev pub env_default : PlainPolicy → Bytes → Option Value
+env_default P name = option_map (λ d. d.start) (declared_env P.envs name)
+
+-- What the latest of three kinds of action gave an attribute of an entity: a write to it, the written value; the making of the entity, the
+-- default in force there; an amendment of a policy that didn't declare the attribute, the new policy's default.
+abbrev pub given_attr : PlainPolicy → Side → Bytes → Bytes → Trace → Option Value
+given_attr P side e attr [] = None
+given_attr P Subject e attr (subject name ∷ T) = if bytes_eq e name then attr_default (in_force P T) Subject attr else given_attr P Subject e attr T
+given_attr P Object e attr (object name ∷ T) = if bytes_eq e name then attr_default (in_force P T) Object attr else given_attr P Object e attr T
+given_attr P side e attr (write s n a v ∷ T) =
+    if same_side side s && bytes_eq e n && bytes_eq attr a then Some v else given_attr P side e attr T
+given_attr P side e attr (amend text Q ∷ T) =
+    if is_some (declared_attr (in_force P T).attrs side attr) then given_attr P side e attr T else attr_default Q side attr
+given_attr P side e attr (a ∷ T) = given_attr P side e attr T
+
+-- an attribute of an entity that is there, where the policy in force declares it
+abbrev pub attribute : PlainPolicy → Trace → Side → Bytes → Bytes → Option Value
+attribute P T side e attr =
+    if has_entity side e T && is_some (declared_attr (in_force P T).attrs side attr) then given_attr P side e attr T else None
+
+-- What the later of two kinds of action gave a variable: an assignment, the assigned value; an amendment of a policy that didn't declare it,
+-- the new policy's default. Without both it has the default of the policy that the trace began with.
+abbrev pub given_env : PlainPolicy → Bytes → Trace → Option Value
+given_env P name [] = env_default P name
+given_env P name (env n v ∷ T) = if bytes_eq name n then Some v else given_env P name T
+given_env P name (amend text Q ∷ T) =
+    if is_some (declared_env (in_force P T).envs name) then given_env P name T else env_default Q name
+given_env P name (a ∷ T) = given_env P name T
+
+-- a variable, where the policy in force declares it
 abbrev pub variable : PlainPolicy → Trace → Bytes → Option Value
-variable P T name = option_map (λ d. unwrap_or (assigned name T) d.start) (declared_env (in_force P T).envs name)
+variable P T name = if is_some (declared_env (in_force P T).envs name) then given_env P name T else None
 
 -- ---- acts
 

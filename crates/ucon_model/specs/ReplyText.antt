@@ -6,7 +6,7 @@ use Rattle.ucon_base.specs.Spelling.{IsValue}
 use Rattle.ucon_model.specs.declared.reply.Head.{Head}
 use Rattle.ucon_model.specs.declared.reply.Head.TheVariants as heads
 use Rattle.ucon_model.specs.declared.reply.Refusal.{Refusal}
-use Rattle.ucon_model.specs.declared.reply.Refusal.TheVariants.{NotAdmin, NoRight, NoSubject, NoObject, NoAttribute, NoVariable, NoAct, NoSession, NotYours, NotAccessing, NotRequesting, AlreadyThere, BadValue, TickBack, FullSubjects, FullObjects, FullActs, FullSessions, FullAccessing}
+use Rattle.ucon_model.specs.declared.reply.Refusal.TheVariants.{NotAdmin, NoRight, NoSubject, NoObject, NoAttribute, NoVariable, NoAct, NoSession, NotYours, NotAccessing, NotRequesting, AlreadyThere, BadValue, TickBack, KindChanged, FullSubjects, FullObjects, FullActs, FullSessions, FullAccessing}
 use Rattle.ucon_model.specs.declared.reply.Revoked.{Revoked}
 use Rattle.ucon_model.specs.declared.session.SessionState.{SessionState}
 use Rattle.ucon_model.specs.declared.session.SessionState.TheVariants as states
@@ -48,7 +48,7 @@ o >>= f = option_and_then f o
 abbrev pub refusals : List Refusal
 refusals =
     NotAdmin ∷ NoRight ∷ NoSubject ∷ NoObject ∷ NoAttribute ∷ NoVariable ∷ NoAct ∷ NoSession ∷ NotYours ∷ NotAccessing ∷ NotRequesting ∷ AlreadyThere ∷ BadValue ∷ TickBack
-    ∷ FullSubjects ∷ FullObjects ∷ FullActs ∷ FullSessions ∷ FullAccessing ∷ []
+    ∷ KindChanged ∷ FullSubjects ∷ FullObjects ∷ FullActs ∷ FullSessions ∷ FullAccessing ∷ []
 
 -- the refusal of this text
 abbrev pub refusal_read : Bytes → Option Refusal

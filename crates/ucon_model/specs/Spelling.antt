@@ -5,7 +5,7 @@ use Rattle.ucon_base.specs.Spelling.{value_spelling}
 use Rattle.ucon_model.specs.declared.reply.Head.{Head}
 use Rattle.ucon_model.specs.declared.reply.Head.TheVariants as heads
 use Rattle.ucon_model.specs.declared.reply.Refusal.{Refusal}
-use Rattle.ucon_model.specs.declared.reply.Refusal.TheVariants.{NotAdmin, NoRight, NoSubject, NoObject, NoAttribute, NoVariable, NoAct, NoSession, NotYours, NotAccessing, NotRequesting, AlreadyThere, BadValue, TickBack, FullSubjects, FullObjects, FullActs, FullSessions, FullAccessing}
+use Rattle.ucon_model.specs.declared.reply.Refusal.TheVariants.{NotAdmin, NoRight, NoSubject, NoObject, NoAttribute, NoVariable, NoAct, NoSession, NotYours, NotAccessing, NotRequesting, AlreadyThere, BadValue, TickBack, KindChanged, FullSubjects, FullObjects, FullActs, FullSessions, FullAccessing}
 use Rattle.ucon_model.specs.declared.reply.Revoked.{Revoked}
 use Rattle.ucon_model.specs.declared.session.SessionState.{SessionState}
 use Rattle.ucon_model.specs.declared.session.SessionState.TheVariants as states
@@ -27,6 +27,7 @@ refusal_words NotRequesting = codes "not requesting"
 refusal_words AlreadyThere = codes "already there"
 refusal_words BadValue = codes "bad value"
 refusal_words TickBack = codes "tick back"
+refusal_words KindChanged = codes "kind changed"
 refusal_words FullSubjects = codes "full subjects"
 refusal_words FullObjects = codes "full objects"
 refusal_words FullActs = codes "full acts"

@@ -4,7 +4,7 @@ use Rattle.std.specs.Option.{option_map_or}
 use Rattle.ucon_model.specs.declared.policy.When.TheVariants.{AfterRevoke}
 use Rattle.ucon_model.specs.declared.session.SessionRow.{SessionRow}
 use Rattle.ucon_model.specs.Plain.{Bytes, PlainPolicy}
-use Rattle.ucon_model.specs.Action.{Action, Trace, write, env, tick, permit, extended}
+use Rattle.ucon_model.specs.Action.{Action, Trace, write, env, tick, permit, amend, extended}
 use Rattle.ucon_model.specs.Readings.{in_force, tick_of, session, is_accessing}
 use Rattle.ucon_model.specs.Settle.{revocation}
 use Rattle.ucon_model.specs.Reach.{timed_of, attribute_of, variable_of, reads_at, readers, session_targets}
@@ -14,11 +14,12 @@ use Rattle.ucon_model.specs.Work.{Work}
 -- ---- touches
 
 -- how often an action after a trace touches an accessing session: a write once where its right reads what is written; a tick once for each
--- of its timed parts of which it passes a deadline
+-- of its timed parts of which it passes a deadline; an amendment once
 abbrev pub touches_row : PlainPolicy → Trace → Action → SessionRow → ℕ
 touches_row P T (write side name attr v) row = if reads_at (in_force P T) row (attribute_of side name attr) then 1 else 0
 touches_row P T (env name v) row = if reads_at (in_force P T) row (variable_of name) then 1 else 0
 touches_row P T (tick t) row = length (filter (λ part. has_between (tick_of T) t (deadlines T row part)) (timed_of (in_force P T) row))
+touches_row P T (amend text Q) row = 1
 touches_row P T a row = 0
 
 -- how often an action after a trace touches session n: a permit its own session once, and every other only accessing ones

@@ -3,7 +3,7 @@ use Rattle.std.specs.Prelude.{◌≡◌, ℕ, ◌<◌, ◌≤◌, Bool, true, fa
 use Rattle.std.specs.List.{list_any}
 use Rattle.ucon_model.specs.declared.command.Caller.{Caller}
 use Rattle.ucon_model.specs.declared.command.Command.{Command}
-use Rattle.ucon_model.specs.declared.command.Command.TheVariants.{Set, Env, Tick, Try, Again, Beat, End}
+use Rattle.ucon_model.specs.declared.command.Command.TheVariants.{Set, Env, Tick, Try, Again, Beat, End, Amend}
 use Rattle.ucon_model.specs.declared.policy.When.TheVariants.{Before, During, AfterEnd, AfterRevoke}
 use Rattle.ucon_model.specs.declared.reply.Head.{Head}
 use Rattle.ucon_model.specs.declared.reply.Head.TheVariants as heads
@@ -22,6 +22,9 @@ Work = ℕ → Bool
 
 abbrev pub nobody : Work
 nobody n = false
+
+abbrev pub everybody : Work
+everybody n = true
 
 abbrev pub only : ℕ → Work
 only n m = nat_eq m n
@@ -78,7 +81,8 @@ pub data WorksOff (P : PlainPolicy) : Trace → Work → List Action → Type 0 
 -- ---- after a command's own actions
 
 -- The work after a command's own actions, where nobody failed before them, by the head of its reply: who reads where they write, who is
--- permitted, and of whom the tick passed a limit. An act makes nobody fail, and nobody reads of an entity that is new.
+-- permitted, and of whom the tick passed a limit. An amendment concerns everybody. An act makes nobody fail, and nobody reads of an entity
+-- that is new.
 abbrev pub own_work : PlainPolicy → Trace → Caller → Command → Head → Work
 own_work P T caller (Set side name attr v) head = readers P T (attribute_of side name attr ∷ [])
 own_work P T caller (Env name v) head = readers P T (variable_of name ∷ [])
@@ -87,4 +91,5 @@ own_work P T caller (Try s r o) (heads.Permitted n) = joined (only n) (readers P
 own_work P T caller (Again m) (heads.Permitted n) = joined (only n) (readers P T (session_targets P T n Before))
 own_work P T caller (Beat n) head = readers P T (session_targets P T n During)
 own_work P T caller (End n) head = readers P T (session_targets P T n AfterEnd)
+own_work P T caller (Amend a) head = everybody
 own_work P T caller c head = nobody

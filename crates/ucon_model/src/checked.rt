@@ -1,10 +1,12 @@
 //! Policies that were checked.
 
-ghost use Rattle.std.specs.Prelude.{◌≡◌};
+ghost use Rattle.std.specs.Prelude.{◌≡◌, IfOk};
 ghost use Rattle.ucon_model.specs.Views.{policy_of};
 ghost use Rattle.ucon_model.specs.Typing.{IsTyped};
 
 use crate::Policy;
+use std::alloc::Global;
+use ucon_base::NoMemory;
 
 /// A policy that is well typed.
 #[derive(Debug, Drop)]
@@ -28,5 +30,12 @@ impl Checked {
         ensures typed { IsTyped (checked_policy self.now) }
     {
         &self.policy
+    }
+
+    pub fn copy(&self, alloc: Global) -> Result<Checked, NoMemory>
+        ensures { IfOk result (λ c. checked_policy c ≡ checked_policy self.now) }
+    {
+        let policy = self.policy.copy(alloc)?;
+        Ok(Checked { policy })
     }
 }

@@ -11,7 +11,8 @@ ghost use Rattle.ucon_model.specs.Action.{Action, Trace, extended, revoke};
 ghost use Rattle.ucon_model.specs.Block.{after, block};
 ghost use Rattle.ucon_model.specs.Decision.{right_named};
 ghost use Rattle.ucon_model.specs.Fitting.{PlacesFit, UpdatesFit, ValuesFit};
-ghost use Rattle.ucon_model.specs.History.{History, grown, said, trace};
+ghost use Rattle.ucon_model.specs.CommandLine.{IsCommand};
+ghost use Rattle.ucon_model.specs.History.{History, AreCommands, grown, said, trace};
 ghost use Rattle.ucon_model.specs.Legal.{AreLegal, IsCascade, IsLegal, RevocationsAreLegal};
 ghost use Rattle.ucon_base.specs.Elements.{Each};
 ghost use Rattle.ucon_model.specs.LegalRun.{Answered, IsLegalRun, IsSerialRun, history_made, in_text_order};
@@ -58,20 +59,28 @@ pub fn no_usage_goes_on_failing()
     ensures { (P : PlainPolicy) (H : History) (n : ℕ) → fails_at P (trace P H) n ≡ None }
 {}
 
-/// Under a well typed policy, after every history, each action of a command's block is legal after those before it.
+/// Under a well typed policy, after every history of commands, each action of a command's block is legal after those before it.
 pub fn blocks_are_legal()
-    ensures { (P : PlainPolicy) → IsTyped P → (H : History) (caller : Caller) (c : Command) → AreLegal P (trace P H) (block P (trace P H) caller c) }
+    ensures { (P : PlainPolicy) → IsTyped P → (H : History) → AreCommands H → (caller : Caller) (c : Command) → IsCommand c
+        → AreLegal P (trace P H) (block P (trace P H) caller c) }
 {}
 
-/// Under a well typed policy all values after a history fit their declarations.
+/// Where the first policy is well typed, so is the one in force after every history of commands.
+pub fn policies_in_force_are_typed()
+    ensures { (P : PlainPolicy) → IsTyped P → (H : History) → AreCommands H → IsTyped (in_force P (trace P H)) }
+{}
+
+/// Under a well typed policy all values after a history of commands fit their declarations.
 pub fn values_fit()
-    ensures { (P : PlainPolicy) → IsTyped P → (H : History) → ValuesFit P (trace P H) }
+    ensures { (P : PlainPolicy) → IsTyped P → (H : History) → AreCommands H → ValuesFit P (trace P H) }
 {}
 
-/// The empty trace is sound under a well typed policy, and one legal action more leaves a sound trace sound.
+/// The empty trace is sound under a well typed policy. One legal action more leaves a sound trace sound, and the policy in force well
+/// typed.
 pub fn legal_actions_keep_traces_sound()
     ensures before { (P : PlainPolicy) → IsTyped (in_force P []) → IsSound P [] }
     ensures after { (P : PlainPolicy) (T : Trace) (a : Action) → IsTyped (in_force P T) → IsSound P T → IsLegal P T a → IsSound P (a ∷ T) }
+    ensures typed { (P : PlainPolicy) (T : Trace) (a : Action) → IsTyped (in_force P T) → IsLegal P T a → IsTyped (in_force P (a ∷ T)) }
 {}
 
 /// After a trace whose sessions are numbered, nobody fails where no least one is found that does; and the least one found may be
@@ -82,9 +91,9 @@ pub fn the_least_failing_is_found()
         → IsLegal P T (revoke n label) }
 {}
 
-/// Under a well typed policy, where all values of a trace fit, the result of each update fits.
+/// Where the policy in force is well typed and all values of a trace fit, the result of each update fits.
 pub fn updates_fit()
-    ensures { (P : PlainPolicy) → IsTyped P → UpdatesFit P }
+    ensures { (P : PlainPolicy) (T : Trace) → IsTyped (in_force P T) → UpdatesFit P T }
 {}
 
 /// Where all values fit after a trace, each declared place that holds a value holds one of the declared sort, for any session.
@@ -92,13 +101,15 @@ pub fn places_hold_their_sorts()
     ensures { (P : PlainPolicy) (T : Trace) → ValuesFit P T → (row : SessionRow) → PlacesFit (in_force P T) (place_of P T row) }
 {}
 
-/// Under a well typed policy, after every history, each predicate and each update of a session's right has a meaning: each place that
-/// it reads is there, and each of its sums, products, sizes and comparisons is one of the language's.
+/// Under a well typed policy, after every history of commands, each predicate and each update of a session's right has a meaning: each
+/// place that it reads is there, and each of its sums, products, sizes and comparisons is one of the language's.
 pub fn predicates_and_updates_mean_something()
-    ensures predicates { (P : PlainPolicy) → IsTyped P → (H : History) (n : ℕ) (row : SessionRow) (r : PlainRight) → session (trace P H) n ≡ Some row
-        → right_named P.rights row.right ≡ Some r → Each (λ p. test_means (place_of P (trace P H) row) p.test ≡ true) r.preds }
-    ensures updates { (P : PlainPolicy) → IsTyped P → (H : History) (n : ℕ) (row : SessionRow) (r : PlainRight) → session (trace P H) n ≡ Some row
-        → right_named P.rights row.right ≡ Some r → Each (λ u. expr_means true (place_of P (trace P H) row) u.value ≡ true) r.updates }
+    ensures predicates { (P : PlainPolicy) → IsTyped P → (H : History) → AreCommands H → (n : ℕ) (row : SessionRow) (r : PlainRight)
+        → session (trace P H) n ≡ Some row → right_named (in_force P (trace P H)).rights row.right ≡ Some r
+        → Each (λ p. test_means (place_of P (trace P H) row) p.test ≡ true) r.preds }
+    ensures updates { (P : PlainPolicy) → IsTyped P → (H : History) → AreCommands H → (n : ℕ) (row : SessionRow) (r : PlainRight)
+        → session (trace P H) n ≡ Some row → right_named (in_force P (trace P H)).rights row.right ≡ Some r
+        → Each (λ u. expr_means true (place_of P (trace P H) row) u.value ≡ true) r.updates }
 {}
 
 /// The item that a policy's first fault names is one of its items.

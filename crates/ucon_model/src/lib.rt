@@ -1,9 +1,11 @@
 //! The types that every layer shares, what they mean, and the laws of these definitions.
 #![tactic(auto)]
 
+mod amend;
 mod cascade;
 mod checked;
 mod command;
+mod copy;
 mod core_model;
 mod finding;
 mod formula;
@@ -13,8 +15,10 @@ mod reply;
 mod session;
 mod texts;
 mod traces;
+mod usages;
 mod view;
 
+pub use amend::Amend;
 pub use cascade::{
     actions_leave_the_rest, acts_make_nobody_fail, covering_work_has_the_least,
     decisions_read_their_places, drafts_are_blocks, firsts_go_on_covering, firsts_have_the_least,
@@ -32,8 +36,8 @@ pub use formula::{Expr, Form, Formula, Obligation, Op, Ref, Sort};
 pub use laws::{
     blocks_are_legal, faults_name_items, grown_histories_go_on, legal_actions_keep_traces_sound,
     no_usage_goes_on_failing, outputs_are_read_back, places_hold_their_sorts,
-    predicates_and_updates_mean_something, revocations_are_few, revocations_are_legal,
-    runs_over_a_store_are_legal, serial_runs_are_legal, settling_ends,
+    policies_in_force_are_typed, predicates_and_updates_mean_something, revocations_are_few,
+    revocations_are_legal, runs_over_a_store_are_legal, serial_runs_are_legal, settling_ends,
     settling_is_the_only_cascade, tests_are_typed, the_least_failing_is_found, updates_fit,
     usages_are_few, values_fit,
 };
@@ -45,4 +49,5 @@ pub use traces::{
     actions_are_done_in_order, readings_that_agree_are_one, turns_follow_each_other,
     writes_leave_sessions,
 };
+pub use usages::{heads_tell_whose_usage_begins_or_ends, work_is_read_off_afterwards};
 pub use view::View;

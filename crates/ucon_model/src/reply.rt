@@ -21,6 +21,7 @@ pub enum Refusal {
     AlreadyThere,
     BadValue,
     TickBack,
+    KindChanged,
     FullSubjects,
     FullObjects,
     FullActs,

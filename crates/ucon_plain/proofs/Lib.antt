@@ -1,6 +1,4 @@
 pub mod Blocks
+pub mod Least
 pub mod Standing
 pub mod Failing
-pub mod Rising
-pub mod Watching
-pub mod Permits

@@ -5,7 +5,6 @@ mod laws;
 mod monitor;
 mod settle;
 mod step;
-mod watched;
 
 pub use laws::monitors_stand_for_histories;
 pub use monitor::PlainMonitor;

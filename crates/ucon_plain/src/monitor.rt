@@ -3,15 +3,16 @@
 ghost use Rattle.std.specs.Prelude.{◌≡◌, ◌↔◌, List, IfOk, OnOk, OnErr};
 ghost use Rattle.ucon_model.specs.Action.{Action, Trace};
 ghost use Rattle.ucon_model.specs.Block.{after, block, reply as reply_to};
-ghost use Rattle.ucon_model.specs.History.{History, trace};
+ghost use Rattle.ucon_model.specs.CommandLine.{IsCommand};
+ghost use Rattle.ucon_model.specs.History.{History, AreCommands, trace};
 ghost use Rattle.ucon_model.specs.Legal.{AreLegal};
 ghost use Rattle.ucon_model.specs.Plain.{PlainPolicy};
+ghost use Rattle.ucon_model.specs.Typing.{IsTyped};
 ghost use Rattle.ucon_model.specs.Views.{reply_of};
 ghost use Rattle.ucon_plain.specs.Cascading.{AreActionsOf};
-ghost use Rattle.ucon_state.specs.Engine.{FollowsLike, IsIdle, StandsFor};
+ghost use Rattle.ucon_state.specs.Engine.{FollowsLike, IsIdle};
 
 use crate::step::take_step;
-use crate::watched::Watched;
 use std::alloc::Global;
 use ucon_base::{NoMemory, Steps};
 use ucon_model::{
@@ -19,12 +20,11 @@ use ucon_model::{
 };
 use ucon_state::{Drafted, Engine, State, each_action_is_followed};
 
-/// It rechecks every accessing session with ongoing predicates after each change, as the definitions do.
+/// It rechecks every accessing session after each change, as the definitions do.
 #[derive(Drop)]
 pub struct PlainMonitor {
     alloc: Global,
     state: State,
-    watched: Watched,
 }
 
 impl Engine for PlainMonitor {
@@ -37,11 +37,7 @@ impl Engine for PlainMonitor {
     fn begin(alloc: Global, checked: Checked) -> Result<PlainMonitor, NoMemory> {
         each_action_is_followed();
         let state = State::new(alloc, checked)?;
-        Ok(PlainMonitor {
-            alloc,
-            state,
-            watched: Watched::new(alloc),
-        })
+        Ok(PlainMonitor { alloc, state })
     }
 
     fn draft(
@@ -50,21 +46,13 @@ impl Engine for PlainMonitor {
         command: &Command,
         steps: &mut Steps,
     ) -> Result<Drafted, NoMemory> {
-        let reply = take_step(
-            self.alloc,
-            &mut self.state,
-            caller,
-            command,
-            &mut self.watched,
-            steps,
-        )?;
+        let reply = take_step(self.alloc, &mut self.state, caller, command, steps)?;
         let changes = reply.changes();
         Ok(Drafted { reply, changes })
     }
 
     fn keep(&mut self) {
         self.state.keep();
-        self.watched.forget_others(&self.state);
     }
 
     fn undo(&mut self) {
@@ -86,9 +74,9 @@ impl PlainMonitor {
         ensures follows { OnOk result ((P : PlainPolicy) (T : Trace) → IsReady self.old P T → IsReady self.new P (after P T caller command.now)) }
         ensures err { OnErr result (FollowsLike IsReady self.old self.new) }
 
-        // Each action of the block is legal after those before it, and the block is the only list that begins with the command's own
+        // Under a well typed policy, after every history of commands, each action of the block is legal after those before it, and the block is the only list that begins with the command's own
         // actions and goes on as a cascade.
-        ensures legal { (P : PlainPolicy) (H : History) → StandsFor IsReady self.old P H
+        ensures legal { (P : PlainPolicy) (H : History) → IsTyped P → AreCommands H → IsCommand command.now
             → AreLegal P (trace P H) (block P (trace P H) caller command.now) }
         ensures only { (P : PlainPolicy) (H : History) (actions : List Action)
             → AreActionsOf P (trace P H) caller command.now actions ↔ (actions ≡ block P (trace P H) caller command.now) }

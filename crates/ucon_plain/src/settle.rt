@@ -1,19 +1,16 @@
-//! The cascade of revocations: after each one all accessing sessions with ongoing predicates are rechecked.
+//! The cascade of revocations: after each one all accessing sessions are rechecked.
 
 ghost use Rattle.std.specs.Prelude.{◌≡◌, ◌∷◌, [], ◌++◌, Some, IfOk, OnOk};
 ghost use Rattle.ucon_model.specs.Action.{extended};
 ghost use Rattle.ucon_model.specs.Settle.{fails_at, least_failing, revocation, settle, revoked_in};
 ghost use Rattle.ucon_actions.specs.Leads.{AfterEach, IsFollowing, KeepsBase, Leads};
-ghost use Rattle.ucon_plain.specs.Watched.{numbers_of};
-ghost use Rattle.ucon_plain.specs.Watching.{Covers, NobodyMore};
 ghost use Rattle.ucon_state.specs.Shown.{shown};
 
-use crate::watched::Watched;
 use std::alloc::Global;
-use ucon_actions::{accessing, is_accessing, revoke, session_state};
+use ucon_actions::{accessing, is_accessing, revoke, session_state, sessions};
 use ucon_base::{Name, NoMemory, Rows, Steps};
 use ucon_eval::{failing, typed_tests_make_no_set, views_that_agree_decide_alike};
-use ucon_model::{Revoked, the_least_failing_is_found, turns_follow_each_other};
+use ucon_model::{Revoked, turns_follow_each_other};
 use ucon_state::{State, tables_keep_what_is_followed};
 
 /// The label by which session n fails, if it is accessing.
@@ -31,16 +28,14 @@ fn fails_at(state: &State, n: u32, steps: &mut Steps) -> Option<Name>
 }
 
 /// The least accessing session that fails, with its label.
-fn least_failing(state: &State, watched: &Watched, steps: &mut Steps) -> Option<(u32, Name)>
-    requires following { IsFollowing (shown state.now) }
-    requires covers { Covers (shown state.now) (numbers_of watched.now) }
+fn least_failing(state: &State, steps: &mut Steps) -> Option<(u32, Name)>
+    requires { IsFollowing (shown state.now) }
     ensures { AfterEach (shown state.now) (λ P T. least_failing P T ≡ result) }
 {
-    the_least_failing_is_found();
-    let numbers = watched.numbers();
-    for n in numbers {
-        if let Some(label) = fails_at(state, *n, steps) {
-            return Some((*n, label));
+    let count = sessions(state);
+    for before in 0..count {
+        if let Some(label) = fails_at(state, before + 1, steps) {
+            return Some((before + 1, label));
         }
     }
     None
@@ -58,7 +53,6 @@ fn revoke_next(
     requires least { AfterEach (shown state.old) (λ P T. least_failing P T ≡ Some (n, label)) }
     ensures leads { OnOk result (Leads (shown state.old) (shown state.new) (λ P T. extended T (revocation P T (n, label)))) }
     ensures revoked { OnOk result (revoked.new.items ≡ revoked.old.items ++ record { session = n; label = label } ∷ []) }
-    ensures fewer { OnOk result (NobodyMore (shown state.old) (shown state.new)) }
     ensures base { KeepsBase (shown state.old) (shown state.new) }
 {
     revoke(alloc, state, n, label)?;
@@ -70,21 +64,18 @@ fn revoke_next(
 pub fn settle(
     alloc: Global,
     state: &mut State,
-    watched: &Watched,
     steps: &mut Steps,
 ) -> Result<Rows<Revoked>, NoMemory>
-    requires following { IsFollowing (shown state.old) }
-    requires covers { Covers (shown state.old) (numbers_of watched.now) }
+    requires { IsFollowing (shown state.old) }
     ensures leads { OnOk result (Leads (shown state.old) (shown state.new) (λ P T. extended T (settle P T))) }
     ensures revoked { IfOk result (λ revoked. AfterEach (shown state.old) (λ P T. revoked.items ≡ revoked_in (settle P T))) }
-    ensures fewer { OnOk result (NobodyMore (shown state.old) (shown state.new)) }
     ensures base { KeepsBase (shown state.old) (shown state.new) }
 {
     turns_follow_each_other();
     let mut revoked = Rows::new(alloc);
     let turns = accessing(state);
     'turns: for _ in 0..turns {
-        match least_failing(state, watched, steps) {
+        match least_failing(state, steps) {
             None => return Ok(revoked),
             Some(found) => revoke_next(alloc, state, &mut revoked, found.0, found.1)?,
         }

@@ -6,6 +6,7 @@ use Rattle.std.proofs.lemmas.List.{append-nil}
 use Rattle.std.proofs.lemmas.Slice.Eq.{bytes_eq-Decides}
 use Rattle.ucon_model.specs.Plain.{Bytes}
 use Rattle.ucon_model.specs.Document.{is_divider, before_divider, lines_of, script_lines, script_number, script_told}
+use Rattle.ucon_syntax.specs.Policies.{accepted}
 use Rattle.ucon_script.proofs.Cuts.{first_line, next_lines, IsCut, IsLastLine, cut_or_last}
 
 -- what stands before the rest of a text
@@ -24,7 +25,7 @@ pub record ReadTo (bytes rest : Bytes) (above : ℕ) : Type 0 where
 pub record IsFound (bytes rest : Bytes) (above : ℕ) : Type 0 where
   pub place : Some (front bytes rest) ≡ before_divider (lines_of bytes)
   pub number : script_number (lines_of bytes) ≡ above + 2
-  pub script : (n : ℕ) → script_told n [] (lines_of (next_lines rest)) ≡ script_told n [] (script_lines (lines_of bytes))
+  pub script : (n : ℕ) → script_told accepted n [] (lines_of (next_lines rest)) ≡ script_told accepted n [] (script_lines (lines_of bytes))
   pub within : length (next_lines rest) + above + 2 ≤ length bytes
 
 front_is : (bytes f rest : Bytes) → f ++ rest ≡ bytes → front bytes rest ≡ f
@@ -93,7 +94,7 @@ two_long : (l : Bytes) → is_divider l ≡ true → length l ≡ 2
 two_long l h = ap length ((bytes_eq-Decides l (codes "%%")).0 h)
 
 found_at : (bytes rest : Bytes) (above : ℕ) (ls : List Bytes) → ReadTo bytes rest above → is_divider (first_line rest) ≡ true → 0 < length rest
-    → lines_of rest ≡ first_line rest ∷ ls → ((n : ℕ) → script_told n [] (lines_of (next_lines rest)) ≡ script_told n [] ls)
+    → lines_of rest ≡ first_line rest ∷ ls → ((n : ℕ) → script_told accepted n [] (lines_of (next_lines rest)) ≡ script_told accepted n [] ls)
     → 2 + length (next_lines rest) ≤ length rest → IsFound bytes rest above
 found_at bytes rest above ls read here some lines same short =
     let divided : before_divider (lines_of rest) ≡ Some [] = rw (lines, here) refl in
@@ -101,7 +102,7 @@ found_at bytes rest above ls read here some lines same short =
     let behind : script_lines (lines_of rest) ≡ ls = rw (lines, here) refl in record {
       place = ap (λ (t : Bytes). Some t) (sym (append-nil (front bytes rest))) ∙ ap (λ (o : Option Bytes). option_map (λ (t : Bytes). front bytes rest ++ t) o) (sym divided) ∙ read.place;
       number = omega (arith, read.number some, counted);
-      script = λ n. same n ∙ ap (λ (ls : List Bytes). script_told n [] ls) (sym behind ∙ read.script);
+      script = λ n. same n ∙ ap (λ (ls : List Bytes). script_told accepted n [] ls) (sym behind ∙ read.script);
       within = omega (arith, read.bound, short);
     }
 

@@ -8,7 +8,7 @@ use Rattle.std.proofs.lemmas.Fmt.{decimal_digit}
 use Rattle.std.proofs.lemmas.List.{append-nil, map-append, length-map}
 use Rattle.ucon_model.specs.declared.command.Caller.{Caller}
 use Rattle.ucon_model.specs.declared.command.Command.{Command}
-use Rattle.ucon_model.specs.declared.command.Command.TheVariants.{Subject, Object, Set, Env, Tick, Act, Try, Again, Beat, End, Look, Value}
+use Rattle.ucon_model.specs.declared.command.Command.TheVariants.{Subject, Object, Set, Env, Tick, Act, Try, Again, Beat, End, Look, Value, Amend}
 use Rattle.ucon_model.specs.declared.command.Entry.{Entry}
 use Rattle.ucon_model.specs.Plain.{Bytes}
 use Rattle.ucon_model.specs.CommandLine.{IsCommand, command_spelling, line_read}
@@ -16,13 +16,14 @@ use Rattle.ucon_model.specs.Document.{ScriptLine, DocumentRefusal, too_many_clie
 use Rattle.ucon_model.specs.Generated.{Generator, user, video, credit_set, drawn, by, first, opening, seeded, all_drawn, part_lines, entry_lines, text_of, generated_policy, generated_head, generated, generated_entries}
 use Rattle.ucon_base.specs.Elements.{Each}
 use Rattle.ucon_model.specs.Output.{Lacks}
+use Rattle.ucon_syntax.specs.Policies.{accepted}
 use Rattle.ucon_script.specs.Lines.{client_after, count_after, told_from}
 use Rattle.ucon_script.proofs.Scripts.{told_below}
 use Rattle.ucon_script.proofs.Drawing.{IsShort, IsWithin, user_named, video_named, in_range, all_short, length-all_drawn}
 
 -- commands are read as they are spelled, each on a line
 pub record AreReadBack : Type 0 where
-  pub written : (c : Command) → IsCommand c → line_read (command_spelling c) ≡ Ok c
+  pub written : (c : Command) → IsCommand c → line_read accepted (command_spelling c) ≡ Ok c
   pub one_line : (c : Command) → IsCommand c → Lacks 10 (command_spelling c)
 
 -- ---- lines
@@ -117,6 +118,7 @@ command_said (Beat n) = (refl, refl)
 command_said (End n) = (refl, refl)
 command_said (Look n) = (refl, refl)
 command_said (Value side name attr) = (refl, refl)
+command_said (Amend a) = (refl, refl)
 
 command_says : AreReadBack → (k n said : ℕ) (c : Command) (rest : List Bytes) (es : List Entry) → IsCommand c → said < 262144
     → Says (n + 1) (Some (caller_of k)) (said + 1) rest es → Says n (Some (caller_of k)) said (command_spelling c ∷ rest) (by k c ∷ es)
@@ -218,7 +220,7 @@ policy_divided : (rest : List Bytes) → before_divider (generated_policy ++ cod
 unfolding generated_policy
 policy_divided rest = refl
 
-script_divided : (rest : List Bytes) → script_told (script_number (generated_policy ++ codes "%%" ∷ rest)) [] (script_lines (generated_policy ++ codes "%%" ∷ rest)) ≡ script_told 15 [] rest
+script_divided : (rest : List Bytes) → script_told accepted (script_number (generated_policy ++ codes "%%" ∷ rest)) [] (script_lines (generated_policy ++ codes "%%" ∷ rest)) ≡ script_told accepted 15 [] rest
 unfolding generated_policy
 script_divided rest = refl
 
@@ -234,12 +236,12 @@ script_says back seed size few =
     (commands_say back 0 opening (entry_lines es ++ [] ∷ []) es opening_is 16 0 (omega (arith, opening_length))
     (λ m s e. entries_say back es (seeded_short seed size few) m (Some (caller_of 0)) s (omega (arith, e, opening_length, len, few)))))
 
-pub says : AreReadBack → (seed size : ℕ) → size ≤ 100000 → IsOkAnd (document_read (generated seed size)) (λ lines. entries_of lines ≡ generated_entries seed size)
+pub says : AreReadBack → (seed size : ℕ) → size ≤ 100000 → IsOkAnd (document_read accepted (generated seed size)) (λ lines. entries_of lines ≡ generated_entries seed size)
 unfolding document_read
 says back seed size few =
     let told = script_says back seed size few in
-    let read : document_read (generated seed size) ≡ Ok told.lines =
-    ap (λ (ls : List Bytes). script_told (script_number ls) [] (script_lines ls)) (lines_are back seed size few) ∙ script_divided (script seed size ++ [] ∷ [])
+    let read : document_read accepted (generated seed size) ≡ Ok told.lines =
+    ap (λ (ls : List Bytes). script_told accepted (script_number ls) [] (script_lines ls)) (lines_are back seed size few) ∙ script_divided (script seed size ++ [] ∷ [])
     ∙ sym (told_below [] (script seed size ++ [] ∷ []) 15) ∙ told.told in
     rw read told.entries
 

@@ -8,6 +8,7 @@ use Rattle.ucon_command.specs.declared.line_fault.LineFault.TheVariants as fault
 use Rattle.ucon_model.specs.declared.command.Caller.{Caller}
 use Rattle.ucon_model.specs.Plain.{Bytes}
 use Rattle.ucon_model.specs.Document.{ScriptLine, DocumentRefusal, client_below, command_lines, line_told, before_next, script_told, lines_of}
+use Rattle.ucon_syntax.specs.Policies.{accepted}
 use Rattle.ucon_script.specs.declared.doc_fault.DocFault.{DocFault}
 use Rattle.ucon_script.specs.declared.doc_fault.DocFault.TheVariants.{BadHeading, BadLine, TooManyClients, TooManyLines, NoMemory}
 use Rattle.ucon_script.specs.Document.{IsLineCause, IsCause}
@@ -15,13 +16,13 @@ use Rattle.ucon_script.specs.Lines.{client_after, count_after, told_from}
 use Rattle.ucon_script.proofs.Cuts.{first_line, next_lines, cut_or_last}
 
 -- what is told from a line on is told below the lines above it
-pub told_below : (above ls : List Bytes) (n : ℕ) → told_from n (client_below above) (command_lines above) ls ≡ script_told n above ls
+pub told_below : (above ls : List Bytes) (n : ℕ) → told_from n (client_below above) (command_lines above) ls ≡ script_told accepted n above ls
 told_below above [] n = refl
-told_below above (l ∷ ls) n = ap (before_next (line_told n (client_below above) (command_lines above) l)) (told_below (l ∷ above) ls (n + 1))
+told_below above (l ∷ ls) n = ap (before_next (line_told accepted n (client_below above) (command_lines above) l)) (told_below (l ∷ above) ls (n + 1))
 
 -- the first line, and those behind it
 pub first_told : (n : ℕ) (client : Option Caller) (said : ℕ) (text : Bytes)
-    → told_from n client said (lines_of text) ≡ before_next (line_told n client said (first_line text)) (told_from (n + 1) (client_after client (first_line text)) (count_after said (first_line text)) (lines_of (next_lines text)))
+    → told_from n client said (lines_of text) ≡ before_next (line_told accepted n client said (first_line text)) (told_from (n + 1) (client_after client (first_line text)) (count_after said (first_line text)) (lines_of (next_lines text)))
 first_told n client said text = ⊎_elim (λ cut. rw cut.lines refl) (λ last. rw (last.lines, last.behind) refl) (cut_or_last text)
 
 -- what was told before what the next lines say
@@ -35,7 +36,7 @@ joined_told told o (Err r) = refl
 
 -- one line more is told
 pub told_more : (told : List ScriptLine) (n : ℕ) (client : Option Caller) (said : ℕ) (text : Bytes) (o : Option ScriptLine) (all : Result (List ScriptLine) DocumentRefusal)
-    → after_told told (told_from n client said (lines_of text)) ≡ all → line_told n client said (first_line text) ≡ Ok o
+    → after_told told (told_from n client said (lines_of text)) ≡ all → line_told accepted n client said (first_line text) ≡ Ok o
     → after_told (told ++ option_to_list o) (told_from (n + 1) (client_after client (first_line text)) (count_after said (first_line text)) (lines_of (next_lines text))) ≡ all
 told_more told n client said text o all h line =
     joined_told told o _ ∙ ap (after_told told) (ap (λ (r : Result (Option ScriptLine) DocumentRefusal). before_next r (told_from (n + 1) (client_after client (first_line text)) (count_after said (first_line text)) (lines_of (next_lines text)))) (sym line) ∙ sym (first_told n client said text)) ∙ h
@@ -43,7 +44,7 @@ told_more told n client said text o all h line =
 -- the same of what the code keeps
 pub kept : (told told' : List ScriptLine) (n n' : ℕ) (client client' : Option Caller) (said said' : ℕ) (text line next : Bytes) (o : Option ScriptLine) (all : Result (List ScriptLine) DocumentRefusal)
     → after_told told (told_from n client said (lines_of text)) ≡ all → line ≡ first_line text → next ≡ next_lines text
-    → line_told n client said line ≡ Ok o → told' ≡ told ++ option_to_list o
+    → line_told accepted n client said line ≡ Ok o → told' ≡ told ++ option_to_list o
     → n' ≡ n + 1 → client' ≡ client_after client line → said' ≡ count_after said line
     → after_told told' (told_from n' client' said' (lines_of next)) ≡ all
 kept told told' n n' client client' said said' text line next o all h front back spoken grown number whose count =
@@ -55,7 +56,7 @@ shorter text next back some = omega (arith, ap length back, length-drop (positio
 
 -- the first line that is refused decides
 pub refused : (told : List ScriptLine) (n : ℕ) (client : Option Caller) (said : ℕ) (text : Bytes) (all : Result (List ScriptLine) DocumentRefusal) (r : DocumentRefusal)
-    → after_told told (told_from n client said (lines_of text)) ≡ all → line_told n client said (first_line text) ≡ Err r → all ≡ Err r
+    → after_told told (told_from n client said (lines_of text)) ≡ all → line_told accepted n client said (first_line text) ≡ Err r → all ≡ Err r
 refused told n client said text all r h line =
     let e : told_from n client said (lines_of text) ≡ Err r = first_told n client said text ∙ ap (λ (a : Result (Option ScriptLine) DocumentRefusal). before_next a (told_from (n + 1) (client_after client (first_line text)) (count_after said (first_line text)) (lines_of (next_lines text)))) line in
     sym h ∙ ap (after_told told) e
@@ -79,13 +80,13 @@ cause_stays (NoMemory e) a b stays h = tt
 -- the fault of a line is that of the whole script
 pub line_refused : (told : List ScriptLine) (n : ℕ) (client : Option Caller) (said : ℕ) (text : Bytes) (number : ℕ) (whole : Bytes) (f : DocFault)
     → after_told told (told_from n client said (lines_of text)) ≡ told_from number None 0 (lines_of whole)
-    → IsCause (line_told n client said (first_line text)) f → IsCause (script_told number [] (lines_of whole)) f
+    → IsCause (line_told accepted n client said (first_line text)) f → IsCause (script_told accepted number [] (lines_of whole)) f
 line_refused told n client said text number whole f h cause =
-    cause_stays f (line_told n client said (first_line text)) (script_told number [] (lines_of whole)) (λ r line. sym (told_below [] (lines_of whole) number) ∙ refused told n client said text _ r h line) cause
+    cause_stays f (line_told accepted n client said (first_line text)) (script_told accepted number [] (lines_of whole)) (λ r line. sym (told_below [] (lines_of whole) number) ∙ refused told n client said text _ r h line) cause
 
 -- behind the last line all is told
 pub all_told : (told : List ScriptLine) (n : ℕ) (client : Option Caller) (said : ℕ) (text : Bytes) (number : ℕ) (whole : Bytes)
     → after_told told (told_from n client said (lines_of text)) ≡ told_from number None 0 (lines_of whole)
-    → length text ≡ 0 → script_told number [] (lines_of whole) ≡ Ok told
+    → length text ≡ 0 → script_told accepted number [] (lines_of whole) ≡ Ok told
 all_told told n client said (b ∷ bs) number whole h none = absurd (omega (arith, none))
 all_told told n client said [] number whole h none = sym (told_below [] (lines_of whole) number) ∙ sym h ∙ ap (λ (ls : List ScriptLine). Ok ls) (append-nil told)

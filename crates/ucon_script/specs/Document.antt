@@ -6,6 +6,7 @@ use Rattle.ucon_model.specs.declared.command.Command.{Command}
 use Rattle.ucon_model.specs.declared.command.Command.TheVariants.{Look}
 use Rattle.ucon_model.specs.CommandLine.{LineRefusal, line_read, line_too_long, no_word, unknown_word, wrong_count, bad_word}
 use Rattle.ucon_model.specs.Document.{ScriptLine, DocumentRefusal, too_many_clients, bad_heading, too_many_lines, bad_line}
+use Rattle.ucon_syntax.specs.Policies.{accepted}
 use Rattle.ucon_script.specs.declared.document.Line.{Line}
 use Rattle.ucon_script.specs.declared.document.Document.{Document}
 use Rattle.ucon_script.specs.declared.line_text.LineText.{LineText}
@@ -28,7 +29,7 @@ spelled (Err refusal) = Look 0
 
 -- a command line where it stands, as the definition has it
 abbrev pub spelled_line : LineText → ScriptLine
-spelled_line l = record { number = l.number; caller = l.caller; command = spelled (line_read l.command.text.now) }
+spelled_line l = record { number = l.number; caller = l.caller; command = spelled (line_read accepted l.command.text.now) }
 
 -- the command lines of a script that was read where it stands
 abbrev pub lines_spelled : Script → List ScriptLine

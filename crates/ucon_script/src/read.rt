@@ -3,6 +3,7 @@
 ghost use Rattle.std.specs.Prelude.{◌≡◌, ◌≤◌, ◌+◌, [], length};
 ghost use Rattle.ucon_model.specs.Document.{document_read, lines_of, script_told};
 ghost use Rattle.ucon_script.specs.Document.{Gives, lines_said, lines_spelled};
+ghost use Rattle.ucon_syntax.specs.Policies.{accepted};
 
 use crate::part::{cut, find_divider};
 use crate::script_reader::ScriptReader;
@@ -13,7 +14,7 @@ use ucon_base::Rows;
 /// The command lines of a document, or the first line that is refused.
 pub fn read_document(alloc: Global, bytes: &[u8]) -> Result<Document, DocFault>
     requires { length bytes.now ≤ 4194304 }
-    ensures { Gives lines_said result (document_read bytes.now) }
+    ensures { Gives lines_said result (document_read accepted bytes.now) }
 {
     let script = read_script(alloc, bytes)?;
     let mut lines = Rows::new(alloc);
@@ -27,7 +28,7 @@ pub fn read_document(alloc: Global, bytes: &[u8]) -> Result<Document, DocFault>
 #[tactic(auto, unfolding(ucon_model::specs::Document::document_read))]
 pub fn read_script(alloc: Global, bytes: &[u8]) -> Result<Script<'_>, DocFault>
     requires { length bytes.now ≤ 4194304 }
-    ensures { Gives lines_spelled result (document_read bytes.now) }
+    ensures { Gives lines_spelled result (document_read accepted bytes.now) }
 {
     match find_divider(bytes) {
         // The divider is a line too.
@@ -41,7 +42,7 @@ pub fn read_script(alloc: Global, bytes: &[u8]) -> Result<Script<'_>, DocFault>
 /// The command lines of a script whose first line has this number.
 fn script_from(alloc: Global, number: u32, text: &[u8]) -> Result<Script<'_>, DocFault>
     requires { number + length text.now ≤ 4194304 }
-    ensures { Gives lines_spelled result (script_told number [] (lines_of text.now)) }
+    ensures { Gives lines_spelled result (script_told accepted number [] (lines_of text.now)) }
 {
     let mut reader = ScriptReader::new(number);
     let mut lines = Rows::new(alloc);

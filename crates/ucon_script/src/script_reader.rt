@@ -5,6 +5,7 @@ ghost use Rattle.std.specs.Option.{ForSome};
 ghost use Rattle.ucon_model.specs.Document.{is_skipped, said_told, line_told};
 ghost use Rattle.ucon_script.specs.Document.{Gives, IsSure, spelled_line};
 ghost use Rattle.ucon_script.specs.Lines.{client_after, count_after};
+ghost use Rattle.ucon_syntax.specs.Policies.{accepted};
 
 use crate::doc_fault::fault_of;
 use crate::heading::heading;
@@ -51,8 +52,8 @@ impl ScriptReader {
         line: &'a [u8],
     ) -> Result<Option<LineText<'a>>, DocFault>
         requires { self.old.number < u32.MAX }
-        ensures told { Gives (option_map spelled_line) result (line_told self.old.number self.old.client self.old.said line.now) }
-        ensures sure { IfErr result (IsSure (line_told self.old.number self.old.client self.old.said line.now)) }
+        ensures told { Gives (option_map spelled_line) result (line_told accepted self.old.number self.old.client self.old.said line.now) }
+        ensures sure { IfErr result (IsSure (line_told accepted self.old.number self.old.client self.old.said line.now)) }
         ensures number { self.new.number ≡ self.old.number + 1 }
         ensures client { OnOk result (self.new.client ≡ client_after self.old.client line.now) }
         ensures said { OnOk result (self.new.said ≡ count_after self.old.said line.now) }
@@ -83,8 +84,8 @@ fn command_line<'a>(
     line: &'a [u8],
 ) -> Result<LineText<'a>, DocFault>
     requires { ForSome client (λ c. c.0 < 64) }
-    ensures told { Gives (λ l. Some (spelled_line l)) result (said_told number client said line.now) }
-    ensures sure { IfErr result (IsSure (said_told number client said line.now)) }
+    ensures told { Gives (λ l. Some (spelled_line l)) result (said_told accepted number client said line.now) }
+    ensures sure { IfErr result (IsSure (said_told accepted number client said line.now)) }
     ensures room { OnOk result (said < 262144) }
 {
     let Some(caller) = client else {

@@ -6,6 +6,7 @@ pub mod Attributes
 pub mod Entities
 pub mod Acts
 pub mod Sessions
+pub mod Amending
 pub mod Variables
 pub mod Keeping
 pub mod LegalTraces

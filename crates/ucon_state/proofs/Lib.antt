@@ -7,3 +7,5 @@ pub mod Places
 pub mod Moves
 pub mod Numbered
 pub mod Following
+pub mod Amended
+pub mod Laying

@@ -76,7 +76,7 @@ module _ (r m n : ℕ) where
   all_moved (y ∷ ys) (suc place) state start all zero s at = all zero s at
   all_moved (y ∷ ys) (suc place) state start all (suc i) s at = all_moved ys place state start (λ k z. all (suc k) z) i s at
 
-map_same : (f g : Session → SessionRow) (xs : List Session) → ((i : ℕ) (s : Session) → slice_get xs i ≡ Some s → f s ≡ g s) → map f xs ≡ map g xs
+pub map_same : (f g : Session → SessionRow) (xs : List Session) → ((i : ℕ) (s : Session) → slice_get xs i ≡ Some s → f s ≡ g s) → map f xs ≡ map g xs
 map_same f g [] h = refl
 map_same f g (x ∷ xs) h = λ j. h zero x refl j ∷ map_same f g xs (λ i s at. h (suc i) s at) j
 

@@ -1,19 +1,21 @@
 -- What each action makes of the tables.
-use Rattle.std.specs.Prelude.{Bool, true, false, ℕ, ℤ, pos, ◌-◌, List, [], ◌∷◌, ◌++◌, length, map, slice_set}
+use Rattle.std.specs.Prelude.{Bool, true, false, ℕ, ℤ, pos, ◌+◌, ◌-◌, List, [], ◌∷◌, ◌++◌, length, map, slice_get, slice_set, option_and_then, unwrap_or}
 use Rattle.std.specs.Option.{option_map_or}
 use Rattle.indexmap.specs.IndexMap.{insert_entry}
 use Rattle.ucon_base.specs.declared.value.Side.{Side}
 use Rattle.ucon_base.specs.declared.value.Side.TheVariants as sides
 use Rattle.ucon_base.specs.declared.value.Value.{Value}
 use Rattle.ucon_model.specs.declared.command.Caller.{Caller}
+use Rattle.ucon_model.specs.declared.policy.AttrDecl.{AttrDecl}
+use Rattle.ucon_model.specs.declared.policy.EnvDecl.{EnvDecl}
 use Rattle.ucon_model.specs.declared.session.SessionRow.{SessionRow}
 use Rattle.ucon_model.specs.declared.session.SessionState.{SessionState}
 use Rattle.ucon_model.specs.declared.session.SessionState.TheVariants.{Requesting, Denied, Accessing, Revoked, Ended}
 use Rattle.ucon_model.specs.Plain.{Bytes, PlainPolicy}
-use Rattle.ucon_model.specs.Action.{Action, Trace, subject, object, write, env, tick, act, tries, wait, permit, deny, ends, revoke}
+use Rattle.ucon_model.specs.Action.{Action, Trace, subject, object, write, env, tick, act, tries, wait, permit, deny, ends, revoke, amend}
 use Rattle.ucon_state.specs.declared.act.Act.{Act}
-use Rattle.ucon_model.specs.Readings.{attrs_of, env_position}
-use Rattle.ucon_state.specs.Tables.{TablesOf, Tables, cell_of, same_act, session_in}
+use Rattle.ucon_model.specs.Readings.{in_force, attrs_of, attr_position, env_position}
+use Rattle.ucon_state.specs.Tables.{TablesOf, Tables, width, cell_of, variable_in, same_act, session_in}
 
 -- the defaults of the attributes of a side
 abbrev pub defaults_of : PlainPolicy → Side → List Value
@@ -77,6 +79,42 @@ moved_to state now row = record row { state = state }
 abbrev pub with_state : Tables → ℕ → SessionState → Tables
 with_state t n state = option_map_or (λ row. with_row t (n - 1) (moved_to state t.tick row)) (session_in t n) t
 
+-- ---- a policy that replaces another
+
+-- what an entity with this first one of the cells has of a declaration: what it had, where the policy before declares it, else the default
+abbrev pub kept_value : PlainPolicy → List Value → Side → ℕ → AttrDecl → Value
+kept_value P cells side first d =
+    unwrap_or (option_and_then (λ place. slice_get cells (first + place)) (attr_position P side d.name)) d.start
+
+-- the cells of an entity under the new policy
+abbrev pub kept_cells : PlainPolicy → PlainPolicy → List Value → Side → ℕ → List Value
+kept_cells P Q cells side first = map (kept_value P cells side first) (attrs_of Q side)
+
+-- the cells of these entities, those of each behind those of the one before it
+abbrev pub all_kept_cells : PlainPolicy → PlainPolicy → List Value → Side → List (Bytes × ℕ) → List Value
+all_kept_cells P Q cells side [] = []
+all_kept_cells P Q cells side (e ∷ es) = kept_cells P Q cells side e.1 ++ all_kept_cells P Q cells side es
+
+-- these entities with so many cells each, one behind the other from this cell on
+abbrev pub laid_from : ℕ → ℕ → List (Bytes × ℕ) → List (Bytes × ℕ)
+laid_from first width [] = []
+laid_from first width (e ∷ es) = (e.0, first) ∷ laid_from (first + width) width es
+
+-- what a variable has of a declaration: what it had, where the policy before declares it, else the default
+abbrev pub kept_variable : {S : Type 0} → PlainPolicy → TablesOf S → EnvDecl → Value
+kept_variable P t d = unwrap_or (variable_in P t d.name) d.start
+
+-- the tables under a policy that replaces another: subjects have the first cells, and objects those behind them
+abbrev pub amended : {S : Type 0} → PlainPolicy → PlainPolicy → TablesOf S → TablesOf S
+amended P Q t = record t {
+  subjects = laid_from 0 (width Q sides.Subject) t.subjects;
+  objects = laid_from (length (all_kept_cells P Q t.cells sides.Subject t.subjects)) (width Q sides.Object) t.objects;
+  cells = all_kept_cells P Q t.cells sides.Subject t.subjects ++ all_kept_cells P Q t.cells sides.Object t.objects;
+  variables = map (kept_variable P t) Q.envs;
+}
+
+-- ---- all actions
+
 -- the tables after an action
 abbrev pub applied : PlainPolicy → Action → Tables → Tables
 applied P (subject name) t = with_entity P t sides.Subject name
@@ -91,6 +129,7 @@ applied P (permit n) t = with_state t n Accessing
 applied P (deny n label) t = with_state t n Denied
 applied P (ends n) t = with_state t n Ended
 applied P (revoke n label) t = with_state t n Revoked
+applied P (amend text Q) t = amended P Q t
 
 -- before all actions: no entities, each variable at its default, tick 0
 abbrev pub opening_of : {S : Type 0} → PlainPolicy → TablesOf S
@@ -110,4 +149,4 @@ opening_tables P = opening_of P
 -- the tables after a trace
 abbrev pub tables_of : PlainPolicy → Trace → Tables
 tables_of P [] = opening_tables P
-tables_of P (a ∷ T) = applied P a (tables_of P T)
+tables_of P (a ∷ T) = applied (in_force P T) a (tables_of P T)

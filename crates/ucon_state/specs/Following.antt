@@ -24,10 +24,10 @@ abbrev pub IsLegalTrace : PlainPolicy → Trace → Type 0
 IsLegalTrace P [] = Unit {0}
 IsLegalTrace P (a ∷ T) = IsLegalTrace P T × IsLegal P T a
 
--- the tables after these actions, the first one first
-abbrev pub all_applied : PlainPolicy → List Action → Tables → Tables
-all_applied P [] t = t
-all_applied P (a ∷ actions) t = all_applied P actions (applied P a t)
+-- the tables after these actions behind a trace, the first one first
+abbrev pub all_applied : PlainPolicy → Trace → List Action → Tables → Tables
+all_applied P T [] t = t
+all_applied P T (a ∷ actions) t = all_applied P (a ∷ T) actions (applied (in_force P T) a t)
 
 -- how many there are of each sort after a trace
 abbrev pub counts_of : Trace → Counts

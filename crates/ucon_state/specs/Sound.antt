@@ -5,11 +5,11 @@ use Rattle.ucon_base.specs.declared.value.Side.{Side}
 use Rattle.ucon_base.specs.declared.value.Side.TheVariants as sides
 use Rattle.ucon_model.specs.Plain.{Bytes, PlainPolicy}
 use Rattle.ucon_model.specs.Decision.{right_named}
-use Rattle.ucon_state.specs.declared.change.Change.{Change}
+use Rattle.ucon_state.specs.declared.change.Undo.{Undo}
 use Rattle.ucon_model.specs.Readings.{attrs_of}
 use Rattle.ucon_state.specs.Tables.{TablesOf, entities_of}
 use Rattle.ucon_state.specs.Stored.{Stored, AreNumbered}
-use Rattle.ucon_state.specs.Undo.{all_undone}
+use Rattle.ucon_state.specs.Undo.{all_undone, policy_undone}
 
 -- the cells of each entity of a side are there
 abbrev pub CellsAreThere : {S : Type 0} → PlainPolicy → TablesOf S → Side → Type 0
@@ -35,6 +35,7 @@ pub record HasRights (P : PlainPolicy) (rights : List Bytes) : Type 0 where
 abbrev pub IsKept : PlainPolicy → List Bytes → Stored → Type 0
 IsKept P rights t = IsSound P t × AreNumbered rights t.subjects t.objects t.sessions
 
--- the tables are so, now and at each stage of undoing these changes
-abbrev pub AllSound : PlainPolicy → List Bytes → List Change → Stored → Type 0
-AllSound P rights changes t = (kept : ℕ) → IsKept P rights (all_undone (drop kept changes) t)
+-- the tables are so under the policy, and its rights are among these: now and at each stage of undoing these changes
+abbrev pub AllSound : PlainPolicy → List Bytes → List Undo → Stored → Type 0
+AllSound P rights changes t =
+    (kept : ℕ) → IsKept (policy_undone (drop kept changes) P) rights (all_undone (drop kept changes) t) × HasRights (policy_undone (drop kept changes) P) rights

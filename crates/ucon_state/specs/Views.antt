@@ -1,4 +1,5 @@
 -- What the tables of `src/` stand for.
+use Rattle.ucon_state.specs.declared.layout.Layout.{Layout}
 use Rattle.ucon_state.specs.declared.tables.Tables.{Tables as Kept}
 use Rattle.ucon_state.specs.Stored.{Stored}
 
@@ -13,3 +14,7 @@ lists_of t = record {
   acts = t.acts.entries;
   sessions = t.sessions.items;
 }
+
+-- the tables with their entities and values laid so
+abbrev pub with_layout : Layout → Stored → Stored
+with_layout l t = record t { subjects = l.subjects.entries; objects = l.objects.entries; cells = l.cells.items; variables = l.variables.items }

@@ -1,7 +1,10 @@
 //! What is needed to undo a change.
 
+use crate::layout::Layout;
+use crate::tables::Tables;
+use std::mem;
 use ucon_base::{Int, Side, Value};
-use ucon_model::SessionState;
+use ucon_model::{Checked, SessionState};
 
 /// One change, by what it wrote over or how much was there before.
 #[derive(Debug, Drop)]
@@ -18,4 +21,53 @@ pub enum Change {
     Session,
     /// The session at a place was in this state, with this start.
     Moved(usize, SessionState, Int),
+}
+
+/// A policy that was replaced, and how entities and values were laid under it.
+#[derive(Drop)]
+pub struct Before {
+    pub checked: Checked,
+    pub layout: Layout,
+}
+
+/// A change of the tables, or a policy that was replaced.
+#[derive(Drop)]
+pub enum Undo {
+    Changed(Change),
+    Replaced(Box<Before>),
+}
+
+impl Before {
+    ghost use Rattle.std.specs.Prelude.{◌≡◌};
+    ghost use Rattle.ucon_model.specs.Checked.{checked_policy};
+    ghost use Rattle.ucon_state.specs.Views.{lists_of, with_layout};
+
+    /// The policy and the layout that are held stand there now, and those that stood there are held.
+    pub fn swap(&mut self, checked: &mut Checked, tables: &mut Tables)
+        ensures policy { checked_policy checked.new ≡ checked_policy self.old.checked }
+        ensures tables { lists_of tables.new ≡ with_layout self.old.layout (lists_of tables.old) }
+        ensures policy_held { checked_policy self.new.checked ≡ checked_policy checked.old }
+        ensures layout_held { with_layout self.new.layout (lists_of tables.new) ≡ lists_of tables.old }
+    {
+        mem::swap(&mut self.checked, checked);
+        tables.swap_layout(&mut self.layout);
+    }
+}
+
+impl Undo {
+    ghost use Rattle.std.specs.Prelude.{◌≡◌};
+    ghost use Rattle.ucon_model.specs.Checked.{checked_policy};
+    ghost use Rattle.ucon_state.specs.Undo.{policy_before, tables_before};
+    ghost use Rattle.ucon_state.specs.Views.{lists_of};
+
+    /// Undoes the change.
+    pub fn run(self, checked: &mut Checked, tables: &mut Tables)
+        ensures policy { checked_policy checked.new ≡ policy_before self (checked_policy checked.old) }
+        ensures tables { lists_of tables.new ≡ tables_before self (lists_of tables.old) }
+    {
+        match self {
+            Undo::Changed(change) => tables.undo(change),
+            Undo::Replaced(mut before) => before.swap(checked, tables),
+        }
+    }
 }

@@ -1,17 +1,19 @@
 //! Laws of the tables. A law is a function without parameters that does nothing: its contract is what is proved.
 
-ghost use Rattle.std.specs.Prelude.{◌≡◌, ℕ, List, [], ◌∷◌, Some};
+ghost use Rattle.std.specs.Prelude.{◌≡◌, ◌≤◌, ℕ, List, [], ◌∷◌, length, Some, false};
 ghost use Rattle.ucon_base.specs.declared.value.Side.{Side};
 ghost use Rattle.ucon_model.specs.Plain.{Bytes, PlainPolicy};
 ghost use Rattle.ucon_model.specs.Action.{Action, Trace, extended};
 ghost use Rattle.ucon_model.specs.Readings.{in_force};
 ghost use Rattle.ucon_model.specs.Legal.{IsLegal, AreLegal};
 ghost use Rattle.ucon_model.specs.Typing.{IsTyped};
-ghost use Rattle.ucon_model.specs.History.{History, trace};
+ghost use Rattle.ucon_model.specs.History.{History, AreCommands, trace};
+ghost use Rattle.ucon_model.specs.Reach.{replaces};
 ghost use Rattle.ucon_state.specs.Tables.{cell_of};
 ghost use Rattle.ucon_state.specs.Applied.{applied, opening_tables, tables_of};
+ghost use Rattle.ucon_state.specs.declared.state.State.{State};
 ghost use Rattle.ucon_state.specs.Following.{Follows, IsLegalTrace, Keeps, all_applied};
-ghost use Rattle.ucon_state.specs.Shown.{Shown, changed_by};
+ghost use Rattle.ucon_state.specs.Shown.{Shown, changed_by, shown};
 
 use ucon_model::blocks_are_legal;
 
@@ -29,24 +31,29 @@ pub fn tables_keep_what_is_followed()
     ensures { (s : Shown) (P : PlainPolicy) (T : Trace) → Follows s P T → Keeps s.policy s.tables P T }
 {}
 
-/// A cell is of one attribute of one entity, and the cells of those that are there stay.
+/// A cell is of one attribute of one entity, and the cells of those that are there stay while the policy in force does.
 pub fn cells_are_of_one_attribute()
     ensures whose { (s : Shown) (P : PlainPolicy) (T : Trace) → Follows s P T → (side side' : Side) (name name' attr attr' : Bytes) (cell : ℕ)
         → cell_of s.policy s.tables side name attr ≡ Some cell → cell_of s.policy s.tables side' name' attr' ≡ Some cell
         → (side ≡ side') × (name ≡ name') × (attr ≡ attr') }
-    ensures stay { (s : Shown) (P : PlainPolicy) (T : Trace) (a : Action) → Follows s P T → IsLegal P T a
+    ensures stay { (s : Shown) (P : PlainPolicy) (T : Trace) (a : Action) → Follows s P T → IsLegal P T a → replaces a ≡ false
         → (side : Side) (name attr : Bytes) (cell : ℕ)
         → cell_of s.policy s.tables side name attr ≡ Some cell → cell_of s.policy (applied s.policy a s.tables) side name attr ≡ Some cell }
 {}
 
+/// A state has at most 1,048,576 sessions.
+pub fn sessions_are_few()
+    ensures { (s : State) → length (shown s).tables.sessions ≤ 1048576 }
+{}
+
 /// The tables after a legal trace keep it.
 pub fn tables_keep_the_trace()
-    ensures { (P : PlainPolicy) (T : Trace) → IsLegalTrace P T → Keeps P (tables_of P T) P T }
+    ensures { (P : PlainPolicy) (T : Trace) → IsLegalTrace P T → Keeps (in_force P T) (tables_of P T) P T }
 {}
 
 /// The tables after more actions are those that the actions make of the tables, one after the other.
 pub fn changes_add_up()
-    ensures { (P : PlainPolicy) (T : Trace) (actions : List Action) → tables_of P (extended T actions) ≡ all_applied P actions (tables_of P T) }
+    ensures { (P : PlainPolicy) (T : Trace) (actions : List Action) → tables_of P (extended T actions) ≡ all_applied P T actions (tables_of P T) }
 {}
 
 /// A legal trace with legal actions after it is legal.
@@ -54,9 +61,9 @@ pub fn legal_traces_go_on()
     ensures { (P : PlainPolicy) (T : Trace) (actions : List Action) → IsLegalTrace P T → AreLegal P T actions → IsLegalTrace P (extended T actions) }
 {}
 
-/// Under a well typed policy the trace of every history is legal.
+/// Under a well typed policy the trace of every history of commands is legal.
 pub fn traces_of_histories_are_legal()
-    ensures { (P : PlainPolicy) → IsTyped P → (H : History) → IsLegalTrace P (trace P H) }
+    ensures { (P : PlainPolicy) → IsTyped P → (H : History) → AreCommands H → IsLegalTrace P (trace P H) }
 {
     blocks_are_legal();
 }

@@ -7,6 +7,7 @@ mod counts;
 mod defaults;
 mod engine;
 mod laws;
+mod layout;
 mod session;
 mod state;
 mod tables;
@@ -16,6 +17,7 @@ pub use counts::Counts;
 pub use engine::{Drafted, Engine};
 pub use laws::{
     cells_are_of_one_attribute, changes_add_up, each_action_is_followed, legal_traces_go_on,
-    tables_keep_the_trace, tables_keep_what_is_followed, traces_of_histories_are_legal,
+    sessions_are_few, tables_keep_the_trace, tables_keep_what_is_followed,
+    traces_of_histories_are_legal,
 };
 pub use state::{CellId, State};

@@ -1,23 +1,25 @@
 //! The state of a policy, and its changes.
 
-ghost use Rattle.std.specs.Prelude.{◌≡◌, ◌≤ℤ◌, ◌<◌, ◌+◌, ◌⊎◌, length, position, slice_get, Some, None, OnOk, OnErr, IfOk, IfSome, IsSome, IsSomeAnd, IsTrue, is_some};
+ghost use Rattle.std.specs.Prelude.{◌≡◌, true, [], ◌∷◌, ◌++◌, ◌≤ℤ◌, ◌<◌, ◌+◌, ◌⊎◌, length, position, slice_get, Some, None, OnOk, OnErr, IfOk, IfSome, IsSome, IsSomeAnd, IsTrue, is_some};
 ghost use Rattle.std.specs.Str.{bytes_eq};
 ghost use Rattle.ucon_base.specs.Admits.{admits};
 ghost use Rattle.ucon_base.specs.declared.value.Side.TheVariants as sides;
 ghost use Rattle.ucon_model.specs.Action as actions;
 ghost use Rattle.ucon_model.specs.Checked.{checked_policy};
 ghost use Rattle.ucon_model.specs.Decision.{right_named};
+ghost use Rattle.ucon_model.specs.Plain.{Bytes};
 ghost use Rattle.ucon_model.specs.Readings.{declared_attr, declared_env, env_position};
-ghost use Rattle.ucon_state.specs.Applied.{opening_tables, with_entity, with_cell, with_state, may_become};
+ghost use Rattle.ucon_state.specs.Applied.{amended, opening_tables, with_entity, with_cell, with_state, may_become};
 ghost use Rattle.ucon_state.specs.Sound.{AllSound, HasRights, IsSound};
 ghost use Rattle.ucon_state.specs.Stored.{name_at, start_in};
 ghost use Rattle.ucon_state.specs.Tables.{entities_of, entity_number, cell_at, CellAdmits, attribute_in, counts_in, moment_in, session_in};
-ghost use Rattle.ucon_state.specs.Views.{lists_of};
+ghost use Rattle.ucon_state.specs.Views.{lists_of, with_layout};
 
 use crate::act::Act;
-use crate::change::Change;
+use crate::change::{Before, Undo};
 use crate::counts::Counts;
 use crate::defaults::{attr_defaults, env_defaults, right_names};
+use crate::layout::Layout;
 use crate::session::Session;
 use crate::tables::Tables;
 use std::alloc::{AllocError, Global};
@@ -35,19 +37,20 @@ pub struct State {
     pub(crate) tables: Tables,
     /// The names of the rights that sessions may have, each at the place that is its number.
     pub(crate) rights: Vec<Name>,
-    changes: Vec<Change>,
+    changes: Vec<Undo>,
     ghost sound: { AllSound (checked_policy checked) rights.items changes.items (lists_of tables) },
     ghost has_rights: { HasRights (checked_policy checked) rights.items },
 }
 
 impl State {
-    ghost use Rattle.ucon_state.specs.Shown.{shown, changed_by, changed_to, right_names, right_name, subject_name, object_name, AreThere};
+    ghost use Rattle.ucon_state.specs.Shown.{shown, changed_by, changed_to, given_back, kept, right_names, right_name, subject_name, object_name, AreThere};
 
     /// No entities, each variable at its default, tick 0.
     pub fn new(alloc: Global, checked: Checked) -> Result<State, NoMemory>
         ensures policy { IfOk result (λ s. (shown s).policy ≡ checked_policy checked) }
         ensures tables { IfOk result (λ s. (shown s).tables ≡ opening_tables (checked_policy checked)) }
         ensures opening { IfOk result (λ s. (shown s).opening ≡ opening_tables (checked_policy checked)) }
+        ensures opening_policy { IfOk result (λ s. (shown s).opening_policy ≡ checked_policy checked) }
     {
         let rights = right_names(alloc, &checked)?;
         if rights.len() > u32::MAX as usize {
@@ -120,7 +123,7 @@ impl State {
         }
         self.changes.reserve(1)?;
         let change = self.tables.add_entity(side, name, defaults)?;
-        self.changes.push_reserved(change);
+        self.changes.push_reserved(Undo::Changed(change));
         Ok(number)
     }
 
@@ -132,7 +135,7 @@ impl State {
     {
         self.changes.reserve(1)?;
         let change = self.tables.set_cell(cell as usize, value);
-        self.changes.push_reserved(change);
+        self.changes.push_reserved(Undo::Changed(change));
         Ok(())
     }
 
@@ -145,7 +148,7 @@ impl State {
         let place = self.checked.policy().env_position(name).unwrap();
         self.changes.reserve(1)?;
         let change = self.tables.set_variable(place, value);
-        self.changes.push_reserved(change);
+        self.changes.push_reserved(Undo::Changed(change));
         Ok(())
     }
 
@@ -156,7 +159,7 @@ impl State {
     {
         self.changes.reserve(1)?;
         let change = self.tables.set_tick(tick);
-        self.changes.push_reserved(change);
+        self.changes.push_reserved(Undo::Changed(change));
         Ok(())
     }
 
@@ -172,7 +175,7 @@ impl State {
             action,
             object,
         })?;
-        self.changes.push_reserved(change);
+        self.changes.push_reserved(Undo::Changed(change));
         Ok(())
     }
 
@@ -230,7 +233,7 @@ impl State {
             object,
             start: Int::zero(),
         })?;
-        self.changes.push_reserved(change);
+        self.changes.push_reserved(Undo::Changed(change));
         Ok(self.tables.sessions.len() as u32)
     }
 
@@ -244,7 +247,7 @@ impl State {
         let place = session as usize - 1;
         let start = start_in(state, self.tables.tick, self.tables.sessions[place].start);
         let change = self.tables.move_session(place, state, start);
-        self.changes.push_reserved(change);
+        self.changes.push_reserved(Undo::Changed(change));
         Ok(())
     }
 
@@ -260,18 +263,75 @@ impl State {
         }
     }
 
+    /// Replaces the policy. An attribute or a variable that the policy before declares, too, keeps its values; a new one has its
+    /// default, also for the entities that are there. Cells have new numbers.
+    pub fn amend(&mut self, checked: Checked) -> Result<(), NoMemory>
+        ensures ok { OnOk result ((text : Bytes) → shown self.new ≡ changed_by (shown self.old) (actions.amend text (checked_policy checked))) }
+        ensures err { OnErr result (shown self.new ≡ shown self.old) }
+    {
+        self.add_rights(&checked)?;
+        let layout = self.layout_under(&checked)?;
+        let mut before = Box::new(self.alloc, Before { checked, layout })?;
+        self.changes.reserve(1)?;
+        before.swap(&mut self.checked, &mut self.tables);
+        self.changes.push_reserved(Undo::Replaced(before));
+        Ok(())
+    }
+
+    /// The layout under a policy that replaces this one. More cells than a `u32` counts are answered as want of memory.
+    fn layout_under(&self, checked: &Checked) -> Result<Layout, NoMemory>
+        ensures amended { IfOk result (λ l. with_layout l (lists_of self.now.tables)
+            ≡ amended (checked_policy self.now.checked) (checked_policy checked.now) (lists_of self.now.tables)) }
+        ensures few { IfOk result (λ l. length l.cells.items < 4294967296) }
+    {
+        let layout = Layout::amended(self.alloc, &self.tables, &self.checked, checked)?;
+        if layout.cells.len() > u32::MAX as usize {
+            return Err(NoMemory::from(AllocError));
+        }
+        Ok(layout)
+    }
+
+    /// Adds the names of the rights of a policy that sessions may have from now on.
+    fn add_rights(&mut self, checked: &Checked) -> Result<(), NoMemory>
+        ensures shown { shown self.new ≡ shown self.old }
+        ensures rights { OnOk result (HasRights (checked_policy checked.now) (right_names self.new)) }
+    {
+        for right in checked.policy().rights.slice() {
+            self.add_right(right.name)?;
+        }
+        Ok(())
+    }
+
+    /// Adds the name of a right, if it isn't there.
+    fn add_right(&mut self, name: Name) -> Result<(), NoMemory>
+        ensures shown { shown self.new ≡ shown self.old }
+        ensures there { OnOk result (is_some (position (bytes_eq name) (right_names self.new)) ≡ true) }
+        ensures stay { OnOk result ((e : Bytes) → is_some (position (bytes_eq e) (right_names self.old)) ≡ true
+            → is_some (position (bytes_eq e) (right_names self.new)) ≡ true) }
+    {
+        if number_of(&self.rights, &name).is_some() {
+            return Ok(());
+        }
+        if self.rights.len() >= u32::MAX as usize {
+            return Err(NoMemory::from(AllocError));
+        }
+        self.rights.reserve(1)?;
+        self.rights.push_reserved(name);
+        Ok(())
+    }
+
     /// Gives back the state at the last keep, or at the making.
     pub fn undo_all(&mut self)
-        ensures { shown self.new ≡ changed_to (shown self.old) (shown self.old).opening }
+        ensures { shown self.new ≡ given_back (shown self.old) }
     {
-        while let Some(change) = self.changes.pop() {
-            self.tables.undo(change);
+        while let Some(undo) = self.changes.pop() {
+            undo.run(&mut self.checked, &mut self.tables);
         }
     }
 
     /// From here on undoing gives what is there now.
     pub fn keep(&mut self)
-        ensures { shown self.new ≡ record (shown self.old) { opening = (shown self.old).tables } }
+        ensures { shown self.new ≡ kept (shown self.old) }
     {
         self.changes.clear();
     }

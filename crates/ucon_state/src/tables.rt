@@ -1,10 +1,11 @@
 //! The tables: what is there now.
 
-ghost use Rattle.std.specs.Prelude.{◌≡◌, ◌-◌, ◌<◌, IfOk, OnOk, OnErr, IfSome, None, slice_get, slice_set, option_copied, option_map, length};
+ghost use Rattle.std.specs.Prelude.{◌≡◌, ◌-◌, ◌<◌, IfOk, OnOk, OnErr, IfSome, Some, None, slice_get, slice_set, option_copied, option_map, length};
 ghost use Rattle.ucon_state.specs.Stored.{accessing_in, accessing_of};
 
 use crate::act::Act;
 use crate::change::Change;
+use crate::layout::Layout;
 use crate::session::Session;
 use indexmap::IndexMap;
 use std::alloc::Global;
@@ -32,7 +33,7 @@ impl Tables {
     ghost use Rattle.ucon_state.specs.Applied.{with_name, with_new_entity, with_cell, with_variable, with_tick, with_act, with_new_session};
     ghost use Rattle.ucon_state.specs.Stored.{name_at, with_moved};
     ghost use Rattle.ucon_state.specs.Undo.{undone};
-    ghost use Rattle.ucon_state.specs.Views.{lists_of};
+    ghost use Rattle.ucon_state.specs.Views.{lists_of, with_layout};
 
     /// No entities, acts or sessions, tick 0, and variables with these values.
     pub fn new(alloc: Global, variables: Vec<Value>) -> Tables
@@ -65,6 +66,17 @@ impl Tables {
         ensures within { IfSome result (λ n. n < length (entities_of side (lists_of self.now))) }
     {
         self.entities(side).get_index_of(name)
+    }
+
+    /// The name and the first cell of the entity with this number.
+    pub fn entity(&self, side: Side, entity: usize) -> (Name, usize)
+        requires { entity < length (entities_of side (lists_of self.now)) }
+        ensures { slice_get (entities_of side (lists_of self.now)) entity ≡ Some result }
+    {
+        let Some((name, first)) = self.entities(side).get_index(entity) else {
+            unreachable!()
+        };
+        (*name, *first)
     }
 
     /// The first cell of the entity with this number.
@@ -215,6 +227,17 @@ impl Tables {
         self.sessions[place] = session;
         self.accessing = self.accessing - accessing_in(&before) + accessing_in(&session);
         Change::Moved(place, before.state, before.start)
+    }
+
+    /// Lays the entities and values so, and gives back how they were laid.
+    pub fn swap_layout(&mut self, layout: &mut Layout)
+        ensures tables { lists_of self.new ≡ with_layout layout.old (lists_of self.old) }
+        ensures before { with_layout layout.new (lists_of self.new) ≡ lists_of self.old }
+    {
+        mem::swap(&mut self.subjects, &mut layout.subjects);
+        mem::swap(&mut self.objects, &mut layout.objects);
+        mem::swap(&mut self.cells, &mut layout.cells);
+        mem::swap(&mut self.variables, &mut layout.variables);
     }
 
     /// Undoes a change.

@@ -30,7 +30,8 @@ impl State {
         self.tables.cells.get(cell)
     }
 
-    fn variable(&self, name: &Name) -> Option<&Value>
+    /// The value of a variable. None where the policy in force doesn't declare it.
+    pub fn variable(&self, name: &Name) -> Option<&Value>
         ensures { option_copied result ≡ variable_in (shown self.now).policy (shown self.now).tables name.now }
     {
         let place = self.checked.policy().env_position(name)?;

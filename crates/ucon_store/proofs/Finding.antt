@@ -34,14 +34,14 @@ holds_same text P H file c h same = hold_counted text P H h.gate c (ap (found_in
 
 -- a payload more that is taken is an entry more
 pub holds_more : ((front rest : List Bytes) → found_in accepted (front ++ rest) ≡ found_on accepted (found_in accepted front) (length front) rest)
-    → (text : Bytes) (P : PlainPolicy) (H : History) (e : Entry) (payload file c : Bytes) → taken P H payload ≡ Some (H ++ e ∷ []) → Holds text P H file
+    → (text : Bytes) (P : PlainPolicy) (H : History) (e : Entry) (payload file c : Bytes) → taken accepted P H payload ≡ Some (H ++ e ∷ []) → Holds text P H file
     → journal.counted c ≡ journal.counted file ++ payload ∷ [] → Holds text P (H ++ e ∷ []) c
 holds_more one_by_one text P H e payload file c takes h more =
     let n = length (journal.counted file) in
     let before = counted_hold text P H file h in
     let on = one_by_one (journal.counted file) (payload ∷ []) in
-    let behind : found_on accepted (found_in accepted (journal.counted file)) n (payload ∷ []) ≡ found_behind text P H n h.gate (payload ∷ []) = ap (λ f. found_on accepted f n (payload ∷ [])) before in
-    let last : found_behind text P H n h.gate (payload ∷ []) ≡ holds text P (H ++ e ∷ []) (next_gate h.gate payload) = ap (λ o. unwrap_or (option_map (λ later. holds text P later (next_gate h.gate payload)) o) (Rattle.ucon_model.specs.Found.damaged n h.gate)) takes in
+    let behind : found_on accepted (found_in accepted (journal.counted file)) n (payload ∷ []) ≡ found_behind accepted text P H n h.gate (payload ∷ []) = ap (λ f. found_on accepted f n (payload ∷ [])) before in
+    let last : found_behind accepted text P H n h.gate (payload ∷ []) ≡ holds text P (H ++ e ∷ []) (next_gate h.gate payload) = ap (λ o. unwrap_or (option_map (λ later. holds text P later (next_gate h.gate payload)) o) (Rattle.ucon_model.specs.Found.damaged n h.gate)) takes in
     hold_counted text P (H ++ e ∷ []) (next_gate h.gate payload) c (ap (found_in accepted) more ∙ (on ∙ (behind ∙ last)))
 
 -- what a file holds it is found as

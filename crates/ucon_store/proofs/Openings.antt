@@ -27,29 +27,29 @@ policy_short : (text : Bytes) → length text ≤ most_payload → policy_taken 
 policy_short text short = ap (λ b. if b then None else accepted text) (long_no most_payload (length text) short)
 
 pub policy_right : (text : Bytes) (P : PlainPolicy) (payloads : List Bytes) → length text ≤ most_payload → accepted text ≡ Some P
-    → found_in accepted (text ∷ payloads) ≡ found_behind text P [] 1 (next_gate first_gate text) payloads
+    → found_in accepted (text ∷ payloads) ≡ found_behind accepted text P [] 1 (next_gate first_gate text) payloads
 policy_right text P payloads short accepts =
-    ap (λ o. unwrap_or (option_map (λ Q. found_behind text Q [] 1 (next_gate first_gate text) payloads) o) (damaged 0 first_gate)) (policy_short text short ∙ accepts)
+    ap (λ o. unwrap_or (option_map (λ Q. found_behind accepted text Q [] 1 (next_gate first_gate text) payloads) o) (damaged 0 first_gate)) (policy_short text short ∙ accepts)
 
 pub policy_wrong : (text : Bytes) (payloads : List Bytes) → length text ≤ most_payload → accepted text ≡ None → found_in accepted (text ∷ payloads) ≡ damaged 0 first_gate
 policy_wrong text payloads short refuses =
-    ap (λ o. unwrap_or (option_map (λ Q. found_behind text Q [] 1 (next_gate first_gate text) payloads) o) (damaged 0 first_gate)) (policy_short text short ∙ refuses)
+    ap (λ o. unwrap_or (option_map (λ Q. found_behind accepted text Q [] 1 (next_gate first_gate text) payloads) o) (damaged 0 first_gate)) (policy_short text short ∙ refuses)
 
 pub policy_long : (text : Bytes) (payloads : List Bytes) → most_payload < length text → found_in accepted (text ∷ payloads) ≡ damaged 0 first_gate
 policy_long text payloads long =
-    ap (λ o. unwrap_or (option_map (λ Q. found_behind text Q [] 1 (next_gate first_gate text) payloads) o) (damaged 0 first_gate))
+    ap (λ o. unwrap_or (option_map (λ Q. found_behind accepted text Q [] 1 (next_gate first_gate text) payloads) o) (damaged 0 first_gate))
     (ap (λ b. if b then None else accepted text) (long_yes most_payload (length text) long))
 
 -- a later record
-pub step_right : (text : Bytes) (P : PlainPolicy) (H later : History) (number gate : ℕ) (payload : Bytes) (payloads : List Bytes) → taken P H payload ≡ Some later
-    → found_behind text P H number gate (payload ∷ payloads) ≡ found_behind text P later (number + 1) (next_gate gate payload) payloads
+pub step_right : (text : Bytes) (P : PlainPolicy) (H later : History) (number gate : ℕ) (payload : Bytes) (payloads : List Bytes) → taken accepted P H payload ≡ Some later
+    → found_behind accepted text P H number gate (payload ∷ payloads) ≡ found_behind accepted text P later (number + 1) (next_gate gate payload) payloads
 step_right text P H later number gate payload payloads is =
-    ap (λ o. unwrap_or (option_map (λ h. found_behind text P h (number + 1) (next_gate gate payload) payloads) o) (damaged number gate)) is
+    ap (λ o. unwrap_or (option_map (λ h. found_behind accepted text P h (number + 1) (next_gate gate payload) payloads) o) (damaged number gate)) is
 
-pub step_wrong : (text : Bytes) (P : PlainPolicy) (H : History) (number gate : ℕ) (payload : Bytes) (payloads : List Bytes) → taken P H payload ≡ None
-    → found_behind text P H number gate (payload ∷ payloads) ≡ damaged number gate
+pub step_wrong : (text : Bytes) (P : PlainPolicy) (H : History) (number gate : ℕ) (payload : Bytes) (payloads : List Bytes) → taken accepted P H payload ≡ None
+    → found_behind accepted text P H number gate (payload ∷ payloads) ≡ damaged number gate
 step_wrong text P H number gate payload payloads is =
-    ap (λ o. unwrap_or (option_map (λ h. found_behind text P h (number + 1) (next_gate gate payload) payloads) o) (damaged number gate)) is
+    ap (λ o. unwrap_or (option_map (λ h. found_behind accepted text P h (number + 1) (next_gate gate payload) payloads) o) (damaged number gate)) is
 
 -- ---- what is found in the bytes
 
@@ -103,7 +103,7 @@ pub says_first : (o : Option Bytes) (text : Bytes) (P : PlainPolicy) (gate : ℕ
 says_first None text P gate says short accepts is = tt
 says_first (Some file) text P gate says short accepts is =
     let place : next_gate first_gate text ≡ gate = sym is in
-    says ∙ (policy_right text P (journal.payloads_from file gate) short accepts ∙ ap (λ g. found_behind text P [] 1 g (journal.payloads_from file gate)) place)
+    says ∙ (policy_right text P (journal.payloads_from file gate) short accepts ∙ ap (λ g. found_behind accepted text P [] 1 g (journal.payloads_from file gate)) place)
 
 pub says_no_policy : (o : Option Bytes) (text : Bytes) (gate : ℕ) → IfSome o (λ file. found file ≡ found_in accepted (text ∷ journal.payloads_from file gate))
     → length text ≤ most_payload → accepted text ≡ None → IfSome o (λ file. found file ≡ damaged 0 8)
@@ -117,33 +117,33 @@ says_long_policy None is long = tt
 says_long_policy (Some file) is long = found_counted file is.1 ∙ (ap (found_in accepted) (sym is.0 ∙ long.2) ∙ policy_long long.0 long.1 long.3)
 
 pub says_next : (o : Option Bytes) (text : Bytes) (P : PlainPolicy) (H later : History) (number gate next : ℕ) (payload : Bytes) → IfSome o (SaysBehind text P H number gate)
-    → IfSome o (λ file. journal.payloads_from file gate ≡ payload ∷ journal.payloads_from file next) → next ≡ gate + 5 + length payload → taken P H payload ≡ Some later
+    → IfSome o (λ file. journal.payloads_from file gate ≡ payload ∷ journal.payloads_from file next) → next ≡ gate + 5 + length payload → taken accepted P H payload ≡ Some later
     → IfSome o (SaysBehind text P later (number + 1) next)
 says_next None text P H later number gate next payload says more is takes = tt
 says_next (Some file) text P H later number gate next payload says more is takes =
-    says ∙ (ap (found_behind text P H number gate) more ∙ (step_right text P H later number gate payload (journal.payloads_from file next) takes
-    ∙ ap (λ g. found_behind text P later (number + 1) g (journal.payloads_from file next)) (sym is)))
+    says ∙ (ap (found_behind accepted text P H number gate) more ∙ (step_right text P H later number gate payload (journal.payloads_from file next) takes
+    ∙ ap (λ g. found_behind accepted text P later (number + 1) g (journal.payloads_from file next)) (sym is)))
 
 pub says_wrong : (o : Option Bytes) (text : Bytes) (P : PlainPolicy) (H : History) (number gate next : ℕ) (payload : Bytes) → IfSome o (SaysBehind text P H number gate)
-    → IfSome o (λ file. journal.payloads_from file gate ≡ payload ∷ journal.payloads_from file next) → taken P H payload ≡ None → IfSome o (λ file. found file ≡ damaged number gate)
+    → IfSome o (λ file. journal.payloads_from file gate ≡ payload ∷ journal.payloads_from file next) → taken accepted P H payload ≡ None → IfSome o (λ file. found file ≡ damaged number gate)
 says_wrong None text P H number gate next payload says more refuses = tt
 says_wrong (Some file) text P H number gate next payload says more refuses =
-    says ∙ (ap (found_behind text P H number gate) more ∙ step_wrong text P H number gate payload (journal.payloads_from file next) refuses)
+    says ∙ (ap (found_behind accepted text P H number gate) more ∙ step_wrong text P H number gate payload (journal.payloads_from file next) refuses)
 
-long_refused : (P : PlainPolicy) (H : History) (payload : Bytes) → most_payload < length payload → taken P H payload ≡ None
+long_refused : (P : PlainPolicy) (H : History) (payload : Bytes) → most_payload < length payload → taken accepted P H payload ≡ None
 unfolding taken
-long_refused P H payload long = ap (λ b. if b then None else option_and_then (with_step P H) (result_ok (payload_read payload))) (long_yes most_payload (length payload) long)
+long_refused P H payload long = ap (λ b. if b then None else option_and_then (with_step P H) (result_ok (payload_read accepted payload))) (long_yes most_payload (length payload) long)
 
 pub says_long : (o : Option Bytes) (text : Bytes) (P : PlainPolicy) (H : History) (number gate : ℕ) → IfSome o (SaysBehind text P H number gate)
     → IfSome o (λ file. (p : Bytes) × (ps : List Bytes) × (journal.payloads_from file gate ≡ p ∷ ps) × (16777215 < length p)) → IfSome o (λ file. found file ≡ damaged number gate)
 says_long None text P H number gate says long = tt
 says_long (Some file) text P H number gate says long =
-    says ∙ (ap (found_behind text P H number gate) long.2 ∙ step_wrong text P H number gate long.0 long.1 (long_refused P H long.0 long.3))
+    says ∙ (ap (found_behind accepted text P H number gate) long.2 ∙ step_wrong text P H number gate long.0 long.1 (long_refused P H long.0 long.3))
 
 pub says_ended : (o : Option Bytes) (text : Bytes) (P : PlainPolicy) (H : History) (number gate : ℕ) → IfSome o (SaysBehind text P H number gate)
     → IfSome o (λ file. journal.payloads_from file gate ≡ []) → IfSome o (Holds text P H)
 says_ended None text P H number gate says none = tt
-says_ended (Some file) text P H number gate says none = record { gate = gate; is = says ∙ ap (found_behind text P H number gate) none }
+says_ended (Some file) text P H number gate says none = record { gate = gate; is = says ∙ ap (found_behind accepted text P H number gate) none }
 
 -- what a call of the journal tells of more records
 module _ (o : Option Bytes) (A B : Bytes → Type 0) where

@@ -33,7 +33,7 @@ pub some_told : (P : Bytes → Type 0) (o : Option Bytes) (file : Bytes) → o �
 some_told P o file is h = let g : IfSome (Some file) P = subst (λ (x : Option Bytes). IfSome x P) is h in g
 
 -- the payloads of before, or those with the step's, are found as the history, or as it with the step
-pub found_perhaps : OneByOne → (text : Bytes) (P : PlainPolicy) (H : History) (e : Entry) (payload file c : Bytes) → taken P H payload ≡ Some (H ++ e ∷ []) → Holds text P H file
+pub found_perhaps : OneByOne → (text : Bytes) (P : PlainPolicy) (H : History) (e : Entry) (payload file c : Bytes) → taken accepted P H payload ≡ Some (H ++ e ∷ []) → Holds text P H file
     → PerhapsAdded payload file c → IsFoundWith text H (Some e) c
 found_perhaps one text P H e payload file c takes h perhaps = ⊎_elim
     (λ (same : StillHolds file (journalled.counted file) c). inl (found_as text P H c (holds_same text P H file c h same.payloads)))
@@ -62,7 +62,7 @@ module _ {D : Type 0} (contents : D → Option (List ℕ)) (images : D → List 
         each None is = tt
         each (Some file) is = found_as text P H file (holds_now file is)
 
-    module _ (one : OneByOne) (e : Entry) (payload : Bytes) (takes : taken P H payload ≡ Some (H ++ e ∷ [])) where
+    module _ (one : OneByOne) (e : Entry) (payload : Bytes) (takes : taken accepted P H payload ≡ Some (H ++ e ∷ [])) where
       -- each image inside the call is found as the history, or as it with the step
       pub run_perhaps : (moment : D → ℕ) (images_since : D → ℕ → List ℕ → Type 0) (new : D) → LeavesAfter contents images moment images_since (disk_of journal) new (PerhapsAdded payload) → IsSome (contents (disk_of journal))
           → LeavesOnly moment images_since (disk_of journal) new (IsFoundWith text H (Some e))

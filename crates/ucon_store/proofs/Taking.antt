@@ -9,6 +9,7 @@ use Rattle.ucon_model.specs.Found.{taken, damaged}
 use Rattle.ucon_model.specs.History.{History, said, changes}
 use Rattle.ucon_model.specs.Payload.{most_payload, Told, entry_told, told, payload_spelling, payload_read}
 use Rattle.ucon_model.specs.Plain.{Bytes, PlainPolicy, PlainReply}
+use Rattle.ucon_syntax.specs.Policies.{accepted}
 use Rattle.ucon_store.specs.Faults.{of_take}
 use Rattle.ucon_store.specs.Found.{found}
 use Rattle.ucon_store.specs.Opening.{HasReason}
@@ -37,22 +38,22 @@ module _ {A : Type 0} (x : A) where
 
 -- what the law on payloads that are taken says of those that tell a step
 abbrev pub TakenAsSpelled : Type 0
-TakenAsSpelled = (P : PlainPolicy) (H : History) (payload : Bytes) (t : Told) → length payload ≤ most_payload → payload_read payload ≡ Ok t
-    → taken P H payload ≡ tested (H ++ entry_told t ∷ []) (changes (said P H t.caller t.command)) (bytes_eq (payload_spelling (told (entry_told t) (said P H t.caller t.command))) payload)
+TakenAsSpelled = (P : PlainPolicy) (H : History) (payload : Bytes) (t : Told) → length payload ≤ most_payload → payload_read accepted payload ≡ Ok t
+    → taken accepted P H payload ≡ tested (H ++ entry_told t ∷ []) (changes (said P H t.caller t.command)) (bytes_eq (payload_spelling (told (entry_told t) (said P H t.caller t.command))) payload)
 
 -- a payload that tells an entry, beside the reply r that is said to the entry
 module _ (law : TakenAsSpelled) (P : PlainPolicy) (H : History) (payload : Bytes) (e : Entry) (reply r : PlainReply) (short : length payload ≤ most_payload)
-    (read : payload_read payload ≡ Ok (told e reply)) (is : r ≡ said P H e.caller e.command) where
-  by_reply : taken P H payload ≡ tested (H ++ e ∷ []) (changes r) (bytes_eq (payload_spelling (told e r)) payload)
-  by_reply = subst (λ (x : PlainReply). taken P H payload ≡ tested (H ++ e ∷ []) (changes x) (bytes_eq (payload_spelling (told e x)) payload)) (sym is) (law P H payload (told e reply) short read)
+    (read : payload_read accepted payload ≡ Ok (told e reply)) (is : r ≡ said P H e.caller e.command) where
+  by_reply : taken accepted P H payload ≡ tested (H ++ e ∷ []) (changes r) (bytes_eq (payload_spelling (told e r)) payload)
+  by_reply = subst (λ (x : PlainReply). taken accepted P H payload ≡ tested (H ++ e ∷ []) (changes x) (bytes_eq (payload_spelling (told e x)) payload)) (sym is) (law P H payload (told e reply) short read)
 
-  pub drafted_taken : changes r ≡ true → payload_spelling (told e r) ≡ payload → taken P H payload ≡ Some (H ++ e ∷ [])
+  pub drafted_taken : changes r ≡ true → payload_spelling (told e r) ≡ payload → taken accepted P H payload ≡ Some (H ++ e ∷ [])
   drafted_taken does spelled = by_reply ∙ same_taken (H ++ e ∷ []) (payload_spelling (told e r)) payload (changes r) does spelled
 
-  pub drafted_refused : changes r ≡ true → payload_spelling (told e r) ≢ payload → taken P H payload ≡ None
+  pub drafted_refused : changes r ≡ true → payload_spelling (told e r) ≢ payload → taken accepted P H payload ≡ None
   drafted_refused does differs = by_reply ∙ other_refused (H ++ e ∷ []) (payload_spelling (told e r)) payload (changes r) does differs
 
-  pub unchanged_drafted : changes r ≡ false → taken P H payload ≡ None
+  pub unchanged_drafted : changes r ≡ false → taken accepted P H payload ≡ None
   unchanged_drafted doesnt = by_reply ∙ unchanged_refused (H ++ e ∷ []) (bytes_eq (payload_spelling (told e r)) payload) (changes r) doesnt
 
 -- why a record could not be taken

@@ -1,5 +1,7 @@
 -- A store as contracts see it, and what holds of it at every moment.
-use Rattle.std.specs.Prelude.{◌≡◌, ℕ, ◌*◌, ◌<◌, ◌≤◌, ◌^◌, List, length, true, Option, Some, None, IsSome, IfSome}
+use Rattle.std.specs.Prelude.{◌≡◌, refl, ℕ, ◌*◌, ◌<◌, ◌≤◌, ◌^◌, List, length, true, Option, Some, None, IsSome, IfSome}
+use Rattle.std.specs.Coded.{Coded, code_by, coded_list, coded_option, coded_ℕ, coded×}
+use Rattle.ucon_model.specs.contracts.command.Entry as entry_row
 use Rattle.ucon_model.specs.declared.command.Entry.{Entry}
 use Rattle.ucon_model.specs.Action.{Trace}
 use Rattle.ucon_model.specs.History.{History, said, changes}
@@ -19,6 +21,14 @@ pub record Kept (D : Type 0) : Type 0 where
   pub entries : History
   pub mark : Option Entry
   pub disk : D
+
+-- a store is kept by the logic as its five parts, one after the other
+abbrev pub kept_code : {D : Type 0} → Coded D → Coded (Kept D)
+kept_code {D} code =
+    code_by (Bytes × (ℕ × (History × (Option Entry × D))))
+    (coded× (coded_list coded_ℕ) (coded× coded_ℕ (coded× (coded_list (entry_row.the_row).coded) (coded× (coded_option (entry_row.the_row).coded) code))))
+    (λ k. (k.policy, (k.opening, (k.entries, (k.mark, k.disk)))))
+    (λ p. record { policy = p.0; opening = p.1.0; entries = p.1.1.0; mark = p.1.1.1.0; disk = p.1.1.1.1 }) (λ _. refl)
 
 -- the journal is closed, behind records of five bytes at least, and where the disk tells, its file holds the policy and the history, and a
 -- crash leaves nothing else

@@ -42,7 +42,7 @@ HasReason (NoMemory e) text file before now = now ≡ before
 
 -- what is found in a file is what is found behind these entries, in the records from this number and this gate on
 abbrev pub SaysBehind : Bytes → PlainPolicy → History → (number gate : ℕ) → Bytes → Type 0
-SaysBehind text P H number gate file = found file ≡ found_behind text P H number gate (payloads_from file gate)
+SaysBehind text P H number gate file = found file ≡ found_behind accepted text P H number gate (payloads_from file gate)
 
 -- the engine stands for the entries under the policy of the text
 pub record IsStanding {E : Type 0} (follows : E → PlainPolicy → Trace → Type 0) (loaded : Loaded E) : Type 0 where

@@ -37,10 +37,10 @@ impl<E: Engine> Loaded<E> {
         requires short { length payload.now ≤ MAX_PAYLOAD }
         ensures taken { IfOk result (λ more. more ≡ true → IsStanding E.follows self.new
             × ((P : PlainPolicy) → accepted self.old.policy.items ≡ Some P
-            → taken P self.old.entries.items payload.now ≡ Some self.new.entries.items)) }
+            → taken accepted P self.old.entries.items payload.now ≡ Some self.new.entries.items)) }
         ensures one { IfOk result (λ more. more ≡ true → length self.new.entries.items ≡ length self.old.entries.items + 1) }
         ensures wrong { IfOk result (λ more. more ≡ false → (P : PlainPolicy) → accepted self.old.policy.items ≡ Some P
-            → taken P self.old.entries.items payload.now ≡ None) }
+            → taken accepted P self.old.entries.items payload.now ≡ None) }
         ensures err { IfErr result (λ fault. fault ≡ StoreFault.NoMemory out_of_memory) }
         ensures policy { self.new.policy.items ≡ self.old.policy.items }
     {
@@ -126,8 +126,8 @@ impl<E: Engine> Loaded<E> {
 /// The entry of the step that a payload tells. None where it tells no step.
 fn step_told(alloc: Global, payload: &[u8]) -> Result<Option<Entry>, StoreFault>
     ensures err { IfErr result (λ fault. fault ≡ StoreFault.NoMemory out_of_memory) }
-    ensures read { IfOk result (λ read. MatchOption read ((place : ℕ) × (payload_read payload.now ≡ Err place))
-        (λ e. (reply : PlainReply) × (payload_read payload.now ≡ Ok (told e reply)))) }
+    ensures read { IfOk result (λ read. MatchOption read ((place : ℕ) × (payload_read accepted payload.now ≡ Err place))
+        (λ e. (reply : PlainReply) × (payload_read accepted payload.now ≡ Ok (told e reply)))) }
 {
     match read_payload(alloc, payload) {
         Ok((caller, command, _reply)) => Ok(Some(Entry { caller, command })),

@@ -15,6 +15,7 @@ ghost use Rattle.ucon_model.specs.Payload.{revocations_in};
 ghost use Rattle.ucon_model.specs.Plain.{PlainPolicy};
 ghost use Rattle.ucon_model.specs.Views.{reply_of};
 ghost use Rattle.ucon_state.specs.Engine.{IsPending};
+ghost use Rattle.ucon_syntax.specs.Policies.{accepted};
 
 use std::alloc::Global;
 use ucon_base::{NoMemory, Rows};
@@ -49,7 +50,7 @@ pub(crate) fn prepare<D: Disk>(
     ensures entry { IfOk result (λ r. r.entry ≡ record { caller = caller; command = command.now }) }
     ensures taken { IfOk result (λ r. (P : PlainPolicy) (H : History)
         → reply_of reply.now ≡ said P H caller command.now → changes (reply_of reply.now) ≡ true
-        → taken P H r.payload.items ≡ Some (H ++ r.entry ∷ [])) }
+        → taken accepted P H r.payload.items ≡ Some (H ++ r.entry ∷ [])) }
     ensures short { IfOk result (λ r. length r.payload.items ≤ MAX_PAYLOAD) }
     ensures room { IfOk result (λ r. HasRoomFor journal.new (length r.payload.items)) }
     ensures spare { OnOk result (1 ≤ entries.new.spare) }

@@ -45,9 +45,11 @@ pub struct Store<E: Engine, D: Disk> {
 
 impl<E: Engine, D: Disk> Model for Store<E, D> {
     ghost use Rattle.ucon_journal.specs.Journal.{disk_of};
-    ghost use Rattle.ucon_store.specs.Kept.{Kept, IsKept};
+    ghost use Rattle.ucon_store.specs.Kept.{Kept, IsKept, kept_code};
 
     ghost Value = { Kept D };
+
+    ghost coded = { kept_code D.code };
 
     ghost view = { λ s. record {
       policy = s.policy.items;

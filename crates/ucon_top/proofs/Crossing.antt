@@ -1,9 +1,9 @@
--- The plain monitor crosses threads: each part of it, down to the formulas of its policy, says the same to every thread. The compiler makes
+-- The indexed monitor crosses threads: each part of it, down to the formulas of its policy, says the same to every thread. The compiler makes
 -- these facts for a type that doesn't reach itself; formulas do, so it makes none for a policy, nor for what holds one.
 use denote.Enum.Declared as enums
 use denote.Struct.Declared as structs
 use denote.Param.Send.{IsSend, enum_send, recorded_send, sendable, struct_send}
-use Rattle.std.proofs.Crossing.{crosses}
+use Rattle.std.proofs.Crossing.{Box-send, crosses}
 use Rattle.ucon_base.proofs.int.Int.TheSendSync as int
 use Rattle.ucon_base.proofs.value.Value.TheSendSync as value
 use Rattle.ucon_model.proofs.formula.Op.TheSendSync as op
@@ -19,6 +19,8 @@ use Rattle.ucon_base.proofs.name.Name.TheSendSync as name
 use Rattle.ucon_base.proofs.rows.Rows.TheSendSync as rows
 use Rattle.ucon_base.proofs.value.Side.TheSendSync as side
 use Rattle.ucon_base.specs.contracts.name.Name as Name
+use Rattle.ucon_cascade.proofs.readers.Readers.TheSendSync as readers
+use Rattle.ucon_cascade.specs.contracts.monitor.Monitor as Monitor
 use Rattle.ucon_model.proofs.formula.Expr.TheLaws.TheKnot as expr
 use Rattle.ucon_model.proofs.formula.Formula.TheLaws.TheKnot as formula
 use Rattle.ucon_model.proofs.formula.Obligation.TheSendSync as obligation
@@ -34,11 +36,11 @@ use Rattle.ucon_model.specs.contracts.policy.Predicate as Predicate
 use Rattle.ucon_model.specs.contracts.policy.Right as Right
 use Rattle.ucon_model.specs.contracts.policy.Test as Test
 use Rattle.ucon_model.specs.contracts.policy.Update as Update
-use Rattle.ucon_plain.proofs.watched.Watched.TheSendSync as watched
-use Rattle.ucon_plain.specs.contracts.monitor.PlainMonitor as PlainMonitor
 use Rattle.ucon_state.proofs.change.Change.TheSendSync as change
+use Rattle.ucon_state.proofs.layout.Layout.TheSendSync as layout
 use Rattle.ucon_state.proofs.tables.Tables.TheSendSync as tables
-use Rattle.ucon_state.specs.contracts.change.Change as Change
+use Rattle.ucon_state.specs.contracts.change.Before as Before
+use Rattle.ucon_state.specs.contracts.change.Undo as Undo
 use Rattle.ucon_state.specs.contracts.state.State as State
 
 expr_field_send : IsSend (Expr.the_field).row
@@ -74,11 +76,23 @@ policy_field_send = struct_send (structs.shape Policy.the_type) (rows.the_send A
 checked_field_send : IsSend (Checked.the_field).row
 checked_field_send = struct_send (structs.shape Checked.the_type) (policy_field_send, tt)
 
+before_field_send : IsSend (Before.the_field).row
+before_field_send = struct_send (structs.shape Before.the_type) (checked_field_send, (layout.the_field_send, tt))
+
+before_send : IsSend Before.the_row
+before_send = recorded_send (Before.the_field).row _ _ (Before.the_type).to_one before_field_send
+
+undo_field_send : IsSend (Undo.the_field).row
+undo_field_send = enum_send (enums.shape Undo.the_type) ((change.the_field_send, tt), ((Box-send Before.the_row before_send, tt), tt))
+
+undo_send : IsSend Undo.the_row
+undo_send = recorded_send (Undo.the_field).row _ _ (Undo.the_type).to_one undo_field_send
+
 state_field_send : IsSend (State.the_field).row
-state_field_send = struct_send (structs.shape State.the_type) (global.the_field_send, (checked_field_send, (tables.the_field_send, (vec.the_send Name.the_row Global.the_row ghosts name.the_send global.the_send the_frees, (vec.the_send Change.the_row Global.the_row ghosts change.the_send global.the_send the_frees, tt)))))
+state_field_send = struct_send (structs.shape State.the_type) (global.the_field_send, (checked_field_send, (tables.the_field_send, (vec.the_send Name.the_row Global.the_row ghosts name.the_send global.the_send the_frees, (vec.the_send Undo.the_row Global.the_row ghosts undo_send global.the_send the_frees, tt)))))
 
-monitor_field_send : IsSend (PlainMonitor.the_field).row
-monitor_field_send = struct_send (structs.shape PlainMonitor.the_type) (global.the_field_send, (state_field_send, (watched.the_field_send, tt)))
+monitor_field_send : IsSend (Monitor.the_field).row
+monitor_field_send = struct_send (structs.shape Monitor.the_type) (global.the_field_send, (state_field_send, (readers.the_field_send, (search (crosses, sendable) depth 30 fits 4000, tt))))
 
-pub monitor_send : IsSend PlainMonitor.the_row
-monitor_send = recorded_send (PlainMonitor.the_field).row _ _ (PlainMonitor.the_type).to_one monitor_field_send
+pub monitor_send : IsSend Monitor.the_row
+monitor_send = recorded_send (Monitor.the_field).row _ _ (Monitor.the_type).to_one monitor_field_send

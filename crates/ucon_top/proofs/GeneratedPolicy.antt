@@ -8,6 +8,7 @@ use Rattle.ucon_model.specs.Generated.{generated_policy, text_of, generated, gen
 use Rattle.ucon_model.specs.Spells.{Spells}
 use Rattle.ucon_base.specs.Tokens.{skip, word_token, joined_token, value_from, number_token, text_token, single, symbol_token, token_at, begin_of, token_from, next_token, tokens_within, tokens_from, fault_from, spans_within, spans_from}
 use Rattle.ucon_model.specs.Typing.{is_typed, IsTyped, type_fault}
+use Rattle.ucon_syntax.specs.Policies.{accepted}
 use Rattle.ucon_syntax.specs.Chains.{more}
 use Rattle.ucon_syntax.specs.Expressions.{place_at, level, factor_at, term_at, expr_at, round_at}
 use Rattle.ucon_syntax.specs.Formulas.{compare_at, unit_level, unit_at, conj_at, formula_at, square_at}
@@ -46,13 +47,13 @@ is_read : (entries : List Entry) (read : Result (List ScriptLine) DocumentRefusa
 is_read entries (Ok lines) h = record { lines = lines; says = refl }
 is_read entries (Err refusal) h = absurd h
 
-pub accepted : ((text : Bytes) (P : PlainPolicy) → reading_of text ≡ Ok P → Spells text P)
+pub is_accepted : ((text : Bytes) (P : PlainPolicy) → reading_of text ≡ Ok P → Spells text P)
     → (seed size : ℕ) → policy_part (generated seed size) ≡ text_of generated_policy
-    → IsOkAnd (document_read (generated seed size)) (λ lines. entries_of lines ≡ generated_entries seed size)
+    → IsOkAnd (document_read accepted (generated seed size)) (λ lines. entries_of lines ≡ generated_entries seed size)
     → length (generated seed size) ≤ 4194304 → IsAccepted (generated seed size)
-accepted spells seed size part says short =
+is_accepted spells seed size part says short =
     let known = fine (reading_of (text_of generated_policy)) policy_fine in
-    let script = is_read (generated_entries seed size) (document_read (generated seed size)) says in
+    let script = is_read (generated_entries seed size) (document_read accepted (generated seed size)) says in
     record {
       short = short;
       policy = known.policy;

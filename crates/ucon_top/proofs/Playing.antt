@@ -14,6 +14,7 @@ use Rattle.ucon_model.specs.Plain.{Bytes, PlainPolicy}
 use Rattle.ucon_model.specs.History.{History}
 use Rattle.ucon_model.specs.LegalRun.{Answered}
 use Rattle.ucon_model.specs.StoredRun.{failed_line}
+use Rattle.ucon_syntax.specs.Policies.{accepted}
 use Rattle.ucon_store.specs.Found.{IsFoundAs, IsFoundWith, Opens}
 use Rattle.ucon_store.specs.Kept.{Kept}
 use Rattle.ucon_store.specs.Stays.{IsFoundBetween}
@@ -93,7 +94,7 @@ module _ {D : Type 0} (contents : D → Option (List ℕ)) (images : D → List 
     }
 
     module _ (form : Form) (bytes : Bytes) (P : PlainPolicy) (lines : List ScriptLine) (is_text : text ≡ policy_part bytes) (has_policy : HasPolicy bytes P)
-        (says : document_read bytes ≡ Ok lines) (so : List Entry → List Answered → Type 0) (given : List Answered → Type 0) where
+        (says : document_read accepted bytes ≡ Ok lines) (so : List Entry → List Answered → Type 0) (given : List Answered → Type 0) where
       pub run_over : AreAnswered (sees_by form) P store closed (output_order form (entries_of lines)) given
           → ((told : List Answered) → failed_line told ≡ closed.mark → given told → so (output_order form (entries_of lines)) told)
           → IsRunOver contents images moment images_since faults form bytes disk now so
@@ -111,7 +112,7 @@ module _ {D : Type 0} (contents : D → Option (List ℕ)) (images : D → List 
 
   -- how playing ends, by how the run over the store does
   module _ (text : Bytes) (disk : D) (store : Kept D) (opened : IsOpened text disk store) (form : Form) (bytes : Bytes) (P : PlainPolicy) (lines : List ScriptLine)
-      (is_text : text ≡ policy_part bytes) (has_policy : HasPolicy bytes P) (says : document_read bytes ≡ Ok lines) (now : D) (was written : Option Bytes) where
+      (is_text : text ≡ policy_part bytes) (has_policy : HasPolicy bytes P) (says : document_read accepted bytes ≡ Ok lines) (now : D) (was written : Option Bytes) where
     over : (closed : Kept D) → Closes contents images moment images_since faults store closed now → (so : List Entry → List Answered → Type 0) (given : List Answered → Type 0)
         → AreAnswered (sees_by form) P store closed (output_order form (entries_of lines)) given
         → ((told : List Answered) → failed_line told ≡ closed.mark → given told → so (output_order form (entries_of lines)) told)

@@ -5,6 +5,7 @@ use Rattle.ucon_model.specs.Plain.{Bytes, PlainPolicy}
 use Rattle.ucon_model.specs.Document.{ScriptLine, DocumentRefusal, document_read, policy_part}
 use Rattle.ucon_model.specs.Spells.{Spells, TextFault, IsTextFault}
 use Rattle.ucon_model.specs.Typing.{TypeFault, type_fault}
+use Rattle.ucon_syntax.specs.Policies.{accepted}
 use Rattle.ucon_syntax.specs.Refusals.{IsSyntaxFault}
 use Rattle.ucon_syntax.specs.declared.read.SyntaxFault.{SyntaxFault}
 use Rattle.ucon_syntax.specs.declared.read.SyntaxFault.TheVariants as syntax
@@ -65,7 +66,7 @@ line_refused read ls n (lines.NoMemory want) e h = h
 
 script_refused : (bytes : Bytes) (f : DocFault) → IsAccepted bytes → IsScriptFault f bytes → ⊥
 script_refused bytes (faults.BadHeading n) is h = (let says = is.says in let cause = h.cause in cc)
-script_refused bytes (faults.BadLine n f) is h = line_refused (document_read bytes) is.lines n f is.says h.cause
+script_refused bytes (faults.BadLine n f) is h = line_refused (document_read accepted bytes) is.lines n f is.says h.cause
 script_refused bytes (faults.TooManyClients n) is h = (let says = is.says in let cause = h.cause in cc)
 script_refused bytes (faults.TooManyLines n) is h = (let says = is.says in let cause = h.cause in cc)
 script_refused bytes (faults.NoMemory e) is h = h

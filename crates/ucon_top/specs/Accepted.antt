@@ -4,6 +4,7 @@ use Rattle.ucon_model.specs.Plain.{Bytes, PlainPolicy}
 use Rattle.ucon_model.specs.Document.{ScriptLine, policy_part, document_read}
 use Rattle.ucon_model.specs.Typing.{IsTyped, type_fault}
 use Rattle.ucon_model.specs.Spells.{Spells}
+use Rattle.ucon_syntax.specs.Policies.{accepted}
 use Rattle.ucon_syntax.specs.Refusals.{IsSyntaxFault}
 use Rattle.ucon_check.specs.Told.{told}
 use Rattle.ucon_check.specs.declared.fault.CheckFault.{CheckFault}
@@ -34,7 +35,7 @@ pub record IsAccepted (bytes : Bytes) : Type 0 where
   pub policy : PlainPolicy
   pub lines : List ScriptLine
   pub has_policy : HasPolicy bytes policy
-  pub says : document_read bytes ≡ Ok lines
+  pub says : document_read accepted bytes ≡ Ok lines
 
 -- a document's policy part spells a policy that has this typing fault first
 pub record HasTypeFault (bytes : Bytes) (fault : CheckFault) : Type 0 where
@@ -52,7 +53,7 @@ IsPolicyFault (Typing f) bytes = HasTypeFault bytes f
 pub record HasScriptFault (bytes : Bytes) (fault : DocFault) : Type 0 where
   pub policy : PlainPolicy
   pub has_policy : HasPolicy bytes policy
-  pub cause : IsCause (document_read bytes) fault
+  pub cause : IsCause (document_read accepted bytes) fault
 
 abbrev pub IsScriptFault : DocFault → Bytes → Type 0
 IsScriptFault (faults.NoMemory e) bytes = ⊥

@@ -12,6 +12,7 @@ use Rattle.ucon_model.specs.Plain.{Bytes, PlainPolicy}
 use Rattle.ucon_model.specs.History.{History}
 use Rattle.ucon_model.specs.LegalRun.{Answered, IsLegalRun, history_made}
 use Rattle.ucon_model.specs.StoredRun.{failed_line}
+use Rattle.ucon_syntax.specs.Policies.{accepted}
 use Rattle.ucon_store.specs.declared.fault.StoreFault.{StoreFault}
 use Rattle.ucon_store.specs.declared.fault.StoreFault.TheVariants as stores
 use Rattle.ucon_store.specs.Found.{IsFoundAs, IsFoundWith, Opens}
@@ -54,7 +55,7 @@ module _ {D : Type 0} (contents : D → Option (List ℕ)) (images : D → List 
     pub policy : PlainPolicy
     pub lines : List ScriptLine
     pub has_policy : HasPolicy bytes policy
-    pub says : document_read bytes ≡ Ok lines
+    pub says : document_read accepted bytes ≡ Ok lines
     pub told : List Answered
     pub lines_are : map (λ t. t.line) told ≡ output_order form (entries_of lines)
     pub played : IsPlayed (sees_by form) (policy_part bytes) policy old new told

@@ -8,6 +8,7 @@ use Rattle.ucon_model.specs.LegalRun.{Answered, IsLegalRun, in_text_order, is_di
 use Rattle.ucon_model.specs.Generated.{generated}
 use Rattle.ucon_model.specs.Output.{output, answers_read}
 use Rattle.ucon_model.specs.Summary.{LineReply, IsReplyRun, whole_run, answered, counts, summary}
+use Rattle.ucon_syntax.specs.Policies.{accepted}
 use Rattle.ucon_top.specs.declared.form.Form.{Form}
 use Rattle.ucon_top.specs.declared.form.Form.TheVariants.{Trial, Check, Gen, Play, Serve}
 use Rattle.ucon_top.specs.Accepted.{HasPolicy}
@@ -62,7 +63,7 @@ pub record IsOutputOf (form : Form) (bytes text : Bytes) : Type 0 where
   pub policy : PlainPolicy
   pub lines : List ScriptLine
   pub has_policy : HasPolicy bytes policy
-  pub says : document_read bytes ≡ Ok lines
+  pub says : document_read accepted bytes ≡ Ok lines
   pub prints : IsFormOutput form policy (entries_of lines) text
 
 -- the text is the front of what the form prints of the document that the bytes are

@@ -7,6 +7,7 @@ ghost use Rattle.ucon_script.specs.Document.{lines_spelled};
 ghost use Rattle.ucon_top.specs.Accepted.{HasPolicy, HasSomePolicy, IsRefused};
 ghost use Rattle.ucon_top.specs.Form.{IsAlone};
 ghost use Rattle.ucon_top.specs.Printed.{IsFormOutput, IsOutputOf};
+ghost use Rattle.ucon_syntax.specs.Policies.{accepted};
 
 use crate::check::models_text;
 use crate::form::Form;
@@ -37,7 +38,7 @@ pub fn output_of<E: Engine>(alloc: Global, form: Form, bytes: &[u8]) -> Result<V
 pub fn read_accepted<'a>(alloc: Global, bytes: &'a [u8]) -> Result<Script<'a>, Refused>
     requires { length bytes.now ≤ 4194304 }
     ensures policy { OnOk result (HasSomePolicy bytes.now) }
-    ensures says { IfOk result (λ d. document_read bytes.now ≡ Ok (lines_spelled d)) }
+    ensures says { IfOk result (λ d. document_read accepted bytes.now ≡ Ok (lines_spelled d)) }
     ensures err { IfErr result (λ r. IsRefused r bytes.now) }
 {
     let checked = read_checked(alloc, bytes)?;
@@ -58,7 +59,7 @@ fn read_checked(alloc: Global, bytes: &[u8]) -> Result<Checked, Refused>
 fn read_lines<'a>(alloc: Global, checked: &Checked, bytes: &'a [u8]) -> Result<Script<'a>, Refused>
     requires few { length bytes.now ≤ 4194304 }
     requires policy { HasPolicy bytes.now (checked_policy checked.now) }
-    ensures ok { IfOk result (λ d. document_read bytes.now ≡ Ok (lines_spelled d)) }
+    ensures ok { IfOk result (λ d. document_read accepted bytes.now ≡ Ok (lines_spelled d)) }
     ensures err { IfErr result (λ r. IsRefused r bytes.now) }
 {
     let _ = checked;

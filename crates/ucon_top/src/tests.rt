@@ -1,3 +1,5 @@
+mod engines;
+mod hostile;
 mod serving;
 
 use super::*;
@@ -10,9 +12,9 @@ use ucon_disk::MemDisk;
 use ucon_flow::{MemSink, MemSource};
 use ucon_script::{generate, read_script};
 use ucon_vectors::{
-    CAPPED, Example, LOOKING, Played, Row, SUBJECTS_B_AND_C, WITH_A, Words, generated_rows,
-    guide_examples, language_examples, played_rows, typing_faults, well_typed_policies,
-    worked_rows,
+    CAPPED, Example, LOOKING, Played, Row, SUBJECTS_B_AND_C, WITH_A, Words, amended_rows,
+    generated_rows, guide_examples, language_examples, played_rows, typing_faults,
+    well_typed_policies, worked_rows,
 };
 
 fn words(alloc: Global, all: &[&str]) -> Result<Vec<String>, Fail> {
@@ -65,6 +67,17 @@ fn document(alloc: Global, row: &Row) -> Result<Vec<u8>, Fail> {
 #[test]
 fn worked_rows_print_what_they_say(rt: HostRuntime) -> Result<(), Fail> {
     for row in worked_rows() {
+        let found = ran(&rt, rt.alloc(), "trial", &document(rt.alloc(), &row)?)?;
+        assert_eq!(rt; found.0.status(), 0, "{}", row.name);
+        assert_eq!(rt; found.1.as_slice(), row.output, "{}", row.name);
+    }
+    Ok(())
+}
+
+/// Policies that are replaced while uses go on.
+#[test]
+fn amended_rows_print_what_they_say(rt: HostRuntime) -> Result<(), Fail> {
+    for row in amended_rows() {
         let found = ran(&rt, rt.alloc(), "trial", &document(rt.alloc(), &row)?)?;
         assert_eq!(rt; found.0.status(), 0, "{}", row.name);
         assert_eq!(rt; found.1.as_slice(), row.output, "{}", row.name);
@@ -322,6 +335,38 @@ fn stopping(alloc: Global, file: &[u8], calls: u64) -> Result<MemDisk, Fail> {
         Vec::new(alloc),
         Some(calls),
     ))
+}
+
+/// The status of `play` over a document and a file, what it writes, and the file that it leaves.
+fn kept<R: Threads + Wait + Sync>(
+    rt: &R,
+    alloc: Global,
+    document: &[u8],
+    file: Vec<u8>,
+) -> Result<(u8, Vec<u8>, Vec<u8>), Fail> {
+    let disk = MemDisk::new(alloc, file, Vec::new(alloc), None);
+    let sink = MemSink::new(alloc, 3, Vec::new(alloc));
+    let (ended, output) = played(rt, alloc, document, disk, sink)?;
+    let left = Vec::from_slice(alloc, ended.disk.contents())?;
+    Ok((ended.status, output, left))
+}
+
+/// Over a new journal policies are replaced as in `trial`, and the journal opens again as it is, with no lines.
+#[test]
+fn amended_rows_are_found_again(rt: HostRuntime) -> Result<(), Fail> {
+    let alloc = rt.alloc();
+    for row in amended_rows() {
+        let (status, output, file) = kept(&rt, alloc, &document(alloc, &row)?, Vec::new(alloc))?;
+        assert_eq!(rt; status, 0, "{}", row.name);
+        assert_eq!(rt; output.as_slice(), row.output, "{}", row.name);
+        let mut silent = Vec::from_slice(alloc, row.policy)?;
+        silent.extend_from_slice(b"%%\n")?;
+        let (again, nothing, same) = kept(&rt, alloc, &silent, Vec::from_slice(alloc, &file)?)?;
+        assert_eq!(rt; again, 0, "{}", row.name);
+        assert_eq!(rt; nothing.len(), 0, "{}", row.name);
+        assert_eq!(rt; same.as_slice(), file.as_slice(), "{}", row.name);
+    }
+    Ok(())
 }
 
 /// Documents over a journal, and what its file holds behind them.

@@ -19,10 +19,10 @@ use crate::serve::serve;
 use std::alloc::Global;
 use std::sync::Wait;
 use std::thread::Threads;
+use ucon_cascade::Monitor;
 use ucon_client::Gate;
 use ucon_disk::Disk;
 use ucon_flow::{Sink, Source, read_all, write_all};
-use ucon_plain::PlainMonitor;
 use ucon_script::generate;
 
 /// The most bytes of input.
@@ -158,7 +158,7 @@ pub fn run_alone<S: Source, K: Sink, D: Disk>(
         Err(outcome) => return Ended::by(outcome, disk),
     };
     match form {
-        Form::Play => play::<PlainMonitor, K, D>(alloc, &bytes, out, disk),
+        Form::Play => play::<Monitor, K, D>(alloc, &bytes, out, disk),
         Form::Trial | Form::Check | Form::Gen { seed: _, size: _ } => {
             Ended::by(print_output(alloc, form, &bytes, out), disk)
         }
@@ -178,7 +178,7 @@ fn print_output<K: Sink>(alloc: Global, form: Form, bytes: &[u8], out: &mut K) -
     ensures cut_short { result ≡ Outcome.SinkFault → Adds (IsCutOutputOf form) (Some bytes.now) (K.contents out.old) (K.contents out.new) }
     ensures unwritten { IsUnwritten result → out.new ≡ out.old }
 {
-    match output_of::<PlainMonitor>(alloc, form, bytes) {
+    match output_of::<Monitor>(alloc, form, bytes) {
         Err(refused) => Outcome::from(refused),
         Ok(text) => match write_all(out, &text) {
             Ok(()) => Outcome::Done,
@@ -212,7 +212,7 @@ fn serve_input<S: Source, K: Sink, D: Disk + Send, G: Gate + Sync, R: Threads + 
     ensures untouched { IsUntouched result.outcome → result.disk ≡ disk }
 {
     match document_bytes(alloc, Form::Serve, input) {
-        Ok(bytes) => serve::<PlainMonitor, K, D, G, R>(rt, alloc, &bytes, out, disk, gate),
+        Ok(bytes) => serve::<Monitor, K, D, G, R>(rt, alloc, &bytes, out, disk, gate),
         Err(outcome) => Ended::by(outcome, disk),
     }
 }

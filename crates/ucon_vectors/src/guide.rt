@@ -3,7 +3,7 @@
 use crate::Example;
 
 /// The examples, in the order of the pages.
-pub fn guide_examples() -> [Example; 18] {
+pub fn guide_examples() -> [Example; 19] {
     [
         Example {
             name: "commands 1",
@@ -105,6 +105,42 @@ again 1
 0 5 ok
 0 6 permitted 1
 0 6 not requesting
+",
+        },
+        Example {
+            name: "commands 3",
+            form: "trial",
+            document: b"right borrow { pre b sign: done sign_up; }
+%%
+client 0
+subject ann
+object book
+client 1
+try ann borrow book
+client 0
+amend right sell {}
+client 1
+again 1
+client 0
+amend right borrow { pre b sign: done sign_up; }
+act ann sign_up book
+client 1
+again 1
+amend right sell {}
+client 0
+amend right sell {}
+",
+            status: 0,
+            text: b"0 1 ok
+0 2 ok
+1 3 waiting 1 sign
+0 4 ok
+1 4 no right
+0 5 ok
+0 6 ok
+1 7 permitted 1
+1 7 not admin
+0 8 ok revoked 1 no_right
 ",
         },
         Example {

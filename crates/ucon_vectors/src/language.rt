@@ -3,7 +3,7 @@
 use crate::Example;
 
 /// The examples, in the order of the pages.
-pub fn language_examples() -> [Example; 14] {
+pub fn language_examples() -> [Example; 15] {
     [
         Example {
             name: "policy-language 1",
@@ -333,6 +333,46 @@ try s right o
             text: b"0 1 ok
 0 2 ok
 0 3 permitted 1
+",
+        },
+        Example {
+            name: "policy-language 15",
+            form: "trial",
+            document: b"attr s credit : int 0..100 = 5;
+attr o name : text = \"none\";
+right read {
+  on a paid: s.credit > 0;
+}
+%%
+client 0
+subject ann
+object book
+set o book name \"mine\"
+try ann read book
+amend attr s credit : int 0..100 = 9; attr s age : int 0..150 = 18; right read { on a adult: s.age >= 18; }
+value s ann credit
+value s ann age
+value o book name
+subject bob
+value s bob credit
+amend attr s credit : int 0..9 = 0;
+amend right lend {}
+try ann read book
+",
+            status: 0,
+            text: b"0 1 ok
+0 2 ok
+0 3 ok
+0 4 permitted 1
+0 5 ok
+0 5 value 5
+0 5 value 18
+0 5 no attribute
+0 6 ok
+0 6 value 9
+0 6 kind changed
+0 7 ok revoked 1 no_right
+0 7 no right
 ",
         },
     ]

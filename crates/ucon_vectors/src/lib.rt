@@ -1,17 +1,21 @@
 //! Documents with what the program makes of them, as bytes for tests.
 #![tactic(auto)]
 
+mod amended;
 mod clients;
 mod generated;
 mod guide;
+mod hostile;
 mod journals;
 mod language;
 mod typing;
 mod worked;
 
+pub use amended::amended_rows;
 pub use clients::{Meeting, two_clients};
 pub use generated::{Words, generated_rows};
 pub use guide::guide_examples;
+pub use hostile::{Limit, Repeated, WITHOUT_ENTRIES, hostile_documents, hostile_journals};
 pub use journals::{LOOKING, Played, SUBJECTS_B_AND_C, WITH_A, played_rows};
 pub use language::language_examples;
 pub use typing::{typing_faults, well_typed_policies};

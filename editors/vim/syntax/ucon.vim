@@ -39,6 +39,8 @@ syntax match uconHeading "^client \d\+$" contained
 syntax match uconCommand "^\%(subject\|object\|env\|tick\|act\|try\|again\|beat\|end\|look\)\>" contained
 syntax match uconCommand "^\%(set\|value\) \@=" contained nextgroup=uconOwner skipwhite
 syntax match uconOwner "[so] \@=" contained
+syntax match uconCommand "^amend \@=" contained nextgroup=uconAmendment skipwhite
+syntax region uconAmendment start="\S" end="$" oneline keepend contained contains=TOP,uconScript
 syntax match uconValue " \zs-\?\d\+$" contained
 syntax match uconLine "^#.*$" contained
 " What is refused although it is hard to see.

@@ -1,6 +1,6 @@
 -- The attributes of entities are those of the trace.
 use Rattle.std.proofs.Common.{◌≡◌, ◌∙◌, sym, ap, subst, ℕ, ◌+◌, Bool, true, false, cond, ◌&&◌, ◌++◌, length, refl}
-use Rattle.std.specs.Prelude.{◌||◌, Option, Some, None, is_some, option_map, option_and_then, unwrap_or, slice_get, slice_set}
+use Rattle.std.specs.Prelude.{◌||◌, Option, Some, None, is_some, option_map, option_and_then, slice_get, slice_set}
 use Rattle.std.specs.Str.{bytes_eq}
 use Rattle.std.proofs.lemmas.Bool.{and_parts, and_from, both_ways}
 use Rattle.std.proofs.lemmas.Option.{slice_get-map}
@@ -10,7 +10,7 @@ use Rattle.ucon_base.specs.declared.value.Value.{Value}
 use Rattle.ucon_model.specs.declared.policy.AttrDecl.{AttrDecl}
 use Rattle.ucon_model.specs.Plain.{Bytes, PlainPolicy}
 use Rattle.ucon_model.specs.Action.{Trace}
-use Rattle.ucon_model.specs.Readings.{has_entity, same_side, written, declared_attr, attribute, attrs_of, attr_position}
+use Rattle.ucon_model.specs.Readings.{in_force, has_entity, same_side, declared_attr, attribute, attrs_of, attr_position, attr_default, given_attr}
 use Rattle.ucon_state.specs.Tables.{Tables, first_cell, cell_of, attribute_in}
 use Rattle.ucon_state.specs.Applied.{defaults_of, with_entity, with_cell}
 use Rattle.ucon_state.specs.Following.{HaveOwnCells}
@@ -104,23 +104,30 @@ attribute_in-with_cell P t s side name n a attr c v h there =
 
 -- ---- one action further
 
--- the value of an attribute, by whether the entity is there, by the last write, and by the declaration
+-- the value of an attribute, by whether the entity is there, by what was given, and by the declaration
 abbrev value_by : Bool → Option Value → Option AttrDecl → Option Value
-value_by there last declared = cond there (option_map (λ d. unwrap_or last d.start) declared) None
+value_by there given declared = cond (there && is_some declared) given None
+
+made_by : (there : Bool) (given old : Option Value) (b : Bool) (o : Option AttrDecl) → old ≡ value_by there given o
+    → cond b (option_map (λ d. d.start) o) old ≡ value_by (b || there) (cond b (option_map (λ d. d.start) o) given) o
+made_by there given old true None same = refl
+made_by there given old true (Some d) same = refl
+made_by there given old false o same = same
 
 pub new_value : (P : PlainPolicy) (T : Trace) (s : Side) (n attr : Bytes) (b : Bool) (old : Option Value) → old ≡ attribute P T s n attr
-    → cond b (option_map (λ d. d.start) (declared_attr P.attrs s attr)) old ≡ value_by (b || has_entity s n T) (cond b None (written s n attr T)) (declared_attr P.attrs s attr)
-new_value P T s n attr true old same = refl
-new_value P T s n attr false old same = same
+    → cond b (option_map (λ d. d.start) (declared_attr (in_force P T).attrs s attr)) old
+    ≡ value_by (b || has_entity s n T) (cond b (attr_default (in_force P T) s attr) (given_attr P s n attr T)) (declared_attr (in_force P T).attrs s attr)
+new_value P T s n attr b old same = made_by (has_entity s n T) (given_attr P s n attr T) old b (declared_attr (in_force P T).attrs s attr) same
 
 pub written_value : (P : PlainPolicy) (T : Trace) (s side : Side) (name n a attr : Bytes) (v : Value) (b : Bool) (old : Option Value) (declared : Option AttrDecl)
-    → is_that side s n name attr a ≡ b → has_entity s name T ≡ true → declared_attr P.attrs s a ≡ declared → is_some declared ≡ true
+    → is_that side s n name attr a ≡ b → has_entity s name T ≡ true → declared_attr (in_force P T).attrs s a ≡ declared → is_some declared ≡ true
     → old ≡ attribute P T side n attr
-    → cond b (Some v) old ≡ value_by (has_entity side n T) (cond b (Some v) (written side n attr T)) (declared_attr P.attrs side attr)
+    → cond b (Some v) old ≡ value_by (has_entity side n T) (cond b (Some v) (given_attr P side n attr T)) (declared_attr (in_force P T).attrs side attr)
 written_value P T s side name n a attr v true old None is there at some same = absurd cc
 written_value P T s side name n a attr v true old (Some d) is there at some same =
     let that = that_one side s n name attr a is in
     let here : has_entity side n T ≡ true = ap (λ (r : Side). has_entity r n T) that.0 ∙ ap (λ (m : Bytes). has_entity s m T) that.1 ∙ there in
-    let declared : declared_attr P.attrs side attr ≡ Some d = ap (λ (r : Side). declared_attr P.attrs r attr) that.0 ∙ ap (declared_attr P.attrs s) that.2 ∙ at in
+    let declared : declared_attr (in_force P T).attrs side attr ≡ Some d =
+    ap (λ (r : Side). declared_attr (in_force P T).attrs r attr) that.0 ∙ ap (declared_attr (in_force P T).attrs s) that.2 ∙ at in
     rw (here, declared) refl
 written_value P T s side name n a attr v false old declared is there at some same = same

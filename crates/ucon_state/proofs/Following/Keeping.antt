@@ -1,5 +1,5 @@
 -- The tables after a legal trace keep it.
-use Rattle.std.proofs.Common.{◌≡◌, ◌∙◌, sym, ap, subst, ℕ, ℤ, ◌-◌, true, List, [], ◌∷◌, map, refl}
+use Rattle.std.proofs.Common.{◌≡◌, ◌∙◌, sym, ap, subst, ℕ, ℤ, ◌-◌, true, false, List, [], ◌∷◌, map, refl}
 use Rattle.std.specs.Prelude.{◌↔◌, Option, Some, None, is_some, option_and_then, slice_get, slice_set, IsTrue, IsSomeAnd}
 use Rattle.std.specs.Option.{option_map_or}
 use Rattle.std.specs.Str.{bytes_eq}
@@ -14,13 +14,14 @@ use Rattle.ucon_model.specs.declared.session.SessionRow.{SessionRow}
 use Rattle.ucon_model.specs.declared.session.SessionState.{SessionState}
 use Rattle.ucon_model.specs.declared.session.SessionState.TheVariants.{Denied, Accessing, Revoked, Ended}
 use Rattle.ucon_model.specs.Plain.{Bytes, PlainPolicy}
-use Rattle.ucon_model.specs.Action.{Action, Trace, subject, object, write, env, tick, act, tries, wait, permit, deny, ends, revoke, extended}
-use Rattle.ucon_model.specs.Readings.{tick_of, entity_names, declared_env, env_position}
+use Rattle.ucon_model.specs.Action.{Action, Trace, subject, object, write, env, tick, act, tries, wait, permit, deny, ends, revoke, amend, extended}
+use Rattle.ucon_model.specs.Readings.{in_force, tick_of, entity_names, declared_env, env_position}
 use Rattle.ucon_model.specs.Truth.{place_of}
 use Rattle.ucon_model.specs.Legal.{IsLegal, AreLegal}
+use Rattle.ucon_model.specs.Reach.{replaces}
 use Rattle.ucon_model.specs.Typing.{IsTyped}
-use Rattle.ucon_model.proofs.Allowed.{sound_before, sound_after_action}
-use Rattle.ucon_state.specs.Shown.{Shown, changed_to}
+use Rattle.ucon_model.proofs.Allowed.{sound_before, sound_after_action, typed_after_action}
+use Rattle.ucon_state.specs.Shown.{Shown, changed_by}
 use Rattle.ucon_state.specs.declared.act.Act.{Act}
 use Rattle.ucon_state.specs.Tables.{Tables, first_cell, entities_of, entity_number, cell_of, place_in, session_in, counts_in}
 use Rattle.ucon_state.specs.Applied.{with_cell, with_variable, moved_to, with_state, applied, opening_tables, tables_of}
@@ -31,6 +32,7 @@ use Rattle.ucon_state.proofs.Following.Entities.{keeps_entities_opening, keeps_e
 use Rattle.ucon_state.proofs.Following.Cells.{from_first, cell_of-first_cell}
 use Rattle.ucon_state.proofs.Following.Acts.{keeps_acts_opening, keeps_acts_act}
 use Rattle.ucon_state.proofs.Following.Sessions.{keeps_sessions_opening, keeps_sessions_after, accessing_kept, by_option}
+use Rattle.ucon_state.proofs.Following.Amending.{keeps_variables_amend}
 use Rattle.ucon_state.proofs.Following.Variables.{keeps_variables_opening, keeps_variables_given}
 
 -- ---- what an action leaves
@@ -45,6 +47,7 @@ moved_leaves read t n state each =
 
 abbrev LeavesVariables : Action → Type 0
 LeavesVariables (env name v) = ⊥
+LeavesVariables (amend text Q) = ⊥
 LeavesVariables a = Unit {0}
 
 same_variables : (P : PlainPolicy) (t : Tables) (a : Action) → LeavesVariables a → (applied P a t).variables ≡ t.variables
@@ -52,6 +55,7 @@ same_variables P t (subject name) leaves = refl
 same_variables P t (object name) leaves = refl
 same_variables P t (write side name attr v) leaves = by_option (λ u. u.variables) t (λ cell. with_cell t cell v) (cell_of P t side name attr) (λ cell. refl)
 same_variables P t (env name v) leaves = absurd leaves
+same_variables P t (amend text Q) leaves = absurd leaves
 same_variables P t (tick now) leaves = refl
 same_variables P t (act s a o) leaves = refl
 same_variables P t (tries n caller s r o) leaves = refl
@@ -63,24 +67,29 @@ same_variables P t (revoke n label) leaves = moved_leaves (λ u. u.variables) t 
 
 still_variables : (P : PlainPolicy) (variables : List Value) (T : Trace) (a : Action) → LeavesVariables a → KeepsVariables P variables T → KeepsVariables P variables (a ∷ T)
 still_variables P variables T (env name v) leaves h = absurd leaves
+still_variables P variables T (amend text Q) leaves h = absurd leaves
 still_variables P variables T a leaves h = record { count = h.count; values = h.values }
 
-variables_left : (P : PlainPolicy) (t : Tables) (T : Trace) (a : Action) → LeavesVariables a → KeepsVariables P t.variables T → KeepsVariables P (applied P a t).variables (a ∷ T)
+variables_left : (P : PlainPolicy) (t : Tables) (T : Trace) (a : Action) → LeavesVariables a → KeepsVariables P t.variables T
+    → KeepsVariables P (applied (in_force P T) a t).variables (a ∷ T)
 variables_left P t T a leaves h =
-    subst (λ (variables : List Value). KeepsVariables P variables (a ∷ T)) (sym (same_variables P t a leaves)) (still_variables P t.variables T a leaves h)
+    subst (λ (variables : List Value). KeepsVariables P variables (a ∷ T)) (sym (same_variables (in_force P T) t a leaves)) (still_variables P t.variables T a leaves h)
 
 is_declared : (o : Option EnvDecl) (v : Value) → IsSomeAnd o (λ d. IsTrue (admits d.kind v)) → is_some o ≡ true
 is_declared None v h = absurd h
 is_declared (Some d) v h = refl
 
-variable_given : (P : PlainPolicy) (t : Tables) (T : Trace) (name : Bytes) (v : Value) (o : Option ℕ) → env_position P name ≡ o → is_some o ≡ true → KeepsVariables P t.variables T
-    → KeepsVariables P (option_map_or (λ place. with_variable t place v) o t).variables (env name v ∷ T)
+variable_given : (P : PlainPolicy) (t : Tables) (T : Trace) (name : Bytes) (v : Value) (o : Option ℕ) → env_position (in_force P T) name ≡ o → is_some o ≡ true
+    → KeepsVariables P t.variables T → KeepsVariables P (option_map_or (λ place. with_variable t place v) o t).variables (env name v ∷ T)
 variable_given P t T name v None is there h = absurd cc
 variable_given P t T name v (Some place) is there h = keeps_variables_given P t.variables T name v place h is
 
-keeps_variables_after : (P : PlainPolicy) (t : Tables) (T : Trace) (a : Action) → IsLegal P T a → KeepsVariables P t.variables T → KeepsVariables P (applied P a t).variables (a ∷ T)
+keeps_variables_after : (P : PlainPolicy) (t : Tables) (T : Trace) (a : Action) → IsLegal P T a → KeepsVariables P t.variables T
+    → KeepsVariables P (applied (in_force P T) a t).variables (a ∷ T)
 keeps_variables_after P t T (env name v) legal h =
-    variable_given P t T name v (env_position P name) refl (placed_where_first (λ d. bytes_eq name d.name) P.envs ∙ is_declared (declared_env P.envs name) v legal) h
+    variable_given P t T name v (env_position (in_force P T) name) refl
+    (placed_where_first (λ d. bytes_eq name d.name) (in_force P T).envs ∙ is_declared (declared_env (in_force P T).envs name) v legal) h
+keeps_variables_after P t T (amend text Q) legal h = keeps_variables_amend P t T Q h text
 keeps_variables_after P t T a legal h = variables_left P t T a tt h
 
 -- ---- the tick
@@ -97,6 +106,7 @@ keeps_tick_after P t T (wait n label) h = h
 keeps_tick_after P t T (permit n) h = moved_leaves (λ u. u.tick) t n Accessing (λ rows. refl) ∙ h
 keeps_tick_after P t T (deny n label) h = moved_leaves (λ u. u.tick) t n Denied (λ rows. refl) ∙ h
 keeps_tick_after P t T (ends n) h = moved_leaves (λ u. u.tick) t n Ended (λ rows. refl) ∙ h
+keeps_tick_after P t T (amend text Q) h = h
 keeps_tick_after P t T (revoke n label) h = moved_leaves (λ u. u.tick) t n Revoked (λ rows. refl) ∙ h
 
 -- ---- acts
@@ -117,6 +127,7 @@ same_acts P t (wait n label) leaves = refl
 same_acts P t (permit n) leaves = moved_leaves (λ u. u.acts) t n Accessing (λ rows. refl)
 same_acts P t (deny n label) leaves = moved_leaves (λ u. u.acts) t n Denied (λ rows. refl)
 same_acts P t (ends n) leaves = moved_leaves (λ u. u.acts) t n Ended (λ rows. refl)
+same_acts P t (amend text Q) leaves = refl
 same_acts P t (revoke n label) leaves = moved_leaves (λ u. u.acts) t n Revoked (λ rows. refl)
 
 still_acts : (es : List (Act × ℤ)) (T : Trace) (a : Action) → LeavesActs a → KeepsActs es T → KeepsActs es (a ∷ T)
@@ -141,13 +152,13 @@ follows_opening P = record {
   sessions = keeps_sessions_opening P;
 }
 
-pub follows_after : (P : PlainPolicy) (t : Tables) (T : Trace) (a : Action) → IsLegal P T a → TablesFollow P t T → TablesFollow P (applied P a t) (a ∷ T)
+pub follows_after : (P : PlainPolicy) (t : Tables) (T : Trace) (a : Action) → IsLegal P T a → TablesFollow P t T → TablesFollow P (applied (in_force P T) a t) (a ∷ T)
 follows_after P t T a legal h = record {
   entities = keeps_entities_after P t T a legal h.entities;
   variables = keeps_variables_after P t T a legal h.variables;
-  tick = keeps_tick_after P t T a h.tick;
-  acts = keeps_acts_after P t T a h.tick h.acts;
-  sessions = keeps_sessions_after P t T a h.tick legal h.sessions;
+  tick = keeps_tick_after (in_force P T) t T a h.tick;
+  acts = keeps_acts_after (in_force P T) t T a h.tick h.acts;
+  sessions = keeps_sessions_after P (in_force P T) t T a h.tick legal h.sessions;
 }
 
 pub follows : (P : PlainPolicy) (T : Trace) → IsLegalTrace P T → TablesFollow P (tables_of P T) T
@@ -156,7 +167,7 @@ follows P (a ∷ T) legal = follows_after P (tables_of P T) T a legal.1 (follows
 
 -- ---- what is kept
 
-same_place : (P : PlainPolicy) (t : Tables) (T : Trace) → TablesFollow P t T → (row : SessionRow) (place : Ref) → place_in P t row place ≡ place_of P T row place
+same_place : (P : PlainPolicy) (t : Tables) (T : Trace) → TablesFollow P t T → (row : SessionRow) (place : Ref) → place_in (in_force P T) t row place ≡ place_of P T row place
 same_place P t T h row (refs.Subject attr) = h.entities.values sides.Subject row.subject attr
 same_place P t T h row (refs.Object attr) = h.entities.values sides.Object row.object attr
 same_place P t T h row (refs.Env name) = h.variables.values name
@@ -183,7 +194,7 @@ number_is_place P t T h side name i =
       names.number name i,
     )
 
-pub keeps : (P : PlainPolicy) (t : Tables) (T : Trace) → TablesFollow P t T → Keeps P t P T
+pub keeps : (P : PlainPolicy) (t : Tables) (T : Trace) → TablesFollow P t T → Keeps (in_force P T) t P T
 keeps P t T h = record {
   readings_agree = record { now = h.tick; row = h.sessions.rows; at = same_place P t T h; done_at = h.acts.moments };
   counts_agree = same_counts P t T h;
@@ -196,7 +207,7 @@ keeps P t T h = record {
   act_rows_agree = h.acts.rows;
 }
 
-pub tables_keep : (P : PlainPolicy) (T : Trace) → IsLegalTrace P T → Keeps P (tables_of P T) P T
+pub tables_keep : (P : PlainPolicy) (T : Trace) → IsLegalTrace P T → Keeps (in_force P T) (tables_of P T) P T
 tables_keep P T legal = keeps P (tables_of P T) T (follows P T legal)
 
 -- ---- states that follow
@@ -209,12 +220,17 @@ followed_before P typed s policy tables = record {
   sound = sound_before P typed;
 }
 
-pub followed_after : (s : Shown) (P : PlainPolicy) (T : Trace) (a : Action) → Follows s P T → IsLegal P T a → Follows (changed_to s (applied s.policy a s.tables)) P (a ∷ T)
+-- the policy that an action leaves in force
+policy_after : (P : PlainPolicy) (T : Trace) (a : Action) → in_force (in_force P T) (a ∷ []) ≡ in_force P (a ∷ T)
+policy_after P T (amend text Q) = refl
+policy_after P T a = refl
+
+pub followed_after : (s : Shown) (P : PlainPolicy) (T : Trace) (a : Action) → Follows s P T → IsLegal P T a → Follows (changed_by s a) P (a ∷ T)
 followed_after s P T a h legal = record {
-  policy = h.policy;
-  typed = h.typed;
+  policy = ap (λ (Q : PlainPolicy). in_force Q (a ∷ [])) h.policy ∙ policy_after P T a;
+  typed = typed_after_action P T a h.typed legal;
   tables = subst (λ (Q : PlainPolicy). TablesFollow P (applied Q a s.tables) (a ∷ T)) (sym h.policy) (follows_after P s.tables T a legal h.tables);
-  sound = sound_after_action P h.typed T a h.sound legal;
+  sound = sound_after_action P T a h.typed h.sound legal;
 }
 
 pub followed_kept : (s : Shown) (P : PlainPolicy) (T : Trace) → Follows s P T → Keeps s.policy s.tables P T
@@ -226,18 +242,19 @@ cell_from : (f : Option ℕ) (g : Option ℕ) (read : ℕ → Option ℕ) (cell 
 cell_from None g read cell same is = absurd cc
 cell_from (Some n) g read cell same is = ap (option_and_then read) (same n refl) ∙ is
 
-cell_still : (P : PlainPolicy) (t : Tables) (T : Trace) (a : Action) → KeepsEntities P t T → IsLegal P T a → (side : Side) (name attr : Bytes) (cell : ℕ)
-    → cell_of P t side name attr ≡ Some cell → cell_of P (applied P a t) side name attr ≡ Some cell
-cell_still P t T a h legal side name attr cell is =
-    cell_of-first_cell P (applied P a t) side name attr
-    ∙ cell_from (first_cell t side name) (first_cell (applied P a t) side name) (from_first P side attr) cell (first_stays P t T a h legal side name)
-    (sym (cell_of-first_cell P t side name attr) ∙ is)
+cell_still : (P : PlainPolicy) (t : Tables) (T : Trace) (a : Action) → KeepsEntities P t T → IsLegal P T a → replaces a ≡ false → (side : Side) (name attr : Bytes) (cell : ℕ)
+    → cell_of (in_force P T) t side name attr ≡ Some cell → cell_of (in_force P T) (applied (in_force P T) a t) side name attr ≡ Some cell
+cell_still P t T a h legal stays side name attr cell is =
+    let R : PlainPolicy = in_force P T in
+    cell_of-first_cell R (applied R a t) side name attr
+    ∙ cell_from (first_cell t side name) (first_cell (applied R a t) side name) (from_first R side attr) cell (first_stays P t T a h legal stays side name)
+    (sym (cell_of-first_cell R t side name attr) ∙ is)
 
-pub cell_stays : (s : Shown) (P : PlainPolicy) (T : Trace) (a : Action) → Follows s P T → IsLegal P T a → (side : Side) (name attr : Bytes) (cell : ℕ)
+pub cell_stays : (s : Shown) (P : PlainPolicy) (T : Trace) (a : Action) → Follows s P T → IsLegal P T a → replaces a ≡ false → (side : Side) (name attr : Bytes) (cell : ℕ)
     → cell_of s.policy s.tables side name attr ≡ Some cell → cell_of s.policy (applied s.policy a s.tables) side name attr ≡ Some cell
-cell_stays s P T a h legal side name attr cell is =
+cell_stays s P T a h legal stays side name attr cell is =
     subst (λ (Q : PlainPolicy). cell_of Q (applied Q a s.tables) side name attr ≡ Some cell) (sym h.policy)
-    (cell_still P s.tables T a h.tables.entities legal side name attr cell (subst (λ (Q : PlainPolicy). cell_of Q s.tables side name attr ≡ Some cell) h.policy is))
+    (cell_still P s.tables T a h.tables.entities legal stays side name attr cell (subst (λ (Q : PlainPolicy). cell_of Q s.tables side name attr ≡ Some cell) h.policy is))
 
 -- ---- traces that go on
 
@@ -245,6 +262,6 @@ pub legal_extended : (P : PlainPolicy) (T : Trace) (actions : List Action) → I
 legal_extended P T [] before legal = before
 legal_extended P T (a ∷ actions) before legal = legal_extended P (a ∷ T) actions (before, legal.0) legal.1
 
-pub tables_of-extended : (P : PlainPolicy) (T : Trace) (actions : List Action) → tables_of P (extended T actions) ≡ all_applied P actions (tables_of P T)
+pub tables_of-extended : (P : PlainPolicy) (T : Trace) (actions : List Action) → tables_of P (extended T actions) ≡ all_applied P T actions (tables_of P T)
 tables_of-extended P T [] = refl
 tables_of-extended P T (a ∷ actions) = tables_of-extended P (a ∷ T) actions

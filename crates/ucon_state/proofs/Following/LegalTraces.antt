@@ -4,8 +4,9 @@ use Rattle.ucon_model.specs.declared.command.Entry.{Entry}
 use Rattle.ucon_model.specs.Plain.{PlainPolicy}
 use Rattle.ucon_model.specs.Action.{Trace}
 use Rattle.ucon_model.specs.Block.{block, after}
+use Rattle.ucon_model.specs.CommandLine.{IsCommand}
 use Rattle.ucon_model.specs.Typing.{IsTyped}
-use Rattle.ucon_model.specs.History.{History, trace_from, trace}
+use Rattle.ucon_model.specs.History.{History, AreCommands, trace_from, trace}
 use Rattle.ucon_model.specs.declared.command.Caller.{Caller}
 use Rattle.ucon_model.specs.declared.command.Command.{Command}
 use Rattle.ucon_model.specs.Legal.{AreLegal}
@@ -16,17 +17,23 @@ one_more : (P : PlainPolicy) (T : Trace) (G : History) (e : Entry) → trace_fro
 one_more P T [] e = refl
 one_more P T (d ∷ G) e = one_more P (after P T d.caller d.command) G e
 
--- each action of a block is legal after those before it, under a well typed policy
+-- each action of a block is legal after those before it, under a well typed policy, where entries are commands
 abbrev BlocksAreLegal : Type 0
-BlocksAreLegal = (P : PlainPolicy) → IsTyped P → (H : History) (caller : Caller) (c : Command) → AreLegal P (trace P H) (block P (trace P H) caller c)
+BlocksAreLegal = (P : PlainPolicy) → IsTyped P → (H : History) → AreCommands H → (caller : Caller) (c : Command) → IsCommand c
+    → AreLegal P (trace P H) (block P (trace P H) caller c)
 
-legal_from : BlocksAreLegal → (P : PlainPolicy) → IsTyped P → (G H : History) → IsLegalTrace P (trace P G) → IsLegalTrace P (trace_from P (trace P G) H)
-legal_from blocks P typed G [] legal = legal
-legal_from blocks P typed G (e ∷ H) legal =
+commands_more : (G : History) (e : Entry) → AreCommands G → IsCommand e.command → AreCommands (G ++ e ∷ [])
+commands_more [] e before now = (now, tt)
+commands_more (d ∷ G) e before now = (before.0, commands_more G e before.1 now)
+
+legal_from : BlocksAreLegal → (P : PlainPolicy) → IsTyped P → (G H : History) → AreCommands G → AreCommands H → IsLegalTrace P (trace P G)
+    → IsLegalTrace P (trace_from P (trace P G) H)
+legal_from blocks P typed G [] before commands legal = legal
+legal_from blocks P typed G (e ∷ H) before commands legal =
     let next : IsLegalTrace P (after P (trace P G) e.caller e.command) =
-    legal_extended P (trace P G) (block P (trace P G) e.caller e.command) legal (blocks P typed G e.caller e.command) in
+    legal_extended P (trace P G) (block P (trace P G) e.caller e.command) legal (blocks P typed G before e.caller e.command commands.0) in
     subst (λ (T : Trace). IsLegalTrace P (trace_from P T H)) (one_more P [] G e)
-    (legal_from blocks P typed (G ++ e ∷ []) H (subst (IsLegalTrace P) (sym (one_more P [] G e)) next))
+    (legal_from blocks P typed (G ++ e ∷ []) H (commands_more G e before commands.0) commands.1 (subst (IsLegalTrace P) (sym (one_more P [] G e)) next))
 
-pub legal_trace_of : BlocksAreLegal → (P : PlainPolicy) → IsTyped P → (H : History) → IsLegalTrace P (trace P H)
-legal_trace_of blocks P typed H = legal_from blocks P typed [] H tt
+pub legal_trace_of : BlocksAreLegal → (P : PlainPolicy) → IsTyped P → (H : History) → AreCommands H → IsLegalTrace P (trace P H)
+legal_trace_of blocks P typed H commands = legal_from blocks P typed [] H tt commands tt

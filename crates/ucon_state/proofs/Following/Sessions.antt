@@ -10,7 +10,7 @@ use Rattle.ucon_model.specs.declared.session.SessionRow.{SessionRow}
 use Rattle.ucon_model.specs.declared.session.SessionState.{SessionState}
 use Rattle.ucon_model.specs.declared.session.SessionState.TheVariants.{Denied, Accessing, Revoked, Ended}
 use Rattle.ucon_model.specs.Plain.{PlainPolicy}
-use Rattle.ucon_model.specs.Action.{Action, Trace, subject, object, write, env, tick, act, tries, wait, permit, deny, ends, revoke}
+use Rattle.ucon_model.specs.Action.{Action, Trace, subject, object, write, env, tick, act, tries, wait, permit, deny, ends, revoke, amend}
 use Rattle.ucon_model.specs.Readings.{tick_of, changed_if, session, sessions, is_accessing_state, is_accessing, accessing_up_to, accessing, env_position}
 use Rattle.ucon_model.specs.Legal.{IsLegal}
 use Rattle.ucon_state.specs.Following.{KeepsSessions}
@@ -135,22 +135,23 @@ left : (t u : Tables) (T : Trace) (a : Action) → u.sessions ≡ t.sessions →
     → KeepsSessions u (a ∷ T)
 left t u T a same h told count = record { rows = λ n. session_in-same t u same n ∙ h.rows n ∙ sym (told n); count = ap (λ (rows : List SessionRow). length rows) same ∙ h.count ∙ sym count }
 
-pub keeps_sessions_after : (P : PlainPolicy) (t : Tables) (T : Trace) (a : Action) → t.tick ≡ tick_of T → IsLegal P T a → KeepsSessions t T → KeepsSessions (applied P a t) (a ∷ T)
-keeps_sessions_after P t T (subject name) now legal h = left t (applied P (subject name) t) T (subject name) refl h (λ n. refl) refl
-keeps_sessions_after P t T (object name) now legal h = left t (applied P (object name) t) T (object name) refl h (λ n. refl) refl
-keeps_sessions_after P t T (write side name attr v) now legal h =
-    left t (applied P (write side name attr v) t) T (write side name attr v) (by_option (λ u. u.sessions) t (λ cell. with_cell t cell v) (cell_of P t side name attr) (λ cell. refl)) h (λ n. refl) refl
-keeps_sessions_after P t T (env name v) now legal h =
-    left t (applied P (env name v) t) T (env name v) (by_option (λ u. u.sessions) t (λ place. with_variable t place v) (env_position P name) (λ place. refl)) h (λ n. refl) refl
-keeps_sessions_after P t T (tick to) now legal h = left t (applied P (tick to) t) T (tick to) refl h (λ n. refl) refl
-keeps_sessions_after P t T (act s a o) now legal h = left t (applied P (act s a o) t) T (act s a o) refl h (λ n. refl) refl
-keeps_sessions_after P t T (wait n label) now legal h = left t t T (wait n label) refl h (λ n. refl) refl
-keeps_sessions_after P t T (tries m caller s r o) now legal h = record {
+pub keeps_sessions_after : (P Q : PlainPolicy) (t : Tables) (T : Trace) (a : Action) → t.tick ≡ tick_of T → IsLegal P T a → KeepsSessions t T → KeepsSessions (applied Q a t) (a ∷ T)
+keeps_sessions_after P Q t T (subject name) now legal h = left t (applied Q (subject name) t) T (subject name) refl h (λ n. refl) refl
+keeps_sessions_after P Q t T (object name) now legal h = left t (applied Q (object name) t) T (object name) refl h (λ n. refl) refl
+keeps_sessions_after P Q t T (write side name attr v) now legal h =
+    left t (applied Q (write side name attr v) t) T (write side name attr v) (by_option (λ u. u.sessions) t (λ cell. with_cell t cell v) (cell_of Q t side name attr) (λ cell. refl)) h (λ n. refl) refl
+keeps_sessions_after P Q t T (env name v) now legal h =
+    left t (applied Q (env name v) t) T (env name v) (by_option (λ u. u.sessions) t (λ place. with_variable t place v) (env_position Q name) (λ place. refl)) h (λ n. refl) refl
+keeps_sessions_after P Q t T (tick to) now legal h = left t (applied Q (tick to) t) T (tick to) refl h (λ n. refl) refl
+keeps_sessions_after P Q t T (act s a o) now legal h = left t (applied Q (act s a o) t) T (act s a o) refl h (λ n. refl) refl
+keeps_sessions_after P Q t T (wait n label) now legal h = left t t T (wait n label) refl h (λ n. refl) refl
+keeps_sessions_after P Q t T (tries m caller s r o) now legal h = record {
   rows = λ n. session_in-with_new_session t m (tried caller s r o) n (legal.0 ∙ ap (λ n. n + 1) (sym h.count)) ∙ ap (cond (nat_eq n m) (Some (tried caller s r o))) (h.rows n);
   count = length_push t.sessions _ ∙ ap (λ n. n + 1) h.count;
 }
-keeps_sessions_after P t T (permit m) now legal h =
+keeps_sessions_after P Q t T (permit m) now legal h =
     moved t T (permit m) m Accessing (λ row. record row { state = Accessing; start = tick_of T }) h (λ row. rw now refl) (λ n. refl) refl
-keeps_sessions_after P t T (deny m label) now legal h = moved t T (deny m label) m Denied (λ row. record row { state = Denied }) h (λ row. refl) (λ n. refl) refl
-keeps_sessions_after P t T (ends m) now legal h = moved t T (ends m) m Ended (λ row. record row { state = Ended }) h (λ row. refl) (λ n. refl) refl
-keeps_sessions_after P t T (revoke m label) now legal h = moved t T (revoke m label) m Revoked (λ row. record row { state = Revoked }) h (λ row. refl) (λ n. refl) refl
+keeps_sessions_after P Q t T (deny m label) now legal h = moved t T (deny m label) m Denied (λ row. record row { state = Denied }) h (λ row. refl) (λ n. refl) refl
+keeps_sessions_after P Q t T (ends m) now legal h = moved t T (ends m) m Ended (λ row. record row { state = Ended }) h (λ row. refl) (λ n. refl) refl
+keeps_sessions_after P Q t T (revoke m label) now legal h = moved t T (revoke m label) m Revoked (λ row. record row { state = Revoked }) h (λ row. refl) (λ n. refl) refl
+keeps_sessions_after P Q t T (amend text R) now legal h = left t (applied Q (amend text R) t) T (amend text R) refl h (λ n. refl) refl

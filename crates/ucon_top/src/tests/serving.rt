@@ -102,7 +102,7 @@ fn document(alloc: Global, policy: &[u8], script: &[u8]) -> Result<Vec<u8>, Fail
 }
 
 /// How a document ends over a journal, what it writes, and the disk.
-fn over<R: Threads + Wait + Sync, G: Gate + Sync>(
+pub fn over<R: Threads + Wait + Sync, G: Gate + Sync>(
     rt: &R,
     alloc: Global,
     form: &str,

@@ -1,4 +1,4 @@
-use Rattle.std.proofs.Common.{rules, ◌∙◌, subst}
+use Rattle.std.proofs.Common.{refl, rules, ◌∙◌, subst}
 use Rattle.ucon_model.specs.Plain.{PlainPolicy}
 use Rattle.ucon_model.specs.Fitting.{AttributeAdmits}
 use Rattle.ucon_model.specs.Action.{write}
@@ -6,11 +6,15 @@ use Rattle.ucon_state.specs.Shown.{shown}
 use Rattle.ucon_actions.proofs.AttributeCells.{write_applied}
 use Rattle.ucon_actions.proofs.ReadOff.{entity_there}
 use Rattle.ucon_actions.proofs.Stepping.{leads_on}
+use Rattle.ucon_actions.proofs.Keeping.{base_by}
 use Rattle.ucon_actions.proofs.attributes.write.Goals as goal
 
 pub returns-clause-leads : goal.returns-clause-leads
 returns-clause-leads c =
     let s = shown c.args.state.now in
-    leads_on c.write.result s (shown c.write.new.self) (write c.args.side c.args.name.now c.args.attr.now c.args.value) _
+    leads_on c.write.result s (shown c.write.new.self) (write c.args.side c.args.name.now c.args.attr.now c.args.value) _ refl
     (λ P T h. (entity_there s P T h c.args.side c.args.name.now ∙ c.requires.there, subst (λ (Q : PlainPolicy). AttributeAdmits Q c.args.side c.args.attr.now c.args.value) h.policy c.requires.admitted))
     (write_applied s.policy s.tables c.args.side c.args.name.now c.args.attr.now c.args.value c.in-Some.entity c.in-Some-cell.cell (search rules) (search rules)) c.write.ensures.ok
+
+pub returns-clause-base : goal.returns-clause-base
+returns-clause-base c = base_by c.write.result (shown c.args.state.now) (shown c.write.new.self) _ (λ side name attr cell here. here) c.write.ensures.ok c.write.ensures.err

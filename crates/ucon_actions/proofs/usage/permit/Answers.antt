@@ -10,6 +10,7 @@ use Rattle.ucon_actions.proofs.ReadOff.{accessing_same}
 use Rattle.ucon_actions.proofs.Stepping.{leads_on}
 use Rattle.ucon_actions.proofs.Updated.{on_ok}
 use Rattle.ucon_actions.proofs.Deciding.{in_after, in_after_writes, accessing_after_writes, may_move}
+use Rattle.ucon_actions.proofs.Keeping.{base_by, base_on, cells_after_move}
 use Rattle.ucon_actions.proofs.usage.permit.Goals as goal
 
 pub set_session-requires : goal.set_session-requires
@@ -32,5 +33,12 @@ returns-clause-leads c =
     let extended-append = c.actions_are_done_in_order.ensures in
     on_ok c.set_session.result
     (λ leads P T h. subst (Follows s2 P) (sym (extended-append T (session_writes P c.args.n Before T) (permit c.args.n ∷ []))) (leads P (extended T (session_writes P c.args.n Before T)) (c.in_ok-run_updates.ensures.leads P T h)))
-    (leads_on c.set_session.result s1 s2 (permit c.args.n) _
+    (leads_on c.set_session.result s1 s2 (permit c.args.n) _ refl
     (λ P U h. (in_after s1 P U h c.args.n Requesting requesting, subst (λ (k : ℕ). k < 65536) (sym (accessing_same s1 P U h)) room)) refl c.set_session.ensures.ok)
+
+pub returns-clause-base : goal.returns-clause-base
+returns-clause-base c =
+    let s1 = shown c.run_updates.new.state in
+    let s2 = shown c.set_session.new.self in
+    base_on (shown c.args.state.now) s1 s2 c.run_updates.ensures.base
+    (base_by c.set_session.result s1 s2 _ (cells_after_move s1 c.args.n Accessing) c.set_session.ensures.ok c.set_session.ensures.err)

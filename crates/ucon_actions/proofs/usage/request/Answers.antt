@@ -5,6 +5,7 @@ use Rattle.ucon_actions.specs.Sessions.{IsIn}
 use Rattle.ucon_model.specs.declared.session.SessionState.TheVariants.{Requesting}
 use Rattle.ucon_actions.proofs.Stepping.{one_step}
 use Rattle.ucon_actions.proofs.Deciding.{tries_legal, requests, request_made}
+use Rattle.ucon_actions.proofs.Keeping.{base_on, changed_base}
 use Rattle.ucon_actions.proofs.usage.request.Goals as goal
 
 pub decide-requires-clause-following : goal.decide-requires-clause-following
@@ -16,7 +17,7 @@ decide-requires-clause-following c =
     record {
       policy = P;
       trace = tries (length s.tables.sessions + 1) c.args.caller (subject_name c.args.state.now c.args.subject) (right_name c.args.state.now c.args.right) (object_name c.args.state.now c.args.object) ∷ T;
-      follows = one_step s (shown c.add_numbered_session.new.self) P T (tries (length s.tables.sessions + 1) c.args.caller (subject_name c.args.state.now c.args.subject) (right_name c.args.state.now c.args.right) (object_name c.args.state.now c.args.object)) _ h
+      follows = one_step s (shown c.add_numbered_session.new.self) P T (tries (length s.tables.sessions + 1) c.args.caller (subject_name c.args.state.now c.args.subject) (right_name c.args.state.now c.args.right) (object_name c.args.state.now c.args.object)) _ refl h
           (tries_legal s P T h c.args.caller (right_name c.args.state.now c.args.right) (subject_name c.args.state.now c.args.subject) (object_name c.args.state.now c.args.object) c.requires.right c.requires.subject c.requires.object c.requires.few) c.in_ok-n.ensures.ok refl;
     }
 
@@ -29,7 +30,7 @@ decide-requires-clause-requesting c =
     let h = c.requires.following.follows in
     let n = length s.tables.sessions + 1 in
     let requesting = requests s1 P T n c.args.caller (right_name c.args.state.now c.args.right) (subject_name c.args.state.now c.args.subject) (object_name c.args.state.now c.args.object)
-    (one_step s s1 P T (tries n c.args.caller (subject_name c.args.state.now c.args.subject) (right_name c.args.state.now c.args.right) (object_name c.args.state.now c.args.object)) _ h
+    (one_step s s1 P T (tries n c.args.caller (subject_name c.args.state.now c.args.subject) (right_name c.args.state.now c.args.right) (object_name c.args.state.now c.args.object)) _ refl h
     (tries_legal s P T h c.args.caller (right_name c.args.state.now c.args.right) (subject_name c.args.state.now c.args.subject) (object_name c.args.state.now c.args.object) c.requires.right c.requires.subject c.requires.object c.requires.few) c.in_ok-n.ensures.ok refl) in
     subst (λ (m : _). IsIn s1.tables m Requesting) (sym c.in_ok-n.ensures.number) requesting
 
@@ -38,6 +39,12 @@ returns-clause-made c =
     let s = shown c.args.state.now in
     let s1 = shown c.add_numbered_session.new.self in
     request_made c.decide.result s s1 (shown c.decide.new.state) c.in_ok-n.n c.args.caller (right_name c.args.state.now c.args.right) (subject_name c.args.state.now c.args.subject) (object_name c.args.state.now c.args.object) c.in_ok-n.ensures.number
-    (λ P T h. one_step s s1 P T (tries (length s.tables.sessions + 1) c.args.caller (subject_name c.args.state.now c.args.subject) (right_name c.args.state.now c.args.right) (object_name c.args.state.now c.args.object)) _ h
+    (λ P T h. one_step s s1 P T (tries (length s.tables.sessions + 1) c.args.caller (subject_name c.args.state.now c.args.subject) (right_name c.args.state.now c.args.right) (object_name c.args.state.now c.args.object)) _ refl h
     (tries_legal s P T h c.args.caller (right_name c.args.state.now c.args.right) (subject_name c.args.state.now c.args.subject) (object_name c.args.state.now c.args.object) c.requires.right c.requires.subject c.requires.object c.requires.few) c.in_ok-n.ensures.ok refl)
     c.decide.ensures.made
+
+pub returns-clause-base : goal.returns-clause-base
+returns-clause-base c =
+    let s = shown c.args.state.now in
+    let s1 = shown c.add_numbered_session.new.self in
+    base_on s s1 (shown c.decide.new.state) (changed_base s s1 _ c.in_ok-n.ensures.ok (λ side name attr cell here. here)) c.decide.ensures.base

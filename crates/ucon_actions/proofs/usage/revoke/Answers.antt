@@ -6,6 +6,7 @@ use Rattle.ucon_actions.proofs.Stepping.{one_step}
 use Rattle.ucon_actions.proofs.Updated.{on_ok}
 use Rattle.ucon_actions.proofs.Deciding.{may_move}
 use Rattle.ucon_actions.proofs.Cascade.{revoke_legal, is_accessing_there}
+use Rattle.ucon_actions.proofs.Keeping.{base_on, cells_after_move, changed_base}
 use Rattle.ucon_actions.proofs.usage.revoke.Goals as goal
 
 pub set_session-requires : goal.set_session-requires
@@ -25,7 +26,7 @@ run_updates-requires c =
     record {
       policy = P;
       trace = revoke c.args.n c.args.label ∷ T;
-      follows = one_step s (shown c.set_session.new.self) P T (revoke c.args.n c.args.label) _ h (revoke_legal c.the_least_failing_is_found.ensures.somebody s P T h c.args.n c.args.label (c.requires.least P T h)) c.in_ok-set_session.ensures.ok refl;
+      follows = one_step s (shown c.set_session.new.self) P T (revoke c.args.n c.args.label) _ refl h (revoke_legal c.the_least_failing_is_found.ensures.somebody s P T h c.args.n c.args.label (c.requires.least P T h)) c.in_ok-set_session.ensures.ok refl;
     }
 
 pub returns-clause-leads : goal.returns-clause-leads
@@ -34,5 +35,11 @@ returns-clause-leads c =
     let s1 = shown c.set_session.new.self in
     on_ok c.run_updates.result
     (λ leads P T h. leads P (revoke c.args.n c.args.label ∷ T)
-    (one_step s s1 P T (revoke c.args.n c.args.label) _ h (revoke_legal c.the_least_failing_is_found.ensures.somebody s P T h c.args.n c.args.label (c.requires.least P T h)) c.in_ok-set_session.ensures.ok refl))
+    (one_step s s1 P T (revoke c.args.n c.args.label) _ refl h (revoke_legal c.the_least_failing_is_found.ensures.somebody s P T h c.args.n c.args.label (c.requires.least P T h)) c.in_ok-set_session.ensures.ok refl))
     c.run_updates.ensures.leads
+
+pub returns-clause-base : goal.returns-clause-base
+returns-clause-base c =
+    let s = shown c.args.state.now in
+    let s1 = shown c.set_session.new.self in
+    base_on s s1 (shown c.run_updates.new.state) (changed_base s s1 _ c.in_ok-set_session.ensures.ok (cells_after_move s c.args.n Revoked)) c.run_updates.ensures.base

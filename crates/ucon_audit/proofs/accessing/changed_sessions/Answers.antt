@@ -10,7 +10,7 @@ use Rattle.ucon_model.specs.Truth.{readings}
 use Rattle.ucon_state.specs.Shown.{shown}
 use Rattle.ucon_state.specs.Tables.{readings_in}
 use Rattle.ucon_audit.specs.Recheck.{changed, unless_permitted}
-use Rattle.ucon_audit.proofs.Judged.{no_sets_there}
+use Rattle.ucon_audit.proofs.Judged.{judged_alike, no_sets_there}
 use Rattle.ucon_audit.proofs.accessing.changed_sessions.Goals as goal
 
 pub recheck-requires-clause-no_set : goal.recheck-requires-clause-no_set
@@ -31,4 +31,4 @@ returns g c =
     let same : (n : ℕ) → _ = c.views_that_agree_decide_alike.ensures.verdict (in_force P T) R (readings P T) in
     found
     ∙ ap (λ (Q : PlainPolicy). changed Q R ns) h.policy
-    ∙ ap (λ (judge : ℕ → Verdict). filter_map (λ (n : ℕ). unless_permitted n (judge n)) ns) (λ i n. same n agree i))
+    ∙ ap (λ (judge : ℕ → Verdict). filter_map (λ (n : ℕ). unless_permitted n (judge n)) ns) (λ i n. judged_alike (in_force P T) R (readings P T) n (agree.row n) (same n agree) i))

@@ -1,8 +1,7 @@
 use Rattle.std.proofs.Common.{◌≡◌, ℕ, List, [], ◌∷◌, map, filter_map, Option, Some, None, refl, ap, ◌∙◌}
 use Rattle.rayon.proofs.ListFacts.{IfOk-then}
 use Rattle.rayon.proofs.ToStd.{slice-map}
-use Rattle.ucon_model.specs.Decision.{verdict}
-use Rattle.ucon_audit.specs.Recheck.{unless_permitted}
+use Rattle.ucon_audit.specs.Recheck.{unless_permitted, verdict_now}
 use Rattle.ucon_audit.proofs.parallel.recheck_shared.Goals as goal
 
 -- the results that are there, taken after all were made or as each is made
@@ -17,7 +16,7 @@ kept f (x ∷ xs) = go (f x) refl (kept f xs)
 pub returns : goal.returns
 returns g c =
     let slice = ap (λ it. it.base.slice.now) c.filter_map.ensures.base ∙ ap (λ it. it.slice.now) c.with_min_len.ensures.base ∙ c.par_iter.ensures in
-    let one = λ (n : ℕ). unless_permitted n (verdict (g.V.View.policy c.args.view.now) (g.V.View.readings c.args.view.now) n) in
+    let one = λ (n : ℕ). unless_permitted n (verdict_now (g.V.View.policy c.args.view.now) (g.V.View.readings c.args.view.now) n) in
     IfOk-then c.collect.result _ _ c.collect.ensures (λ v h.
     let chain = rw c.filter_map.ensures.f at h.1 in
     let answers = slice-map chain.0 c.args.sessions.now (chain.2 ∙ slice) one chain.1 chain.3 in

@@ -1,7 +1,4 @@
-use Rattle.std.specs.Prelude.{IsTrue}
-use Rattle.ucon_base.specs.NameBytes.{is_name}
 use Rattle.ucon_model.specs.CommandLine.{value_in}
-use Rattle.ucon_command.specs.Cuts.{between}
 use Rattle.ucon_command.proofs.Judged.{env_cut, known_name, name_said, named, kind_said}
 use Rattle.ucon_command.proofs.forms.env_words.Goals as goal
 

@@ -1,4 +1,4 @@
-use Rattle.std.proofs.Common.{◌≡◌, ◌+◌, sym, ap, ◌∙◌}
+use Rattle.std.proofs.Common.{◌+◌, sym, ap, ◌∙◌}
 use Rattle.std.specs.Prelude.{position, ◌==◌}
 use Rattle.std.proofs.lemmas.List.{take_rest}
 use Rattle.ucon_model.specs.Plain.{Bytes}

@@ -3,7 +3,7 @@ use Rattle.ucon_model.specs.Readings.{is_accessing_state}
 use Rattle.ucon_state.specs.Shown.{shown}
 use Rattle.ucon_state.specs.Tables.{session_in}
 use Rattle.ucon_plain.proofs.Failing.{fails_told, no_sets_there}
-use Rattle.ucon_plain.proofs.Watching.{told_is_there}
+use Rattle.ucon_plain.proofs.Least.{told_is_there}
 use Rattle.ucon_plain.proofs.settle.fails_at.Goals as goal
 
 pub failing-requires-clause-no_set : goal.failing-requires-clause-no_set

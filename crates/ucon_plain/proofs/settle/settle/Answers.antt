@@ -6,14 +6,24 @@ use Rattle.ucon_model.specs.Action.{Action, Trace, extended}
 use Rattle.ucon_model.specs.Readings.{accessing}
 use Rattle.ucon_model.specs.Settle.{least_failing, settled_to, revoked_in}
 use Rattle.ucon_state.specs.Following.{Follows}
-use Rattle.ucon_state.specs.Shown.{shown}
+use Rattle.ucon_state.specs.Shown.{Shown, shown}
+use Rattle.ucon_actions.specs.Leads.{KeepsBase}
 use Rattle.ucon_plain.proofs.settle.settle.Goals as goal
 
-pub least_failing-requires-clause-following : goal.least_failing-requires-clause-following
-least_failing-requires-clause-following c =
-    let P = c.requires.following.policy in
-    let T = c.requires.following.trace in
-    record { policy = P; trace = settled_to c.turns.counter P T; follows = c.turns.invariant.leads P T c.requires.following.follows }
+-- one after the other
+base_on : (s s1 s2 : Shown) → KeepsBase s s1 → KeepsBase s1 s2 → KeepsBase s s2
+base_on s s1 s2 first then = record {
+  policy = then.policy ∙ first.policy;
+  opening_policy = then.opening_policy ∙ first.opening_policy;
+  opening = then.opening ∙ first.opening;
+  cells = λ side name attr cell here. then.cells side name attr cell (first.cells side name attr cell here);
+}
+
+pub least_failing-requires : goal.least_failing-requires
+least_failing-requires c =
+    let P = c.requires.policy in
+    let T = c.requires.trace in
+    record { policy = P; trace = settled_to c.turns.counter P T; follows = c.turns.invariant.leads P T c.requires.follows }
 
 pub returns-in-None-clause-leads : goal.returns-in-None-clause-leads
 returns-in-None-clause-leads c = λ P T h.
@@ -31,9 +41,9 @@ returns-in-None-clause-revoked c = λ P T h.
 
 pub revoke_next-requires-clause-following : goal.revoke_next-requires-clause-following
 revoke_next-requires-clause-following c =
-    let P = c.requires.following.policy in
-    let T = c.requires.following.trace in
-    record { policy = P; trace = settled_to c.turns.counter P T; follows = c.turns.invariant.leads P T c.requires.following.follows }
+    let P = c.requires.policy in
+    let T = c.requires.trace in
+    record { policy = P; trace = settled_to c.turns.counter P T; follows = c.turns.invariant.leads P T c.requires.follows }
 
 pub turns-preserved : goal.turns-preserved
 turns-preserved c =
@@ -50,14 +60,14 @@ turns-preserved c =
           rw c.in_ok-revoke_next-in-Some.ensures.revoked
           (ap (λ (rs : List Revoked). rs ++ record { session = found.0; label = found.1 } ∷ []) (c.turns.invariant.revoked P T h)
           ∙ sym (c.turns_follow_each_other.ensures.revokes i P T (found.0, found.1) (least P T h)));
-      fewer = λ n may. c.turns.invariant.fewer n (c.in_ok-revoke_next-in-Some.ensures.fewer n may);
-      base = record {
-        policy = c.in_ok-revoke_next-in-Some.ensures.base.policy ∙ c.turns.invariant.base.policy;
-        opening = c.in_ok-revoke_next-in-Some.ensures.base.opening ∙ c.turns.invariant.base.opening;
-      };
+      base = base_on s (shown c.turns.state) s2 c.turns.invariant.base c.in_ok-revoke_next-in-Some.ensures.base;
     }
 
 pub returns-clause-leads : goal.returns-clause-leads
 returns-clause-leads c = λ P T h.
     let all : c.turns.counter ≡ accessing T = omega (arith, c.turns-test.false, c.turns.auto.counter-end, c.accessing-turns.ensures.trace P T h) in
     subst (λ (k : ℕ). Follows (shown c.turns.state) P (settled_to k P T)) all (c.turns.invariant.leads P T h)
+
+pub returns-in_err-revoke_next-in-Some-clause-base : goal.returns-in_err-revoke_next-in-Some-clause-base
+returns-in_err-revoke_next-in-Some-clause-base c =
+    base_on (shown c.args.state.now) (shown c.turns.state) (shown c.revoke_next.new.state) c.turns.invariant.base c.in_err-revoke_next-in-Some.ensures.base

@@ -5,7 +5,6 @@ use Rattle.ucon_model.specs.Settle.{settle_within, settled_to, revoked_in}
 use Rattle.ucon_state.specs.Following.{Follows}
 use Rattle.ucon_state.specs.Shown.{shown}
 use Rattle.ucon_actions.specs.Leads.{Leads, KeepsBase}
-use Rattle.ucon_plain.specs.Watching.{NobodyMore}
 use Rattle.ucon_plain.proofs.settle.settle.Given as goal
 
 -- so many turns are taken
@@ -13,6 +12,5 @@ abbrev pub invariant-turns : goal.invariant-turns
 invariant-turns l = record {
   leads : Leads (shown l.fn.state) (shown l.state) (settled_to l.counter);
   revoked : (P : PlainPolicy) (T : Trace) → Follows (shown l.fn.state) P T → l.revoked.items ≡ revoked_in (settle_within l.counter P T);
-  fewer : NobodyMore (shown l.fn.state) (shown l.state);
   base : KeepsBase (shown l.fn.state) (shown l.state);
 }

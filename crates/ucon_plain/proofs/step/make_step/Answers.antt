@@ -6,31 +6,17 @@ use Rattle.ucon_model.specs.Settle.{fails_at}
 use Rattle.ucon_actions.specs.Gives.{Makes}
 use Rattle.ucon_state.specs.Following.{Follows}
 use Rattle.ucon_state.specs.Shown.{shown}
-use Rattle.ucon_plain.specs.Watched.{numbers_of}
 use Rattle.ucon_plain.proofs.Standing.{made_actions, made_after}
-use Rattle.ucon_plain.proofs.Watching.{watched_still}
 use Rattle.ucon_plain.proofs.step.make_step.Goals as goal
 
-pub settle-requires-clause-following : goal.settle-requires-clause-following
-settle-requires-clause-following c =
-    let P = c.requires.following.policy in
-    let T = c.requires.following.trace in
+pub settle-requires : goal.settle-requires
+settle-requires c =
+    let P = c.requires.policy in
+    let T = c.requires.trace in
     let s1 = shown c.own_actions.new.state in
-    let given : Makes c.in-Ok-Made.head s1 P T (own P T c.args.caller c.args.command.now) = rw c.in-Ok-Made.field-0-is at (c.in-Ok-Made.ensures.given P T c.requires.following.follows) in
+    let given : Makes c.in-Ok-Made.head s1 P T (own P T c.args.caller c.args.command.now) = rw c.in-Ok-Made.field-0-is at (c.in-Ok-Made.ensures.given P T c.requires.follows) in
     let done = made_actions c.in-Ok-Made.head s1 P T _ given in
     record { policy = P; trace = extended T done.0; follows = done.2 }
-
-pub settle-requires-clause-covers : goal.settle-requires-clause-covers
-settle-requires-clause-covers c =
-    let s = shown c.args.state.now in
-    let s1 = shown c.own_actions.new.state in
-    let P = c.requires.following.policy in
-    let T = c.requires.following.trace in
-    let h = c.requires.following.follows in
-    let given : Makes c.in-Ok-Made.head s1 P T (own P T c.args.caller c.args.command.now) = rw c.in-Ok-Made.field-0-is at (c.in-Ok-Made.ensures.given P T h) in
-    let done = made_actions c.in-Ok-Made.head s1 P T _ given in
-    watched_still s s1 P T c.args.caller c.args.command.now c.in-Ok-Made.head done.0 (numbers_of c.args.watched.now) (numbers_of c.watch_permitted.new.watched)
-    h done.2 done.1 c.requires.covers c.watch_permitted.ensures.watched c.in_ok-watch_permitted-in-Ok-Made.ensures.head
 
 pub returns-in_ok-revoked-in-Ok-Made-clause-changed : goal.returns-in_ok-revoked-in-Ok-Made-clause-changed
 returns-in_ok-revoked-in-Ok-Made-clause-changed c _ = λ P T h.
@@ -47,16 +33,3 @@ returns-in_ok-revoked-in-Ok-Made-clause-nobody c _ = λ P T h n.
     let done = made_actions c.in-Ok-Made.head s1 P T _ given in
     subst (λ (U : Trace). fails_at P U n ≡ None) (made_after c.actions_are_done_in_order.ensures P T c.args.caller c.args.command.now c.in-Ok-Made.head done.0 done.1)
     (c.nobody_fails_after_settling.ensures.nobody P (extended T done.0) n done.2.sound.numbered)
-
-pub returns-in_ok-revoked-in-Ok-Made-clause-covers : goal.returns-in_ok-revoked-in-Ok-Made-clause-covers
-returns-in_ok-revoked-in-Ok-Made-clause-covers c =
-    let s = shown c.args.state.now in
-    let s1 = shown c.own_actions.new.state in
-    let P = c.requires.following.policy in
-    let T = c.requires.following.trace in
-    let h = c.requires.following.follows in
-    let given : Makes c.in-Ok-Made.head s1 P T (own P T c.args.caller c.args.command.now) = rw c.in-Ok-Made.field-0-is at (c.in-Ok-Made.ensures.given P T h) in
-    let done = made_actions c.in-Ok-Made.head s1 P T _ given in
-    let still = watched_still s s1 P T c.args.caller c.args.command.now c.in-Ok-Made.head done.0 (numbers_of c.args.watched.now) (numbers_of c.watch_permitted.new.watched)
-    h done.2 done.1 c.requires.covers c.watch_permitted.ensures.watched c.in_ok-watch_permitted-in-Ok-Made.ensures.head in
-    λ n may. still n (c.in_ok-revoked-in-Ok-Made.ensures.fewer n may)

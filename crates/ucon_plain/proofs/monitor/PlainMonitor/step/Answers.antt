@@ -11,7 +11,7 @@ use Rattle.ucon_plain.proofs.monitor.PlainMonitor.step.Goals as goal
 use Rattle.ucon_plain.proofs.monitor.PlainMonitor.step.Goals.{then-drafted, else-drafted}
 
 pub returns-in_err-drafted-clause-legal : goal.returns-in_err-drafted-clause-legal
-returns-in_err-drafted-clause-legal c = λ P H h. c.blocks_are_legal.ensures P h.follows.typed H c.args.caller c.args.command.now
+returns-in_err-drafted-clause-legal c = λ P H typed commands command. c.blocks_are_legal.ensures P typed H commands c.args.caller c.args.command.now command
 
 pub returns-in_err-drafted-clause-only : goal.returns-in_err-drafted-clause-only
 returns-in_err-drafted-clause-only c = λ P H actions. only_block c.settling_is_the_only_cascade.ensures P H c.args.caller c.args.command.now actions
@@ -28,7 +28,7 @@ returns-clause-follows c = λ P T h.
     ]
 
 pub returns-clause-legal : goal.returns-clause-legal
-returns-clause-legal c = λ P H h. c.blocks_are_legal.ensures P h.follows.typed H c.args.caller c.args.command.now
+returns-clause-legal c = λ P H typed commands command. c.blocks_are_legal.ensures P typed H commands c.args.caller c.args.command.now command
 
 pub returns-clause-only : goal.returns-clause-only
 returns-clause-only c = λ P H actions. only_block c.settling_is_the_only_cascade.ensures P H c.args.caller c.args.command.now actions

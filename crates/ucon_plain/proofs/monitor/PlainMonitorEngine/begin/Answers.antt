@@ -2,8 +2,6 @@ use Rattle.std.proofs.Common.{◌∙◌, sym, ap}
 use Rattle.ucon_model.specs.Checked.{checked_policy}
 use Rattle.ucon_state.specs.Applied.{opening_tables}
 use Rattle.ucon_state.specs.Shown.{shown}
-use Rattle.ucon_plain.specs.Watched.{numbers_of}
-use Rattle.ucon_plain.proofs.Watching.{nobody_may}
 use Rattle.ucon_plain.proofs.monitor.PlainMonitorEngine.begin.Goals as goal
 
 pub returns : goal.returns
@@ -13,6 +11,6 @@ returns c =
     let follows = c.each_action_is_followed.ensures.opening s P c.args.checked.typed c.in_ok-state.ensures.policy (c.in_ok-state.ensures.tables ∙ ap opening_tables (sym c.in_ok-state.ensures.policy)) in
     record {
       follows = follows;
+      settled_policy = c.in_ok-state.ensures.opening_policy ∙ sym c.in_ok-state.ensures.policy;
       settled = c.in_ok-state.ensures.opening ∙ sym c.in_ok-state.ensures.tables;
-      covers = nobody_may s P (numbers_of c.new-2.result) follows;
     }

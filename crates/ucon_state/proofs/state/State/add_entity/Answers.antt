@@ -4,6 +4,7 @@ use Rattle.ucon_state.specs.Shown.{right_names}
 use Rattle.ucon_state.specs.Sound.{IsKept}
 use Rattle.ucon_state.specs.Stored.{named}
 use Rattle.ucon_state.specs.Views.{lists_of}
+use Rattle.ucon_state.specs.declared.change.Undo.TheVariants.{Changed}
 use Rattle.ucon_state.proofs.Stages.{noted_sound, noted_shown, numbered_now, sound_now}
 use Rattle.ucon_state.specs.Applied.{defaults_of, with_new_entity}
 use Rattle.ucon_state.proofs.Numbered.{named_entity, numbered_entity}
@@ -15,7 +16,7 @@ invariant_of-self-2 c =
     let P = checked_policy c.args.self.now.checked in
     let R = right_names c.args.self.now in
     let t = lists_of c.args.self.now.tables in
-    let added = c.push_reserved.ensures.items ∙ ap (λ cs. cs ++ c.in_ok-change.change ∷ []) c.reserve.ensures.items in
+    let added = c.push_reserved.ensures.items ∙ ap (λ cs. cs ++ Changed c.in_ok-change.change ∷ []) c.reserve.ensures.items in
     let before = sound_now P R c.args.self.now.changes.items t c.args.self.now.sound in
     let is = c.in_ok-change.ensures.ok ∙ ap (λ vs. with_new_entity t c.args.side c.args.name vs) c.in_ok-defaults.ensures in
     let small : length t.cells + length (defaults_of P c.args.side) < 2 ^ 32 =
@@ -29,7 +30,7 @@ returns-clause-ok c =
     let P = checked_policy c.args.self.now.checked in
     let R = right_names c.args.self.now in
     let t = lists_of c.args.self.now.tables in
-    let added = c.push_reserved.ensures.items ∙ ap (λ cs. cs ++ c.in_ok-change.change ∷ []) c.reserve.ensures.items in
+    let added = c.push_reserved.ensures.items ∙ ap (λ cs. cs ++ Changed c.in_ok-change.change ∷ []) c.reserve.ensures.items in
     let is = c.in_ok-change.ensures.ok ∙ ap (λ vs. with_new_entity t c.args.side c.args.name vs) c.in_ok-defaults.ensures in
     let numbered = numbered_now P R c.args.self.now.changes.items t c.args.self.now.sound in
     noted_shown P R _ _ c.in_ok-change.change t _ _ added c.in_ok-change.ensures.undone (ap (named R) is ∙ named_entity R t numbered P c.args.side c.args.name)

@@ -7,6 +7,7 @@ use Rattle.ucon_state.specs.Shown.{right_names}
 use Rattle.ucon_state.specs.Sound.{IsKept}
 use Rattle.ucon_state.specs.Stored.{NumbersAreBelow, named, row_of}
 use Rattle.ucon_state.specs.Views.{lists_of}
+use Rattle.ucon_state.specs.declared.change.Undo.TheVariants.{Changed}
 use Rattle.ucon_state.proofs.Stages.{noted_sound, noted_shown, numbered_now, sound_now}
 use Rattle.ucon_state.specs.Applied.{with_new_session}
 use Rattle.ucon_state.proofs.Numbered.{named_session, numbered_session}
@@ -18,7 +19,7 @@ invariant_of-self-2 c =
     let P = checked_policy c.args.self.now.checked in
     let R = right_names c.args.self.now in
     let t = lists_of c.args.self.now.tables in
-    let added = c.push_reserved.ensures.items ∙ ap (λ cs. cs ++ c.in_ok-change.change ∷ []) c.reserve.ensures.items in
+    let added = c.push_reserved.ensures.items ∙ ap (λ cs. cs ++ Changed c.in_ok-change.change ∷ []) c.reserve.ensures.items in
     let before = sound_now P R c.args.self.now.changes.items t c.args.self.now.sound in
     let numbered = numbered_now P R c.args.self.now.changes.items t c.args.self.now.sound in
     let s : Session = record { caller = c.args.caller; state = Requesting; right = c.args.right; subject = c.args.subject; object = c.args.object; start = pos 0 } in
@@ -34,7 +35,7 @@ returns-clause-ok c =
     let P = checked_policy c.args.self.now.checked in
     let R = right_names c.args.self.now in
     let t = lists_of c.args.self.now.tables in
-    let added = c.push_reserved.ensures.items ∙ ap (λ cs. cs ++ c.in_ok-change.change ∷ []) c.reserve.ensures.items in
+    let added = c.push_reserved.ensures.items ∙ ap (λ cs. cs ++ Changed c.in_ok-change.change ∷ []) c.reserve.ensures.items in
     let s : Session = record { caller = c.args.caller; state = Requesting; right = c.args.right; subject = c.args.subject; object = c.args.object; start = pos 0 } in
     let is = c.in_ok-change.ensures.ok ∙ ap (λ start. with_new_session t (record s { start = start })) c.zero.ensures in
     noted_shown P R _ _ c.in_ok-change.change t _ _ added c.in_ok-change.ensures.undone (ap (named R) is ∙ named_session R t s)

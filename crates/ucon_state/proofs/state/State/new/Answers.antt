@@ -4,7 +4,7 @@ use Rattle.ucon_base.specs.declared.value.Value.{Value}
 use Rattle.ucon_model.specs.Checked.{checked_policy}
 use Rattle.ucon_model.specs.Plain.{Bytes}
 use Rattle.ucon_state.specs.Applied.{opening_of}
-use Rattle.ucon_state.specs.Sound.{IsKept, AllSound}
+use Rattle.ucon_state.specs.Sound.{HasRights, IsKept, AllSound}
 use Rattle.ucon_state.specs.Stored.{Stored}
 use Rattle.ucon_state.specs.Views.{lists_of}
 use Rattle.ucon_state.proofs.Numbered.{none_numbered, own_rights}
@@ -21,10 +21,8 @@ invariant_of-result c =
     let opening : t ≡ first = c.new.ensures ∙ ap (λ (vs : List Value). record first { variables = vs }) c.in_ok-variables.ensures in
     let at_first : IsKept P R first = (opening_sound P, none_numbered R) in
     let kept : IsKept P R t = subst (IsKept P R) (sym opening) at_first in
-    record {
-      sound = subst (λ cs. AllSound P R cs t) (sym c.new-2.ensures.items) (sound_alone P R t kept);
-      has_rights = record {
-        few = omega (arith, c.if-len.false, c.len.ensures);
-        all = λ name has. ap (λ (names : List Bytes). is_some (position (bytes_eq name) names)) c.in_ok-rights.ensures ∙ own_rights P.rights name ∙ has;
-      };
-    }
+    let has_rights : HasRights P R = record {
+      few = omega (arith, c.if-len.false, c.len.ensures);
+      all = λ name has. ap (λ (names : List Bytes). is_some (position (bytes_eq name) names)) c.in_ok-rights.ensures ∙ own_rights P.rights name ∙ has;
+    } in
+    record { sound = subst (λ cs. AllSound P R cs t) (sym c.new-2.ensures.items) (sound_alone P R t kept has_rights); has_rights = has_rights }

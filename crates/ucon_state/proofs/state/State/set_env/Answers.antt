@@ -11,6 +11,7 @@ use Rattle.ucon_state.specs.Stored.{named}
 use Rattle.ucon_state.specs.Views.{lists_of}
 use Rattle.ucon_state.proofs.Places.{found_place, position_within}
 use Rattle.ucon_state.proofs.Sounds.{variable_sound}
+use Rattle.ucon_state.specs.declared.change.Undo.TheVariants.{Changed}
 use Rattle.ucon_state.proofs.Stages.{noted_sound, noted_shown, numbered_now, sound_now}
 use Rattle.ucon_state.proofs.state.State.set_env.Goals as goal
 
@@ -33,7 +34,7 @@ invariant_of-self-2 c =
     let P = checked_policy c.args.self.now.checked in
     let R = right_names c.args.self.now in
     let t = lists_of c.args.self.now.tables in
-    let added = c.push_reserved.ensures.items ∙ ap (λ cs. cs ++ c.set_variable-change.result ∷ []) c.reserve.ensures.items in
+    let added = c.push_reserved.ensures.items ∙ ap (λ cs. cs ++ Changed c.set_variable-change.result ∷ []) c.reserve.ensures.items in
     let now = variable_sound P t (sound_now P R c.args.self.now.changes.items t c.args.self.now.sound) _ _ in
     let numbered = numbered_now P R c.args.self.now.changes.items t c.args.self.now.sound in
     record { sound = noted_sound P R _ _ c.set_variable-change.result t _ added c.set_variable-change.ensures.undone c.args.self.now.sound (subst (IsKept P R) (sym c.set_variable-change.ensures.tables) (now, numbered)); has_rights = c.args.self.now.has_rights }
@@ -43,6 +44,6 @@ returns-clause-ok c =
     let P = checked_policy c.args.self.now.checked in
     let R = right_names c.args.self.now in
     let t = lists_of c.args.self.now.tables in
-    let added = c.push_reserved.ensures.items ∙ ap (λ cs. cs ++ c.set_variable-change.result ∷ []) c.reserve.ensures.items in
+    let added = c.push_reserved.ensures.items ∙ ap (λ cs. cs ++ Changed c.set_variable-change.result ∷ []) c.reserve.ensures.items in
     let is = ap (named R) c.set_variable-change.ensures.tables ∙ ap (λ o. option_map_or (λ place. with_variable (named R t) place c.args.value) o (named R t)) (sym c.unwrap-place.ensures ∙ (c.env_position.ensures ∙ ap (λ (Q : PlainPolicy). env_position Q c.args.name.now) c.policy.ensures.policy)) in
     noted_shown P R _ _ c.set_variable-change.result t _ _ added c.set_variable-change.ensures.undone is

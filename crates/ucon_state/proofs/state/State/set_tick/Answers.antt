@@ -4,6 +4,7 @@ use Rattle.ucon_state.specs.Shown.{right_names}
 use Rattle.ucon_state.specs.Sound.{IsKept}
 use Rattle.ucon_state.specs.Stored.{named}
 use Rattle.ucon_state.specs.Views.{lists_of}
+use Rattle.ucon_state.specs.declared.change.Undo.TheVariants.{Changed}
 use Rattle.ucon_state.proofs.Stages.{noted_sound, noted_shown, numbered_now, sound_now}
 use Rattle.ucon_state.proofs.Sounds.{tick_sound}
 use Rattle.ucon_state.proofs.state.State.set_tick.Goals as goal
@@ -13,7 +14,7 @@ invariant_of-self-2 c =
     let P = checked_policy c.args.self.now.checked in
     let R = right_names c.args.self.now in
     let t = lists_of c.args.self.now.tables in
-    let added = c.push_reserved.ensures.items ∙ ap (λ cs. cs ++ c.set_tick-change.result ∷ []) c.reserve.ensures.items in
+    let added = c.push_reserved.ensures.items ∙ ap (λ cs. cs ++ Changed c.set_tick-change.result ∷ []) c.reserve.ensures.items in
     let now = tick_sound P t (sound_now P R c.args.self.now.changes.items t c.args.self.now.sound) c.args.tick in
     let numbered = numbered_now P R c.args.self.now.changes.items t c.args.self.now.sound in
     record { sound = noted_sound P R _ _ c.set_tick-change.result t _ added c.set_tick-change.ensures.undone c.args.self.now.sound (subst (IsKept P R) (sym c.set_tick-change.ensures.tables) (now, numbered)); has_rights = c.args.self.now.has_rights }
@@ -23,5 +24,5 @@ returns-clause-ok c =
     let P = checked_policy c.args.self.now.checked in
     let R = right_names c.args.self.now in
     let t = lists_of c.args.self.now.tables in
-    let added = c.push_reserved.ensures.items ∙ ap (λ cs. cs ++ c.set_tick-change.result ∷ []) c.reserve.ensures.items in
+    let added = c.push_reserved.ensures.items ∙ ap (λ cs. cs ++ Changed c.set_tick-change.result ∷ []) c.reserve.ensures.items in
     noted_shown P R _ _ c.set_tick-change.result t _ _ added c.set_tick-change.ensures.undone (ap (named R) c.set_tick-change.ensures.tables)

@@ -5,6 +5,7 @@ use Rattle.ucon_model.specs.History.{trace}
 use Rattle.ucon_model.specs.Payload.{payload_read, told}
 use Rattle.ucon_model.specs.Plain.{PlainPolicy, PlainReply}
 use Rattle.ucon_model.specs.Views.{reply_of}
+use Rattle.ucon_syntax.specs.Policies.{accepted}
 use Rattle.ucon_store.proofs.Stepping.{one_policy, trace_longer}
 use Rattle.ucon_store.proofs.Taking.{drafted_taken, drafted_refused, unchanged_drafted}
 use Rattle.ucon_store.proofs.loading.Loaded.take.Goals as goal
@@ -14,7 +15,7 @@ returns-then-not-drafted-clause-wrong g c = λ _ P accepts.
     let H = c.args.self.now.entries.items in
     let payload = c.args.payload.now in
     let e = c.in-Some.entry in
-    let read = subst (λ (o : Option Entry). MatchOption o ((place : ℕ) × (payload_read payload ≡ Err place)) (λ e. (reply : PlainReply) × (payload_read payload ≡ Ok (told e reply)))) c.in-Some.is c.in_ok-entry.ensures.read in
+    let read = subst (λ (o : Option Entry). MatchOption o ((place : ℕ) × (payload_read accepted payload ≡ Err place)) (λ e. (reply : PlainReply) × (payload_read accepted payload ≡ Ok (told e reply)))) c.in-Some.is c.in_ok-entry.ensures.read in
     let same = one_policy c.args.self.now.policy.items c.requires.standing.P P c.requires.standing.accepts accepts in
     let stands = subst (λ (Q : PlainPolicy). g.E.Engine.follows c.args.self.now.engine Q (trace Q H)) same c.requires.standing.stands in
     let unchanged : c.in_ok-drafted.drafted.changes ≡ false = search rules in
@@ -26,7 +27,7 @@ returns-then-ne-clause-wrong g c = λ _ P accepts.
     let H = c.args.self.now.entries.items in
     let payload = c.args.payload.now in
     let e = c.in-Some.entry in
-    let read = subst (λ (o : Option Entry). MatchOption o ((place : ℕ) × (payload_read payload ≡ Err place)) (λ e. (reply : PlainReply) × (payload_read payload ≡ Ok (told e reply)))) c.in-Some.is c.in_ok-entry.ensures.read in
+    let read = subst (λ (o : Option Entry). MatchOption o ((place : ℕ) × (payload_read accepted payload ≡ Err place)) (λ e. (reply : PlainReply) × (payload_read accepted payload ≡ Ok (told e reply)))) c.in-Some.is c.in_ok-entry.ensures.read in
     let same = one_policy c.args.self.now.policy.items c.requires.standing.P P c.requires.standing.accepts accepts in
     let stands = subst (λ (Q : PlainPolicy). g.E.Engine.follows c.args.self.now.engine Q (trace Q H)) same c.requires.standing.stands in
     let changed : c.in_ok-drafted.drafted.changes ≡ true = search rules in
@@ -39,7 +40,7 @@ returns-clause-taken g c = λ _.
     let H = c.args.self.now.entries.items in
     let payload = c.args.payload.now in
     let e = c.in-Some.entry in
-    let read = subst (λ (o : Option Entry). MatchOption o ((place : ℕ) × (payload_read payload ≡ Err place)) (λ e. (reply : PlainReply) × (payload_read payload ≡ Ok (told e reply)))) c.in-Some.is c.in_ok-entry.ensures.read in
+    let read = subst (λ (o : Option Entry). MatchOption o ((place : ℕ) × (payload_read accepted payload ≡ Err place)) (λ e. (reply : PlainReply) × (payload_read accepted payload ≡ Ok (told e reply)))) c.in-Some.is c.in_ok-entry.ensures.read in
     let Q = c.requires.standing.P in
     let changed : c.in_ok-drafted.drafted.changes ≡ true = search rules in
     let same : c.in_ok-text.text.items ≡ payload = search rules in

@@ -50,7 +50,7 @@ returns-else-not-taken-clause-loading g c = λ _.
     let one = c.in_ok-taken-in-Ok-true.ensures.one was_taken in
     let more = more_told o (λ file. payloads_from file gate ≡ payload ∷ payloads_from file next) (λ file. payloads_from file gate ≡ []) c.in-Ok-true.field-0 c.in-Ok-true.field-0-test c.in-Ok-true.ensures.taken in
     let on : next ≡ gate + 5 + length payload = c.in-Ok-true.ensures.advance (ap Ok c.in-Ok-true.field-0-test) in
-    let takes = subst (λ (x : Bytes). taken P H x ≡ Some later) c.payload.ensures (t.1 P loading.standing.accepts) in
+    let takes = subst (λ (x : Bytes). taken accepted P H x ≡ Some later) c.payload.ensures (t.1 P loading.standing.accepts) in
     let same_text : c.take.new.self.policy.items ≡ text = c.in_ok-taken-in-Ok-true.ensures.policy in
     let same_policy : t.0.P ≡ P = one_policy text t.0.P P (sym (ap accepted same_text) ∙ t.0.accepts) loading.standing.accepts in
     record {

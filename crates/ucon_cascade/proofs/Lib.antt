@@ -1,0 +1,13 @@
+pub mod Standing
+pub mod Walking
+pub mod Alike
+pub mod Anew
+pub mod Begun
+pub mod Monitored
+pub mod Numbers
+pub mod Covering
+pub mod Exact
+pub mod Following
+pub mod Putting
+pub mod Targets
+pub mod Timed

@@ -1,0 +1,78 @@
+-- Who is put into the work, target by target.
+use Rattle.std.proofs.Common.{◌≡◌, ◌↔◌, ◌⊎◌, ◌∙◌, ◌+◌, ◌<◌, ℕ, true, false, List, [], ◌∷◌, ◌++◌, length, get_or, take, map, ap, refl, sym, subst}
+use Rattle.std.specs.Prelude.{filter, Some, None}
+use Rattle.std.specs.List.{Contains}
+use Rattle.std.proofs.lemmas.List.{map-append, map_more}
+use Rattle.std.proofs.lemmas.List.Elements.{filter-append}
+use Rattle.ucon_model.specs.declared.policy.Update.{Update}
+use Rattle.ucon_model.specs.declared.policy.When.{When}
+use Rattle.ucon_model.specs.declared.session.SessionRow.{SessionRow}
+use Rattle.ucon_model.specs.Plain.{PlainUpdate}
+use Rattle.ucon_model.specs.Reach.{Location, target, targets}
+use Rattle.ucon_model.specs.Updates.{same_when, updates_of}
+use Rattle.ucon_model.specs.Views.{update_of}
+use Rattle.ucon_state.specs.Shown.{Shown}
+use Rattle.ucon_state.specs.Tables.{session_in}
+use Rattle.ucon_cascade.specs.Numbering.{place_number}
+use Rattle.ucon_cascade.specs.Putting.{GainsThose, StandsAt, StandsAtOne, targets_in}
+use Rattle.ucon_cascade.proofs.Putting.{gains_both, gains_like, stands_at_both, stands_at_only}
+
+-- ---- who stands at a location
+
+pub nobody_at : (s : Shown) (standing : ℕ → List ℕ) (location : Location) → place_number s location ≡ None → (n : ℕ) → StandsAt s standing location n → ⊥
+nobody_at s standing location none n at = let no : None ≡ Some at.place = sym none ∙ at.is in cc
+
+at_place : (s : Shown) (standing : ℕ → List ℕ) (location : Location) (place : ℕ) → place_number s location ≡ Some place → (n : ℕ)
+    → Contains (standing place) n ↔ StandsAt s standing location n
+at_place s standing location place is n = (
+  λ has. record { place = place; is = is; stands = has },
+  λ at. (let both : Some at.place ≡ Some place = sym at.is ∙ is in let same : at.place ≡ place = cc in subst (λ (p : ℕ). Contains (standing p) n) same at.stands),
+)
+
+pub gains_at : (s : Shown) (standing : ℕ → List ℕ) (old new : List ℕ) (location : Location) (place : ℕ) → place_number s location ≡ Some place
+    → GainsThose old new (λ n. Contains (standing place) n) → GainsThose old new (StandsAt s standing location)
+gains_at s standing old new location place is gains =
+    gains_like old new (λ n. Contains (standing place) n) (StandsAt s standing location) (at_place s standing location place is) gains
+
+-- ---- where one update writes
+
+pub no_target : (row : SessionRow) (when : When) (u : PlainUpdate) → same_when when u.when ≡ false → [] ≡ targets row when (u ∷ [])
+no_target row when u other = rw other refl
+
+pub one_target : (row : SessionRow) (when : When) (u : PlainUpdate) → same_when when u.when ≡ true → target row u ∷ [] ≡ targets row when (u ∷ [])
+one_target row when u same = rw same refl
+
+-- where a session's updates write
+
+pub targets_none : (s : Shown) (n : ℕ) (when : When) → session_in s.tables n ≡ None → targets_in s n when ≡ []
+targets_none s n when none = rw none refl
+
+pub targets_at : (s : Shown) (n : ℕ) (when : When) (row : SessionRow) → session_in s.tables n ≡ Some row → targets_in s n when ≡ targets row when (updates_of s.policy row)
+targets_at s n when row is = rw is refl
+
+-- ---- one update more
+
+targets_append : (row : SessionRow) (when : When) (us vs : List PlainUpdate) → targets row when (us ++ vs) ≡ targets row when us ++ targets row when vs
+targets_append row when us vs =
+    ap (map (target row)) (filter-append (λ u. same_when when u.when) us vs)
+    ∙ map-append (target row) (filter (λ u. same_when when u.when) us) (filter (λ u. same_when when u.when) vs)
+
+pub targets_more : (row : SessionRow) (when : When) (us : List Update) (i : ℕ) (d : Update) → i < length us
+    → targets row when (map update_of (take (i + 1) us))
+    ≡ targets row when (map update_of (take i us)) ++ targets row when (update_of (get_or us i d) ∷ [])
+targets_more row when us i d within = ap (targets row when) (map_more update_of us i d within) ∙ targets_append row when (map update_of (take i us)) (update_of (get_or us i d) ∷ [])
+
+-- ---- who gains
+
+-- those who stand at these and then at those
+pub gains_more : (s : Shown) (standing : ℕ → List ℕ) (old mid new : List ℕ) (locations more : List Location)
+    → GainsThose old mid (StandsAtOne s standing locations) → GainsThose mid new (StandsAtOne s standing more)
+    → GainsThose old new (StandsAtOne s standing (locations ++ more))
+gains_more s standing old mid new locations more first then =
+    gains_like old new (λ n. StandsAtOne s standing more n ⊎ StandsAtOne s standing locations n) (StandsAtOne s standing (locations ++ more)) (λ n. stands_at_both s standing locations more n)
+    (gains_both old mid new (StandsAtOne s standing locations) (StandsAtOne s standing more) first then)
+
+-- those who stand at one
+pub gains_one : (s : Shown) (standing : ℕ → List ℕ) (old new : List ℕ) (location : Location)
+    → GainsThose old new (StandsAt s standing location) → GainsThose old new (StandsAtOne s standing (location ∷ []))
+gains_one s standing old new location gains = gains_like old new (StandsAt s standing location) (StandsAtOne s standing (location ∷ [])) (λ n. stands_at_only s standing location n) gains

@@ -1,0 +1,13 @@
+use Rattle.std.proofs.Common.{refl}
+use Rattle.ucon_state.specs.Shown.{shown}
+use Rattle.ucon_cascade.specs.Readers.{readers_at}
+use Rattle.ucon_cascade.proofs.Following.{exact_like}
+use Rattle.ucon_cascade.proofs.Standing.{kept_gives}
+use Rattle.ucon_cascade.proofs.follow.read_anew.Goals as goal
+
+pub returns-in_err-all-clause-undo : goal.returns-in_err-all-clause-undo
+returns-in_err-all-clause-undo c = kept_gives c.args.readers.now (readers_at c.args.readers.now) c.requires.kept (λ place. refl)
+
+pub returns-clause-exact : goal.returns-clause-exact
+returns-clause-exact c =
+    exact_like (shown c.args.state.now) (readers_at c.in_ok-all.all) (readers_at c.replace.new.self) c.replace.ensures.read c.in_ok-all.ensures

@@ -1,0 +1,81 @@
+use Rattle.std.proofs.Common.{◌≡◌, ◌∙◌, refl, subst}
+use Rattle.std.specs.Prelude.{None}
+use Rattle.ucon_actions.specs.Gives.{Makes}
+use Rattle.ucon_model.specs.Action.{Trace, extended}
+use Rattle.ucon_model.specs.OwnActions.{own}
+use Rattle.ucon_model.specs.Settle.{fails_at}
+use Rattle.ucon_state.specs.Following.{Follows}
+use Rattle.ucon_state.specs.Shown.{shown}
+use Rattle.ucon_cascade.specs.Readers.{readers_at}
+use Rattle.ucon_cascade.proofs.Monitored.{made_actions, made_after, made_reply, on_err, opening_on, stands_before}
+use Rattle.ucon_cascade.proofs.Standing.{kept_gives}
+use Rattle.ucon_cascade.proofs.monitor.Monitor.make_step.Goals as goal
+
+pub own_actions-requires : goal.own_actions-requires
+own_actions-requires c = record { policy = c.requires.policy; trace = c.requires.trace; follows = c.requires.holds.stands.follows }
+
+pub go_on-requires-clause-made : goal.go_on-requires-clause-made
+go_on-requires-clause-made c =
+    let P = c.requires.policy in
+    let T = c.requires.trace in
+    record {
+      was = shown c.args.self.now.state;
+      policy = P;
+      trace = T;
+      caller = c.args.caller;
+      stood = c.requires.holds.stands;
+      base = c.own_actions.ensures.base;
+      made = rw c.in-Ok-Made.field-0-is at (c.in-Ok-Made.ensures.given P T c.requires.holds.stands.follows);
+    }
+
+pub returns-in-Err-NoMemory-clause-err : goal.returns-in-Err-NoMemory-clause-err
+returns-in-Err-NoMemory-clause-err c = λ P T h.
+    let r = c.args.self.now.readers in
+    record {
+      stood = readers_at r;
+      undone = kept_gives r (readers_at r) h.kept (λ place. refl);
+      stands = stands_before (shown c.args.self.now.state) (shown c.own_actions.new.state) (readers_at r) P T c.own_actions.ensures.opening h.settled h.stands;
+      limit = h.limit;
+    }
+
+pub returns-in_err-revoked-in-Ok-Made-clause-err : goal.returns-in_err-revoked-in-Ok-Made-clause-err
+returns-in_err-revoked-in-Ok-Made-clause-err c = on_err c.from_residual.result (λ P T h.
+    let s = shown c.args.self.now.state in
+    let s1 = shown c.own_actions.new.state in
+    let s2 = shown c.go_on.new.self.state in
+    record {
+      stood = readers_at c.args.self.now.readers;
+      undone = c.go_on.ensures.undo;
+      stands = stands_before s s2 (readers_at c.args.self.now.readers) P T (opening_on s s1 s2 c.own_actions.ensures.opening c.go_on.ensures.base) h.settled h.stands;
+      limit = c.go_on.ensures.limit ∙ h.limit;
+    })
+
+pub returns-in_ok-revoked-in-Ok-Made-clause-reply : goal.returns-in_ok-revoked-in-Ok-Made-clause-reply
+returns-in_ok-revoked-in-Ok-Made-clause-reply c = λ P T h.
+    let s1 = shown c.own_actions.new.state in
+    let given : Makes c.in-Ok-Made.head s1 P T (own P T c.args.caller c.args.command.now) = rw c.in-Ok-Made.field-0-is at (c.in-Ok-Made.ensures.given P T h.stands.follows) in
+    let done = made_actions c.in-Ok-Made.head s1 P T _ given in
+    made_reply P T c.args.caller c.args.command.now c.in-Ok-Made.head done.0 _ done.1 (c.in_ok-revoked-in-Ok-Made.ensures.revoked P (extended T done.0) done.2)
+
+pub returns-in_ok-revoked-in-Ok-Made-clause-pending : goal.returns-in_ok-revoked-in-Ok-Made-clause-pending
+returns-in_ok-revoked-in-Ok-Made-clause-pending c _ = λ P T h.
+    let s = shown c.args.self.now.state in
+    let s1 = shown c.own_actions.new.state in
+    let s2 = shown c.go_on.new.self.state in
+    let given : Makes c.in-Ok-Made.head s1 P T (own P T c.args.caller c.args.command.now) = rw c.in-Ok-Made.field-0-is at (c.in-Ok-Made.ensures.given P T h.stands.follows) in
+    let done = made_actions c.in-Ok-Made.head s1 P T _ given in
+    let after_it = made_after c.actions_are_done_in_order.ensures P T c.args.caller c.args.command.now c.in-Ok-Made.head done.0 done.1 in
+    record {
+      stands = record {
+        follows = subst (λ (U : Trace). Follows s2 P U) after_it (c.in_ok-revoked-in-Ok-Made.ensures.leads P (extended T done.0) done.2);
+        nobody = λ n. subst (λ (U : Trace). fails_at P U n ≡ None) after_it (c.nobody_fails_after_settling.ensures.nobody P (extended T done.0) n done.2.sound.numbered);
+        exact = c.in_ok-revoked-in-Ok-Made.ensures.exact;
+      };
+      back = record {
+        stood = readers_at c.args.self.now.readers;
+        undone = c.go_on.ensures.undo;
+        stands = stands_before s s2 (readers_at c.args.self.now.readers) P T (opening_on s s1 s2 c.own_actions.ensures.opening c.go_on.ensures.base) h.settled h.stands;
+        limit = c.go_on.ensures.limit ∙ h.limit;
+      };
+      no_work = c.in_ok-revoked-in-Ok-Made.ensures.done;
+    }

@@ -1,0 +1,29 @@
+use Rattle.std.proofs.Common.{◌≡◌, ◌∙◌, ap, subst, sym}
+use Rattle.ucon_model.specs.Block.{after}
+use Rattle.ucon_state.specs.Shown.{Shown, kept, shown}
+use Rattle.ucon_cascade.specs.Monitor.{Stands}
+use Rattle.ucon_cascade.specs.Readers.{readers_at}
+use Rattle.ucon_cascade.proofs.Monitored.{stands_kept, stands_like}
+use Rattle.ucon_cascade.proofs.monitor.MonitorEngine.keep.Goals as goal
+
+pub returns-clause-follows : goal.returns-clause-follows
+returns-clause-follows c = λ P T e h.
+    let s = shown c.args.self.now.state in
+    let r = c.args.self.now.readers in
+    let r' = c.keep-2.new.self in
+    let U = after P T e.caller e.command in
+    let is : shown c.keep.new.self ≡ kept s = c.keep.ensures in
+    record {
+      stands = subst (λ (x : Shown). Stands x (readers_at r') P U) (sym is)
+          (stands_like (kept s) (readers_at r) (readers_at r') P U c.keep-2.ensures.read (stands_kept s (readers_at r) P U h.stands));
+      settled = record {
+        policy = ap (λ (x : Shown). x.opening_policy) is ∙ sym (ap (λ (x : Shown). x.policy) is);
+        tables = ap (λ (x : Shown). x.opening) is ∙ sym (ap (λ (x : Shown). x.tables) is);
+      };
+      kept = c.keep-2.ensures.kept;
+      limit = h.back.limit;
+      no_work = h.no_work;
+    }
+
+pub returns-clause-nobody_fails : goal.returns-clause-nobody_fails
+returns-clause-nobody_fails c = λ P T e h n. h.stands.nobody n

@@ -1,0 +1,63 @@
+use Rattle.std.proofs.Common.{◌≡◌, ◌∙◌, ◌∷◌, [], List, get_or, map, take, ap, sym, subst}
+use Rattle.std.proofs.lemmas.List.{take_all}
+use Rattle.ucon_model.specs.declared.policy.Update.{Update}
+use Rattle.ucon_model.specs.Plain.{PlainPolicy, PlainUpdate}
+use Rattle.ucon_model.specs.Reach.{Location, targets}
+use Rattle.ucon_model.specs.Updates.{updates_of}
+use Rattle.ucon_model.specs.Views.{update_of}
+use Rattle.ucon_state.specs.Shown.{shown}
+use Rattle.ucon_cascade.specs.Putting.{AllBelow, GainsThose, StandsAtOne}
+use Rattle.ucon_cascade.specs.Readers.{readers_at}
+use Rattle.ucon_cascade.proofs.Putting.{gains_none}
+use Rattle.ucon_cascade.proofs.Targets.{gains_more, targets_at, targets_more, targets_none}
+use Rattle.ucon_cascade.proofs.own_work.put_targets.Goals as goal
+
+pub returns-in_default-clause-members : goal.returns-in_default-clause-members
+returns-in_default-clause-members c =
+    let s = shown c.args.state.now in
+    let standing = readers_at c.args.readers.now in
+    let m = c.args.work.now.members in
+    subst (λ (locations : List Location). GainsThose m m (StandsAtOne s standing locations)) (sym (targets_none s c.args.n c.args.when (sym c.session.ensures.tables ∙ c.in_default.is)))
+    (gains_none m (StandsAtOne s standing []) (λ n none. none))
+
+pub loop-u-init : goal.loop-u-init
+loop-u-init c = record {
+  members = gains_none c.args.work.now.members (StandsAtOne (shown c.args.state.now) (readers_at c.args.readers.now) []) (λ n none. none);
+  limit = search;
+}
+
+pub put_target-requires : goal.put_target-requires
+put_target-requires c = subst (AllBelow (readers_at c.args.readers.now)) (sym c.loop-u.invariant.limit) c.requires
+
+pub loop-u-preserved : goal.loop-u-preserved
+loop-u-preserved c =
+    let s = shown c.args.state.now in
+    let standing = readers_at c.args.readers.now in
+    let row = c.in-Some.row in
+    let us = c.updates_of-updates.result.now in
+    let i = c.loop-u.u-index in
+    let u = c.u-item.result in
+    let last = λ (v : Update). GainsThose c.loop-u.work.members c.put_target.new.work.members (StandsAtOne s standing (targets row c.args.when (update_of v ∷ []))) in
+    let more = gains_more s standing c.args.work.now.members c.loop-u.work.members c.put_target.new.work.members
+    (targets row c.args.when (map update_of (take i us))) (targets row c.args.when (update_of (get_or us i u) ∷ []))
+    c.loop-u.invariant.members (subst last c.u-item.is c.put_target.ensures.members) in
+    record {
+      members = subst (λ (locations : List Location). GainsThose c.args.work.now.members c.put_target.new.work.members (StandsAtOne s standing locations))
+          (sym (targets_more row c.args.when us i u c.loop-u-test.true)) more;
+      limit = c.put_target.ensures.limit ∙ c.loop-u.invariant.limit;
+    }
+
+pub returns-clause-members : goal.returns-clause-members
+returns-clause-members c =
+    let s = shown c.args.state.now in
+    let standing = readers_at c.args.readers.now in
+    let row = c.in-Some.row in
+    let us = c.updates_of-updates.result.now in
+    let i = c.loop-u.u-index in
+    let seen : map update_of us ≡ updates_of s.policy row = c.updates_of-updates.ensures ∙ ap (λ (Q : PlainPolicy). updates_of Q row) (c.policy.ensures.policy ∙ c.checked.ensures) in
+    let whole : take i us ≡ us = take_all i us c.loop-u-test.false in
+    subst (λ (locations : List Location). GainsThose c.args.work.now.members c.loop-u.work.members (StandsAtOne s standing locations))
+    (ap (λ (xs : List Update). targets row c.args.when (map update_of xs)) whole
+    ∙ ap (λ (xs : List PlainUpdate). targets row c.args.when xs) seen
+    ∙ sym (targets_at s c.args.n c.args.when row (sym c.session.ensures.tables ∙ c.in-Some.is)))
+    c.loop-u.invariant.members

@@ -1,0 +1,5 @@
+pub mod Numbering
+pub mod Putting
+pub mod Readers
+pub mod Cascading
+pub mod Monitor

@@ -1,0 +1,171 @@
+//! The indexed monitor.
+
+ghost use Rattle.std.specs.Prelude.{◌≡◌, [], IfOk, OnErr, OnOk, IsTrue, IsFalse};
+ghost use Rattle.ucon_actions.specs.Leads.{AfterEach, KeepsBase, Leads};
+ghost use Rattle.ucon_cascade.specs.Numbering.{IsExact};
+ghost use Rattle.ucon_cascade.specs.Readers.{IsKept, UndoGives, readers_at};
+ghost use Rattle.ucon_model.specs.Action.{Trace, extended};
+ghost use Rattle.ucon_model.specs.Block.{reply as reply_to};
+ghost use Rattle.ucon_model.specs.History.{changes};
+ghost use Rattle.ucon_model.specs.Plain.{PlainPolicy};
+ghost use Rattle.ucon_model.specs.Settle.{revoked_in, settle};
+ghost use Rattle.ucon_model.specs.Views.{reply_of};
+ghost use Rattle.ucon_state.specs.Engine.{FollowsLike, IsIdle};
+ghost use Rattle.ucon_state.specs.Shown.{shown};
+
+use crate::follow::follow_actions;
+use crate::own_work::put_own_work;
+use crate::readers::Readers;
+use crate::settle::settle;
+use std::alloc::Global;
+use ucon_actions::{ActionFault, Outcome, own_actions};
+use ucon_base::{NoMemory, Rows, Steps};
+use ucon_model::{
+    Caller, Checked, Command, Head, Reply, Revoked, SessionState, View, actions_are_done_in_order,
+    heads_tell_whose_usage_begins_or_ends, nobody_fails_after_settling,
+    readings_that_agree_are_one, work_is_read_off_afterwards,
+};
+use ucon_pend::Pend;
+use ucon_state::{
+    Drafted, Engine, State, each_action_is_followed, sessions_are_few, tables_keep_what_is_followed,
+};
+
+/// After each change it rechecks the sessions that read what was changed, and no others but, at a tick, those over whom the tick decides,
+/// and all where the policy was replaced.
+#[derive(Drop)]
+pub struct Monitor {
+    alloc: Global,
+    state: State,
+    readers: Readers,
+    /// The sessions that are to be rechecked. Empty between two steps.
+    work: Pend,
+}
+
+impl Engine for Monitor {
+    ghost use Rattle.ucon_cascade.specs.Monitor.{IsReady, HasPending};
+
+    ghost follows = { IsReady };
+
+    ghost has_pending = { HasPending };
+
+    fn begin(alloc: Global, checked: Checked) -> Result<Monitor, NoMemory> {
+        each_action_is_followed();
+        let state = State::new(alloc, checked)?;
+        let readers = Readers::new(alloc)?;
+        let work = Pend::new(alloc, 1_048_577)?;
+        Ok(Monitor {
+            alloc,
+            state,
+            readers,
+            work,
+        })
+    }
+
+    fn draft(
+        &mut self,
+        caller: Caller,
+        command: &Command,
+        steps: &mut Steps,
+    ) -> Result<Drafted, NoMemory> {
+        match self.make_step(caller, command, steps) {
+            Ok(reply) => {
+                let changes = reply.changes();
+                Ok(Drafted { reply, changes })
+            }
+            Err(refused) => {
+                self.go_back();
+                Err(refused)
+            }
+        }
+    }
+
+    fn keep(&mut self) {
+        self.state.keep();
+        self.readers.keep();
+    }
+
+    fn undo(&mut self) {
+        self.go_back();
+    }
+
+    fn status(&self, session: u32) -> Option<SessionState> {
+        self.state.session_state(session)
+    }
+}
+
+impl Monitor {
+    ghost use Rattle.ucon_cascade.specs.Monitor.{AreMade, GoesBack, HasPending, IsReady, MayGoBack};
+
+    /// After want of memory the monitor may be anywhere within the step, and goes back.
+    fn make_step(
+        &mut self,
+        caller: Caller,
+        command: &Command,
+        steps: &mut Steps,
+    ) -> Result<Reply, NoMemory>
+        requires { IsIdle IsReady self.old }
+        ensures reply { IfOk result (λ r. (P : PlainPolicy) (T : Trace) → IsReady self.old P T → reply_of r ≡ reply_to P T caller command.now) }
+        ensures pending { IfOk result (λ r. IsTrue (changes (reply_of r))
+            → (P : PlainPolicy) (T : Trace) → IsReady self.old P T → HasPending self.new P T (record { caller = caller; command = command.now })) }
+        ensures unchanged { IfOk result (λ r. IsFalse (changes (reply_of r)) → FollowsLike IsReady self.old self.new) }
+        ensures err { OnErr result ((P : PlainPolicy) (T : Trace) → IsReady self.old P T → GoesBack self.new P T) }
+    {
+        actions_are_done_in_order();
+        nobody_fails_after_settling();
+        match own_actions(self.alloc, &mut self.state, caller, command) {
+            Err(ActionFault::NoMemory(refused)) => Err(refused),
+            Err(ActionFault::Refused(r)) => Ok(Reply::Refused(r)),
+            Ok(Outcome::Value(v)) => Ok(Reply::Value(v)),
+            Ok(Outcome::Status(n, state)) => Ok(Reply::Status(n, state)),
+            Ok(Outcome::Made(head)) => {
+                let revoked = self.go_on(command, &head, steps)?;
+                Ok(Reply::Made { head, revoked })
+            }
+        }
+    }
+
+    /// After a command's own actions: the readers follow them, whoever may have come to fail is put into the work, and it is worked off.
+    fn go_on(
+        &mut self,
+        command: &Command,
+        head: &Head,
+        steps: &mut Steps,
+    ) -> Result<Rows<Revoked>, NoMemory>
+        requires made { AreMade (shown self.old.state) (readers_at self.old.readers) command.now head.now }
+        requires kept { IsKept self.old.readers }
+        requires limit { self.old.work.limit ≡ 1048577 }
+        requires no_work { self.old.work.members ≡ [] }
+        ensures leads { OnOk result (Leads (shown self.old.state) (shown self.new.state) (λ P T. extended T (settle P T))) }
+        ensures revoked { IfOk result (λ revoked. AfterEach (shown self.old.state) (λ P T. revoked.items ≡ revoked_in (settle P T))) }
+        ensures exact { OnOk result (IsExact (shown self.new.state) (readers_at self.new.readers)) }
+        ensures undo { UndoGives self.new.readers (readers_at self.old.readers) }
+        ensures done { OnOk result (self.new.work.members ≡ []) }
+        ensures limit { self.new.work.limit ≡ self.old.work.limit }
+        ensures base { KeepsBase (shown self.old.state) (shown self.new.state) }
+    {
+        heads_tell_whose_usage_begins_or_ends();
+        readings_that_agree_are_one();
+        sessions_are_few();
+        tables_keep_what_is_followed();
+        work_is_read_off_afterwards();
+        follow_actions(self.alloc, &self.state, &mut self.readers, command, head)?;
+        put_own_work(&self.state, &self.readers, command, head, &mut self.work);
+        settle(
+            self.alloc,
+            &mut self.state,
+            &mut self.readers,
+            &mut self.work,
+            steps,
+        )
+    }
+
+    /// Gives back what stood at the last keep.
+    fn go_back(&mut self)
+        requires { MayGoBack self.old }
+        ensures { (P : PlainPolicy) (T : Trace) → GoesBack self.old P T → IsReady self.new P T }
+    {
+        self.work.clear();
+        self.readers.undo();
+        self.state.undo_all();
+    }
+}

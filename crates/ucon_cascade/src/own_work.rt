@@ -1,0 +1,175 @@
+//! Whom a command's own actions concern, read off the command and the head of its reply.
+
+ghost use Rattle.std.specs.Prelude.{◌≡◌, ◌<◌, ◌∷◌, ℕ, [], length};
+ghost use Rattle.ucon_model.specs.declared.reply.Head.TheVariants as heads;
+ghost use Rattle.ucon_model.specs.Reach.{attribute_of, targets, variable_of};
+ghost use Rattle.ucon_model.specs.Views.{update_of};
+ghost use Rattle.ucon_state.specs.Shown.{shown};
+ghost use Rattle.ucon_cascade.specs.Putting.{AllBelow, GainsThose, GoesOn, IsCommandWork, IsOwnWork, IsPermitWork, StandsAt, StandsAtOne, targets_in};
+ghost use Rattle.ucon_cascade.specs.Readers.{readers_at};
+
+use crate::places::{CLOCK, attribute_place, variable_place};
+use crate::readers::Readers;
+use ucon_actions::{entity_of, is_accessing, is_of, session, session_state, sessions, updates_of};
+use ucon_base::{Name, Side};
+use ucon_model::{Command, Head, SessionRow, Update, View, When};
+use ucon_pend::Pend;
+use ucon_state::State;
+
+/// Puts into the work who reads an attribute of an entity.
+fn put_attribute(
+    state: &State,
+    readers: &Readers,
+    side: Side,
+    name: &Name,
+    attr: &Name,
+    work: &mut Pend,
+)
+    requires { AllBelow (readers_at readers.now) work.old.limit }
+    ensures limit { work.new.limit ≡ work.old.limit }
+    ensures members { GainsThose work.old.members work.new.members
+        (StandsAt (shown state.now) (readers_at readers.now) (attribute_of side name.now attr.now)) }
+{
+    let Some(place) = attribute_place(state, side, name, attr) else {
+        return;
+    };
+    readers.put(place, work);
+}
+
+/// Puts into the work who reads a variable.
+fn put_variable(state: &State, readers: &Readers, name: &Name, work: &mut Pend)
+    requires { AllBelow (readers_at readers.now) work.old.limit }
+    ensures limit { work.new.limit ≡ work.old.limit }
+    ensures members { GainsThose work.old.members work.new.members
+        (StandsAt (shown state.now) (readers_at readers.now) (variable_of name.now)) }
+{
+    let Some(place) = variable_place(state, name) else {
+        return;
+    };
+    readers.put(place, work);
+}
+
+/// Puts into the work who reads where an update of a session's right writes, if it is of this time.
+fn put_target(
+    state: &State,
+    readers: &Readers,
+    row: &SessionRow,
+    u: &Update,
+    when: When,
+    work: &mut Pend,
+)
+    requires { AllBelow (readers_at readers.now) work.old.limit }
+    ensures limit { work.new.limit ≡ work.old.limit }
+    ensures members { GainsThose work.old.members work.new.members
+        (StandsAtOne (shown state.now) (readers_at readers.now) (targets row.now when (update_of u.now ∷ []))) }
+{
+    if !is_of(u, when) {
+        return;
+    }
+    put_attribute(
+        state,
+        readers,
+        u.side,
+        &entity_of(u.side, row),
+        &u.attr,
+        work,
+    );
+}
+
+/// Puts into the work who reads where the updates of a time of session n write.
+pub fn put_targets(state: &State, readers: &Readers, n: u32, when: When, work: &mut Pend)
+    requires { AllBelow (readers_at readers.now) work.old.limit }
+    ensures limit { work.new.limit ≡ work.old.limit }
+    ensures members { GainsThose work.old.members work.new.members
+        (StandsAtOne (shown state.now) (readers_at readers.now) (targets_in (shown state.now) n when)) }
+{
+    let Some(row) = session(state, n) else {
+        return;
+    };
+    let updates = updates_of(state.checked().policy(), &row);
+    for u in updates {
+        put_target(state, readers, &row, u, when, work);
+    }
+}
+
+/// Puts into the work whom a permit concerns, where the head tells one: its session, and who reads where the updates before its usage wrote.
+fn put_permitted(state: &State, readers: &Readers, head: &Head, work: &mut Pend)
+    requires below { AllBelow (readers_at readers.now) work.old.limit }
+    requires permitted { (n : ℕ) → head.now ≡ heads.Permitted n → n < work.old.limit }
+    ensures limit { work.new.limit ≡ work.old.limit }
+    ensures members { GainsThose work.old.members work.new.members (IsPermitWork (shown state.now) (readers_at readers.now) head.now) }
+{
+    let Head::Permitted(n) = head else {
+        return;
+    };
+    put_targets(state, readers, *n, When::Before, work);
+    work.put(*n);
+}
+
+/// Puts session n into the work, if it is accessing.
+fn put_if_accessing(state: &State, n: u32, work: &mut Pend)
+    requires { n < work.old.limit }
+    ensures limit { work.new.limit ≡ work.old.limit }
+    ensures members { GainsThose work.old.members work.new.members (λ m. (m ≡ n) × GoesOn (shown state.now) n) }
+{
+    if let Some(session) = session_state(state, n) {
+        if is_accessing(session) {
+            work.put(n);
+        }
+    }
+}
+
+/// Puts all accessing sessions into the work.
+fn put_accessing(state: &State, work: &mut Pend)
+    requires { length (shown state.now).tables.sessions < work.old.limit }
+    ensures limit { work.new.limit ≡ work.old.limit }
+    ensures members { GainsThose work.old.members work.new.members (GoesOn (shown state.now)) }
+{
+    for before in 0..sessions(state) {
+        put_if_accessing(state, before + 1, work);
+    }
+}
+
+/// Puts into the work whom a command concerns else.
+fn put_commanded(state: &State, readers: &Readers, command: &Command, work: &mut Pend)
+    requires below { AllBelow (readers_at readers.now) work.old.limit }
+    requires few { length (shown state.now).tables.sessions < work.old.limit }
+    ensures limit { work.new.limit ≡ work.old.limit }
+    ensures members { GainsThose work.old.members work.new.members (IsCommandWork (shown state.now) (readers_at readers.now) command.now) }
+{
+    match command {
+        Command::Set {
+            side,
+            name,
+            attr,
+            ..
+        } => put_attribute(state, readers, *side, name, attr, work),
+        Command::Env { name, .. } => put_variable(state, readers, name, work),
+        Command::Tick(_) => readers.put(CLOCK, work),
+        Command::Beat(n) => put_targets(state, readers, *n, When::During, work),
+        Command::End(n) => put_targets(state, readers, *n, When::AfterEnd, work),
+        Command::Amend(_) => put_accessing(state, work),
+        _ => {}
+    }
+}
+
+/// Puts into the work, after a command's own actions, whoever they may have made fail: who is permitted, who reads where they wrote, at a
+/// tick everybody over whom the tick decides, and everybody where the policy was replaced. An act makes nobody fail, and nobody reads of an
+/// entity that is new.
+pub fn put_own_work(
+    state: &State,
+    readers: &Readers,
+    command: &Command,
+    head: &Head,
+    work: &mut Pend,
+)
+    requires below { AllBelow (readers_at readers.now) work.old.limit }
+    requires few { length (shown state.now).tables.sessions < work.old.limit }
+    requires permitted { (n : ℕ) → head.now ≡ heads.Permitted n → n < work.old.limit }
+    ensures limit { work.new.limit ≡ work.old.limit }
+    ensures members { GainsThose work.old.members work.new.members
+        (IsOwnWork (shown state.now) (readers_at readers.now) command.now head.now) }
+{
+    put_commanded(state, readers, command, work);
+    put_permitted(state, readers, head, work);
+}

@@ -1,0 +1,119 @@
+//! The numbers of the places that sessions read: the clock, then the variables, then the cells.
+
+ghost use Rattle.std.specs.List.{Contains, list_any};
+ghost use Rattle.std.specs.Prelude.{◌≡◌, ◌==◌, ◌↔◌, ◌⊎◌, ◌++◌, ℕ, IfOk, OnOk};
+ghost use Rattle.ucon_links.specs.Lists.{IsDistinct};
+ghost use Rattle.ucon_model.specs.Reach.{attribute_of, is_by_tick, location_of, right_timed, variable_of};
+ghost use Rattle.ucon_model.specs.Views.{right_of};
+ghost use Rattle.ucon_state.specs.Shown.{shown};
+ghost use Rattle.ucon_cascade.specs.Numbering.{AreNumbered, HaveNumbers, clock_if, numbers_of, place_number, place_numbers};
+
+use crate::reads::is_timed;
+use std::alloc::{AllocError, Global};
+use ucon_base::{Name, NoMemory, Rows, Side};
+use ucon_check::places_read;
+use ucon_model::{Ref, Right, SessionRow, View};
+use ucon_state::State;
+
+/// The place of the clock, which each session reads over which the tick decides.
+pub const CLOCK: u32 = 0;
+
+/// The place of a variable. None where the policy in force has none of this name, or its number is none of a `u32`.
+pub fn variable_place(state: &State, name: &Name) -> Option<u32>
+    ensures { result ≡ place_number (shown state.now) (variable_of name.now) }
+{
+    let at = state.checked().policy().env_position(name)?;
+    let at = u32::try_from(at).ok()?;
+    at.checked_add(1)
+}
+
+/// The place of an attribute of an entity. None where one of them isn't there, or its number is none of a `u32`.
+pub fn attribute_place(state: &State, side: Side, name: &Name, attr: &Name) -> Option<u32>
+    ensures { result ≡ place_number (shown state.now) (attribute_of side name.now attr.now) }
+{
+    let entity = state.find(side, name)?;
+    let cell = state.cell(side, entity, attr)?;
+    let variables = u32::try_from(state.checked().policy().envs.len()).ok()?;
+    let first = variables.checked_add(1)?;
+    first.checked_add(cell)
+}
+
+/// The place of a reference for a session.
+pub fn place_of(state: &State, row: &SessionRow, place: &Ref) -> Option<u32>
+    ensures { result ≡ place_number (shown state.now) (location_of row.now place.now) }
+{
+    match place {
+        Ref::Subject(attr) => attribute_place(state, Side::Subject, &row.subject, attr),
+        Ref::Object(attr) => attribute_place(state, Side::Object, &row.object, attr),
+        Ref::Env(name) => variable_place(state, name),
+    }
+}
+
+/// The numbers of the places that a session reads, each once. One that is none of a `u32` is answered as want of memory.
+pub fn place_numbers(alloc: Global, state: &State, row: &SessionRow) -> Result<Rows<u32>, NoMemory>
+    ensures numbers { IfOk result (λ numbers. (n : ℕ) → Contains numbers.items n ↔ Contains (place_numbers (shown state.now) row.now) n) }
+    ensures distinct { IfOk result (λ numbers. IsDistinct numbers.items) }
+    ensures all { OnOk result (AreNumbered (shown state.now) row.now) }
+{
+    let Some(right) = state.checked().policy().right(&row.right) else {
+        return Ok(Rows::new(alloc));
+    };
+    let places = places_read(alloc, right)?;
+    let mut numbers = clock_number(alloc, right)?;
+    add_places(state, row, places.slice(), &mut numbers)?;
+    Ok(numbers)
+}
+
+/// The number of the clock, if the tick decides over what the right reads.
+fn clock_number(alloc: Global, right: &Right) -> Result<Rows<u32>, NoMemory>
+    ensures { IfOk result (λ numbers. numbers.items ≡ clock_if (list_any is_by_tick (right_timed (right_of right.now)))) }
+{
+    let mut numbers = Rows::new(alloc);
+    if !is_timed(right) {
+        return Ok(numbers);
+    }
+    numbers.push(CLOCK)?;
+    Ok(numbers)
+}
+
+/// Adds the numbers of places for a session, those that aren't there.
+fn add_places(
+    state: &State,
+    row: &SessionRow,
+    places: &[Ref],
+    numbers: &mut Rows<u32>,
+) -> Result<(), NoMemory>
+    requires { IsDistinct numbers.old.items }
+    ensures numbers { OnOk result ((n : ℕ) → Contains numbers.new.items n
+        ↔ Contains (numbers.old.items ++ numbers_of (shown state.now) row.now places.now) n) }
+    ensures distinct { OnOk result (IsDistinct numbers.new.items) }
+    ensures all { OnOk result (HaveNumbers (shown state.now) row.now places.now) }
+{
+    for place in places {
+        let Some(number) = place_of(state, row, place) else {
+            return Err(NoMemory::from(AllocError));
+        };
+        add_number(numbers, number)?;
+    }
+    Ok(())
+}
+
+/// Whether a number is one of these.
+fn is_among(number: u32, numbers: &[u32]) -> bool
+    ensures { result ≡ list_any (λ n. n == number) numbers.now }
+{
+    numbers.iter().any(|n| *n == number)
+}
+
+/// Adds a number, if it isn't there.
+fn add_number(numbers: &mut Rows<u32>, number: u32) -> Result<(), NoMemory>
+    requires { IsDistinct numbers.old.items }
+    ensures distinct { OnOk result (IsDistinct numbers.new.items) }
+    ensures members { OnOk result ((n : ℕ) → Contains numbers.new.items n ↔ ((n ≡ number) ⊎ Contains numbers.old.items n)) }
+{
+    if is_among(number, numbers.slice()) {
+        return Ok(());
+    }
+    numbers.push(number)?;
+    Ok(())
+}

@@ -1,0 +1,132 @@
+//! The cascade of revocations by a list of work: only who is in it is rechecked, least first.
+
+ghost use Rattle.std.specs.Prelude.{◌≡◌, ◌∷◌, [], ◌++◌, ℕ, Some, IfNone, IfOk, IfSome, OnOk, List};
+ghost use Rattle.ucon_model.specs.Action.{extended};
+ghost use Rattle.ucon_model.specs.Settle.{fails_at, least_failing, revocation, settle, revoked_in};
+ghost use Rattle.ucon_actions.specs.Leads.{AfterEach, IsFollowing, KeepsBase, Leads};
+ghost use Rattle.ucon_cascade.specs.Cascading.{CoversEach, work_of};
+ghost use Rattle.ucon_model.specs.Work.{Covers, joined, only};
+ghost use Rattle.ucon_cascade.specs.Numbering.{IsExact};
+ghost use Rattle.ucon_cascade.specs.Readers.{UndoGives, readers_at};
+ghost use Rattle.ucon_state.specs.Shown.{shown};
+
+use crate::own_work::put_targets;
+use crate::readers::Readers;
+use std::alloc::Global;
+use ucon_actions::{accessing, is_accessing, revoke, session_state};
+use ucon_base::{Name, NoMemory, Rows, Steps};
+use ucon_eval::{failing, typed_tests_make_no_set};
+use ucon_model::{
+    Revoked, When, covering_work_has_the_least, heads_tell_whose_usage_begins_or_ends,
+    readings_that_agree_are_one, turns_follow_each_other, work_is_read_off_afterwards,
+};
+use ucon_pend::Pend;
+use ucon_state::{State, sessions_are_few, tables_keep_what_is_followed};
+
+/// The label by which session n fails, if it is accessing.
+fn fails_at(state: &State, n: u32, steps: &mut Steps) -> Option<Name>
+    requires { IsFollowing (shown state.now) }
+    ensures { AfterEach (shown state.now) (λ P T. fails_at P T n ≡ result) }
+{
+    readings_that_agree_are_one();
+    tables_keep_what_is_followed();
+    typed_tests_make_no_set();
+    if !is_accessing(session_state(state, n)?) {
+        return None;
+    }
+    failing(state, n, steps)
+}
+
+/// Takes sessions out of the work, least first, up to one that fails: the least of all. Where there is none, the work is done.
+fn next_failing(state: &State, work: &mut Pend, steps: &mut Steps) -> Option<(u32, Name)>
+    requires following { IsFollowing (shown state.now) }
+    requires covers { CoversEach (shown state.now) work.old.members }
+    ensures least { AfterEach (shown state.now) (λ P T. least_failing P T ≡ result) }
+    ensures covers { IfSome result (λ found. AfterEach (shown state.now) (λ P T. Covers P T (joined (only found.0) (work_of work.new.members)))) }
+    ensures done { IfNone result (work.new.members ≡ []) }
+    ensures limit { work.new.limit ≡ work.old.limit }
+{
+    covering_work_has_the_least();
+    while let Some(n) = work.pop_least() {
+        if let Some(label) = fails_at(state, n, steps) {
+            return Some((n, label));
+        }
+    }
+    None
+}
+
+/// Revokes session n, notes it, and puts into the work who reads where its updates wrote.
+fn revoke_next(
+    alloc: Global,
+    state: &mut State,
+    readers: &mut Readers,
+    work: &mut Pend,
+    revoked: &mut Rows<Revoked>,
+    n: u32,
+    label: Name,
+) -> Result<(), NoMemory>
+    requires following { IsFollowing (shown state.old) }
+    requires least { AfterEach (shown state.old) (λ P T. least_failing P T ≡ Some (n, label)) }
+    requires covers { AfterEach (shown state.old) (λ P T. Covers P T (joined (only n) (work_of work.old.members))) }
+    requires exact { IsExact (shown state.old) (readers_at readers.old) }
+    requires limit { work.old.limit ≡ 1048577 }
+    ensures leads { OnOk result (Leads (shown state.old) (shown state.new) (λ P T. extended T (revocation P T (n, label)))) }
+    ensures revoked { OnOk result (revoked.new.items ≡ revoked.old.items ++ record { session = n; label = label } ∷ []) }
+    ensures covers { OnOk result (CoversEach (shown state.new) work.new.members) }
+    ensures exact { OnOk result (IsExact (shown state.new) (readers_at readers.new)) }
+    ensures undo { (standing : ℕ → List ℕ) → UndoGives readers.old standing → UndoGives readers.new standing }
+    ensures limit { work.new.limit ≡ work.old.limit }
+    ensures base { KeepsBase (shown state.old) (shown state.new) }
+{
+    heads_tell_whose_usage_begins_or_ends();
+    readings_that_agree_are_one();
+    sessions_are_few();
+    tables_keep_what_is_followed();
+    work_is_read_off_afterwards();
+    revoke(alloc, state, n, label)?;
+    revoked.push(Revoked { session: n, label })?;
+    readers.hide(n);
+    put_targets(state, readers, n, When::AfterRevoke, work);
+    Ok(())
+}
+
+/// Works off the work: the least session in it that fails is revoked, until nobody in it fails. They come back in order.
+pub fn settle(
+    alloc: Global,
+    state: &mut State,
+    readers: &mut Readers,
+    work: &mut Pend,
+    steps: &mut Steps,
+) -> Result<Rows<Revoked>, NoMemory>
+    requires following { IsFollowing (shown state.old) }
+    requires covers { CoversEach (shown state.old) work.old.members }
+    requires exact { IsExact (shown state.old) (readers_at readers.old) }
+    requires limit { work.old.limit ≡ 1048577 }
+    ensures leads { OnOk result (Leads (shown state.old) (shown state.new) (λ P T. extended T (settle P T))) }
+    ensures revoked { IfOk result (λ revoked. AfterEach (shown state.old) (λ P T. revoked.items ≡ revoked_in (settle P T))) }
+    ensures exact { OnOk result (IsExact (shown state.new) (readers_at readers.new)) }
+    ensures undo { (standing : ℕ → List ℕ) → UndoGives readers.old standing → UndoGives readers.new standing }
+    ensures done { OnOk result (work.new.members ≡ []) }
+    ensures limit { work.new.limit ≡ work.old.limit }
+    ensures base { KeepsBase (shown state.old) (shown state.new) }
+{
+    turns_follow_each_other();
+    let mut revoked = Rows::new(alloc);
+    let usages = accessing(state);
+    'turns: for _ in 0..usages {
+        match next_failing(state, work, steps) {
+            None => return Ok(revoked),
+            Some(found) => revoke_next(
+                alloc,
+                state,
+                readers,
+                work,
+                &mut revoked,
+                found.0,
+                found.1,
+            )?,
+        }
+    }
+    work.clear();
+    Ok(revoked)
+}

@@ -1,0 +1,52 @@
+use Rattle.std.proofs.Common.{◌≡◌, ◌∙◌, ◌<◌, ◌^◌, List, length, sym, ap, subst, ◌++◌, ◌∷◌, []}
+use Rattle.std.specs.Box.{with_value}
+use Rattle.ucon_model.specs.Action.{amend}
+use Rattle.ucon_model.specs.Checked.{checked_policy}
+use Rattle.ucon_model.specs.Plain.{PlainPolicy}
+use Rattle.ucon_state.specs.declared.change.Before.{Before}
+use Rattle.ucon_state.specs.declared.change.Undo.{Undo}
+use Rattle.ucon_state.specs.declared.change.Undo.TheVariants.{Replaced}
+use Rattle.ucon_state.specs.Applied.{amended}
+use Rattle.ucon_state.specs.Shown.{Shown, changed_by, right_names, shown}
+use Rattle.ucon_state.specs.Sound.{HasRights}
+use Rattle.ucon_state.specs.Stored.{Stored, named}
+use Rattle.ucon_state.specs.Views.{lists_of, with_layout}
+use Rattle.ucon_state.proofs.Amended.{amended_shown, amended_sound}
+use Rattle.ucon_state.proofs.state.State.amend.Goals as goal
+
+pub invariant_of-self-2 : goal.invariant_of-self-2
+invariant_of-self-2 c =
+    let s = c.add_rights.new.self in
+    let P = checked_policy s.checked in
+    let R = right_names s in
+    let t = lists_of s.tables in
+    let u = Replaced (with_value c.in_ok-before.before c.swap.new.self) in
+    let added = c.push_reserved.ensures.items ∙ ap (λ (cs : List Undo). cs ++ u ∷ []) c.reserve.ensures.items in
+    let was = c.deref_mut.ensures.value ∙ c.in_ok-before.ensures.ok in
+    let policy = c.swap.ensures.policy ∙ ap (λ (b : Before). checked_policy b.checked) was in
+    let laid = c.swap.ensures.tables ∙ ap (λ (b : Before). with_layout b.layout t) was in
+    let is = laid ∙ c.in_ok-layout.ensures.amended ∙ ap (λ (Q : PlainPolicy). amended P Q t) (sym policy) in
+    let few = subst (λ (u : Stored). length u.cells < 2 ^ 32) (sym laid) c.in_ok-layout.ensures.few in
+    let rights = subst (λ (Q : PlainPolicy). HasRights Q R) (sym policy) c.in_ok-add_rights.ensures.rights in
+    record {
+      sound = amended_sound P (checked_policy c.swap.new.checked) R s.changes.items c.push_reserved.new.self.items u t (lists_of c.swap.new.tables)
+          added c.swap.ensures.policy_held c.swap.ensures.layout_held is few s.sound rights;
+      has_rights = rights;
+    }
+
+pub returns-clause-ok : goal.returns-clause-ok
+returns-clause-ok c = λ text.
+    let s = c.add_rights.new.self in
+    let P = checked_policy s.checked in
+    let R = right_names s in
+    let t = lists_of s.tables in
+    let u = Replaced (with_value c.in_ok-before.before c.swap.new.self) in
+    let added = c.push_reserved.ensures.items ∙ ap (λ (cs : List Undo). cs ++ u ∷ []) c.reserve.ensures.items in
+    let was = c.deref_mut.ensures.value ∙ c.in_ok-before.ensures.ok in
+    let policy = c.swap.ensures.policy ∙ ap (λ (b : Before). checked_policy b.checked) was in
+    let laid = c.swap.ensures.tables ∙ ap (λ (b : Before). with_layout b.layout t) was in
+    let is = laid ∙ c.in_ok-layout.ensures.amended ∙ ap (λ (Q : PlainPolicy). amended P Q t) (sym policy) in
+    amended_shown P (checked_policy c.swap.new.checked) R s.changes.items c.push_reserved.new.self.items u t (lists_of c.swap.new.tables)
+    added c.swap.ensures.policy_held c.swap.ensures.layout_held is
+    ∙ ap (λ (Q : PlainPolicy). record (shown s) { policy = Q; tables = amended P Q (named R t) }) policy
+    ∙ ap (λ (x : Shown). changed_by x (amend text (checked_policy c.args.checked))) c.in_ok-add_rights.ensures.shown
