@@ -1,4 +1,3 @@
-pub mod Along
 pub mod Answering
 pub mod Forms
 pub mod Closing
@@ -6,10 +5,6 @@ pub mod Crossing
 pub mod GeneratedPolicy
 pub mod Adding
 pub mod Refusing
-pub mod Replies
-pub mod Summing
-pub mod Tallying
-pub mod Transcribing
 pub mod Serving
 pub mod Stepwise
 pub mod Parted

@@ -3,12 +3,7 @@ pub mod Closing
 pub mod Ending
 pub mod FaultWords
 pub mod Form
-pub mod Hearing
-pub mod Models
-pub mod OneAnswer
 pub mod Played
 pub mod Printed
 pub mod Stepping
-pub mod Tallies
-pub mod Transcript
 pub mod Unread

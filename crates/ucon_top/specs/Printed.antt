@@ -1,38 +1,15 @@
 -- What a run prints.
-use Rattle.std.specs.Prelude.{◌≡◌, ◌+◌, false, List, [], ◌++◌, length, map, take, drop, Option, Some, None, Ok, IsSomeAnd}
+use Rattle.std.specs.Prelude.{◌≡◌, List, ◌++◌, length, take, drop, Option, Some, None, Ok}
 use Rattle.ucon_model.specs.declared.command.Entry.{Entry}
 use Rattle.ucon_model.specs.Plain.{Bytes, PlainPolicy}
 use Rattle.ucon_model.specs.Document.{ScriptLine, entries_of, document_read}
-use Rattle.ucon_base.specs.Elements.{Each}
-use Rattle.ucon_model.specs.LegalRun.{Answered, IsLegalRun, in_text_order, is_disk_fault, is_stopped}
 use Rattle.ucon_model.specs.Generated.{generated}
-use Rattle.ucon_model.specs.Output.{output, answers_read}
-use Rattle.ucon_model.specs.Summary.{LineReply, IsReplyRun, whole_run, answered, counts, summary}
 use Rattle.ucon_syntax.specs.Policies.{accepted}
 use Rattle.ucon_top.specs.declared.form.Form.{Form}
 use Rattle.ucon_top.specs.declared.form.Form.TheVariants.{Trial, Check, Gen, Play, Serve}
 use Rattle.ucon_top.specs.Accepted.{HasPolicy}
-use Rattle.ucon_top.specs.Models.{rights_output}
-
--- no line met a disk fault, or was stopped by one
-abbrev pub IsUnfaulted : List Answered → Type 0
-IsUnfaulted told = Each (λ t. (is_disk_fault t.answer ≡ false) × (is_stopped t.answer ≡ false)) told
-
--- the text is the output of the answers that are read from it, and these are a legal run of the lines, in the order of the text, from the
--- empty history, in which no disk failed
-abbrev pub IsRunOutput : PlainPolicy → List Entry → Bytes → Type 0
-IsRunOutput P lines text = IsSomeAnd (answers_read lines text) (λ told. (text ≡ output told) × IsLegalRun P in_text_order [] told × IsUnfaulted told)
-
--- The text is the summary of the replies of a run of the lines, in the order of the text, from the empty history, and their answers are a
--- legal run in which no disk failed. Where each line was a step or refused it is the one run in which there is memory for each line.
-pub record IsRunSummary (P : PlainPolicy) (lines : List Entry) (text : Bytes) : Type 0 where
-  pub told : List LineReply
-  pub lines_are : map (λ t. t.line) told ≡ lines
-  pub text_is : text ≡ summary (counts told)
-  pub replies : IsReplyRun P [] told
-  pub legal : IsLegalRun P in_text_order [] (map answered told)
-  pub unfaulted : IsUnfaulted (map answered told)
-  pub whole : (counts told).steps + (counts told).refused ≡ (counts told).lines → told ≡ whole_run P [] lines
+use Rattle.ucon_trial.specs.Models.{rights_output}
+use Rattle.ucon_trial.specs.Runs.{IsRunOutput, IsRunSummary}
 
 -- what a form prints of a policy and lines; `play` and `serve`, whose output depends on their journal, print nothing of them alone
 abbrev pub IsFormOutput : Form → PlainPolicy → List Entry → Bytes → Type 0

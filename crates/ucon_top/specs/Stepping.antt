@@ -10,7 +10,7 @@ use Rattle.ucon_model.specs.StoredRun.{LeadsTo, failed_line}
 use Rattle.ucon_store.specs.Kept.{Kept}
 use Rattle.ucon_top.specs.declared.line_answer.AnsweredLine.{AnsweredLine}
 use Rattle.ucon_client.specs.Answers.{answer_of}
-use Rattle.ucon_top.specs.OneAnswer.{entry_of}
+use Rattle.ucon_trial.specs.OneAnswer.{entry_of}
 
 -- a line with its answer, as the definitions have them
 abbrev pub told_line : AnsweredLine → Answered

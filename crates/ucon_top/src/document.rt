@@ -9,10 +9,8 @@ ghost use Rattle.ucon_top.specs.Form.{IsAlone};
 ghost use Rattle.ucon_top.specs.Printed.{IsFormOutput, IsOutputOf};
 ghost use Rattle.ucon_syntax.specs.Policies.{accepted};
 
-use crate::check::models_text;
 use crate::form::Form;
 use crate::outcome::Refused;
-use crate::trial::{trial_output, trial_summary};
 use std::alloc::Global;
 use ucon_base::NoMemory;
 use ucon_check::check;
@@ -20,6 +18,7 @@ use ucon_model::Checked;
 use ucon_script::{Script, policy_part, read_script};
 use ucon_state::Engine;
 use ucon_syntax::read_policy;
+use ucon_trial::{models_text, trial_output, trial_summary};
 
 /// What a form without a journal prints of the document that the bytes are, or why the document is refused.
 pub fn output_of<E: Engine>(alloc: Global, form: Form, bytes: &[u8]) -> Result<Vec<u8>, Refused>

@@ -1,14 +1,10 @@
 //! The one call that does all that the program does.
 #![tactic(auto)]
 
-mod answers;
-mod check;
 mod document;
 mod form;
-mod hearer;
 mod laws;
 mod line_answer;
-mod number;
 mod outcome;
 mod parts_text;
 mod play;
@@ -16,12 +12,9 @@ mod printing;
 mod reporting;
 mod serve;
 mod stepping;
-mod summary;
 #[cfg(test)]
 mod tests;
 mod top;
-mod transcript;
-mod trial;
 
 pub use form::Form;
 pub use laws::{accepted_documents_are_not_refused, generated_documents_are_accepted};

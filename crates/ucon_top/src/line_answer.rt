@@ -7,12 +7,12 @@ ghost use Rattle.ucon_model.specs.Output.{FitsLine, answer_spelling, output};
 ghost use Rattle.ucon_client.specs.Answers.{answer_of};
 ghost use Rattle.ucon_top.specs.Stepping.{told_line};
 
-use crate::transcript::{put_reply, put_unplaced};
 use std::alloc::Global;
 use ucon_base::NoMemory;
 use ucon_client::Answer;
 use ucon_model::Caller;
 use ucon_script::LineText;
+use ucon_trial::{put_reply, put_unplaced};
 
 /// A command line with its answer.
 #[derive(Debug, Drop)]

@@ -9,7 +9,7 @@ ghost use Rattle.ucon_syntax.specs.Policies.{accepted};
 ghost use Rattle.ucon_top.specs.Accepted.{IsAccepted, IsRefusedBy};
 ghost use Rattle.ucon_top.specs.Closing.{IsClosedRun, IsOfRun, IsWritten};
 ghost use Rattle.ucon_top.specs.Ending.{IsOfAccepted, IsOfDocument, IsUntouched, IsUnwritten, status_of};
-ghost use Rattle.ucon_top.specs.OneAnswer.{entry_of};
+ghost use Rattle.ucon_trial.specs.OneAnswer.{entry_of};
 ghost use Rattle.ucon_top.specs.Played.{HasPlayed};
 
 use crate::document::read_accepted;

@@ -4,10 +4,9 @@ ghost use Rattle.std.specs.Prelude.{◌≡◌, ◌∷◌, ◌++◌, IfOk, OnOk};
 ghost use Rattle.std.specs.Fmt.{decimal};
 ghost use Rattle.ucon_top.specs.FaultWords.{told_at, syntax_words, typing_words, policy_words, line_words, script_words, cause_words, fault_words};
 
-use crate::number::put_number;
 use crate::outcome::{Outcome, PolicyFault};
 use std::alloc::Global;
-use ucon_base::{Name, NoMemory};
+use ucon_base::{Name, NoMemory, put_number};
 use ucon_check::CheckFault;
 use ucon_command::LineFault;
 use ucon_script::DocFault;

@@ -14,7 +14,7 @@ ghost use Rattle.ucon_client.specs.Dividing.{by_client};
 ghost use Rattle.ucon_top.specs.Accepted.{IsAccepted, IsRefusedBy};
 ghost use Rattle.ucon_top.specs.Closing.{IsClosedRun, IsOfRun};
 ghost use Rattle.ucon_top.specs.Ending.{IsOfAccepted, IsOfDocument, IsUntouched, IsUnwritten, status_of};
-ghost use Rattle.ucon_top.specs.OneAnswer.{entry_of};
+ghost use Rattle.ucon_trial.specs.OneAnswer.{entry_of};
 ghost use Rattle.ucon_top.specs.Played.{HasPlayed};
 ghost use Rattle.ucon_top.specs.Stepping.{IsRunBetween};
 

@@ -6,7 +6,7 @@ ghost use Rattle.ucon_model.specs.Plain.{PlainPolicy};
 ghost use Rattle.ucon_client.specs.Answers.{answer_of};
 ghost use Rattle.ucon_syntax.specs.Policies.{accepted};
 ghost use Rattle.ucon_store.specs.Stays.{Stays};
-ghost use Rattle.ucon_top.specs.OneAnswer.{entry_of};
+ghost use Rattle.ucon_trial.specs.OneAnswer.{entry_of};
 ghost use Rattle.ucon_top.specs.Stepping.{AreAnswered, HaveOutput, HaveSteps, Steps, told_line};
 
 use crate::line_answer::{AnsweredLine, output_text};

@@ -8,7 +8,7 @@ use Rattle.ucon_script.specs.Document.{spelled_line, lines_spelled}
 use Rattle.ucon_syntax.specs.Policies.{accepted}
 use Rattle.ucon_top.specs.declared.form.Form.TheVariants.{Play}
 use Rattle.ucon_top.specs.declared.outcome.Outcome.{Outcome}
-use Rattle.ucon_top.specs.OneAnswer.{entry_of}
+use Rattle.ucon_trial.specs.OneAnswer.{entry_of}
 use Rattle.ucon_top.specs.Closing.{IsClosedRun}
 use Rattle.ucon_top.proofs.Playing.{IsOpened, ends_run, run_raised}
 use Rattle.ucon_top.proofs.play.play.Goals as goal

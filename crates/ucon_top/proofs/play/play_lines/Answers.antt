@@ -4,7 +4,7 @@ use Rattle.ucon_model.specs.LegalRun.{in_text_order}
 use Rattle.ucon_model.specs.Plain.{Bytes}
 use Rattle.ucon_top.specs.declared.outcome.Outcome.{Outcome}
 use Rattle.ucon_top.specs.Closing.{EndsRun, IsWritten}
-use Rattle.ucon_top.specs.OneAnswer.{entry_of}
+use Rattle.ucon_trial.specs.OneAnswer.{entry_of}
 use Rattle.ucon_top.proofs.Closing.{ends_so}
 use Rattle.ucon_top.proofs.play.play_lines.Goals as goal
 

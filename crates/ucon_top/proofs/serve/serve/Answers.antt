@@ -11,7 +11,7 @@ use Rattle.ucon_client.specs.Dividing.{by_client}
 use Rattle.ucon_top.specs.declared.form.Form.TheVariants.{Serve}
 use Rattle.ucon_top.specs.declared.outcome.Outcome.{Outcome}
 use Rattle.ucon_top.specs.Closing.{IsClosedRun}
-use Rattle.ucon_top.specs.OneAnswer.{entry_of}
+use Rattle.ucon_trial.specs.OneAnswer.{entry_of}
 use Rattle.ucon_top.proofs.Playing.{IsOpened, ends_run, run_raised}
 use Rattle.ucon_top.proofs.serve.serve.Goals as goal
 

@@ -6,7 +6,7 @@ use Rattle.ucon_client.specs.declared.part.Part.{Part}
 use Rattle.ucon_client.specs.Answers.{told_in}
 use Rattle.ucon_client.specs.Dividing.{by_client}
 use Rattle.ucon_top.specs.Closing.{IsClosedRun}
-use Rattle.ucon_top.specs.OneAnswer.{entry_of}
+use Rattle.ucon_trial.specs.OneAnswer.{entry_of}
 use Rattle.ucon_top.specs.Stepping.{IsRunBetween}
 use Rattle.ucon_top.proofs.Answering.{AreLegal, failed_first}
 use Rattle.ucon_top.proofs.Serving.{closed_at_once}

@@ -4,7 +4,7 @@ use Rattle.std.proofs.Math.ListN.{get_or-map}
 use Rattle.ucon_model.specs.declared.command.Entry.{Entry}
 use Rattle.ucon_store.specs.Stays.{stays_again}
 use Rattle.ucon_syntax.specs.Policies.{accepted}
-use Rattle.ucon_top.specs.OneAnswer.{entry_of}
+use Rattle.ucon_trial.specs.OneAnswer.{entry_of}
 use Rattle.ucon_top.specs.Stepping.{HaveSteps, told_line}
 use Rattle.ucon_top.proofs.Stepwise.{one_line_more}
 use Rattle.ucon_top.proofs.stepping.answer_lines.Goals as goal

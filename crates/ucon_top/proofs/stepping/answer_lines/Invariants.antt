@@ -3,7 +3,7 @@ use Rattle.std.specs.Prelude.{Some}
 use Rattle.ucon_model.specs.Plain.{PlainPolicy}
 use Rattle.ucon_syntax.specs.Policies.{accepted}
 use Rattle.ucon_store.specs.Stays.{Stays}
-use Rattle.ucon_top.specs.OneAnswer.{entry_of}
+use Rattle.ucon_trial.specs.OneAnswer.{entry_of}
 use Rattle.ucon_top.specs.Stepping.{HaveSteps, told_line}
 use Rattle.ucon_top.proofs.stepping.answer_lines.Given as goal
 

@@ -2,7 +2,7 @@ use Rattle.std.proofs.Common.{map, sym, subst}
 use Rattle.std.specs.Prelude.{Result, Ok, Err, OnErr}
 use Rattle.ucon_model.specs.LegalRun.{in_text_order}
 use Rattle.ucon_store.specs.Kept.{Kept}
-use Rattle.ucon_top.specs.OneAnswer.{entry_of}
+use Rattle.ucon_trial.specs.OneAnswer.{entry_of}
 use Rattle.ucon_top.specs.Stepping.{AreAnswered, told_line}
 use Rattle.ucon_top.proofs.Answering.{AreLegal, run_of_steps, text_read, unanswered, untold}
 use Rattle.ucon_top.proofs.stepping.steps_text.Goals as goal
