@@ -11,6 +11,7 @@ use Rattle.ucon_state.specs.Shown.{Shown}
 use Rattle.ucon_state.specs.Following.{Follows}
 use Rattle.ucon_actions.specs.Sessions.{IsIn}
 use Rattle.ucon_actions.proofs.Deciding.{in_tables}
+use Rattle.ucon_actions.proofs.ReadOff.{TablesKeep}
 
 -- the least session that fails may be revoked
 abbrev pub LeastIsLegal : Type 0
@@ -19,5 +20,5 @@ LeastIsLegal = (P : PlainPolicy) (T : Trace) (n : ℕ) (label : Bytes) → IsNum
 pub revoke_legal : LeastIsLegal → (s : Shown) (P : PlainPolicy) (T : Trace) → Follows s P T → (n : ℕ) (label : Bytes) → least_failing P T ≡ Some (n, label) → IsLegal P T (revoke n label)
 revoke_legal chosen s P T h n label least = chosen P T n label h.sound.numbered least
 
-pub is_accessing_there : LeastIsLegal → (s : Shown) (P : PlainPolicy) (T : Trace) → Follows s P T → (n : ℕ) (label : Bytes) → least_failing P T ≡ Some (n, label) → IsIn s.tables n Accessing
-is_accessing_there chosen s P T h n label least = in_tables s P T h n Accessing (revoke_legal chosen s P T h n label least).0
+pub is_accessing_there : TablesKeep → LeastIsLegal → (s : Shown) (P : PlainPolicy) (T : Trace) → Follows s P T → (n : ℕ) (label : Bytes) → least_failing P T ≡ Some (n, label) → IsIn s.tables n Accessing
+is_accessing_there keep chosen s P T h n label least = in_tables keep s P T h n Accessing (revoke_legal chosen s P T h n label least).0

@@ -8,7 +8,7 @@ use Rattle.ucon_model.specs.declared.session.SessionState.{SessionState}
 use Rattle.ucon_model.specs.Plain.{Bytes}
 use Rattle.ucon_model.specs.Action.{env}
 use Rattle.ucon_model.specs.Readings.{env_position}
-use Rattle.ucon_state.specs.Applied.{applied, moved_to, with_row, with_state, with_variable}
+use Rattle.ucon_state.specs.Applied.{moved_to, with_row, with_state, with_variable}
 use Rattle.ucon_state.specs.Shown.{Shown, changed_by, changed_to}
 use Rattle.ucon_state.specs.Tables.{Tables, cell_of, session_in}
 use Rattle.ucon_actions.specs.Leads.{KeepsBase, KeepsCells}

@@ -11,7 +11,7 @@ use Rattle.ucon_model.specs.Typing.{IsTyped}
 use Rattle.ucon_state.specs.Following.{Follows}
 use Rattle.ucon_state.specs.Shown.{Shown}
 use Rattle.ucon_state.specs.Tables.{readings_in}
-use Rattle.ucon_actions.proofs.ReadOff.{keeps_if}
+use Rattle.ucon_actions.proofs.ReadOff.{TablesKeep}
 
 -- over readings that agree with those of a trace, where all values fit, no test of a well typed policy makes a set
 abbrev pub TestsMakeNoSet : Type 0
@@ -19,7 +19,7 @@ TestsMakeNoSet = (P : PlainPolicy) (T : Trace) (R : Readings) → IsTyped (in_fo
     → (n : ℕ) → tests_make_no_set (in_force P T) R n ≡ true
 
 -- the tests of a session make no set
-pub no_sets_there : TestsMakeNoSet → (s : Shown) (P : PlainPolicy) (T : Trace) → Follows s P T → (n : ℕ) → tests_make_no_set s.policy (readings_in s.policy s.tables) n ≡ true
-no_sets_there no_set s P T h n =
+pub no_sets_there : TablesKeep → TestsMakeNoSet → (s : Shown) (P : PlainPolicy) (T : Trace) → Follows s P T → (n : ℕ) → tests_make_no_set s.policy (readings_in s.policy s.tables) n ≡ true
+no_sets_there keep no_set s P T h n =
     subst (λ (Q : PlainPolicy). tests_make_no_set Q (readings_in s.policy s.tables) n ≡ true) (sym h.policy)
-    (no_set P T (readings_in s.policy s.tables) h.typed h.sound.fit (keeps_if s P T h).readings_agree n)
+    (no_set P T (readings_in s.policy s.tables) h.typed h.sound.fit (keep s P T h).readings_agree n)

@@ -17,17 +17,17 @@ use Rattle.ucon_model.specs.Readings.{in_force, has_entity, declared_attr, sessi
 use Rattle.ucon_model.specs.Truth.{Readings, readings}
 use Rattle.ucon_model.specs.Decision.{right_named}
 use Rattle.ucon_model.specs.Updates.{same_when, entity_of, result, write_of, writes, updates_of, session_writes}
-use Rattle.ucon_model.specs.Fitting.{AttributeAdmits, ResultFits}
+use Rattle.ucon_model.specs.Fitting.{AttributeAdmits, ResultFits, UpdatesFit}
 use Rattle.ucon_base.specs.Elements.{Each}
+use Rattle.ucon_model.specs.Typing.{IsTyped}
 use Rattle.ucon_model.specs.Views.{update_of}
 use Rattle.ucon_model.specs.Sound.{IsGrounded}
 use Rattle.ucon_eval.specs.Asked as asked
 use Rattle.ucon_state.specs.Tables.{entity_number, session_in, readings_in}
 use Rattle.ucon_state.specs.Shown.{Shown}
-use Rattle.ucon_model.proofs.SortsOfValues.{typed_updates_fit}
 use Rattle.ucon_state.specs.Following.{Follows}
 use Rattle.ucon_actions.specs.Updating.{written_out, update_at, updates_in}
-use Rattle.ucon_actions.proofs.ReadOff.{entity_there, readings_same, session_same}
+use Rattle.ucon_actions.proofs.ReadOff.{TablesKeep, entity_there, readings_same, session_same}
 
 -- ---- the update at a place
 
@@ -57,40 +57,45 @@ read_result P R n at row u v is there given =
     let told : asked.result_at P R n at ≡ Some (asked.result_read P R row u) = at_row ∙ ap (option_map (λ (u : PlainUpdate). asked.result_read P R row u)) at_update in
     cc
 
--- the result is that after the trace
-pub value_is : (s : Shown) (P : PlainPolicy) (T : Trace) → Follows s P T → (n at : ℕ) (row : SessionRow) (u : PlainUpdate) (v : Value) → session_in s.tables n ≡ Some row
-    → slice_get (updates_of s.policy row) at ≡ Some u → asked.result_at s.policy (readings_in s.policy s.tables) n at ≡ Some v → v ≡ result P T row u
-value_is s P T h n at row u v is there given =
-    read_result s.policy (readings_in s.policy s.tables) n at row u v is there given
-    ∙ ap (λ (R : Readings). asked.result_read s.policy R row u) (readings_same s P T h)
-    ∙ ap (λ (Q : PlainPolicy). asked.result_read Q (readings P T) row u) h.policy
-
 -- ---- it may be written
 
 of_side : (side : Side) (row : SessionRow) (T : Trace) → IsGrounded T (Some row) → has_entity side (entity_of side row) T ≡ true
 of_side Subject row T h = h.0
 of_side Object row T h = h.1
 
-grounded_row : (s : Shown) (P : PlainPolicy) (T : Trace) → Follows s P T → (n : ℕ) (row : SessionRow) → session_in s.tables n ≡ Some row → IsGrounded T (Some row)
-grounded_row s P T h n row is = subst (IsGrounded T) (session_same s P T h n ∙ is) (h.sound.grounded n)
+-- the law that the results of a well typed policy's updates fit
+abbrev pub TypedUpdatesFit : Type 0
+TypedUpdatesFit = (P : PlainPolicy) (T : Trace) → IsTyped (in_force P T) → UpdatesFit P T
 
--- the session's entity is there
-pub its_entity_there : (s : Shown) (P : PlainPolicy) (T : Trace) → Follows s P T → (n : ℕ) (row : SessionRow) (side : Side) (name : Bytes) → session_in s.tables n ≡ Some row → name ≡ entity_of side row
-    → is_some (entity_number s.tables side name) ≡ true
-its_entity_there s P T h n row side name is named =
-    sym (entity_there s P T h side name) ∙ ap (λ (e : Bytes). has_entity side e T) named ∙ of_side side row T (grounded_row s P T h n row is)
+module _ (keep : TablesKeep) (s : Shown) (P : PlainPolicy) (T : Trace) (h : Follows s P T) where
+  -- the result is that after the trace
+  pub value_is : (n at : ℕ) (row : SessionRow) (u : PlainUpdate) (v : Value) → session_in s.tables n ≡ Some row
+      → slice_get (updates_of s.policy row) at ≡ Some u → asked.result_at s.policy (readings_in s.policy s.tables) n at ≡ Some v → v ≡ result P T row u
+  value_is n at row u v is there given =
+      read_result s.policy (readings_in s.policy s.tables) n at row u v is there given
+      ∙ ap (λ (R : Readings). asked.result_read s.policy R row u) (readings_same keep s P T h)
+      ∙ ap (λ (Q : PlainPolicy). asked.result_read Q (readings P T) row u) h.policy
 
--- the declaration admits the result
-pub result_admitted : (s : Shown) (P : PlainPolicy) (T : Trace) → Follows s P T → (n at : ℕ) (row : SessionRow) (u : PlainUpdate) (v : Value) → session_in s.tables n ≡ Some row
-    → slice_get (updates_of s.policy row) at ≡ Some u → asked.result_at s.policy (readings_in s.policy s.tables) n at ≡ Some v
-    → IsSomeAnd (declared_attr s.policy.attrs u.side u.attr) (λ d. IsTrue (admits d.kind v))
-result_admitted s P T h n at row u v is there given =
-    let g = grounded_row s P T h n row is in
-    let each : Each (ResultFits P T row) (updates_of (in_force P T) row) = typed_updates_fit P T h.typed row h.sound.fit g.0 g.1 in
-    let here : slice_get (updates_of (in_force P T) row) at ≡ Some u = ap (λ (Q : PlainPolicy). slice_get (updates_of Q row) at) (sym h.policy) ∙ there in
-    let fits : AttributeAdmits (in_force P T) u.side u.attr (result P T row u) = each_at (ResultFits P T row) (updates_of (in_force P T) row) at u each here in
-    subst (λ (Q : PlainPolicy). AttributeAdmits Q u.side u.attr v) (sym h.policy)
-    (subst (AttributeAdmits (in_force P T) u.side u.attr) (sym (value_is s P T h n at row u v is there given)) fits)
+  grounded_row : (n : ℕ) (row : SessionRow) → session_in s.tables n ≡ Some row → IsGrounded T (Some row)
+  grounded_row n row is = subst (IsGrounded T) (session_same keep s P T h n ∙ is) (h.sound.grounded n)
+
+  -- the session's entity is there
+  pub its_entity_there : (n : ℕ) (row : SessionRow) (side : Side) (name : Bytes) → session_in s.tables n ≡ Some row → name ≡ entity_of side row
+      → is_some (entity_number s.tables side name) ≡ true
+  its_entity_there n row side name is named =
+      sym (entity_there keep s P T h side name) ∙ ap (λ (e : Bytes). has_entity side e T) named ∙ of_side side row T (grounded_row n row is)
+
+  -- the declaration admits the result
+  pub result_admitted : TypedUpdatesFit → (n at : ℕ) (row : SessionRow) (u : PlainUpdate) (v : Value) → session_in s.tables n ≡ Some row
+      → slice_get (updates_of s.policy row) at ≡ Some u → asked.result_at s.policy (readings_in s.policy s.tables) n at ≡ Some v
+      → IsSomeAnd (declared_attr s.policy.attrs u.side u.attr) (λ d. IsTrue (admits d.kind v))
+  result_admitted fit n at row u v is there given =
+      let g = grounded_row n row is in
+      let each : Each (ResultFits P T row) (updates_of (in_force P T) row) = fit P T h.typed row h.sound.fit g.0 g.1 in
+      let here : slice_get (updates_of (in_force P T) row) at ≡ Some u = ap (λ (Q : PlainPolicy). slice_get (updates_of Q row) at) (sym h.policy) ∙ there in
+      let fits : AttributeAdmits (in_force P T) u.side u.attr (result P T row u) = each_at (ResultFits P T row) (updates_of (in_force P T) row) at u each here in
+      subst (λ (Q : PlainPolicy). AttributeAdmits Q u.side u.attr v) (sym h.policy)
+      (subst (AttributeAdmits (in_force P T) u.side u.attr) (sym (value_is n at row u v is there given)) fits)
 
 -- ---- the trace after it
 
@@ -114,17 +119,6 @@ on_ok (Err e) f h = h
 pub nothing_written : (P : PlainPolicy) (n : ℕ) (when : When) (T : Trace) → session T n ≡ None → extended T (session_writes P n when T) ≡ T
 nothing_written P n when T none = ap (λ (o : Option SessionRow). extended T (option_map_or (λ row. writes P row when (updates_of (in_force P T) row) T) o [])) none
 
--- nor where the session's right has no updates
-pub none_to_write : (s : Shown) (P : PlainPolicy) (T : Trace) → Follows s P T → (n : ℕ) (when : When) → updates_in s n ≡ [] → extended T (session_writes P n when T) ≡ T
-none_to_write s P T h n when none =
-    ap (λ (o : Option SessionRow). extended T (option_map_or (λ row. writes P row when (updates_of (in_force P T) row) T) o [])) (session_same s P T h n)
-    ∙ by (session_in s.tables n) none
-  where
-    by : (o : Option SessionRow) → option_map_or (λ (right : PlainRight). right.updates) (option_and_then (λ (row : SessionRow). right_named s.policy.rights row.right) o) [] ≡ []
-        → extended T (option_map_or (λ row. writes P row when (updates_of (in_force P T) row) T) o []) ≡ T
-    by None none = refl
-    by (Some row) none = ap (λ (us : List PlainUpdate). extended T (writes P row when us T)) (ap (λ (Q : PlainPolicy). updates_of Q row) (sym h.policy) ∙ none)
-
 pub session_written : (P : PlainPolicy) (n : ℕ) (when : When) (T : Trace) (row : SessionRow) → session T n ≡ Some row
     → extended T (session_writes P n when T) ≡ written_out P row when (updates_of (in_force P T) row) T
 session_written P n when T row is = ap (λ (o : Option SessionRow). extended T (option_map_or (λ row. writes P row when (updates_of (in_force P T) row) T) o [])) is
@@ -133,8 +127,20 @@ session_written P n when T row is = ap (λ (o : Option SessionRow). extended T (
 abbrev pub WritesLeaveSessions : Type 0
 WritesLeaveSessions = (P : PlainPolicy) (row : SessionRow) (when : When) (us : List PlainUpdate) (n : ℕ) (T : Trace) → session (extended T (writes P row when us T)) n ≡ session T n
 
--- so they leave the session whose they are
-pub row_stays_by : WritesLeaveSessions → (s s' : Shown) (P : PlainPolicy) (T : Trace) → Follows s P T → (n : ℕ) (row : SessionRow) (when : When) (us : List PlainUpdate) → session_in s.tables n ≡ Some row
-    → Follows s' P (written_out P row when us T) → session_in s'.tables n ≡ Some row
-row_stays_by leave s s' P T h n row when us is h' =
-    sym (session_same s' P (written_out P row when us T) h' n) ∙ leave P row when us n T ∙ session_same s P T h n ∙ is
+module _ (keep : TablesKeep) where
+  -- where the session's right has no updates, nothing is written either
+  pub none_to_write : (s : Shown) (P : PlainPolicy) (T : Trace) → Follows s P T → (n : ℕ) (when : When) → updates_in s n ≡ [] → extended T (session_writes P n when T) ≡ T
+  none_to_write s P T h n when none =
+      ap (λ (o : Option SessionRow). extended T (option_map_or (λ row. writes P row when (updates_of (in_force P T) row) T) o [])) (session_same keep s P T h n)
+      ∙ by (session_in s.tables n) none
+    where
+      by : (o : Option SessionRow) → option_map_or (λ (right : PlainRight). right.updates) (option_and_then (λ (row : SessionRow). right_named s.policy.rights row.right) o) [] ≡ []
+          → extended T (option_map_or (λ row. writes P row when (updates_of (in_force P T) row) T) o []) ≡ T
+      by None none = refl
+      by (Some row) none = ap (λ (us : List PlainUpdate). extended T (writes P row when us T)) (ap (λ (Q : PlainPolicy). updates_of Q row) (sym h.policy) ∙ none)
+
+  -- the writes of updates leave the session whose they are
+  pub row_stays_by : WritesLeaveSessions → (s s' : Shown) (P : PlainPolicy) (T : Trace) → Follows s P T → (n : ℕ) (row : SessionRow) (when : When) (us : List PlainUpdate) → session_in s.tables n ≡ Some row
+      → Follows s' P (written_out P row when us T) → session_in s'.tables n ≡ Some row
+  row_stays_by leave s s' P T h n row when us is h' =
+      sym (session_same keep s' P (written_out P row when us T) h' n) ∙ leave P row when us n T ∙ session_same keep s P T h n ∙ is

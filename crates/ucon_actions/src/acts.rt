@@ -13,7 +13,7 @@ use crate::outcome::{ActionFault, Outcome, require};
 use crate::reading::{acts, has_entity, moment, names_act};
 use ucon_base::{Name, NoMemory, Side};
 use ucon_model::{Head, Refusal};
-use ucon_state::State;
+use ucon_state::{State, each_action_is_followed, tables_keep_what_is_followed};
 
 /// An act is done now.
 fn perform(state: &mut State, subject: &Name, action: &Name, object: &Name) -> Result<(), NoMemory>
@@ -24,6 +24,8 @@ fn perform(state: &mut State, subject: &Name, action: &Name, object: &Name) -> R
     ensures leads { OnOk result (Leads (shown state.old) (shown state.new) (λ P T. act subject.now action.now object.now ∷ T)) }
     ensures base { KeepsBase (shown state.old) (shown state.new) }
 {
+    tables_keep_what_is_followed();
+    each_action_is_followed();
     state.add_act(*subject, *action, *object)
 }
 

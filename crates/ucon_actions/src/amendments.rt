@@ -16,7 +16,7 @@ use std::alloc::Global;
 use ucon_base::NoMemory;
 use ucon_check::{AmendFault, may_follow};
 use ucon_model::{Amend, Caller, Checked, Head, Refusal, View};
-use ucon_state::State;
+use ucon_state::{State, each_action_is_followed};
 
 /// Whether a policy changes a kind of the policy in force.
 fn changes_kind(state: &State, new: &Checked) -> bool
@@ -35,6 +35,7 @@ fn replace(alloc: Global, state: &mut State, a: &Amend) -> Result<(), NoMemory>
     ensures leads { OnOk result (Leads (shown state.old) (shown state.new) (λ P T. amend a.now.text a.now.policy ∷ T)) }
     ensures opening { KeepsOpening (shown state.old) (shown state.new) }
 {
+    each_action_is_followed();
     let checked = a.checked().copy(alloc)?;
     state.amend(checked)
 }

@@ -15,7 +15,7 @@ use crate::reading::{attr_admits, attribute, has_entity};
 use std::alloc::Global;
 use ucon_base::{Name, NoMemory, Side, Value};
 use ucon_model::{Caller, Head, Refusal};
-use ucon_state::State;
+use ucon_state::{State, each_action_is_followed, tables_keep_what_is_followed};
 
 /// Writes a value to an attribute.
 pub fn write(
@@ -30,6 +30,8 @@ pub fn write(
     ensures leads { OnOk result (Leads (shown state.old) (shown state.new) (λ P T. write side name.now attr.now value ∷ T)) }
     ensures base { KeepsBase (shown state.old) (shown state.new) }
 {
+    tables_keep_what_is_followed();
+    each_action_is_followed();
     let Some(entity) = state.find(side, name) else {
         unreachable!()
     };

@@ -11,7 +11,9 @@ use crate::outcome::{ActionFault, Outcome, require};
 use crate::reading::{entities, has_entity};
 use ucon_base::{Name, NoMemory, Side};
 use ucon_model::{Caller, Head, Refusal};
-use ucon_state::{State, cells_are_of_one_attribute};
+use ucon_state::{
+    State, cells_are_of_one_attribute, each_action_is_followed, tables_keep_what_is_followed,
+};
 
 /// Client 0 alone sets the scene.
 pub fn is_admin(caller: Caller) -> bool
@@ -48,6 +50,8 @@ fn make(state: &mut State, side: Side, name: Name) -> Result<(), NoMemory>
     ensures leads { OnOk result (Leads (shown state.old) (shown state.new) (λ P T. new_entity side name ∷ T)) }
     ensures base { KeepsBase (shown state.old) (shown state.new) }
 {
+    tables_keep_what_is_followed();
+    each_action_is_followed();
     cells_are_of_one_attribute();
     state.add_entity(side, name)?;
     Ok(())

@@ -14,7 +14,7 @@ use crate::reading::{env_admits, tick};
 use std::alloc::Global;
 use ucon_base::{Int, Name, NoMemory, Value};
 use ucon_model::{Caller, Head, Refusal};
-use ucon_state::State;
+use ucon_state::{State, each_action_is_followed, tables_keep_what_is_followed};
 
 /// A variable gets a value.
 fn assign(state: &mut State, name: &Name, value: Value) -> Result<(), NoMemory>
@@ -22,6 +22,7 @@ fn assign(state: &mut State, name: &Name, value: Value) -> Result<(), NoMemory>
     ensures leads { OnOk result (Leads (shown state.old) (shown state.new) (λ P T. env name.now value ∷ T)) }
     ensures base { KeepsBase (shown state.old) (shown state.new) }
 {
+    each_action_is_followed();
     state.set_env(name, value)
 }
 
@@ -31,6 +32,8 @@ fn advance(state: &mut State, t: Int) -> Result<(), NoMemory>
     ensures leads { OnOk result (Leads (shown state.old) (shown state.new) (λ P T. tick t ∷ T)) }
     ensures base { KeepsBase (shown state.old) (shown state.new) }
 {
+    tables_keep_what_is_followed();
+    each_action_is_followed();
     state.set_tick(t)
 }
 

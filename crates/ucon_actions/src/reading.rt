@@ -12,13 +12,13 @@ ghost use Rattle.ucon_state.specs.Stored.{name_at};
 
 use ucon_base::{Int, Name, Side, Value};
 use ucon_model::{SessionRow, SessionState, View};
-use ucon_state::State;
+use ucon_state::{State, tables_keep_what_is_followed};
 
-#[tactic(auto, using(crate::proofs::ReadOff::entity_there))]
 pub fn has_entity(state: &State, side: Side, name: &Name) -> bool
     ensures there { result ≡ is_some (entity_number (shown state.now).tables side name.now) }
     ensures trace { AfterEach (shown state.now) (λ P T. has_entity side name.now T ≡ result) }
 {
+    tables_keep_what_is_followed();
     state.find(side, name).is_some()
 }
 
@@ -29,14 +29,15 @@ pub fn find_entity(state: &State, side: Side, name: &Name) -> Option<u32>
     ensures within { IfSome result (λ n. n < length (entities_of side (shown state.now).tables)) }
     ensures trace { AfterEach (shown state.now) (λ P T. has_entity side name.now T ≡ is_some result) }
 {
+    tables_keep_what_is_followed();
     state.find(side, name)
 }
 
-#[tactic(auto, using(crate::proofs::ReadOff::entities_same))]
 pub fn entities(state: &State, side: Side) -> u32
     ensures count { result ≡ length (entities_of side (shown state.now).tables) }
     ensures trace { AfterEach (shown state.now) (λ P T. entities side T ≡ result) }
 {
+    tables_keep_what_is_followed();
     let counts = state.counts();
     match side {
         Side::Subject => counts.subjects,
@@ -49,6 +50,7 @@ pub fn entities(state: &State, side: Side) -> u32
 pub fn attribute<'a>(state: &'a State, side: Side, name: &Name, attr: &Name) -> Option<&'a Value>
     ensures { AfterEach (shown state.now) (λ P T. attribute P T side name.now attr.now ≡ option_copied result) }
 {
+    tables_keep_what_is_followed();
     state.attribute(side, name, attr)
 }
 
@@ -100,6 +102,7 @@ pub fn tick(state: &State) -> Int
     ensures tables { result ≡ (shown state.now).tables.tick }
     ensures trace { AfterEach (shown state.now) (λ P T. tick_of T ≡ result) }
 {
+    tables_keep_what_is_followed();
     state.tick()
 }
 
@@ -108,6 +111,7 @@ pub fn acts(state: &State) -> u32
     ensures tables { result ≡ length (shown state.now).tables.acts }
     ensures trace { AfterEach (shown state.now) (λ P T. acts T ≡ result) }
 {
+    tables_keep_what_is_followed();
     state.counts().acts
 }
 
@@ -115,6 +119,7 @@ pub fn sessions(state: &State) -> u32
     ensures tables { result ≡ length (shown state.now).tables.sessions }
     ensures trace { AfterEach (shown state.now) (λ P T. sessions T ≡ result) }
 {
+    tables_keep_what_is_followed();
     state.counts().sessions
 }
 
@@ -122,6 +127,7 @@ pub fn accessing(state: &State) -> u32
     ensures tables { result ≡ accessing_among (shown state.now).tables.sessions }
     ensures trace { AfterEach (shown state.now) (λ P T. accessing T ≡ result) }
 {
+    tables_keep_what_is_followed();
     state.counts().accessing
 }
 
@@ -129,6 +135,7 @@ pub fn session(state: &State, n: u32) -> Option<SessionRow>
     ensures tables { result ≡ session_in (shown state.now).tables n }
     ensures trace { AfterEach (shown state.now) (λ P T. session T n ≡ result) }
 {
+    tables_keep_what_is_followed();
     state.session(n)
 }
 
@@ -137,6 +144,7 @@ pub fn session_state(state: &State, n: u32) -> Option<SessionState>
     ensures tables { result ≡ option_map (λ row. row.state) (session_in (shown state.now).tables n) }
     ensures trace { AfterEach (shown state.now) (λ P T. option_map (λ row. row.state) (session T n) ≡ result) }
 {
+    tables_keep_what_is_followed();
     state.session_state(n)
 }
 
@@ -145,5 +153,6 @@ pub fn moment(state: &State, subject: &Name, action: &Name, object: &Name) -> Op
     ensures tables { result ≡ moment_in (shown state.now).tables subject.now action.now object.now }
     ensures trace { AfterEach (shown state.now) (λ P T. moment subject.now action.now object.now T ≡ result) }
 {
+    tables_keep_what_is_followed();
     state.moment(subject, action, object)
 }

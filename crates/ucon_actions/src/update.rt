@@ -13,8 +13,8 @@ use crate::attributes::write;
 use std::alloc::{AllocError, Global};
 use ucon_base::{Name, NoMemory, Side};
 use ucon_eval::result;
-use ucon_model::{Policy, SessionRow, Update, View, When, writes_leave_sessions};
-use ucon_state::State;
+use ucon_model::{Policy, SessionRow, Update, View, When, updates_fit, writes_leave_sessions};
+use ucon_state::{State, tables_keep_what_is_followed};
 
 /// The updates of a session's right in a policy; none where it isn't there.
 pub fn updates_of<'a>(policy: &'a Policy, row: &SessionRow) -> &'a [Update]
@@ -64,6 +64,8 @@ fn run_update(
     ensures leads { OnOk result (Leads (shown state.old) (shown state.new) (λ P T. one_written_out P row.now when at T)) }
     ensures base { KeepsBase (shown state.old) (shown state.new) }
 {
+    tables_keep_what_is_followed();
+    updates_fit();
     let u = &updates_of(state.checked().policy(), row)[at as usize];
     if !is_of(u, when) {
         return Ok(());
@@ -91,6 +93,7 @@ pub fn run_updates(alloc: Global, state: &mut State, n: u32, when: When) -> Resu
     ensures leads { OnOk result (Leads (shown state.old) (shown state.new) (λ P T. extended T (session_writes P n when T))) }
     ensures base { KeepsBase (shown state.old) (shown state.new) }
 {
+    tables_keep_what_is_followed();
     writes_leave_sessions();
     if !has_updates(state, n) {
         return Ok(());

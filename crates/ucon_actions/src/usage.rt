@@ -27,7 +27,7 @@ use ucon_model::{
     Caller, Head, Refusal, SessionRow, SessionState, Verdict, When, actions_are_done_in_order,
     the_least_failing_is_found, updates_write_their_targets, writes_leave_sessions,
 };
-use ucon_state::State;
+use ucon_state::{State, each_action_is_followed, tables_keep_what_is_followed};
 
 /// The session, if it is there and the caller's own.
 fn own_session(state: &State, caller: Caller, n: u32) -> Result<SessionRow, Refusal>
@@ -71,6 +71,8 @@ fn deny(state: &mut State, n: u32, label: Name) -> Result<(), NoMemory>
     ensures leads { OnOk result (Leads (shown state.old) (shown state.new) (λ P T. deny n label ∷ T)) }
     ensures base { KeepsBase (shown state.old) (shown state.new) }
 {
+    tables_keep_what_is_followed();
+    each_action_is_followed();
     state.set_session(n, SessionState::Denied)
 }
 
@@ -82,6 +84,8 @@ fn permit(alloc: Global, state: &mut State, n: u32) -> Result<(), NoMemory>
     ensures leads { OnOk result (Leads (shown state.old) (shown state.new) (λ P T. extended T (session_writes P n Before T ++ permit n ∷ []))) }
     ensures base { KeepsBase (shown state.old) (shown state.new) }
 {
+    tables_keep_what_is_followed();
+    each_action_is_followed();
     actions_are_done_in_order();
     updates_write_their_targets();
     writes_leave_sessions();
@@ -97,6 +101,8 @@ fn decide(alloc: Global, state: &mut State, n: u32) -> Result<Head, NoMemory>
     ensures made { IfOk result (λ head. AfterEach (shown state.old) (λ P T. Makes head (shown state.new) P T (decide P T n))) }
     ensures base { KeepsBase (shown state.old) (shown state.new) }
 {
+    tables_keep_what_is_followed();
+    each_action_is_followed();
     typed_tests_make_no_set();
     match verdict(state, n) {
         Verdict::Deny(label) => {
@@ -131,6 +137,8 @@ fn request(
         (requested P T caller (subject_name state.old subject) (right_name state.old right) (object_name state.old object)))) }
     ensures base { KeepsBase (shown state.old) (shown state.new) }
 {
+    tables_keep_what_is_followed();
+    each_action_is_followed();
     let n = state.add_numbered_session(caller, right, subject, object)?;
     decide(alloc, state, n)
 }
@@ -215,6 +223,8 @@ fn end_usage(alloc: Global, state: &mut State, n: u32) -> Result<(), NoMemory>
     ensures leads { OnOk result (Leads (shown state.old) (shown state.new) (λ P T. ended P T n)) }
     ensures base { KeepsBase (shown state.old) (shown state.new) }
 {
+    tables_keep_what_is_followed();
+    each_action_is_followed();
     state.set_session(n, SessionState::Ended)?;
     run_updates(alloc, state, n, When::AfterEnd)
 }
@@ -239,6 +249,8 @@ pub fn revoke(alloc: Global, state: &mut State, n: u32, label: Name) -> Result<(
     ensures leads { OnOk result (Leads (shown state.old) (shown state.new) (λ P T. extended T (revocation P T (n, label)))) }
     ensures base { KeepsBase (shown state.old) (shown state.new) }
 {
+    tables_keep_what_is_followed();
+    each_action_is_followed();
     the_least_failing_is_found();
     state.set_session(n, SessionState::Revoked)?;
     run_updates(alloc, state, n, When::AfterRevoke)

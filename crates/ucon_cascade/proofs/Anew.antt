@@ -37,7 +37,7 @@ nobody_yet s standing nobody = record {
 pub not_yet : (s : Shown) (standing : ℕ → List ℕ) (n : ℕ) → IsExactBelow s standing n → StandsNowhere standing n
 not_yet s standing n exact place stands = let below = exact.below n place stands in omega (arith, below)
 
-last_or_before : (n k : ℕ) → k < n + 1 → (k ≡ n) ⊎ (k < n)
+pub last_or_before : (n k : ℕ) → k < n + 1 → (k ≡ n) ⊎ (k < n)
 last_or_before n k below = elim (eqb_tells k n) [ inl last ↦ inl last.1 | inr other ↦ (let apart = other.1 in inr (omega (arith, below, apart))) ]
 
 -- the next session reads its places

@@ -1,5 +1,5 @@
 -- The members of the work cover.
-use Rattle.std.proofs.Common.{◌≡◌, ◌⊎◌, ◌∙◌, ◌<◌, inl, inr, ℕ, zero, suc, Bool, true, false, List, [], ◌∷◌, ◌++◌, refl, sym, ap, subst, arith}
+use Rattle.std.proofs.Common.{◌≡◌, ◌⊎◌, ◌∙◌, ◌<◌, inl, inr, ℕ, ℤ, zero, suc, Bool, true, false, List, [], ◌∷◌, ◌++◌, refl, sym, ap, subst, arith}
 use Rattle.std.specs.Prelude.{◌&&◌, ◌||◌, nat_eq, Option, Some, None, IsSome, is_some, cond}
 use Rattle.std.specs.List.{Contains, flat_map, list_any}
 use Rattle.std.specs.Option.{option_map_or, option_to_list}
@@ -10,6 +10,7 @@ use Rattle.std.proofs.lemmas.Slice.Eq.{bytes_eq-Decides}
 use Rattle.ucon_base.specs.Elements.{Each}
 use Rattle.ucon_base.specs.declared.value.Side.{Side}
 use Rattle.ucon_base.specs.declared.value.Side.TheVariants as sides
+use Rattle.ucon_model.specs.declared.command.Caller.{Caller}
 use Rattle.ucon_model.specs.declared.command.Command.{Command}
 use Rattle.ucon_model.specs.declared.command.Command.TheVariants.{Subject, Object, Set, Env, Tick, Act, Try, Again, Beat, End, Look, Value as Value', Amend}
 use Rattle.ucon_model.specs.declared.formula.Ref.{Ref}
@@ -19,31 +20,33 @@ use Rattle.ucon_model.specs.declared.reply.Head.{Head}
 use Rattle.ucon_model.specs.declared.reply.Head.TheVariants as heads
 use Rattle.ucon_model.specs.declared.session.SessionRow.{SessionRow}
 use Rattle.ucon_model.specs.Plain.{Bytes, PlainPolicy}
-use Rattle.ucon_model.specs.Action.{Trace}
+use Rattle.ucon_model.specs.Action.{Trace, tick}
 use Rattle.ucon_model.specs.Readings.{in_force, is_accessing, is_accessing_state, same_side, session}
+use Rattle.ucon_model.specs.Deadlines.{is_due}
 use Rattle.ucon_model.specs.Decision.{failing}
 use Rattle.ucon_model.specs.Truth.{readings}
-use Rattle.ucon_model.specs.Reach.{Location, attribute_of, variable_of, is_by_tick, location_of, places_of, reads_at, readers, same_location, session_targets, targets, timed_of}
+use Rattle.ucon_model.specs.Reach.{Location, attribute_of, variable_of, location_of, places_of, reads_at, readers, same_location, session_targets, targets}
 use Rattle.ucon_model.specs.Settle.{fails_at, least_failing}
 use Rattle.ucon_model.specs.Sound.{IsNumbered}
 use Rattle.ucon_model.specs.Updates.{updates_of}
 use Rattle.ucon_model.specs.Usages.{going_on}
-use Rattle.ucon_model.specs.Afterwards.{command_locations, concerned_by, is_timed, permit_locations, permitted_by, work_afterwards}
-use Rattle.ucon_model.specs.Work.{Covers, IsLeastOf, Work, joined}
+use Rattle.ucon_model.specs.Afterwards.{command_locations, concerned_by, permit_locations, permitted_by, work_afterwards}
+use Rattle.ucon_model.specs.Work.{Covers, IsLeastOf, Work, joined, own_work}
 use Rattle.ucon_state.specs.Following.{Follows}
 use Rattle.ucon_state.specs.Shown.{Shown}
 use Rattle.ucon_state.specs.Tables.{session_in}
 use Rattle.ucon_cascade.specs.Cascading.{work_of}
-use Rattle.ucon_cascade.specs.Numbering.{IsExact, clock, clock_of, place_number}
+use Rattle.ucon_cascade.specs.Numbering.{IsExact, place_number}
+use Rattle.ucon_cascade.specs.Passing.{is_tick}
 use Rattle.ucon_cascade.specs.Putting.{IsCommandWork, IsOwnWork, IsPermitWork, StandsAt, StandsAtOne, targets_in}
 
 -- ---- truth values
 
-or_left : (a b : Bool) → a ≡ true → (a || b) ≡ true
+pub or_left : (a b : Bool) → a ≡ true → (a || b) ≡ true
 or_left true b h = refl
 or_left false b h = absurd cc
 
-or_right : (a b : Bool) → b ≡ true → (a || b) ≡ true
+pub or_right : (a b : Bool) → b ≡ true → (a || b) ≡ true
 or_right true b h = refl
 or_right false b h = h
 
@@ -100,7 +103,7 @@ stands_at s standing exact n row is location reads =
     record {
       place = found.0;
       is = found.1;
-      stands = exact.complete n found.0 (record { row = row; is = is; reads = Contains-append_right (clock_of s.policy row) _ found.0 found.2 });
+      stands = exact.complete n found.0 (record { row = row; is = is; reads = found.2 });
     }
 
 stands_at_one : (s : Shown) (standing : ℕ → List ℕ) → IsExact s standing → (n : ℕ) (row : SessionRow) → going_on (session_in s.tables n) ≡ Some row → (locations : List Location)
@@ -110,16 +113,6 @@ stands_at_one s standing exact n row is (location ∷ rest) reads = elim (or_cas
   | inl here ↦ inl (stands_at s standing exact n row is location here)
   | inr later ↦ inr (stands_at_one s standing exact n row is rest later)
 ]
-
--- and at the clock, where the tick decides
-stands_at_clock : (s : Shown) (standing : ℕ → List ℕ) → IsExact s standing → (n : ℕ) (row : SessionRow) → going_on (session_in s.tables n) ≡ Some row
-    → list_any is_by_tick (timed_of s.policy row) ≡ true → Contains (standing clock) n
-stands_at_clock s standing exact n row is timed =
-    exact.complete n clock (record { row = row; is = is; reads = Contains-append_left (clock_of s.policy row) _ clock (by (list_any is_by_tick (timed_of s.policy row)) timed) })
-  where
-    by : (b : Bool) → b ≡ true → Contains (cond b (clock ∷ []) []) clock
-    by true holds_so = (0, omega arith, refl)
-    by false holds_so = absurd cc
 
 -- ---- the tables and the trace
 
@@ -147,7 +140,7 @@ reader_stands s standing P T h exact n row there is locations reads =
     let told : list_any (reads_at (in_force P T) row) locations ≡ true = rw there at reads in
     stands_at_one s standing exact n row is locations (subst (λ (Q : PlainPolicy). list_any (reads_at Q row) locations ≡ true) (sym h.policy) told)
 
-targets_are : (s : Shown) (P : PlainPolicy) (T : Trace) → Follows s P T → SessionsAre s T → (n : ℕ) (when : When) → session_targets P T n when ≡ targets_in s n when
+pub targets_are : (s : Shown) (P : PlainPolicy) (T : Trace) → Follows s P T → SessionsAre s T → (n : ℕ) (when : When) → session_targets P T n when ≡ targets_in s n when
 targets_are s P T h same n when =
     ap (λ (Q : PlainPolicy). option_map_or (λ row. targets row when (updates_of Q row)) (session T n) []) (sym h.policy)
     ∙ ap (λ (o : Option SessionRow). option_map_or (λ row. targets row when (updates_of s.policy row)) o []) (sym (same n))
@@ -176,8 +169,9 @@ first_of s standing location n (inl here) = here
 first_of s standing location n (inr none) = absurd none
 
 command_stands : (s : Shown) (standing : ℕ → List ℕ) (P : PlainPolicy) (T : Trace) → Follows s P T → SessionsAre s T → IsExact s standing → (n : ℕ) (row : SessionRow) → session T n ≡ Some row
-    → going_on (session_in s.tables n) ≡ Some row → (c : Command) → (readers P T (command_locations P T c) n || concerned_by P T c n) ≡ true → IsCommandWork s standing c n
-command_stands s standing P T h same exact n row there is c reads = by c (or_cases (readers P T (command_locations P T c) n) (concerned_by P T c n) reads)
+    → going_on (session_in s.tables n) ≡ Some row → (c : Command) → is_tick c ≡ false → (readers P T (command_locations P T c) n || concerned_by P T c n) ≡ true
+    → IsCommandWork s standing c n
+command_stands s standing P T h same exact n row there is c no_tick reads = by c no_tick (or_cases (readers P T (command_locations P T c) n) (concerned_by P T c n) reads)
   where
     nowhere : readers P T [] n ≡ true → ⊥
     nowhere reads = let no : false ≡ true = rw there at reads in cc
@@ -190,40 +184,35 @@ command_stands s standing P T h same exact n row there is c reads = by c (or_cas
     by_one : (location : Location) → readers P T (location ∷ []) n ≡ true → StandsAt s standing location n
     by_one location reads = first_of s standing location n (reader_stands s standing P T h exact n row there is (location ∷ []) reads)
 
-    by_tick : is_timed P T n ≡ true → Contains (standing clock) n
-    by_tick timed =
-        let told : list_any is_by_tick (timed_of (in_force P T) row) ≡ true = rw there at timed in
-        stands_at_clock s standing exact n row is (subst (λ (Q : PlainPolicy). list_any is_by_tick (timed_of Q row) ≡ true) (sym h.policy) told)
+    by : (c : Command) → is_tick c ≡ false → (readers P T (command_locations P T c) n ≡ true) ⊎ (concerned_by P T c n ≡ true) → IsCommandWork s standing c n
+    by (Subject name) no_tick (inl reads) = absurd (nowhere reads)
+    by (Object name) no_tick (inl reads) = absurd (nowhere reads)
+    by (Set side name attr v) no_tick (inl reads) = by_one (attribute_of side name attr) reads
+    by (Env name v) no_tick (inl reads) = by_one (variable_of name) reads
+    by (Tick t) no_tick (inl reads) = absurd (nowhere reads)
+    by (Act u a o) no_tick (inl reads) = absurd (nowhere reads)
+    by (Try u r o) no_tick (inl reads) = absurd (nowhere reads)
+    by (Again k) no_tick (inl reads) = absurd (nowhere reads)
+    by (Beat k) no_tick (inl reads) = by_targets k During reads
+    by (End k) no_tick (inl reads) = by_targets k AfterEnd reads
+    by (Look k) no_tick (inl reads) = absurd (nowhere reads)
+    by (Value' side name attr) no_tick (inl reads) = absurd (nowhere reads)
+    by (Amend a) no_tick (inl reads) = absurd (nowhere reads)
+    by (Subject name) no_tick (inr timed) = absurd cc
+    by (Object name) no_tick (inr timed) = absurd cc
+    by (Set side name attr v) no_tick (inr timed) = absurd cc
+    by (Env name v) no_tick (inr timed) = absurd cc
+    by (Tick t) no_tick (inr timed) = absurd cc
+    by (Act u a o) no_tick (inr timed) = absurd cc
+    by (Try u r o) no_tick (inr timed) = absurd cc
+    by (Again k) no_tick (inr timed) = absurd cc
+    by (Beat k) no_tick (inr timed) = absurd cc
+    by (End k) no_tick (inr timed) = absurd cc
+    by (Look k) no_tick (inr timed) = absurd cc
+    by (Value' side name attr) no_tick (inr timed) = absurd cc
+    by (Amend a) no_tick (inr everybody) = ap is_some is
 
-    by : (c : Command) → (readers P T (command_locations P T c) n ≡ true) ⊎ (concerned_by P T c n ≡ true) → IsCommandWork s standing c n
-    by (Subject name) (inl reads) = absurd (nowhere reads)
-    by (Object name) (inl reads) = absurd (nowhere reads)
-    by (Set side name attr v) (inl reads) = by_one (attribute_of side name attr) reads
-    by (Env name v) (inl reads) = by_one (variable_of name) reads
-    by (Tick t) (inl reads) = absurd (nowhere reads)
-    by (Act u a o) (inl reads) = absurd (nowhere reads)
-    by (Try u r o) (inl reads) = absurd (nowhere reads)
-    by (Again k) (inl reads) = absurd (nowhere reads)
-    by (Beat k) (inl reads) = by_targets k During reads
-    by (End k) (inl reads) = by_targets k AfterEnd reads
-    by (Look k) (inl reads) = absurd (nowhere reads)
-    by (Value' side name attr) (inl reads) = absurd (nowhere reads)
-    by (Amend a) (inl reads) = absurd (nowhere reads)
-    by (Subject name) (inr timed) = absurd cc
-    by (Object name) (inr timed) = absurd cc
-    by (Set side name attr v) (inr timed) = absurd cc
-    by (Env name v) (inr timed) = absurd cc
-    by (Tick t) (inr timed) = by_tick timed
-    by (Act u a o) (inr timed) = absurd cc
-    by (Try u r o) (inr timed) = absurd cc
-    by (Again k) (inr timed) = absurd cc
-    by (Beat k) (inr timed) = absurd cc
-    by (End k) (inr timed) = absurd cc
-    by (Look k) (inr timed) = absurd cc
-    by (Value' side name attr) (inr timed) = absurd cc
-    by (Amend a) (inr everybody) = ap is_some is
-
-member : (n : ℕ) (members : List ℕ) → Contains members n → work_of members n ≡ true
+pub member : (n : ℕ) (members : List ℕ) → Contains members n → work_of members n ≡ true
 member n [] (i, within, is) = absurd (omega (arith, within))
 member n (x ∷ xs) (zero, within, is) = elim (eqb_tells n x) [ inl here ↦ or_left (nat_eq n x) _ here.0 | inr other ↦ absurd (other.1 (sym is)) ]
 member n (x ∷ xs) (suc i, within, is) = or_right (nat_eq n x) _ (member n xs (i, omega (arith, within), is))
@@ -238,19 +227,44 @@ is_member n (x ∷ xs) h = elim (eqb_tells n x) [
       (suc found.0, omega (arith, found.1), found.2)
 ]
 
--- who stands where own actions wrote, who is permitted, at a tick who stands at the clock, and all where the policy was replaced, cover after them
+-- who stands where own actions wrote, who is permitted, and all where the policy was replaced, cover after them, where they don't move the tick
 pub covers_own : (s : Shown) (standing : ℕ → List ℕ) (P : PlainPolicy) (T : Trace) (c : Command) (head : Head) (members : List ℕ) → Follows s P T → SessionsAre s T → IsExact s standing
-    → Covers P T (work_afterwards P T c head) → ((n : ℕ) → IsOwnWork s standing c head n → Contains members n) → Covers P T (work_of members)
-covers_own s standing P T c head members h same exact covers put n label fails =
+    → is_tick c ≡ false → Covers P T (work_afterwards P T c head) → ((n : ℕ) → IsOwnWork s standing c head n → Contains members n) → Covers P T (work_of members)
+covers_own s standing P T c head members h same exact no_tick covers put n label fails =
     let row = row_of_failing P T n label fails in
     let is : going_on (session_in s.tables n) ≡ Some row.0 = ap going_on (same n) ∙ row.2 in
     elim (or_cases (permitted_by head n) _ (covers n label fails)) [
       | inl permitted ↦ member n members (put n (inl (permitted_is s standing n head permitted)))
       | inr others ↦ elim (or_cases (readers P T (permit_locations P T head) n) _ others) [
         | inl reads ↦ member n members (put n (inl (permit_stands s standing P T h same exact n row.0 row.1 is head reads)))
-        | inr more ↦ member n members (put n (inr (command_stands s standing P T h same exact n row.0 row.1 is c more)))
+        | inr more ↦ member n members (put n (inr (command_stands s standing P T h same exact n row.0 row.1 is c no_tick more)))
       ]
     ]
+
+-- whoever doesn't fail may go
+pub passed_over : (P : PlainPolicy) (T : Trace) (n : ℕ) (rest : List ℕ) → Covers P T (work_of (n ∷ rest)) → fails_at P T n ≡ None → Covers P T (work_of rest)
+passed_over P T n rest covers none m label fails = elim (eqb_tells m n) [
+  | inl here ↦ absurd (let no : None ≡ Some label = sym none ∙ ap (fails_at P T) (sym here.1) ∙ fails in cc)
+  | inr other ↦ (let has : work_of (n ∷ rest) m ≡ true = covers m label fails in rw other.0 at has)
+]
+
+-- ---- after a tick
+
+accessing_as_failing : (b : Bool) (told : Option Bytes) (label : Bytes) → cond b told None ≡ Some label → b ≡ true
+accessing_as_failing true told label is = refl
+accessing_as_failing false told label is = absurd cc
+
+-- each session stays where the tick moves
+abbrev pub StayAtTick : Trace → ℤ → Type 0
+StayAtTick T t = (n : ℕ) → session (tick t ∷ T) n ≡ session T n
+
+-- of whom it passed a limit cover after it
+pub covers_due : (P : PlainPolicy) (T : Trace) (caller : Caller) (head : Head) (t : ℤ) (members : List ℕ) → StayAtTick T t
+    → Covers P (tick t ∷ T) (own_work P T caller (Tick t) head) → ((n : ℕ) → is_accessing (session T n) ≡ true → is_due P T t n ≡ true → Contains members n)
+    → Covers P (tick t ∷ T) (work_of members)
+covers_due P T caller head t members stay covers put n label fails =
+    let on = accessing_as_failing (is_accessing (session (tick t ∷ T) n)) (failing (in_force P (tick t ∷ T)) (readings P (tick t ∷ T)) n) label fails in
+    member n members (put n (ap is_accessing (sym (stay n)) ∙ on) (covers n label fails))
 
 -- ---- after a revocation
 

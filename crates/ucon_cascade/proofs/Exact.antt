@@ -16,20 +16,20 @@ use Rattle.ucon_model.specs.Readings.{env_position}
 use Rattle.ucon_model.specs.Usages.{going_on}
 use Rattle.ucon_state.specs.Shown.{Shown}
 use Rattle.ucon_state.specs.Tables.{cell_of, session_in}
-use Rattle.ucon_cascade.specs.Numbering.{AreNumbered, IsExact, ReadsPlace, clock_of, place_number, place_numbers, told}
+use Rattle.ucon_cascade.specs.Numbering.{AreNumbered, IsExact, ReadsPlace, place_number, place_numbers, told}
 
 -- ---- the numbers stay
 
 cell_stays : (s s' : Shown) → KeepsBase s s' → (side : Side) (name attr : Bytes) (o : Option ℕ) → cell_of s.policy s.tables side name attr ≡ o
-    → IsSome (told (option_map (λ cell. 1 + length s.policy.envs + cell) o))
-    → place_number s' (attribute_of side name attr) ≡ told (option_map (λ cell. 1 + length s.policy.envs + cell) o)
+    → IsSome (told (option_map (λ cell. length s.policy.envs + cell) o))
+    → place_number s' (attribute_of side name attr) ≡ told (option_map (λ cell. length s.policy.envs + cell) o)
 cell_stays s s' base side name attr None is some = absurd cc
 cell_stays s s' base side name attr (Some cell) is some =
-    ap (λ (o : Option ℕ). told (option_map (λ cell. 1 + length s'.policy.envs + cell) o)) (base.cells side name attr cell is)
-    ∙ ap (λ (Q : PlainPolicy). told (Some (1 + length Q.envs + cell))) base.policy
+    ap (λ (o : Option ℕ). told (option_map (λ cell. length s'.policy.envs + cell) o)) (base.cells side name attr cell is)
+    ∙ ap (λ (Q : PlainPolicy). told (Some (length Q.envs + cell))) base.policy
 
 pub place_stays : (s s' : Shown) → KeepsBase s s' → (location : Location) → IsSome (place_number s location) → place_number s' location ≡ place_number s location
-place_stays s s' base (variable_of name) some = ap (λ (Q : PlainPolicy). told (option_map suc (env_position Q name))) base.policy
+place_stays s s' base (variable_of name) some = ap (λ (Q : PlainPolicy). told (env_position Q name)) base.policy
 place_stays s s' base (attribute_of side name attr) some = cell_stays s s' base side name attr (cell_of s.policy s.tables side name attr) refl some
 
 numbers_among : (s s' : Shown) → KeepsBase s s' → (row : SessionRow) (places : List Ref) → Each (λ place. IsSome (place_number s (location_of row place))) places
@@ -41,8 +41,8 @@ numbers_among s s' base row (place ∷ rest) each =
 
 pub numbers_stay : (s s' : Shown) → KeepsBase s s' → (row : SessionRow) → AreNumbered s row → place_numbers s' row ≡ place_numbers s row
 numbers_stay s s' base row each =
-    ap (λ (Q : PlainPolicy). clock_of Q row ++ flat_map (λ place. option_to_list (place_number s' (location_of row place))) (places_of Q row)) base.policy
-    ∙ ap (λ (ns : List ℕ). clock_of s.policy row ++ ns) (numbers_among s s' base row (places_of s.policy row) each)
+    ap (λ (Q : PlainPolicy). flat_map (λ place. option_to_list (place_number s' (location_of row place))) (places_of Q row)) base.policy
+    ∙ numbers_among s s' base row (places_of s.policy row) each
 
 numbered_among : (s s' : Shown) → KeepsBase s s' → (row : SessionRow) (places : List Ref) → Each (λ place. IsSome (place_number s (location_of row place))) places
     → Each (λ place. IsSome (place_number s' (location_of row place))) places

@@ -1,7 +1,7 @@
 -- The monitor within a step: what its own actions are, and what undoing gives.
-use Rattle.std.proofs.Common.{◌≡◌, ◌∙◌, ℕ, List, [], ◌++◌, sym, ap, subst, arith}
+use Rattle.std.proofs.Common.{◌≡◌, ◌∙◌, ◌↔◌, ℕ, ℤ, List, [], ◌++◌, sym, ap, subst, arith}
 use Rattle.std.specs.List.{Contains}
-use Rattle.std.specs.Prelude.{Option, Some, None, option_map, Result, Ok, Err, OnErr, OnOk}
+use Rattle.std.specs.Prelude.{false, Option, Some, None, option_map, Result, Ok, Err, OnErr, OnOk}
 use Rattle.ucon_actions.specs.Gives.{Makes}
 use Rattle.ucon_actions.specs.Leads.{KeepsBase, KeepsOpening}
 use Rattle.ucon_model.specs.declared.command.Caller.{Caller}
@@ -24,6 +24,8 @@ use Rattle.ucon_state.specs.Tables.{Tables, session_in}
 use Rattle.ucon_cascade.specs.Cascading.{WereExact}
 use Rattle.ucon_cascade.specs.Monitor.{IsSettled, Stands}
 use Rattle.ucon_cascade.specs.Numbering.{IsExact}
+use Rattle.ucon_cascade.specs.Timers.{AreTimely, HasDeadline}
+use Rattle.ucon_wheel.specs.Deadlines.{Deadlines}
 use Rattle.ucon_cascade.proofs.Following.{exact_like}
 
 -- ---- answers
@@ -31,6 +33,10 @@ use Rattle.ucon_cascade.proofs.Following.{exact_like}
 pub on_err : {X E A : Type 0} (r : Result X E) → A → OnErr r A
 on_err (Ok x) a = tt
 on_err (Err e) a = a
+
+pub on_ok : {X E A : Type 0} (r : Result X E) → A → OnOk r A
+on_ok (Ok x) a = a
+on_ok (Err e) a = tt
 
 pub ok_then : {X E A B : Type 0} (r : Result X E) → (A → B) → OnOk r A → OnOk r B
 ok_then (Ok x) f a = f a
@@ -122,17 +128,53 @@ given_back_is s s' keeps settled =
     ∙ ap (λ (Q : PlainPolicy). (let x : Shown = record { policy = Q; tables = s.opening; opening_policy = s.opening_policy; opening = s.opening } in x)) settled.policy
     ∙ ap (λ (t : Tables). (let x : Shown = record { policy = s.policy; tables = t; opening_policy = s.opening_policy; opening = s.opening } in x)) settled.tables
 
-pub stands_like : (s : Shown) (standing standing' : ℕ → List ℕ) (P : PlainPolicy) (T : Trace) → ((place : ℕ) → standing' place ≡ standing place)
-    → Stands s standing P T → Stands s standing' P T
-stands_like s standing standing' P T same stands = record {
+-- the same deadlines
+pub timely_like : (v w : Deadlines) (P : PlainPolicy) (T : Trace) → ((n : ℕ) (d : ℤ) → HasDeadline w n d ↔ HasDeadline v n d) → AreTimely v P T → AreTimely w P T
+timely_like v w P T same timely = record {
+  timed = record {
+    held = λ n row part limit on of_right told ahead. (let was = timely.timed.held n row part limit on of_right told ahead in record {
+      deadline = was.deadline;
+      there = (same n was.deadline).1 was.there;
+      among = was.among;
+      up_to = was.up_to;
+    });
+    theirs = λ n d has. timely.timed.theirs n d ((same n d).0 has);
+  };
+  ahead = λ n d has. timely.ahead n d ((same n d).0 has);
+}
+
+pub same_wheel : (v w : Deadlines) → w ≡ v → (n : ℕ) (d : ℤ) → HasDeadline w n d ↔ HasDeadline v n d
+same_wheel v w is n d = (λ has. subst (λ (x : Deadlines). HasDeadline x n d) is has, λ has. subst (λ (x : Deadlines). HasDeadline x n d) (sym is) has)
+
+-- before there are sessions there are no deadlines
+pub timely_empty : (v : Deadlines) (P : PlainPolicy) → v ≡ record { pairs = []; hidden = [] } → AreTimely v P []
+timely_empty v P is = record {
+  timed = record {
+    held = λ n row part limit on of_right told ahead. absurd (let no : None ≡ Some row = on in cc);
+    theirs = λ n d has. absurd (none_there n d has);
+  };
+  ahead = λ n d has. absurd (none_there n d has);
+}
+  where
+    none_there : (n : ℕ) (d : ℤ) → HasDeadline v n d → ⊥
+    none_there n d has =
+        let empty : Deadlines = record { pairs = []; hidden = [] } in
+        let now : HasDeadline empty n d = subst (λ (x : Deadlines). HasDeadline x n d) is has in
+        let no : None ≡ Some false = now in
+        cc
+
+pub stands_like : (s : Shown) (standing standing' : ℕ → List ℕ) (v w : Deadlines) (P : PlainPolicy) (T : Trace) → ((place : ℕ) → standing' place ≡ standing place)
+    → ((n : ℕ) (d : ℤ) → HasDeadline w n d ↔ HasDeadline v n d) → Stands s standing v P T → Stands s standing' w P T
+stands_like s standing standing' v w P T same same_deadlines stands = record {
   follows = stands.follows;
   nobody = stands.nobody;
   exact = exact_like s standing standing' same stands.exact;
+  timely = timely_like v w P T same_deadlines stands.timely;
 }
 
 -- what undoing would give matters to nobody who reads
-pub stands_kept : (s : Shown) (standing : ℕ → List ℕ) (P : PlainPolicy) (T : Trace) → Stands s standing P T → Stands (kept s) standing P T
-stands_kept s standing P T stands = record {
+pub stands_kept : (s : Shown) (standing : ℕ → List ℕ) (v : Deadlines) (P : PlainPolicy) (T : Trace) → Stands s standing v P T → Stands (kept s) standing v P T
+stands_kept s standing v P T stands = record {
   follows = record {
     policy = stands.follows.policy;
     typed = stands.follows.typed;
@@ -145,6 +187,7 @@ stands_kept s standing P T stands = record {
     complete = λ n place reads. stands.exact.complete n place (record { row = reads.row; is = reads.is; reads = reads.reads });
     numbered = stands.exact.numbered;
   };
+  timely = stands.timely;
 }
 
 -- ---- the state of a session
@@ -153,6 +196,6 @@ pub status_is : (s : Shown) (P : PlainPolicy) (T : Trace) → Follows s P T → 
 status_is s P T h n = ap (option_map (λ (row : SessionRow). row.state)) (h.tables.sessions.rows n)
 
 -- undoing a change gives what stood before it
-pub stands_before : (s s' : Shown) (standing : ℕ → List ℕ) (P : PlainPolicy) (T : Trace) → KeepsOpening s s' → IsSettled s → Stands s standing P T
-    → Stands (given_back s') standing P T
-stands_before s s' standing P T keeps settled stands = subst (λ (x : Shown). Stands x standing P T) (sym (given_back_is s s' keeps settled)) stands
+pub stands_before : (s s' : Shown) (standing : ℕ → List ℕ) (v : Deadlines) (P : PlainPolicy) (T : Trace) → KeepsOpening s s' → IsSettled s → Stands s standing v P T
+    → Stands (given_back s') standing v P T
+stands_before s s' standing v P T keeps settled stands = subst (λ (x : Shown). Stands x standing v P T) (sym (given_back_is s s' keeps settled)) stands

@@ -14,14 +14,14 @@ use Rattle.ucon_model.specs.declared.session.SessionRow.{SessionRow}
 use Rattle.ucon_model.specs.Decision.{right_named}
 use Rattle.ucon_model.specs.Places.{places_read}
 use Rattle.ucon_model.specs.Plain.{PlainRight}
-use Rattle.ucon_model.specs.Reach.{is_by_tick, location_of, right_timed}
+use Rattle.ucon_model.specs.Reach.{location_of}
 use Rattle.ucon_state.specs.Shown.{Shown}
-use Rattle.ucon_cascade.specs.Numbering.{HaveNumbers, clock_if, numbers_of, place_number, place_numbers}
+use Rattle.ucon_cascade.specs.Numbering.{HaveNumbers, numbers_of, place_number, place_numbers}
 
 -- ---- by the right
 
 pub read_by : (s : Shown) (row : SessionRow) (r : PlainRight) → right_named s.policy.rights row.right ≡ Some r
-    → place_numbers s row ≡ clock_if (list_any is_by_tick (right_timed r)) ++ numbers_of s row (places_read r)
+    → place_numbers s row ≡ numbers_of s row (places_read r)
 read_by s row r is = rw is refl
 
 -- ---- one more

@@ -1,20 +1,15 @@
--- The numbers of the places that sessions read: the clock, then the variables, then the cells.
-use Rattle.std.specs.Prelude.{◌≡◌, ℕ, suc, ◌+◌, ◌^◌, ◌<◌, nat_lt, Bool, IsSome, List, [], ◌∷◌, ◌++◌, length, Option, Some, None, option_map, if◌then◌else◌}
-use Rattle.std.specs.List.{list_any, flat_map, Contains}
+-- The numbers of the places that sessions read: the variables, then the cells.
+use Rattle.std.specs.Prelude.{◌≡◌, ℕ, ◌+◌, ◌^◌, ◌<◌, nat_lt, IsSome, List, length, Option, Some, None, option_map, if◌then◌else◌}
+use Rattle.std.specs.List.{flat_map, Contains}
 use Rattle.std.specs.Option.{option_to_list}
 use Rattle.ucon_base.specs.Elements.{Each}
 use Rattle.ucon_model.specs.declared.formula.Ref.{Ref}
 use Rattle.ucon_model.specs.declared.session.SessionRow.{SessionRow}
-use Rattle.ucon_model.specs.Plain.{PlainPolicy}
-use Rattle.ucon_model.specs.Reach.{Location, attribute_of, variable_of, location_of, is_by_tick, places_of, timed_of}
+use Rattle.ucon_model.specs.Reach.{Location, attribute_of, variable_of, location_of, places_of}
 use Rattle.ucon_model.specs.Readings.{env_position}
 use Rattle.ucon_model.specs.Usages.{going_on}
 use Rattle.ucon_state.specs.Shown.{Shown}
 use Rattle.ucon_state.specs.Tables.{cell_of, session_in}
-
--- the place of the clock
-abbrev pub clock : ℕ
-clock = 0
 
 -- a number where 32 bits tell it
 abbrev pub told : Option ℕ → Option ℕ
@@ -23,8 +18,8 @@ told (Some n) = if nat_lt n (2 ^ 32) then Some n else None
 
 -- the number of the place at which a value is kept; none where nothing is kept there, or 32 bits don't tell it
 abbrev pub place_number : Shown → Location → Option ℕ
-place_number s (variable_of name) = told (option_map suc (env_position s.policy name))
-place_number s (attribute_of side name attr) = told (option_map (λ cell. 1 + length s.policy.envs + cell) (cell_of s.policy s.tables side name attr))
+place_number s (variable_of name) = told (env_position s.policy name)
+place_number s (attribute_of side name attr) = told (option_map (λ cell. length s.policy.envs + cell) (cell_of s.policy s.tables side name attr))
 
 -- the numbers of these places for a session
 abbrev pub numbers_of : Shown → SessionRow → List Ref → List ℕ
@@ -38,17 +33,9 @@ HaveNumbers s row places = Each (λ place. IsSome (place_number s (location_of r
 abbrev pub AreNumbered : Shown → SessionRow → Type 0
 AreNumbered s row = HaveNumbers s row (places_of s.policy row)
 
--- the clock, where this is so
-abbrev pub clock_if : Bool → List ℕ
-clock_if timed = if timed then clock ∷ [] else []
-
--- the clock where the tick decides over a part of what the session's right reads
-abbrev pub clock_of : PlainPolicy → SessionRow → List ℕ
-clock_of Q row = clock_if (list_any is_by_tick (timed_of Q row))
-
 -- the numbers of the places that a session reads
 abbrev pub place_numbers : Shown → SessionRow → List ℕ
-place_numbers s row = clock_of s.policy row ++ numbers_of s row (places_of s.policy row)
+place_numbers s row = numbers_of s row (places_of s.policy row)
 
 -- session n's usage goes on, and reads the place with this number
 pub record ReadsPlace (s : Shown) (n place : ℕ) : Type 0 where

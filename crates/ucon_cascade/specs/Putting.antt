@@ -3,7 +3,7 @@ use Rattle.std.specs.Prelude.{◌≡◌, ◌↔◌, ◌⊎◌, ◌<◌, ℕ, Lis
 use Rattle.std.specs.List.{All, Contains}
 use Rattle.std.specs.Option.{option_map_or}
 use Rattle.ucon_model.specs.declared.command.Command.{Command}
-use Rattle.ucon_model.specs.declared.command.Command.TheVariants.{Set, Env, Tick, Beat, End, Amend}
+use Rattle.ucon_model.specs.declared.command.Command.TheVariants.{Set, Env, Beat, End, Amend}
 use Rattle.ucon_model.specs.declared.policy.When.{When}
 use Rattle.ucon_model.specs.declared.policy.When.TheVariants.{Before, During, AfterEnd}
 use Rattle.ucon_model.specs.declared.reply.Head.{Head}
@@ -13,7 +13,7 @@ use Rattle.ucon_model.specs.Updates.{updates_of}
 use Rattle.ucon_model.specs.Usages.{going_on}
 use Rattle.ucon_state.specs.Shown.{Shown}
 use Rattle.ucon_state.specs.Tables.{session_in}
-use Rattle.ucon_cascade.specs.Numbering.{clock, place_number}
+use Rattle.ucon_cascade.specs.Numbering.{place_number}
 
 -- session n stands at the place where the value of a location is kept
 pub record StandsAt (s : Shown) (standing : ℕ → List ℕ) (location : Location) (n : ℕ) : Type 0 where
@@ -43,12 +43,11 @@ IsPermitWork s standing head n = ⊥
 abbrev pub GoesOn : Shown → ℕ → Type 0
 GoesOn s n = IsSome (going_on (session_in s.tables n))
 
--- Whom a command concerns else: who stands where it wrote, or where the updates wrote that it ran during a usage or after its end, and at
--- the clock where it moved the tick; and whose usage goes on where it replaced the policy.
+-- Whom a command concerns else: who stands where it wrote, or where the updates wrote that it ran during a usage or after its end; and
+-- whose usage goes on where it replaced the policy. Whom a tick concerns its deadlines tell.
 abbrev pub IsCommandWork : Shown → (ℕ → List ℕ) → Command → ℕ → Type 0
 IsCommandWork s standing (Set side name attr v) n = StandsAt s standing (attribute_of side name attr) n
 IsCommandWork s standing (Env name v) n = StandsAt s standing (variable_of name) n
-IsCommandWork s standing (Tick t) n = Contains (standing clock) n
 IsCommandWork s standing (Beat k) n = StandsAtOne s standing (targets_in s k During) n
 IsCommandWork s standing (End k) n = StandsAtOne s standing (targets_in s k AfterEnd) n
 IsCommandWork s standing (Amend a) n = GoesOn s n

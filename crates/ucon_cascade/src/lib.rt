@@ -1,13 +1,15 @@
-//! The indexed monitor: after a command's own actions only sessions are rechecked that read what was changed, and all where the policy
-//! was replaced.
+//! The indexed monitor: after a command's own actions only sessions are rechecked that read what was changed, or whose time has come, and
+//! all where the policy was replaced.
 #![tactic(auto)]
 
 mod follow;
+mod limits;
 mod monitor;
 mod own_work;
+mod passing;
 mod places;
 mod readers;
-mod reads;
 mod settle;
+mod timers;
 
 pub use monitor::Monitor;

@@ -1,10 +1,14 @@
 //! The indexed monitor.
 
-ghost use Rattle.std.specs.Prelude.{◌≡◌, [], IfOk, OnErr, OnOk, IsTrue, IsFalse};
+ghost use Rattle.std.specs.Prelude.{◌≡◌, ◌+◌, ◌≤◌, List, [], IfOk, OnErr, OnOk, IsTrue, IsFalse};
 ghost use Rattle.ucon_actions.specs.Leads.{AfterEach, KeepsBase, Leads};
 ghost use Rattle.ucon_cascade.specs.Numbering.{IsExact};
 ghost use Rattle.ucon_cascade.specs.Readers.{IsKept, UndoGives, readers_at};
-ghost use Rattle.ucon_model.specs.Action.{Trace, extended};
+ghost use Rattle.ucon_cascade.specs.Paid.{touched};
+ghost use Rattle.ucon_cascade.specs.Passing.{WereMade};
+ghost use Rattle.ucon_cascade.specs.Timers.{AreTimely, IsKept as AreKept, UndoGives as TimersGive};
+ghost use Rattle.ucon_model.specs.declared.command.Caller.{Caller};
+ghost use Rattle.ucon_model.specs.Action.{Action, Trace, extended};
 ghost use Rattle.ucon_model.specs.Block.{reply as reply_to};
 ghost use Rattle.ucon_model.specs.History.{changes};
 ghost use Rattle.ucon_model.specs.Plain.{PlainPolicy};
@@ -15,28 +19,33 @@ ghost use Rattle.ucon_state.specs.Shown.{shown};
 
 use crate::follow::follow_actions;
 use crate::own_work::put_own_work;
+use crate::passing::follow_time;
 use crate::readers::Readers;
 use crate::settle::settle;
+use crate::timers::Timers;
 use std::alloc::Global;
 use ucon_actions::{ActionFault, Outcome, own_actions};
 use ucon_base::{NoMemory, Rows, Steps};
 use ucon_model::{
     Caller, Checked, Command, Head, Reply, Revoked, SessionState, View, actions_are_done_in_order,
-    heads_tell_whose_usage_begins_or_ends, nobody_fails_after_settling,
-    readings_that_agree_are_one, work_is_read_off_afterwards,
+    drafts_are_blocks, heads_tell_whose_usage_begins_or_ends, judgements_are_paid_for,
+    nobody_fails_after_settling, own_work_is_read_off, readings_that_agree_are_one,
+    updates_write_their_targets, work_is_read_off_afterwards,
 };
 use ucon_pend::Pend;
 use ucon_state::{
-    Drafted, Engine, State, each_action_is_followed, sessions_are_few, tables_keep_what_is_followed,
+    Drafted, Engine, State, cells_are_of_one_attribute, each_action_is_followed, sessions_are_few,
+    tables_keep_what_is_followed,
 };
 
-/// After each change it rechecks the sessions that read what was changed, and no others but, at a tick, those over whom the tick decides,
+/// After each change it rechecks the sessions that read what was changed, and no others but, at a tick, those of whom it passed a deadline,
 /// and all where the policy was replaced.
 #[derive(Drop)]
 pub struct Monitor {
     alloc: Global,
     state: State,
     readers: Readers,
+    timers: Timers,
     /// The sessions that are to be rechecked. Empty between two steps.
     work: Pend,
 }
@@ -52,11 +61,13 @@ impl Engine for Monitor {
         each_action_is_followed();
         let state = State::new(alloc, checked)?;
         let readers = Readers::new(alloc)?;
+        let timers = Timers::new(alloc)?;
         let work = Pend::new(alloc, 1_048_577)?;
         Ok(Monitor {
             alloc,
             state,
             readers,
+            timers,
             work,
         })
     }
@@ -67,21 +78,13 @@ impl Engine for Monitor {
         command: &Command,
         steps: &mut Steps,
     ) -> Result<Drafted, NoMemory> {
-        match self.make_step(caller, command, steps) {
-            Ok(reply) => {
-                let changes = reply.changes();
-                Ok(Drafted { reply, changes })
-            }
-            Err(refused) => {
-                self.go_back();
-                Err(refused)
-            }
-        }
+        self.draft_at_cost(caller, command, steps)
     }
 
     fn keep(&mut self) {
         self.state.keep();
         self.readers.keep();
+        self.timers.keep();
     }
 
     fn undo(&mut self) {
@@ -96,6 +99,35 @@ impl Engine for Monitor {
 impl Monitor {
     ghost use Rattle.ucon_cascade.specs.Monitor.{AreMade, GoesBack, HasPending, IsReady, MayGoBack};
 
+    /// Drafts the command, and tells what that costs: the counter rises by at most the touches of the actions of the command's block, also
+    /// after want of memory.
+    pub fn draft_at_cost(
+        &mut self,
+        caller: Caller,
+        command: &Command,
+        steps: &mut Steps,
+    ) -> Result<Drafted, NoMemory>
+        requires { IsIdle IsReady self.old }
+        ensures reply { IfOk result (λ d. (P : PlainPolicy) (T : Trace) → IsReady self.old P T → reply_of d.reply ≡ reply_to P T caller command.now) }
+        ensures changes { IfOk result (λ d. d.changes ≡ changes (reply_of d.reply)) }
+        ensures pending { IfOk result (λ d. IsTrue d.changes
+            → (P : PlainPolicy) (T : Trace) → IsReady self.old P T → HasPending self.new P T (record { caller = caller; command = command.now })) }
+        ensures unchanged { IfOk result (λ d. IsFalse d.changes → FollowsLike IsReady self.old self.new) }
+        ensures err { OnErr result (FollowsLike IsReady self.old self.new) }
+        ensures cost { (P : PlainPolicy) (T : Trace) → IsReady self.old P T → steps.new ≤ steps.old + touched P T caller command.now }
+    {
+        match self.make_step(caller, command, steps) {
+            Ok(reply) => {
+                let changes = reply.changes();
+                Ok(Drafted { reply, changes })
+            }
+            Err(refused) => {
+                self.go_back();
+                Err(refused)
+            }
+        }
+    }
+
     /// After want of memory the monitor may be anywhere within the step, and goes back.
     fn make_step(
         &mut self,
@@ -108,6 +140,7 @@ impl Monitor {
         ensures pending { IfOk result (λ r. IsTrue (changes (reply_of r))
             → (P : PlainPolicy) (T : Trace) → IsReady self.old P T → HasPending self.new P T (record { caller = caller; command = command.now })) }
         ensures unchanged { IfOk result (λ r. IsFalse (changes (reply_of r)) → FollowsLike IsReady self.old self.new) }
+        ensures cost { (P : PlainPolicy) (T : Trace) → IsReady self.old P T → steps.new ≤ steps.old + touched P T caller command.now }
         ensures err { OnErr result ((P : PlainPolicy) (T : Trace) → IsReady self.old P T → GoesBack self.new P T) }
     {
         actions_are_done_in_order();
@@ -131,29 +164,52 @@ impl Monitor {
         head: &Head,
         steps: &mut Steps,
     ) -> Result<Rows<Revoked>, NoMemory>
-        requires made { AreMade (shown self.old.state) (readers_at self.old.readers) command.now head.now }
+        requires made { AreMade (shown self.old.state) (readers_at self.old.readers) self.old.timers.wheel command.now head.now }
         requires kept { IsKept self.old.readers }
+        requires timers_kept { AreKept self.old.timers }
         requires limit { self.old.work.limit ≡ 1048577 }
         requires no_work { self.old.work.members ≡ [] }
         ensures leads { OnOk result (Leads (shown self.old.state) (shown self.new.state) (λ P T. extended T (settle P T))) }
         ensures revoked { IfOk result (λ revoked. AfterEach (shown self.old.state) (λ P T. revoked.items ≡ revoked_in (settle P T))) }
         ensures exact { OnOk result (IsExact (shown self.new.state) (readers_at self.new.readers)) }
         ensures undo { UndoGives self.new.readers (readers_at self.old.readers) }
+        ensures timely { OnOk result ((P : PlainPolicy) (T : Trace) (caller : Caller) (actions : List Action)
+            → WereMade (shown self.old.state) self.old.timers.wheel P T caller command.now head.now actions
+            → AreTimely self.new.timers.wheel P (extended (extended T actions) (settle P (extended T actions)))) }
+        ensures timers_undo { TimersGive self.new.timers self.old.timers.wheel }
+        ensures cost { (P : PlainPolicy) (T : Trace) (caller : Caller) (actions : List Action)
+            → WereMade (shown self.old.state) self.old.timers.wheel P T caller command.now head.now actions
+            → steps.new ≤ steps.old + touched P T caller command.now }
         ensures done { OnOk result (self.new.work.members ≡ []) }
         ensures limit { self.new.work.limit ≡ self.old.work.limit }
         ensures base { KeepsBase (shown self.old.state) (shown self.new.state) }
     {
+        actions_are_done_in_order();
+        cells_are_of_one_attribute();
+        drafts_are_blocks();
         heads_tell_whose_usage_begins_or_ends();
+        judgements_are_paid_for();
+        own_work_is_read_off();
         readings_that_agree_are_one();
         sessions_are_few();
         tables_keep_what_is_followed();
+        updates_write_their_targets();
         work_is_read_off_afterwards();
         follow_actions(self.alloc, &self.state, &mut self.readers, command, head)?;
+        follow_time(
+            self.alloc,
+            &self.state,
+            &mut self.timers,
+            command,
+            head,
+            &mut self.work,
+        )?;
         put_own_work(&self.state, &self.readers, command, head, &mut self.work);
         settle(
             self.alloc,
             &mut self.state,
             &mut self.readers,
+            &mut self.timers,
             &mut self.work,
             steps,
         )
@@ -166,6 +222,7 @@ impl Monitor {
     {
         self.work.clear();
         self.readers.undo();
+        self.timers.undo();
         self.state.undo_all();
     }
 }

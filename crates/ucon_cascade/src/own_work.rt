@@ -8,7 +8,7 @@ ghost use Rattle.ucon_state.specs.Shown.{shown};
 ghost use Rattle.ucon_cascade.specs.Putting.{AllBelow, GainsThose, GoesOn, IsCommandWork, IsOwnWork, IsPermitWork, StandsAt, StandsAtOne, targets_in};
 ghost use Rattle.ucon_cascade.specs.Readers.{readers_at};
 
-use crate::places::{CLOCK, attribute_place, variable_place};
+use crate::places::{attribute_place, variable_place};
 use crate::readers::Readers;
 use ucon_actions::{entity_of, is_accessing, is_of, session, session_state, sessions, updates_of};
 use ucon_base::{Name, Side};
@@ -145,7 +145,6 @@ fn put_commanded(state: &State, readers: &Readers, command: &Command, work: &mut
             ..
         } => put_attribute(state, readers, *side, name, attr, work),
         Command::Env { name, .. } => put_variable(state, readers, name, work),
-        Command::Tick(_) => readers.put(CLOCK, work),
         Command::Beat(n) => put_targets(state, readers, *n, When::During, work),
         Command::End(n) => put_targets(state, readers, *n, When::AfterEnd, work),
         Command::Amend(_) => put_accessing(state, work),
@@ -153,9 +152,9 @@ fn put_commanded(state: &State, readers: &Readers, command: &Command, work: &mut
     }
 }
 
-/// Puts into the work, after a command's own actions, whoever they may have made fail: who is permitted, who reads where they wrote, at a
-/// tick everybody over whom the tick decides, and everybody where the policy was replaced. An act makes nobody fail, and nobody reads of an
-/// entity that is new.
+/// Puts into the work, after a command's own actions, whoever they may have made fail: who is permitted, who reads where they wrote, and
+/// everybody where the policy was replaced. An act makes nobody fail, and nobody reads of an entity that is new. Whom a tick concerns is in
+/// the work already.
 pub fn put_own_work(
     state: &State,
     readers: &Readers,

@@ -1,30 +1,24 @@
-//! The numbers of the places that sessions read: the clock, then the variables, then the cells.
+//! The numbers of the places that sessions read: the variables, then the cells.
 
 ghost use Rattle.std.specs.List.{Contains, list_any};
 ghost use Rattle.std.specs.Prelude.{◌≡◌, ◌==◌, ◌↔◌, ◌⊎◌, ◌++◌, ℕ, IfOk, OnOk};
 ghost use Rattle.ucon_links.specs.Lists.{IsDistinct};
-ghost use Rattle.ucon_model.specs.Reach.{attribute_of, is_by_tick, location_of, right_timed, variable_of};
-ghost use Rattle.ucon_model.specs.Views.{right_of};
+ghost use Rattle.ucon_model.specs.Reach.{attribute_of, location_of, variable_of};
 ghost use Rattle.ucon_state.specs.Shown.{shown};
-ghost use Rattle.ucon_cascade.specs.Numbering.{AreNumbered, HaveNumbers, clock_if, numbers_of, place_number, place_numbers};
+ghost use Rattle.ucon_cascade.specs.Numbering.{AreNumbered, HaveNumbers, numbers_of, place_number, place_numbers};
 
-use crate::reads::is_timed;
 use std::alloc::{AllocError, Global};
 use ucon_base::{Name, NoMemory, Rows, Side};
 use ucon_check::places_read;
-use ucon_model::{Ref, Right, SessionRow, View};
+use ucon_model::{Ref, SessionRow, View};
 use ucon_state::State;
-
-/// The place of the clock, which each session reads over which the tick decides.
-pub const CLOCK: u32 = 0;
 
 /// The place of a variable. None where the policy in force has none of this name, or its number is none of a `u32`.
 pub fn variable_place(state: &State, name: &Name) -> Option<u32>
     ensures { result ≡ place_number (shown state.now) (variable_of name.now) }
 {
     let at = state.checked().policy().env_position(name)?;
-    let at = u32::try_from(at).ok()?;
-    at.checked_add(1)
+    u32::try_from(at).ok()
 }
 
 /// The place of an attribute of an entity. None where one of them isn't there, or its number is none of a `u32`.
@@ -34,8 +28,7 @@ pub fn attribute_place(state: &State, side: Side, name: &Name, attr: &Name) -> O
     let entity = state.find(side, name)?;
     let cell = state.cell(side, entity, attr)?;
     let variables = u32::try_from(state.checked().policy().envs.len()).ok()?;
-    let first = variables.checked_add(1)?;
-    first.checked_add(cell)
+    variables.checked_add(cell)
 }
 
 /// The place of a reference for a session.
@@ -59,20 +52,8 @@ pub fn place_numbers(alloc: Global, state: &State, row: &SessionRow) -> Result<R
         return Ok(Rows::new(alloc));
     };
     let places = places_read(alloc, right)?;
-    let mut numbers = clock_number(alloc, right)?;
-    add_places(state, row, places.slice(), &mut numbers)?;
-    Ok(numbers)
-}
-
-/// The number of the clock, if the tick decides over what the right reads.
-fn clock_number(alloc: Global, right: &Right) -> Result<Rows<u32>, NoMemory>
-    ensures { IfOk result (λ numbers. numbers.items ≡ clock_if (list_any is_by_tick (right_timed (right_of right.now)))) }
-{
     let mut numbers = Rows::new(alloc);
-    if !is_timed(right) {
-        return Ok(numbers);
-    }
-    numbers.push(CLOCK)?;
+    add_places(state, row, places.slice(), &mut numbers)?;
     Ok(numbers)
 }
 

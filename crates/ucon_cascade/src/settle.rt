@@ -1,32 +1,47 @@
 //! The cascade of revocations by a list of work: only who is in it is rechecked, least first.
 
-ghost use Rattle.std.specs.Prelude.{◌≡◌, ◌∷◌, [], ◌++◌, ℕ, Some, IfNone, IfOk, IfSome, OnOk, List};
+ghost use Rattle.std.specs.Prelude.{◌≡◌, ◌+◌, ◌≤◌, ◌∷◌, [], ◌++◌, ℕ, false, Some, IfNone, IfOk, IfSome, OnOk, List};
 ghost use Rattle.ucon_model.specs.Action.{extended};
 ghost use Rattle.ucon_model.specs.Settle.{fails_at, least_failing, revocation, settle, revoked_in};
 ghost use Rattle.ucon_actions.specs.Leads.{AfterEach, IsFollowing, KeepsBase, Leads};
 ghost use Rattle.ucon_cascade.specs.Cascading.{CoversEach, work_of};
 ghost use Rattle.ucon_model.specs.Work.{Covers, joined, only};
 ghost use Rattle.ucon_cascade.specs.Numbering.{IsExact};
+ghost use Rattle.ucon_cascade.specs.Putting.{GoesOn};
 ghost use Rattle.ucon_cascade.specs.Readers.{UndoGives, readers_at};
+ghost use Rattle.ucon_cascade.specs.Paid.{CostsItsTouches, StayPaid, StayPaidRevoking};
+ghost use Rattle.ucon_model.specs.Readings.{is_accessing};
+ghost use Rattle.ucon_cascade.specs.Timers.{AreTimely, UndoGives as TimersGive};
+ghost use Rattle.ucon_wheel.specs.Deadlines.{Deadlines};
+ghost use Rattle.ucon_model.specs.Plain.{PlainPolicy};
+ghost use Rattle.ucon_model.specs.Action.{Trace};
+ghost use Rattle.ucon_state.specs.Following.{Follows};
 ghost use Rattle.ucon_state.specs.Shown.{shown};
+ghost use Rattle.ucon_state.specs.Tables.{session_in};
 
 use crate::own_work::put_targets;
 use crate::readers::Readers;
+use crate::timers::Timers;
 use std::alloc::Global;
 use ucon_actions::{accessing, is_accessing, revoke, session_state};
 use ucon_base::{Name, NoMemory, Rows, Steps};
 use ucon_eval::{failing, typed_tests_make_no_set};
 use ucon_model::{
-    Revoked, When, covering_work_has_the_least, heads_tell_whose_usage_begins_or_ends,
-    readings_that_agree_are_one, turns_follow_each_other, work_is_read_off_afterwards,
+    Revoked, When, actions_are_done_in_order, covering_work_has_the_least,
+    heads_tell_whose_usage_begins_or_ends, judgements_are_paid_for, readings_that_agree_are_one,
+    turns_follow_each_other, updates_write_their_targets, work_is_read_off_afterwards,
 };
 use ucon_pend::Pend;
-use ucon_state::{State, sessions_are_few, tables_keep_what_is_followed};
+use ucon_state::{
+    State, cells_are_of_one_attribute, sessions_are_few, tables_keep_what_is_followed,
+};
 
-/// The label by which session n fails, if it is accessing.
+/// The label by which session n fails, if it is accessing. Only then it is judged.
 fn fails_at(state: &State, n: u32, steps: &mut Steps) -> Option<Name>
     requires { IsFollowing (shown state.now) }
-    ensures { AfterEach (shown state.now) (λ P T. fails_at P T n ≡ result) }
+    ensures label { AfterEach (shown state.now) (λ P T. fails_at P T n ≡ result) }
+    ensures once { steps.new ≤ steps.old + 1 }
+    ensures not_judged { is_accessing (session_in (shown state.now).tables n) ≡ false → steps.new ≡ steps.old }
 {
     readings_that_agree_are_one();
     tables_keep_what_is_followed();
@@ -44,9 +59,14 @@ fn next_failing(state: &State, work: &mut Pend, steps: &mut Steps) -> Option<(u3
     ensures least { AfterEach (shown state.now) (λ P T. least_failing P T ≡ result) }
     ensures covers { IfSome result (λ found. AfterEach (shown state.now) (λ P T. Covers P T (joined (only found.0) (work_of work.new.members)))) }
     ensures done { IfNone result (work.new.members ≡ []) }
+    ensures fails { IfSome result (λ found. AfterEach (shown state.now) (λ P T. fails_at P T found.0 ≡ Some found.1)) }
+    ensures paid { IfNone result (StayPaid (shown state.now) work.old.members work.new.members steps.old steps.new) }
+    ensures found { IfSome result (λ found.
+        StayPaid (shown state.now) work.old.members (found.0 ∷ work.new.members) (steps.old + 1) steps.new) }
     ensures limit { work.new.limit ≡ work.old.limit }
 {
     covering_work_has_the_least();
+    judgements_are_paid_for();
     while let Some(n) = work.pop_least() {
         if let Some(label) = fails_at(state, n, steps) {
             return Some((n, label));
@@ -60,6 +80,7 @@ fn revoke_next(
     alloc: Global,
     state: &mut State,
     readers: &mut Readers,
+    timers: &mut Timers,
     work: &mut Pend,
     revoked: &mut Rows<Revoked>,
     n: u32,
@@ -67,6 +88,7 @@ fn revoke_next(
 ) -> Result<(), NoMemory>
     requires following { IsFollowing (shown state.old) }
     requires least { AfterEach (shown state.old) (λ P T. least_failing P T ≡ Some (n, label)) }
+    requires fails { AfterEach (shown state.old) (λ P T. fails_at P T n ≡ Some label) }
     requires covers { AfterEach (shown state.old) (λ P T. Covers P T (joined (only n) (work_of work.old.members))) }
     requires exact { IsExact (shown state.old) (readers_at readers.old) }
     requires limit { work.old.limit ≡ 1048577 }
@@ -75,6 +97,11 @@ fn revoke_next(
     ensures covers { OnOk result (CoversEach (shown state.new) work.new.members) }
     ensures exact { OnOk result (IsExact (shown state.new) (readers_at readers.new)) }
     ensures undo { (standing : ℕ → List ℕ) → UndoGives readers.old standing → UndoGives readers.new standing }
+    ensures timed { OnOk result ((P : PlainPolicy) (T : Trace) → Follows (shown state.old) P T → AreTimely timers.old.wheel P T
+        → AreTimely timers.new.wheel P (extended T (revocation P T (n, label)))) }
+    ensures timers_undo { (before : Deadlines) → TimersGive timers.old before → TimersGive timers.new before }
+    ensures fewer { OnOk result ((m : ℕ) → GoesOn (shown state.new) m → GoesOn (shown state.old) m) }
+    ensures paid { OnOk result (StayPaidRevoking (shown state.old) (n, label) work.old.members work.new.members) }
     ensures limit { work.new.limit ≡ work.old.limit }
     ensures base { KeepsBase (shown state.old) (shown state.new) }
 {
@@ -82,10 +109,14 @@ fn revoke_next(
     readings_that_agree_are_one();
     sessions_are_few();
     tables_keep_what_is_followed();
+    judgements_are_paid_for();
+    updates_write_their_targets();
+    cells_are_of_one_attribute();
     work_is_read_off_afterwards();
     revoke(alloc, state, n, label)?;
     revoked.push(Revoked { session: n, label })?;
     readers.hide(n);
+    timers.hide_all(n)?;
     put_targets(state, readers, n, When::AfterRevoke, work);
     Ok(())
 }
@@ -95,6 +126,7 @@ pub fn settle(
     alloc: Global,
     state: &mut State,
     readers: &mut Readers,
+    timers: &mut Timers,
     work: &mut Pend,
     steps: &mut Steps,
 ) -> Result<Rows<Revoked>, NoMemory>
@@ -107,9 +139,15 @@ pub fn settle(
     ensures exact { OnOk result (IsExact (shown state.new) (readers_at readers.new)) }
     ensures undo { (standing : ℕ → List ℕ) → UndoGives readers.old standing → UndoGives readers.new standing }
     ensures done { OnOk result (work.new.members ≡ []) }
+    ensures timed { OnOk result ((P : PlainPolicy) (T : Trace) → Follows (shown state.old) P T → AreTimely timers.old.wheel P T
+        → AreTimely timers.new.wheel P (extended T (settle P T))) }
+    ensures timers_undo { (before : Deadlines) → TimersGive timers.old before → TimersGive timers.new before }
+    ensures cost { CostsItsTouches (shown state.old) work.old.members steps.old steps.new }
     ensures limit { work.new.limit ≡ work.old.limit }
     ensures base { KeepsBase (shown state.old) (shown state.new) }
 {
+    actions_are_done_in_order();
+    judgements_are_paid_for();
     turns_follow_each_other();
     let mut revoked = Rows::new(alloc);
     let usages = accessing(state);
@@ -120,6 +158,7 @@ pub fn settle(
                 alloc,
                 state,
                 readers,
+                timers,
                 work,
                 &mut revoked,
                 found.0,

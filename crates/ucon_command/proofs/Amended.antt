@@ -14,7 +14,6 @@ use Rattle.ucon_model.specs.declared.command.Command.{Command}
 use Rattle.ucon_model.specs.declared.command.Command.TheVariants.{Amend}
 use Rattle.ucon_model.specs.CommandLine.{LineRefusal, Word, placed, words_of, wrong_count, bad_word, said, made, amendment_in, amend_words, command_read, most_bytes}
 use Rattle.ucon_model.specs.Plain.{Bytes, Amendment}
-use Rattle.ucon_model.proofs.Lacking.{lacks-tested}
 use Rattle.ucon_syntax.specs.Policies.{accepted}
 use Rattle.ucon_command.specs.Cuts.{AreCuts, IsSecond, word_to, words_at, words_from}
 use Rattle.ucon_command.proofs.Joined.{split, split_first}
@@ -36,7 +35,7 @@ first_text (w ∷ ws) = w.text
 begins : (line : Bytes) → starts_with nat_eq line (codes "amend ") ≡ true → first_text (words_of line) ≡ codes "amend"
 begins line e =
     let whole : line ≡ codes "amend " ++ drop 6 line = (starts_is Decides-eqb line (codes "amend ") true (sym e)).0 refl in
-    let cut : split line ≡ codes "amend" ∷ split (drop 6 line) = ap split whole ∙ split_first (codes "amend") (drop 6 line) (lacks-tested 32 (codes "amend") refl) in
+    let cut : split line ≡ codes "amend" ∷ split (drop 6 line) = ap split whole ∙ split_first (codes "amend") (drop 6 line) (refl, (refl, (refl, (refl, (refl, tt))))) in
     ap (λ (ws : List Bytes). first_text (placed 0 ws)) cut
 
 -- how long a line may be that begins so, or doesn't

@@ -16,13 +16,9 @@ use Rattle.ucon_model.specs.Payload.{Told, entry_told, most_payload, payload_rea
 use Rattle.ucon_model.specs.Plain.{Bytes, PlainPolicy, PlainReply}
 use Rattle.ucon_model.specs.Spelling.{reply_spelling}
 use Rattle.ucon_command.specs.Payloads.{AreSteps, IsStep, most_told}
-use Rattle.ucon_command.proofs.Payloads.{payload_back, payload_is, payload_short}
-use Rattle.ucon_command.proofs.ReadLines.{Accepts}
+use Rattle.ucon_command.proofs.Payloads.{StepsAreSpelled, payload_short}
 
 -- ---- the texts of steps
-
-pub step_back : (reads : Bytes → Option PlainPolicy) → Accepts reads → (t : Told) → IsStep t → payload_read reads (payload_spelling t) ≡ Ok t
-step_back reads accepts t is = payload_back reads accepts t is.client is.command is.reply
 
 pub step_short : (t : Told) → IsStep t → length (payload_spelling t) ≤ most_told t.reply
 step_short t is = payload_short t (omega (arith, is.client)) is.command is.reply
@@ -68,7 +64,15 @@ pub untaken_long : (reads : Bytes → Option PlainPolicy) (P : PlainPolicy) (H :
 unfolding taken
 untaken_long reads P H payload lt = ap (λ b. cond b None (option_and_then (with_step P H) (result_ok (payload_read reads payload)))) (lt-ltb most_payload (length payload) lt)
 
-module _ (reads : Bytes → Option PlainPolicy) (tells : (r : PlainReply) → tells_change (reply_spelling r) ≡ changes r) where
+-- each step's payload is read as the step
+abbrev pub StepsAreRead : (Bytes → Option PlainPolicy) → Type 0
+StepsAreRead reads = (t : Told) → IsStep t → payload_read reads (payload_spelling t) ≡ Ok t
+
+-- a reply's text tells whether it changes something
+abbrev pub TextsTell : Type 0
+TextsTell = (r : PlainReply) → tells_change (reply_spelling r) ≡ changes r
+
+module _ (reads : Bytes → Option PlainPolicy) (tells : TextsTell) (as_read : StepsAreSpelled reads) where
   same_changes : (r s : PlainReply) → reply_spelling r ≡ reply_spelling s → changes r ≡ changes s
   same_changes r s h = sym (tells r) ∙ ap tells_change h ∙ tells s
 
@@ -96,38 +100,38 @@ module _ (reads : Bytes → Option PlainPolicy) (tells : (r : PlainReply) → te
   unfolding taken
   taken_as_spelled P H payload t short read =
       let fits : nat_lt most_payload (length payload) ≡ false = le-ltb most_payload (length payload) short in
-      let tests = tests_agree t (said P H t.caller t.command) payload (payload_is reads payload t read) in
+      let tests = tests_agree t (said P H t.caller t.command) payload (as_read payload t read).0 in
       ap (λ b. cond b None (option_and_then (with_step P H) (result_ok (payload_read reads payload)))) fits
       ∙ ap (λ r. option_and_then (with_step P H) (result_ok r)) read
       ∙ ap (λ b. cond b (Some (H ++ entry_told t ∷ [])) None) tests
 
-  pub taken_next : Accepts reads → (P : PlainPolicy) (H : History) (e : Entry) → IsStep (told e (said P H e.caller e.command)) → IsTrue (changes (said P H e.caller e.command))
+  pub taken_next : StepsAreRead reads → (P : PlainPolicy) (H : History) (e : Entry) → IsStep (told e (said P H e.caller e.command)) → IsTrue (changes (said P H e.caller e.command))
       → taken reads P H (payload_spelling (told e (said P H e.caller e.command))) ≡ Some (H ++ e ∷ [])
-  taken_next accepts P H e is changing =
+  taken_next back P H e is changing =
       let t : Told = told e (said P H e.caller e.command) in
-      taken_as_spelled P H (payload_spelling t) t (step_fits t is) (step_back reads accepts t is)
+      taken_as_spelled P H (payload_spelling t) t (step_fits t is) (back t is)
       ∙ ap (λ b. cond (b && bytes_eq (payload_spelling t) (payload_spelling t)) (Some (H ++ e ∷ [])) None) changing
       ∙ ap (λ b. cond b (Some (H ++ e ∷ [])) None) (same_bytes (payload_spelling t))
 
   -- ---- what is written is found
 
-  found-behind : Accepts reads → (text : Bytes) (P : PlainPolicy) (rest front : History) (number gate : ℕ) → IsProperFrom P front rest → AreSteps P front rest
+  found-behind : StepsAreRead reads → (text : Bytes) (P : PlainPolicy) (rest front : History) (number gate : ℕ) → IsProperFrom P front rest → AreSteps P front rest
       → found_behind reads text P front number gate (payloads_behind P front rest) ≡ holds text P (front ++ rest) (gate_behind gate (payloads_behind P front rest))
-  found-behind accepts text P [] front number gate proper steps = ap (λ H. holds text P H gate) (sym (append-nil front))
-  found-behind accepts text P (e ∷ rest) front number gate proper steps =
+  found-behind back text P [] front number gate proper steps = ap (λ H. holds text P H gate) (sym (append-nil front))
+  found-behind back text P (e ∷ rest) front number gate proper steps =
       let payload : Bytes = payload_spelling (told e (said P front e.caller e.command)) in
       ap (λ o. unwrap_or (option_map (λ later. found_behind reads text P later (number + 1) (next_gate gate payload) (payloads_behind P (front ++ e ∷ []) rest)) o) (damaged number gate))
-      (taken_next accepts P front e steps.0 proper.0)
-      ∙ found-behind accepts text P rest (front ++ e ∷ []) (number + 1) (next_gate gate payload) proper.1 steps.1
+      (taken_next back P front e steps.0 proper.0)
+      ∙ found-behind back text P rest (front ++ e ∷ []) (number + 1) (next_gate gate payload) proper.1 steps.1
       ∙ ap (λ H. holds text P H (gate_behind (next_gate gate payload) (payloads_behind P (front ++ e ∷ []) rest))) (append_assoc front (e ∷ []) rest)
 
-  pub history_found : Accepts reads → (text : Bytes) (P : PlainPolicy) (H : History)
+  pub history_found : StepsAreRead reads → (text : Bytes) (P : PlainPolicy) (H : History)
       → reads text ≡ Some P → length text ≤ most_payload → IsProper P H → AreSteps P [] H
       → found_in reads (payloads_of text P H) ≡ holds text P H (gate_behind first_gate (payloads_of text P H))
-  history_found accepts text P H read short proper steps =
+  history_found back text P H read short proper steps =
       ap (λ o. unwrap_or (option_map (λ Q. found_behind reads text Q [] 1 (next_gate first_gate text) (payloads_behind P [] H)) o) (damaged 0 first_gate))
       (ap (λ b. cond b None (reads text)) (le-ltb most_payload (length text) short) ∙ read)
-      ∙ found-behind accepts text P H [] 1 (next_gate first_gate text) proper steps
+      ∙ found-behind back text P H [] 1 (next_gate first_gate text) proper steps
 
   -- ---- what is found was written
 

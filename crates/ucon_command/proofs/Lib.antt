@@ -6,6 +6,7 @@ pub mod Joined
 pub mod Judged
 pub mod KnownWords
 pub mod Lengths
+pub mod LowerLaws
 pub mod Payloads
 pub mod Placed
 pub mod ReadLines

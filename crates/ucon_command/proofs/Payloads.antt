@@ -1,6 +1,6 @@
 -- A step's payload is read as the step, and bytes that are read are the step's payload.
 use Rattle.std.proofs.Common.{◌≡◌, ℕ, suc, ◌+◌, ◌-◌, ◌*◌, ◌/◌, ◌%◌, ◌<◌, ◌≤◌, ◌^◌, Bool, true, false, cond, [], ◌∷◌, ◌++◌, length, take, drop, get_or, Some, None, Ok, Err, is_ok, is_some, subst, refl, sym, ap, ◌∙◌, arith, length-append, length-drop, inl, inr, ⊎_elim}
-use Rattle.std.specs.Prelude.{◌⊎◌, ◌↔◌, not, IfOk, MatchResult, Option, Result, option_map, option_and_then, ok_or, unwrap_or, nat_lt, ◌==◌, position}
+use Rattle.std.specs.Prelude.{◌⊎◌, not, IfOk, MatchResult, Option, Result, option_map, option_and_then, ok_or, unwrap_or, nat_lt, ◌==◌, position}
 use Rattle.std.specs.Fmt.{decimal}
 use Rattle.std.specs.List.{position_or_len}
 use Rattle.std.specs.Result.{result_ok, result_err, result_unwrap_or}
@@ -16,10 +16,7 @@ use Rattle.ucon_model.specs.CommandLine.{command_spelling, line_read, IsCommand,
 use Rattle.ucon_model.specs.Document.{caller_of}
 use Rattle.ucon_model.specs.Output.{Lacks, cut_at, number_read}
 use Rattle.ucon_model.specs.Payload.{Told, payload_spelling, caller_read, client_numbered, step_read, payload_read, ◌>>=◌}
-use Rattle.ucon_model.specs.Plain.{Bytes, PlainPolicy}
-use Rattle.ucon_model.specs.Spells.{Spells}
-use Rattle.ucon_model.specs.Typing.{IsTyped}
-use Rattle.ucon_syntax.specs.Policies.{accepted}
+use Rattle.ucon_model.specs.Plain.{Bytes, PlainPolicy, PlainReply}
 use Rattle.ucon_model.specs.ReplyText.{IsReply, reply_read}
 use Rattle.ucon_model.specs.Spelling.{reply_spelling}
 use Rattle.ucon_model.specs.declared.reply.Reply.{Reply}
@@ -27,11 +24,9 @@ use Rattle.ucon_model.specs.Views.{reply_of}
 use Rattle.ucon_command.specs.declared.payload_fault.PayloadFault.{PayloadFault}
 use Rattle.ucon_command.specs.Payloads.{IsBadAt, most_told, told_of}
 use Rattle.ucon_command.proofs.Lengths.{short_all, reply_short}
-use Rattle.ucon_command.proofs.SpelledLines.{command_is, same_bytes}
-use Rattle.ucon_command.proofs.SpelledReplies.{reply_is}
-use Rattle.ucon_command.proofs.InLine.{command_in_line}
-use Rattle.ucon_command.proofs.ReadLines.{Accepts, command_back, number_lacks}
-use Rattle.ucon_command.proofs.ReadReplies.{reply_back}
+use Rattle.ucon_command.proofs.LowerLaws.{NumbersLack}
+use Rattle.ucon_command.proofs.ReadReplies.{RepliesAreRead}
+use Rattle.ucon_command.proofs.SpelledLines.{same_bytes}
 
 -- ---- what is written is read
 
@@ -45,19 +40,25 @@ number_back n lt = rw ((decimal_is_IsNumeral n (omega (arith, lt))).1, (bytes_eq
 pub caller_back : (n : ℕ) → n < 64 → caller_read (decimal n) ≡ Some (caller_of n)
 caller_back n lt = rw (number_back n lt, lt-ltb n 64 lt) refl
 
-step_back : (reads : Bytes → Option PlainPolicy) → Accepts reads → (place : ℕ) (t : Told) → IsCommand t.command → IsReply t.reply → step_read reads place t.caller (command_spelling t.command ++ 10 ∷ reply_spelling t.reply) ≡ Ok t
-unfolding step_read
-step_back reads accepts place t is_command is_reply =
-    rw (cut_at-append 10 (command_spelling t.command) (reply_spelling t.reply) (command_in_line t.command is_command), command_back reads accepts t.command is_command, reply_back t.reply is_reply) refl
+-- each command's text is read as the command, and has no newline
+pub record CommandsAreRead (reads : Bytes → Option PlainPolicy) : Type 0 where
+  pub written : (c : Command) → IsCommand c → line_read reads (command_spelling c) ≡ Ok c
+  pub one_line : (c : Command) → IsCommand c → Lacks 10 (command_spelling c)
 
-pub payload_back : (reads : Bytes → Option PlainPolicy) → Accepts reads → (t : Told) → t.caller.0 < 64 → IsCommand t.command → IsReply t.reply → payload_read reads (payload_spelling t) ≡ Ok t
-unfolding payload_read
-payload_back reads accepts t lt is_command is_reply =
-    rw (
-      cut_at-append 32 (decimal t.caller.0) (command_spelling t.command ++ 10 ∷ reply_spelling t.reply) (number_lacks t.caller.0 (omega (arith, lt))),
-      caller_back t.caller.0 lt,
-      step_back reads accepts (length (decimal t.caller.0) + 1) t is_command is_reply,
-    ) refl
+module _ (numbers : NumbersLack) (reads : Bytes → Option PlainPolicy) (commands : CommandsAreRead reads) (replies : RepliesAreRead) where
+  step_back : (place : ℕ) (t : Told) → IsCommand t.command → IsReply t.reply → step_read reads place t.caller (command_spelling t.command ++ 10 ∷ reply_spelling t.reply) ≡ Ok t
+  unfolding step_read
+  step_back place t is_command is_reply =
+      rw (cut_at-append 10 (command_spelling t.command) (reply_spelling t.reply) (commands.one_line t.command is_command), commands.written t.command is_command, replies t.reply is_reply) refl
+
+  pub payload_back : (t : Told) → t.caller.0 < 64 → IsCommand t.command → IsReply t.reply → payload_read reads (payload_spelling t) ≡ Ok t
+  unfolding payload_read
+  payload_back t lt is_command is_reply =
+      rw (
+        cut_at-append 32 (decimal t.caller.0) (command_spelling t.command ++ 10 ∷ reply_spelling t.reply) (numbers 32 t.caller.0 (omega arith) (omega (arith, lt))),
+        caller_back t.caller.0 lt,
+        step_back (length (decimal t.caller.0) + 1) t is_command is_reply,
+      ) refl
 
 pub payload_short : (t : Told) → t.caller.0 < 2 ^ 8 → IsCommand t.command → IsReply t.reply → length (payload_spelling t) ≤ most_told t.reply
 payload_short t lt is_command is_reply =
@@ -71,12 +72,6 @@ payload_short t lt is_command is_reply =
     )
 
 -- the same, of what the code holds
-pub text_back : ((text : Bytes) (p : PlainPolicy) → (accepted text ≡ Some p) ↔ (Spells text p × IsTyped p))
-    → (caller : Caller) (command : Command) (reply : Reply) → IsCommand command → IsReply (reply_of reply)
-    → caller.0 < 64 → payload_read accepted (payload_spelling (told_of caller command reply)) ≡ Ok (told_of caller command reply)
-text_back known caller command reply is_command is_reply lt =
-    payload_back accepted (λ text p spells typed. (known text p).1 (spells, typed)) (told_of caller command reply) lt is_command is_reply
-
 pub text_short : (caller : Caller) (command : Command) (reply : Reply) → caller.0 < 2 ^ 8 → IsCommand command → IsReply (reply_of reply)
     → length (payload_spelling (told_of caller command reply)) ≤ most_told (reply_of reply)
 text_short caller command reply lt is_command is_reply = payload_short (told_of caller command reply) lt is_command is_reply
@@ -211,8 +206,15 @@ no_caller bs h = caller_none bs (caller_read bs) refl h
 
 -- ---- steps
 
--- however the texts of policies are read
-module _ (reads : Bytes → Option PlainPolicy) where
+-- a line that is read is the text of the command read
+abbrev pub CommandsAreSpelled : (Bytes → Option PlainPolicy) → Type 0
+CommandsAreSpelled reads = (line : Bytes) (c : Command) → line_read reads line ≡ Ok c → command_spelling c ≡ line
+
+-- bytes that are read are the text of the reply read
+abbrev pub RepliesAreSpelled : Type 0
+RepliesAreSpelled = (bytes : Bytes) (r : PlainReply) → reply_read bytes ≡ Some r → reply_spelling r ≡ bytes
+
+module _ (reads : Bytes → Option PlainPolicy) (commands : CommandsAreSpelled reads) (replies : RepliesAreSpelled) where
   step_is : (place : ℕ) (caller : Caller) (bytes : Bytes) (t : Told) → step_read reads place caller bytes ≡ Ok t
       → (caller ≡ t.caller) × (command_spelling t.command ++ 10 ∷ reply_spelling t.reply ≡ bytes)
   unfolding step_read
@@ -222,15 +224,15 @@ module _ (reads : Bytes → Option PlainPolicy) where
       let first = bind_is (ok_or (result_ok (line_read reads parts.0)) place) _ t cut.1.1 in
       let second = bind_is (ok_or (reply_read parts.1) (place + length parts.0 + 1)) _ t first.1.1 in
       let same : record { caller = caller; command = first.0; reply = second.0 } ≡ t = ap (λ r. result_unwrap_or r t) second.1.1 in
-      let command : command_spelling first.0 ≡ parts.0 = command_is reads parts.0 first.0 (command_ok (line_read reads parts.0) first.0 (said_is _ place first.0 first.1.0)) in
-      let reply : reply_spelling second.0 ≡ parts.1 = reply_is parts.1 second.0 (said_is _ _ second.0 second.1.0) in (
+      let command : command_spelling first.0 ≡ parts.0 = commands parts.0 first.0 (command_ok (line_read reads parts.0) first.0 (said_is _ place first.0 first.1.0)) in
+      let reply : reply_spelling second.0 ≡ parts.1 = replies parts.1 second.0 (said_is _ _ second.0 second.1.0) in (
         ap (λ (u : Told). u.caller) same,
         ap (λ (u : Told). command_spelling u.command ++ 10 ∷ reply_spelling u.reply) (sym same)
             ∙ ap (λ (l : Bytes). l ++ 10 ∷ reply_spelling second.0) command ∙ ap (λ (l : Bytes). parts.0 ++ 10 ∷ l) reply
             ∙ cut_is 10 bytes parts (said_is _ place parts cut.1.0),
       )
 
-  payload_from : (bytes : Bytes) (t : Told) → payload_read reads bytes ≡ Ok t → (payload_spelling t ≡ bytes) × (t.caller.0 < 64)
+  pub payload_from : (bytes : Bytes) (t : Told) → payload_read reads bytes ≡ Ok t → (payload_spelling t ≡ bytes) × (t.caller.0 < 64)
   unfolding payload_read
   payload_from bytes t h =
       let cut = bind_is (ok_or (cut_at 32 bytes) 0) _ t h in
@@ -244,18 +246,18 @@ module _ (reads : Bytes → Option PlainPolicy) where
         (let P : Caller → Type 0 = λ c. c.0 < 64 in subst P rest.0 caller.1),
       )
 
-  pub payload_is : (bytes : Bytes) (t : Told) → payload_read reads bytes ≡ Ok t → payload_spelling t ≡ bytes
-  payload_is bytes t h = (payload_from bytes t h).0
+-- bytes that are read are the payload of the step read, which is of one of the 64 clients
+abbrev pub StepsAreSpelled : (Bytes → Option PlainPolicy) → Type 0
+StepsAreSpelled reads = (bytes : Bytes) (t : Told) → payload_read reads bytes ≡ Ok t → (payload_spelling t ≡ bytes) × (t.caller.0 < 64)
 
-  pub payload_caller : (bytes : Bytes) (t : Told) → payload_read reads bytes ≡ Ok t → t.caller.0 < 64
-  payload_caller bytes t h = (payload_from bytes t h).1
+-- so what the code reads is spelled as it was, and of one of the 64 clients
+pub read_is : (reads : Bytes → Option PlainPolicy) → StepsAreSpelled reads → (bytes : Bytes) (r : Result (Caller × Command × Reply) PayloadFault) → MatchResult r (λ t. payload_read reads bytes ≡ Ok (told_of t.0 t.1 t.2)) (IsBadAt (payload_read reads bytes))
+    → (IfOk r (λ t. payload_spelling (told_of t.0 t.1 t.2) ≡ bytes)) × (IfOk r (λ t. t.0.0 < 64))
+read_is reads as_read bytes (Ok t) h = as_read bytes (told_of t.0 t.1 t.2) h
+read_is reads as_read bytes (Err f) h = (tt, tt)
 
-  -- what is read is spelled as it was, and of one of the 64 clients
-  pub read_is : (bytes : Bytes) (r : Result (Caller × Command × Reply) PayloadFault) → MatchResult r (λ t. payload_read reads bytes ≡ Ok (told_of t.0 t.1 t.2)) (IsBadAt (payload_read reads bytes))
-      → (IfOk r (λ t. payload_spelling (told_of t.0 t.1 t.2) ≡ bytes)) × (IfOk r (λ t. t.0.0 < 64))
-  read_is bytes (Ok t) h = payload_from bytes (told_of t.0 t.1 t.2) h
-  read_is bytes (Err f) h = (tt, tt)
-
+-- however the texts of policies are read
+module _ (reads : Bytes → Option PlainPolicy) where
   -- a fault of the command or the reply stands behind the caller
   refused_behind : {A B : Type 0} (place p : ℕ) (o : Option A) (f : A → Result B ℕ) → ((x : A) → f x ≡ Err p → place ≤ p) → (ok_or o place >>= f) ≡ Err p → place ≤ p
   refused_behind place p None f next h = omega (arith, (let same : place ≡ p = ap (λ r. unwrap_or (result_err r) p) h in same))

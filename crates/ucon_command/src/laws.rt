@@ -15,7 +15,8 @@ ghost use Rattle.ucon_model.specs.Spelling.{reply_spelling};
 ghost use Rattle.ucon_syntax.specs.Policies.{accepted};
 ghost use Rattle.ucon_command.specs.Payloads.{AreSteps, IsStep, most_told};
 
-use ucon_model::texts_tell_changes;
+use ucon_base::values_are_read_back;
+use ucon_model::{texts_lack_bytes, texts_tell_changes};
 use ucon_syntax::accepted_texts_spell_typed_policies;
 
 /// Each command's text is read as the command, and a line that is read is the text of the command read. No text of a command has a
@@ -27,13 +28,18 @@ pub fn commands_are_read_back()
     ensures one_line { (c : Command) → IsCommand c → Lacks 10 (command_spelling c) }
 {
     accepted_texts_spell_typed_policies();
+    values_are_read_back();
+    texts_lack_bytes();
 }
 
 /// Each reply's text is read as the reply, and bytes that are read are the text of the reply read.
 pub fn replies_are_read_back()
     ensures written { (r : PlainReply) → IsReply r → reply_read (reply_spelling r) ≡ Some r }
     ensures read { (bytes : List ℕ) (r : PlainReply) → reply_read bytes ≡ Some r → reply_spelling r ≡ bytes }
-{}
+{
+    values_are_read_back();
+    texts_lack_bytes();
+}
 
 /// Each step's payload is read as the step, and bytes that are read are the payload of the step read. Every payload fits its record.
 pub fn payloads_are_read_back()
@@ -42,7 +48,9 @@ pub fn payloads_are_read_back()
     ensures short { (t : Told) → IsStep t → length (payload_spelling t) ≤ most_told t.reply }
     ensures fits { (t : Told) → IsStep t → length (payload_spelling t) ≤ most_payload }
 {
-    accepted_texts_spell_typed_policies();
+    commands_are_read_back();
+    replies_are_read_back();
+    texts_lack_bytes();
 }
 
 /// A payload is taken exactly where it is the one that the serial run spells, and its reply changes something.
@@ -58,7 +66,7 @@ pub fn steps_are_taken_as_spelled()
         → IsStep (told e (said P H e.caller e.command)) → IsTrue (changes (said P H e.caller e.command))
         → taken accepted P H (payload_spelling (told e (said P H e.caller e.command))) ≡ Some (H ++ e ∷ []) }
 {
-    accepted_texts_spell_typed_policies();
+    payloads_are_read_back();
     texts_tell_changes();
 }
 
@@ -71,6 +79,6 @@ pub fn histories_are_found()
         → found_in accepted payloads ≡ holds text P H gate
         → (payloads ≡ payloads_of text P H) × (gate ≡ gate_behind first_gate payloads) × (accepted text ≡ Some P) × IsProper P H }
 {
-    accepted_texts_spell_typed_policies();
+    payloads_are_read_back();
     texts_tell_changes();
 }

@@ -6,18 +6,19 @@ ghost use Rattle.ucon_syntax.specs.Policies.{accepted};
 ghost use Rattle.ucon_command.specs.Faults.{IsRefusal};
 
 use crate::command_line::CommandLine;
+use crate::laws::commands_are_read_back;
 use crate::line_fault::LineFault;
 use std::alloc::Global;
 use ucon_model::Command;
 
 /// The command whose text a line is, or the first refusal. A line of more than 8192 bytes, or where it begins with
 /// `amend ` of more than 65,542, is refused before any memory is taken.
-#[tactic(auto, using(crate::proofs::SpelledLines::command_is))]
 pub fn read_command(alloc: Global, line: &[u8]) -> Result<Command, LineFault>
     ensures read { MatchResult result (λ c. line_read accepted line.now ≡ Ok c) (IsRefusal (line_read accepted line.now)) }
     ensures spelled { IfOk result (λ c. command_spelling c ≡ line.now) }
     ensures long { most_bytes line.now < length line.now → result ≡ Err (LineFault.TooLong (length line.now)) }
 {
+    commands_are_read_back();
     line_command(alloc, line)
 }
 

@@ -13,6 +13,7 @@ ghost use Rattle.ucon_command.specs.Payloads.{IsBadAt, most_told, told_of};
 
 use crate::commands::put_command;
 use crate::in_form::{command_in_form, reply_in_form};
+use crate::laws::{commands_are_read_back, payloads_are_read_back, replies_are_read_back};
 use crate::line_fault::LineFault;
 use crate::lines::read_command;
 use crate::payload_fault::PayloadFault;
@@ -23,14 +24,26 @@ use crate::spelling::put_session;
 use itoa::Buffer;
 use std::alloc::Global;
 use ucon_base::{NoMemory, put};
-use ucon_model::{Caller, Command, Reply};
-use ucon_syntax::accepted_texts_spell_typed_policies;
+use ucon_model::{Caller, Command, Reply, texts_lack_bytes};
 
 /// Most payloads have no more.
 const LIKELY_BYTES: usize = 96;
 
+/// Of each step of one of the 64 clients the payload is read back, and no payload is longer than its reply lets it be.
+#[tactic(auto, using(crate::proofs::Payloads::text_short))]
+fn step_in_form(caller: Caller, command: &Command, reply: &Reply)
+    ensures read_back { caller.0 < 64
+        → payload_read accepted (payload_spelling (told_of caller command.now reply.now)) ≡ Ok (told_of caller command.now reply.now) }
+    ensures short { length (payload_spelling (told_of caller command.now reply.now)) ≤ most_told (reply_of reply.now) }
+{
+    commands_are_read_back();
+    replies_are_read_back();
+    texts_lack_bytes();
+    command_in_form(command);
+    reply_in_form(reply);
+}
+
 /// The one text of a step: the caller in decimal, a space, the command's text, a newline, the reply's text.
-#[tactic(auto, using(crate::proofs::Payloads::text_back, crate::proofs::Payloads::text_short))]
 pub fn payload_text(
     alloc: Global,
     caller: Caller,
@@ -42,9 +55,7 @@ pub fn payload_text(
         → payload_read accepted (payload_spelling (told_of caller command.now reply.now)) ≡ Ok (told_of caller command.now reply.now) }
     ensures short { length (payload_spelling (told_of caller command.now reply.now)) ≤ most_told (reply_of reply.now) }
 {
-    accepted_texts_spell_typed_policies();
-    command_in_form(command);
-    reply_in_form(reply);
+    step_in_form(caller, command, reply);
     let mut text = Vec::with_capacity(alloc, LIKELY_BYTES)?;
     put_payload(alloc, &mut text, caller, command, reply)?;
     Ok(text)
@@ -74,6 +85,7 @@ pub fn read_payload(alloc: Global, bytes: &[u8]) -> Result<(Caller, Command, Rep
     ensures client { IfOk result (λ t. t.0.0 < 64) }
     ensures no_client { payload_read accepted bytes.now ≡ Err 0 → result ≡ Err (PayloadFault.BadPlace 0) }
 {
+    payloads_are_read_back();
     payload(alloc, bytes)
 }
 

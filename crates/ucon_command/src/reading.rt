@@ -9,6 +9,7 @@ ghost use Rattle.ucon_command.specs.Words.{word_of, BeginWithin};
 ghost use Rattle.ucon_command.specs.Faults.{IsUnread, IsNoReply};
 
 use crate::kinds::{name_in, number_in, value_in};
+use crate::laws::replies_are_read_back;
 use crate::replies::{refusal_words, state_word};
 use crate::reply_fault::ReplyFault;
 use crate::words::{Word, last_word, words};
@@ -48,11 +49,12 @@ const STATES: [SessionState; 5] = [
 ];
 
 /// The reply of which the bytes are the text.
-#[tactic(auto, using(crate::proofs::SpelledReplies::reply_is, crate::proofs::ReadReplies::unread))]
+#[tactic(auto, using(crate::proofs::ReadReplies::unread))]
 pub fn read_reply(alloc: Global, bytes: &[u8]) -> Result<Reply, ReplyFault>
     ensures read { MatchResult result (λ r. reply_read bytes.now ≡ Some (reply_of r)) (IsUnread (reply_read bytes.now)) }
     ensures text { MatchResult result (λ r. reply_spelling (reply_of r) ≡ bytes.now) (IsNoReply bytes.now) }
 {
+    replies_are_read_back();
     reply(alloc, bytes)
 }
 

@@ -9,10 +9,11 @@ ghost use Rattle.ucon_model.specs.Views.{reply_of};
 ghost use Rattle.ucon_command.specs.Payloads.{most_reply};
 
 use crate::in_form::reply_in_form;
+use crate::laws::replies_are_read_back;
 use crate::spelling::{put_name, put_session, put_value};
 use std::alloc::Global;
 use ucon_base::{Name, NoMemory, put};
-use ucon_model::{Head, Refusal, Reply, Revoked, SessionState};
+use ucon_model::{Head, Refusal, Reply, Revoked, SessionState, texts_lack_bytes};
 
 /// The one text of a reply, which has no newline in it: at most 4306 bytes, and 52 for each revocation.
 pub fn reply_text(alloc: Global, reply: &Reply) -> Result<Vec<u8>, NoMemory>
@@ -28,13 +29,15 @@ pub fn reply_text(alloc: Global, reply: &Reply) -> Result<Vec<u8>, NoMemory>
 
 /// Adds the one text of a reply, which has no newline in it: at most 4306 bytes, and 52 for each revocation. Where there is no memory, some of it may stand
 /// there: a caller gives the text up.
-#[tactic(auto, using(crate::proofs::InLine::reply_in_line, crate::proofs::Lengths::reply_short, crate::proofs::ReadReplies::reply_back))]
+#[tactic(auto, using(crate::proofs::Lengths::reply_short))]
 pub fn put_reply(alloc: Global, out: &mut Vec<u8>, reply: &Reply) -> Result<(), NoMemory>
     ensures text { OnOk result (out.new.items ≡ out.old.items ++ reply_spelling (reply_of reply.now)) }
     ensures read_back { reply_read (reply_spelling (reply_of reply.now)) ≡ Some (reply_of reply.now) }
     ensures one_line { Lacks 10 (reply_spelling (reply_of reply.now)) }
     ensures short { length (reply_spelling (reply_of reply.now)) ≤ most_reply (reply_of reply.now) }
 {
+    replies_are_read_back();
+    texts_lack_bytes();
     reply_in_form(reply);
     put_spelling(alloc, out, reply)
 }

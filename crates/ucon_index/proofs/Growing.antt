@@ -5,7 +5,7 @@ use Rattle.std.specs.Prelude.{Result, Ok, Err, OnOk, OnErr}
 use Rattle.ucon_links.specs.Lists.{Item, Lists, first_or, list_at, IsAbsent, IsDistinct}
 use Rattle.ucon_index.specs.Dependents.{Place, Dependents, EachPlace, empty_place, forget_at, forget_hidden}
 use Rattle.ucon_index.specs.Tables.{stood_at, places_from, sessions_of, seen, weight_from, weight_of, CanReturn, InPlaces, IsSound, AreGone, IsOnce}
-use Rattle.ucon_index.proofs.Once.{distinct_front}
+use Rattle.ucon_links.specs.OneList.{distinct_front}
 use Rattle.ucon_index.proofs.Rows.{seen_at, stood_at-other, places-length}
 use Rattle.ucon_index.proofs.Standing.{sessions_in, sessions_out}
 use Rattle.ucon_index.proofs.Sums.{hidden_shared, hidden_length}

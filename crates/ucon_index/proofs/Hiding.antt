@@ -6,7 +6,7 @@ use Rattle.ucon_links.specs.Lists.{Item, Lists, first_or, last_or, list_at, node
 use Rattle.ucon_links.specs.Lists as links
 use Rattle.ucon_index.specs.Dependents.{Place, place_at, empty_place, is_there, hide_at, hide}
 use Rattle.ucon_index.specs.Tables.{stood_at, places_from, on_top, sessions_of, seen, IsPaired, IsSound, IsGone, AreGone}
-use Rattle.ucon_index.proofs.OneList.{PlaceLaw}
+use Rattle.ucon_links.specs.OneList.{PlaceLaw}
 use Rattle.ucon_index.proofs.Weights.{Spot, spot_of}
 use Rattle.ucon_index.proofs.Rows.{stood_of, places-length}
 use Rattle.ucon_index.proofs.Standing.{sessions_in, Alone, absent_left, hide_at-there, hide_at-absent}

@@ -1,5 +1,3 @@
-mod Once
-mod OneList
 mod Weights
 mod Rows
 mod Standing

@@ -3,8 +3,7 @@ use Rattle.std.proofs.Common.{◌≡◌, ℕ, zero, suc, ◌<◌, List, [], ◌�
 use Rattle.std.proofs.lemmas.Bool.{ne_eqb, eq-eqb}
 use Rattle.ucon_links.specs.Lists.{Item, Lists, list_at, place_behind, place_from, or_else, hidden_at, owner_of, listed_nodes, nodes_of, newest, IsListed, IsAbsent, IsDistinct}
 use Rattle.ucon_index.specs.Tables.{newest_owner}
-use Rattle.ucon_index.proofs.Once.{absent_front, absent_back, distinct_pull}
-use Rattle.ucon_index.proofs.OneList.{PlaceLaw, ids}
+use Rattle.ucon_links.specs.OneList.{absent_front, absent_back, distinct_pull, PlaceLaw, ids}
 use Rattle.ucon_index.proofs.Weights.{Spot}
 use Rattle.ucon_index.proofs.Steps.{place_is}
 use Rattle.ucon_index.proofs.Hiding.{NextItem}

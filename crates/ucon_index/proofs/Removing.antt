@@ -8,7 +8,7 @@ use Rattle.ucon_links.specs.Lists as links
 use Rattle.ucon_index.specs.Dependents.{Stood, Place, Dependents, place_at, empty_place, is_there, has_session, one_if, remove_at, remove}
 use Rattle.ucon_index.specs.Dependents as model
 use Rattle.ucon_index.specs.Tables.{stood_at, places_from, sessions_of, seen, IsPaired, IsSound, IsGone, AreGone}
-use Rattle.ucon_index.proofs.OneList.{PlaceLaw}
+use Rattle.ucon_links.specs.OneList.{PlaceLaw}
 use Rattle.ucon_index.proofs.Rows.{places-length}
 use Rattle.ucon_index.proofs.Sums.{sum_set}
 use Rattle.ucon_index.proofs.Standing.{sessions_in, Alone, absent_left, without-there, without-absent, has_session-there, has_session-absent}

@@ -8,8 +8,7 @@ use Rattle.ucon_links.specs.Lists.{Item, Lists, first_or, last_or, list_at, with
 use Rattle.ucon_links.specs.Lists as links
 use Rattle.ucon_index.specs.Dependents.{Place, EachPlace, place_at, empty_place, unhide_at, unhide, unhide_first, Fits, CanUnhide, CanUnhideFirst}
 use Rattle.ucon_index.specs.Tables.{stood_at, places_from, on_top, sessions_of, seen, newest_owner, CanUnhideNewest, CanReturn, IsPaired, IsSound, AreGone}
-use Rattle.ucon_index.proofs.Once.{distinct_front}
-use Rattle.ucon_index.proofs.OneList.{ids, distinct_at, with_behind-last}
+use Rattle.ucon_links.specs.OneList.{distinct_front, ids, distinct_at, with_behind-last}
 use Rattle.ucon_index.proofs.Rows.{seen_at, stood_of, stood_at-other, stood_at-same, places-length, places-at, each_set, each_at}
 use Rattle.ucon_index.proofs.Standing.{sessions_in, sessions_out, Alone, alone_hidden, unhide_at-gap, unhide_at-absent, fits_not}
 use Rattle.ucon_index.proofs.Steps.{place_once, places_come, paired_come}

@@ -4,8 +4,7 @@ use Rattle.std.proofs.lemmas.Bool.{eqb-false, ne_eqb, eq-eqb}
 use Rattle.std.proofs.lemmas.List.{map-append}
 use Rattle.ucon_links.specs.Lists.{first_or, last_or, with_behind, IsAbsent, IsDistinct}
 use Rattle.ucon_index.specs.Dependents.{Stood, Place, has_session, stands_behind, without_session, with_stood, hide_at, back_at, unhide_at, FitsAt}
-use Rattle.ucon_index.proofs.Once.{absent_front, absent_back, distinct_pull, distinct_push, absent_join}
-use Rattle.ucon_index.proofs.OneList.{ids, with_behind-last}
+use Rattle.ucon_links.specs.OneList.{absent_front, absent_back, distinct_pull, distinct_push, absent_join, ids, with_behind-last}
 
 abbrev pub sessions_in : List (ℕ × ℕ) → List ℕ
 sessions_in xs = map (λ x. x.1) xs

@@ -1,11 +1,10 @@
 -- One node and its item: what a step does to both tables, and to the places as they are seen.
 use Rattle.std.proofs.Common.{◌≡◌, ◌≢◌, ℕ, zero, suc, ◌+◌, ◌<◌, List, [], ◌∷◌, ◌++◌, length, set, map, Some, None, refl, sym, ap, ◌∙◌, subst, arith, length-set}
-use Rattle.std.proofs.lemmas.List.{get_or-set_same, get_or-set_other, set-get_or}
+use Rattle.std.proofs.lemmas.List.{get_or-set_same, get_or-set_other, set-get_or, set-set}
 use Rattle.ucon_links.specs.Lists.{Item, Lists, first_or, last_or, list_at, place_of, without, hide, hide_item, unlink, unlink_item, listed_nodes, nodes_of, IsAbsent, IsDistinct}
 use Rattle.ucon_index.specs.Dependents.{EachPlace, place_at}
 use Rattle.ucon_index.specs.Tables.{stood_at, places_from, by_place, by_session, CanReturn, InPlaces, IsOnce, IsPaired}
-use Rattle.ucon_index.proofs.Once.{distinct_front}
-use Rattle.ucon_index.proofs.OneList.{PlaceLaw, ids, distinct_at, front_of, without-first, set-set}
+use Rattle.ucon_links.specs.OneList.{distinct_front, PlaceLaw, ids, distinct_at, front_of, without-first}
 use Rattle.ucon_index.proofs.Weights.{place_in, place_out, session_in, session_out}
 use Rattle.ucon_index.proofs.Rows.{seen_at, stood_of, stood_at-other, stood_at-same, places-length, places-at, places-set, each_set, each_at}
 use Rattle.ucon_index.proofs.Standing.{sessions_in, sessions_out, Alone, alone, once_listed, once_hidden}

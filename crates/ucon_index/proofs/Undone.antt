@@ -4,8 +4,7 @@ use Rattle.std.proofs.lemmas.Bool.{eqb-true, eqb-false}
 use Rattle.ucon_links.specs.Lists.{Item, Lists, listed_nodes, nodes_of, IsAbsent, IsDistinct}
 use Rattle.ucon_index.specs.Dependents.{Stood, Place, EachPlace, is_there, hide_at, unhide_at, hide, Fits, UnhideGives}
 use Rattle.ucon_index.specs.Tables.{places_from, sessions_of, seen, IsOnce, IsSound}
-use Rattle.ucon_index.proofs.Once.{distinct_front, distinct_back}
-use Rattle.ucon_index.proofs.OneList.{ids, front_of}
+use Rattle.ucon_links.specs.OneList.{distinct_front, distinct_back, ids, front_of}
 use Rattle.ucon_index.proofs.Standing.{sessions_in, sessions_out, alone, hide_at-there, hide_at-absent, unhide_at-there, unhide_at-absent, fits_not}
 use Rattle.ucon_index.proofs.Stack.{owners_of, owners_absent, stood_absent, there-not_hidden}
 

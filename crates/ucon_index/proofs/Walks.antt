@@ -7,8 +7,7 @@ use Rattle.ucon_links.specs.Lists.{Item, Lists, first_or, list_at, place_from, p
 use Rattle.ucon_index.specs.Dependents.{Place, Dependents, place_at, walked, stood_session, hidden_session, first_some, session_of}
 use Rattle.ucon_index.specs.Walk.{IsWalked, IsMet, left_from}
 use Rattle.ucon_index.specs.Tables.{stood_at, places_from, seen, InPlaces, IsPaired}
-use Rattle.ucon_index.proofs.Once.{distinct_front, distinct_back}
-use Rattle.ucon_index.proofs.OneList.{PlaceLaw}
+use Rattle.ucon_links.specs.OneList.{distinct_front, distinct_back, PlaceLaw}
 use Rattle.ucon_index.proofs.Rows.{stood_at-other, stood_at-same, places-listed, places-length, places-at}
 
 module _ (places sessions : Lists) (v : Dependents) (is : seen places sessions ≡ v) where

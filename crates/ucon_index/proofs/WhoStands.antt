@@ -5,7 +5,7 @@ use Rattle.std.specs.List.{slice_get}
 use Rattle.ucon_links.specs.Lists.{Lists, first_or, last_or, with_behind, IsAbsent, IsDistinct}
 use Rattle.ucon_index.specs.Dependents.{Stood, Place, Dependents, EachPlace, empty_place, place_at, stands_in, others, without_session, stands_behind, with_stood, hide_at, hide, remove_at, remove, forget_at, forget_hidden, back_at, unhide_at, unhide, unhide_first, Fits, FitsAt, CanUnhide, CanUnhideFirst, IsNextBack}
 use Rattle.ucon_index.specs.Tables.{places_from, seen, IsOnce, IsSound}
-use Rattle.ucon_index.proofs.Once.{distinct_front}
+use Rattle.ucon_links.specs.OneList.{distinct_front}
 use Rattle.ucon_index.proofs.Standing.{sessions_in, sessions_out}
 
 others-absent : (session : ℕ) (xs : List (ℕ × ℕ)) → IsAbsent session (sessions_in xs) → others session (sessions_in xs) ≡ sessions_in xs

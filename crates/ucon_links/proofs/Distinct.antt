@@ -4,12 +4,9 @@ use Rattle.ucon_links.specs.declared.table.Node.{Node}
 use Rattle.ucon_links.specs.Lists.{Lists, first_or, list_at, listed_nodes, nodes_of, IsAbsent, IsDistinct}
 use Rattle.ucon_links.specs.Layout.{IsLinked, IsList, Holds, listed_node, spare_node}
 use Rattle.ucon_links.proofs.Cells.{tag_of}
-use Rattle.ucon_links.proofs.Linked.{ids, linked_absent}
+use Rattle.ucon_links.specs.OneList.{ids, absent_join}
+use Rattle.ucon_links.proofs.Linked.{linked_absent}
 use Rattle.ucon_links.proofs.Stacks.{hidden_absent}
-
-absent_append : (node : ℕ) (xs ys : List ℕ) → IsAbsent node xs → IsAbsent node ys → IsAbsent node (xs ++ ys)
-absent_append node [] ys first second = second
-absent_append node (x ∷ xs) ys first second = (first.0, absent_append node xs ys first.1 second)
 
 -- the lists from number `base` on
 abbrev HoldsFrom : List Node → ℕ → List (List (ℕ × ℕ)) → Type 0
@@ -31,7 +28,7 @@ holds_first nodes base xs rest each = subst (λ at. IsList nodes at xs) (none ba
 absent_from : (nodes : List Node) (base : ℕ) (lists : List (List (ℕ × ℕ))) (at : ℕ) (node : Node) → HoldsFrom nodes base lists → slice_get nodes at ≡ Some node → ((list : ℕ) → tag_of node ≢ suc (suc (base + list))) → IsAbsent at (listed_nodes lists)
 absent_from nodes base [] at node each there differs = tt
 absent_from nodes base (xs ∷ rest) at node each there differs =
-    absent_append at (ids xs) (listed_nodes rest)
+    absent_join at (ids xs) (listed_nodes rest)
     (linked_absent nodes (base + 0) None xs None at node (each 0).linked there (differs 0))
     (absent_from nodes (suc base) rest at node (holds_rest nodes base xs rest each) there (λ list e. differs (suc list) (next (tag_of node) base list e)))
   where
@@ -42,7 +39,7 @@ absent_from nodes base (xs ∷ rest) at node each there differs =
 distinct_list : (nodes : List Node) (base : ℕ) (before : Option ℕ) (xs : List (ℕ × ℕ)) (rest : List ℕ) → IsLinked nodes base before xs None → IsDistinct (ids xs) → IsDistinct rest → ((at : ℕ) (node : Node) → slice_get nodes at ≡ Some node → tag_of node ≡ suc (suc base) → IsAbsent at rest) → IsDistinct (ids xs ++ rest)
 distinct_list nodes base before [] rest linked distinct later apart = later
 distinct_list nodes base before (x ∷ xs) rest linked distinct later apart = (
-  absent_append x.0 (ids xs) rest distinct.0 (apart x.0 (listed_node base before x (first_or None xs)) linked.0 refl),
+  absent_join x.0 (ids xs) rest distinct.0 (apart x.0 (listed_node base before x (first_or None xs)) linked.0 refl),
   distinct_list nodes base (Some x.0) xs rest linked.1 distinct.1 later apart,
 )
 
@@ -55,7 +52,7 @@ distinct_from nodes base (xs ∷ rest) others each distinct apart =
     subst IsDistinct (sym (append_assoc (ids xs) (listed_nodes rest) others))
     (distinct_list nodes base None xs (listed_nodes rest ++ others) this.linked this.distinct (distinct_from nodes (suc base) rest others later distinct apart)
     (λ at node there tag.
-    absent_append at (listed_nodes rest) others
+    absent_join at (listed_nodes rest) others
     (absent_from nodes (suc base) rest at node later there (λ list e. other (tag_of node) base list tag e))
     (apart at node base there tag)))
   where
@@ -79,7 +76,7 @@ nodes_distinct nodes firsts newest unused v spares holds =
 -- a spare node is neither listed nor hidden
 pub spare_is_fresh : (nodes : List Node) (firsts : List (Option ℕ)) (newest unused : Option ℕ) (v : Lists) (spares : List ℕ) (at : ℕ) (below : Option ℕ) → Holds nodes firsts newest unused v spares → slice_get nodes at ≡ Some (spare_node below) → IsAbsent at (nodes_of v)
 spare_is_fresh nodes firsts newest unused v spares at below holds there =
-    absent_append at (listed_nodes v.lists) (map (λ item. item.node) v.hidden)
+    absent_join at (listed_nodes v.lists) (map (λ item. item.node) v.hidden)
     (absent_from nodes 0 v.lists at (spare_node below) (from_zero nodes v.lists holds.listed.each) there (λ list e. none list e))
     (hidden_absent nodes newest (length v.lists) v.hidden at (spare_node below) there (λ e. omega arith) holds.hidden)
   where

@@ -13,7 +13,8 @@ use Rattle.ucon_links.proofs.Linked.{distinct_parts, linked_back, linked_front, 
 use Rattle.ucon_links.proofs.Moves.{joined_over, joined-other, left}
 use Rattle.ucon_links.proofs.Stacks.{hidden_kept, hidden_absent, spare_kept}
 use Rattle.ucon_links.proofs.ListsHeld.{lists_left, counted_set}
-use Rattle.ucon_links.proofs.Places.{StandsBehind, stands_there, without-first}
+use Rattle.ucon_links.specs.OneList.{without-first}
+use Rattle.ucon_links.proofs.Places.{StandsBehind, stands_there}
 
 pub tag_within : (tag : ℕ) (nodes : List Node) (at : Option ℕ) → HasTag tag nodes at → ForSome at (λ node. node < length nodes)
 tag_within tag nodes at tagged = λ node is. let there = subst (HasTag tag nodes) is tagged in slice_get_within nodes node there.0 there.1

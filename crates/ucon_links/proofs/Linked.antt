@@ -1,13 +1,11 @@
 -- Linked nodes of one list: parts, reads and writes.
-use Rattle.std.proofs.Common.{◌≡◌, ◌≢◌, ℕ, suc, List, [], ◌∷◌, ◌++◌, map, set, Some, None, Option, slice_get, refl, sym, ap, ◌∙◌}
+use Rattle.std.proofs.Common.{◌≡◌, ◌≢◌, ℕ, suc, List, [], ◌∷◌, ◌++◌, set, Some, None, Option, slice_get, refl, sym, ap, ◌∙◌}
 use Rattle.ucon_links.specs.declared.table.Node.{Node}
 use Rattle.ucon_links.specs.Lists.{first_or, last_or, IsAbsent, IsDistinct}
 use Rattle.ucon_links.specs.Layout.{IsLinked, listed_node}
+use Rattle.ucon_links.specs.OneList.{ids}
 use Rattle.ucon_links.specs.Table.{changed}
 use Rattle.ucon_links.proofs.Cells.{slice_get-set_other, some_same, tag_of, KeepsOthers, HasTag, IsOther, changed-other, changed-same}
-
-abbrev pub ids : List (ℕ × ℕ) → List ℕ
-ids xs = map (λ x. x.0) xs
 
 -- no node of the first part stands in the second
 abbrev pub IsApart : List (ℕ × ℕ) → List (ℕ × ℕ) → Type 0

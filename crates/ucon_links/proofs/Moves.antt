@@ -5,7 +5,8 @@ use Rattle.ucon_links.specs.Lists.{first_or, last_or, IsAbsent}
 use Rattle.ucon_links.specs.Layout.{IsLinked, IsList, listed_node}
 use Rattle.ucon_links.specs.Table.{with_next, joined}
 use Rattle.ucon_links.proofs.Cells.{slice_get-set_same, tag_of, KeepsOthers, keeps_then, keeps_write, keeps_changed, changed-other}
-use Rattle.ucon_links.proofs.Linked.{ids, absent_append, Parts, distinct_parts, distinct_append, apart_tail, apart_cons, apart_head, last_outside, first_outside, last_is_other, first_is_other, linked_append, linked_front, linked_back, linked_absent, last_has_tag, first_has_tag, linked_write, linked_changed, linked_next, linked_previous}
+use Rattle.ucon_links.specs.OneList.{ids}
+use Rattle.ucon_links.proofs.Linked.{absent_append, Parts, distinct_parts, distinct_append, apart_tail, apart_cons, apart_head, last_outside, first_outside, last_is_other, first_is_other, linked_append, linked_front, linked_back, linked_absent, last_has_tag, first_has_tag, linked_write, linked_changed, linked_next, linked_previous}
 
 -- a list in two parts, with a gap between them
 pub record TwoParts (nodes : List Node) (list : ℕ) (front back : List (ℕ × ℕ)) (next previous : Option ℕ) : Type 0 where

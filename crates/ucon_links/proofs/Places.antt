@@ -1,9 +1,9 @@
 -- Where a node stands, as a list in two parts with the node between them.
-use Rattle.std.proofs.Common.{◌≡◌, ◌≢◌, ℕ, suc, ◌+◌, ◌<◌, List, [], ◌∷◌, ◌++◌, length, Some, None, Option, Bool, true, false, eqb, cond, refl, sym, ap, ◌∙◌, subst, arith}
-use Rattle.std.proofs.lemmas.Bool.{eqb-true, eqb-false, ne_eqb, eq-eqb}
-use Rattle.ucon_links.specs.Lists.{Item, first_or, last_or, list_at, place_behind, or_else, place_from, without, with_behind, IsAbsent, IsDistinct}
-use Rattle.ucon_links.proofs.Cells.{some_same, IsOther}
-use Rattle.ucon_links.proofs.Linked.{ids, last_is_other}
+use Rattle.std.proofs.Common.{◌≡◌, ℕ, suc, ◌+◌, ◌<◌, List, [], ◌∷◌, ◌++◌, length, Some, None, Option, Bool, true, false, eqb, cond, refl, sym, ap, ◌∙◌, subst, arith}
+use Rattle.std.proofs.lemmas.Bool.{eqb-true, eqb-false}
+use Rattle.ucon_links.specs.Lists.{Item, first_or, last_or, list_at, place_behind, or_else, place_from, IsAbsent}
+use Rattle.ucon_links.specs.OneList.{ids}
+use Rattle.ucon_links.proofs.Cells.{some_same}
 
 -- the node of the item stands in a list that is left behind `before`
 pub record StandsBehind (list : ℕ) (before : Option ℕ) (xs : List (ℕ × ℕ)) (node : ℕ) (item : Item) : Type 0 where
@@ -82,22 +82,3 @@ stands_there lists node item found =
       within = subst (λ index. index < length lists) same from.within;
       stands = subst (λ index. StandsBehind item.list None (list_at lists index) node item) same from.stands;
     }
-
-pub without-first : (node owner : ℕ) (front back : List (ℕ × ℕ)) → IsAbsent node (ids front) → without node (front ++ (node, owner) ∷ back) ≡ front ++ back
-without-first node owner [] back absent = rw (eq-eqb node node refl)
-without-first node owner (x ∷ front) back absent = rw (ne_eqb x.0 node absent.0) (ap (λ ys. x ∷ ys) (without-first node owner front back absent.1))
-
-with_behind_later : (at : Option ℕ) (pair x : ℕ × ℕ) (xs : List (ℕ × ℕ)) → at ≢ None → IsOther x.0 at → with_behind at pair (x ∷ xs) ≡ x ∷ with_behind at pair xs
-with_behind_later None pair x xs some other = absurd (some refl)
-with_behind_later (Some at) pair x xs some other = rw (ne_eqb x.0 at other)
-
-last_or-some : (before : ℕ) (xs : List (ℕ × ℕ)) → last_or (Some before) xs ≢ None
-last_or-some before [] = λ e. cc
-last_or-some before (x ∷ xs) = last_or-some x.0 xs
-
-pub with_behind-last : (pair : ℕ × ℕ) (front back : List (ℕ × ℕ)) → IsDistinct (ids front) → with_behind (last_or None front) pair (front ++ back) ≡ front ++ pair ∷ back
-with_behind-last pair [] back distinct = refl
-with_behind-last pair (x ∷ []) back distinct = rw (eq-eqb x.0 x.0 refl)
-with_behind-last pair (x ∷ y ∷ ys) back distinct =
-    with_behind_later (last_or (Some y.0) ys) pair x (y ∷ ys ++ back) (last_or-some y.0 ys) (last_is_other x.0 None (y ∷ ys) tt distinct.0)
-    ∙ ap (λ zs. x ∷ zs) (with_behind-last pair (y ∷ ys) back distinct.1)

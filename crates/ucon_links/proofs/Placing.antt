@@ -10,7 +10,7 @@ use Rattle.ucon_links.proofs.Linked.{linked_front, linked_back, last_has_tag, fi
 use Rattle.ucon_links.proofs.Moves.{joined_round, came}
 use Rattle.ucon_links.proofs.Stacks.{hidden_kept, hidden_write, hidden_absent, spare_kept, spare_write, spare_absent}
 use Rattle.ucon_links.proofs.ListsHeld.{lists_came, counted_set}
-use Rattle.ucon_links.proofs.Places.{with_behind-last}
+use Rattle.ucon_links.specs.OneList.{with_behind-last}
 use Rattle.ucon_links.proofs.Hiding.{tag_within, length-joined, length-firsts}
 
 -- what a call that puts a node between two others needs, and what it leaves

@@ -1,37 +1,11 @@
 -- To unhide is to undo a hide, and so for any number of them in reverse order.
 use Rattle.std.proofs.Common.{◌≡◌, ℕ, zero, suc, List, [], ◌∷◌, ◌++◌, map, set, refl, sym, ap, ◌∙◌, subst, length-set, length, Option, Some, None, take, get_or, ◌<◌, ◌+◌, arith}
-use Rattle.std.proofs.lemmas.List.{get_or-set_same, set-get_or, take_more}
-use Rattle.ucon_links.specs.Lists.{Item, Lists, list_at, listed_nodes, nodes_of, place_of, without, with_behind, put_in, take_out, hide, hide_item, hide_all, unhide, IsListed, AllListed, AreHidden, CanUnhide, IsGap, IsAbsent, IsDistinct}
+use Rattle.std.proofs.lemmas.List.{get_or-set_same, set-get_or, set-set, take_more}
+use Rattle.ucon_links.specs.Lists.{Item, Lists, list_at, listed_nodes, nodes_of, place_of, without, with_behind, put_in, take_out, hide, hide_item, hide_all, unhide, IsListed, AllListed, AreHidden, CanUnhide, IsGap, IsDistinct}
 use Rattle.ucon_links.proofs.Hiding.{some_of}
-use Rattle.ucon_links.proofs.Linked.{ids, distinct_parts}
-use Rattle.ucon_links.proofs.Places.{Stands, stands_there, without-first, with_behind-last}
-
-pub absent_front : (node : ℕ) (xs ys : List ℕ) → IsAbsent node (xs ++ ys) → IsAbsent node xs
-absent_front node [] ys absent = tt
-absent_front node (x ∷ xs) ys absent = (absent.0, absent_front node xs ys absent.1)
-
-pub absent_back : (node : ℕ) (xs ys : List ℕ) → IsAbsent node (xs ++ ys) → IsAbsent node ys
-absent_back node [] ys absent = absent
-absent_back node (x ∷ xs) ys absent = absent_back node xs ys absent.1
-
-pub distinct_front : (xs ys : List ℕ) → IsDistinct (xs ++ ys) → IsDistinct xs
-distinct_front [] ys distinct = tt
-distinct_front (x ∷ xs) ys distinct = (absent_front x xs ys distinct.0, distinct_front xs ys distinct.1)
-
-pub distinct_back : (xs ys : List ℕ) → IsDistinct (xs ++ ys) → IsDistinct ys
-distinct_back [] ys distinct = distinct
-distinct_back (x ∷ xs) ys distinct = distinct_back xs ys distinct.1
-
--- one of the lists
-pub distinct_at : (lists : List (List (ℕ × ℕ))) (list : ℕ) → IsDistinct (listed_nodes lists) → IsDistinct (ids (list_at lists list))
-distinct_at [] list distinct = tt
-distinct_at (xs ∷ rest) zero distinct = distinct_front (ids xs) (listed_nodes rest) distinct
-distinct_at (xs ∷ rest) (suc list) distinct = distinct_at rest list (distinct_back (ids xs) (listed_nodes rest) distinct)
-
-pub set-set : {X : Type 0} (xs : List X) (i : ℕ) (first second : X) → set (set xs i first) i second ≡ set xs i second
-set-set [] i first second = refl
-set-set (x ∷ xs) zero first second = refl
-set-set (x ∷ xs) (suc i) first second = ap (λ rest. x ∷ rest) (set-set xs i first second)
+use Rattle.ucon_links.specs.OneList.{ids, distinct_at, distinct_front, without-first, with_behind-last}
+use Rattle.ucon_links.proofs.Linked.{distinct_parts}
+use Rattle.ucon_links.proofs.Places.{Stands, stands_there}
 
 module _ (lists : List (List (ℕ × ℕ))) (node : ℕ) (item : Item) (at : Stands lists node item) where
   -- the list without the node

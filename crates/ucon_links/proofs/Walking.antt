@@ -4,8 +4,8 @@ use Rattle.std.proofs.lemmas.Bool.{ne_eqb, eq-eqb}
 use Rattle.ucon_links.specs.Lists.{Lists, first_or, last_or, list_at, place_behind, or_else, place_from, place_of, listed_nodes, nodes_of, owner_of, hidden_at, IsListed, IsAbsent, IsDistinct}
 use Rattle.ucon_links.proofs.Cells.{some_same}
 use Rattle.ucon_links.proofs.Hiding.{some_of}
-use Rattle.ucon_links.proofs.Linked.{ids, distinct_parts, apart_head}
-use Rattle.ucon_links.proofs.Restoring.{absent_front, absent_back, distinct_front, distinct_back}
+use Rattle.ucon_links.specs.OneList.{ids, absent_front, absent_back, distinct_front, distinct_back}
+use Rattle.ucon_links.proofs.Linked.{distinct_parts, apart_head}
 
 place_behind-there : (list : ℕ) (before : Option ℕ) (front back : List (ℕ × ℕ)) (x : ℕ × ℕ) → IsAbsent x.0 (ids front) → place_behind list before (front ++ x ∷ back) x.0 ≡ Some (record { list = list; node = x.0; owner = x.1; before = last_or before front; after = first_or None back })
 place_behind-there list before [] back x absent = rw (eq-eqb x.0 x.0 refl)

@@ -5,11 +5,8 @@ use Rattle.std.proofs.lemmas.Bool.{and_parts, and_from}
 use Rattle.ucon_base.specs.Reading.{rises}
 use Rattle.ucon_base.specs.Spelling.{quoted, more_texts, set_spelling}
 use Rattle.ucon_base.specs.Value.{is_rising}
-use Rattle.ucon_base.proofs.Rising.{below}
-use Rattle.ucon_base.proofs.Runs.{can_rise_first}
-use Rattle.ucon_base.proofs.SetsRead.{rising_from_chain, ending}
 use Rattle.ucon_spelling.specs.Spellings.{is_plain, set, Begins, up_to_text, IsStuck, FallsAt}
-use Rattle.ucon_spelling.proofs.OfAKind.{chain_from_rising}
+use Rattle.ucon_spelling.proofs.Rising.{chain_from_rising, rising_from_chain, can_rise_first, ending}
 use Rattle.ucon_spelling.proofs.Sets.{Plain, FallIn, NoRise, last_of, tail, risen, text_then}
 
 and_true : (x : Bool) → (x && true) ≡ x
@@ -17,9 +14,9 @@ and_true true = refl
 and_true false = refl
 
 rises_last : (u : List ℕ) (ts : List (List ℕ)) (v : List ℕ) → is_rising (u ∷ ts) ≡ true → is_rising (u ∷ (ts ++ v ∷ [])) ≡ rises (last_of (Some u) ts) v
-rises_last u [] v h = and_true (below u v)
+rises_last u [] v h = and_true (rises (Some u) v)
 rises_last u (t ∷ ts) v h =
-    let parts = and_parts (below u t) (is_rising (t ∷ ts)) h in
+    let parts = and_parts (rises (Some u) t) (is_rising (t ∷ ts)) h in
     rw parts.0 (rises_last t ts v parts.1)
 
 -- a text behind rising ones rises where it is above the last

@@ -3,6 +3,7 @@ pub mod Falls
 pub mod Fronts
 pub mod OfAKind
 pub mod ReadFalls
+pub mod Rising
 pub mod Sets
 pub mod Texts
 pub mod Whole

@@ -1,14 +1,12 @@
 -- What spellings that begin with a byte are.
-use Rattle.std.proofs.Common.{◌≡◌, ℕ, true, ◌&&◌, List, [], ◌∷◌, ◌++◌, length, None, Some, refl, sym, ap, ◌∙◌, arith}
+use Rattle.std.proofs.Common.{◌≡◌, ℕ, true, ◌&&◌, List, [], ◌∷◌, ◌++◌, length, None, refl, sym, ap, ◌∙◌, arith}
 use Rattle.std.specs.Prelude.{nat_le}
 use Rattle.std.specs.List.{list_all}
-use Rattle.std.proofs.lemmas.Bool.{and_parts, and_from, false≢true}
+use Rattle.std.proofs.lemmas.Bool.{and_parts, false≢true}
 use Rattle.ucon_base.specs.Reading.{opened}
 use Rattle.ucon_base.specs.Spelling.{set_spelling}
-use Rattle.ucon_base.specs.Value.{is_rising}
-use Rattle.ucon_base.proofs.Rising.{below}
-use Rattle.ucon_base.proofs.SetsRead.{chain, rising_from_chain}
 use Rattle.ucon_spelling.specs.Spellings.{IsSpelling, zero, positive, negative, text, set, is_number, is_plain}
+use Rattle.ucon_spelling.proofs.Rising.{chain_from_rising, rising_from_chain}
 use Rattle.ucon_spelling.proofs.Sets.{Rest, head, tail}
 
 set_head : (ts : List (List ℕ)) → head (set_spelling ts) ≡ 123
@@ -70,16 +68,6 @@ text_only l (set ts up plain e) = let h : 34 ≡ 123 = ap head e ∙ set_head ts
 
 pub text_if : (l : List ℕ) → EndsText l → IsSpelling (34 ∷ l)
 text_if l h = text h.0 h.1 (ap (λ x. 34 ∷ x) h.2)
-
-chain_above : (u : List ℕ) (ts : List (List ℕ)) → is_rising (u ∷ ts) ≡ true → chain (Some u) ts ≡ true
-chain_above u [] h = refl
-chain_above u (t ∷ ts) h =
-    let parts = and_parts (below u t) (is_rising (t ∷ ts)) h in
-    and_from (below u t) (chain (Some t) ts) parts.0 (chain_above t ts parts.1)
-
-pub chain_from_rising : (ts : List (List ℕ)) → is_rising ts ≡ true → chain None ts ≡ true
-chain_from_rising [] h = refl
-chain_from_rising (t ∷ ts) h = chain_above t ts h
 
 pub set_only : (l : List ℕ) → IsSpelling (123 ∷ l) → Rest None opened l
 set_only l (zero e) = let h : 123 ≡ 48 = ap head e in absurd (omega (arith, h))

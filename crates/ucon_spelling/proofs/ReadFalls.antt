@@ -5,11 +5,10 @@ use Rattle.ucon_base.specs.declared.value_fault.ValueFault.TheVariants.{BadSpell
 use Rattle.ucon_base.specs.Reading.{Member, rises, can_rise, inside, opened, behind, before, members, set_of, value_read}
 use Rattle.ucon_base.specs.Spelling.{more_texts}
 use Rattle.ucon_base.specs.TextBytes.{is_text_byte}
-use Rattle.ucon_base.proofs.Runs.{can_rise_first}
-use Rattle.ucon_base.proofs.SetsRead.{Fine}
 use Rattle.ucon_spelling.specs.Spellings.{is_plain, FallsAt}
 use Rattle.ucon_spelling.proofs.Falls.{fall_from}
-use Rattle.ucon_spelling.proofs.Sets.{Plain, FallIn, NoRise, last_of, tail, risen, can_rise_front, fine_parts}
+use Rattle.ucon_spelling.proofs.Rising.{Fine, can_rise_first, can_rise_front}
+use Rattle.ucon_spelling.proofs.Sets.{Plain, FallIn, NoRise, last_of, tail, risen, fine_parts}
 
 text_ran : (last : Option (List ℕ)) (q : ℕ) (t w : List ℕ) (at : ℕ) (rest : List ℕ) → is_plain w ≡ true → rises last (t ++ w) ≡ true
     → members last (inside q t) at (w ++ 34 ∷ rest) ≡ before (record { at = q; text = t ++ w }) (members (Some (t ++ w)) behind (at + length w + 1) rest)

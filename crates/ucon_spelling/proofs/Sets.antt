@@ -2,16 +2,14 @@
 use Rattle.std.proofs.Common.{◌≡◌, ℕ, ◌+◌, ◌⊎◌, true, false, List, [], ◌∷◌, ◌++◌, length, Option, Some, None, Ok, Err, inl, inr, refl, sym, ap, ◌∙◌, arith, append_assoc, append-nil, length-append, subst}
 use Rattle.std.specs.Prelude.{Result, ◌==◌, ⊤}
 use Rattle.std.specs.List.{list_all}
-use Rattle.std.proofs.lemmas.Bool.{and_parts, and_from, or_cases, or_left, cases_Bool, eqb-true, eqb-false, eq-eqb, le-ltb, true≢false, false≢true, true_from_ne_false, false_from_ne_true}
+use Rattle.std.proofs.lemmas.Bool.{and_parts, and_from, or_cases, cases_Bool, eqb-true, eqb-false, eq-eqb, le-ltb, true≢false, false≢true, false_from_ne_true}
 use Rattle.ucon_base.specs.declared.value_fault.ValueFault.{ValueFault}
 use Rattle.ucon_base.specs.declared.value_fault.ValueFault.TheVariants.{BadSpelling, TooLong, TooMany, OutOfRange, NoMemory}
 use Rattle.ucon_base.specs.Reading.{Member, Stage, rises, can_rise, begins_with, inside, opened, behind, awaiting, closed, before, members}
 use Rattle.ucon_base.specs.Spelling.{more_texts, set_spelling}
 use Rattle.ucon_base.specs.TextBytes.{is_text_byte}
-use Rattle.ucon_base.proofs.Rising.{below}
-use Rattle.ucon_base.proofs.Runs.{can_rise_more, can_rise_first}
-use Rattle.ucon_base.proofs.SetsRead.{chain, Fine, ending, regrouped}
 use Rattle.ucon_spelling.specs.Spellings.{is_plain}
+use Rattle.ucon_spelling.proofs.Rising.{chain, Fine, ending, regrouped, can_rise_first, can_rise_front}
 use Rattle.ucon_spelling.proofs.Fronts.{Refused, Told, told_behind, stops_here, all_at}
 
 -- the place where a reading found a bad spelling
@@ -81,7 +79,7 @@ Alive last closed at = ⊤
 
 -- ---- texts that rise
 
-above_itself : (u : List ℕ) → below u (u ++ 32 ∷ []) ≡ true
+above_itself : (u : List ℕ) → rises (Some u) (u ++ 32 ∷ []) ≡ true
 above_itself [] = refl
 above_itself (a ∷ u) = rw (le-ltb a a (omega arith), eq-eqb a a refl) (above_itself u)
 
@@ -97,10 +95,10 @@ plain_both (c ∷ t) w h k =
     let parts = and_parts (is_text_byte c) (is_plain t) h in
     and_from (is_text_byte c) (is_plain (t ++ w)) parts.0 (plain_both t w parts.1 k)
 
-below_both : (a c : ℕ) (u v : List ℕ) → (a == c) ≡ true → below u v ≡ true → below (a ∷ u) (c ∷ v) ≡ true
+below_both : (a c : ℕ) (u v : List ℕ) → (a == c) ≡ true → rises (Some u) v ≡ true → rises (Some (a ∷ u)) (c ∷ v) ≡ true
 below_both a c u v same h = let e : a ≡ c = eqb-true a c same in rw (le-ltb a c (omega (arith, e)), same) h
 
-past : (u t : List ℕ) → begins_with u t ≡ true → is_plain u ≡ true → (w : List ℕ) × ((is_plain w ≡ true) × (below u (t ++ w) ≡ true))
+past : (u t : List ℕ) → begins_with u t ≡ true → is_plain u ≡ true → (w : List ℕ) × ((is_plain w ≡ true) × (rises (Some u) (t ++ w) ≡ true))
 past u [] h plain = (u ++ 32 ∷ [], (plain_more u 32 plain refl, above_itself u))
 past [] (c ∷ t) h plain = absurd (false≢true h)
 past (a ∷ u) (c ∷ t) h plain =
@@ -112,17 +110,10 @@ past (a ∷ u) (c ∷ t) h plain =
 pub risen : (last : Option (List ℕ)) (t : List ℕ) → Plain last → can_rise last t ≡ true → (w : List ℕ) × ((is_plain w ≡ true) × (rises last (t ++ w) ≡ true))
 risen None t plain h = ([], (refl, refl))
 risen (Some u) t plain h =
-    elim (or_cases (below u t) (begins_with u t) h) [
-      | inl is ↦ ([], (refl, ap (below u) (append-nil t) ∙ is))
+    elim (or_cases (rises (Some u) t) (begins_with u t) h) [
+      | inl is ↦ ([], (refl, ap (rises (Some u)) (append-nil t) ∙ is))
       | inr begins ↦ past u t begins plain
     ]
-
-can_rise_if : (last : Option (List ℕ)) (t : List ℕ) → rises last t ≡ true → can_rise last t ≡ true
-can_rise_if None t h = refl
-can_rise_if (Some u) t h = or_left (below u t) (begins_with u t) h
-
-pub can_rise_front : (last : Option (List ℕ)) (t w : List ℕ) → rises last (t ++ w) ≡ true → can_rise last t ≡ true
-can_rise_front last t w h = true_from_ne_false (can_rise last t) (λ stopped. true≢false (sym (can_rise_if last (t ++ w) h) ∙ can_rise_more last t w stopped))
 
 -- ---- a text and what stands behind it
 

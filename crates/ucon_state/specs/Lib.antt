@@ -7,3 +7,4 @@ pub mod Views
 pub mod Shown
 pub mod Following
 pub mod Engine
+pub mod Held

@@ -15,7 +15,7 @@ ghost use Rattle.ucon_state.specs.declared.state.State.{State};
 ghost use Rattle.ucon_state.specs.Following.{Follows, IsLegalTrace, Keeps, all_applied};
 ghost use Rattle.ucon_state.specs.Shown.{Shown, changed_by, shown};
 
-use ucon_model::blocks_are_legal;
+use ucon_model::{blocks_are_legal, legal_actions_keep_traces_sound};
 
 /// A state with the opening tables follows the empty trace, and one legal action more is followed with the tables that it makes.
 pub fn each_action_is_followed()
@@ -23,7 +23,9 @@ pub fn each_action_is_followed()
         → Follows s P [] }
     ensures after { (s : Shown) (P : PlainPolicy) (T : Trace) (a : Action) → Follows s P T → IsLegal P T a
         → Follows (changed_by s a) P (a ∷ T) }
-{}
+{
+    legal_actions_keep_traces_sound();
+}
 
 /// The tables of a state keep each trace that it follows, all of it that commands ask for: who is there and under which number, the
 /// cells of attributes, the values, the acts, the sessions, and how many there are of each sort.

@@ -6,6 +6,7 @@ mod change;
 mod counts;
 mod defaults;
 mod engine;
+mod held;
 mod laws;
 mod layout;
 mod session;
@@ -15,6 +16,7 @@ mod view;
 
 pub use counts::Counts;
 pub use engine::{Drafted, Engine};
+pub use held::{ActRow, states_hold_what_they_follow};
 pub use laws::{
     cells_are_of_one_attribute, changes_add_up, each_action_is_followed, legal_traces_go_on,
     sessions_are_few, tables_keep_the_trace, tables_keep_what_is_followed,

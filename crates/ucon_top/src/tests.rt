@@ -14,7 +14,7 @@ use ucon_script::{generate, read_script};
 use ucon_vectors::{
     CAPPED, Example, LOOKING, Played, Row, SUBJECTS_B_AND_C, WITH_A, Words, amended_rows,
     generated_rows, guide_examples, language_examples, played_rows, typing_faults,
-    well_typed_policies, worked_rows,
+    timed_rows, well_typed_policies, worked_rows,
 };
 
 fn words(alloc: Global, all: &[&str]) -> Result<Vec<String>, Fail> {
@@ -67,6 +67,17 @@ fn document(alloc: Global, row: &Row) -> Result<Vec<u8>, Fail> {
 #[test]
 fn worked_rows_print_what_they_say(rt: HostRuntime) -> Result<(), Fail> {
     for row in worked_rows() {
+        let found = ran(&rt, rt.alloc(), "trial", &document(rt.alloc(), &row)?)?;
+        assert_eq!(rt; found.0.status(), 0, "{}", row.name);
+        assert_eq!(rt; found.1.as_slice(), row.output, "{}", row.name);
+    }
+    Ok(())
+}
+
+/// Uses that time ends.
+#[test]
+fn timed_rows_print_what_they_say(rt: HostRuntime) -> Result<(), Fail> {
+    for row in timed_rows() {
         let found = ran(&rt, rt.alloc(), "trial", &document(rt.alloc(), &row)?)?;
         assert_eq!(rt; found.0.status(), 0, "{}", row.name);
         assert_eq!(rt; found.1.as_slice(), row.output, "{}", row.name);

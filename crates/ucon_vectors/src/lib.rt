@@ -8,6 +8,7 @@ mod guide;
 mod hostile;
 mod journals;
 mod language;
+mod timed;
 mod typing;
 mod worked;
 
@@ -18,6 +19,7 @@ pub use guide::guide_examples;
 pub use hostile::{Limit, Repeated, WITHOUT_ENTRIES, hostile_documents, hostile_journals};
 pub use journals::{LOOKING, Played, SUBJECTS_B_AND_C, WITH_A, played_rows};
 pub use language::language_examples;
+pub use timed::timed_rows;
 pub use typing::{typing_faults, well_typed_policies};
 pub use worked::{CAPPED, PAY_PER_USE, worked_rows};
 

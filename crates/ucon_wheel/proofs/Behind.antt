@@ -9,7 +9,7 @@ use Rattle.ucon_wheel.proofs.Lined.{list_is, no_node}
 use Rattle.ucon_wheel.proofs.Linking.{in_middle, list_within, some_of}
 use Rattle.ucon_wheel.proofs.Members.{here, split}
 use Rattle.ucon_wheel.proofs.Ordered.{IsInOrder, later-at}
-use Rattle.ucon_wheel.proofs.OneList.{ids, PlaceLaw, distinct_at, distinct_front, distinct_back}
+use Rattle.ucon_links.specs.OneList.{ids, PlaceLaw, distinct_at, distinct_front, distinct_back}
 
 module _ (order own : Lists) (ds : List Deadline) (end : ℕ) (s : IsSound order own ds end) (front : List (ℕ × ℕ)) where
   pub list_parts : (back : List (ℕ × ℕ)) → s.nodes ≡ front ++ back → list_at order.lists 0 ≡ front ++ (back ++ (end, 0) ∷ [])

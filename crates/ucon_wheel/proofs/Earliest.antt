@@ -16,7 +16,7 @@ use Rattle.ucon_wheel.specs.Deadlines.{Pair, pair_cmp}
 use Rattle.ucon_wheel.specs.Lines.{Has, IsSound, IsEarliest, deadline_at, pair_at}
 use Rattle.ucon_wheel.proofs.Linking.{some_of}
 use Rattle.ucon_wheel.proofs.Members.{here, source, has_map, each_more}
-use Rattle.ucon_wheel.proofs.Ordered.{IsInOrder}
+use Rattle.ucon_wheel.proofs.Ordered.{IsInOrder, all_has}
 
 still_there : {X : Type 0} (xs : List X) (x y : X) → Has xs y → Has (xs ++ x ∷ []) y
 still_there [] x y has = absurd has
@@ -39,11 +39,6 @@ earliest_more ds passed y (Some d) this result old tick below others (inr is) =
       (old.0.0, still_there passed y old.0.0 old.0.1, old.0.2 ∙ same),
       each_more (λ z. result.tick ≤ℤ deadline_at ds z.1) passed y (λ z has. let later = old.1 z has in omega (arith, ints)) (subst (λ t. result.tick ≤ℤ t) (sym tick) below),
     )
-
-all_has : (P : Pair → Type 0) (pairs : List Pair) (pair : Pair) → AllByRecursion P pairs → Has pairs pair → P pair
-all_has P [] pair all has = absurd has
-all_has P (x ∷ rest) pair all (inl is) = subst P is all.0
-all_has P (x ∷ rest) pair all (inr has) = all_has P rest pair all.1 has
 
 -- a pair isn't in front of one of the same session that isn't later
 not_in_front : (a b : ℤ) (n m : ℕ) (o : Ordering) → b ≤ℤ a → n ≡ m → o ≡ int_cmp a b → ordering_then o (nat_cmp n m) ≡ Less → ⊥

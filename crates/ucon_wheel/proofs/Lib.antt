@@ -5,10 +5,10 @@ pub mod Lined
 pub mod Linking
 pub mod Marking
 pub mod Members
-pub mod OneList
 pub mod Order
 pub mod Ordered
 pub mod Owning
 pub mod Removing
 pub mod Showing
+pub mod Telling
 pub mod Walking

@@ -1,6 +1,6 @@
 -- The lists hold the pairs: one comes, or goes.
 use Rattle.std.proofs.Common.{◌≡◌, ◌⊎◌, inl, inr, ℕ, zero, suc, ◌+◌, ◌-◌, ◌<◌, ◌≤◌, pos, List, [], ◌∷◌, ◌++◌, map, set, length, sum_by, Some, None, Option, is_some, refl, sym, ap, ◌∙◌, subst, arith, append_assoc, length-append, get_or-set_same, get_or-set_other}
-use Rattle.std.proofs.lemmas.List.{map-append, length-set}
+use Rattle.std.proofs.lemmas.List.{append-nil, map-append, length-set}
 use Rattle.std.proofs.lemmas.List.Sums.{sum_by-cons}
 use Rattle.ucon_links.specs.Lists.{Lists, first_or, list_at, listed_nodes, nodes_of, node_count, without, unlink, unlink_item, link_behind, IsListed, IsAbsent, IsDistinct}
 use Rattle.ucon_wheel.specs.declared.lines.Deadline.{Deadline}
@@ -9,7 +9,7 @@ use Rattle.ucon_wheel.specs.Lines.{Linked, Has, HasPair, HasNext, IsOwned, IsSou
 use Rattle.ucon_wheel.proofs.Linking.{list_within, in_middle, some_of}
 use Rattle.ucon_wheel.proofs.Members.{split, here, widen, narrow, source}
 use Rattle.ucon_wheel.proofs.Ordered.{IsInOrder, apart_front, put_before-apart, put_before-none, without_pair-apart}
-use Rattle.ucon_wheel.proofs.OneList.{ids, PlaceLaw, distinct_at, distinct_front, absent_front, front_of, without-first, distinct_pull}
+use Rattle.ucon_links.specs.OneList.{ids, PlaceLaw, distinct_at, distinct_front, absent_front, front_of, without-first, distinct_pull}
 use Rattle.ucon_wheel.proofs.Owning.{OneChanges, owned_with, owned_without}
 
 pub before_last-end : (xs : List (ℕ × ℕ)) (x : ℕ × ℕ) → before_last (xs ++ x ∷ []) ≡ xs
@@ -53,10 +53,6 @@ pub record Gap (ds : List Deadline) (nodes : List (ℕ × ℕ)) (end : ℕ) (nex
   pub begins : back ++ (end, 0) ∷ [] ≡ (behind, owner) ∷ rest
   pub put : (pair : Pair) → put_before next pair (map (pair_at ds) nodes) ≡ map (pair_at ds) front ++ pair ∷ map (pair_at ds) back
 
-append_nil : {X : Type 0} (xs : List X) → xs ++ [] ≡ xs
-append_nil [] = refl
-append_nil (x ∷ xs) = ap (λ ys. x ∷ ys) (append_nil xs)
-
 module _ (order own : Lists) (ds : List Deadline) (end : ℕ) (s : IsSound order own ds end) where
   gap_at : (next : Option Pair) (behind : ℕ) → IsInOrder (map (pair_at ds) s.nodes) → IsNodeOf own ds end next behind → Gap ds s.nodes end next behind
   gap_at None behind sorted is = record {
@@ -64,7 +60,7 @@ module _ (order own : Lists) (ds : List Deadline) (end : ℕ) (s : IsSound order
     back = [];
     rest = [];
     owner = 0;
-    parts = sym (append_nil s.nodes);
+    parts = sym (append-nil s.nodes);
     begins = ap (λ n. (n, 0) ∷ []) (sym is);
     put = λ pair. put_before-none pair (map (pair_at ds) s.nodes);
   }

@@ -4,7 +4,7 @@ use Rattle.std.proofs.lemmas.List.{map-append}
 use Rattle.ucon_links.specs.Lists.{Lists, first_or, last_or, list_at, list_of, listed_nodes, nodes_of, place_of, put_in, with_behind, IsListed, IsDistinct}
 use Rattle.ucon_wheel.specs.Lines.{Has, HasPair}
 use Rattle.ucon_wheel.proofs.Members.{split}
-use Rattle.ucon_wheel.proofs.OneList.{ids, PlaceLaw, distinct_at, distinct_front, with_behind-last}
+use Rattle.ucon_links.specs.OneList.{ids, PlaceLaw, distinct_at, distinct_front, with_behind-last}
 
 pub list_within : (lists : List (List (ℕ × ℕ))) (list : ℕ) (x : ℕ × ℕ) → Has (list_at lists list) x → list < length lists
 list_within [] list x has = absurd has

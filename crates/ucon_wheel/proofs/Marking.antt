@@ -1,5 +1,5 @@
 -- Pairs that are marked as hidden, put in and taken away.
-use Rattle.std.proofs.Common.{◌≡◌, ◌+◌, ◌<◌, ◌≤◌, List, [], ◌∷◌, ◌++◌, length, reverse, Some, None, Option, IsSome, is_some, Bool, true, false, not, cond, IsTrue, ◌↔◌, refl, sym, ap, ◌∙◌, subst, arith}
+use Rattle.std.proofs.Common.{◌≡◌, ◌⊎◌, inr, ◌+◌, ◌<◌, ◌≤◌, List, [], ◌∷◌, ◌++◌, length, reverse, Some, None, Option, IsSome, is_some, Bool, true, false, not, cond, IsTrue, ◌↔◌, refl, sym, ap, ◌∙◌, subst, arith}
 use Rattle.std.specs.Prelude.{Result, Ok, Err, OnOk, OnErr}
 use Rattle.std.specs.declared.cmp.Ordering.{Ordering}
 use Rattle.std.specs.declared.cmp.Ordering.TheVariants.{Less, Equal, Greater}
@@ -13,7 +13,7 @@ use Rattle.std.proofs.lemmas.Map.Steps.{set_value_same}
 use Rattle.std.proofs.lemmas.Map.Entries.{sum_by-set_value}
 use Rattle.std.proofs.lemmas.List.{reverse-append}
 use Rattle.std.proofs.lemmas.List.Sums.{sum_by-cons}
-use Rattle.ucon_wheel.specs.Deadlines.{Pair, Deadlines, pair_cmp, is_pair, state_of, IsShown, put, put_missing, hide, unhide, AllShown, hide_all, unhide_times}
+use Rattle.ucon_wheel.specs.Deadlines.{Pair, Deadlines, pair_cmp, is_pair, IsShown, put, put_missing, hide, unhide, AllShown, hide_all, unhide_times}
 use Rattle.ucon_wheel.specs.Marks.{IsStack, hidden_count, one_if}
 
 pub pair_total : IsTotalOrder pair_cmp
@@ -40,6 +40,16 @@ pub pair_same : (p q : Pair) → is_pair p q ≡ true → p ≡ q
 pair_same p q same =
     let both = then_equal (int_cmp p.0 q.0) (nat_cmp p.1 q.1) same in
     λ i. (int_cmp-IsAntisymmetric p.0 q.0 both.0 i, nat_cmp-IsAntisymmetric p.1 q.1 both.1 i)
+
+put_first : (p q : Pair) (e : Pair × Bool) (es : List (Pair × Bool)) (o : Ordering) → is_pair q p ≡ false → (is_eq o ≡ true → p ≡ e.0) → lookup (is_pair q) (insert_entry pair_cmp es p false) ≡ lookup (is_pair q) es → lookup (is_pair q) (match_ordering o ((p, false) ∷ e ∷ es) ((e.0, false) ∷ es) (e ∷ insert_entry pair_cmp es p false)) ≡ cond (is_pair q e.0) (Some e.1) (lookup (is_pair q) es)
+put_first p q e es Less other same rest = rw other refl
+put_first p q e es Equal other same rest = let apart : is_pair q e.0 ≡ false = subst (λ (r : Pair). is_pair q r ≡ false) (same refl) other in rw apart refl
+put_first p q e es Greater other same rest = ap (cond (is_pair q e.0) (Some e.1)) rest
+
+-- a pair that is put leaves another one as it was
+pub put_other : (p q : Pair) (es : List (Pair × Bool)) → is_pair q p ≡ false → lookup (is_pair q) (insert_entry pair_cmp es p false) ≡ lookup (is_pair q) es
+put_other p q [] other = rw other refl
+put_other p q (e ∷ es) other = put_first p q e es (pair_cmp p e.0) other (λ same. pair_same p e.0 same) (put_other p q es other)
 
 module _ (test : Pair → Bool) where
   set_first : (e : Pair × Bool) (es : List (Pair × Bool)) (v w t : Bool) → test e.0 ≡ t → set_value test (set_value test es v) w ≡ set_value test es w → set_value test (cond t ((e.0, v) ∷ es) (e ∷ set_value test es v)) w ≡ cond t ((e.0, w) ∷ es) (e ∷ set_value test es w)
@@ -71,15 +81,6 @@ module _ (test : Pair → Bool) where
 
   -- a new pair beside those that pass
   module _ (cmp : Pair → Pair → Ordering) (new : Pair) (apart : test new ≡ false) where
-    there_first : (e : Pair × Bool) (es : List (Pair × Bool)) (o : Ordering) → cond (is_eq o) (Some e.1) (lookup (λ q. is_eq (cmp new q)) es) ≡ None → (lookup (λ q. is_eq (cmp new q)) es ≡ None → lookup test (insert_entry cmp es new false) ≡ lookup test es) → lookup test (match_ordering o ((new, false) ∷ e ∷ es) ((e.0, false) ∷ es) (e ∷ insert_entry cmp es new false)) ≡ cond (test e.0) (Some e.1) (lookup test es)
-    there_first e es Less none rest = rw apart refl
-    there_first e es Equal none rest = let no : ⊥ = cc in absurd no
-    there_first e es Greater none rest = ap (cond (test e.0) (Some e.1)) (rest none)
-
-    lookup_insert : (es : List (Pair × Bool)) → lookup (λ q. is_eq (cmp new q)) es ≡ None → lookup test (insert_entry cmp es new false) ≡ lookup test es
-    lookup_insert [] none = rw apart refl
-    lookup_insert (e ∷ es) none = there_first e es (cmp new e.0) none (lookup_insert es)
-
     both_first : (e : Pair × Bool) (es : List (Pair × Bool)) (w : Bool) (o : Ordering) (t : Bool) → cmp new e.0 ≡ o → test e.0 ≡ t → cond (is_eq o) (Some e.1) (lookup (λ q. is_eq (cmp new q)) es) ≡ None → (lookup (λ q. is_eq (cmp new q)) es ≡ None → set_value test (insert_entry cmp es new false) w ≡ insert_entry cmp (set_value test es w) new false) → set_value test (match_ordering o ((new, false) ∷ e ∷ es) ((e.0, false) ∷ es) (e ∷ insert_entry cmp es new false)) w ≡ insert_entry cmp (cond t ((e.0, w) ∷ es) (e ∷ set_value test es w)) new false
     both_first e es w Less true is_o is_t none rest = rw (apart, is_t, is_o) refl
     both_first e es w Less false is_o is_t none rest = rw (apart, is_t, is_o) refl
@@ -107,7 +108,7 @@ pub stack_put : (new : Pair) (es : List (Pair × Bool)) (hidden : List Pair) →
 stack_put new es [] none stack = tt
 stack_put new es (p ∷ rest) none stack =
     let apart = apart_of p new es true (is_pair p new) refl stack.0 none in (
-      lookup_insert (is_pair p) pair_cmp new apart es none ∙ stack.0,
+      put_other new p es apart ∙ stack.0,
       subst (λ xs. IsStack xs rest) (sym (set_insert (is_pair p) pair_cmp new apart es false none)) (stack_put new (set_value (is_pair p) es false) rest (none_set (is_pair p) (is_pair new) es false none) stack.1),
     )
 
@@ -218,14 +219,10 @@ pub with_there : (v : Deadlines) (pair : Pair) (found : Option Bool) → is_some
 with_there v pair None some = let no : ⊥ = cc in absurd no
 with_there v pair (Some hidden) some = refl
 
--- a new pair leaves those that are shown
-shown_put : (v : Deadlines) (new other : Pair) → state_of v new ≡ None → IsShown v other → IsShown (put v new) other
-shown_put v new other none shown =
-    lookup_insert (is_pair other) pair_cmp new (apart_of other new v.pairs false (is_pair other new) refl shown none) v.pairs none ∙ shown
-
-pub put_keeps : {T E : Type 0} (result : Result T E) (v after : Deadlines) (new other : Pair) → OnOk result (after ≡ put v new) → OnErr result (after ≡ v) → state_of v new ≡ None → IsShown v other → IsShown after other
-put_keeps (Ok x) v after new other ok err none shown = subst (λ (w : Deadlines). IsShown w other) (sym ok) (shown_put v new other none shown)
-put_keeps (Err e) v after new other ok err none shown = subst (λ (w : Deadlines). IsShown w other) (sym err) shown
+-- a pair that is put, or refused, leaves those that are shown
+pub put_keeps : {T E : Type 0} (result : Result T E) (v after : Deadlines) (new other : Pair) → OnOk result ((p : Pair) → IsShown after p ↔ ((p ≡ new) ⊎ IsShown v p)) → OnErr result (after ≡ v) → IsShown v other → IsShown after other
+put_keeps (Ok x) v after new other ok err shown = (ok other).1 (inr shown)
+put_keeps (Err e) v after new other ok err shown = subst (λ (w : Deadlines). IsShown w other) (sym err) shown
 
 pub all_undone : (v : Deadlines) (pairs : List Pair) → AllShown v pairs → unhide_times (length pairs) (hide_all v pairs) ≡ v
 all_undone v [] shown = refl

@@ -10,7 +10,7 @@ above_first : (P : Pair → Type 0) (pair : Pair) (hidden : Bool) (es : List (Pa
 above_first P pair true es all rest = rest
 above_first P pair false es all rest = (all.0, rest)
 
-above_shown : (P : Pair → Type 0) (es : List (Pair × Bool)) → AllByRecursion P (keys_of es) → AllByRecursion P (map (λ e. e.0) (filter (λ e. not e.1) es))
+pub above_shown : (P : Pair → Type 0) (es : List (Pair × Bool)) → AllByRecursion P (keys_of es) → AllByRecursion P (map (λ e. e.0) (filter (λ e. not e.1) es))
 above_shown P [] all = tt
 above_shown P (e ∷ es) all = above_first P e.0 e.1 es all (above_shown P es all.1)
 

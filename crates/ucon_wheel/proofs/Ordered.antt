@@ -1,12 +1,13 @@
 -- Where a pair stands among pairs in order.
-use Rattle.std.proofs.Common.{◌≡◌, List, [], ◌∷◌, ◌++◌, Some, None, true, false, refl, sym, ap, ◌∙◌}
+use Rattle.std.proofs.Common.{◌≡◌, inl, inr, List, [], ◌∷◌, ◌++◌, Some, None, true, false, refl, sym, ap, ◌∙◌, subst}
+use Rattle.std.proofs.lemmas.List.{append-nil}
 use Rattle.std.specs.declared.cmp.Ordering.{Ordering}
 use Rattle.std.specs.declared.cmp.Ordering.TheVariants.{Less, Equal, Greater}
 use Rattle.std.specs.Ordering.{is_eq, is_lt, ordering_reverse}
 use Rattle.std.specs.List.{AllByRecursion}
 use Rattle.std.specs.List.Sorted.{IsStrictlySortedBy}
 use Rattle.ucon_wheel.specs.Deadlines.{Pair, pair_cmp, is_pair, first, later}
-use Rattle.ucon_wheel.specs.Lines.{without_pair, put_before}
+use Rattle.ucon_wheel.specs.Lines.{Has, without_pair, put_before}
 use Rattle.ucon_wheel.proofs.Marking.{pair_total, pair_self}
 
 -- none of them is the pair
@@ -29,7 +30,7 @@ put_before-none pair (other ∷ rest) = ap (λ xs. other ∷ xs) (put_before-non
 abbrev pub IsInOrder : List Pair → Type 0
 IsInOrder pairs = IsStrictlySortedBy pair_cmp pairs
 
-less_apart : (a b : Pair) (o : Ordering) → pair_cmp a b ≡ Less → pair_cmp b a ≡ o → is_eq o ≡ false
+pub less_apart : (a b : Pair) (o : Ordering) → pair_cmp a b ≡ Less → pair_cmp b a ≡ o → is_eq o ≡ false
 less_apart a b Less is other = refl
 less_apart a b Equal is other = let back : Equal ≡ ordering_reverse Less = sym other ∙ pair_total.antisymm b a ∙ ap ordering_reverse is in let no : ⊥ = cc in absurd no
 less_apart a b Greater is other = refl
@@ -37,6 +38,11 @@ less_apart a b Greater is other = refl
 all_at : (P : Pair → Type 0) (front back : List Pair) (pair : Pair) → AllByRecursion P (front ++ pair ∷ back) → P pair
 all_at P [] back pair all = all.0
 all_at P (x ∷ front) back pair all = all_at P front back pair all.1
+
+pub all_has : (P : Pair → Type 0) (pairs : List Pair) (pair : Pair) → AllByRecursion P pairs → Has pairs pair → P pair
+all_has P [] pair all has = absurd has
+all_has P (x ∷ rest) pair all (inl is) = subst P is all.0
+all_has P (x ∷ rest) pair all (inr has) = all_has P rest pair all.1 has
 
 -- what stands in front is another pair
 pub apart_front : (front back : List Pair) (pair : Pair) → IsInOrder (front ++ pair ∷ back) → Apart pair front
@@ -76,9 +82,5 @@ put_in_order front back pair sorted sorted_old =
     ap (λ behind. put_before (first behind) pair (front ++ back)) (later-at front back pair sorted) ∙ at_back back sorted_old
   where
     at_back : (rest : List Pair) → IsInOrder (front ++ rest) → put_before (first rest) pair (front ++ rest) ≡ front ++ pair ∷ rest
-    at_back [] old = put_before-none pair (front ++ []) ∙ ap (λ xs. xs ++ pair ∷ []) (append_nil front)
-      where
-        append_nil : (xs : List Pair) → xs ++ [] ≡ xs
-        append_nil [] = refl
-        append_nil (x ∷ xs) = ap (λ ys. x ∷ ys) (append_nil xs)
+    at_back [] old = put_before-none pair (front ++ []) ∙ ap (λ xs. xs ++ pair ∷ []) (append-nil front)
     at_back (next ∷ rest) old = put_before-apart next pair front rest (apart_front front rest next old)

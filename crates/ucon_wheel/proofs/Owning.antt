@@ -5,7 +5,7 @@ use Rattle.std.proofs.lemmas.List.{map-append}
 use Rattle.ucon_links.specs.Lists.{IsAbsent, IsDistinct}
 use Rattle.ucon_wheel.specs.Lines.{Has, HasItem, IsOwned}
 use Rattle.ucon_wheel.proofs.Members.{here, widen, narrow, absent_differs, absent_where}
-use Rattle.ucon_wheel.proofs.OneList.{Pulled, distinct_pull}
+use Rattle.ucon_links.specs.OneList.{Pulled, distinct_pull}
 
 -- lists that differ in one session's alone
 pub record OneChanges (own new : ℕ → List (ℕ × ℕ)) (session : ℕ) (items : List (ℕ × ℕ)) : Type 0 where

@@ -44,7 +44,7 @@ module _ (p q : Pair) (apart : is_pair q p ≡ false) where
   marked_first e es w false is rest = ap (cond (is_pair q e.0) (Some e.1)) rest
 
   -- a mark on p leaves q as it is
-  lookup_marked : (es : List (Pair × Bool)) (w : Bool) → lookup (is_pair q) (set_value (is_pair p) es w) ≡ lookup (is_pair q) es
+  pub lookup_marked : (es : List (Pair × Bool)) (w : Bool) → lookup (is_pair q) (set_value (is_pair p) es w) ≡ lookup (is_pair q) es
   lookup_marked [] w = refl
   lookup_marked (e ∷ es) w = marked_first e es w (is_pair p e.0) refl (lookup_marked es w)
 

@@ -1,11 +1,12 @@
 -- A walk through a session's list.
 use Rattle.std.proofs.Common.{◌≡◌, ℕ, suc, ◌<◌, List, [], ◌∷◌, ◌++◌, map, length, Some, None, Option, option_map, is_some, if◌then◌else◌, ◌==◌, refl, sym, ap, ◌∙◌, subst, arith, append_assoc}
 use Rattle.std.proofs.lemmas.Bool.{ne_eqb, eq-eqb}
+use Rattle.std.proofs.lemmas.List.{append-nil}
 use Rattle.ucon_links.specs.Lists.{Lists, first_or, list_at, listed_nodes, nodes_of, place_of, owner_of, or_else, hidden_at, IsListed, IsAbsent, IsDistinct}
 use Rattle.ucon_wheel.specs.Lines.{Has}
 use Rattle.ucon_wheel.proofs.Members.{split}
 use Rattle.ucon_wheel.proofs.Linking.{list_within, in_middle, some_of}
-use Rattle.ucon_wheel.proofs.OneList.{ids, PlaceLaw, distinct_at, distinct_front, front_of}
+use Rattle.ucon_links.specs.OneList.{ids, PlaceLaw, distinct_at, distinct_front, front_of}
 
 -- how many are left from a node on
 abbrev pub rest_length : List (ℕ × ℕ) → Option ℕ → ℕ
@@ -82,11 +83,7 @@ module _ (law : PlaceLaw) (own : Lists) (session : ℕ) (distinct : IsDistinct (
   meets passed item at = meets_from passed at.left item at.parts at.at_is
 
 ended : (items passed left : List (ℕ × ℕ)) → items ≡ passed ++ left → None ≡ first_or None left → items ≡ passed
-ended items passed [] parts is = parts ∙ append_nil passed
-  where
-    append_nil : (xs : List (ℕ × ℕ)) → xs ++ [] ≡ xs
-    append_nil [] = refl
-    append_nil (x ∷ xs) = ap (λ ys. x ∷ ys) (append_nil xs)
+ended items passed [] parts is = parts ∙ append-nil passed
 ended items passed (x ∷ left) parts is = let no : ⊥ = cc in absurd no
 
 -- at the end a walk has passed all

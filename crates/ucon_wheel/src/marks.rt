@@ -1,7 +1,7 @@
 //! Which pairs there are, in order, and which of them are hidden.
 
 ghost use Rattle.std.specs.Prelude.{◌≡◌, ◌==◌, ◌&&◌, ◌↔◌, is_some, ◌<◌, [], ◌∷◌, length, slice_get, not, find, option_map, Some, None, IsSome, IfOk, OnOk, OnErr, IsTrue, true};
-ghost use Rattle.std.specs.Map.{lookup, set_value};
+ghost use Rattle.std.specs.Map.{keys_of, lookup, set_value};
 ghost use Rattle.std.specs.BTreeMap.{IsOrdered};
 ghost use Rattle.std.specs.BTreeMap.Range.{entries_between};
 ghost use Rattle.std.specs.List.Sorted.{IsStrictlySortedBy};
@@ -96,6 +96,14 @@ impl Marks {
         ensures { result ≡ is_some (state_of self.now pair) }
     {
         self.pairs.contains_key(&pair)
+    }
+
+    /// The pairs stand in order: a law of the type, which does nothing.
+    pub fn pairs_are_ordered(&self)
+        ensures { IsStrictlySortedBy pair_cmp (keys_of self.now.pairs) }
+    {
+        // What the map keeps is known once it is asked.
+        let _len = self.pairs.len();
     }
 
     /// How many pairs are hidden.

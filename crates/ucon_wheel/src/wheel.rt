@@ -1,11 +1,11 @@
 //! Deadlines of sessions in order.
 
-ghost use Rattle.std.specs.Prelude.{◌≡◌, ◌↔◌, is_some, ◌-◌, ◌<◌, ◌≤◌, [], length, IfOk, OnOk, OnErr, IsTrue, None};
+ghost use Rattle.std.specs.Prelude.{◌≡◌, ◌≢◌, ◌⊎◌, ◌↔◌, ℤ, ◌<ℤ◌, ◌≤ℤ◌, is_some, ◌-◌, ◌<◌, ◌≤◌, [], length, IfOk, IfSome, IfNone, OnOk, OnErr, IsTrue, None};
 ghost use Rattle.std.specs.List.Sorted.{IsStrictlySortedBy};
 ghost use Rattle.ucon_wheel.specs.Lines.{without_pair};
 ghost use Rattle.ucon_wheel.specs.Deadlines.{Pair, Deadlines, state_of, IsShown, pair_cmp, put, with_pair, take_back, hide, unhide, forget_hidden, shown, first_behind, due, first_of};
 
-use crate::lines::Lines;
+use crate::lines::{Deadline, Lines};
 use crate::marks::Marks;
 use std::alloc::{AllocError, Global};
 use std::marker::Model;
@@ -21,6 +21,12 @@ fn deadline_of(pair: (i64, u32)) -> i64
     ensures { result ≡ pair.0 }
 {
     pair.0
+}
+
+fn tick_of(deadline: Deadline) -> i64
+    ensures { result ≡ deadline.tick }
+{
+    deadline.tick
 }
 
 // Room in the lists for a pair of the session, beside those that are hidden.
@@ -116,6 +122,7 @@ impl Wheel {
     pub fn put(&mut self, session: u32, deadline: i64) -> Result<(), NoMemory>
         requires { state_of self.old (deadline, session) ≡ None }
         ensures ok { OnOk result (self.new ≡ put self.old (deadline, session)) }
+        ensures shown { OnOk result ((p : Pair) → IsShown self.new p ↔ ((p ≡ (deadline, session)) ⊎ IsShown self.old p)) }
         ensures undone { OnOk result (take_back self.new (deadline, session) ≡ self.old) }
         ensures err { OnErr result (self.new ≡ self.old) }
     {
@@ -130,6 +137,7 @@ impl Wheel {
     pub fn hide(&mut self, session: u32, deadline: i64)
         requires { IsShown self.old (deadline, session) }
         ensures hidden { self.new ≡ hide self.old (deadline, session) }
+        ensures shown { (p : Pair) → IsShown self.new p ↔ ((p ≢ (deadline, session)) × IsShown self.old p) }
         ensures undone { unhide self.new ≡ self.old }
     {
         let pair = pair_of(session, deadline);
@@ -148,8 +156,10 @@ impl Wheel {
 
     /// Takes all hidden pairs away.
     pub fn forget_hidden(&mut self)
-        ensures { self.new ≡ forget_hidden self.old }
+        ensures forgotten { self.new ≡ forget_hidden self.old }
+        ensures shown { (p : Pair) → IsShown self.new p ↔ IsShown self.old p }
     {
+        self.marks.pairs_are_ordered();
         self.marks.forget_hidden();
     }
 
@@ -202,8 +212,11 @@ impl Wheel {
     /// `after` itself is hidden or not there.
     pub fn due(&self, tick: Int, after: Option<(i64, u32)>) -> Option<(i64, u32)>
         ensures due { result ≡ due self.now tick after }
+        ensures there { IfSome result (λ p. IsShown self.now p × (p.0 <ℤ tick)) }
+        ensures rest { IfNone result (after ≡ None → (p : Pair) → IsShown self.now p → tick ≤ℤ p.0) }
         ensures ordered { IsStrictlySortedBy pair_cmp (shown self.now) }
     {
+        self.marks.pairs_are_ordered();
         let pair = self.next_behind(after)?;
         if deadline_of(pair) < tick.get() {
             Some(pair)
@@ -214,9 +227,12 @@ impl Wheel {
 
     /// The least deadline of a session that isn't hidden. Only that session's pairs are walked.
     pub fn first_of(&self, session: u32) -> Option<i64>
-        ensures { result ≡ first_of self.now session }
+        ensures first { result ≡ first_of self.now session }
+        ensures there { IfSome result (λ d. IsShown self.now (d, session)) }
+        ensures rest { IfNone result ((d : ℤ) → IsShown self.now (d, session) → ⊥) }
     {
+        self.marks.pairs_are_ordered();
         let deadline = self.lines.first_of(session)?;
-        Some(deadline.tick)
+        Some(tick_of(deadline))
     }
 }

@@ -19,8 +19,8 @@ use Rattle.ucon_model.specs.Readings.{in_force, tick_of, entity_names, declared_
 use Rattle.ucon_model.specs.Truth.{place_of}
 use Rattle.ucon_model.specs.Legal.{IsLegal, AreLegal}
 use Rattle.ucon_model.specs.Reach.{replaces}
+use Rattle.ucon_model.specs.Sound.{IsSound}
 use Rattle.ucon_model.specs.Typing.{IsTyped}
-use Rattle.ucon_model.proofs.Allowed.{sound_before, sound_after_action, typed_after_action}
 use Rattle.ucon_state.specs.Shown.{Shown, changed_by}
 use Rattle.ucon_state.specs.declared.act.Act.{Act}
 use Rattle.ucon_state.specs.Tables.{Tables, first_cell, entities_of, entity_number, cell_of, place_in, session_in, counts_in}
@@ -212,12 +212,12 @@ tables_keep P T legal = keeps P (tables_of P T) T (follows P T legal)
 
 -- ---- states that follow
 
-pub followed_before : (P : PlainPolicy) → IsTyped P → (s : Shown) → s.policy ≡ P → s.tables ≡ opening_tables s.policy → Follows s P []
-followed_before P typed s policy tables = record {
+pub followed_before : (P : PlainPolicy) → IsTyped P → IsSound P [] → (s : Shown) → s.policy ≡ P → s.tables ≡ opening_tables s.policy → Follows s P []
+followed_before P typed sound s policy tables = record {
   policy = policy;
   typed = typed;
   tables = subst (λ (t : Tables). TablesFollow P t []) (sym (tables ∙ ap opening_tables policy)) (follows_opening P);
-  sound = sound_before P typed;
+  sound = sound;
 }
 
 -- the policy that an action leaves in force
@@ -225,12 +225,13 @@ policy_after : (P : PlainPolicy) (T : Trace) (a : Action) → in_force (in_force
 policy_after P T (amend text Q) = refl
 policy_after P T a = refl
 
-pub followed_after : (s : Shown) (P : PlainPolicy) (T : Trace) (a : Action) → Follows s P T → IsLegal P T a → Follows (changed_by s a) P (a ∷ T)
-followed_after s P T a h legal = record {
+pub followed_after : (s : Shown) (P : PlainPolicy) (T : Trace) (a : Action) → Follows s P T → IsLegal P T a → IsTyped (in_force P (a ∷ T)) → IsSound P (a ∷ T)
+    → Follows (changed_by s a) P (a ∷ T)
+followed_after s P T a h legal typed sound = record {
   policy = ap (λ (Q : PlainPolicy). in_force Q (a ∷ [])) h.policy ∙ policy_after P T a;
-  typed = typed_after_action P T a h.typed legal;
+  typed = typed;
   tables = subst (λ (Q : PlainPolicy). TablesFollow P (applied Q a s.tables) (a ∷ T)) (sym h.policy) (follows_after P s.tables T a legal h.tables);
-  sound = sound_after_action P T a h.typed h.sound legal;
+  sound = sound;
 }
 
 pub followed_kept : (s : Shown) (P : PlainPolicy) (T : Trace) → Follows s P T → Keeps s.policy s.tables P T

@@ -13,7 +13,7 @@ use ucon_model::{Caller, Checked, Command, SessionState};
 use ucon_plain::PlainMonitor;
 use ucon_script::generate;
 use ucon_state::{Drafted, Engine};
-use ucon_vectors::{amended_rows, worked_rows};
+use ucon_vectors::{amended_rows, timed_rows, worked_rows};
 
 /// Drafts each step and undoes it, before it drafts it again.
 #[derive(Drop)]
@@ -88,6 +88,10 @@ fn steps_are_drafted_again(rt: HostRuntime) -> Result<(), Fail> {
         assert_eq!(rt; again.as_slice(), row.output, "{}", row.name);
     }
     for row in amended_rows() {
+        let again = printed_by::<Redrafting<Monitor>>(alloc, &super::document(alloc, &row)?)?;
+        assert_eq!(rt; again.as_slice(), row.output, "{}", row.name);
+    }
+    for row in timed_rows() {
         let again = printed_by::<Redrafting<Monitor>>(alloc, &super::document(alloc, &row)?)?;
         assert_eq!(rt; again.as_slice(), row.output, "{}", row.name);
     }

@@ -11,9 +11,11 @@ use Rattle.ucon_actions.proofs.attributes.write.Goals as goal
 
 pub returns-clause-leads : goal.returns-clause-leads
 returns-clause-leads c =
+    let keep = c.tables_keep_what_is_followed.ensures in
+    let followed = c.each_action_is_followed.ensures.after in
     let s = shown c.args.state.now in
-    leads_on c.write.result s (shown c.write.new.self) (write c.args.side c.args.name.now c.args.attr.now c.args.value) _ refl
-    (λ P T h. (entity_there s P T h c.args.side c.args.name.now ∙ c.requires.there, subst (λ (Q : PlainPolicy). AttributeAdmits Q c.args.side c.args.attr.now c.args.value) h.policy c.requires.admitted))
+    leads_on followed c.write.result s (shown c.write.new.self) (write c.args.side c.args.name.now c.args.attr.now c.args.value) _ refl
+    (λ P T h. (entity_there keep s P T h c.args.side c.args.name.now ∙ c.requires.there, subst (λ (Q : PlainPolicy). AttributeAdmits Q c.args.side c.args.attr.now c.args.value) h.policy c.requires.admitted))
     (write_applied s.policy s.tables c.args.side c.args.name.now c.args.attr.now c.args.value c.in-Some.entity c.in-Some-cell.cell (search rules) (search rules)) c.write.ensures.ok
 
 pub returns-clause-base : goal.returns-clause-base

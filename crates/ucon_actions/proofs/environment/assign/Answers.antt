@@ -9,8 +9,9 @@ use Rattle.ucon_actions.proofs.environment.assign.Goals as goal
 
 pub returns-clause-leads : goal.returns-clause-leads
 returns-clause-leads c =
+    let followed = c.each_action_is_followed.ensures.after in
     let s = shown c.args.state.now in
-    leads_on c.set_env.result s (shown c.set_env.new.self) (env c.args.name.now c.args.value) _ refl
+    leads_on followed c.set_env.result s (shown c.set_env.new.self) (env c.args.name.now c.args.value) _ refl
     (λ P T h. subst (λ (Q : PlainPolicy). VariableAdmits Q c.args.name.now c.args.value) h.policy c.requires) refl c.set_env.ensures.ok
 
 pub returns-clause-base : goal.returns-clause-base

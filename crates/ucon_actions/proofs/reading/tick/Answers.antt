@@ -4,4 +4,4 @@ use Rattle.ucon_actions.proofs.ReadOff.{tick_same}
 use Rattle.ucon_actions.proofs.reading.tick.Goals as goal
 
 pub returns-clause-trace : goal.returns-clause-trace
-returns-clause-trace c = λ P T h. rw (tick_same (shown c.args.state.now) P T h) (search rules)
+returns-clause-trace c = λ P T h. rw (tick_same c.tables_keep_what_is_followed.ensures (shown c.args.state.now) P T h) (search rules)

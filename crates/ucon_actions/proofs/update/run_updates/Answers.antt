@@ -16,8 +16,9 @@ use Rattle.ucon_actions.proofs.update.run_updates.Goals as goal
 
 pub returns-in_default-clause-leads : goal.returns-in_default-clause-leads
 returns-in_default-clause-leads c = λ P T h.
+    let keep = c.tables_keep_what_is_followed.ensures in
     let s = shown c.args.state.now in
-    subst (λ (U : Trace). Follows s P U) (sym (nothing_written P c.args.n c.args.when T (session_same s P T h c.args.n ∙ sym c.session.ensures ∙ c.in_default.is))) h
+    subst (λ (U : Trace). Follows s P U) (sym (nothing_written P c.args.n c.args.when T (session_same keep s P T h c.args.n ∙ sym c.session.ensures ∙ c.in_default.is))) h
 
 pub run_update-requires-clause-following : goal.run_update-requires-clause-following
 run_update-requires-clause-following c =
@@ -30,8 +31,9 @@ run_update-requires-clause-following c =
 
 pub run_update-requires-clause-row : goal.run_update-requires-clause-row
 run_update-requires-clause-row c =
+    let keep = c.tables_keep_what_is_followed.ensures in
     let s = shown c.args.state.now in
-    let row_stays = row_stays_by c.writes_leave_sessions.ensures.sessions in
+    let row_stays = row_stays_by keep c.writes_leave_sessions.ensures.sessions in
     let P = c.requires.policy in
     row_stays s (shown c.loop-at.state) P c.requires.trace c.requires.follows c.args.n c.in-Some.row c.args.when (take c.loop-at.at (updates_of (in_force P c.requires.trace) c.in-Some.row)) (sym c.session.ensures ∙ c.in-Some.is)
     (c.loop-at.invariant.leads P c.requires.trace c.requires.follows)
@@ -58,6 +60,7 @@ loop-at-preserved c =
 
 pub returns-clause-leads : goal.returns-clause-leads
 returns-clause-leads c = λ P T h.
+    let keep = c.tables_keep_what_is_followed.ensures in
     let s = shown c.args.state.now in
     let row = c.in-Some.row in
     let us = updates_of (in_force P T) row in
@@ -66,7 +69,7 @@ returns-clause-leads c = λ P T h.
     let all : length us ≤ c.loop-at.at = omega (arith, ap length seen, length-map c.updates_of-count.result.now update_of, c.loop-at-test.false) in
     subst (λ (U : Trace). Follows (shown c.loop-at.state) P U)
     (ap (λ (xs : _). written_out P row c.args.when xs T) (take_all c.loop-at.at us all)
-    ∙ sym (session_written P c.args.n c.args.when T row (session_same s P T h c.args.n ∙ sym c.session.ensures ∙ c.in-Some.is)))
+    ∙ sym (session_written P c.args.n c.args.when T row (session_same keep s P T h c.args.n ∙ sym c.session.ensures ∙ c.in-Some.is)))
     (c.loop-at.invariant.leads P T h)
 
 pub returns-in_err-run_update-clause-base : goal.returns-in_err-run_update-clause-base

@@ -11,6 +11,8 @@ use Rattle.ucon_actions.proofs.usage.end_usage.Goals as goal
 
 pub run_updates-requires : goal.run_updates-requires
 run_updates-requires c =
+    let keep = c.tables_keep_what_is_followed.ensures in
+    let followed = c.each_action_is_followed.ensures.after in
     let s = shown c.args.state.now in
     let P = c.requires.following.policy in
     let T = c.requires.following.trace in
@@ -18,15 +20,17 @@ run_updates-requires c =
     record {
       policy = P;
       trace = ends c.args.n ∷ T;
-      follows = one_step s (shown c.set_session.new.self) P T (ends c.args.n) _ refl h (in_after s P T h c.args.n Accessing c.requires.accessing) c.in_ok-set_session.ensures.ok refl;
+      follows = one_step followed s (shown c.set_session.new.self) P T (ends c.args.n) _ refl h (in_after keep s P T h c.args.n Accessing c.requires.accessing) c.in_ok-set_session.ensures.ok refl;
     }
 
 pub returns-clause-leads : goal.returns-clause-leads
 returns-clause-leads c =
+    let keep = c.tables_keep_what_is_followed.ensures in
+    let followed = c.each_action_is_followed.ensures.after in
     let s = shown c.args.state.now in
     let s1 = shown c.set_session.new.self in
     on_ok c.run_updates.result
-    (λ leads P T h. leads P (ends c.args.n ∷ T) (one_step s s1 P T (ends c.args.n) _ refl h (in_after s P T h c.args.n Accessing c.requires.accessing) c.in_ok-set_session.ensures.ok refl))
+    (λ leads P T h. leads P (ends c.args.n ∷ T) (one_step followed s s1 P T (ends c.args.n) _ refl h (in_after keep s P T h c.args.n Accessing c.requires.accessing) c.in_ok-set_session.ensures.ok refl))
     c.run_updates.ensures.leads
 
 pub returns-clause-base : goal.returns-clause-base

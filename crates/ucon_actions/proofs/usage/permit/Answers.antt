@@ -15,26 +15,29 @@ use Rattle.ucon_actions.proofs.usage.permit.Goals as goal
 
 pub set_session-requires : goal.set_session-requires
 set_session-requires c =
+    let keep = c.tables_keep_what_is_followed.ensures in
     let s = shown c.args.state.now in
     let s1 = shown c.run_updates.new.state in
     let h = c.requires.following.follows in
     may_move s1.tables c.args.n Requesting Accessing refl
-    (in_after_writes c.updates_write_their_targets.ensures.sessions s s1 c.requires.following.policy c.requires.following.trace c.args.n c.args.n Before Requesting h (c.in_ok-run_updates.ensures.leads c.requires.following.policy c.requires.following.trace h) c.requires.requesting)
+    (in_after_writes keep c.updates_write_their_targets.ensures.sessions s s1 c.requires.following.policy c.requires.following.trace c.args.n c.args.n Before Requesting h (c.in_ok-run_updates.ensures.leads c.requires.following.policy c.requires.following.trace h) c.requires.requesting)
 
 pub returns-clause-leads : goal.returns-clause-leads
 returns-clause-leads c =
+    let keep = c.tables_keep_what_is_followed.ensures in
+    let followed = c.each_action_is_followed.ensures.after in
     let s = shown c.args.state.now in
     let s1 = shown c.run_updates.new.state in
     let s2 = shown c.set_session.new.self in
     let h = c.requires.following.follows in
     let h1 = c.in_ok-run_updates.ensures.leads c.requires.following.policy c.requires.following.trace h in
-    let requesting = in_after_writes c.updates_write_their_targets.ensures.sessions s s1 c.requires.following.policy c.requires.following.trace c.args.n c.args.n Before Requesting h h1 c.requires.requesting in
-    let room : accessing_among s1.tables.sessions < 65536 = omega (arith, accessing_after_writes c.writes_leave_sessions.ensures.accessing s s1 c.requires.following.policy c.requires.following.trace c.args.n Before h h1, c.requires.room) in
+    let requesting = in_after_writes keep c.updates_write_their_targets.ensures.sessions s s1 c.requires.following.policy c.requires.following.trace c.args.n c.args.n Before Requesting h h1 c.requires.requesting in
+    let room : accessing_among s1.tables.sessions < 65536 = omega (arith, accessing_after_writes keep c.writes_leave_sessions.ensures.accessing s s1 c.requires.following.policy c.requires.following.trace c.args.n Before h h1, c.requires.room) in
     let extended-append = c.actions_are_done_in_order.ensures in
     on_ok c.set_session.result
     (λ leads P T h. subst (Follows s2 P) (sym (extended-append T (session_writes P c.args.n Before T) (permit c.args.n ∷ []))) (leads P (extended T (session_writes P c.args.n Before T)) (c.in_ok-run_updates.ensures.leads P T h)))
-    (leads_on c.set_session.result s1 s2 (permit c.args.n) _ refl
-    (λ P U h. (in_after s1 P U h c.args.n Requesting requesting, subst (λ (k : ℕ). k < 65536) (sym (accessing_same s1 P U h)) room)) refl c.set_session.ensures.ok)
+    (leads_on followed c.set_session.result s1 s2 (permit c.args.n) _ refl
+    (λ P U h. (in_after keep s1 P U h c.args.n Requesting requesting, subst (λ (k : ℕ). k < 65536) (sym (accessing_same keep s1 P U h)) room)) refl c.set_session.ensures.ok)
 
 pub returns-clause-base : goal.returns-clause-base
 returns-clause-base c =

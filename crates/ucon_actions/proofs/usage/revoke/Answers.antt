@@ -11,14 +11,16 @@ use Rattle.ucon_actions.proofs.usage.revoke.Goals as goal
 
 pub set_session-requires : goal.set_session-requires
 set_session-requires c =
+    let keep = c.tables_keep_what_is_followed.ensures in
     let s = shown c.args.state.now in
     let P = c.requires.following.policy in
     let T = c.requires.following.trace in
     let h = c.requires.following.follows in
-    may_move s.tables c.args.n Accessing Revoked refl (is_accessing_there c.the_least_failing_is_found.ensures.somebody s P T h c.args.n c.args.label (c.requires.least P T h))
+    may_move s.tables c.args.n Accessing Revoked refl (is_accessing_there keep c.the_least_failing_is_found.ensures.somebody s P T h c.args.n c.args.label (c.requires.least P T h))
 
 pub run_updates-requires : goal.run_updates-requires
 run_updates-requires c =
+    let followed = c.each_action_is_followed.ensures.after in
     let s = shown c.args.state.now in
     let P = c.requires.following.policy in
     let T = c.requires.following.trace in
@@ -26,16 +28,17 @@ run_updates-requires c =
     record {
       policy = P;
       trace = revoke c.args.n c.args.label ∷ T;
-      follows = one_step s (shown c.set_session.new.self) P T (revoke c.args.n c.args.label) _ refl h (revoke_legal c.the_least_failing_is_found.ensures.somebody s P T h c.args.n c.args.label (c.requires.least P T h)) c.in_ok-set_session.ensures.ok refl;
+      follows = one_step followed s (shown c.set_session.new.self) P T (revoke c.args.n c.args.label) _ refl h (revoke_legal c.the_least_failing_is_found.ensures.somebody s P T h c.args.n c.args.label (c.requires.least P T h)) c.in_ok-set_session.ensures.ok refl;
     }
 
 pub returns-clause-leads : goal.returns-clause-leads
 returns-clause-leads c =
+    let followed = c.each_action_is_followed.ensures.after in
     let s = shown c.args.state.now in
     let s1 = shown c.set_session.new.self in
     on_ok c.run_updates.result
     (λ leads P T h. leads P (revoke c.args.n c.args.label ∷ T)
-    (one_step s s1 P T (revoke c.args.n c.args.label) _ refl h (revoke_legal c.the_least_failing_is_found.ensures.somebody s P T h c.args.n c.args.label (c.requires.least P T h)) c.in_ok-set_session.ensures.ok refl))
+    (one_step followed s s1 P T (revoke c.args.n c.args.label) _ refl h (revoke_legal c.the_least_failing_is_found.ensures.somebody s P T h c.args.n c.args.label (c.requires.least P T h)) c.in_ok-set_session.ensures.ok refl))
     c.run_updates.ensures.leads
 
 pub returns-clause-base : goal.returns-clause-base

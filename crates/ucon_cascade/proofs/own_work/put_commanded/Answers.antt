@@ -15,11 +15,6 @@ returns-in-Env-clause-members c =
     subst (λ (command : Command). GainsThose c.args.work.now.members c.put_variable.new.work.members (IsCommandWork (shown c.args.state.now) (readers_at c.args.readers.now) command))
     (sym c.in-Env.is) c.put_variable.ensures.members
 
-pub returns-in-Tick-clause-members : goal.returns-in-Tick-clause-members
-returns-in-Tick-clause-members c =
-    subst (λ (command : Command). GainsThose c.args.work.now.members c.put.new.work.members (IsCommandWork (shown c.args.state.now) (readers_at c.args.readers.now) command))
-    (sym c.in-Tick.is) c.put.ensures.members
-
 pub returns-in-Beat-clause-members : goal.returns-in-Beat-clause-members
 returns-in-Beat-clause-members c =
     subst (λ (command : Command). GainsThose c.args.work.now.members c.put_targets.new.work.members (IsCommandWork (shown c.args.state.now) (readers_at c.args.readers.now) command))

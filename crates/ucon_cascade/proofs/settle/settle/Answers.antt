@@ -1,4 +1,4 @@
-use Rattle.std.proofs.Common.{◌≡◌, ◌≤◌, ◌∙◌, ℕ, ◌++◌, ◌∷◌, [], List, sym, ap, subst, arith}
+use Rattle.std.proofs.Common.{◌≡◌, ◌≤◌, ◌+◌, ◌∙◌, ℕ, ◌++◌, ◌∷◌, [], List, sym, ap, subst, arith}
 use Rattle.std.specs.Prelude.{None}
 use Rattle.ucon_model.specs.declared.reply.Revoked.{Revoked}
 use Rattle.ucon_model.specs.Plain.{PlainPolicy}
@@ -7,6 +7,8 @@ use Rattle.ucon_model.specs.Readings.{accessing}
 use Rattle.ucon_model.specs.Settle.{least_failing, settled_to, revoked_in}
 use Rattle.ucon_state.specs.Following.{Follows}
 use Rattle.ucon_state.specs.Shown.{shown}
+use Rattle.ucon_cascade.specs.Timers.{AreTimely}
+use Rattle.ucon_cascade.proofs.Costing.{cost_is_paid, found_is_paid, paid_on, paid_turn}
 use Rattle.ucon_cascade.proofs.Monitored.{base_on}
 use Rattle.ucon_cascade.proofs.settle.settle.Goals as goal
 
@@ -55,6 +57,19 @@ turns-preserved c =
       covers = c.in_ok-revoke_next-in-Some.ensures.covers;
       exact = c.in_ok-revoke_next-in-Some.ensures.exact;
       undo = λ standing gives. c.in_ok-revoke_next-in-Some.ensures.undo standing (c.turns.invariant.undo standing gives);
+      timed = λ P T h timely.
+          subst (λ (U : Trace). AreTimely c.revoke_next.new.timers.wheel P U) (sym (c.turns_follow_each_other.ensures.trace i P T (found.0, found.1) (least P T h)))
+          (c.in_ok-revoke_next-in-Some.ensures.timed P (settled_to i P T) (c.turns.invariant.leads P T h) (c.turns.invariant.timed P T h timely));
+      timers_undo = λ before gives. c.in_ok-revoke_next-in-Some.ensures.timers_undo before (c.turns.invariant.timers_undo before gives);
+      paid =
+          paid_turn c.actions_are_done_in_order.ensures s s1 c.args.work.now.members c.next_failing.new.work.members c.revoke_next.new.work.members
+          (found.0, found.1) i c.args.steps.now c.next_failing.new.steps c.turns.invariant.leads c.turns.invariant.fewer
+          (λ P T h. c.turns_follow_each_other.ensures.more i P T (found.0, found.1) (least P T h))
+          (paid_on c.actions_are_done_in_order.ensures s s1 c.args.work.now.members c.turns.work.members (found.0 ∷ c.next_failing.new.work.members)
+          i c.args.steps.now (c.args.steps.now + 1) c.turns.steps (c.turns.steps + 1) c.next_failing.new.steps c.turns.invariant.leads c.turns.invariant.fewer
+          (omega arith) c.turns.invariant.paid c.in-Some.ensures.found)
+          c.in_ok-revoke_next-in-Some.ensures.paid;
+      fewer = λ k up_to n goes. c.turns.invariant.fewer k up_to n (c.in_ok-revoke_next-in-Some.ensures.fewer n goes);
       limit = c.in_ok-revoke_next-in-Some.ensures.limit ∙ (c.next_failing.ensures.limit ∙ c.turns.invariant.limit);
       base = base_on s s1 s2 c.turns.invariant.base c.in_ok-revoke_next-in-Some.ensures.base;
     }
@@ -70,3 +85,50 @@ returns-in_err-revoke_next-in-Some-clause-base c =
 
 pub returns-in_err-revoke_next-in-Some-clause-undo : goal.returns-in_err-revoke_next-in-Some-clause-undo
 returns-in_err-revoke_next-in-Some-clause-undo c = λ standing gives. c.revoke_next.ensures.undo standing (c.turns.invariant.undo standing gives)
+
+pub returns-in-None-clause-cost : goal.returns-in-None-clause-cost
+returns-in-None-clause-cost c =
+    let s = shown c.args.state.now in
+    let s1 = shown c.turns.state in
+    let i = c.turns.counter in
+    cost_is_paid s c.args.work.now.members c.next_failing.new.work.members i c.args.steps.now c.next_failing.new.steps
+    (λ P T h. omega (arith, c.turns-test.true, c.accessing-usages.ensures.trace P T h))
+    (paid_on c.actions_are_done_in_order.ensures s s1 c.args.work.now.members c.turns.work.members c.next_failing.new.work.members
+    i c.args.steps.now c.args.steps.now c.turns.steps c.turns.steps c.next_failing.new.steps c.turns.invariant.leads c.turns.invariant.fewer
+    (omega arith) c.turns.invariant.paid c.in-None.ensures.paid)
+
+pub returns-in_err-revoke_next-in-Some-clause-cost : goal.returns-in_err-revoke_next-in-Some-clause-cost
+returns-in_err-revoke_next-in-Some-clause-cost c =
+    let s = shown c.args.state.now in
+    let s1 = shown c.turns.state in
+    let i = c.turns.counter in
+    let found = c.in-Some.found in
+    found_is_paid c.judgements_are_paid_for.ensures.holds c.actions_are_done_in_order.ensures s s1 c.args.work.now.members c.next_failing.new.work.members
+    (found.0, found.1) i c.args.steps.now c.next_failing.new.steps c.turns.invariant.leads c.turns.invariant.fewer c.in-Some.ensures.fails
+    (λ P T h. omega (arith, c.turns-test.true, c.accessing-usages.ensures.trace P T h))
+    (paid_on c.actions_are_done_in_order.ensures s s1 c.args.work.now.members c.turns.work.members (found.0 ∷ c.next_failing.new.work.members)
+    i c.args.steps.now (c.args.steps.now + 1) c.turns.steps (c.turns.steps + 1) c.next_failing.new.steps c.turns.invariant.leads c.turns.invariant.fewer
+    (omega arith) c.turns.invariant.paid c.in-Some.ensures.found)
+
+pub returns-clause-cost : goal.returns-clause-cost
+returns-clause-cost c =
+    let s = shown c.args.state.now in
+    cost_is_paid s c.args.work.now.members c.turns.work.members c.turns.counter c.args.steps.now c.turns.steps
+    (λ P T h. omega (arith, c.turns-test.false, c.turns.auto.counter-end, c.accessing-usages.ensures.trace P T h))
+    c.turns.invariant.paid
+
+pub returns-in-None-clause-timed : goal.returns-in-None-clause-timed
+returns-in-None-clause-timed c = λ P T h timely.
+    let none : least_failing P (settled_to c.turns.counter P T) ≡ None =
+    c.next_failing.ensures.least P (settled_to c.turns.counter P T) (c.turns.invariant.leads P T h) ∙ c.in-None.is in
+    let le : c.turns.counter ≤ accessing T = omega (arith, c.turns-test.true, c.accessing-usages.ensures.trace P T h) in
+    subst (λ (actions : List Action). AreTimely c.turns.timers.wheel P (extended T actions)) (sym (c.turns_follow_each_other.ensures.done c.turns.counter (accessing T) P T le none))
+    (c.turns.invariant.timed P T h timely)
+
+pub returns-clause-timed : goal.returns-clause-timed
+returns-clause-timed c = λ P T h timely.
+    let all : c.turns.counter ≡ accessing T = omega (arith, c.turns-test.false, c.turns.auto.counter-end, c.accessing-usages.ensures.trace P T h) in
+    subst (λ (k : ℕ). AreTimely c.turns.timers.wheel P (settled_to k P T)) all (c.turns.invariant.timed P T h timely)
+
+pub returns-in_err-revoke_next-in-Some-clause-timers_undo : goal.returns-in_err-revoke_next-in-Some-clause-timers_undo
+returns-in_err-revoke_next-in-Some-clause-timers_undo c = λ before gives. c.revoke_next.ensures.timers_undo before (c.turns.invariant.timers_undo before gives)

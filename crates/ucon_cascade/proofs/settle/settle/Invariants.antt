@@ -8,6 +8,9 @@ use Rattle.ucon_actions.specs.Leads.{Leads, KeepsBase}
 use Rattle.ucon_cascade.specs.Cascading.{CoversEach}
 use Rattle.ucon_cascade.specs.Numbering.{IsExact}
 use Rattle.ucon_cascade.specs.Readers.{UndoGives, readers_at}
+use Rattle.ucon_cascade.specs.Timers.{AreTimely, UndoGives as TimersGive}
+use Rattle.ucon_wheel.specs.Deadlines.{Deadlines}
+use Rattle.ucon_cascade.proofs.Costing.{ArePaidAfter, FewerGoOn}
 use Rattle.ucon_cascade.proofs.settle.settle.Given as goal
 
 -- so many turns are taken
@@ -18,6 +21,10 @@ invariant-turns l = record {
   covers : CoversEach (shown l.state) l.work.members;
   exact : IsExact (shown l.state) (readers_at l.readers);
   undo : (standing : ℕ → List ℕ) → UndoGives l.fn.readers standing → UndoGives l.readers standing;
+  timed : (P : PlainPolicy) (T : Trace) → Follows (shown l.fn.state) P T → AreTimely l.fn.timers.wheel P T → AreTimely l.timers.wheel P (settled_to l.counter P T);
+  timers_undo : (before : Deadlines) → TimersGive l.fn.timers before → TimersGive l.timers before;
+  paid : ArePaidAfter (shown l.fn.state) l.fn.work.members l.counter l.work.members l.fn.steps l.steps;
+  fewer : FewerGoOn (shown l.fn.state) (shown l.state);
   limit : l.work.limit ≡ l.fn.work.limit;
   base : KeepsBase (shown l.fn.state) (shown l.state);
 }

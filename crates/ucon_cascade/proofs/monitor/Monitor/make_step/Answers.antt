@@ -8,7 +8,9 @@ use Rattle.ucon_state.specs.Following.{Follows}
 use Rattle.ucon_state.specs.Shown.{shown}
 use Rattle.ucon_cascade.specs.Readers.{readers_at}
 use Rattle.ucon_cascade.proofs.Monitored.{made_actions, made_after, made_reply, on_err, opening_on, stands_before}
+use Rattle.ucon_cascade.specs.Timers.{AreTimely}
 use Rattle.ucon_cascade.proofs.Standing.{kept_gives}
+use Rattle.ucon_cascade.proofs.Undoing.{kept_gives_wheel}
 use Rattle.ucon_cascade.proofs.monitor.Monitor.make_step.Goals as goal
 
 pub own_actions-requires : goal.own_actions-requires
@@ -34,7 +36,9 @@ returns-in-Err-NoMemory-clause-err c = λ P T h.
     record {
       stood = readers_at r;
       undone = kept_gives r (readers_at r) h.kept (λ place. refl);
-      stands = stands_before (shown c.args.self.now.state) (shown c.own_actions.new.state) (readers_at r) P T c.own_actions.ensures.opening h.settled h.stands;
+      was = c.args.self.now.timers.wheel;
+      timers_undone = kept_gives_wheel c.args.self.now.timers h.timers_kept;
+      stands = stands_before (shown c.args.self.now.state) (shown c.own_actions.new.state) (readers_at r) c.args.self.now.timers.wheel P T c.own_actions.ensures.opening h.settled h.stands;
       limit = h.limit;
     }
 
@@ -46,7 +50,9 @@ returns-in_err-revoked-in-Ok-Made-clause-err c = on_err c.from_residual.result (
     record {
       stood = readers_at c.args.self.now.readers;
       undone = c.go_on.ensures.undo;
-      stands = stands_before s s2 (readers_at c.args.self.now.readers) P T (opening_on s s1 s2 c.own_actions.ensures.opening c.go_on.ensures.base) h.settled h.stands;
+      was = c.args.self.now.timers.wheel;
+      timers_undone = c.go_on.ensures.timers_undo;
+      stands = stands_before s s2 (readers_at c.args.self.now.readers) c.args.self.now.timers.wheel P T (opening_on s s1 s2 c.own_actions.ensures.opening c.go_on.ensures.base) h.settled h.stands;
       limit = c.go_on.ensures.limit ∙ h.limit;
     })
 
@@ -70,12 +76,33 @@ returns-in_ok-revoked-in-Ok-Made-clause-pending c _ = λ P T h.
         follows = subst (λ (U : Trace). Follows s2 P U) after_it (c.in_ok-revoked-in-Ok-Made.ensures.leads P (extended T done.0) done.2);
         nobody = λ n. subst (λ (U : Trace). fails_at P U n ≡ None) after_it (c.nobody_fails_after_settling.ensures.nobody P (extended T done.0) n done.2.sound.numbered);
         exact = c.in_ok-revoked-in-Ok-Made.ensures.exact;
+        timely = subst (λ (U : Trace). AreTimely c.go_on.new.self.timers.wheel P U) after_it
+            (c.in_ok-revoked-in-Ok-Made.ensures.timely P T c.args.caller done.0
+            (record { sound = h.stands.follows.sound; nobody = h.stands.nobody; made = done.1; follows = done.2; timely = h.stands.timely }));
       };
       back = record {
         stood = readers_at c.args.self.now.readers;
         undone = c.go_on.ensures.undo;
-        stands = stands_before s s2 (readers_at c.args.self.now.readers) P T (opening_on s s1 s2 c.own_actions.ensures.opening c.go_on.ensures.base) h.settled h.stands;
+        was = c.args.self.now.timers.wheel;
+        timers_undone = c.go_on.ensures.timers_undo;
+        stands = stands_before s s2 (readers_at c.args.self.now.readers) c.args.self.now.timers.wheel P T (opening_on s s1 s2 c.own_actions.ensures.opening c.go_on.ensures.base) h.settled h.stands;
         limit = c.go_on.ensures.limit ∙ h.limit;
       };
       no_work = c.in_ok-revoked-in-Ok-Made.ensures.done;
     }
+
+pub returns-in_err-revoked-in-Ok-Made-clause-cost : goal.returns-in_err-revoked-in-Ok-Made-clause-cost
+returns-in_err-revoked-in-Ok-Made-clause-cost c = λ P T h.
+    let s1 = shown c.own_actions.new.state in
+    let given : Makes c.in-Ok-Made.head s1 P T (own P T c.args.caller c.args.command.now) = rw c.in-Ok-Made.field-0-is at (c.in-Ok-Made.ensures.given P T h.stands.follows) in
+    let done = made_actions c.in-Ok-Made.head s1 P T _ given in
+    c.go_on.ensures.cost P T c.args.caller done.0
+    (record { sound = h.stands.follows.sound; nobody = h.stands.nobody; made = done.1; follows = done.2; timely = h.stands.timely })
+
+pub returns-in_ok-revoked-in-Ok-Made-clause-cost : goal.returns-in_ok-revoked-in-Ok-Made-clause-cost
+returns-in_ok-revoked-in-Ok-Made-clause-cost c = λ P T h.
+    let s1 = shown c.own_actions.new.state in
+    let given : Makes c.in-Ok-Made.head s1 P T (own P T c.args.caller c.args.command.now) = rw c.in-Ok-Made.field-0-is at (c.in-Ok-Made.ensures.given P T h.stands.follows) in
+    let done = made_actions c.in-Ok-Made.head s1 P T _ given in
+    c.go_on.ensures.cost P T c.args.caller done.0
+    (record { sound = h.stands.follows.sound; nobody = h.stands.nobody; made = done.1; follows = done.2; timely = h.stands.timely })

@@ -4,7 +4,7 @@ use Rattle.ucon_pend.specs.NumberSet.{NumberSet}
 use Rattle.ucon_state.specs.Applied.{opening_tables}
 use Rattle.ucon_state.specs.Shown.{shown}
 use Rattle.ucon_cascade.specs.Readers.{readers_at}
-use Rattle.ucon_cascade.proofs.Monitored.{exact_empty}
+use Rattle.ucon_cascade.proofs.Monitored.{exact_empty, timely_empty}
 use Rattle.ucon_cascade.proofs.monitor.MonitorEngine.begin.Goals as goal
 
 pub returns : goal.returns
@@ -17,12 +17,14 @@ returns c =
         follows = follows;
         nobody = λ n. refl;
         exact = exact_empty s (readers_at c.in_ok-readers.readers) P follows c.in_ok-readers.ensures.nobody;
+        timely = timely_empty c.in_ok-timers.timers.wheel P c.in_ok-timers.ensures.none;
       };
       settled = record {
         policy = c.in_ok-state.ensures.opening_policy ∙ sym c.in_ok-state.ensures.policy;
         tables = c.in_ok-state.ensures.opening ∙ sym c.in_ok-state.ensures.tables;
       };
       kept = c.in_ok-readers.ensures.kept;
+      timers_kept = c.in_ok-timers.ensures.kept;
       limit = ap (λ (w : NumberSet). w.limit) c.in_ok-work.ensures;
       no_work = ap (λ (w : NumberSet). w.members) c.in_ok-work.ensures;
     }

@@ -11,16 +11,19 @@ returns-clause-follows c = λ P T e h.
     let s = shown c.args.self.now.state in
     let r = c.args.self.now.readers in
     let r' = c.keep-2.new.self in
+    let v = c.args.self.now.timers.wheel in
+    let w = c.keep-3.new.self.wheel in
     let U = after P T e.caller e.command in
     let is : shown c.keep.new.self ≡ kept s = c.keep.ensures in
     record {
-      stands = subst (λ (x : Shown). Stands x (readers_at r') P U) (sym is)
-          (stands_like (kept s) (readers_at r) (readers_at r') P U c.keep-2.ensures.read (stands_kept s (readers_at r) P U h.stands));
+      stands = subst (λ (x : Shown). Stands x (readers_at r') w P U) (sym is)
+          (stands_like (kept s) (readers_at r) (readers_at r') v w P U c.keep-2.ensures.read c.keep-3.ensures.wheel (stands_kept s (readers_at r) v P U h.stands));
       settled = record {
         policy = ap (λ (x : Shown). x.opening_policy) is ∙ sym (ap (λ (x : Shown). x.policy) is);
         tables = ap (λ (x : Shown). x.opening) is ∙ sym (ap (λ (x : Shown). x.tables) is);
       };
       kept = c.keep-2.ensures.kept;
+      timers_kept = c.keep-3.ensures.kept;
       limit = h.back.limit;
       no_work = h.no_work;
     }

@@ -1,4 +1,4 @@
-use Rattle.std.proofs.Common.{◌<◌, ◌≤◌, ◌∙◌, ap, sym, subst, length, arith}
+use Rattle.std.proofs.Common.{◌<◌, ◌≤◌, ◌∙◌, ap, sym, length, arith}
 use Rattle.ucon_index.specs.Dependents.{Dependents, is_there}
 use Rattle.ucon_index.proofs.There.{there_is, beyond_is_not}
 use Rattle.ucon_index.proofs.index.Index.is_there.Goals as goal

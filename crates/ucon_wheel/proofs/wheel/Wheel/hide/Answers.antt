@@ -1,9 +1,10 @@
 use Rattle.std.proofs.Common.{◌≡◌, ℤ, w64, ◌∙◌, ◌<◌, arith, length, ap, sym, subst}
 use Rattle.std.proofs.lemmas.Int.{to_z-of_z}
-use Rattle.ucon_wheel.specs.Deadlines.{Pair, Deadlines, IsShown, shown}
+use Rattle.ucon_wheel.specs.Deadlines.{Pair, Deadlines, IsShown, hide, shown}
 use Rattle.ucon_wheel.specs.Lines.{Linked, Has, without_pair}
 use Rattle.ucon_wheel.proofs.Ordered.{IsInOrder}
 use Rattle.ucon_wheel.proofs.Showing.{has_shown, lacks, shown_hid, one_more}
+use Rattle.ucon_wheel.proofs.Telling.{shown_if_hidden}
 use Rattle.ucon_wheel.proofs.wheel.Wheel.hide.Goals as goal
 
 pub remove-requires-clause-there : goal.remove-requires-clause-there
@@ -33,3 +34,9 @@ invariant_of-self c =
       sessions = λ q has. subst (λ n. q.1 < n) (sym (ap (λ (w : Linked). w.sessions) c.remove.ensures.removed))
           (one_more c.self.inside.lines.sessions p v.hidden c.remove.ensures.session c.self.invariant.sessions q (subst (λ (w : Deadlines). Has w.hidden q) c.hide.ensures.hidden has));
     }
+
+pub returns-clause-shown : goal.returns-clause-shown
+returns-clause-shown c =
+    let is : ◌≡◌ {A = Pair} c.pair_of-pair.result (c.args.deadline, c.args.session) = c.pair_of-pair.ensures ∙ ap (λ (d : ℤ). (d, c.args.session)) (to_z-of_z w64 c.args.deadline c.ranges.deadline) in
+    shown_if_hidden c.args.self.now c.hide.new.self (c.args.deadline, c.args.session) c.requires
+    (c.hide.ensures.hidden ∙ ap (λ (w : Deadlines). hide w c.pair_of-pair.result) c.self.view_is ∙ ap (hide c.args.self.now) is)

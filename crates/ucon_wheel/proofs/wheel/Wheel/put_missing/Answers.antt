@@ -14,4 +14,4 @@ returns-then-is_there-clause-ok c =
 
 pub returns-clause-others : goal.returns-clause-others
 returns-clause-others c other shown =
-    put_keeps c.put.result c.args.self.now c.put.new.self _ other c.put.ensures.ok c.put.ensures.err (no_state _ (sym c.is_there.ensures ∙ c.if-is_there.false)) shown
+    put_keeps c.put.result c.args.self.now c.put.new.self _ other c.put.ensures.shown c.put.ensures.err shown

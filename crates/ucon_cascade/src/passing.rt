@@ -1,0 +1,167 @@
+//! Which deadlines there are after a command's own actions, and whom a tick concerns.
+
+ghost use Rattle.std.specs.Prelude.{◌≡◌, ◌+◌, ◌<◌, ◌≤◌, ◌<ℤ◌, ℕ, ℤ, List, [], true, false, length, IfOk, OnOk};
+ghost use Rattle.std.specs.List.{Contains};
+ghost use Rattle.ucon_actions.specs.Gives.{is_amendment};
+ghost use Rattle.ucon_actions.specs.Leads.{AfterEach};
+ghost use Rattle.ucon_model.specs.declared.command.Caller.{Caller};
+ghost use Rattle.ucon_model.specs.declared.command.Command.{Command};
+ghost use Rattle.ucon_model.specs.declared.command.Command.TheVariants as commands;
+ghost use Rattle.ucon_model.specs.Action.{Action, Trace, extended};
+ghost use Rattle.ucon_model.specs.Deadlines.{is_due};
+ghost use Rattle.ucon_model.specs.Readings.{is_accessing, session};
+ghost use Rattle.ucon_model.specs.Touches.{touches_by};
+ghost use Rattle.ucon_model.specs.Plain.{PlainPolicy};
+ghost use Rattle.ucon_state.specs.Shown.{shown};
+ghost use Rattle.ucon_wheel.specs.Deadlines.{Deadlines};
+ghost use Rattle.ucon_cascade.specs.Passing.{AreTimedBefore, MayPass, Moves, PassesAll, WereMade, is_tick};
+ghost use Rattle.ucon_cascade.specs.Timers.{AreTimedBelow, AreTimely, Gets, HasDeadline, HiddenBelow, HidesNoMore, IsKept, IsLimitOf, UndoGives, count_below};
+
+use crate::limits::put_limits;
+use crate::timers::Timers;
+use std::alloc::Global;
+use ucon_actions::{is_accessing, session, sessions};
+use ucon_base::NoMemory;
+use ucon_model::{
+    Command, Head, View, heads_tell_whose_usage_begins_or_ends, readings_that_agree_are_one,
+};
+use ucon_pend::Pend;
+use ucon_state::{State, tables_keep_what_is_followed};
+
+/// All deadlines are set anew where the command replaced the policy. A tick passes those below it, and puts their sessions into the work.
+/// Else a permitted session gets its deadlines, and an ended one loses them; an act gives none.
+pub fn follow_time(
+    alloc: Global,
+    state: &State,
+    timers: &mut Timers,
+    command: &Command,
+    head: &Head,
+    work: &mut Pend,
+) -> Result<(), NoMemory>
+    requires kept { IsKept timers.old }
+    requires made { AreTimedBefore (shown state.now) timers.old.wheel command.now head.now }
+    requires no_work { work.old.members ≡ [] }
+    requires few { length (shown state.now).tables.sessions < work.old.limit }
+    ensures timely { OnOk result ((P : PlainPolicy) (T : Trace) (caller : Caller) (actions : List Action)
+        → WereMade (shown state.now) timers.old.wheel P T caller command.now head.now actions → AreTimely timers.new.wheel P (extended T actions)) }
+    ensures due { OnOk result ((P : PlainPolicy) (T : Trace) (caller : Caller) (t : ℤ) (actions : List Action) → command.now ≡ commands.Tick t
+        → WereMade (shown state.now) timers.old.wheel P T caller command.now head.now actions
+        → (n : ℕ) → is_accessing (session T n) ≡ true → is_due P T t n ≡ true → Contains work.new.members n) }
+    ensures touched { OnOk result ((P : PlainPolicy) (T : Trace) (caller : Caller) (actions : List Action)
+        → WereMade (shown state.now) timers.old.wheel P T caller command.now head.now actions
+        → (n : ℕ) → Contains work.new.members n → 1 ≤ touches_by P T actions n) }
+    ensures limit { work.new.limit ≡ work.old.limit }
+    ensures undo { UndoGives timers.new timers.old.wheel }
+{
+    match command {
+        Command::Amend(_) => time_anew(alloc, state, timers),
+        Command::Tick(_) => pass_deadlines(state, timers, work),
+        _ => follow_usage(state, timers, head),
+    }
+}
+
+/// A permitted session gets its deadlines, and an ended one loses them.
+fn follow_usage(state: &State, timers: &mut Timers, head: &Head) -> Result<(), NoMemory>
+    requires { IsKept timers.old }
+    ensures timely { OnOk result ((P : PlainPolicy) (T : Trace) (caller : Caller) (c : Command) (actions : List Action)
+        → is_amendment c ≡ false → is_tick c ≡ false → WereMade (shown state.now) timers.old.wheel P T caller c head.now actions
+        → AreTimely timers.new.wheel P (extended T actions)) }
+    ensures undo { (before : Deadlines) → UndoGives timers.old before → UndoGives timers.new before }
+{
+    heads_tell_whose_usage_begins_or_ends();
+    readings_that_agree_are_one();
+    tables_keep_what_is_followed();
+    match head {
+        Head::Permitted(n) => put_session(state, timers, *n),
+        Head::Ended(n) => timers.hide_all(*n),
+        _ => Ok(()),
+    }
+}
+
+/// Gives session n the deadlines of what holds of its right.
+fn put_session(state: &State, timers: &mut Timers, n: u32) -> Result<(), NoMemory>
+    requires { HiddenBelow timers.old.wheel (shown state.now).tables.tick }
+    ensures gets { OnOk result (Gets timers.old.wheel timers.new.wheel n (IsLimitOf (shown state.now) n)) }
+    ensures hidden { HidesNoMore timers.old.wheel timers.new.wheel }
+    ensures below { count_below timers.new.wheel (shown state.now).tables.tick ≡ count_below timers.old.wheel (shown state.now).tables.tick }
+    ensures undo { (before : Deadlines) → UndoGives timers.old before → UndoGives timers.new before }
+{
+    let Some(row) = session(state, n) else {
+        return Ok(());
+    };
+    put_limits(state, timers, n, &row)
+}
+
+/// Takes out the deadlines below the tick, the earliest first. Their sessions are put into the work, and what still holds of their rights
+/// gets its deadline of now.
+fn pass_deadlines(state: &State, timers: &mut Timers, work: &mut Pend) -> Result<(), NoMemory>
+    requires hidden { HiddenBelow timers.old.wheel (shown state.now).tables.tick }
+    requires may { MayPass (shown state.now) timers.old.wheel work.old.members }
+    requires few { length (shown state.now).tables.sessions < work.old.limit }
+    ensures passed { OnOk result (PassesAll (shown state.now) timers.old.wheel timers.new.wheel work.old.members work.new.members) }
+    ensures limit { work.new.limit ≡ work.old.limit }
+    ensures undo { (before : Deadlines) → UndoGives timers.old before → UndoGives timers.new before }
+{
+    readings_that_agree_are_one();
+    tables_keep_what_is_followed();
+    while let Some(due) = timers.due(state.tick()) {
+        pass_deadline(state, timers, due.1, due.0)?;
+        work.put(due.1);
+    }
+    Ok(())
+}
+
+/// Takes a deadline from session n, and gives it those of what still holds of its right.
+fn pass_deadline(state: &State, timers: &mut Timers, n: u32, deadline: i64) -> Result<(), NoMemory>
+    requires there { HasDeadline timers.old.wheel n deadline }
+    requires below { deadline <ℤ (shown state.now).tables.tick }
+    requires hidden { HiddenBelow timers.old.wheel (shown state.now).tables.tick }
+    ensures moves { OnOk result (Moves (shown state.now) timers.old.wheel timers.new.wheel n deadline) }
+    ensures hidden { HiddenBelow timers.new.wheel (shown state.now).tables.tick }
+    ensures fewer { OnOk result (count_below timers.new.wheel (shown state.now).tables.tick + 1
+        ≡ count_below timers.old.wheel (shown state.now).tables.tick) }
+    ensures undo { (before : Deadlines) → UndoGives timers.old before → UndoGives timers.new before }
+{
+    timers.hide(n, deadline)?;
+    put_session(state, timers, n)
+}
+
+/// The deadlines of now take the place of those before.
+fn time_anew(alloc: Global, state: &State, timers: &mut Timers) -> Result<(), NoMemory>
+    requires { IsKept timers.old }
+    ensures timely { OnOk result (AfterEach (shown state.now) (AreTimely timers.new.wheel)) }
+    ensures undo { UndoGives timers.new timers.old.wheel }
+{
+    let all = all_timers(alloc, state)?;
+    timers.replace(all);
+    Ok(())
+}
+
+/// All deadlines.
+fn all_timers(alloc: Global, state: &State) -> Result<Timers, NoMemory>
+    ensures { IfOk result (λ t. AfterEach (shown state.now) (AreTimely t.wheel)) }
+{
+    let mut timers = Timers::new(alloc)?;
+    for before in 0..sessions(state) {
+        put_accessing(state, &mut timers, before + 1)?;
+    }
+    Ok(timers)
+}
+
+/// Gives session n its deadlines, if it is accessing.
+fn put_accessing(state: &State, timers: &mut Timers, n: u32) -> Result<(), NoMemory>
+    requires hidden { HiddenBelow timers.old.wheel (shown state.now).tables.tick }
+    requires below { AfterEach (shown state.now) (AreTimedBelow n timers.old.wheel) }
+    ensures timed { OnOk result (AfterEach (shown state.now) (AreTimedBelow (n + 1) timers.new.wheel)) }
+    ensures hidden { HidesNoMore timers.old.wheel timers.new.wheel }
+{
+    readings_that_agree_are_one();
+    tables_keep_what_is_followed();
+    let Some(row) = session(state, n) else {
+        return Ok(());
+    };
+    if !is_accessing(row.state) {
+        return Ok(());
+    }
+    put_limits(state, timers, n, &row)
+}
