@@ -1,3 +1,4 @@
 pub mod Head
 pub mod Recheck
 pub mod Usages
+pub mod Report

@@ -53,36 +53,39 @@ one_more_timed v w P T n row timed on gets = record {
   held = λ m other part last below goes of_right told ahead. elim (last_or_before n m below) [
     | inl here ↦ record {
       deadline = last;
-      there = (gets m last).1 (inl (here, record {
-        part = part;
-        one_of = subst (λ (r : SessionRow). Contains (timed_of (in_force P T) r) part) (one_row m other here goes) of_right;
-        is = subst (λ (r : SessionRow). limit_of (readings P T) r part ≡ Some last) (one_row m other here goes) told;
-        ahead = ahead;
-      }));
+      there = (gets m last).1 (inl (
+        here,
+        record {
+          part = part;
+          one_of = subst (λ (r : SessionRow). Contains (timed_of (in_force P T) r) part) (one_row m other here goes) of_right;
+          is = subst (λ (r : SessionRow). limit_of (readings P T) r part ≡ Some last) (one_row m other here goes) told;
+          ahead = ahead;
+        },
+      ));
       among = limits_are_among P T other part last told;
       up_to = ≤ℤ_refl last;
     }
     | inr before ↦ (
-      let was = timed.held m other part last before goes of_right told ahead in
-      record { deadline = was.deadline; there = (gets m was.deadline).1 (inr was.there); among = was.among; up_to = was.up_to })
+        let was = timed.held m other part last before goes of_right told ahead in
+        record { deadline = was.deadline; there = (gets m was.deadline).1 (inr was.there); among = was.among; up_to = was.up_to })
   ];
   theirs = λ m d has. elim ((gets m d).0 has) [
     | inl here ↦ (
-      let is : m ≡ n = here.0 in (
-        omega (arith, is),
-        record {
-          row = row;
-          part = here.1.part;
-          is = ap (λ (k : ℕ). going_on (session T k)) here.0 ∙ on;
-          of_right = here.1.one_of;
-          among = limits_are_among P T row here.1.part d here.1.is;
-        },
-        here.1.ahead,
-      ))
+        let is : m ≡ n = here.0 in (
+          omega (arith, is),
+          record {
+            row = row;
+            part = here.1.part;
+            is = ap (λ (k : ℕ). going_on (session T k)) here.0 ∙ on;
+            of_right = here.1.one_of;
+            among = limits_are_among P T row here.1.part d here.1.is;
+          },
+          here.1.ahead,
+        ))
     | inr was ↦ (
-      let before = timed.theirs m d was in
-      let below = before.0 in
-      (omega (arith, below), before.1, before.2))
+        let before = timed.theirs m d was in
+        let below = before.0 in
+        (omega (arith, below), before.1, before.2))
   ];
 }
   where

@@ -117,12 +117,6 @@ off_state : (b : Bool) (row : SessionRow) → b ≡ false → cond b (Some row) 
 off_state true row is = absurd cc
 off_state false row is = refl
 
-pub goes_on : (o : Option SessionRow) (row : SessionRow) → o ≡ Some row → is_accessing_state row.state ≡ true → going_on o ≡ Some row
-goes_on o row is on = ap going_on is ∙ on_state (is_accessing_state row.state) row on
-
-pub is_over : (o : Option SessionRow) (row : SessionRow) → o ≡ Some row → is_accessing_state row.state ≡ false → going_on o ≡ None
-is_over o row is off = ap going_on is ∙ off_state (is_accessing_state row.state) row off
-
 -- by the state alone
 pub goes_on_in : (o : Option SessionRow) (state : SessionState) → option_map (λ row. row.state) o ≡ Some state → is_accessing_state state ≡ true → IsSome (going_on o)
 goes_on_in None state is on = absurd cc
@@ -141,3 +135,19 @@ is_over_in (Some row) state is off some =
 pub no_session : (o : Option SessionRow) → option_map (λ row. row.state) o ≡ None → IsSome (going_on o) → ⊥
 no_session None is some = cc
 no_session (Some row) is some = absurd cc
+
+pub none_goes_on : (o : Option SessionRow) → option_map (λ row. row.state) o ≡ None → going_on o ≡ None
+none_goes_on None is = refl
+none_goes_on (Some row) is = absurd cc
+
+pub over_in : (o : Option SessionRow) (state : SessionState) → option_map (λ row. row.state) o ≡ Some state → is_accessing_state state ≡ false → going_on o ≡ None
+over_in None state is off = absurd cc
+over_in (Some row) state is off =
+    let same : row.state ≡ state = cc in
+    off_state (is_accessing_state row.state) row (ap is_accessing_state same ∙ off)
+
+pub goes_on_as_it_is : (o : Option SessionRow) (state : SessionState) → option_map (λ row. row.state) o ≡ Some state → is_accessing_state state ≡ true → going_on o ≡ o
+goes_on_as_it_is None state is on = absurd cc
+goes_on_as_it_is (Some row) state is on =
+    let same : row.state ≡ state = cc in
+    on_state (is_accessing_state row.state) row (ap is_accessing_state same ∙ on)

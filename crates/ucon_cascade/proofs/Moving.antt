@@ -34,30 +34,33 @@ timed_moved keeps one s v w P U n gone h there moves timed = record {
   held = λ m row part limit on of_right told ahead. elim (eqb_tells m n) [
     | inl here ↦ record {
       deadline = limit;
-      there = (moves m limit).1 (inl (here.1, (limits_after keeps one s P U h n row (at m row here.1 on) limit).1
-          (record { part = part; one_of = of_right; is = told; ahead = ahead })));
+      there = (moves m limit).1 (inl (
+        here.1,
+        (limits_after keeps one s P U h n row (at m row here.1 on) limit).1
+            (record { part = part; one_of = of_right; is = told; ahead = ahead }),
+      ));
       among = limits_are_among P U row part limit told;
       up_to = ≤ℤ_refl limit;
     }
     | inr apart ↦ (
-      let was = timed.held m row part limit on of_right told ahead in
-      record {
-        deadline = was.deadline;
-        there = (moves m was.deadline).1 (inr ((λ same. apart.1 same.0), was.there));
-        among = was.among;
-        up_to = was.up_to;
-      })
+        let was = timed.held m row part limit on of_right told ahead in
+        record {
+          deadline = was.deadline;
+          there = (moves m was.deadline).1 (inr ((λ same. apart.1 same.0), was.there));
+          among = was.among;
+          up_to = was.up_to;
+        })
   ];
   theirs = λ m d has. elim ((moves m d).0 has) [
     | inl here ↦ (
-      let limit = (limits_after keeps one s P U h n row there_row.0 d).0 here.1 in
-      record {
-        row = row;
-        part = limit.part;
-        is = ap (λ (k : ℕ). going_on (session U k)) here.0 ∙ is.is;
-        of_right = limit.one_of;
-        among = limits_are_among P U row limit.part d limit.is;
-      })
+        let limit = (limits_after keeps one s P U h n row there_row.0 d).0 here.1 in
+        record {
+          row = row;
+          part = limit.part;
+          is = ap (λ (k : ℕ). going_on (session U k)) here.0 ∙ is.is;
+          of_right = limit.one_of;
+          among = limits_are_among P U row limit.part d limit.is;
+        })
     | inr was ↦ timed.theirs m d was.1
   ];
 }

@@ -143,7 +143,7 @@ passed_is_touched v P T t members passing n d has below =
     let at : Contains (deadlines T is.row is.part) d = subst (λ (ds : List ℤ). Contains ds d) (same_deadlines T t is.row is.part) is.among in
     let passes_it = is_between_so (tick_of T) t d (passing.ahead n d has) below in
     let count = count_with (λ part. has_between (tick_of T) t (deadlines T is.row part)) (timed_of (in_force P T) is.row) is.part is.of_right
-            (any_with (is_between (tick_of T) t) (deadlines T is.row is.part) d at passes_it) in
+    (any_with (is_between (tick_of T) t) (deadlines T is.row is.part) d at passes_it) in
     let told : touches P T (tick t) n ≡ length (filter (λ part. has_between (tick_of T) t (deadlines T is.row part)) (timed_of (in_force P T) is.row)) =
     ap (λ (b : Bool). cond b (option_map_or (touches_row P T (tick t)) (session T n) 0) 0) there.1
     ∙ ap (λ (o : Option SessionRow). option_map_or (touches_row P T (tick t)) o 0) there.0 in

@@ -85,7 +85,7 @@ module _ (v w : Deadlines) (P : PlainPolicy) (T U : Trace) (time : SameTime P T 
       → limit_of (readings P U) row part ≡ Some limit → tick_of U ≤ℤ limit → HasDeadlineUpTo w U m row part limit
   held_still m row part limit same keeps timed on of_right is ahead =
       let was = timed.held m row part limit (sym same ∙ on) (subst (λ (Q : PlainPolicy). Contains (timed_of Q row) part) time.policy of_right)
-              (sym (limit_same P T U time row part) ∙ is) (subst (λ (t : ℤ). t ≤ℤ limit) time.tick ahead) in
+      (sym (limit_same P T U time row part) ∙ is) (subst (λ (t : ℤ). t ≤ℤ limit) time.tick ahead) in
       record {
         deadline = was.deadline;
         there = keeps was.deadline was.there;
@@ -136,12 +136,15 @@ module _ (v w : Deadlines) (P : PlainPolicy) (T U : Trace) (time : SameTime P T 
             let one : other ≡ row = cc in
             record {
               deadline = limit;
-              there = (gets m limit).1 (inl (here.1, record {
-                part = part;
-                one_of = subst (λ (r : SessionRow). Contains (timed_of (in_force P U) r) part) one of_right;
-                is = subst (λ (r : SessionRow). limit_of (readings P U) r part ≡ Some limit) one told;
-                ahead = ahead;
-              }));
+              there = (gets m limit).1 (inl (
+                here.1,
+                record {
+                  part = part;
+                  one_of = subst (λ (r : SessionRow). Contains (timed_of (in_force P U) r) part) one of_right;
+                  is = subst (λ (r : SessionRow). limit_of (readings P U) r part ≡ Some limit) one told;
+                  ahead = ahead;
+                },
+              ));
               among = limits_are_among P U other part limit told;
               up_to = ≤ℤ_refl limit;
             }

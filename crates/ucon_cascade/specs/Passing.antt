@@ -18,7 +18,8 @@ use Rattle.ucon_state.specs.Shown.{Shown}
 use Rattle.ucon_wheel.specs.Deadlines.{Deadlines}
 use Rattle.ucon_cascade.specs.Timers.{AreAhead, AreSame, AreTimed, AreTimely, HasDeadline, IsLimitOf}
 
--- Session n gives a deadline away for those of what holds of its right: it has these, all keep the others that they had, and nobody gets any else.
+-- Session n gives a deadline away for those of what holds of its right: it has these, all keep the others that they had, and nobody gets
+-- any else.
 abbrev pub Moves : Shown → (old new : Deadlines) → ℕ → ℤ → Type 0
 Moves s old new n gone =
     (m : ℕ) (deadline : ℤ) → HasDeadline new m deadline
@@ -30,8 +31,8 @@ pub record HasPassed (v : Deadlines) (now next : ℤ) (n : ℕ) : Type 0 where
   pub there : HasDeadline v n deadline
   pub passed : is_between now next deadline ≡ true
 
--- The tick was made after the trace, not below the one before, and passes deadlines: all is timed after it, and none is below the tick before. Of whom it passed
--- a limit is in the work, or has a deadline that is still to be passed; and whoever is in the work was touched.
+-- The tick was made after the trace, not below the one before, and passes deadlines: all is timed after it, and none is below the tick
+-- before. Of whom it passed a limit is in the work, or has a deadline that is still to be passed; and whoever is in the work was touched.
 pub record IsPassing (v : Deadlines) (members : List ℕ) (P : PlainPolicy) (T : Trace) (t : ℤ) : Type 0 where
   pub forward : tick_of T ≤ℤ t
   pub timed : AreTimed v P (tick t ∷ T)

@@ -6,12 +6,14 @@ ghost use Rattle.ucon_cascade.specs.Cascading.{WereExact};
 ghost use Rattle.ucon_cascade.specs.Numbering.{AreNumbered, IsExact, IsExactBelow, place_numbers};
 ghost use Rattle.ucon_cascade.specs.Readers.{ComesTo, IsKept, StandsNowhere, UndoGives, readers_at};
 ghost use Rattle.ucon_model.specs.declared.reply.Head.TheVariants as heads;
+ghost use Rattle.ucon_model.specs.Usages.{going_on};
 ghost use Rattle.ucon_state.specs.Shown.{shown};
+ghost use Rattle.ucon_state.specs.Tables.{session_in};
 
 use crate::places::place_numbers;
 use crate::readers::Readers;
 use std::alloc::Global;
-use ucon_actions::{is_accessing, session, sessions};
+use ucon_actions::{is_accessing, session, session_state, sessions};
 use ucon_base::NoMemory;
 use ucon_model::{Command, Head, SessionRow};
 use ucon_state::State;
@@ -123,6 +125,16 @@ fn all_readers(alloc: Global, state: &State) -> Result<Readers, NoMemory>
     Ok(readers)
 }
 
+/// Session n while its usage goes on. A row is built of no other.
+pub fn going_on(state: &State, n: u32) -> Option<SessionRow>
+    ensures { result ≡ going_on (session_in (shown state.now).tables n) }
+{
+    if !is_accessing(session_state(state, n)?) {
+        return None;
+    }
+    session(state, n)
+}
+
 /// Adds session n, if it is accessing, to those below it.
 fn add_accessing(
     alloc: Global,
@@ -134,11 +146,8 @@ fn add_accessing(
     requires below { IsExactBelow (shown state.now) (readers_at readers.old) n }
     ensures { OnOk result (IsExactBelow (shown state.now) (readers_at readers.new) (n + 1)) }
 {
-    let Some(row) = session(state, n) else {
+    let Some(row) = going_on(state, n) else {
         return Ok(());
     };
-    if !is_accessing(row.state) {
-        return Ok(());
-    }
     add_reader(alloc, state, readers, n, &row)
 }

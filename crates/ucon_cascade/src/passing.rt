@@ -15,12 +15,14 @@ ghost use Rattle.ucon_model.specs.Plain.{PlainPolicy};
 ghost use Rattle.ucon_state.specs.Shown.{shown};
 ghost use Rattle.ucon_wheel.specs.Deadlines.{Deadlines};
 ghost use Rattle.ucon_cascade.specs.Passing.{AreTimedBefore, MayPass, Moves, PassesAll, WereMade, is_tick};
-ghost use Rattle.ucon_cascade.specs.Timers.{AreTimedBelow, AreTimely, Gets, HasDeadline, HiddenBelow, HidesNoMore, IsKept, IsLimitOf, UndoGives, count_below};
+ghost use Rattle.ucon_cascade.specs.Timers.{AreTimedBelow, AreTimely, HasDeadline, IsKept, IsLimitOf, UndoGives};
+ghost use Rattle.ucon_cascade.specs.Timers.{Gets, HiddenBelow, HidesNoMore, count_below};
 
+use crate::follow::going_on;
 use crate::limits::put_limits;
 use crate::timers::Timers;
 use std::alloc::Global;
-use ucon_actions::{is_accessing, session, sessions};
+use ucon_actions::{session, sessions};
 use ucon_base::NoMemory;
 use ucon_model::{
     Command, Head, View, heads_tell_whose_usage_begins_or_ends, readings_that_agree_are_one,
@@ -157,11 +159,8 @@ fn put_accessing(state: &State, timers: &mut Timers, n: u32) -> Result<(), NoMem
 {
     readings_that_agree_are_one();
     tables_keep_what_is_followed();
-    let Some(row) = session(state, n) else {
+    let Some(row) = going_on(state, n) else {
         return Ok(());
     };
-    if !is_accessing(row.state) {
-        return Ok(());
-    }
     put_limits(state, timers, n, &row)
 }

@@ -41,7 +41,8 @@ pub struct Timers {
 }
 
 impl Timers {
-    ghost use Rattle.ucon_cascade.specs.Timers.{AreSame, ChangesGive, Gets, HasDeadline, HidesNoMore, IsHidden, IsKept, Loses, LosesAll, UndoGives, count_below};
+    ghost use Rattle.ucon_cascade.specs.Timers.{AreSame, Gets, HasDeadline, HidesNoMore, IsHidden, Loses, LosesAll, count_below};
+    ghost use Rattle.ucon_cascade.specs.Timers.{ChangesGive, IsKept, UndoGives};
 
     /// No deadlines.
     pub fn new(alloc: Global) -> Result<Timers, NoMemory>

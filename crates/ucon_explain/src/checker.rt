@@ -167,15 +167,7 @@ fn read_expr<V: View>(
     match e {
         Expr::Lit(_) => Some(read),
         Expr::Read(place) => read_place(view, session, row, facts, read, place),
-        Expr::Add(a, b) => {
-            let read = read_expr(view, session, row, facts, read, a)?;
-            read_expr(view, session, row, facts, read, b)
-        }
-        Expr::Sub(a, b) => {
-            let read = read_expr(view, session, row, facts, read, a)?;
-            read_expr(view, session, row, facts, read, b)
-        }
-        Expr::Mul(a, b) => {
+        Expr::Add(a, b) | Expr::Sub(a, b) | Expr::Mul(a, b) => {
             let read = read_expr(view, session, row, facts, read, a)?;
             read_expr(view, session, row, facts, read, b)
         }
@@ -199,11 +191,7 @@ fn read_formula<V: View>(
     ensures within { IfSome result (λ k. k ≤ length facts.now) }
 {
     match f {
-        Formula::And(f, g) => {
-            let read = read_formula(view, session, row, facts, read, f)?;
-            read_formula(view, session, row, facts, read, g)
-        }
-        Formula::Or(f, g) => {
+        Formula::And(f, g) | Formula::Or(f, g) => {
             let read = read_formula(view, session, row, facts, read, f)?;
             read_formula(view, session, row, facts, read, g)
         }
@@ -251,9 +239,8 @@ fn tell_test<V: View>(view: &V, session: u32, row: &SessionRow, facts: &[Fact], 
     ensures { result ≡ tell_test (V.readings view.now) row.now facts.now (test_of test.now) }
 {
     match test {
-        Test::A(f) => tell_formula(view, session, row, facts, f),
+        Test::A(f) | Test::C(f) => tell_formula(view, session, row, facts, f),
         Test::B(duty) => tell_duty(view, row, facts, duty),
-        Test::C(f) => tell_formula(view, session, row, facts, f),
     }
 }
 

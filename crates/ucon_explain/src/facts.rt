@@ -23,8 +23,7 @@ pub fn asks_tick(f: &Formula) -> bool
     ensures { result ≡ asks_tick (formula_of f.now) }
 {
     match f {
-        Formula::And(f, g) => asks_tick(f) || asks_tick(g),
-        Formula::Or(f, g) => asks_tick(f) || asks_tick(g),
+        Formula::And(f, g) | Formula::Or(f, g) => asks_tick(f) || asks_tick(g),
         Formula::Not(f) => asks_tick(f),
         Formula::Compare(_, _, _) => false,
         Formula::Lasts(_) => true,
@@ -154,9 +153,8 @@ pub fn test_facts<V: View>(
     ensures { IfOk result (λ facts. facts.items ≡ test_facts (V.readings view.now) row.now (test_of test.now)) }
 {
     let facts = match test {
-        Test::A(f) => formula_facts(alloc, view, session, row, f)?,
+        Test::A(f) | Test::C(f) => formula_facts(alloc, view, session, row, f)?,
         Test::B(o) => duty_facts(alloc, view, row, o)?,
-        Test::C(f) => formula_facts(alloc, view, session, row, f)?,
     };
     Ok(Rows::from(facts))
 }

@@ -44,15 +44,7 @@ fn add_expr_places(places: &mut Vec<Ref>, e: &Expr) -> Result<(), NoMemory>
     match e {
         Expr::Lit(_) => Ok(()),
         Expr::Read(place) => add_place(places, place),
-        Expr::Add(a, b) => {
-            add_expr_places(places, a)?;
-            add_expr_places(places, b)
-        }
-        Expr::Sub(a, b) => {
-            add_expr_places(places, a)?;
-            add_expr_places(places, b)
-        }
-        Expr::Mul(a, b) => {
+        Expr::Add(a, b) | Expr::Sub(a, b) | Expr::Mul(a, b) => {
             add_expr_places(places, a)?;
             add_expr_places(places, b)
         }
@@ -64,11 +56,7 @@ fn add_formula_places(places: &mut Vec<Ref>, f: &Formula) -> Result<(), NoMemory
     ensures { OnOk result (places.new.items ≡ fold with_place places.old.items (formula_places (formula_of f.now))) }
 {
     match f {
-        Formula::And(f, g) => {
-            add_formula_places(places, f)?;
-            add_formula_places(places, g)
-        }
-        Formula::Or(f, g) => {
+        Formula::And(f, g) | Formula::Or(f, g) => {
             add_formula_places(places, f)?;
             add_formula_places(places, g)
         }

@@ -1,18 +1,20 @@
 -- Lines that were answered over a store by a legal run, and the output of their answers.
 use Rattle.std.proofs.Common.{◌≡◌, Bool, true, false, List, [], ◌∷◌, map, refl, sym, ap, ◌∙◌, inl}
-use Rattle.std.specs.Prelude.{◌<◌, IsTrue, Option, Some, None, if◌then◌else◌}
+use Rattle.std.specs.Prelude.{◌<◌, ◌||◌, IsTrue, Option, Some, None, if◌then◌else◌}
 use Rattle.std.specs.Option.{option_to_list}
-use Rattle.std.specs.List.{filter}
+use Rattle.std.specs.List.{filter, list_any}
+use Rattle.std.proofs.lemmas.Bool.{false_from_ne_true, or_parts}
 use Rattle.ucon_base.specs.Elements.{Each, each_map}
 use Rattle.ucon_model.specs.declared.command.Caller.{Caller}
 use Rattle.ucon_model.specs.declared.command.Entry.{Entry}
 use Rattle.ucon_model.specs.Plain.{Bytes, PlainPolicy}
 use Rattle.ucon_model.specs.Output.{FitsLine, answers_read, output}
 use Rattle.ucon_model.specs.History.{History}
-use Rattle.ucon_model.specs.LegalRun.{Answered, no_memory, Saw, StaysStopped, AreInOrder, IsLegalRun, history_made, in_text_order, is_disk_fault}
+use Rattle.ucon_model.specs.LegalRun.{Answered, no_memory, Saw, StaysStopped, AreInOrder, IsLegalRun, history_made, in_text_order, is_disk_fault, is_stopped}
 use Rattle.ucon_model.specs.StoredRun.{LeadsTo, failed_line}
 use Rattle.ucon_store.specs.Kept.{Kept}
 use Rattle.ucon_client.specs.Clients.{faulted}
+use Rattle.ucon_trial.specs.Runs.{IsUnfaulted}
 use Rattle.ucon_top.specs.Stepping.{AreAnswered, HaveOutput, HaveSteps, IsRunBetween}
 
 -- what the laws of runs over a store say
@@ -70,6 +72,28 @@ module _ {D : Type 0} (laws : AreLegal) (P : PlainPolicy) where
         };
         is_so = tt;
       }
+
+-- ---- where no line met a disk fault, none was stopped
+
+by_head : (b : Bool) (e : Entry) (rest : Option Entry) (any : Bool) → (if b then Some e else rest) ≡ None → (rest ≡ None → any ≡ false) → (b || any) ≡ false
+by_head true e rest any none tails = absurd (cc none)
+by_head false e rest any none tails = tails none
+
+no_fault : (told : List Answered) → failed_line told ≡ None → list_any (λ t. is_disk_fault t.answer) told ≡ false
+no_fault [] none = refl
+no_fault (t ∷ told) none = by_head (is_disk_fault t.answer) t.line (failed_line told) (list_any (λ t. is_disk_fault t.answer) told) none (no_fault told)
+
+each_unfaulted : (told : List Answered) → list_any (λ t. is_disk_fault t.answer) told ≡ false → list_any (λ t. is_stopped t.answer) told ≡ false → IsUnfaulted told
+each_unfaulted [] faults stops = tt
+each_unfaulted (t ∷ told) faults stops =
+    let fault = or_parts (is_disk_fault t.answer) (list_any (λ t. is_disk_fault t.answer) told) faults in
+    let stop = or_parts (is_stopped t.answer) (list_any (λ t. is_stopped t.answer) told) stops in ((fault.0, stop.0), each_unfaulted told fault.1 stop.1)
+
+pub none_faulted : (P : PlainPolicy) (sees : Caller → Caller → Bool) (G : History) (told : List Answered) → IsLegalRun P sees G told → failed_line told ≡ None → IsUnfaulted told
+none_faulted P sees G told legal none =
+    let faults = no_fault told none in
+    each_unfaulted told faults (false_from_ne_true (list_any (λ t. is_stopped t.answer) told)
+    (λ stopped. let bad : true ≡ false = sym (legal.causes.by_fault stopped) ∙ faults in absurd (cc bad)))
 
 -- ---- the output
 

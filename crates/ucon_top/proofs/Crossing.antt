@@ -20,6 +20,7 @@ use Rattle.ucon_base.proofs.rows.Rows.TheSendSync as rows
 use Rattle.ucon_base.proofs.value.Side.TheSendSync as side
 use Rattle.ucon_base.specs.contracts.name.Name as Name
 use Rattle.ucon_cascade.proofs.readers.Readers.TheSendSync as readers
+use Rattle.ucon_cascade.proofs.timers.Timers.TheSendSync as timers
 use Rattle.ucon_cascade.specs.contracts.monitor.Monitor as Monitor
 use Rattle.ucon_model.proofs.formula.Expr.TheLaws.TheKnot as expr
 use Rattle.ucon_model.proofs.formula.Formula.TheLaws.TheKnot as formula
@@ -92,7 +93,7 @@ state_field_send : IsSend (State.the_field).row
 state_field_send = struct_send (structs.shape State.the_type) (global.the_field_send, (checked_field_send, (tables.the_field_send, (vec.the_send Name.the_row Global.the_row ghosts name.the_send global.the_send the_frees, (vec.the_send Undo.the_row Global.the_row ghosts undo_send global.the_send the_frees, tt)))))
 
 monitor_field_send : IsSend (Monitor.the_field).row
-monitor_field_send = struct_send (structs.shape Monitor.the_type) (global.the_field_send, (state_field_send, (readers.the_field_send, (search (crosses, sendable) depth 30 fits 4000, tt))))
+monitor_field_send = struct_send (structs.shape Monitor.the_type) (global.the_field_send, (state_field_send, (readers.the_field_send, (timers.the_field_send, (search (crosses, sendable) depth 30 fits 4000, tt)))))
 
 pub monitor_send : IsSend Monitor.the_row
 monitor_send = recorded_send (Monitor.the_field).row _ _ (Monitor.the_type).to_one monitor_field_send

@@ -1,6 +1,7 @@
 pub mod Answering
 pub mod Forms
 pub mod Closing
+pub mod Completing
 pub mod Crossing
 pub mod GeneratedPolicy
 pub mod Adding

@@ -11,7 +11,6 @@ use Rattle.ucon_model.specs.declared.command.Caller.{Caller}
 use Rattle.ucon_model.specs.declared.command.Entry.{Entry}
 use Rattle.ucon_model.specs.Document.{ScriptLine, document_read, entries_of, policy_part}
 use Rattle.ucon_model.specs.Plain.{Bytes, PlainPolicy}
-use Rattle.ucon_model.specs.History.{History}
 use Rattle.ucon_model.specs.LegalRun.{Answered}
 use Rattle.ucon_model.specs.StoredRun.{failed_line}
 use Rattle.ucon_syntax.specs.Policies.{accepted}
@@ -25,8 +24,10 @@ use Rattle.ucon_top.specs.Accepted.{HasPolicy}
 use Rattle.ucon_top.specs.Closing.{Closes, EndsRun, IsClosedRun}
 use Rattle.ucon_top.specs.Form.{output_order, sees_by}
 use Rattle.ucon_top.specs.Played.{HasPlayed, HasPlayedInput, IsFoundSince, IsJournalled, IsPlayed, IsRunOver}
+use Rattle.ucon_trial.specs.Runs.{IsUnfaulted}
 use Rattle.ucon_top.specs.Stepping.{AreAnswered, HaveOutput, IsRunBetween}
 use Rattle.ucon_top.specs.Unread.{IsUnread}
+use Rattle.ucon_top.proofs.Answering.{none_faulted}
 
 module _ {D : Type 0} (contents : D → Option (List ℕ)) (images : D → List ℕ → Type 0) (moment : D → ℕ) (images_since : D → ℕ → List ℕ → Type 0) (faults : D → ℕ) where
   -- what the opening of a store told
@@ -96,7 +97,7 @@ module _ {D : Type 0} (contents : D → Option (List ℕ)) (images : D → List 
     module _ (form : Form) (bytes : Bytes) (P : PlainPolicy) (lines : List ScriptLine) (is_text : text ≡ policy_part bytes) (has_policy : HasPolicy bytes P)
         (says : document_read accepted bytes ≡ Ok lines) (so : List Entry → List Answered → Type 0) (given : List Answered → Type 0) where
       pub run_over : AreAnswered (sees_by form) P store closed (output_order form (entries_of lines)) given
-          → ((told : List Answered) → failed_line told ≡ closed.mark → given told → so (output_order form (entries_of lines)) told)
+          → ((told : List Answered) → IsRunBetween (sees_by form) P store closed told → given told → so (output_order form (entries_of lines)) told)
           → IsRunOver contents images moment images_since faults form bytes disk now so
       run_over run makes = record {
         policy = P;
@@ -107,7 +108,7 @@ module _ {D : Type 0} (contents : D → Option (List ℕ)) (images : D → List 
         lines_are = run.lines_are;
         played = subst (λ (t : Bytes). IsPlayed contents images moment images_since faults (sees_by form) t P disk now run.told) is_text
             (played (sees_by form) P run.told run.run);
-        is_so = makes run.told run.run.failed run.is_so;
+        is_so = makes run.told run.run run.is_so;
       }
 
   -- how playing ends, by how the run over the store does
@@ -115,7 +116,7 @@ module _ {D : Type 0} (contents : D → Option (List ℕ)) (images : D → List 
       (is_text : text ≡ policy_part bytes) (has_policy : HasPolicy bytes P) (says : document_read accepted bytes ≡ Ok lines) (now : D) (was written : Option Bytes) where
     over : (closed : Kept D) → Closes contents images moment images_since faults store closed now → (so : List Entry → List Answered → Type 0) (given : List Answered → Type 0)
         → AreAnswered (sees_by form) P store closed (output_order form (entries_of lines)) given
-        → ((told : List Answered) → failed_line told ≡ closed.mark → given told → so (output_order form (entries_of lines)) told)
+        → ((told : List Answered) → IsRunBetween (sees_by form) P store closed told → given told → so (output_order form (entries_of lines)) told)
         → IsRunOver contents images moment images_since faults form bytes disk now so
     over closed closes = run_over text disk store closed now opened closes form bytes P lines is_text has_policy says
 
@@ -123,16 +124,17 @@ module _ {D : Type 0} (contents : D → Option (List ℕ)) (images : D → List 
         → EndsRun (sees_by form) P store closed (output_order form (entries_of lines)) was written outcome
         → HasPlayed contents images moment images_since faults form outcome bytes disk now was written
     ends closed closes outcomes.Done e =
-        over closed closes (λ (es : List Entry) (told : List Answered). (failed_line told ≡ None) × HaveOutput (Appends was written) es told)
-        (HaveOutput (Appends was written) (output_order form (entries_of lines))) e.0 (λ told failed output. (failed ∙ e.1, output))
+        over closed closes (λ (es : List Entry) (told : List Answered). (failed_line told ≡ None) × IsUnfaulted told × HaveOutput (Appends was written) es told)
+        (HaveOutput (Appends was written) (output_order form (entries_of lines))) e.0
+        (λ told run output. let none = run.failed ∙ e.1 in (none, none_faulted P (sees_by form) store.entries told run.legal none, output))
     ends closed closes outcomes.SinkFault e =
-        over closed closes (HaveOutput (AppendsPrefix was written)) (HaveOutput (AppendsPrefix was written) (output_order form (entries_of lines))) e (λ told failed output. output)
+        over closed closes (HaveOutput (AppendsPrefix was written)) (HaveOutput (AppendsPrefix was written) (output_order form (entries_of lines))) e (λ told run output. output)
     ends closed closes outcomes.DiskFault e = inl (
         over closed closes (λ (es : List Entry) (told : List Answered). IsSome (failed_line told) × HaveOutput (Appends was written) es told)
-        (HaveOutput (Appends was written) (output_order form (entries_of lines))) e.0 (λ told failed output. (subst (λ (o : Option Entry). IsSome o) (sym failed) e.1, output))
+        (HaveOutput (Appends was written) (output_order form (entries_of lines))) e.0 (λ told run output. (subst (λ (o : Option Entry). IsSome o) (sym run.failed) e.1, output))
         )
     ends closed closes (outcomes.NoMemory m) e =
-        inr (inr (over closed closes (λ (es : List Entry) (told : List Answered). Unit {0}) (λ (told : List Answered). Unit {0}) e (λ told failed nothing. tt)))
+        inr (inr (over closed closes (λ (es : List Entry) (told : List Answered). Unit {0}) (λ (told : List Answered). Unit {0}) e (λ told run nothing. tt)))
     ends closed closes outcomes.Usage e = absurd e
     ends closed closes (outcomes.Policy f) e = absurd e
     ends closed closes (outcomes.Script f) e = absurd e

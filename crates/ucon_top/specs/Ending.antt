@@ -12,6 +12,8 @@ use Rattle.ucon_script.specs.declared.doc_fault.DocFault.{DocFault}
 use Rattle.ucon_script.specs.declared.doc_fault.DocFault.TheVariants as scripts
 use Rattle.ucon_store.specs.declared.fault.StoreFault.{StoreFault}
 use Rattle.ucon_store.specs.declared.fault.StoreFault.TheVariants as stores
+use Rattle.ucon_top.specs.declared.form.Form.{Form}
+use Rattle.ucon_top.specs.declared.form.Form.TheVariants.{Trial, Check, Gen, Play, Serve}
 use Rattle.ucon_top.specs.declared.outcome.PolicyFault.TheVariants.{Syntax, Typing}
 use Rattle.ucon_top.specs.declared.outcome.Refused.{Refused}
 use Rattle.ucon_top.specs.declared.outcome.Refused.TheVariants as refusals
@@ -111,3 +113,19 @@ abbrev pub IsUnrefused : Outcome → Type 0
 IsUnrefused (Policy f) = ⊥
 IsUnrefused (Script f) = ⊥
 IsUnrefused outcome = Unit {0}
+
+-- how a run ends that nothing of a disk ended
+abbrev pub IsOffDisk : Outcome → Type 0
+IsOffDisk DiskFault = ⊥
+IsOffDisk (Damaged number place) = ⊥
+IsOffDisk NotJournal = ⊥
+IsOffDisk (OtherPolicy place) = ⊥
+IsOffDisk outcome = Unit {0}
+
+-- how each form may end: those without a journal by nothing of a disk, and `gen`, which reads nothing, by nothing of the input either
+abbrev pub MayEnd : Form → Outcome → Type 0
+MayEnd Trial outcome = IsOffDisk outcome
+MayEnd Check outcome = IsOffDisk outcome
+MayEnd (Gen seed size) outcome = IsOfPrinting outcome
+MayEnd Play outcome = Unit {0}
+MayEnd Serve outcome = Unit {0}

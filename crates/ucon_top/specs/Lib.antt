@@ -1,5 +1,6 @@
 pub mod Accepted
 pub mod Closing
+pub mod Complete
 pub mod Ending
 pub mod FaultWords
 pub mod Form

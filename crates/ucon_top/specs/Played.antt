@@ -22,6 +22,7 @@ use Rattle.ucon_top.specs.declared.outcome.Outcome.{Outcome}
 use Rattle.ucon_top.specs.declared.outcome.Outcome.TheVariants.{Done, SinkFault, DiskFault, Damaged, NotJournal, NoMemory, OtherPolicy}
 use Rattle.ucon_top.specs.Accepted.{HasPolicy}
 use Rattle.ucon_top.specs.Form.{output_order, sees_by}
+use Rattle.ucon_trial.specs.Runs.{IsUnfaulted}
 use Rattle.ucon_top.specs.Stepping.{HaveOutput}
 
 -- a file is found as a history that has the opening one and begins this one, or as this one with the line that met a disk fault
@@ -70,7 +71,7 @@ module _ {D : Type 0} (contents : D → Option (List ℕ)) (images : D → List 
   -- call of the disk.
   abbrev pub HasPlayed : Form → Outcome → Bytes → D → D → Option Bytes → Option Bytes → Type 0
   HasPlayed form Done bytes old new before now =
-      IsRunOver form bytes old new (λ lines told. (failed_line told ≡ None) × HaveOutput (Appends before now) lines told)
+      IsRunOver form bytes old new (λ lines told. (failed_line told ≡ None) × IsUnfaulted told × HaveOutput (Appends before now) lines told)
   HasPlayed form SinkFault bytes old new before now = IsRunOver form bytes old new (HaveOutput (AppendsPrefix before now))
   HasPlayed form DiskFault bytes old new before now =
       IsRunOver form bytes old new (λ lines told. IsSome (failed_line told) × HaveOutput (Appends before now) lines told)

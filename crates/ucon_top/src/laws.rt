@@ -1,8 +1,13 @@
 //! Laws of the definitions. A law is a function without parameters that does nothing: its contract is what is proved.
 
-ghost use Rattle.std.specs.Prelude.{◌≤◌, ℕ};
+ghost use Rattle.std.specs.Prelude.{◌≡◌, ◌≤◌, ℕ, List, ◌++◌, None, Option};
+ghost use Rattle.ucon_model.specs.declared.command.Entry.{Entry};
 ghost use Rattle.ucon_model.specs.Generated.{generated};
-ghost use Rattle.ucon_model.specs.Plain.{Bytes};
+ghost use Rattle.ucon_model.specs.History.{History};
+ghost use Rattle.ucon_model.specs.LegalRun.{Answered};
+ghost use Rattle.ucon_model.specs.Plain.{Bytes, PlainPolicy};
+ghost use Rattle.ucon_model.specs.StoredRun.{LeadsTo};
+ghost use Rattle.ucon_store.specs.Found.{IsFoundAs};
 ghost use Rattle.ucon_top.specs.declared.outcome.Outcome.{Outcome};
 ghost use Rattle.ucon_top.specs.Accepted.{IsAccepted, IsRefusedBy};
 ghost use Rattle.ucon_top.specs.Ending.{IsUnrefused};
@@ -27,3 +32,14 @@ pub fn accepted_documents_are_not_refused()
     texts_spell_one_policy();
     refused_texts_spell_nothing();
 }
+
+/// A file is found as one history. So a store that is opened on what a crash left has the history as which that file is found.
+pub fn files_are_found_as_one_history()
+    ensures { (text file : Bytes) (H K : History) → IsFoundAs text file H → IsFoundAs text file K → H ≡ K }
+{}
+
+/// A run that stopped and goes on behind the history that it made is one run: opening again and going on is as if it had never stopped.
+pub fn runs_go_on_where_they_stopped()
+    ensures { (P : PlainPolicy) (G H K : History) (told more : List Answered) (failed : Option Entry)
+        → LeadsTo P G told H None → LeadsTo P H more K failed → LeadsTo P G (told ++ more) K failed }
+{}

@@ -17,7 +17,10 @@ mod tests;
 mod top;
 
 pub use form::Form;
-pub use laws::{accepted_documents_are_not_refused, generated_documents_are_accepted};
+pub use laws::{
+    accepted_documents_are_not_refused, files_are_found_as_one_history,
+    generated_documents_are_accepted, runs_go_on_where_they_stopped,
+};
 pub use outcome::{Ended, Outcome, PolicyFault, Refused};
 pub use printing::fault_text;
 pub use reporting::report;

@@ -1,6 +1,6 @@
 //! Plays a document over a journal.
 
-ghost use Rattle.std.specs.Prelude.{◌≡◌, ◌≤◌, length, map, Some, None};
+ghost use Rattle.std.specs.Prelude.{◌≡◌, ◌⊎◌, ◌≤◌, length, map, Some, None};
 ghost use Rattle.ucon_disk.specs.Causes.{raised};
 ghost use Rattle.ucon_flow.specs.Causes.{Rose};
 ghost use Rattle.ucon_model.specs.LegalRun.{in_text_order};
@@ -41,6 +41,7 @@ pub fn play<E: Engine, K: Sink, D: Disk>(
         (K.contents out.old) (K.contents out.new) }
     ensures fault { result.outcome ≡ Outcome.DiskFault → D.faults result.disk ≡ raised (D.faults disk) }
     ensures untouched { IsUntouched result.outcome → result.disk ≡ disk }
+    ensures unaccepted { (result.disk ≡ disk) ⊎ IsAccepted bytes.now }
     ensures unwritten { IsUnwritten result.outcome → out.new ≡ out.old }
 {
     accepted_texts_spell_typed_policies();

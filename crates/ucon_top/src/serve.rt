@@ -1,6 +1,6 @@
 //! Serves a document over a journal: each client in a thread of its own.
 
-ghost use Rattle.std.specs.Prelude.{◌≡◌, ◌<◌, ◌≤◌, length, map, Some, None};
+ghost use Rattle.std.specs.Prelude.{◌≡◌, ◌⊎◌, ◌<◌, ◌≤◌, length, map, Some, None};
 ghost use Rattle.ucon_base.specs.Elements.{Each};
 ghost use Rattle.ucon_disk.specs.Causes.{raised};
 ghost use Rattle.ucon_flow.specs.Causes.{Rose};
@@ -55,6 +55,7 @@ pub fn serve<E: Engine + Send, K: Sink, D: Disk + Send, G: Gate + Sync, R: Threa
         (K.contents out.old) (K.contents out.new) }
     ensures fault { result.outcome ≡ Outcome.DiskFault → D.faults result.disk ≡ raised (D.faults disk) }
     ensures untouched { IsUntouched result.outcome → result.disk ≡ disk }
+    ensures unaccepted { (result.disk ≡ disk) ⊎ IsAccepted bytes.now }
     ensures unwritten { IsUnwritten result.outcome → out.new ≡ out.old }
 {
     accepted_texts_spell_typed_policies();

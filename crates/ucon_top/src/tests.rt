@@ -1,3 +1,4 @@
+mod crashes;
 mod engines;
 mod hostile;
 mod serving;
@@ -12,9 +13,8 @@ use ucon_disk::MemDisk;
 use ucon_flow::{MemSink, MemSource};
 use ucon_script::{generate, read_script};
 use ucon_vectors::{
-    CAPPED, Example, LOOKING, Played, Row, SUBJECTS_B_AND_C, WITH_A, Words, amended_rows,
-    generated_rows, guide_examples, language_examples, played_rows, typing_faults,
-    timed_rows, well_typed_policies, worked_rows,
+    CAPPED, Example, Played, Row, Words, amended_rows, generated_rows, guide_examples,
+    language_examples, played_rows, timed_rows, typing_faults, well_typed_policies, worked_rows,
 };
 
 fn words(alloc: Global, all: &[&str]) -> Result<Vec<String>, Fail> {
@@ -338,16 +338,6 @@ fn played<R: Threads + Wait + Sync>(
     Ok((ended, Vec::from_slice(alloc, sink.bytes())?))
 }
 
-/// A disk that stops after this many calls.
-fn stopping(alloc: Global, file: &[u8], calls: u64) -> Result<MemDisk, Fail> {
-    Ok(MemDisk::new(
-        alloc,
-        Vec::from_slice(alloc, file)?,
-        Vec::new(alloc),
-        Some(calls),
-    ))
-}
-
 /// The status of `play` over a document and a file, what it writes, and the file that it leaves.
 fn kept<R: Threads + Wait + Sync>(
     rt: &R,
@@ -418,55 +408,4 @@ fn play_row<R: Threads + Wait + Sync>(rt: &R, alloc: Global, row: &Played) -> Re
 
 fn same(one: &[u8], other: &[u8]) -> bool {
     one == other
-}
-
-/// The number of entries that are found in a file: the place of a reply that changes nothing.
-fn entries_found<R: Threads + Wait + Sync>(
-    rt: &R,
-    alloc: Global,
-    file: Vec<u8>,
-) -> Result<(u8, Vec<u8>), Fail> {
-    let disk = MemDisk::new(alloc, file, Vec::new(alloc), None);
-    let sink = MemSink::new(alloc, 3, Vec::new(alloc));
-    let (ended, output) = played(rt, alloc, LOOKING, disk, sink)?;
-    Ok((ended.status, output))
-}
-
-/// What is told of a file in which every step of this output is found, behind one step before it, and at most one more.
-fn found_behind(output: &[u8]) -> (&'static [u8], &'static [u8]) {
-    if output == b"0 2 ok\n0 3 ok\n".as_slice() {
-        (b"0 3 no session\n", b"0 3 no session\n")
-    } else if output == b"0 2 ok\n0 - disk fault\n".as_slice() {
-        (b"0 2 no session\n", b"0 3 no session\n")
-    } else if output == b"0 - disk fault\n0 - stopped\n".as_slice() {
-        (b"0 1 no session\n", b"0 2 no session\n")
-    } else {
-        (b"0 1 no session\n", b"0 1 no session\n")
-    }
-}
-
-/// A disk that stops after each number of calls of a run of two steps, and files that a crash may leave then: what is found there has every
-/// step that was answered, and at most one more.
-#[test]
-fn crashes_leave_what_was_answered(rt: HostRuntime) -> Result<(), Fail> {
-    let alloc = rt.alloc();
-    for calls in 0..24u64 {
-        let disk = stopping(alloc, WITH_A, calls)?;
-        let sink = MemSink::new(alloc, 3, Vec::new(alloc));
-        let (ended, output) = played(&rt, alloc, SUBJECTS_B_AND_C, disk, sink)?;
-        let (least, most) = found_behind(&output);
-        for fill in [0u8, 1, 255] {
-            let mut fills = Vec::new(alloc);
-            fills.resize(40, fill)?;
-            for len in 44..84u64 {
-                if let Some(file) = ended.disk.image(len, &fills)? {
-                    let (status, text) = entries_found(&rt, alloc, file)?;
-                    assert_eq!(rt; status, 0);
-                    let text = text.as_slice();
-                    assert!(rt; text == least || text == most, "{calls} {len} {fill}");
-                }
-            }
-        }
-    }
-    Ok(())
 }

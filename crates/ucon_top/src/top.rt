@@ -1,11 +1,12 @@
 //! The top call.
 
-ghost use Rattle.std.specs.Prelude.{◌≡◌, ◌≢◌, ◌↔◌, ◌<◌, ◌≤◌, ◌+◌, false, None, Some, length, map, string_bytes, IfSome, IfOk, IfErr, OnOk};
+ghost use Rattle.std.specs.Prelude.{◌≡◌, ◌≢◌, ◌↔◌, ◌⊎◌, ◌<◌, ◌≤◌, ◌+◌, false, None, Some, length, map, string_bytes, IfSome, IfOk, IfErr, OnOk};
 ghost use Rattle.std.specs.Io.KnownBytes.{IsAtEnd};
 ghost use Rattle.ucon_disk.specs.Causes.{raised};
 ghost use Rattle.ucon_flow.specs.Causes.{Rose};
 ghost use Rattle.ucon_top.specs.Accepted.{IsRefusedBy, IsAccepted};
-ghost use Rattle.ucon_top.specs.Ending.{status_of, IsOfAccepted, IsOfPrinting, IsUntouched, IsUnwritten};
+ghost use Rattle.ucon_top.specs.Complete.{IsComplete, IsUnhindered};
+ghost use Rattle.ucon_top.specs.Ending.{status_of, IsOfAccepted, IsOfPrinting, IsUntouched, IsUnwritten, MayEnd};
 ghost use Rattle.ucon_top.specs.Form.{form_of, HasSize, IsAlone, HasJournal, asks_for_threads};
 ghost use Rattle.ucon_top.specs.Unread.{IsUnread};
 ghost use Rattle.ucon_top.specs.Played.{HasPlayedInput};
@@ -13,6 +14,7 @@ ghost use Rattle.ucon_top.specs.Printed.{Adds, IsOutputOf, IsCutOutputOf, ReadsI
 
 use crate::document::output_of;
 use crate::form::{Form, asks_for_threads, read_form};
+use crate::laws::accepted_documents_are_not_refused;
 use crate::outcome::{Ended, Outcome};
 use crate::play::play;
 use crate::serve::serve;
@@ -55,6 +57,7 @@ pub fn run<S: Source, K: Sink, D: Disk + Send, G: Gate + Sync, R: Threads + Wait
     ensures sink { result.outcome ≡ Outcome.SinkFault → Rose (K.faults out.old) (K.faults out.new) }
     ensures read { IsOfAccepted result.outcome
         → IfSome (form_of (map (λ w. string_bytes w) words.now)) (λ form. ReadsInput form → IsAtEnd (S.left input.new)) }
+    ensures form { IfSome (form_of (map (λ w. string_bytes w) words.now)) (λ form. MayEnd form result.outcome) }
 
     // At most one read for each byte within the limit, and one more, whatever the outcome.
     ensures reads { S.reads input.new ≤ S.reads input.old + 4194305 }
@@ -81,9 +84,18 @@ pub fn run<S: Source, K: Sink, D: Disk + Send, G: Gate + Sync, R: Threads + Wait
         (K.contents out.old) (K.contents out.new)) }
     ensures fault { result.outcome ≡ Outcome.DiskFault → D.faults result.disk ≡ raised (D.faults disk) }
 
-    // No other form makes a call of the disk, nor does `play` before its document is accepted.
+    // No other form makes a call of the disk, nor does `play` before its document is accepted: where that is refused, or too long, the disk is
+    // as it was, whatever the outcome.
     ensures untouched { IsUntouched result.outcome → result.disk ≡ disk }
+    ensures unaccepted { IfSome (form_of (map (λ w. string_bytes w) words.now)) (λ form.
+        IfSome (document_of form (S.left input.old)) (λ bytes. (result.disk ≡ disk) ⊎ IsAccepted bytes)) }
     ensures alone { IfSome (form_of (map (λ w. string_bytes w) words.now)) (λ form. IsAlone form → result.disk ≡ disk) }
+
+    // Where nothing hinders the run, the lines were answered and the output is whole, or there was no memory.
+    ensures complete { IfSome (form_of (map (λ w. string_bytes w) words.now)) (λ form.
+        IfSome (document_of form (S.left input.old)) (λ bytes.
+        IsUnhindered form bytes (D.contents disk) (S.faults input.old) (S.faults input.new) (K.faults out.old) (K.faults out.new)
+        (D.faults disk) (D.faults result.disk) → IsComplete result.outcome)) }
 {
     if asks_for_threads(words) {
         return serve_input(rt, alloc, input, out, disk, gate);
@@ -120,6 +132,7 @@ pub fn run_alone<S: Source, K: Sink, D: Disk>(
     ensures sink { result.outcome ≡ Outcome.SinkFault → Rose (K.faults out.old) (K.faults out.new) }
     ensures read { IsOfAccepted result.outcome
         → IfSome (form_of (map (λ w. string_bytes w) words.now)) (λ form. ReadsInput form → IsAtEnd (S.left input.new)) }
+    ensures form { IfSome (form_of (map (λ w. string_bytes w) words.now)) (λ form. MayEnd form result.outcome) }
 
     // At most one read for each byte within the limit, and one more, whatever the outcome.
     ensures reads { S.reads input.new ≤ S.reads input.old + 4194305 }
@@ -146,10 +159,20 @@ pub fn run_alone<S: Source, K: Sink, D: Disk>(
         (K.contents out.old) (K.contents out.new)) }
     ensures fault { result.outcome ≡ Outcome.DiskFault → D.faults result.disk ≡ raised (D.faults disk) }
 
-    // No other form makes a call of the disk, nor does `play` before its document is accepted.
+    // No other form makes a call of the disk, nor does `play` before its document is accepted: where that is refused, or too long, the disk is
+    // as it was, whatever the outcome.
     ensures untouched { IsUntouched result.outcome → result.disk ≡ disk }
+    ensures unaccepted { IfSome (form_of (map (λ w. string_bytes w) words.now)) (λ form.
+        IfSome (document_of form (S.left input.old)) (λ bytes. (result.disk ≡ disk) ⊎ IsAccepted bytes)) }
     ensures alone { IfSome (form_of (map (λ w. string_bytes w) words.now)) (λ form. IsAlone form → result.disk ≡ disk) }
+
+    // Where nothing hinders the run, the lines were answered and the output is whole, or there was no memory.
+    ensures complete { IfSome (form_of (map (λ w. string_bytes w) words.now)) (λ form.
+        IfSome (document_of form (S.left input.old)) (λ bytes.
+        IsUnhindered form bytes (D.contents disk) (S.faults input.old) (S.faults input.new) (K.faults out.old) (K.faults out.new)
+        (D.faults disk) (D.faults result.disk) → IsComplete result.outcome)) }
 {
+    accepted_documents_are_not_refused();
     let Some(form) = read_form(words) else {
         return Ended::by(Outcome::Usage, disk);
     };
@@ -171,6 +194,7 @@ fn print_output<K: Sink>(alloc: Global, form: Form, bytes: &[u8], out: &mut K) -
     requires short { length bytes.now ≤ 4194304 }
     requires alone { IsAlone form }
     ensures ends { IsOfPrinting result }
+    ensures form { MayEnd form result }
     ensures refused { IsRefusedBy result bytes.now }
     ensures accepted { IsOfAccepted result → IsAccepted bytes.now }
     ensures sink { result ≡ Outcome.SinkFault → Rose (K.faults out.old) (K.faults out.new) }
@@ -210,7 +234,12 @@ fn serve_input<S: Source, K: Sink, D: Disk + Send, G: Gate + Sync, R: Threads + 
         (K.contents out.old) (K.contents out.new) }
     ensures fault { result.outcome ≡ Outcome.DiskFault → D.faults result.disk ≡ raised (D.faults disk) }
     ensures untouched { IsUntouched result.outcome → result.disk ≡ disk }
+    ensures unaccepted { IfSome (S.left input.old) (λ bytes. (result.disk ≡ disk) ⊎ IsAccepted bytes) }
+    ensures complete { IfSome (S.left input.old) (λ bytes.
+        IsUnhindered Form.Serve bytes (D.contents disk) (S.faults input.old) (S.faults input.new) (K.faults out.old) (K.faults out.new)
+        (D.faults disk) (D.faults result.disk) → IsComplete result.outcome) }
 {
+    accepted_documents_are_not_refused();
     match document_bytes(alloc, Form::Serve, input) {
         Ok(bytes) => serve::<Monitor, K, D, G, R>(rt, alloc, &bytes, out, disk, gate),
         Err(outcome) => Ended::by(outcome, disk),
@@ -224,6 +253,7 @@ fn document_bytes<S: Source>(alloc: Global, form: Form, input: &mut S) -> Result
     ensures bytes { IfOk result (λ bytes. IfSome (document_of form (S.left input.old)) (λ document. document ≡ bytes.items)) }
     ensures read { OnOk result (ReadsInput form → IsAtEnd (S.left input.new)) }
     ensures ends { IfErr result (λ outcome. IsUnread (S.left input.old) (S.faults input.old) (S.faults input.new) outcome) }
+    ensures form { IfErr result (λ outcome. MayEnd form outcome) }
     ensures reads { S.reads input.new ≤ S.reads input.old + 4194305 }
     ensures unread { (ReadsInput form → ⊥) → input.new ≡ input.old }
 {

@@ -12,8 +12,7 @@ const FRESH: &[u8] = b"right fresh { pre b p: within 5 ping; on b t: within 3 pi
 ";
 
 /// An act by somebody else on something else, every three ticks.
-const WATCHED_BY_GUARDS: &[u8] =
-    b"right watched { on b t: every 3 pong by \"g\" on \"d\"; }
+const WATCHED_BY_GUARDS: &[u8] = b"right watched { on b t: every 3 pong by \"g\" on \"d\"; }
 ";
 
 /// Two parts that may share their limit.

@@ -94,7 +94,7 @@ impl Gate for MeetingGate {
 }
 
 /// A policy, the divider and a script.
-fn document(alloc: Global, policy: &[u8], script: &[u8]) -> Result<Vec<u8>, Fail> {
+pub fn document(alloc: Global, policy: &[u8], script: &[u8]) -> Result<Vec<u8>, Fail> {
     let mut bytes = Vec::from_slice(alloc, policy)?;
     bytes.extend_from_slice(b"%%\n")?;
     bytes.extend_from_slice(script)?;

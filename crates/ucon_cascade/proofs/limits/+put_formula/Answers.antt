@@ -23,10 +23,10 @@ returns-in_ok-put_formula-in-And-clause-gets t c =
     let f : Formula = c.in-And.f.value in
     let g : Formula = c.in-And.g.value in
     ok_then c.put_formula-in-And.result (λ gets.
-        subst (λ (h : Formula). Gets v w c.args.n (IsLimit R row (formula_timed (formula_of h)))) (sym c.in-And.is)
-        (gets_limits v x w c.args.n R row (formula_timed (formula_of f)) (formula_timed (formula_of g))
-        (subst (λ (h : Formula). Gets v x c.args.n (IsLimit R row (formula_timed (formula_of h)))) c.deref.ensures c.in_ok-put_formula-in-And.ensures.gets)
-        (subst (λ (h : Formula). Gets x w c.args.n (IsLimit R row (formula_timed (formula_of h)))) c.deref-in-And.ensures gets))) c.put_formula-in-And.ensures.gets
+    subst (λ (h : Formula). Gets v w c.args.n (IsLimit R row (formula_timed (formula_of h)))) (sym c.in-And.is)
+    (gets_limits v x w c.args.n R row (formula_timed (formula_of f)) (formula_timed (formula_of g))
+    (subst (λ (h : Formula). Gets v x c.args.n (IsLimit R row (formula_timed (formula_of h)))) c.deref.ensures c.in_ok-put_formula-in-And.ensures.gets)
+    (subst (λ (h : Formula). Gets x w c.args.n (IsLimit R row (formula_timed (formula_of h)))) c.deref-in-And.ensures gets))) c.put_formula-in-And.ensures.gets
 
 pub returns-in_ok-put_formula-in-And-clause-undo : goal.returns-in_ok-put_formula-in-And-clause-undo
 returns-in_ok-put_formula-in-And-clause-undo t c = λ before gives. c.put_formula-in-And.ensures.undo before (c.put_formula.ensures.undo before gives)
@@ -42,10 +42,10 @@ returns-in_ok-put_formula-in-Or-clause-gets t c =
     let f : Formula = c.in-Or.f.value in
     let g : Formula = c.in-Or.g.value in
     ok_then c.put_formula-in-Or-2.result (λ gets.
-        subst (λ (h : Formula). Gets v w c.args.n (IsLimit R row (formula_timed (formula_of h)))) (sym c.in-Or.is)
-        (gets_limits v x w c.args.n R row (formula_timed (formula_of f)) (formula_timed (formula_of g))
-        (subst (λ (h : Formula). Gets v x c.args.n (IsLimit R row (formula_timed (formula_of h)))) c.deref-in-Or.ensures c.in_ok-put_formula-in-Or.ensures.gets)
-        (subst (λ (h : Formula). Gets x w c.args.n (IsLimit R row (formula_timed (formula_of h)))) c.deref-in-Or-2.ensures gets))) c.put_formula-in-Or-2.ensures.gets
+    subst (λ (h : Formula). Gets v w c.args.n (IsLimit R row (formula_timed (formula_of h)))) (sym c.in-Or.is)
+    (gets_limits v x w c.args.n R row (formula_timed (formula_of f)) (formula_timed (formula_of g))
+    (subst (λ (h : Formula). Gets v x c.args.n (IsLimit R row (formula_timed (formula_of h)))) c.deref-in-Or.ensures c.in_ok-put_formula-in-Or.ensures.gets)
+    (subst (λ (h : Formula). Gets x w c.args.n (IsLimit R row (formula_timed (formula_of h)))) c.deref-in-Or-2.ensures gets))) c.put_formula-in-Or-2.ensures.gets
 
 pub returns-in_ok-put_formula-in-Or-clause-undo : goal.returns-in_ok-put_formula-in-Or-clause-undo
 returns-in_ok-put_formula-in-Or-clause-undo t c = λ before gives. c.put_formula-in-Or-2.ensures.undo before (c.put_formula-in-Or.ensures.undo before gives)
@@ -71,6 +71,6 @@ returns-in-Lasts-clause-gets t c =
     let fits : SFits w64 (to_z w64 (of_z w64 c.get.result) +ℤ to_z w64 (of_z w64 c.get-in-Lasts.result)) = search rules in
     let sum = to_z-of_z w64 (to_z w64 (of_z w64 c.get.result) +ℤ to_z w64 (of_z w64 c.get-in-Lasts.result)) fits ∙ (λ i. from i +ℤ more i) in
     ok_then c.put_limit.result (λ gets.
-        subst (λ (h : Formula). Gets v w c.args.n (IsLimit R row (formula_timed (formula_of h)))) (sym c.in-Lasts.is)
-        (gets_one v w c.args.n R row (lasting ticks) (start +ℤ ticks) refl
-        (subst (λ (deadline : ℤ). Gets v w c.args.n (λ d. (d ≡ deadline) × (R.now ≤ℤ d))) sum gets))) c.put_limit.ensures.gets
+    subst (λ (h : Formula). Gets v w c.args.n (IsLimit R row (formula_timed (formula_of h)))) (sym c.in-Lasts.is)
+    (gets_one v w c.args.n R row (lasting ticks) (start +ℤ ticks) refl
+    (subst (λ (deadline : ℤ). Gets v w c.args.n (λ d. (d ≡ deadline) × (R.now ≤ℤ d))) sum gets))) c.put_limit.ensures.gets

@@ -46,6 +46,6 @@ returns-in-Some-clause-gets c =
     let told = rw c.in-Some.is at c.form_limit.type_inv in
     let same = to_z-of_z w64 c.in-Some.deadline (record { sfits = told.1.1.1.1.0.1 }) in
     ok_then c.put_limit.result (λ gets.
-        subst (λ (t : Test). Gets v w c.args.n (IsLimit R row (test_timed (test_of t)))) (sym c.in-B.is)
-        (gets_one v w c.args.n R row (owed o) c.in-Some.deadline (sym is ∙ c.in-Some.is)
-        (subst (λ (deadline : ℤ). Gets v w c.args.n (λ d. (d ≡ deadline) × (R.now ≤ℤ d))) same gets))) c.put_limit.ensures.gets
+    subst (λ (t : Test). Gets v w c.args.n (IsLimit R row (test_timed (test_of t)))) (sym c.in-B.is)
+    (gets_one v w c.args.n R row (owed o) c.in-Some.deadline (sym is ∙ c.in-Some.is)
+    (subst (λ (deadline : ℤ). Gets v w c.args.n (λ d. (d ≡ deadline) × (R.now ≤ℤ d))) same gets))) c.put_limit.ensures.gets

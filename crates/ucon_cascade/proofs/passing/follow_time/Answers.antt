@@ -34,20 +34,20 @@ pass_deadlines-requires-clause-may c =
 pub returns-in-Tick-clause-timely : goal.returns-in-Tick-clause-timely
 returns-in-Tick-clause-timely c =
     ok_then c.pass_deadlines.result (λ passes P T caller actions were.
-        timely_ticked (shown c.args.state.now) c.args.timers.now.wheel c.pass_deadlines.new.timers.wheel c.args.work.now.members c.pass_deadlines.new.work.members P T caller c.args.command.now
-        c.args.head.now c.in-Tick.field-0 actions c.in-Tick.is c.requires.no_work were passes) c.pass_deadlines.ensures.passed
+    timely_ticked (shown c.args.state.now) c.args.timers.now.wheel c.pass_deadlines.new.timers.wheel c.args.work.now.members c.pass_deadlines.new.work.members P T caller c.args.command.now
+    c.args.head.now c.in-Tick.field-0 actions c.in-Tick.is c.requires.no_work were passes) c.pass_deadlines.ensures.passed
 
 pub returns-in-Tick-clause-due : goal.returns-in-Tick-clause-due
 returns-in-Tick-clause-due c =
     ok_then c.pass_deadlines.result (λ passes P T caller t actions is were n on due.
-        due_ticked (shown c.args.state.now) c.args.timers.now.wheel c.pass_deadlines.new.timers.wheel c.args.work.now.members c.pass_deadlines.new.work.members P T caller c.args.command.now
-        c.args.head.now c.in-Tick.field-0 actions c.in-Tick.is c.requires.no_work were passes t is n on due) c.pass_deadlines.ensures.passed
+    due_ticked (shown c.args.state.now) c.args.timers.now.wheel c.pass_deadlines.new.timers.wheel c.args.work.now.members c.pass_deadlines.new.work.members P T caller c.args.command.now
+    c.args.head.now c.in-Tick.field-0 actions c.in-Tick.is c.requires.no_work were passes t is n on due) c.pass_deadlines.ensures.passed
 
 pub returns-in-Tick-clause-touched : goal.returns-in-Tick-clause-touched
 returns-in-Tick-clause-touched c =
     ok_then c.pass_deadlines.result (λ passes P T caller actions were n has.
-        touched_ticked (shown c.args.state.now) c.args.timers.now.wheel c.pass_deadlines.new.timers.wheel c.args.work.now.members c.pass_deadlines.new.work.members P T caller c.args.command.now
-        c.args.head.now c.in-Tick.field-0 actions c.in-Tick.is c.requires.no_work were passes n has) c.pass_deadlines.ensures.passed
+    touched_ticked (shown c.args.state.now) c.args.timers.now.wheel c.pass_deadlines.new.timers.wheel c.args.work.now.members c.pass_deadlines.new.work.members P T caller c.args.command.now
+    c.args.head.now c.in-Tick.field-0 actions c.in-Tick.is c.requires.no_work were passes n has) c.pass_deadlines.ensures.passed
 
 pub returns-in-Tick-clause-undo : goal.returns-in-Tick-clause-undo
 returns-in-Tick-clause-undo c = c.pass_deadlines.ensures.undo c.args.timers.now.wheel (kept_gives_wheel c.args.timers.now c.requires.kept)
@@ -55,7 +55,7 @@ returns-in-Tick-clause-undo c = c.pass_deadlines.ensures.undo c.args.timers.now.
 pub returns-in_default-clause-timely : goal.returns-in_default-clause-timely
 returns-in_default-clause-timely c =
     ok_then c.follow_usage.result (λ timely P T caller actions were.
-        timely P T caller c.args.command.now actions (not_amendment c.args.command.now c.in_default.not-Amend) (not_tick c.args.command.now c.in_default.not-Tick) were) c.follow_usage.ensures.timely
+    timely P T caller c.args.command.now actions (not_amendment c.args.command.now c.in_default.not-Amend) (not_tick c.args.command.now c.in_default.not-Tick) were) c.follow_usage.ensures.timely
 
 pub returns-in_default-clause-due : goal.returns-in_default-clause-due
 returns-in_default-clause-due c = on_ok c.follow_usage.result (λ P T caller t actions is were n on due. absurd (c.in_default.not-Tick t is))

@@ -1,14 +1,13 @@
-use Rattle.std.proofs.Common.{rules, ◌≡◌, ◌+◌, ◌<◌, ◌++◌, ◌∷◌, [], List, length, get_or, arith, sym, ap, subst, ◌∙◌}
+use Rattle.std.proofs.Common.{rules, ◌≡◌, ◌+◌, ◌<◌, ◌++◌, ◌∷◌, [], length, get_or, arith, sym, ap, subst, ◌∙◌}
 use Rattle.std.specs.Fmt.{decimal}
-use Rattle.std.proofs.lemmas.List.{append_assoc, append-nil}
+use Rattle.std.proofs.lemmas.List.{append_assoc}
 use Rattle.ucon_base.specs.Elements.{Each}
-use Rattle.ucon_model.specs.LegalRun.{Answered}
 use Rattle.ucon_model.specs.Output.{FitsLine, answer_spelling, output}
 use Rattle.ucon_script.specs.declared.document.Line.{Line}
 use Rattle.ucon_client.specs.declared.answer.Answer.{Answer}
 use Rattle.ucon_client.specs.declared.part.Part.{Part}
-use Rattle.ucon_client.specs.Answers.{answer_of, entry_of, told_of}
-use Rattle.ucon_top.proofs.Parted.{told_from, told_last, told_next}
+use Rattle.ucon_client.specs.Answers.{answer_of, entry_of}
+use Rattle.ucon_top.proofs.Parted.{told_from, told_next}
 use Rattle.ucon_top.proofs.parts_text.put_part.Goals as goal
 
 pub loop-place-preserved : goal.loop-place-preserved

@@ -4,7 +4,6 @@ use Rattle.std.proofs.lemmas.Simd.{map-map}
 use Rattle.ucon_model.specs.declared.command.Entry.{Entry}
 use Rattle.ucon_model.specs.Document.{entries_of, entry_of as said_entry, policy_part}
 use Rattle.ucon_model.specs.LegalRun.{own_answers}
-use Rattle.ucon_model.specs.Plain.{Bytes}
 use Rattle.ucon_script.specs.Document.{lines_spelled, spelled_line}
 use Rattle.ucon_syntax.specs.Policies.{accepted}
 use Rattle.ucon_client.specs.Dividing.{by_client}

@@ -50,3 +50,18 @@ pub returns-then-asks_for_threads-clause-alone : goal.returns-then-asks_for_thre
 returns-then-asks_for_threads-clause-alone g c =
     let asks : asks_for_threads (form_of (map (λ w. string_bytes w) c.args.words.now)) ≡ true = cc in
     rw (threads_are_serve (form_of (map (λ w. string_bytes w) c.args.words.now)) asks) (λ alone. absurd alone)
+
+pub returns-then-asks_for_threads-clause-form : goal.returns-then-asks_for_threads-clause-form
+returns-then-asks_for_threads-clause-form g c =
+    let asks : asks_for_threads (form_of (map (λ w. string_bytes w) c.args.words.now)) ≡ true = cc in
+    rw (threads_are_serve (form_of (map (λ w. string_bytes w) c.args.words.now)) asks) tt
+
+pub returns-then-asks_for_threads-clause-unaccepted : goal.returns-then-asks_for_threads-clause-unaccepted
+returns-then-asks_for_threads-clause-unaccepted g c =
+    let asks : asks_for_threads (form_of (map (λ w. string_bytes w) c.args.words.now)) ≡ true = cc in
+    rw (threads_are_serve (form_of (map (λ w. string_bytes w) c.args.words.now)) asks) c.serve_input.ensures.unaccepted
+
+pub returns-then-asks_for_threads-clause-complete : goal.returns-then-asks_for_threads-clause-complete
+returns-then-asks_for_threads-clause-complete g c =
+    let asks : asks_for_threads (form_of (map (λ w. string_bytes w) c.args.words.now)) ≡ true = cc in
+    rw (threads_are_serve (form_of (map (λ w. string_bytes w) c.args.words.now)) asks) c.serve_input.ensures.complete

@@ -1,8 +1,12 @@
-use Rattle.std.proofs.Common.{◌≡◌}
-use Rattle.std.specs.Prelude.{Option, Some, None, IfSome}
+use Rattle.std.proofs.Common.{◌≡◌, map, sym, subst}
+use Rattle.std.specs.Prelude.{Option, Some, None, IfSome, string_bytes}
+use Rattle.ucon_model.specs.Plain.{Bytes}
 use Rattle.ucon_top.specs.declared.form.Form.{Form}
-use Rattle.ucon_top.specs.Form.{HasJournal}
+use Rattle.ucon_top.specs.declared.form.Form.TheVariants.{Play}
+use Rattle.ucon_top.specs.Form.{HasJournal, form_of}
 use Rattle.ucon_top.specs.Played.{HasPlayedInput}
+use Rattle.ucon_top.specs.Printed.{document_of}
+use Rattle.ucon_top.proofs.Completing.{over_document, played_complete, printed_complete}
 use Rattle.ucon_top.proofs.Playing.{unread_played}
 use Rattle.ucon_top.proofs.top.run_alone.Goals as goal
 
@@ -22,3 +26,40 @@ returns-in-Err-clause-played g c =
     ) in
     of_each _ (λ (form : Form). HasJournal form → HasPlayedInput g.D.Disk.contents g.D.Disk.images g.D.Disk.moment g.D.Disk.images_since g.D.Disk.faults form c.by-in-Err.result.outcome input c.args.disk c.by-in-Err.result.disk was was)
     (λ form has_journal. played form)
+
+pub returns-in-Play-clause-complete : goal.returns-in-Play-clause-complete
+returns-in-Play-clause-complete g c =
+    let input = g.S.Source.left c.args.input.now in
+    let bytes = c.deref.result.now in
+    let outcome = c.play.result.outcome in
+    let source = g.S.Source.faults c.args.input.now in
+    let source' = g.S.Source.faults c.document_bytes.new.input in
+    let sink = g.K.Sink.faults c.args.out.now in
+    let sink' = g.K.Sink.faults c.play.new.out in
+    let is_play : c.in-Some.form ≡ Play = cc in
+    let told = subst (λ (f : Form). IfSome (document_of f input) (λ d. d ≡ c.in-Ok.bytes.items)) is_play c.in-Ok.ensures.bytes in
+    let is = subst (λ (b : Bytes). IfSome input (λ d. d ≡ b)) (sym c.deref.ensures.value) told in
+    let known : form_of (map (λ w. string_bytes w) c.args.words.now) ≡ Some Play = cc in
+    rw known (over_document (g.D.Disk.contents c.args.disk) source source' sink sink' (g.D.Disk.faults c.args.disk) (g.D.Disk.faults c.play.result.disk) Play outcome input bytes is
+    (played_complete g.D.Disk.contents g.D.Disk.images g.D.Disk.moment g.D.Disk.images_since g.D.Disk.faults Play c.args.disk c.play.result.disk
+    (g.K.Sink.contents c.args.out.now) (g.K.Sink.contents c.play.new.out) source source' sink sink' bytes outcome
+    (c.accepted_documents_are_not_refused.ensures bytes outcome) c.play.ensures.refused c.play.ensures.of_document c.play.ensures.sink c.play.ensures.fault
+    c.play.ensures.played (λ u. u.journal)))
+
+pub returns-in-Trial-clause-complete : goal.returns-in-Trial-clause-complete
+returns-in-Trial-clause-complete g c =
+    let form = c.in-Some.form in
+    let document = document_of form (g.S.Source.left c.args.input.now) in
+    let bytes = c.deref-in-Trial.result.now in
+    let outcome = c.print_output.result in
+    let source = g.S.Source.faults c.args.input.now in
+    let source' = g.S.Source.faults c.document_bytes.new.input in
+    let sink = g.K.Sink.faults c.args.out.now in
+    let sink' = g.K.Sink.faults c.print_output.new.out in
+    let disk = g.D.Disk.faults c.args.disk in
+    let is = subst (λ (b : Bytes). IfSome document (λ d. d ≡ b)) (sym c.deref-in-Trial.ensures.value) c.in-Ok.ensures.bytes in
+    let known : form_of (map (λ w. string_bytes w) c.args.words.now) ≡ Some form = cc in
+    rw (c.by-in-Trial.ensures.outcome, c.by-in-Trial.ensures.disk, known) (
+    over_document (g.D.Disk.contents c.args.disk) source source' sink sink' disk disk form outcome document bytes is
+    (printed_complete (g.D.Disk.contents c.args.disk) source source' sink sink' disk disk form outcome bytes
+    (c.accepted_documents_are_not_refused.ensures bytes outcome) c.print_output.ensures.refused c.print_output.ensures.ends c.print_output.ensures.sink))

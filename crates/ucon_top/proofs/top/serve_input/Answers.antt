@@ -1,7 +1,10 @@
 use denote.Exit.{no}
 use denote.Param.Send.{arg_send, param_send}
-use Rattle.std.proofs.Common.{◌≡◌}
+use Rattle.std.proofs.Common.{◌≡◌, sym, subst}
+use Rattle.std.specs.Prelude.{IfSome}
+use Rattle.ucon_model.specs.Plain.{Bytes}
 use Rattle.ucon_top.specs.declared.form.Form.TheVariants.{Serve}
+use Rattle.ucon_top.proofs.Completing.{over_document, played_complete}
 use Rattle.ucon_top.proofs.Crossing.{monitor_send}
 use Rattle.ucon_top.proofs.Playing.{unread_played}
 use Rattle.ucon_top.proofs.top.serve_input.Goals as goal
@@ -16,3 +19,19 @@ returns-in-Err-clause-played g c =
 
 pub serve-requires-send-E : goal.serve-requires-send-E
 serve-requires-send-E g c κs within = param_send _ _ (arg_send _ no _ monitor_send)
+
+pub returns-in-Ok-clause-complete : goal.returns-in-Ok-clause-complete
+returns-in-Ok-clause-complete g c =
+    let input = g.S.Source.left c.args.input.now in
+    let bytes = c.deref.result.now in
+    let outcome = c.serve.result.outcome in
+    let source = g.S.Source.faults c.args.input.now in
+    let source' = g.S.Source.faults c.document_bytes.new.input in
+    let sink = g.K.Sink.faults c.args.out.now in
+    let sink' = g.K.Sink.faults c.serve.new.out in
+    let is = subst (λ (b : Bytes). IfSome input (λ d. d ≡ b)) (sym c.deref.ensures.value) c.in-Ok.ensures.bytes in
+    over_document (g.D.Disk.contents c.args.disk) source source' sink sink' (g.D.Disk.faults c.args.disk) (g.D.Disk.faults c.serve.result.disk) Serve outcome input bytes is
+    (played_complete g.D.Disk.contents g.D.Disk.images g.D.Disk.moment g.D.Disk.images_since g.D.Disk.faults Serve c.args.disk c.serve.result.disk
+    (g.K.Sink.contents c.args.out.now) (g.K.Sink.contents c.serve.new.out) source source' sink sink' bytes outcome
+    (c.accepted_documents_are_not_refused.ensures bytes outcome) c.serve.ensures.refused c.serve.ensures.of_document c.serve.ensures.sink c.serve.ensures.fault
+    c.serve.ensures.played (λ u. u.journal))

@@ -1,0 +1,136 @@
+-- A run that nothing hinders is complete: the causes of all other ends are excluded.
+use Rattle.std.proofs.Common.{◌≡◌, ℕ, ◌+◌, ◌<◌, ◌≤◌, List, [], ◌∷◌, refl, sym, ap, subst, ◌∙◌, arith}
+use Rattle.std.specs.Prelude.{Option, Some, None, IfSome, length, option_map, if◌then◌else◌}
+use Rattle.std.proofs.lemmas.Bool.{eq-eqb}
+use Rattle.ucon_flow.specs.Causes.{Rose}
+use Rattle.ucon_disk.specs.Causes.{raised}
+use Rattle.ucon_model.specs.Document.{policy_part}
+use Rattle.ucon_model.specs.Found.{Finding, not_journal, damaged}
+use Rattle.ucon_model.specs.Plain.{Bytes}
+use Rattle.ucon_store.specs.Found.{Tells, found}
+use Rattle.ucon_store.specs.Opening.{HasOtherPolicy, first_difference}
+use Rattle.ucon_top.specs.declared.form.Form.{Form}
+use Rattle.ucon_top.specs.declared.form.Form.TheVariants as forms
+use Rattle.ucon_top.specs.declared.outcome.Outcome.{Outcome}
+use Rattle.ucon_top.specs.declared.outcome.Outcome.TheVariants as outcomes
+use Rattle.ucon_top.specs.Accepted.{IsAccepted, IsRefusedBy}
+use Rattle.ucon_top.specs.Complete.{IsComplete, IsOwnJournal, IsUnhindered}
+use Rattle.ucon_top.specs.Ending.{IsOfDocument, IsOfPrinting, IsUnrefused, MayEnd}
+use Rattle.ucon_top.specs.Played.{HasPlayed}
+use Rattle.ucon_top.specs.Printed.{document_of}
+use Rattle.ucon_top.specs.Unread.{IsUnread}
+
+-- ---- no reason not to open holds of one's own journal
+
+no_difference : (one : Bytes) → first_difference one one ≡ None
+no_difference [] = refl
+no_difference (b ∷ one) =
+    ap (λ t. if t then option_map (λ place. place + 1) (first_difference one one) else Some 0) (eq-eqb b b refl)
+    ∙ ap (option_map (λ place. place + 1)) (no_difference one)
+
+module _ (text : Bytes) (contents : Option Bytes) (own : IsOwnJournal text contents) where
+  told_of : (so : Bytes → Type 0) → IfSome contents so → so own.file
+  told_of so h = subst (λ (o : Option Bytes). IfSome o so) own.told h
+
+  not_foreign : IfSome contents (λ file. found file ≡ not_journal) → ⊥
+  not_foreign h = subst (λ (f : Finding). Tells f text own.history) (told_of (λ file. found file ≡ not_journal) h) own.found
+
+  not_damaged : (number place : ℕ) → IfSome contents (λ file. found file ≡ damaged number place) → ⊥
+  not_damaged number place h = subst (λ (f : Finding). Tells f text own.history) (told_of (λ file. found file ≡ damaged number place) h) own.found
+
+  not_others : (place : ℕ) → IfSome contents (HasOtherPolicy text place) → ⊥
+  not_others place h =
+      let other = told_of (HasOtherPolicy text place) h in
+      let same = subst (λ (f : Finding). Tells f text own.history) other.is own.found in
+      let none : first_difference other.other text ≡ None = subst (λ (t : Bytes). first_difference other.other t ≡ None) same.0 (no_difference other.other) in
+      let bad : None ≡ Some place = sym none ∙ other.differs in absurd (cc bad)
+
+-- ---- the input is not too long
+
+too_much : (n : ℕ) → n ≤ 4194304 → 4194304 < n → ⊥
+too_much n le less = omega (arith, le, less)
+
+not_long : (form : Form) (input : Option Bytes) (bytes : Bytes) → MayEnd form outcomes.TooLong → document_of form input ≡ Some bytes → IsAccepted bytes
+    → IfSome input (λ b. 4194304 < length b) → ⊥
+not_long forms.Trial input bytes may is accepted long = too_much (length bytes) accepted.short (subst (λ (o : Option Bytes). IfSome o (λ b. 4194304 < length b)) is long)
+not_long forms.Check input bytes may is accepted long = too_much (length bytes) accepted.short (subst (λ (o : Option Bytes). IfSome o (λ b. 4194304 < length b)) is long)
+not_long forms.Play input bytes may is accepted long = too_much (length bytes) accepted.short (subst (λ (o : Option Bytes). IfSome o (λ b. 4194304 < length b)) is long)
+not_long forms.Serve input bytes may is accepted long = too_much (length bytes) accepted.short (subst (λ (o : Option Bytes). IfSome o (λ b. 4194304 < length b)) is long)
+not_long (forms.Gen seed size) input bytes may is accepted long = may
+
+-- ---- by how the run ended
+
+rose : (before now : ℕ) → now ≡ raised before → Rose before now
+rose before now is = subst (λ (n : ℕ). raised before ≤ n) (sym is) (omega arith)
+
+module _ (contents : Option Bytes) (source source' sink sink' disk disk' : ℕ) where
+  abbrev Completes : Form → Outcome → Bytes → Type 0
+  Completes form outcome bytes = IsUnhindered form bytes contents source source' sink sink' disk disk' → IsComplete outcome
+
+  -- the document wasn't read
+  pub unread_complete : (form : Form) (outcome : Outcome) (input : Option Bytes) → IsUnread input source source' outcome → MayEnd form outcome
+      → IfSome (document_of form input) (Completes form outcome)
+  unread_complete form outcome input unread may = over (document_of form input) refl
+    where
+      by_outcome : (o : Outcome) (bytes : Bytes) → IsUnread input source source' o → MayEnd form o → document_of form input ≡ Some bytes → Completes form o bytes
+      by_outcome outcomes.SourceFault bytes h m is u = absurd (u.source_works h)
+      by_outcome outcomes.TooLong bytes h m is u = absurd (not_long form input bytes m is u.accepted h)
+      by_outcome (outcomes.NoMemory e) bytes h m is u = tt
+      by_outcome outcomes.Done bytes h m is u = tt
+      by_outcome outcomes.Usage bytes h m is u = absurd h
+      by_outcome (outcomes.Policy f) bytes h m is u = absurd h
+      by_outcome (outcomes.Script f) bytes h m is u = absurd h
+      by_outcome outcomes.SinkFault bytes h m is u = absurd h
+      by_outcome outcomes.DiskFault bytes h m is u = absurd h
+      by_outcome (outcomes.Damaged number place) bytes h m is u = absurd h
+      by_outcome outcomes.NotJournal bytes h m is u = absurd h
+      by_outcome (outcomes.OtherPolicy place) bytes h m is u = absurd h
+
+      over : (o : Option Bytes) → document_of form input ≡ o → IfSome o (Completes form outcome)
+      over None is = tt
+      over (Some bytes) is = by_outcome outcome bytes unread may is
+
+  -- the document was these bytes, where it is told
+  pub over_document : (form : Form) (outcome : Outcome) (document : Option Bytes) (bytes : Bytes) → IfSome document (λ d. d ≡ bytes) → Completes form outcome bytes
+      → IfSome document (Completes form outcome)
+  over_document form outcome None bytes is complete = tt
+  over_document form outcome (Some d) bytes is complete = subst (λ (b : Bytes). Completes form outcome b) (sym is) complete
+
+  -- nothing but its document and the sink can end a run without a journal
+  pub printed_complete : (form : Form) (outcome : Outcome) (bytes : Bytes) → (IsAccepted bytes → IsRefusedBy outcome bytes → IsUnrefused outcome)
+      → IsRefusedBy outcome bytes → IsOfPrinting outcome → (outcome ≡ outcomes.SinkFault → Rose sink sink') → Completes form outcome bytes
+  printed_complete form outcomes.Done bytes unrefused refused ends sink u = tt
+  printed_complete form (outcomes.NoMemory e) bytes unrefused refused ends sink u = tt
+  printed_complete form (outcomes.Policy f) bytes unrefused refused ends sink u = absurd (unrefused u.accepted refused)
+  printed_complete form (outcomes.Script f) bytes unrefused refused ends sink u = absurd (unrefused u.accepted refused)
+  printed_complete form outcomes.SinkFault bytes unrefused refused ends sink u = absurd (u.sink_works (sink refl))
+  printed_complete form outcomes.Usage bytes unrefused refused ends sink u = absurd ends
+  printed_complete form outcomes.SourceFault bytes unrefused refused ends sink u = absurd ends
+  printed_complete form outcomes.DiskFault bytes unrefused refused ends sink u = absurd ends
+  printed_complete form (outcomes.Damaged number place) bytes unrefused refused ends sink u = absurd ends
+  printed_complete form outcomes.NotJournal bytes unrefused refused ends sink u = absurd ends
+  printed_complete form (outcomes.OtherPolicy place) bytes unrefused refused ends sink u = absurd ends
+  printed_complete form outcomes.TooLong bytes unrefused refused ends sink u = absurd ends
+
+-- nor anything but these and its journal one over a journal
+module _ {D : Type 0} (contents : D → Option (List ℕ)) (images : D → List ℕ → Type 0) (moment : D → ℕ) (images_since : D → ℕ → List ℕ → Type 0) (faults : D → ℕ)
+    (form : Form) (old new : D) (was written : Option Bytes) (source source' sink sink' : ℕ) (bytes : Bytes) where
+  pub played_complete : (outcome : Outcome) → (IsAccepted bytes → IsRefusedBy outcome bytes → IsUnrefused outcome) → IsRefusedBy outcome bytes → IsOfDocument outcome
+      → (outcome ≡ outcomes.SinkFault → Rose sink sink') → (outcome ≡ outcomes.DiskFault → faults new ≡ raised (faults old))
+      → HasPlayed contents images moment images_since faults form outcome bytes old new was written
+      → (IsUnhindered form bytes (contents old) source source' sink sink' (faults old) (faults new) → IsOwnJournal (policy_part bytes) (contents old))
+      → Completes (contents old) source source' sink sink' (faults old) (faults new) form outcome bytes
+  played_complete outcomes.Done unrefused refused ends sink disk played own u = tt
+  played_complete (outcomes.NoMemory e) unrefused refused ends sink disk played own u = tt
+  played_complete (outcomes.Policy f) unrefused refused ends sink disk played own u = absurd (unrefused u.accepted refused)
+  played_complete (outcomes.Script f) unrefused refused ends sink disk played own u = absurd (unrefused u.accepted refused)
+  played_complete outcomes.SinkFault unrefused refused ends sink disk played own u = absurd (u.sink_works (sink refl))
+  played_complete outcomes.DiskFault unrefused refused ends sink disk played own u = absurd (u.disk_works (rose (faults old) (faults new) (disk refl)))
+  played_complete (outcomes.Damaged number place) unrefused refused ends sink disk played own u =
+      absurd (not_damaged (policy_part bytes) (contents old) (own u) number place played.reason.0)
+  played_complete outcomes.NotJournal unrefused refused ends sink disk played own u = absurd (not_foreign (policy_part bytes) (contents old) (own u) played.reason.0)
+  played_complete (outcomes.OtherPolicy place) unrefused refused ends sink disk played own u =
+      absurd (not_others (policy_part bytes) (contents old) (own u) place played.reason.0)
+  played_complete outcomes.Usage unrefused refused ends sink disk played own u = absurd ends
+  played_complete outcomes.SourceFault unrefused refused ends sink disk played own u = absurd ends
+  played_complete outcomes.TooLong unrefused refused ends sink disk played own u = absurd ends
