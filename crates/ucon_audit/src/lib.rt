@@ -6,6 +6,8 @@ mod head;
 mod parallel;
 mod state_json;
 #[cfg(test)]
+mod state_tests;
+#[cfg(test)]
 mod tests;
 
 pub use accessing::{changed_sessions, changed_usages, usages};

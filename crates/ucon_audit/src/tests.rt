@@ -1,9 +1,21 @@
-//! Digests and heads against values that were worked out elsewhere.
+//! Digests and heads against values that were worked out elsewhere, and sessions rechecked by several threads beside a plain loop.
+ghost use Rattle.std.specs.Prelude.{◌≡◌, ◌<◌, All, IfOk, IsSome, OnOk};
+ghost use Rattle.ucon_actions.specs.Leads.{IsFollowing};
+ghost use Rattle.ucon_state.specs.Shown.{shown};
+ghost use Rattle.ucon_state.specs.Tables.{session_in};
+
 use super::*;
 use sha2::{Digest, Sha256};
 use std::alloc::Global;
 use std::test::Fail;
-use ucon_base::Rows;
+use std::thread::Threads;
+use ucon_actions::own_actions;
+use ucon_base::{Int, Name, Rows, Side, Value};
+use ucon_check::check;
+use ucon_eval::{typed_tests_make_no_set, verdict};
+use ucon_model::{Caller, Command, Verdict, View};
+use ucon_state::{State, each_action_is_followed, tables_keep_what_is_followed};
+use ucon_syntax::read_policy;
 
 fn rows(alloc: Global, bytes: &[u8]) -> Result<Rows<u8>, Fail> {
     Ok(Rows::from(Vec::from_slice(alloc, bytes)?))
@@ -66,5 +78,185 @@ fn a_head_has_one_text(rt: HostRuntime) -> Result<(), Fail> {
     assert_eq!(rt; read_head(&lower[..63]), None);
     assert_eq!(rt; read_head(&lower[..62]), None);
     assert_eq!(rt; read_head(&[b'a'; 66]), None);
+    Ok(())
+}
+
+/// Credit and an act decide whether a try is permitted.
+const PLAYING: &[u8] = b"attr s credit : int 0..100 = 9;
+right play { pre a funds: s.credit >= 5; pre b terms: done accept; }
+";
+
+fn opening(alloc: Global, policy: &[u8]) -> Result<State, Fail>
+    ensures { IfOk result (λ s. IsFollowing (shown s)) }
+{
+    each_action_is_followed();
+    let checked = check(alloc, read_policy(alloc, policy)?)?;
+    Ok(State::new(alloc, checked)?)
+}
+
+fn obey(alloc: Global, state: &mut State, command: &Command) -> Result<(), Fail>
+    requires { IsFollowing (shown state.old) }
+    ensures { OnOk result (IsFollowing (shown state.new)) }
+{
+    own_actions(alloc, state, Caller(0), command)?;
+    Ok(())
+}
+
+/// One of ten subjects.
+fn subject(number: u32) -> Result<Name, Fail> {
+    Ok(Name::read(&[b's', b'0' + (number % 10) as u8])?)
+}
+
+/// Makes a subject; those with an even number accept the terms.
+fn make_subject(alloc: Global, state: &mut State, number: u32) -> Result<(), Fail>
+    requires { IsFollowing (shown state.old) }
+    ensures { OnOk result (IsFollowing (shown state.new)) }
+{
+    obey(alloc, state, &Command::Subject(subject(number)?))?;
+    if number % 2 == 0 {
+        let accept = Command::Act {
+            subject: subject(number)?,
+            action: Name::read(b"accept")?,
+            object: Name::read(b"song")?,
+        };
+        obey(alloc, state, &accept)?;
+    }
+    Ok(())
+}
+
+fn try_to_play(alloc: Global, state: &mut State, number: u32) -> Result<(), Fail>
+    requires { IsFollowing (shown state.old) }
+    ensures { OnOk result (IsFollowing (shown state.new)) }
+{
+    let command = Command::Try {
+        subject: subject(number)?,
+        right: Name::read(b"play")?,
+        object: Name::read(b"song")?,
+    };
+    obey(alloc, state, &command)
+}
+
+/// Leaves a subject with a credit of 1.
+fn spend(alloc: Global, state: &mut State, number: u32) -> Result<(), Fail>
+    requires { IsFollowing (shown state.old) }
+    ensures { OnOk result (IsFollowing (shown state.new)) }
+{
+    let command = Command::Set {
+        side: Side::Subject,
+        name: subject(number)?,
+        attr: Name::read(b"credit")?,
+        value: Value::Int(Int::new(1).ok_or("no integer")?),
+    };
+    obey(alloc, state, &command)
+}
+
+/// A song and ten subjects.
+fn make_all(alloc: Global, state: &mut State) -> Result<(), Fail>
+    requires { IsFollowing (shown state.old) }
+    ensures { OnOk result (IsFollowing (shown state.new)) }
+{
+    obey(alloc, state, &Command::Object(Name::read(b"song")?))?;
+    for number in 0..10u32 {
+        make_subject(alloc, state, number)?;
+    }
+    Ok(())
+}
+
+/// The subjects try the song in turn, so many times. Then the credit of two is spent.
+fn played(alloc: Global, tries: u32) -> Result<State, Fail>
+    ensures { IfOk result (λ s. IsFollowing (shown s)) }
+{
+    let mut state = opening(alloc, PLAYING)?;
+    make_all(alloc, &mut state)?;
+    for number in 0..tries {
+        try_to_play(alloc, &mut state, number)?;
+    }
+    spend(alloc, &mut state, 0)?;
+    spend(alloc, &mut state, 5)?;
+    Ok(state)
+}
+
+/// Those of the sessions 1 to this one that are there.
+fn sessions_there(alloc: Global, state: &State, last: u32) -> Result<Vec<u32>, Fail>
+    requires { last < 4294967295 }
+    ensures { IfOk result (λ v. All (λ n. IsSome (session_in (shown state.now).tables n)) v.items) }
+{
+    let mut sessions = Vec::new(alloc);
+    for n in 1..last + 1 {
+        if state.session(n).is_some() {
+            sessions.push(n)?;
+        }
+    }
+    Ok(sessions)
+}
+
+/// What a plain loop finds.
+fn found_in_turn(alloc: Global, state: &State, sessions: &[u32]) -> Result<Vec<Changed>, Fail>
+    requires { IsFollowing (shown state.now) }
+{
+    tables_keep_what_is_followed();
+    typed_tests_make_no_set();
+    let mut found = Vec::new(alloc);
+    for n in sessions {
+        let session = *n;
+        if state.session(session).is_none() {
+            return Err("no session".into());
+        }
+        let verdict = verdict(state, session);
+        if verdict != Verdict::Permit {
+            found.push(Changed { session, verdict })?;
+        }
+    }
+    Ok(found)
+}
+
+/// How many sessions, how many of them changed, and the first and the last of these.
+type Found = (usize, usize, Option<Changed>, Option<Changed>);
+
+/// What the threads found, where the plain loop found the same.
+fn found_alike(sessions: usize, changed: &[Changed], plain: &[Changed]) -> Result<Found, Fail> {
+    if changed != plain {
+        return Err("a plain loop finds others".into());
+    }
+    let first = changed.first().copied();
+    let last = changed.last().copied();
+    Ok((sessions, changed.len(), first, last))
+}
+
+fn found_of_all<R: Threads + Sync>(rt: &R, alloc: Global, state: &State) -> Result<Found, Fail>
+    requires { IsFollowing (shown state.now) }
+{
+    let sessions = sessions_there(alloc, state, 10_000)?;
+    let changed = changed_sessions(rt, alloc, state, &sessions)?;
+    let plain = found_in_turn(alloc, state, &sessions)?;
+    found_alike(sessions.len(), changed.slice(), plain.as_slice())
+}
+
+fn found_of_usages<R: Threads + Sync>(rt: &R, alloc: Global, state: &State) -> Result<Found, Fail>
+    requires { IsFollowing (shown state.now) }
+{
+    let sessions = usages(alloc, state)?;
+    let changed = changed_usages(rt, alloc, state)?;
+    let plain = found_in_turn(alloc, state, sessions.slice())?;
+    found_alike(sessions.len(), changed.slice(), plain.as_slice())
+}
+
+/// Of all sessions, and of the uses that go on.
+fn found<R: Threads + Sync>(rt: &R, alloc: Global) -> Result<(Found, Found), Fail> {
+    let state = played(alloc, 10_000)?;
+    let all = found_of_all(rt, alloc, &state)?;
+    let going_on = found_of_usages(rt, alloc, &state)?;
+    Ok((all, going_on))
+}
+
+/// Of each ten sessions the first and the sixth are denied, four of the others wait, and four are permitted. Who waits has no use that goes on.
+#[test]
+fn ten_thousand_sessions_are_rechecked_as_in_a_plain_loop(rt: HostRuntime) -> Result<(), Fail> {
+    let (all, going_on) = found(&rt, rt.alloc())?;
+    let deny = Verdict::Deny(Name::read(b"funds")?);
+    let wait = Verdict::Wait(Name::read(b"terms")?);
+    let at = |session: u32, verdict: Verdict| Some(Changed { session, verdict });
+    assert_eq!(rt; all, (10_000, 6_000, at(1, deny), at(10_000, wait)));
+    assert_eq!(rt; going_on, (5_000, 1_000, at(1, deny), at(9_991, deny)));
     Ok(())
 }

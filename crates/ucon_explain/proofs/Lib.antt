@@ -12,3 +12,4 @@ pub mod Tried
 pub mod Alike
 pub mod BuyTooYoung
 pub mod Answered
+pub mod Stepping

@@ -250,10 +250,10 @@ fn is_same_factor(a: Factor, b: Factor) -> bool
     a == b
 }
 
-fn is_same_truth(a: bool, b: bool) -> bool
-    ensures { IsTrue result ↔ (a ≡ b) }
+fn is_same_truth(told: bool, found: bool) -> bool
+    ensures { IsTrue result ↔ (told ≡ found) }
 {
-    a == b
+    told == found
 }
 
 /// Whether these are the facts that a test reads, and it has this truth.

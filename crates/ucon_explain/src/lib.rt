@@ -9,6 +9,8 @@ mod facts;
 mod laws;
 mod one_more;
 mod places;
+#[cfg(test)]
+mod tests;
 mod text;
 mod told;
 mod trying;

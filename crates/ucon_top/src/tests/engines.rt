@@ -8,7 +8,6 @@ use std::test::Fail;
 use ucon_base::{NoMemory, Steps};
 use ucon_cascade::Monitor;
 use ucon_client::OpenGate;
-use ucon_command::{CommandLine, put_reply, read_accepted};
 use ucon_disk::MemDisk;
 use ucon_model::{Caller, Checked, Command, SessionState};
 use ucon_plain::PlainMonitor;
@@ -178,45 +177,5 @@ fn who_is_not_touched_is_not_asked(rt: HostRuntime) -> Result<(), Fail> {
         assert_eq!(rt; outcome.status(), 0, "{form}");
         assert_eq!(rt; output.as_slice(), b"0 160004 ok\n".as_slice(), "{form}");
     }
-    Ok(())
-}
-
-/// Drafts a step, keeps it, and tells the reply and how many sessions were asked.
-fn asked(alloc: Global, engine: &mut Monitor, text: &str) -> Result<(Vec<u8>, u64), Fail> {
-    let command = match CommandLine::judge(alloc, text.as_bytes()) {
-        Ok(line) => line.command(alloc)?,
-        Err(_) => Command::Look(1),
-    };
-    let mut steps = Steps::new();
-    let drafted = engine.draft(Caller(0), &command, &mut steps)?;
-    let mut reply = Vec::new(alloc);
-    put_reply(alloc, &mut reply, &drafted.reply)?;
-    if drafted.changes {
-        engine.keep();
-    }
-    Ok((reply, steps.count()))
-}
-
-/// A tick asks those of whom it passed a limit, and nobody else.
-#[test]
-fn a_tick_asks_who_is_due(rt: HostRuntime) -> Result<(), Fail> {
-    let alloc = rt.alloc();
-    let Some(checked) = read_accepted(alloc, b"right w { on c t: lasts 10; }\n")? else {
-        assert!(rt; false, "the policy is refused");
-        return Ok(());
-    };
-    let mut engine = Monitor::begin(alloc, checked)?;
-    for text in ["subject a", "object x", "try a w x", "tick 5"] {
-        asked(alloc, &mut engine, text)?;
-    }
-    for _ in 0..999u32 {
-        asked(alloc, &mut engine, "try a w x")?;
-    }
-    let (reply, count) = asked(alloc, &mut engine, "tick 11")?;
-    assert_eq!(rt; reply.as_slice(), b"ok revoked 1 t".as_slice());
-    assert_eq!(rt; count, 1);
-    let (reply, count) = asked(alloc, &mut engine, "tick 15")?;
-    assert_eq!(rt; reply.as_slice(), b"ok".as_slice());
-    assert_eq!(rt; count, 0);
     Ok(())
 }
