@@ -4,6 +4,7 @@ pub mod Products
 pub mod Rising
 pub mod Runs
 pub mod Saturated
+pub mod SameArrays
 pub mod SetsRead
 pub mod SetsSpelled
 pub mod TextFront

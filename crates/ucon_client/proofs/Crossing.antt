@@ -155,7 +155,7 @@ module _ (E D : RattleType) (g : engine.Ghosts E.Denot) (d : disk.Ghosts D.Denot
             search (crosses, sendable) depth 20,
             (
               search (crosses, sendable) depth 20,
-              (rows.the_send Entry.the_row entry_send, (search (entry_send, crosses, sendable) depth 20, tt)),
+              (rows.the_send Entry.the_row entry_send, (search (entry_send, crosses, sendable) depth 20, (search (crosses, sendable) depth 20, tt))),
             ),
           ),
         ),

@@ -9,6 +9,7 @@ pub mod Lengths
 pub mod LowerLaws
 pub mod Payloads
 pub mod Placed
+pub mod Proper
 pub mod ReadLines
 pub mod ReadReplies
 pub mod Revoked

@@ -12,17 +12,19 @@ use Rattle.std.proofs.lemmas.List.{take_all}
 use Rattle.std.proofs.lemmas.Slice.Eq.{bytes_eq-Decides}
 use Rattle.ucon_model.specs.declared.command.Caller.{Caller}
 use Rattle.ucon_model.specs.declared.command.Command.{Command}
+use Rattle.ucon_model.specs.declared.command.Entry.{Entry}
 use Rattle.ucon_model.specs.CommandLine.{command_spelling, line_read, IsCommand, LineRefusal}
 use Rattle.ucon_model.specs.Document.{caller_of}
 use Rattle.ucon_model.specs.Output.{Lacks, cut_at, number_read}
-use Rattle.ucon_model.specs.Payload.{Told, payload_spelling, caller_read, client_numbered, step_read, payload_read, ◌>>=◌}
+use Rattle.ucon_model.specs.Payload.{Told, told, entry_told, payload_spelling, caller_read, client_numbered, step_read, payload_read, ◌>>=◌}
 use Rattle.ucon_model.specs.Plain.{Bytes, PlainPolicy, PlainReply}
 use Rattle.ucon_model.specs.ReplyText.{IsReply, reply_read}
 use Rattle.ucon_model.specs.Spelling.{reply_spelling}
 use Rattle.ucon_model.specs.declared.reply.Reply.{Reply}
 use Rattle.ucon_model.specs.Views.{reply_of}
 use Rattle.ucon_command.specs.declared.payload_fault.PayloadFault.{PayloadFault}
-use Rattle.ucon_command.specs.Payloads.{IsBadAt, most_told, told_of}
+use Rattle.ucon_command.specs.declared.payload_fault.PayloadFault.TheVariants.{BadPlace}
+use Rattle.ucon_command.specs.Payloads.{IsBadAt, entry_read, most_told, told_of}
 use Rattle.ucon_command.proofs.Lengths.{short_all, reply_short}
 use Rattle.ucon_command.proofs.LowerLaws.{NumbersLack}
 use Rattle.ucon_command.proofs.ReadReplies.{RepliesAreRead}
@@ -275,3 +277,50 @@ module _ (reads : Bytes → Option PlainPolicy) where
   no_client bytes client rest caller cut is h =
       let step : payload_read reads bytes ≡ step_read reads (length client + 1) caller rest = rw (cut, is) refl in
       omega (arith, step_behind (length client + 1) caller rest 0 (sym step ∙ h))
+
+-- ---- the entry alone
+
+-- what is read of a whole payload beside what is read of its entry alone: refused at one place, or the entry of a step of one of the 64 clients
+abbrev IsOfOne : Result Told ℕ → Result Entry ℕ → Type 0
+IsOfOne whole (Err place) = whole ≡ Err place
+IsOfOne whole (Ok e) = IfOk whole (λ t. e ≡ entry_told t) × (e.caller.0 < 64)
+
+part_of_one : {A : Type 0} (o : Option A) (place : ℕ) (f : A → Result Told ℕ) (g : A → Result Entry ℕ) → ((x : A) → o ≡ Some x → IsOfOne (f x) (g x))
+    → IsOfOne (ok_or o place >>= f) (ok_or o place >>= g)
+part_of_one None place f g next = refl
+part_of_one (Some x) place f g next = next x refl
+
+reply_of_one : (e : Entry) (o : Option PlainReply) (place : ℕ) → e.caller.0 < 64 → IsOfOne (ok_or o place >>= (λ reply. Ok (told e reply))) (Ok e)
+reply_of_one e None place client = (tt, client)
+reply_of_one e (Some reply) place client = (refl, client)
+
+module _ (reads : Bytes → Option PlainPolicy) where
+  entry_of_one : (bytes : Bytes) → IsOfOne (payload_read reads bytes) (entry_read reads bytes)
+  unfolding payload_read step_read entry_read
+  entry_of_one bytes =
+      part_of_one (cut_at 32 bytes) 0 _ _ (λ parts _.
+      part_of_one (caller_read parts.0) 0 _ _ (λ caller is.
+      part_of_one (cut_at 10 parts.1) (length parts.0 + 1) _ _ (λ step _.
+      part_of_one (result_ok (line_read reads step.0)) (length parts.0 + 1) _ _ (λ command _.
+      reply_of_one (record { caller = caller; command = command }) (reply_read step.1) (length parts.0 + 1 + length step.0 + 1) (caller_is parts.0 caller is).1))))
+
+  told_from : (bytes : Bytes) (e : Entry) (whole : Result Told ℕ) → IsOfOne whole (Ok e) → (t : Told) → whole ≡ Ok t → e ≡ entry_told t
+  told_from bytes e (Ok s) is t h = is.0 ∙ ap (λ r. entry_told (result_unwrap_or r s)) h
+  told_from bytes e (Err place) is t h = absurd (refused h)
+
+  -- so what the code reads is the entry of the step that the payload tells
+  pub entry_is : (bytes : Bytes) (r : Result Entry PayloadFault) → MatchResult r (λ e. entry_read reads bytes ≡ Ok e) (IsBadAt (entry_read reads bytes))
+      → IfOk r (λ e. (t : Told) → payload_read reads bytes ≡ Ok t → e ≡ entry_told t)
+      × ((place : ℕ) → r ≡ Err (BadPlace place) → payload_read reads bytes ≡ Err place)
+      × IfOk r (λ e. e.caller.0 < 64)
+  entry_is bytes (Ok e) is =
+      let one : IsOfOne (payload_read reads bytes) (Ok e) = subst (IsOfOne (payload_read reads bytes)) is (entry_of_one bytes) in
+      (told_from bytes e (payload_read reads bytes) one, λ place h. absurd (false≢true (ap is_ok (sym h))), one.1)
+  entry_is bytes (Err fault) is = (
+    tt,
+    λ place h.
+        let same : fault ≡ BadPlace place = ap (λ r. unwrap_or (result_err r) fault) h in
+        let bad : entry_read reads bytes ≡ Err place = subst (IsBadAt (entry_read reads bytes)) same is in
+        subst (IsOfOne (payload_read reads bytes)) bad (entry_of_one bytes),
+    tt,
+  )

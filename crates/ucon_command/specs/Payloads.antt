@@ -1,20 +1,34 @@
 -- What the calls of payloads give and refuse.
-use Rattle.std.specs.Prelude.{◌≡◌, ◌+◌, ◌*◌, ◌<◌, ◌≤◌, ℕ, [], ◌∷◌, ◌++◌, length, Result, Err, ⊤}
+use Rattle.std.specs.Prelude.{◌≡◌, ◌+◌, ◌*◌, ◌<◌, ◌≤◌, ℕ, [], ◌∷◌, ◌++◌, length, Option, Result, Ok, Err, ok_or, ⊤}
+use Rattle.std.specs.Result.{result_ok}
+use Rattle.ucon_base.specs.Elements.{Each}
 use Rattle.ucon_command.specs.declared.payload_fault.PayloadFault.{PayloadFault}
 use Rattle.ucon_command.specs.declared.payload_fault.PayloadFault.TheVariants.{BadPlace, NoMemory}
 use Rattle.ucon_model.specs.declared.command.Caller.{Caller}
 use Rattle.ucon_model.specs.declared.command.Command.{Command}
+use Rattle.ucon_model.specs.declared.command.Entry.{Entry}
 use Rattle.ucon_model.specs.declared.reply.Reply.{Reply}
-use Rattle.ucon_model.specs.CommandLine.{IsCommand}
+use Rattle.ucon_model.specs.CommandLine.{IsCommand, line_read}
 use Rattle.ucon_model.specs.History.{History, said}
-use Rattle.ucon_model.specs.Payload.{Told, told, revocations_in}
-use Rattle.ucon_model.specs.Plain.{PlainPolicy, PlainReply}
+use Rattle.ucon_model.specs.Output.{cut_at}
+use Rattle.ucon_model.specs.Payload.{Told, told, caller_read, revocations_in, ◌>>=◌}
+use Rattle.ucon_model.specs.Plain.{Bytes, PlainPolicy, PlainReply}
 use Rattle.ucon_model.specs.ReplyText.{IsReply}
 use Rattle.ucon_model.specs.Views.{reply_of}
 
 -- a caller's command and the reply to it, as they stand in definitions
 abbrev pub told_of : Caller → Command → Reply → Told
 told_of caller command reply = record { caller = caller; command = command; reply = reply_of reply }
+
+-- The entry of the step that a payload tells, whatever stands behind the command, or the place of the first part that is none: 0 where the bytes up
+-- to the first space are no client's number, and the place behind the space where the bytes from there to the first newline are no command line.
+unfoldable pub entry_read : (Bytes → Option PlainPolicy) → Bytes → Result Entry ℕ
+entry_read reads bytes = do
+  parts ← ok_or (cut_at 32 bytes) 0
+  caller ← ok_or (caller_read parts.0) 0
+  step ← ok_or (cut_at 10 parts.1) (length parts.0 + 1)
+  command ← ok_or (result_ok (line_read reads step.0)) (length parts.0 + 1)
+  Ok (record { caller = caller; command = command })
 
 -- what is read is refused at this place, unless it is want of memory
 abbrev pub IsBadAt : {A : Type 0} → Result A ℕ → PayloadFault → Type 0
@@ -41,3 +55,7 @@ pub record IsStep (t : Told) : Type 0 where
 abbrev pub AreSteps : PlainPolicy → History → History → Type 0
 AreSteps P H [] = ⊤
 AreSteps P H (e ∷ rest) = IsStep (told e (said P H e.caller e.command)) × AreSteps P (H ++ e ∷ []) rest
+
+-- each of one of the 64 clients, and of a command that a line may give
+abbrev pub AreOfClients : History → Type 0
+AreOfClients H = Each (λ e. (e.caller.0 < 64) × IsCommand e.command) H

@@ -1,7 +1,6 @@
 //! Builds a command from its line, whose words are known.
 
 ghost use Rattle.std.specs.Prelude.{◌≡◌, ◌<◌, ◌≤◌, drop, length, IfOk, IsSome, IsTrue, Some};
-ghost use Rattle.ucon_base.specs.NameBytes.{is_name};
 ghost use Rattle.ucon_base.specs.Reading.{value_read};
 ghost use Rattle.ucon_model.specs.CommandLine.{amendment_in, integer_in, value_in};
 ghost use Rattle.ucon_syntax.specs.Policies.{accepted};
@@ -10,7 +9,7 @@ ghost use Rattle.ucon_command.specs.Cuts.{between, command_cut, ends_in_name, ha
 use crate::amendment::amendment_in;
 use crate::cuts::Cuts;
 use std::alloc::Global;
-use ucon_base::{Int, Name, NoMemory, Value, ValueFault};
+use ucon_base::{Int, Name, NoMemory, Side, Value, ValueFault};
 use ucon_model::{Amend, Command};
 
 /// The command that these cuts of a line give.
@@ -28,45 +27,100 @@ pub fn command_of(alloc: Global, line: &[u8], cuts: Cuts) -> Result<Command, NoM
             name,
             attr,
             value,
-        } => Ok(Command::Set {
-            side,
-            name: name_between(line, name, attr),
-            attr: name_between(line, attr, value),
-            value: last_value(alloc, line, value)?,
-        }),
-        Cuts::Env { name, value } => Ok(Command::Env {
-            name: name_between(line, name, value),
-            value: last_value(alloc, line, value)?,
-        }),
+        } => set_command(alloc, line, side, name, attr, value),
+        Cuts::Env { name, value } => env_command(alloc, line, name, value),
         Cuts::Tick { tick } => Ok(Command::Tick(last_integer(alloc, line, tick)?)),
         Cuts::Act {
             subject,
             action,
             object,
-        } => Ok(Command::Act {
-            subject: name_between(line, subject, action),
-            action: name_between(line, action, object),
-            object: last_name(line, object),
-        }),
+        } => Ok(act_command(line, subject, action, object)),
         Cuts::Try {
             subject,
             right,
             object,
-        } => Ok(Command::Try {
-            subject: name_between(line, subject, right),
-            right: name_between(line, right, object),
-            object: last_name(line, object),
-        }),
+        } => Ok(try_command(line, subject, right, object)),
         Cuts::Again(n) => Ok(Command::Again(n)),
         Cuts::Beat(n) => Ok(Command::Beat(n)),
         Cuts::End(n) => Ok(Command::End(n)),
         Cuts::Look(n) => Ok(Command::Look(n)),
-        Cuts::Value { side, name, attr } => Ok(Command::Value {
-            side,
-            name: name_between(line, name, attr),
-            attr: last_name(line, attr),
-        }),
+        Cuts::Value { side, name, attr } => Ok(value_command(line, side, name, attr)),
         Cuts::Amend { policy } => Ok(Command::Amend(last_amendment(alloc, line, policy)?)),
+    }
+}
+
+/// `set`, by where its names and its value begin.
+fn set_command(
+    alloc: Global,
+    line: &[u8],
+    side: Side,
+    name: u16,
+    attr: u16,
+    value: u16,
+) -> Result<Command, NoMemory>
+    requires name { IsTrue (has_name name attr line.now) }
+    requires attr { IsTrue (has_name attr value line.now) }
+    requires value { IsSome (value_in (drop value line.now)) }
+    ensures { IfOk result (λ c. command_cut (Cuts.Set side name attr value) line.now ≡ Some c) }
+{
+    Ok(Command::Set {
+        side,
+        name: name_between(line, name, attr),
+        attr: name_between(line, attr, value),
+        value: last_value(alloc, line, value)?,
+    })
+}
+
+/// `env`, by where its name and its value begin.
+fn env_command(alloc: Global, line: &[u8], name: u16, value: u16) -> Result<Command, NoMemory>
+    requires name { IsTrue (has_name name value line.now) }
+    requires value { IsSome (value_in (drop value line.now)) }
+    ensures { IfOk result (λ c. command_cut (Cuts.Env name value) line.now ≡ Some c) }
+{
+    Ok(Command::Env {
+        name: name_between(line, name, value),
+        value: last_value(alloc, line, value)?,
+    })
+}
+
+/// `act`, by where its names begin.
+fn act_command(line: &[u8], subject: u16, action: u16, object: u16) -> Command
+    requires subject { IsTrue (has_name subject action line.now) }
+    requires action { IsTrue (has_name action object line.now) }
+    requires object { IsTrue (ends_in_name object line.now) }
+    ensures { command_cut (Cuts.Act subject action object) line.now ≡ Some result }
+{
+    Command::Act {
+        subject: name_between(line, subject, action),
+        action: name_between(line, action, object),
+        object: last_name(line, object),
+    }
+}
+
+/// `try`, by where its names begin.
+fn try_command(line: &[u8], subject: u16, right: u16, object: u16) -> Command
+    requires subject { IsTrue (has_name subject right line.now) }
+    requires right { IsTrue (has_name right object line.now) }
+    requires object { IsTrue (ends_in_name object line.now) }
+    ensures { command_cut (Cuts.Try subject right object) line.now ≡ Some result }
+{
+    Command::Try {
+        subject: name_between(line, subject, right),
+        right: name_between(line, right, object),
+        object: last_name(line, object),
+    }
+}
+
+/// `value`, by where its names begin.
+fn value_command(line: &[u8], side: Side, name: u16, attr: u16) -> Command
+    requires name { IsTrue (has_name name attr line.now) }
+    requires attr { IsTrue (ends_in_name attr line.now) }
+    ensures { command_cut (Cuts.Value side name attr) line.now ≡ Some result }
+{
+    Command::Value {
+        side,
+        name: name_between(line, name, attr),
+        attr: last_name(line, attr),
     }
 }
 
@@ -75,7 +129,7 @@ fn name_between(line: &[u8], at: u16, next: u16) -> Name
     requires { IsTrue (has_name at next line.now) }
     ensures { result ≡ between at next line.now }
 {
-    known_name(&line[at as usize..next as usize - 1])
+    Name::known(&line[at as usize..next as usize - 1])
 }
 
 /// The name that takes the rest of the line.
@@ -83,17 +137,7 @@ fn last_name(line: &[u8], at: u16) -> Name
     requires { IsTrue (ends_in_name at line.now) }
     ensures { result ≡ drop at line.now }
 {
-    known_name(&line[at as usize..])
-}
-
-fn known_name(bytes: &[u8]) -> Name
-    requires { IsTrue (is_name bytes.now) }
-    ensures { result ≡ bytes.now }
-{
-    match Name::read(bytes) {
-        Ok(name) => name,
-        Err(_) => unreachable!(),
-    }
+    Name::known(&line[at as usize..])
 }
 
 /// The value that takes the rest of the line.

@@ -2,6 +2,7 @@
 
 ghost use Rattle.std.specs.Prelude.{◌≡◌, ◌<◌, ◌≤◌, ◌∷◌, [], ◌++◌, ◌&&◌, ℕ, List, Option, length, Ok, Err, Some, None, IsTrue, if◌then◌else◌};
 ghost use Rattle.std.specs.Str.{bytes_eq};
+ghost use Rattle.ucon_base.specs.Elements.{Each};
 ghost use Rattle.ucon_model.specs.declared.command.Entry.{Entry};
 ghost use Rattle.ucon_model.specs.declared.command.Command.{Command};
 ghost use Rattle.ucon_model.specs.CommandLine.{IsCommand, command_spelling, line_read, most_bytes};
@@ -13,10 +14,12 @@ ghost use Rattle.ucon_model.specs.Plain.{Bytes, PlainPolicy, PlainReply};
 ghost use Rattle.ucon_model.specs.ReplyText.{IsReply, reply_read};
 ghost use Rattle.ucon_model.specs.Spelling.{reply_spelling};
 ghost use Rattle.ucon_syntax.specs.Policies.{accepted};
-ghost use Rattle.ucon_command.specs.Payloads.{AreSteps, IsStep, most_told};
+ghost use Rattle.ucon_command.specs.Payloads.{AreOfClients, AreSteps, IsStep, most_told};
 
 use ucon_base::values_are_read_back;
-use ucon_model::{texts_lack_bytes, texts_tell_changes};
+use ucon_model::{
+    changing_replies_can_be_spelled, revocations_are_few, texts_lack_bytes, texts_tell_changes,
+};
 use ucon_syntax::accepted_texts_spell_typed_policies;
 
 /// Each command's text is read as the command, and a line that is read is the text of the command read. No text of a command has a
@@ -81,4 +84,19 @@ pub fn histories_are_found()
 {
     payloads_are_read_back();
     texts_tell_changes();
+}
+
+/// What is found in the payloads of a proper history of commands of the 64 clients is that history, and each payload fits its record: its
+/// replies can be spelled.
+pub fn proper_histories_are_found()
+    ensures found { (text : Bytes) (P : PlainPolicy) (H : History) → accepted text ≡ Some P → AreOfClients H → IsProper P H
+        → found_in accepted (payloads_of text P H) ≡ holds text P H (gate_behind first_gate (payloads_of text P H)) }
+    ensures fits { (text : Bytes) (P : PlainPolicy) (H : History) → accepted text ≡ Some P → AreOfClients H → IsProper P H
+        → Each (λ payload. length payload ≤ most_payload) (payloads_of text P H) }
+{
+    accepted_texts_spell_typed_policies();
+    changing_replies_can_be_spelled();
+    revocations_are_few();
+    payloads_are_read_back();
+    histories_are_found();
 }

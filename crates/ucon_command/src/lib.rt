@@ -28,12 +28,12 @@ pub use command_line::CommandLine;
 pub use commands::command_text;
 pub use cuts::Cuts;
 pub use laws::{
-    commands_are_read_back, histories_are_found, payloads_are_read_back, replies_are_read_back,
-    steps_are_taken_as_spelled,
+    commands_are_read_back, histories_are_found, payloads_are_read_back,
+    proper_histories_are_found, replies_are_read_back, steps_are_taken_as_spelled,
 };
 pub use line_fault::LineFault;
 pub use lines::read_command;
-pub use payload::{payload_text, read_payload};
+pub use payload::{put_payload, read_entry, read_payload};
 pub use payload_fault::PayloadFault;
 pub use reading::read_reply;
 pub use replies::{put_reply, reply_text};

@@ -5,11 +5,11 @@ ghost use Rattle.std.specs.Fmt.{decimal};
 ghost use Rattle.std.specs.Result.{result_ok};
 ghost use Rattle.ucon_model.specs.CommandLine.{line_read};
 ghost use Rattle.ucon_model.specs.Output.{cut_at};
-ghost use Rattle.ucon_model.specs.Payload.{caller_read, payload_read, payload_spelling, step_read};
+ghost use Rattle.ucon_model.specs.Payload.{Told, caller_read, entry_told, payload_read, payload_spelling, step_read};
 ghost use Rattle.ucon_model.specs.ReplyText.{reply_read};
 ghost use Rattle.ucon_model.specs.Views.{reply_of};
 ghost use Rattle.ucon_syntax.specs.Policies.{accepted};
-ghost use Rattle.ucon_command.specs.Payloads.{IsBadAt, most_told, told_of};
+ghost use Rattle.ucon_command.specs.Payloads.{IsBadAt, entry_read, most_told, told_of};
 
 use crate::commands::put_command;
 use crate::in_form::{command_in_form, reply_in_form};
@@ -24,10 +24,7 @@ use crate::spelling::put_session;
 use itoa::Buffer;
 use std::alloc::Global;
 use ucon_base::{NoMemory, put};
-use ucon_model::{Caller, Command, Reply, texts_lack_bytes};
-
-/// Most payloads have no more.
-const LIKELY_BYTES: usize = 96;
+use ucon_model::{Caller, Command, Entry, Reply, texts_lack_bytes};
 
 /// Of each step of one of the 64 clients the payload is read back, and no payload is longer than its reply lets it be.
 #[tactic(auto, using(crate::proofs::Payloads::text_short))]
@@ -43,33 +40,21 @@ fn step_in_form(caller: Caller, command: &Command, reply: &Reply)
     reply_in_form(reply);
 }
 
-/// The one text of a step: the caller in decimal, a space, the command's text, a newline, the reply's text.
-pub fn payload_text(
-    alloc: Global,
-    caller: Caller,
-    command: &Command,
-    reply: &Reply,
-) -> Result<Vec<u8>, NoMemory>
-    ensures text { IfOk result (λ t. t.items ≡ payload_spelling (told_of caller command.now reply.now)) }
-    ensures read_back { caller.0 < 64
-        → payload_read accepted (payload_spelling (told_of caller command.now reply.now)) ≡ Ok (told_of caller command.now reply.now) }
-    ensures short { length (payload_spelling (told_of caller command.now reply.now)) ≤ most_told (reply_of reply.now) }
-{
-    step_in_form(caller, command, reply);
-    let mut text = Vec::with_capacity(alloc, LIKELY_BYTES)?;
-    put_payload(alloc, &mut text, caller, command, reply)?;
-    Ok(text)
-}
-
-fn put_payload(
+/// Adds the one text of a step: the caller in decimal, a space, the command's text, a newline, the reply's text. Where there is no memory, some of it
+/// may stand there: a caller gives the text up.
+pub fn put_payload(
     alloc: Global,
     out: &mut Vec<u8>,
     caller: Caller,
     command: &Command,
     reply: &Reply,
 ) -> Result<(), NoMemory>
-    ensures { OnOk result (out.new.items ≡ out.old.items ++ payload_spelling (told_of caller command.now reply.now)) }
+    ensures text { OnOk result (out.new.items ≡ out.old.items ++ payload_spelling (told_of caller command.now reply.now)) }
+    ensures read_back { caller.0 < 64
+        → payload_read accepted (payload_spelling (told_of caller command.now reply.now)) ≡ Ok (told_of caller command.now reply.now) }
+    ensures short { length (payload_spelling (told_of caller command.now reply.now)) ≤ most_told (reply_of reply.now) }
 {
+    step_in_form(caller, command, reply);
     put_session(out, b"", u32::from(caller.0))?;
     put(out, b" ")?;
     put_command(alloc, out, command)?;
@@ -101,6 +86,35 @@ fn payload(alloc: Global, bytes: &[u8]) -> Result<(Caller, Command, Reply), Payl
         return Err(PayloadFault::BadPlace(0));
     };
     step(alloc, client.len() + 1, caller, behind)
+}
+
+/// The entry of the step that the bytes tell, without a look at its reply, or the place of the first part that is none: of the caller or the
+/// command. Bytes that begin with no client's number and a space are refused before any memory is taken.
+pub fn read_entry(alloc: Global, bytes: &[u8]) -> Result<Entry, PayloadFault>
+    ensures read { MatchResult result (λ e. entry_read accepted bytes.now ≡ Ok e) (IsBadAt (entry_read accepted bytes.now)) }
+    ensures told { IfOk result (λ e. (t : Told) → payload_read accepted bytes.now ≡ Ok t → e ≡ entry_told t) }
+    ensures untold { (place : ℕ) → result ≡ Err (PayloadFault.BadPlace place) → payload_read accepted bytes.now ≡ Err place }
+    ensures client { IfOk result (λ e. e.caller.0 < 64) }
+{
+    entry(alloc, bytes)
+}
+
+#[tactic(auto, unfolding(crate::specs::Payloads::entry_read))]
+fn entry(alloc: Global, bytes: &[u8]) -> Result<Entry, PayloadFault>
+    ensures { MatchResult result (λ e. entry_read accepted bytes.now ≡ Ok e) (IsBadAt (entry_read accepted bytes.now)) }
+{
+    let Some((client, behind)) = cut_at(b' ', bytes) else {
+        return Err(PayloadFault::BadPlace(0));
+    };
+    let Some(caller) = caller_in(client) else {
+        return Err(PayloadFault::BadPlace(0));
+    };
+    let place = client.len() + 1;
+    let Some((line, _)) = cut_at(b'\n', behind) else {
+        return Err(PayloadFault::BadPlace(place));
+    };
+    let command = command_at(alloc, place, line)?;
+    Ok(Entry { caller, command })
 }
 
 /// A caller's command up to the first newline, and the reply behind it, where the command begins at this place.

@@ -263,11 +263,15 @@ fn other_bytes_are_no_reply(rt: HostRuntime) -> Result<(), Fail> {
 fn a_payload_is_written_and_read_back(rt: HostRuntime) -> Result<(), Fail> {
     let command = read_command(rt.alloc(), b"subject a")?;
     let reply = read_reply(rt.alloc(), b"ok")?;
-    let text = payload_text(rt.alloc(), Caller(0), &command, &reply)?;
+    let mut text = Vec::new(rt.alloc());
+    put_payload(rt.alloc(), &mut text, Caller(0), &command, &reply)?;
     assert_eq!(rt; text.as_slice(), b"0 subject a\nok".as_slice());
+    let entry = read_entry(rt.alloc(), &text)?;
+    assert_eq!(rt; entry.caller, Caller(0));
     let (caller, command, reply) = read_payload(rt.alloc(), &text)?;
     assert_eq!(rt; caller, Caller(0));
-    let again = payload_text(rt.alloc(), caller, &command, &reply)?;
+    let mut again = Vec::new(rt.alloc());
+    put_payload(rt.alloc(), &mut again, caller, &command, &reply)?;
     assert_eq!(rt; again.as_slice(), text.as_slice());
     Ok(())
 }

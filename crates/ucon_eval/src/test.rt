@@ -1,7 +1,8 @@
 //! Whether the test of a predicate holds for a session.
 
 ghost use Rattle.std.specs.Prelude.{◌≡◌, ◌+ℤ◌, int_le, IsSome, true};
-ghost use Rattle.ucon_model.specs.Truth.{value_of, holds, in_time, is_done, truth};
+ghost use Rattle.ucon_model.specs.Truth.{value_of, read_or_zero, holds, in_time, is_done, truth};
+ghost use Rattle.ucon_model.specs.Comparison.{compares};
 ghost use Rattle.ucon_model.specs.Views.{expr_of, formula_of, test_of};
 ghost use Rattle.ucon_eval.specs.Asked.{row_at};
 ghost use Rattle.ucon_eval.specs.Worth.{worth_value};
@@ -10,40 +11,102 @@ ghost use Rattle.ucon_eval.specs.Sums.{makes_no_set, formula_makes_no_set, test_
 use crate::arithmetic::later;
 use crate::worth::Worth;
 use ucon_base::Int;
-use ucon_model::{Expr, Form, Formula, Obligation, Test, View};
+use ucon_model::{Expr, Form, Formula, Obligation, Op, Ref, Test, View};
 
-/// What an expression is worth for a session.
-pub fn worth_of<'a, V: View>(view: &'a V, session: u32, e: &'a Expr) -> Worth<'a>
+/// What an expression is worth for a session. No recursion is entered for a literal or a place, as most are.
+fn worth_of<'a, V: View>(view: &'a V, session: u32, e: &'a Expr) -> Worth<'a>
     requires there { IsSome ((V.readings view.now).row session) }
     requires no_set { makes_no_set ((V.readings view.now).at (row_at (V.readings view.now) session)) (expr_of e.now) ≡ true }
     ensures { worth_value result ≡ value_of ((V.readings view.now).at (row_at (V.readings view.now) session)) (expr_of e.now) }
 {
     match e {
         Expr::Lit(v) => Worth::of(v),
-        Expr::Read(place) => match view.value(session, place) {
-            Some(v) => Worth::of(v),
-            None => Worth::Int(Int::zero()),
-        },
-        Expr::Add(a, b) => worth_of(view, session, a).plus(&worth_of(view, session, b)),
-        Expr::Sub(a, b) => worth_of(view, session, a).minus(&worth_of(view, session, b)),
-        Expr::Mul(a, b) => worth_of(view, session, a).times(&worth_of(view, session, b)),
-        Expr::Size(a) => worth_of(view, session, a).size(),
+        Expr::Read(place) => worth_at(view, session, place),
+        _ => worth_of_parts(view, session, e),
     }
 }
 
+/// What stands at a place for a session.
+fn worth_at<'a, V: View>(view: &'a V, session: u32, place: &Ref) -> Worth<'a>
+    requires { IsSome ((V.readings view.now).row session) }
+    ensures { worth_value result ≡ read_or_zero ((V.readings view.now).at (row_at (V.readings view.now) session) place.now) }
+{
+    match view.value(session, place) {
+        Some(v) => Worth::of(v),
+        None => Worth::Int(Int::zero()),
+    }
+}
+
+/// What an expression is worth for a session, by what its parts are.
+fn worth_of_parts<'a, V: View>(view: &'a V, session: u32, e: &'a Expr) -> Worth<'a>
+    requires there { IsSome ((V.readings view.now).row session) }
+    requires no_set { makes_no_set ((V.readings view.now).at (row_at (V.readings view.now) session)) (expr_of e.now) ≡ true }
+    ensures { worth_value result ≡ value_of ((V.readings view.now).at (row_at (V.readings view.now) session)) (expr_of e.now) }
+{
+    match e {
+        Expr::Lit(v) => Worth::of(v),
+        Expr::Read(place) => worth_at(view, session, place),
+        Expr::Add(a, b) => {
+            worth_of_parts(view, session, a).plus(&worth_of_parts(view, session, b))
+        }
+        Expr::Sub(a, b) => {
+            worth_of_parts(view, session, a).minus(&worth_of_parts(view, session, b))
+        }
+        Expr::Mul(a, b) => {
+            worth_of_parts(view, session, a).times(&worth_of_parts(view, session, b))
+        }
+        Expr::Size(a) => worth_of_parts(view, session, a).size(),
+    }
+}
+
+/// Whether a formula holds for a session. No recursion is entered for a comparison or a duration, as most are.
 fn holds<V: View>(view: &V, session: u32, f: &Formula) -> bool
     requires there { IsSome ((V.readings view.now).row session) }
     requires no_set { formula_makes_no_set ((V.readings view.now).at (row_at (V.readings view.now) session)) (formula_of f.now) ≡ true }
     ensures { result ≡ holds (V.readings view.now) (row_at (V.readings view.now) session) (formula_of f.now) }
 {
     match f {
-        Formula::And(f, g) => holds(view, session, f) && holds(view, session, g),
-        Formula::Or(f, g) => holds(view, session, f) || holds(view, session, g),
-        Formula::Not(f) => !holds(view, session, f),
-        Formula::Compare(op, a, b) => {
-            worth_of(view, session, a).compares(*op, &worth_of(view, session, b))
+        Formula::Compare(op, a, b) => compare(view, session, *op, a, b),
+        Formula::Lasts(n) => lasts(view, session, *n),
+        _ => holds_by_parts(view, session, f),
+    }
+}
+
+/// Whether what two expressions are worth compares so.
+fn compare<V: View>(view: &V, session: u32, op: Op, a: &Expr, b: &Expr) -> bool
+    requires there { IsSome ((V.readings view.now).row session) }
+    requires no_set { makes_no_set ((V.readings view.now).at (row_at (V.readings view.now) session)) (expr_of a.now) ≡ true }
+    requires no_set_either { makes_no_set ((V.readings view.now).at (row_at (V.readings view.now) session)) (expr_of b.now) ≡ true }
+    ensures { result ≡ compares op (value_of ((V.readings view.now).at (row_at (V.readings view.now) session)) (expr_of a.now))
+        (value_of ((V.readings view.now).at (row_at (V.readings view.now) session)) (expr_of b.now)) }
+{
+    worth_of(view, session, a).compares(op, &worth_of(view, session, b))
+}
+
+/// Whether a usage lasts no more than n ticks now.
+fn lasts<V: View>(view: &V, session: u32, n: Int) -> bool
+    requires { IsSome ((V.readings view.now).row session) }
+    ensures { result ≡ int_le (V.readings view.now).now ((row_at (V.readings view.now) session).start +ℤ n) }
+{
+    is_within(view.tick(), start(view, session), n)
+}
+
+/// Whether a formula holds for a session, by whether its parts do.
+fn holds_by_parts<V: View>(view: &V, session: u32, f: &Formula) -> bool
+    requires there { IsSome ((V.readings view.now).row session) }
+    requires no_set { formula_makes_no_set ((V.readings view.now).at (row_at (V.readings view.now) session)) (formula_of f.now) ≡ true }
+    ensures { result ≡ holds (V.readings view.now) (row_at (V.readings view.now) session) (formula_of f.now) }
+{
+    match f {
+        Formula::And(f, g) => {
+            holds_by_parts(view, session, f) && holds_by_parts(view, session, g)
         }
-        Formula::Lasts(n) => is_within(view.tick(), start(view, session), *n),
+        Formula::Or(f, g) => {
+            holds_by_parts(view, session, f) || holds_by_parts(view, session, g)
+        }
+        Formula::Not(f) => !holds_by_parts(view, session, f),
+        Formula::Compare(op, a, b) => compare(view, session, *op, a, b),
+        Formula::Lasts(n) => lasts(view, session, *n),
     }
 }
 

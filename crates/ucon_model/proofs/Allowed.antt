@@ -34,7 +34,7 @@ pub allowed-append : (S : Type 0) (P : PlainPolicy) (T : Trace) (xs ys : List Ac
 allowed-append S P T [] ys h k = k
 allowed-append S P T (x ∷ xs) ys h k = (h.0, allowed-append S P (x ∷ T) xs ys h.1 k)
 
-legal_action : (S : Type 0) (P : PlainPolicy) (T : Trace) (a : Action) → S → IsAllowed S P T a → IsLegal P T a
+pub legal_action : (S : Type 0) (P : PlainPolicy) (T : Trace) (a : Action) → S → IsAllowed S P T a → IsLegal P T a
 legal_action S P T (write side name attr v) sure h = (h.0, h.1 sure)
 legal_action S P T (amend text Q) sure h = h sure
 legal_action S P T a sure h = h

@@ -44,7 +44,7 @@ allowed_within : (S : Type 0) (k : ℕ) (P : PlainPolicy) (T : Trace) → IsSoun
 allowed_within S zero P T h = tt
 allowed_within S (suc k) P T h = by_turn S P T k (least_failing P T) refl h (allowed_within S k P)
 
-allowed-settle : (S : Type 0) (P : PlainPolicy) (T : Trace) → IsSoundIf S P T → AreAllowed S P T (settle P T)
+pub allowed-settle : (S : Type 0) (P : PlainPolicy) (T : Trace) → IsSoundIf S P T → AreAllowed S P T (settle P T)
 allowed-settle S P T h = allowed_within S (accessing T) P T h
 
 -- ---- blocks

@@ -2,6 +2,9 @@ pub mod Extending
 pub mod Settling
 pub mod SerialRuns
 mod StoredRuns
+mod GoingOn
+mod SpelledLabels
+mod SpelledReplies
 pub mod Lacking
 pub mod ReadBack
 pub mod TellsChange

@@ -148,7 +148,7 @@ all_sound : (P : PlainPolicy) (H : History) (told : List Answered) → IsSerialR
 all_sound P H [] run = tt
 all_sound P H (t ∷ told) run = (sound_next P H t.line t.answer run.0, all_sound P (history_after H t.line t.answer) told run.1)
 
-no_faults : (told : List Answered) → Each (λ t. IsSound t.answer) told → count_by (λ t. is_disk_fault t.answer) told ≡ 0
+pub no_faults : (told : List Answered) → Each (λ t. IsSound t.answer) told → count_by (λ t. is_disk_fault t.answer) told ≡ 0
 no_faults [] h = refl
 no_faults (t ∷ told) h = rw h.0.0 (omega (arith, no_faults told h.1))
 

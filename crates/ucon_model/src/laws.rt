@@ -1,6 +1,6 @@
 //! Laws of the definitions. A law is a function without parameters that does nothing: its contract is what is proved.
 
-ghost use Rattle.std.specs.Prelude.{◌≡◌, ◌+◌, ◌<◌, ◌≤◌, ◌↔◌, ℕ, List, Option, [], ◌∷◌, length, map, true, Some, None};
+ghost use Rattle.std.specs.Prelude.{◌≡◌, ◌+◌, ◌<◌, ◌≤◌, ◌↔◌, ℕ, Bool, List, Option, [], ◌∷◌, ◌++◌, length, map, true, Some, None, IsTrue};
 ghost use Rattle.ucon_model.specs.declared.command.Caller.{Caller};
 ghost use Rattle.ucon_model.specs.declared.command.Command.{Command};
 ghost use Rattle.ucon_model.specs.declared.command.Entry.{Entry};
@@ -12,7 +12,7 @@ ghost use Rattle.ucon_model.specs.Block.{after, block};
 ghost use Rattle.ucon_model.specs.Decision.{right_named};
 ghost use Rattle.ucon_model.specs.Fitting.{PlacesFit, UpdatesFit, ValuesFit};
 ghost use Rattle.ucon_model.specs.CommandLine.{IsCommand};
-ghost use Rattle.ucon_model.specs.History.{History, AreCommands, grown, said, trace};
+ghost use Rattle.ucon_model.specs.History.{History, AreCommands, changes, grown, said, trace};
 ghost use Rattle.ucon_model.specs.Legal.{AreLegal, IsCascade, IsLegal, RevocationsAreLegal};
 ghost use Rattle.ucon_base.specs.Elements.{Each};
 ghost use Rattle.ucon_model.specs.LegalRun.{Answered, IsLegalRun, IsSerialRun, history_made, in_text_order};
@@ -22,8 +22,10 @@ ghost use Rattle.ucon_model.specs.Output.{FitsLine, answers_read, output};
 ghost use Rattle.ucon_model.specs.OwnActions.{make, own};
 ghost use Rattle.ucon_model.specs.Payload.{revocations_in};
 ghost use Rattle.ucon_model.specs.Readings.{accessing, in_force, session};
+ghost use Rattle.ucon_model.specs.ReplyText.{IsReply};
 ghost use Rattle.ucon_model.specs.Settle.{fails_at, least_failing, settle};
 ghost use Rattle.ucon_model.specs.Sound.{IsNumbered, IsSound};
+ghost use Rattle.ucon_model.specs.Spells.{Spells};
 ghost use Rattle.ucon_model.specs.Truth.{place_of};
 ghost use Rattle.ucon_model.specs.Typing.{IsTyped, NamesItem, TypeFault, is_typed_test, item_count, type_fault};
 
@@ -52,6 +54,13 @@ pub fn usages_are_few()
 /// just permitted among them, and each is revoked at most once.
 pub fn revocations_are_few()
     ensures { (P : PlainPolicy) (H : History) (caller : Caller) (c : Command) → length (revocations_in (said P H caller c)) ≤ 65536 }
+{}
+
+/// Under a well typed policy that a text spells, after every history of commands, a reply that changes something can be spelled: it is of
+/// numbers of sessions and names.
+pub fn changing_replies_can_be_spelled()
+    ensures { (text : Bytes) (P : PlainPolicy) → Spells text P → IsTyped P → (H : History) → AreCommands H → (caller : Caller) (c : Command)
+        → IsCommand c → IsTrue (changes (said P H caller c)) → IsReply (said P H caller c) }
 {}
 
 /// After every history no accessing session fails.
@@ -142,6 +151,18 @@ pub fn runs_over_a_store_are_legal()
     ensures legal { (P : PlainPolicy) (G : History) (told : List Answered) (H : History) (failed : Option Entry) → LeadsTo P G told H failed → IsLegalRun P in_text_order G told }
     ensures made { (P : PlainPolicy) (G : History) (told : List Answered) (H : History) (failed : Option Entry) → LeadsTo P G told H failed → history_made G told ≡ H }
     ensures failed { (P : PlainPolicy) (G : History) (told : List Answered) (H : History) (failed : Option Entry) → LeadsTo P G told H failed → failed_line told ≡ failed }
+{}
+
+/// A legal run in which no line met a disk fault, and a legal run behind the history that it made, are one legal run, whoever saw whose
+/// answers. It makes the history that the second one makes, and a disk fault in it is the second one's. So to stop and to go on is as if it
+/// had never stopped.
+pub fn legal_runs_go_on()
+    ensures legal { (P : PlainPolicy) (sees : Caller → Caller → Bool) (G : History) (told more : List Answered) → failed_line told ≡ None
+        → IsLegalRun P sees G told → IsLegalRun P sees (history_made G told) more → IsLegalRun P sees G (told ++ more) }
+    ensures made { (P : PlainPolicy) (sees : Caller → Caller → Bool) (G : History) (told more : List Answered) → failed_line told ≡ None
+        → IsLegalRun P sees G told → IsLegalRun P sees (history_made G told) more
+        → history_made G (told ++ more) ≡ history_made (history_made G told) more }
+    ensures failed { (told more : List Answered) → failed_line told ≡ None → failed_line (told ++ more) ≡ failed_line more }
 {}
 
 /// An output whose answers fit their lines is read back as the answers that it was written from.

@@ -2,6 +2,7 @@ pub mod Accepted
 pub mod Begun
 pub mod Differences
 pub mod Finding
+pub mod Journals
 pub mod Openings
 pub mod Recorded
 pub mod Runs

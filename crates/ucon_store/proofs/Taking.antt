@@ -1,6 +1,6 @@
 -- Whether a payload is the one that the next step spells.
-use Rattle.std.proofs.Common.{◌≡◌, ◌≢◌, ℕ, ◌≤◌, List, [], ◌∷◌, ◌++◌, length, Bool, Option, Some, None, Ok, refl, sym, ap, ◌∙◌, subst, true, false}
-use Rattle.std.specs.Prelude.{◌&&◌, if◌then◌else◌, IfSome}
+use Rattle.std.proofs.Common.{◌≡◌, ◌≢◌, ℕ, ◌≤◌, List, [], ◌∷◌, ◌++◌, length, Bool, Option, Some, None, Ok, Err, refl, sym, ap, ◌∙◌, subst, true, false}
+use Rattle.std.specs.Prelude.{◌&&◌, if◌then◌else◌, IfSome, Result}
 use Rattle.ucon_disk.specs.Causes.{raised}
 use Rattle.ucon_journal.specs.declared.fault.TakeFault.{TakeFault}
 use Rattle.ucon_journal.specs.declared.fault.TakeFault.TheVariants as taking
@@ -55,6 +55,18 @@ module _ (law : TakenAsSpelled) (P : PlainPolicy) (H : History) (payload : Bytes
 
   pub unchanged_drafted : changes r ≡ false → taken accepted P H payload ≡ None
   unchanged_drafted doesnt = by_reply ∙ unchanged_refused (H ++ e ∷ []) (bytes_eq (payload_spelling (told e r)) payload) (changes r) doesnt
+
+-- a payload that tells no step but one of this entry isn't taken, where it isn't if it does
+pub refused_unless : (P : PlainPolicy) (H : History) (payload : Bytes) (e : Entry)
+    → ((place : ℕ) → payload_read accepted payload ≡ Err place → taken accepted P H payload ≡ None)
+    → ((t : Told) → payload_read accepted payload ≡ Ok t → e ≡ entry_told t)
+    → ((reply : PlainReply) → payload_read accepted payload ≡ Ok (told e reply) → taken accepted P H payload ≡ None)
+    → taken accepted P H payload ≡ None
+refused_unless P H payload e unread tells refused = by_read (payload_read accepted payload) refl
+  where
+    by_read : (r : Result Told ℕ) → payload_read accepted payload ≡ r → taken accepted P H payload ≡ None
+    by_read (Ok t) read = refused t.reply (read ∙ ap (λ (x : Entry). Ok (told x t.reply)) (sym (tells t read)))
+    by_read (Err place) read = unread place read
 
 -- why a record could not be taken
 pub taking_reason : (fault : TakeFault) (text : Bytes) (o : Option Bytes) (number gate before now : ℕ)

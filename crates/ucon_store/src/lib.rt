@@ -4,6 +4,7 @@
 mod accepting;
 mod event;
 mod fault;
+mod laws;
 mod loading;
 mod opening;
 mod placed;
@@ -13,5 +14,6 @@ mod turned;
 
 pub use event::{Base, Event};
 pub use fault::{StepFault, StoreFault};
+pub use laws::journals_are_found_as_their_histories;
 pub use placed::Placed;
 pub use store::Store;

@@ -6,8 +6,7 @@ ghost use Rattle.ucon_disk.specs.Disk.{SameImages};
 ghost use Rattle.ucon_disk.specs.Run.{LeavesOnly};
 ghost use Rattle.ucon_journal.specs.Journal.{disk_of, gate_of, HasEnded, IsReading};
 ghost use Rattle.ucon_model.specs.Found.{taken};
-ghost use Rattle.ucon_model.specs.Payload.{payload_read, told};
-ghost use Rattle.ucon_model.specs.Plain.{PlainPolicy, PlainReply};
+ghost use Rattle.ucon_model.specs.Plain.{PlainPolicy};
 ghost use Rattle.ucon_syntax.specs.Policies.{accepted};
 ghost use Rattle.ucon_store.specs.Opening.{HasReason, HasLoaded, IsLoading, IsStanding};
 
@@ -15,7 +14,7 @@ use crate::fault::{StoreFault, at_record};
 use crate::recording::add;
 use std::alloc::Global;
 use ucon_base::{Rows, Steps};
-use ucon_command::{PayloadFault, payload_text, read_payload, steps_are_taken_as_spelled};
+use ucon_command::{PayloadFault, put_payload, read_entry, steps_are_taken_as_spelled};
 use ucon_disk::Disk;
 use ucon_journal::{Journal, MAX_PAYLOAD};
 use ucon_model::Entry;
@@ -27,11 +26,13 @@ pub(crate) struct Loaded<E> {
     pub policy: Vec<u8>,
     pub engine: E,
     pub entries: Rows<Entry>,
+    /// The payload of the last entry, as the engine's reply spells it. Its memory is kept for the next one.
+    pub payload: Vec<u8>,
 }
 
 impl<E: Engine> Loaded<E> {
-    /// Takes the step of a payload in, if it is the next one: its reply changes something and is the engine's. False where it isn't; the engine
-    /// is then of no more use.
+    /// Takes the step of a payload in, if it is the next one: the engine's reply changes something, and with it the step is spelled as the payload,
+    /// whose own reply isn't read. False where it isn't; the engine is then of no more use.
     fn take(&mut self, alloc: Global, payload: &[u8]) -> Result<bool, StoreFault>
         requires standing { IsStanding E.follows self.old }
         requires short { length payload.now ≤ MAX_PAYLOAD }
@@ -45,16 +46,25 @@ impl<E: Engine> Loaded<E> {
         ensures policy { self.new.policy.items ≡ self.old.policy.items }
     {
         steps_are_taken_as_spelled();
-        let Some(entry) = step_told(alloc, payload)? else {
-            return Ok(false);
+        let entry = match read_entry(alloc, payload) {
+            Ok(entry) => entry,
+            Err(PayloadFault::BadPlace(_)) => return Ok(false),
+            Err(PayloadFault::NoMemory(refused)) => return Err(StoreFault::NoMemory(refused)),
         };
         let mut steps = Steps::new();
         let drafted = self.engine.draft(entry.caller, &entry.command, &mut steps)?;
         if !drafted.changes {
             return Ok(false);
         }
-        let text = payload_text(alloc, entry.caller, &entry.command, &drafted.reply)?;
-        if text.as_slice() != payload {
+        self.payload.clear();
+        put_payload(
+            alloc,
+            &mut self.payload,
+            entry.caller,
+            &entry.command,
+            &drafted.reply,
+        )?;
+        if self.payload.as_slice() != payload {
             return Ok(false);
         }
         self.entries.reserve(1)?;
@@ -120,18 +130,5 @@ impl<E: Engine> Loaded<E> {
     {
         'records: while self.take_next(alloc, journal)? {}
         Ok(())
-    }
-}
-
-/// The entry of the step that a payload tells. None where it tells no step.
-fn step_told(alloc: Global, payload: &[u8]) -> Result<Option<Entry>, StoreFault>
-    ensures err { IfErr result (λ fault. fault ≡ StoreFault.NoMemory out_of_memory) }
-    ensures read { IfOk result (λ read. MatchOption read ((place : ℕ) × (payload_read accepted payload.now ≡ Err place))
-        (λ e. (reply : PlainReply) × (payload_read accepted payload.now ≡ Ok (told e reply)))) }
-{
-    match read_payload(alloc, payload) {
-        Ok((caller, command, _reply)) => Ok(Some(Entry { caller, command })),
-        Err(PayloadFault::BadPlace(_)) => Ok(None),
-        Err(PayloadFault::NoMemory(e)) => Err(StoreFault::NoMemory(e)),
     }
 }

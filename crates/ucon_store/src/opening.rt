@@ -105,6 +105,7 @@ fn begin<E: Engine>(alloc: Global, text: &[u8]) -> Result<Loaded<E>, StoreFault>
         policy: copied(alloc, text)?,
         engine,
         entries: Rows::new(alloc),
+        payload: Vec::new(alloc),
     })
 }
 

@@ -19,85 +19,77 @@ ghost use Rattle.ucon_syntax.specs.Policies.{accepted};
 
 use std::alloc::Global;
 use ucon_base::{NoMemory, Rows};
-use ucon_command::{payload_text, steps_are_taken_as_spelled};
+use ucon_command::{put_payload, steps_are_taken_as_spelled};
 use ucon_disk::Disk;
 use ucon_journal::{Journal, MAX_PAYLOAD};
 use ucon_model::{Caller, Command, Entry, Reply};
 use ucon_state::Engine;
 
-/// A step that can be recorded without memory.
-#[derive(Drop)]
-pub(crate) struct Ready {
-    pub payload: Vec<u8>,
-    pub entry: Entry,
-}
-
-/// Takes all the memory that a step needs, before anything is written.
+/// Takes all the memory that a step needs, before anything is written: the payload of its record, and its entry.
 pub(crate) fn prepare<D: Disk>(
     alloc: Global,
     journal: &mut Journal<D>,
     entries: &mut Rows<Entry>,
+    payload: &mut Vec<u8>,
     caller: Caller,
     command: &Command,
     reply: &Reply,
-) -> Result<Ready, NoMemory>
+) -> Result<Entry, NoMemory>
     requires client { caller.0 < 64 }
     requires few { length (revocations_in (reply_of reply.now)) ≤ 65536 }
     ensures disk { disk_of journal.new ≡ disk_of journal.old }
     ensures closed { IsClosed D.contents journal.old → IsClosed D.contents journal.new }
     ensures gate { gate_of journal.new ≡ gate_of journal.old }
     ensures entries { entries.new.items ≡ entries.old.items }
-    ensures entry { IfOk result (λ r. r.entry ≡ record { caller = caller; command = command.now }) }
-    ensures taken { IfOk result (λ r. (P : PlainPolicy) (H : History)
+    ensures entry { IfOk result (λ e. e ≡ record { caller = caller; command = command.now }) }
+    ensures taken { IfOk result (λ e. (P : PlainPolicy) (H : History)
         → reply_of reply.now ≡ said P H caller command.now → changes (reply_of reply.now) ≡ true
-        → taken accepted P H r.payload.items ≡ Some (H ++ r.entry ∷ [])) }
-    ensures short { IfOk result (λ r. length r.payload.items ≤ MAX_PAYLOAD) }
-    ensures room { IfOk result (λ r. HasRoomFor journal.new (length r.payload.items)) }
+        → taken accepted P H payload.new.items ≡ Some (H ++ e ∷ [])) }
+    ensures short { OnOk result (length payload.new.items ≤ MAX_PAYLOAD) }
+    ensures room { OnOk result (HasRoomFor journal.new (length payload.new.items)) }
     ensures spare { OnOk result (1 ≤ entries.new.spare) }
 {
     steps_are_taken_as_spelled();
-    let payload = payload_text(alloc, caller, command, reply)?;
+    payload.clear();
+    put_payload(alloc, payload, caller, command, reply)?;
     journal.reserve(payload.len())?;
     entries.reserve(1)?;
     let command = command.copy(alloc)?;
-    Ok(Ready {
-        payload,
-        entry: Entry { caller, command },
-    })
+    Ok(Entry { caller, command })
 }
 
-/// Puts the step's record on the disk, and then keeps the change that is pending. After a disk fault the change is undone, and the entry
+/// Puts the record of a step on the disk, and then keeps the change that is pending. After a disk fault the change is undone, and the entry
 /// comes back.
 pub(crate) fn record<E: Engine, D: Disk>(
     engine: &mut E,
     journal: &mut Journal<D>,
     entries: &mut Rows<Entry>,
-    ready: Ready,
+    payload: &[u8],
+    entry: Entry,
 ) -> Result<(), Entry>
     requires pending { IsPending E.has_pending engine.old }
     requires closed { IsClosed D.contents journal.old }
-    requires short { length ready.payload.items ≤ MAX_PAYLOAD }
-    requires room { HasRoomFor journal.old (length ready.payload.items) }
+    requires short { length payload.now ≤ MAX_PAYLOAD }
+    requires room { HasRoomFor journal.old (length payload.now) }
     requires spare { 1 ≤ entries.old.spare }
     ensures kept { OnOk result ((P : PlainPolicy) (T : Trace) (e : Entry) → E.has_pending engine.old P T e
         → E.follows engine.new P (after P T e.caller e.command)) }
     ensures undone { OnErr result ((P : PlainPolicy) (T : Trace) (e : Entry) → E.has_pending engine.old P T e → E.follows engine.new P T) }
-    ensures added { OnOk result (entries.new.items ≡ entries.old.items ++ ready.entry ∷ []) }
+    ensures added { OnOk result (entries.new.items ≡ entries.old.items ++ entry ∷ []) }
     ensures same { OnErr result (entries.new.items ≡ entries.old.items) }
-    ensures entry { IfErr result (λ e. e ≡ ready.entry) }
+    ensures entry { IfErr result (λ e. e ≡ entry) }
     ensures closed { OnOk result (IsClosed D.contents journal.new) }
     ensures gate { OnOk result (gate_of journal.old + 5 ≤ gate_of journal.new) }
     ensures small { gate_of journal.new < 2 ^ 63 }
     ensures only { OnOk result (Only (D.contents (disk_of journal.new)) (D.images (disk_of journal.new))) }
     ensures payloads { OnOk result (IfSome (D.contents (disk_of journal.old)) (λ file.
-        told_payloads (D.contents (disk_of journal.new)) ≡ told_payloads (D.contents (disk_of journal.old)) ++ ready.payload.items ∷ [])) }
+        told_payloads (D.contents (disk_of journal.new)) ≡ told_payloads (D.contents (disk_of journal.old)) ++ payload.now ∷ [])) }
     ensures tells { is_some (D.contents (disk_of journal.new)) ≡ is_some (D.contents (disk_of journal.old)) }
     ensures images { LeavesAfter D.contents D.images D.moment D.images_since
-        (disk_of journal.old) (disk_of journal.new) (PerhapsAdded ready.payload.items) }
+        (disk_of journal.old) (disk_of journal.new) (PerhapsAdded payload.now) }
     ensures cause { HasCause (D.faults (disk_of journal.old)) (D.faults (disk_of journal.new)) result }
 {
-    let Ready { payload, entry } = ready;
-    if journal.append(&payload).is_err() {
+    if journal.append(payload).is_err() {
         engine.undo();
         return Err(entry);
     }

@@ -11,7 +11,7 @@ ghost use Rattle.ucon_state.specs.Engine.{state_of};
 ghost use Rattle.ucon_turn.specs.Lists.{Continues};
 ghost use Rattle.ucon_syntax.specs.Policies.{accepted};
 ghost use Rattle.ucon_store.specs.Events.{events_of, number_of};
-ghost use Rattle.ucon_store.specs.Found.{IsFoundAs, IsFoundWith, Opens};
+ghost use Rattle.ucon_store.specs.Found.{Holds, IsFoundAs, IsFoundWith, Opens};
 ghost use Rattle.ucon_store.specs.Kept.{Kept};
 ghost use Rattle.ucon_store.specs.Opening.{HasReason};
 ghost use Rattle.ucon_store.specs.Stays.{Stays};
@@ -41,6 +41,8 @@ pub struct Store<E: Engine, D: Disk> {
     opening: u64,
     entries: Rows<Entry>,
     mark: Option<Entry>,
+    /// The payload of the last record that was spelled. Its memory is kept for the next one.
+    payload: Vec<u8>,
 }
 
 impl<E: Engine, D: Disk> Model for Store<E, D> {
@@ -64,8 +66,8 @@ impl<E: Engine, D: Disk> Model for Store<E, D> {
 
 impl<E: Engine, D: Disk> Store<E, D> {
     /// Opens the store of the journal in a file, under the policy of this text, which has to be an accepted one. A file of at most nine bytes
-    /// becomes a journal, and one without a record gets the policy as record 0. A file that is no journal, is damaged or has another policy
-    /// isn't written. A fault hands the disk back.
+    /// becomes a journal, and one without a record gets the policy as record 0, so the file of an open store holds its policy. On a disk at
+    /// rest a file that is no journal, is damaged or has another policy keeps its bytes. A fault hands the disk back.
     pub fn open(alloc: Global, policy: &[u8], disk: D) -> Result<Store<E, D>, (D, StoreFault)>
         requires { IsSome (accepted policy.now) }
         ensures store { IfOk result (λ s. (s.policy ≡ policy.now) × (s.opening ≡ length s.entries) × (s.mark ≡ None)) }
@@ -73,6 +75,8 @@ impl<E: Engine, D: Disk> Store<E, D> {
         ensures images { IfOk result (λ s. LeavesAfter D.contents D.images D.moment D.images_since disk s.disk (Opens policy.now)) }
         ensures at_rest { IfOk result (λ s. Only (D.contents s.disk) (D.images s.disk)) }
         ensures holds { IfOk result (λ s. IfSome (D.contents s.disk) (λ file. IsFoundAs policy.now file s.entries)) }
+        ensures recorded { IfOk result (λ s. (P : PlainPolicy) → accepted policy.now ≡ Some P
+            → IfSome (D.contents s.disk) (Holds policy.now P s.entries)) }
         ensures tells { IfOk result (λ s. is_some (D.contents s.disk) ≡ is_some (D.contents disk)) }
         ensures unfailed { IfOk result (λ s. D.faults s.disk ≡ D.faults disk) }
         ensures reason { IfErr result (λ e. HasReason e.1 policy.now (D.contents disk) (D.faults disk) (D.faults e.0)) }
@@ -89,6 +93,7 @@ impl<E: Engine, D: Disk> Store<E, D> {
                     policy,
                     engine,
                     entries,
+                    payload,
                 } = loaded;
                 Ok(Store {
                     engine,
@@ -97,6 +102,7 @@ impl<E: Engine, D: Disk> Store<E, D> {
                     opening: entries.len() as u64,
                     entries,
                     mark: None,
+                    payload,
                 })
             }
         }
@@ -141,15 +147,16 @@ impl<E: Engine, D: Disk> Store<E, D> {
                 reply: drafted.reply,
             });
         }
-        let ready = match prepare(
+        let entry = match prepare(
             alloc,
             &mut self.journal,
             &mut self.entries,
+            &mut self.payload,
             caller,
             command,
             &drafted.reply,
         ) {
-            Ok(ready) => ready,
+            Ok(entry) => entry,
             Err(refused) => {
                 self.engine.undo();
                 return Err(StepFault::NoMemory(refused));
@@ -159,7 +166,8 @@ impl<E: Engine, D: Disk> Store<E, D> {
             &mut self.engine,
             &mut self.journal,
             &mut self.entries,
-            ready,
+            &self.payload,
+            entry,
         ) {
             self.mark = Some(entry);
             return Err(StepFault::DiskFault);
@@ -205,6 +213,7 @@ impl<E: Engine, D: Disk> Store<E, D> {
             opening: _,
             entries: _,
             mark: _,
+            payload: _,
         } = self;
         journal.close()
     }

@@ -114,10 +114,10 @@ module _ (contents : Option Bytes) (source source' sink sink' disk disk' : ℕ) 
 
 -- nor anything but these and its journal one over a journal
 module _ {D : Type 0} (contents : D → Option (List ℕ)) (images : D → List ℕ → Type 0) (moment : D → ℕ) (images_since : D → ℕ → List ℕ → Type 0) (faults : D → ℕ)
-    (form : Form) (old new : D) (was written : Option Bytes) (source source' sink sink' : ℕ) (bytes : Bytes) where
+    {K : Type 0} (held : K → Option Bytes) (form : Form) (old new : D) (was written : K) (source source' sink sink' : ℕ) (bytes : Bytes) where
   pub played_complete : (outcome : Outcome) → (IsAccepted bytes → IsRefusedBy outcome bytes → IsUnrefused outcome) → IsRefusedBy outcome bytes → IsOfDocument outcome
       → (outcome ≡ outcomes.SinkFault → Rose sink sink') → (outcome ≡ outcomes.DiskFault → faults new ≡ raised (faults old))
-      → HasPlayed contents images moment images_since faults form outcome bytes old new was written
+      → HasPlayed contents images moment images_since faults held form outcome bytes old new was written
       → (IsUnhindered form bytes (contents old) source source' sink sink' (faults old) (faults new) → IsOwnJournal (policy_part bytes) (contents old))
       → Completes (contents old) source source' sink sink' (faults old) (faults new) form outcome bytes
   played_complete outcomes.Done unrefused refused ends sink disk played own u = tt

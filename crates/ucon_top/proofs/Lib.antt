@@ -9,4 +9,5 @@ pub mod Refusing
 pub mod Serving
 pub mod Stepwise
 pub mod Parted
+pub mod Out
 pub mod Playing

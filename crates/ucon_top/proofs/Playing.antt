@@ -23,7 +23,7 @@ use Rattle.ucon_top.specs.declared.outcome.Outcome.TheVariants as outcomes
 use Rattle.ucon_top.specs.Accepted.{HasPolicy}
 use Rattle.ucon_top.specs.Closing.{Closes, EndsRun, IsClosedRun}
 use Rattle.ucon_top.specs.Form.{output_order, sees_by}
-use Rattle.ucon_top.specs.Played.{HasPlayed, HasPlayedInput, IsFoundSince, IsJournalled, IsPlayed, IsRunOver}
+use Rattle.ucon_top.specs.Played.{HasPlayed, HasPlayedInput, IsFoundSince, IsPlayed, IsRunOver}
 use Rattle.ucon_trial.specs.Runs.{IsUnfaulted}
 use Rattle.ucon_top.specs.Stepping.{AreAnswered, HaveOutput, IsRunBetween}
 use Rattle.ucon_top.specs.Unread.{IsUnread}
@@ -73,13 +73,14 @@ module _ {D : Type 0} (contents : D → Option (List ℕ)) (images : D → List 
         (weaker moment images_since store.disk closed.disk (λ c. images store.disk c ⊎ IsFoundBetween store closed c) Since
         (λ c. ⊎_elim (λ image. found_at_first c (found_resting (contents store.disk) opened.holds opened.at_rest some c image)) (found_between c)) (closes.stays.left some))
 
-    journalled : (file : Bytes) → IsAtRest (contents disk) (images disk) file → IsJournalled contents images moment images_since faults text store.entries closed.entries closed.mark disk now
-    journalled file rest = record {
-      since = subst (λ (d : D). LeavesOnly moment images_since disk d Since) (sym closes.disk_is) (since_opened file rest);
-      now = λ c image.
-          let some : IsSome (contents now) = subst (λ (d : D). IsSome (contents d)) (sym closes.disk_is) (closes.stays.tells (opened.tells (rw rest.told refl))) in
-          subst (λ (t : Bytes). IsFoundWith t closed.entries closed.mark c) (closes.stays.policy ∙ opened.policy) (closes.left some c image);
-    }
+    since_now : (file : Bytes) → IsAtRest (contents disk) (images disk) file → LeavesOnly moment images_since disk now Since
+    since_now file rest = subst (λ (d : D). LeavesOnly moment images_since disk d Since) (sym closes.disk_is) (since_opened file rest)
+
+    -- what a crash leaves behind the closing
+    left_now : IsSome (contents disk) → (c : Bytes) → images now c → IsFoundWith text closed.entries closed.mark c
+    left_now told c image =
+        let some : IsSome (contents now) = subst (λ (d : D). IsSome (contents d)) (sym closes.disk_is) (closes.stays.tells (opened.tells told)) in
+        subst (λ (t : Bytes). IsFoundWith t closed.entries closed.mark c) (closes.stays.policy ∙ opened.policy) (closes.left some c image)
 
     -- ---- the run
 
@@ -91,7 +92,8 @@ module _ {D : Type 0} (contents : D → Option (List ℕ)) (images : D → List 
       legal = run.legal;
       unfailed = λ none. ap faults closes.disk_is ∙ closes.stays.unfailed (ap is_some (sym run.failed ∙ none) ∙ sym (ap is_some opened.unmarked)) ∙ opened.unfailed;
       failed = λ e is. ap faults closes.disk_is ∙ closes.stays.failed opened.unmarked e (sym run.failed ∙ is) ∙ ap raised opened.unfailed;
-      journalled = λ file rest. rw (run.made, run.failed) (journalled file rest);
+      since = λ file rest. rw (run.made, run.failed) (since_now file rest);
+      now = λ told. rw (run.made, run.failed) (left_now told);
     }
 
     module _ (form : Form) (bytes : Bytes) (P : PlainPolicy) (lines : List ScriptLine) (is_text : text ≡ policy_part bytes) (has_policy : HasPolicy bytes P)
@@ -113,7 +115,7 @@ module _ {D : Type 0} (contents : D → Option (List ℕ)) (images : D → List 
 
   -- how playing ends, by how the run over the store does
   module _ (text : Bytes) (disk : D) (store : Kept D) (opened : IsOpened text disk store) (form : Form) (bytes : Bytes) (P : PlainPolicy) (lines : List ScriptLine)
-      (is_text : text ≡ policy_part bytes) (has_policy : HasPolicy bytes P) (says : document_read accepted bytes ≡ Ok lines) (now : D) (was written : Option Bytes) where
+      (is_text : text ≡ policy_part bytes) (has_policy : HasPolicy bytes P) (says : document_read accepted bytes ≡ Ok lines) (now : D) {K : Type 0} (held : K → Option Bytes) (was written : K) where
     over : (closed : Kept D) → Closes contents images moment images_since faults store closed now → (so : List Entry → List Answered → Type 0) (given : List Answered → Type 0)
         → AreAnswered (sees_by form) P store closed (output_order form (entries_of lines)) given
         → ((told : List Answered) → IsRunBetween (sees_by form) P store closed told → given told → so (output_order form (entries_of lines)) told)
@@ -121,17 +123,17 @@ module _ {D : Type 0} (contents : D → Option (List ℕ)) (images : D → List 
     over closed closes = run_over text disk store closed now opened closes form bytes P lines is_text has_policy says
 
     ends : (closed : Kept D) → Closes contents images moment images_since faults store closed now → (outcome : Outcome)
-        → EndsRun (sees_by form) P store closed (output_order form (entries_of lines)) was written outcome
-        → HasPlayed contents images moment images_since faults form outcome bytes disk now was written
+        → EndsRun (sees_by form) P store closed (output_order form (entries_of lines)) (held was) (held written) outcome
+        → HasPlayed contents images moment images_since faults held form outcome bytes disk now was written
     ends closed closes outcomes.Done e =
-        over closed closes (λ (es : List Entry) (told : List Answered). (failed_line told ≡ None) × IsUnfaulted told × HaveOutput (Appends was written) es told)
-        (HaveOutput (Appends was written) (output_order form (entries_of lines))) e.0
+        over closed closes (λ (es : List Entry) (told : List Answered). (failed_line told ≡ None) × IsUnfaulted told × HaveOutput (Appends (held was) (held written)) es told)
+        (HaveOutput (Appends (held was) (held written)) (output_order form (entries_of lines))) e.0
         (λ told run output. let none = run.failed ∙ e.1 in (none, none_faulted P (sees_by form) store.entries told run.legal none, output))
     ends closed closes outcomes.SinkFault e =
-        over closed closes (HaveOutput (AppendsPrefix was written)) (HaveOutput (AppendsPrefix was written) (output_order form (entries_of lines))) e (λ told run output. output)
+        over closed closes (HaveOutput (AppendsPrefix (held was) (held written))) (HaveOutput (AppendsPrefix (held was) (held written)) (output_order form (entries_of lines))) e (λ told run output. output)
     ends closed closes outcomes.DiskFault e = inl (
-        over closed closes (λ (es : List Entry) (told : List Answered). IsSome (failed_line told) × HaveOutput (Appends was written) es told)
-        (HaveOutput (Appends was written) (output_order form (entries_of lines))) e.0 (λ told run output. (subst (λ (o : Option Entry). IsSome o) (sym run.failed) e.1, output))
+        over closed closes (λ (es : List Entry) (told : List Answered). IsSome (failed_line told) × HaveOutput (Appends (held was) (held written)) es told)
+        (HaveOutput (Appends (held was) (held written)) (output_order form (entries_of lines))) e.0 (λ told run output. (subst (λ (o : Option Entry). IsSome o) (sym run.failed) e.1, output))
         )
     ends closed closes (outcomes.NoMemory m) e =
         inr (inr (over closed closes (λ (es : List Entry) (told : List Answered). Unit {0}) (λ (told : List Answered). Unit {0}) e (λ told run nothing. tt)))
@@ -144,8 +146,8 @@ module _ {D : Type 0} (contents : D → Option (List ℕ)) (images : D → List 
     ends closed closes (outcomes.OtherPolicy place) e = absurd e
     ends closed closes outcomes.TooLong e = absurd e
 
-    pub ends_run : (outcome : Outcome) → IsClosedRun contents images moment images_since faults (sees_by form) P store (output_order form (entries_of lines)) outcome now was written
-        → HasPlayed contents images moment images_since faults form outcome bytes disk now was written
+    pub ends_run : (outcome : Outcome) → IsClosedRun contents images moment images_since faults (sees_by form) P store (output_order form (entries_of lines)) outcome now (held was) (held written)
+        → HasPlayed contents images moment images_since faults held form outcome bytes disk now was written
     ends_run outcome run = ends run.closed run.closes outcome run.ends
 
   -- a run that met a disk fault raised the disk's count
@@ -158,13 +160,13 @@ module _ {D : Type 0} (contents : D → Option (List ℕ)) (images : D → List 
       by_mark (Some e) is some = ap faults run.closes.disk_is ∙ run.closes.stays.failed unmarked e is ∙ ap raised unfailed
 
 -- how playing ends that comes to no run
-module _ {D : Type 0} (contents : D → Option (List ℕ)) (images : D → List ℕ → Type 0) (moment : D → ℕ) (images_since : D → ℕ → List ℕ → Type 0) (faults : D → ℕ) (form : Form) where
+module _ {D : Type 0} (contents : D → Option (List ℕ)) (images : D → List ℕ → Type 0) (moment : D → ℕ) (images_since : D → ℕ → List ℕ → Type 0) (faults : D → ℕ) {K : Type 0} (held : K → Option Bytes) (form : Form) where
   -- a document that wasn't read was not played
-  pub unread_played : (outcome : Outcome) (input : Option Bytes) (before now : ℕ) (disk : D) (was written : Option Bytes) → IsUnread input before now outcome
-      → HasPlayedInput contents images moment images_since faults form outcome input disk disk was written
-  unread_played outcome input before now disk was written unread = over_input input (λ bytes. by_outcome outcome bytes unread)
+  pub unread_played : (outcome : Outcome) (input : Option Bytes) (before now : ℕ) (disk : D) (was : K) → IsUnread input before now outcome
+      → HasPlayedInput contents images moment images_since faults held form outcome input disk disk was was
+  unread_played outcome input before now disk was unread = over_input input (λ bytes. by_outcome outcome bytes unread)
     where
-      by_outcome : (o : Outcome) (bytes : Bytes) → IsUnread input before now o → HasPlayed contents images moment images_since faults form o bytes disk disk was written
+      by_outcome : (o : Outcome) (bytes : Bytes) → IsUnread input before now o → HasPlayed contents images moment images_since faults held form o bytes disk disk was was
       by_outcome outcomes.SourceFault bytes u = refl
       by_outcome outcomes.TooLong bytes u = refl
       by_outcome (outcomes.NoMemory e) bytes u = inl refl
@@ -178,7 +180,7 @@ module _ {D : Type 0} (contents : D → Option (List ℕ)) (images : D → List 
       by_outcome outcomes.NotJournal bytes u = absurd u
       by_outcome (outcomes.OtherPolicy place) bytes u = absurd u
 
-      over_input : (o : Option Bytes) → ((bytes : Bytes) → HasPlayed contents images moment images_since faults form outcome bytes disk disk was written)
-          → HasPlayedInput contents images moment images_since faults form outcome o disk disk was written
+      over_input : (o : Option Bytes) → ((bytes : Bytes) → HasPlayed contents images moment images_since faults held form outcome bytes disk disk was was)
+          → HasPlayedInput contents images moment images_since faults held form outcome o disk disk was was
       over_input None so = record { bytes = []; are = tt; played = so [] }
       over_input (Some bytes) so = record { bytes = bytes; are = refl; played = so bytes }

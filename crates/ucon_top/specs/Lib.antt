@@ -4,6 +4,7 @@ pub mod Complete
 pub mod Ending
 pub mod FaultWords
 pub mod Form
+pub mod Out
 pub mod Played
 pub mod Printed
 pub mod Stepping

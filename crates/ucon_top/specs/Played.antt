@@ -34,22 +34,19 @@ pub record IsFoundSince (text : Bytes) (opening H : History) (failed : Option En
 
 module _ {D : Type 0} (contents : D → Option (List ℕ)) (images : D → List ℕ → Type 0) (moment : D → ℕ)
     (images_since : D → ℕ → List ℕ → Type 0) (faults : D → ℕ) where
-  -- A crash at any moment since leaves such a file, and a crash now leaves a file that is found as the whole history, or as it with the
-  -- line that met a disk fault.
-  pub record IsJournalled (text : Bytes) (opening H : History) (failed : Option Entry) (old new : D) : Type 0 where
-    pub since : LeavesOnly moment images_since old new (IsFoundSince text opening H failed)
-    pub now : (c : Bytes) → images new c → IsFoundWith text H failed c
-
   -- The answers are a legal run behind the history as which the file was found, where the disk tells it. Where a line met a disk fault the
-  -- disk's count rose by one, and otherwise it didn't. Where the disk was at rest, the history that is made is journalled.
+  -- disk's count rose by one, and otherwise it didn't. Where the disk was at rest, a crash at any moment since leaves a file that is found as
+  -- a beginning of the history that is made, which has the opening one, or as it with the line that met a disk fault. Where the disk told its
+  -- file, at rest or not, a crash now leaves one that is found as the whole, or as it with that line.
   pub record IsPlayed (sees : Caller → Caller → Bool) (text : Bytes) (P : PlainPolicy) (old new : D) (told : List Answered) : Type 0 where
     pub opening : History
     pub opens : IfSome (contents old) (λ file. IsFoundAs text file opening)
     pub legal : IsLegalRun P sees opening told
     pub unfailed : failed_line told ≡ None → faults new ≡ faults old
     pub failed : (e : Entry) → failed_line told ≡ Some e → faults new ≡ raised (faults old)
-    pub journalled : (file : Bytes) → IsAtRest (contents old) (images old) file
-        → IsJournalled text opening (history_made opening told) (failed_line told) old new
+    pub since : (file : Bytes) → IsAtRest (contents old) (images old) file
+        → LeavesOnly moment images_since old new (IsFoundSince text opening (history_made opening told) (failed_line told))
+    pub now : IsSome (contents old) → (c : Bytes) → images new c → IsFoundWith text (history_made opening told) (failed_line told) c
 
   -- the bytes are an accepted document, whose lines were played, and of the lines and their answers this is so
   pub record IsRunOver (form : Form) (bytes : Bytes) (old new : D) (so : List Entry → List Answered → Type 0) : Type 0 where
@@ -67,24 +64,24 @@ module _ {D : Type 0} (contents : D → Option (List ℕ)) (images : D → List 
     pub reason : HasReason fault text (contents old) (faults old) (faults new)
     pub images_kept : LeavesAfter contents images moment images_since old new (Opens text)
 
-  -- What holds of the disk, and of the bytes that were written, by how playing ended. Otherwise than by the causes named here it made no
-  -- call of the disk.
-  abbrev pub HasPlayed : Form → Outcome → Bytes → D → D → Option Bytes → Option Bytes → Type 0
-  HasPlayed form Done bytes old new before now =
-      IsRunOver form bytes old new (λ lines told. (failed_line told ≡ None) × IsUnfaulted told × HaveOutput (Appends before now) lines told)
-  HasPlayed form SinkFault bytes old new before now = IsRunOver form bytes old new (HaveOutput (AppendsPrefix before now))
-  HasPlayed form DiskFault bytes old new before now =
-      IsRunOver form bytes old new (λ lines told. IsSome (failed_line told) × HaveOutput (Appends before now) lines told)
-      ⊎ (IsUnopened stores.DiskFault (policy_part bytes) old new × (now ≡ before))
-  HasPlayed form NotJournal bytes old new before now = IsUnopened stores.NotJournal (policy_part bytes) old new
-  HasPlayed form (Damaged number place) bytes old new before now = IsUnopened (stores.Damaged number place) (policy_part bytes) old new
-  HasPlayed form (OtherPolicy place) bytes old new before now = IsUnopened (stores.OtherPolicy place) (policy_part bytes) old new
-  HasPlayed form (NoMemory e) bytes old new before now =
-      (new ≡ old) ⊎ IsUnopened (stores.NoMemory e) (policy_part bytes) old new ⊎ IsRunOver form bytes old new (λ lines told. Unit {0})
-  HasPlayed form outcome bytes old new before now = new ≡ old
+  module _ {K : Type 0} (held : K → Option Bytes) where
+    -- What holds of the disk, and of the sink, by how playing ended. Otherwise than by the causes named here it made no call of the disk.
+    abbrev pub HasPlayed : Form → Outcome → Bytes → D → D → K → K → Type 0
+    HasPlayed form Done bytes old new before now = IsRunOver form bytes old new
+        (λ lines told. (failed_line told ≡ None) × IsUnfaulted told × HaveOutput (Appends (held before) (held now)) lines told)
+    HasPlayed form SinkFault bytes old new before now = IsRunOver form bytes old new (HaveOutput (AppendsPrefix (held before) (held now)))
+    HasPlayed form DiskFault bytes old new before now =
+        IsRunOver form bytes old new (λ lines told. IsSome (failed_line told) × HaveOutput (Appends (held before) (held now)) lines told)
+        ⊎ (IsUnopened stores.DiskFault (policy_part bytes) old new × (now ≡ before))
+    HasPlayed form NotJournal bytes old new before now = IsUnopened stores.NotJournal (policy_part bytes) old new
+    HasPlayed form (Damaged number place) bytes old new before now = IsUnopened (stores.Damaged number place) (policy_part bytes) old new
+    HasPlayed form (OtherPolicy place) bytes old new before now = IsUnopened (stores.OtherPolicy place) (policy_part bytes) old new
+    HasPlayed form (NoMemory e) bytes old new before now =
+        (new ≡ old) ⊎ IsUnopened (stores.NoMemory e) (policy_part bytes) old new ⊎ IsRunOver form bytes old new (λ lines told. Unit {0})
+    HasPlayed form outcome bytes old new before now = new ≡ old
 
-  -- so it was played over some bytes, which are those of the input where the source tells them
-  pub record HasPlayedInput (form : Form) (outcome : Outcome) (input : Option Bytes) (old new : D) (before now : Option Bytes) : Type 0 where
-    pub bytes : Bytes
-    pub are : IfSome input (λ known. known ≡ bytes)
-    pub played : HasPlayed form outcome bytes old new before now
+    -- so it was played over some bytes, which are those of the input where the source tells them
+    pub record HasPlayedInput (form : Form) (outcome : Outcome) (input : Option Bytes) (old new : D) (before now : K) : Type 0 where
+      pub bytes : Bytes
+      pub are : IfSome input (λ known. known ≡ bytes)
+      pub played : HasPlayed form outcome bytes old new before now

@@ -22,6 +22,5 @@ pub use laws::{
     generated_documents_are_accepted, runs_go_on_where_they_stopped,
 };
 pub use outcome::{Ended, Outcome, PolicyFault, Refused};
-pub use printing::fault_text;
 pub use reporting::report;
 pub use top::{run, run_alone};

@@ -1,33 +1,41 @@
-//! What is printed of an outcome.
+//! What is printed of an outcome, written without memory.
 
-ghost use Rattle.std.specs.Prelude.{◌≡◌, ◌∷◌, ◌++◌, IfOk, OnOk};
+ghost use Rattle.std.specs.Prelude.{◌≡◌, ◌++◌, codes};
 ghost use Rattle.std.specs.Fmt.{decimal};
-ghost use Rattle.ucon_top.specs.FaultWords.{told_at, syntax_words, typing_words, policy_words, line_words, script_words, cause_words, fault_words};
+ghost use Rattle.ucon_top.specs.FaultWords.{told_at, syntax_words, typing_words, policy_words, line_words, script_words, cause_words, fault_line, fault_words};
+ghost use Rattle.ucon_top.specs.Out.{GoesOut};
 
 use crate::outcome::{Outcome, PolicyFault};
-use std::alloc::Global;
-use ucon_base::{Name, NoMemory, put_number};
+use itoa::Buffer;
+use ucon_base::Name;
 use ucon_check::CheckFault;
 use ucon_command::LineFault;
+use ucon_flow::{Sink, SinkFault, write_all};
 use ucon_script::DocFault;
 use ucon_syntax::SyntaxFault;
 
-/// What is printed of an outcome: a line, and nothing where all is done.
-pub fn fault_text(alloc: Global, outcome: &Outcome) -> Result<Vec<u8>, NoMemory>
-    ensures { IfOk result (λ text. text.items ≡ fault_words outcome.now) }
+/// Writes what is printed of an outcome: a line, and nothing where all is done.
+pub(crate) fn put_fault<W: Sink>(out: &mut W, outcome: &Outcome) -> Result<(), SinkFault>
+    ensures { GoesOut (W.contents out.old) (W.contents out.new) (W.faults out.old) (W.faults out.new) result (fault_words outcome.now) }
 {
-    let mut text = Vec::new(alloc);
     if let Outcome::Done = outcome {
-        return Ok(text);
+        return Ok(());
     }
-    text.extend_from_slice(b"ucon: ")?;
-    put_cause(&mut text, outcome)?;
-    text.push(b'\n')?;
-    Ok(text)
+    put_line(out, outcome)
 }
 
-fn put_cause(out: &mut Vec<u8>, outcome: &Outcome) -> Result<(), NoMemory>
-    ensures { OnOk result (out.new.items ≡ out.old.items ++ cause_words outcome.now) }
+/// Writes the line of a cause.
+fn put_line<W: Sink>(out: &mut W, outcome: &Outcome) -> Result<(), SinkFault>
+    ensures { GoesOut (W.contents out.old) (W.contents out.new) (W.faults out.old) (W.faults out.new) result
+        (fault_line (cause_words outcome.now)) }
+{
+    put(out, b"ucon: ")?;
+    put_cause(out, outcome)?;
+    put(out, b"\n")
+}
+
+fn put_cause<W: Sink>(out: &mut W, outcome: &Outcome) -> Result<(), SinkFault>
+    ensures { GoesOut (W.contents out.old) (W.contents out.new) (W.faults out.old) (W.faults out.new) result (cause_words outcome.now) }
 {
     match outcome {
         Outcome::Policy(fault) => put_policy(out, fault),
@@ -45,25 +53,33 @@ fn put_cause(out: &mut Vec<u8>, outcome: &Outcome) -> Result<(), NoMemory>
     }
 }
 
-fn put_damaged(out: &mut Vec<u8>, number: u64, place: u64) -> Result<(), NoMemory>
-    ensures { OnOk result (out.new.items ≡ out.old.items ++ cause_words (Outcome.Damaged number place)) }
+fn put_damaged<W: Sink>(out: &mut W, number: u64, place: u64) -> Result<(), SinkFault>
+    ensures { GoesOut (W.contents out.old) (W.contents out.new) (W.faults out.old) (W.faults out.new) result
+        (cause_words (Outcome.Damaged number place)) }
 {
     put_at(out, b"damaged record ", number)?;
     put_at(out, b" at ", place)
 }
 
-fn put_policy(out: &mut Vec<u8>, fault: &PolicyFault) -> Result<(), NoMemory>
-    ensures { OnOk result (out.new.items ≡ out.old.items ++ cause_words (Outcome.Policy fault.now)) }
+fn put_policy<W: Sink>(out: &mut W, fault: &PolicyFault) -> Result<(), SinkFault>
+    ensures { GoesOut (W.contents out.old) (W.contents out.new) (W.faults out.old) (W.faults out.new) result
+        (cause_words (Outcome.Policy fault.now)) }
 {
     put(out, b"policy: ")?;
+    put_policy_fault(out, fault)
+}
+
+fn put_policy_fault<W: Sink>(out: &mut W, fault: &PolicyFault) -> Result<(), SinkFault>
+    ensures { GoesOut (W.contents out.old) (W.contents out.new) (W.faults out.old) (W.faults out.new) result (policy_words fault.now) }
+{
     match fault {
         PolicyFault::Syntax(fault) => put_syntax(out, fault),
         PolicyFault::Typing(fault) => put_typing(out, fault),
     }
 }
 
-fn put_syntax(out: &mut Vec<u8>, fault: &SyntaxFault) -> Result<(), NoMemory>
-    ensures { OnOk result (out.new.items ≡ out.old.items ++ syntax_words fault.now) }
+fn put_syntax<W: Sink>(out: &mut W, fault: &SyntaxFault) -> Result<(), SinkFault>
+    ensures { GoesOut (W.contents out.old) (W.contents out.new) (W.faults out.old) (W.faults out.new) result (syntax_words fault.now) }
 {
     match fault {
         SyntaxFault::UnknownByte(place) => put_at(out, b"unknown byte at ", *place as u64),
@@ -75,18 +91,12 @@ fn put_syntax(out: &mut Vec<u8>, fault: &SyntaxFault) -> Result<(), NoMemory>
     }
 }
 
-fn put_typing(out: &mut Vec<u8>, fault: &CheckFault) -> Result<(), NoMemory>
-    ensures { OnOk result (out.new.items ≡ out.old.items ++ typing_words fault.now) }
+fn put_typing<W: Sink>(out: &mut W, fault: &CheckFault) -> Result<(), SinkFault>
+    ensures { GoesOut (W.contents out.old) (W.contents out.new) (W.faults out.old) (W.faults out.new) result (typing_words fault.now) }
 {
     match fault {
-        CheckFault::Twice(name, item) => {
-            put_name(out, b"twice ", name)?;
-            put_at(out, b" at item ", *item as u64)
-        }
-        CheckFault::NoName(name, item) => {
-            put_name(out, b"no name ", name)?;
-            put_at(out, b" at item ", *item as u64)
-        }
+        CheckFault::Twice(name, item) => put_item(out, b"twice ", name, *item as u64),
+        CheckFault::NoName(name, item) => put_item(out, b"no name ", name, *item as u64),
         CheckFault::WrongReader(item) => put_at(out, b"wrong reader at item ", *item as u64),
         CheckFault::WrongKind(item) => put_at(out, b"wrong kind at item ", *item as u64),
         CheckFault::NotCore(right) => put_name(out, b"not core ", right),
@@ -97,10 +107,17 @@ fn put_typing(out: &mut Vec<u8>, fault: &CheckFault) -> Result<(), NoMemory>
     }
 }
 
-fn put_script(out: &mut Vec<u8>, fault: &DocFault) -> Result<(), NoMemory>
-    ensures { OnOk result (out.new.items ≡ out.old.items ++ cause_words (Outcome.Script fault.now)) }
+fn put_script<W: Sink>(out: &mut W, fault: &DocFault) -> Result<(), SinkFault>
+    ensures { GoesOut (W.contents out.old) (W.contents out.new) (W.faults out.old) (W.faults out.new) result
+        (cause_words (Outcome.Script fault.now)) }
 {
     put(out, b"script: ")?;
+    put_script_fault(out, fault)
+}
+
+fn put_script_fault<W: Sink>(out: &mut W, fault: &DocFault) -> Result<(), SinkFault>
+    ensures { GoesOut (W.contents out.old) (W.contents out.new) (W.faults out.old) (W.faults out.new) result (script_words fault.now) }
+{
     match fault {
         DocFault::BadHeading(line) => put_at(out, b"bad heading at line ", *line as u64),
         DocFault::TooManyClients(line) => {
@@ -125,34 +142,51 @@ fn line_words(fault: &LineFault) -> &'static [u8]
     }
 }
 
-fn put(out: &mut Vec<u8>, words: &[u8]) -> Result<(), NoMemory>
-    ensures { OnOk result (out.new.items ≡ out.old.items ++ words.now) }
+fn put<W: Sink>(out: &mut W, words: &[u8]) -> Result<(), SinkFault>
+    ensures { GoesOut (W.contents out.old) (W.contents out.new) (W.faults out.old) (W.faults out.new) result words.now }
 {
-    out.extend_from_slice(words)?;
-    Ok(())
+    write_all(out, words)
 }
 
-/// Adds words and a name.
-fn put_name(out: &mut Vec<u8>, words: &[u8], name: &Name) -> Result<(), NoMemory>
-    ensures { OnOk result (out.new.items ≡ out.old.items ++ (words.now ++ name.now)) }
+fn put_number<W: Sink>(out: &mut W, n: u64) -> Result<(), SinkFault>
+    ensures { GoesOut (W.contents out.old) (W.contents out.new) (W.faults out.old) (W.faults out.new) result (decimal n) }
+{
+    let mut digits = Buffer::new();
+    put(out, digits.format(n).as_bytes())
+}
+
+/// Writes words and a name.
+fn put_name<W: Sink>(out: &mut W, words: &[u8], name: &Name) -> Result<(), SinkFault>
+    ensures { GoesOut (W.contents out.old) (W.contents out.new) (W.faults out.old) (W.faults out.new) result (words.now ++ name.now) }
 {
     put(out, words)?;
     put(out, name.bytes())
 }
 
-/// Adds words and the number of a place, an item or a line.
-fn put_at(out: &mut Vec<u8>, words: &[u8], n: u64) -> Result<(), NoMemory>
-    ensures { OnOk result (out.new.items ≡ out.old.items ++ told_at words.now n) }
+/// Writes words and the number of a place, an item or a line.
+fn put_at<W: Sink>(out: &mut W, words: &[u8], n: u64) -> Result<(), SinkFault>
+    ensures { GoesOut (W.contents out.old) (W.contents out.new) (W.faults out.old) (W.faults out.new) result (told_at words.now n) }
 {
     put(out, words)?;
     put_number(out, n)
 }
 
-/// Adds words, a name, a space and a count.
-fn put_counted(out: &mut Vec<u8>, words: &[u8], name: &Name, count: u64) -> Result<(), NoMemory>
-    ensures { OnOk result (out.new.items ≡ out.old.items ++ (words.now ++ name.now ++ 32 ∷ decimal count)) }
+/// Writes words, a name, and the number of the item that it stands in.
+fn put_item<W: Sink>(out: &mut W, words: &[u8], name: &Name, item: u64) -> Result<(), SinkFault>
+    ensures { GoesOut (W.contents out.old) (W.contents out.new) (W.faults out.old) (W.faults out.new) result
+        (words.now ++ (name.now ++ told_at (codes " at item ") item)) }
 {
-    put_name(out, words, name)?;
-    out.push(b' ')?;
-    put_number(out, count)
+    put(out, words)?;
+    put(out, name.bytes())?;
+    put_at(out, b" at item ", item)
+}
+
+/// Writes words, a name, a space and a count.
+fn put_counted<W: Sink>(out: &mut W, words: &[u8], name: &Name, count: u64) -> Result<(), SinkFault>
+    ensures { GoesOut (W.contents out.old) (W.contents out.new) (W.faults out.old) (W.faults out.new) result
+        (words.now ++ (name.now ++ (codes " " ++ decimal count))) }
+{
+    put(out, words)?;
+    put(out, name.bytes())?;
+    put_at(out, b" ", count)
 }

@@ -51,8 +51,8 @@ pub fn serve<E: Engine + Send, K: Sink, D: Disk + Send, G: Gate + Sync, R: Threa
     ensures refused { IsRefusedBy result.outcome bytes.now }
     ensures accepted { IsOfAccepted result.outcome → IsAccepted bytes.now }
     ensures sink { result.outcome ≡ Outcome.SinkFault → Rose (K.faults out.old) (K.faults out.new) }
-    ensures played { HasPlayed D.contents D.images D.moment D.images_since D.faults Form.Serve result.outcome bytes.now disk result.disk
-        (K.contents out.old) (K.contents out.new) }
+    ensures played { HasPlayed D.contents D.images D.moment D.images_since D.faults K.contents Form.Serve result.outcome bytes.now disk result.disk
+        out.old out.new }
     ensures fault { result.outcome ≡ Outcome.DiskFault → D.faults result.disk ≡ raised (D.faults disk) }
     ensures untouched { IsUntouched result.outcome → result.disk ≡ disk }
     ensures unaccepted { (result.disk ≡ disk) ⊎ IsAccepted bytes.now }

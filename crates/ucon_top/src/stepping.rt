@@ -19,8 +19,8 @@ use ucon_script::LineText;
 use ucon_state::Engine;
 use ucon_store::Store;
 
-/// Answers all lines, in their order, and then gives their output. Where there is no memory for that, each line was still answered: all of
-/// them, or, where there was no room for their answers, none but by want of memory.
+/// Answers all lines, in their order, and then gives their output. Where there is no memory for that, the store is still one that some
+/// answers to all lines make.
 pub fn steps_text<E: Engine, D: Disk>(
     alloc: Global,
     store: &mut Store<E, D>,

@@ -96,6 +96,13 @@ fn amended_rows_print_what_they_say(rt: HostRuntime) -> Result<(), Fail> {
     Ok(())
 }
 
+/// The line that is printed of an outcome.
+fn fault_text(alloc: Global, outcome: &Outcome) -> Result<Vec<u8>, Fail> {
+    let mut err = MemSink::new(alloc, 3, Vec::new(alloc));
+    let _ = report(outcome, &mut err);
+    Ok(Vec::from_slice(alloc, err.bytes())?)
+}
+
 /// What a form prints: the output, or with another status the line of the fault.
 fn printed<R: Threads + Wait + Sync>(
     rt: &R,

@@ -77,14 +77,15 @@ pub fn run<S: Source, K: Sink, D: Disk + Send, G: Gate + Sync, R: Threads + Wait
     ensures unread { IfSome (form_of (map (λ w. string_bytes w) words.now)) (λ form. (ReadsInput form → ⊥) → input.new ≡ input.old) }
     ensures unwritten { IsUnwritten result.outcome → out.new ≡ out.old }
 
-    // Of `play`, by how it ended: the bytes written are the output of a legal run behind the history as which the journal was found, and the
-    // history that is made is journalled; or the journal wasn't opened, for this reason, and what was found in its file is still found.
+    // Of `play` and `serve`, by how they ended: the bytes written are the output of a legal run behind the history as which the journal was
+    // found, a crash since leaves a beginning of the history that is made, and one as the call ends the whole; or the journal wasn't opened,
+    // for this reason, and what was found in its file is still found.
     ensures played { IfSome (form_of (map (λ w. string_bytes w) words.now)) (λ form. HasJournal form
-        → HasPlayedInput D.contents D.images D.moment D.images_since D.faults form result.outcome (S.left input.old) disk result.disk
-        (K.contents out.old) (K.contents out.new)) }
+        → HasPlayedInput D.contents D.images D.moment D.images_since D.faults K.contents form result.outcome (S.left input.old) disk result.disk
+        out.old out.new) }
     ensures fault { result.outcome ≡ Outcome.DiskFault → D.faults result.disk ≡ raised (D.faults disk) }
 
-    // No other form makes a call of the disk, nor does `play` before its document is accepted: where that is refused, or too long, the disk is
+    // No other form makes a call of the disk, nor do these before their document is accepted: where that is refused, or too long, the disk is
     // as it was, whatever the outcome.
     ensures untouched { IsUntouched result.outcome → result.disk ≡ disk }
     ensures unaccepted { IfSome (form_of (map (λ w. string_bytes w) words.now)) (λ form.
@@ -152,11 +153,12 @@ pub fn run_alone<S: Source, K: Sink, D: Disk>(
     ensures unread { IfSome (form_of (map (λ w. string_bytes w) words.now)) (λ form. (ReadsInput form → ⊥) → input.new ≡ input.old) }
     ensures unwritten { IsUnwritten result.outcome → out.new ≡ out.old }
 
-    // Of `play`, by how it ended: the bytes written are the output of a legal run behind the history as which the journal was found, and the
-    // history that is made is journalled; or the journal wasn't opened, for this reason, and what was found in its file is still found.
+    // Of `play`, by how it ended: the bytes written are the output of a legal run behind the history as which the journal was found, a crash
+    // since leaves a beginning of the history that is made, and one as the call ends the whole; or the journal wasn't opened, for this reason,
+    // and what was found in its file is still found.
     ensures played { IfSome (form_of (map (λ w. string_bytes w) words.now)) (λ form. HasJournal form
-        → HasPlayedInput D.contents D.images D.moment D.images_since D.faults form result.outcome (S.left input.old) disk result.disk
-        (K.contents out.old) (K.contents out.new)) }
+        → HasPlayedInput D.contents D.images D.moment D.images_since D.faults K.contents form result.outcome (S.left input.old) disk result.disk
+        out.old out.new) }
     ensures fault { result.outcome ≡ Outcome.DiskFault → D.faults result.disk ≡ raised (D.faults disk) }
 
     // No other form makes a call of the disk, nor does `play` before its document is accepted: where that is refused, or too long, the disk is
@@ -230,8 +232,8 @@ fn serve_input<S: Source, K: Sink, D: Disk + Send, G: Gate + Sync, R: Threads + 
     ensures read { IsOfAccepted result.outcome → IsAtEnd (S.left input.new) }
     ensures reads { S.reads input.new ≤ S.reads input.old + 4194305 }
     ensures unwritten { IsUnwritten result.outcome → out.new ≡ out.old }
-    ensures played { HasPlayedInput D.contents D.images D.moment D.images_since D.faults Form.Serve result.outcome (S.left input.old) disk result.disk
-        (K.contents out.old) (K.contents out.new) }
+    ensures played { HasPlayedInput D.contents D.images D.moment D.images_since D.faults K.contents Form.Serve result.outcome (S.left input.old) disk
+        result.disk out.old out.new }
     ensures fault { result.outcome ≡ Outcome.DiskFault → D.faults result.disk ≡ raised (D.faults disk) }
     ensures untouched { IsUntouched result.outcome → result.disk ≡ disk }
     ensures unaccepted { IfSome (S.left input.old) (λ bytes. (result.disk ≡ disk) ⊎ IsAccepted bytes) }

@@ -1,20 +1,20 @@
 //! Answers lines, one after the other.
 
-ghost use Rattle.std.specs.Prelude.{◌≡◌, ◌+◌, ◌-◌, ◌^◌, ◌<◌, [], length, min, map, IfOk, OnOk, OnErr, if◌then◌else◌};
-ghost use Rattle.ucon_model.specs.History.{History, said, changes, grown};
+ghost use Rattle.std.specs.Prelude.{◌≡◌, ◌+◌, ◌-◌, ◌^◌, ◌<◌, [], length, min, map, IfOk, IsFalse, IsTrue, if◌then◌else◌};
+ghost use Rattle.ucon_model.specs.declared.command.Entry.{Entry};
+ghost use Rattle.ucon_model.specs.History.{History, grown, said, trace};
+ghost use Rattle.ucon_model.specs.History as histories;
 ghost use Rattle.ucon_model.specs.Plain.{PlainPolicy};
-ghost use Rattle.ucon_model.specs.Views.{reply_of};
-ghost use Rattle.ucon_script.specs.Document.{spelled_line};
-ghost use Rattle.ucon_state.specs.Engine.{FollowsLike, IsIdle, StandsFor};
+ghost use Rattle.ucon_state.specs.Engine.{IsIdle, IsPending, StandsFor};
 ghost use Rattle.ucon_trial.specs.Hearing.{HasHeard, HearsMore, replied};
 ghost use Rattle.ucon_trial.specs.OneAnswer.{Answers, entry_of};
 
 use crate::hearer::Hearer;
 use std::alloc::Global;
 use ucon_base::{NoMemory, Steps};
-use ucon_model::{Caller, Command, grown_histories_go_on};
+use ucon_model::{Command, grown_histories_go_on};
 use ucon_script::LineText;
-use ucon_state::{Drafted, Engine};
+use ucon_state::Engine;
 
 /// A run of the lines from the empty history: each is answered in their order, and its answer is told to the hearer, who has heard
 /// nothing before.
@@ -51,12 +51,38 @@ fn answer_one<E: Engine, R: Hearer>(
     ensures answers { IfOk result (λ next. (P : PlainPolicy) (H : History) → StandsFor E.follows engine.old P H
         → Answers P (StandsFor E.follows engine.new P) (λ reply. HearsMore R.hears hearer.old hearer.new (replied (entry_of line.now) reply)) H place next (entry_of line.now)) }
 {
-    match step(alloc, engine, steps, line) {
+    match line.command.command(alloc) {
+        Ok(command) => answer(alloc, engine, hearer, steps, place, line, &command),
+        Err(_) => {
+            hearer.no_memory(line)?;
+            Ok(place)
+        }
+    }
+}
+
+/// Lets the engine answer a line's command, and keeps the change where it makes one. Want of memory changes nothing.
+fn answer<E: Engine, R: Hearer>(
+    alloc: Global,
+    engine: &mut E,
+    hearer: &mut R,
+    steps: &mut Steps,
+    place: u64,
+    line: &LineText<'_>,
+    command: &Command,
+) -> Result<u64, NoMemory>
+    requires idle { IsIdle E.follows engine.old }
+    requires command { (entry_of line.now).command ≡ command.now }
+    ensures idle { IsIdle E.follows engine.new }
+    ensures answers { IfOk result (λ next. (P : PlainPolicy) (H : History) → StandsFor E.follows engine.old P H
+        → Answers P (StandsFor E.follows engine.new P) (λ reply. HearsMore R.hears hearer.old hearer.new (replied (entry_of line.now) reply)) H place next (entry_of line.now)) }
+{
+    match engine.draft(line.caller, command, steps) {
         Err(_) => {
             hearer.no_memory(line)?;
             Ok(place)
         }
         Ok(drafted) => {
+            keep_change(engine, drafted.changes);
             let next = place_after(place, drafted.changes);
             hearer.reply(alloc, line, next, &drafted.reply)?;
             Ok(next)
@@ -64,45 +90,19 @@ fn answer_one<E: Engine, R: Hearer>(
     }
 }
 
-/// Lets the engine answer a line, and keeps the change where it makes one. Want of memory changes nothing.
-fn step<E: Engine>(
-    alloc: Global,
-    engine: &mut E,
-    steps: &mut Steps,
-    line: &LineText<'_>,
-) -> Result<Drafted, NoMemory>
-    requires { IsIdle E.follows engine.old }
+/// Keeps the change that is pending, where there is one.
+fn keep_change<E: Engine>(engine: &mut E, changes: bool)
+    requires pending { IsTrue changes → IsPending E.has_pending engine.old }
+    requires idle { IsFalse changes → IsIdle E.follows engine.old }
     ensures idle { IsIdle E.follows engine.new }
-    ensures reply { IfOk result (λ d. (P : PlainPolicy) (H : History) → StandsFor E.follows engine.old P H → reply_of d.reply ≡ said P H line.now.caller (spelled_line line.now).command) }
-    ensures changes { IfOk result (λ d. d.changes ≡ changes (reply_of d.reply)) }
-    ensures stands { OnOk result ((P : PlainPolicy) (H : History) → StandsFor E.follows engine.old P H → StandsFor E.follows engine.new P (grown P H (entry_of line.now))) }
-    ensures err { OnErr result (FollowsLike E.follows engine.old engine.new) }
-{
-    let line = line.line(alloc)?;
-    step_by(engine, steps, line.caller, &line.command)
-}
-
-/// The same of a caller's command.
-fn step_by<E: Engine>(
-    engine: &mut E,
-    steps: &mut Steps,
-    caller: Caller,
-    command: &Command,
-) -> Result<Drafted, NoMemory>
-    requires { IsIdle E.follows engine.old }
-    ensures idle { IsIdle E.follows engine.new }
-    ensures reply { IfOk result (λ d. (P : PlainPolicy) (H : History) → StandsFor E.follows engine.old P H → reply_of d.reply ≡ said P H caller command.now) }
-    ensures changes { IfOk result (λ d. d.changes ≡ changes (reply_of d.reply)) }
-    ensures stands { OnOk result ((P : PlainPolicy) (H : History) → StandsFor E.follows engine.old P H
-        → StandsFor E.follows engine.new P (grown P H (record { caller = caller; command = command.now }))) }
-    ensures err { OnErr result (FollowsLike E.follows engine.old engine.new) }
+    ensures stands { (P : PlainPolicy) (H : History) (e : Entry) → changes ≡ histories.changes (said P H e.caller e.command)
+        → (IsTrue changes → E.has_pending engine.old P (trace P H) e) → (IsFalse changes → StandsFor E.follows engine.old P H)
+        → StandsFor E.follows engine.new P (grown P H e) }
 {
     grown_histories_go_on();
-    let drafted = engine.draft(caller, command, steps)?;
-    if drafted.changes {
+    if changes {
         engine.keep();
     }
-    Ok(drafted)
 }
 
 /// The number of records after a reply: one more where it changes something.

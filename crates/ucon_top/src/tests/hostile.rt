@@ -1,7 +1,7 @@
 //! Hostile input, and calls that fail: each is answered, and nothing that stands in a journal is lost.
 
-use super::same;
-use crate::{fault_text, run};
+use super::{fault_text, same};
+use crate::run;
 use std::alloc::Global;
 use std::sync::Wait;
 use std::test::Fail;

@@ -45,7 +45,7 @@ returns-in-Ok-open-clause-played g c =
     let run = subst (λ (es : List Entry). IsClosedRun g.D.Disk.contents g.D.Disk.images g.D.Disk.moment g.D.Disk.images_since g.D.Disk.faults in_text_order P store es
     c.play_lines.result.outcome c.play_lines.result.disk (g.K.Sink.contents c.args.out.now) (g.K.Sink.contents c.play_lines.new.out)) same (c.play_lines.ensures.run P reads) in
     ends_run g.D.Disk.contents g.D.Disk.images g.D.Disk.moment g.D.Disk.images_since g.D.Disk.faults text c.args.disk store opened Play bytes P lines c.policy_part.ensures some.has_policy
-    c.in-Ok.ensures.says c.play_lines.result.disk (g.K.Sink.contents c.args.out.now) (g.K.Sink.contents c.play_lines.new.out) c.play_lines.result.outcome run
+    c.in-Ok.ensures.says c.play_lines.result.disk g.K.Sink.contents c.args.out.now c.play_lines.new.out c.play_lines.result.outcome run
 
 pub returns-in-Ok-open-clause-fault : goal.returns-in-Ok-open-clause-fault
 returns-in-Ok-open-clause-fault g c = λ is.

@@ -49,7 +49,7 @@ returns-in-Ok-open-clause-played g c =
     c.serve_lines.result.outcome c.serve_lines.result.disk (g.K.Sink.contents c.args.out.now) (g.K.Sink.contents c.serve_lines.new.out)) same
     (c.serve_lines.ensures.run P (ap accepted (e.store.0 ∙ c.policy_part.ensures) ∙ accepts)) in
     ends_run g.D.Disk.contents g.D.Disk.images g.D.Disk.moment g.D.Disk.images_since g.D.Disk.faults text c.args.disk store opened Serve c.args.bytes.now P said
-    c.policy_part.ensures some.has_policy c.in-Ok.ensures.says c.serve_lines.result.disk (g.K.Sink.contents c.args.out.now) (g.K.Sink.contents c.serve_lines.new.out)
+    c.policy_part.ensures some.has_policy c.in-Ok.ensures.says c.serve_lines.result.disk g.K.Sink.contents c.args.out.now c.serve_lines.new.out
     c.serve_lines.result.outcome run
 
 pub returns-in-Ok-open-clause-fault : goal.returns-in-Ok-open-clause-fault

@@ -18,13 +18,13 @@ of_each (Some form) P all = all form
 pub returns-in-Err-clause-played : goal.returns-in-Err-clause-played
 returns-in-Err-clause-played g c =
     let input = g.S.Source.left c.args.input.now in
-    let was = g.K.Sink.contents c.args.out.now in
-    let played : (form : Form) → HasPlayedInput g.D.Disk.contents g.D.Disk.images g.D.Disk.moment g.D.Disk.images_since g.D.Disk.faults form c.by-in-Err.result.outcome input c.args.disk c.by-in-Err.result.disk was was =
+    let was = c.args.out.now in
+    let played : (form : Form) → HasPlayedInput g.D.Disk.contents g.D.Disk.images g.D.Disk.moment g.D.Disk.images_since g.D.Disk.faults g.K.Sink.contents form c.by-in-Err.result.outcome input c.args.disk c.by-in-Err.result.disk was was =
     λ form. rw (c.by-in-Err.ensures.outcome, c.by-in-Err.ensures.disk) (
-    unread_played g.D.Disk.contents g.D.Disk.images g.D.Disk.moment g.D.Disk.images_since g.D.Disk.faults form c.in-Err.outcome input
-    (g.S.Source.faults c.args.input.now) (g.S.Source.faults c.document_bytes.new.input) c.args.disk was was c.in-Err.ensures.ends
+    unread_played g.D.Disk.contents g.D.Disk.images g.D.Disk.moment g.D.Disk.images_since g.D.Disk.faults g.K.Sink.contents form c.in-Err.outcome input
+    (g.S.Source.faults c.args.input.now) (g.S.Source.faults c.document_bytes.new.input) c.args.disk was c.in-Err.ensures.ends
     ) in
-    of_each _ (λ (form : Form). HasJournal form → HasPlayedInput g.D.Disk.contents g.D.Disk.images g.D.Disk.moment g.D.Disk.images_since g.D.Disk.faults form c.by-in-Err.result.outcome input c.args.disk c.by-in-Err.result.disk was was)
+    of_each _ (λ (form : Form). HasJournal form → HasPlayedInput g.D.Disk.contents g.D.Disk.images g.D.Disk.moment g.D.Disk.images_since g.D.Disk.faults g.K.Sink.contents form c.by-in-Err.result.outcome input c.args.disk c.by-in-Err.result.disk was was)
     (λ form has_journal. played form)
 
 pub returns-in-Play-clause-complete : goal.returns-in-Play-clause-complete
@@ -41,8 +41,8 @@ returns-in-Play-clause-complete g c =
     let is = subst (λ (b : Bytes). IfSome input (λ d. d ≡ b)) (sym c.deref.ensures.value) told in
     let known : form_of (map (λ w. string_bytes w) c.args.words.now) ≡ Some Play = cc in
     rw known (over_document (g.D.Disk.contents c.args.disk) source source' sink sink' (g.D.Disk.faults c.args.disk) (g.D.Disk.faults c.play.result.disk) Play outcome input bytes is
-    (played_complete g.D.Disk.contents g.D.Disk.images g.D.Disk.moment g.D.Disk.images_since g.D.Disk.faults Play c.args.disk c.play.result.disk
-    (g.K.Sink.contents c.args.out.now) (g.K.Sink.contents c.play.new.out) source source' sink sink' bytes outcome
+    (played_complete g.D.Disk.contents g.D.Disk.images g.D.Disk.moment g.D.Disk.images_since g.D.Disk.faults g.K.Sink.contents Play c.args.disk c.play.result.disk
+    c.args.out.now c.play.new.out source source' sink sink' bytes outcome
     (c.accepted_documents_are_not_refused.ensures bytes outcome) c.play.ensures.refused c.play.ensures.of_document c.play.ensures.sink c.play.ensures.fault
     c.play.ensures.played (λ u. u.journal)))
 

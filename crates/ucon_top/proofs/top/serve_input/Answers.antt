@@ -11,10 +11,9 @@ use Rattle.ucon_top.proofs.top.serve_input.Goals as goal
 
 pub returns-in-Err-clause-played : goal.returns-in-Err-clause-played
 returns-in-Err-clause-played g c =
-    let was = g.K.Sink.contents c.args.out.now in
     rw (c.by.ensures.outcome, c.by.ensures.disk) (
-    unread_played g.D.Disk.contents g.D.Disk.images g.D.Disk.moment g.D.Disk.images_since g.D.Disk.faults Serve c.in-Err.outcome (g.S.Source.left c.args.input.now)
-    (g.S.Source.faults c.args.input.now) (g.S.Source.faults c.document_bytes.new.input) c.args.disk was was c.in-Err.ensures.ends
+    unread_played g.D.Disk.contents g.D.Disk.images g.D.Disk.moment g.D.Disk.images_since g.D.Disk.faults g.K.Sink.contents Serve c.in-Err.outcome (g.S.Source.left c.args.input.now)
+    (g.S.Source.faults c.args.input.now) (g.S.Source.faults c.document_bytes.new.input) c.args.disk c.args.out.now c.in-Err.ensures.ends
     )
 
 pub serve-requires-send-E : goal.serve-requires-send-E
@@ -31,7 +30,7 @@ returns-in-Ok-clause-complete g c =
     let sink' = g.K.Sink.faults c.serve.new.out in
     let is = subst (λ (b : Bytes). IfSome input (λ d. d ≡ b)) (sym c.deref.ensures.value) c.in-Ok.ensures.bytes in
     over_document (g.D.Disk.contents c.args.disk) source source' sink sink' (g.D.Disk.faults c.args.disk) (g.D.Disk.faults c.serve.result.disk) Serve outcome input bytes is
-    (played_complete g.D.Disk.contents g.D.Disk.images g.D.Disk.moment g.D.Disk.images_since g.D.Disk.faults Serve c.args.disk c.serve.result.disk
-    (g.K.Sink.contents c.args.out.now) (g.K.Sink.contents c.serve.new.out) source source' sink sink' bytes outcome
+    (played_complete g.D.Disk.contents g.D.Disk.images g.D.Disk.moment g.D.Disk.images_since g.D.Disk.faults g.K.Sink.contents Serve c.args.disk c.serve.result.disk
+    c.args.out.now c.serve.new.out source source' sink sink' bytes outcome
     (c.accepted_documents_are_not_refused.ensures bytes outcome) c.serve.ensures.refused c.serve.ensures.of_document c.serve.ensures.sink c.serve.ensures.fault
     c.serve.ensures.played (λ u. u.journal))

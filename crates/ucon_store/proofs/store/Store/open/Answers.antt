@@ -1,11 +1,14 @@
-use Rattle.std.proofs.Common.{◌≡◌, Some, None, sym, subst, arith}
+use Rattle.std.proofs.Common.{◌≡◌, Some, None, refl, sym, ap, ◌∙◌, subst, arith}
 use Rattle.ucon_disk.specs.Run.{LeavesAfter}
 use Rattle.ucon_journal.specs.Journal.{disk_of}
+use Rattle.ucon_syntax.specs.Policies.{accepted}
 use Rattle.ucon_store.specs.Found.{Tells, Opens}
 use Rattle.ucon_store.specs.declared.fault.StoreFault.{StoreFault}
 use Rattle.ucon_store.specs.Opening.{HasReason}
 use Rattle.ucon_store.proofs.Begun.{opening_reason, reason_before, found_before}
 use Rattle.ucon_store.specs.Kept.{IsAtRestWith}
+use Rattle.ucon_store.proofs.Openings.{holds_moved}
+use Rattle.ucon_store.proofs.Stepping.{one_policy}
 use Rattle.ucon_store.proofs.Recorded.{left_at_rest}
 use Rattle.ucon_store.proofs.Runs.{begin_opens, whole_opens}
 use Rattle.ucon_store.proofs.store.Store.open.Goals as goal
@@ -41,6 +44,16 @@ returns-in-Err-load-clause-images_err g c =
 pub returns-in-Ok-load-clause-found : goal.returns-in-Ok-load-clause-found
 returns-in-Ok-load-clause-found g c =
     found_before (λ f. Tells f c.args.policy.now c.in-Ok-load.loaded.entries.items) (g.D.Disk.contents c.args.disk) (g.D.Disk.contents (disk_of c.in-Ok.journal)) c.in-Ok.ensures.bytes c.in-Ok-load.ensures.found
+
+pub returns-in-Ok-load-clause-recorded : goal.returns-in-Ok-load-clause-recorded
+returns-in-Ok-load-clause-recorded g c = λ P accepts.
+    let text = c.in-Ok-load.loaded.policy.items in
+    let H = c.in-Ok-load.loaded.entries.items in
+    let held = c.in-Ok-load.ensures.loaded in
+    let o = g.D.Disk.contents (disk_of c.load.new.journal) in
+    let same : text ≡ c.args.policy.now = c.in-Ok-load.ensures.policy in
+    let one = one_policy text P held.standing.P (ap accepted same ∙ accepts) held.standing.accepts in
+    holds_moved o o text c.args.policy.now held.standing.P P H H refl (sym same) one refl held.holds
 
 pub returns-in-Ok-load-clause-images : goal.returns-in-Ok-load-clause-images
 returns-in-Ok-load-clause-images g c =

@@ -4,6 +4,7 @@ use Rattle.ucon_disk.specs.Causes.{raised}
 use Rattle.ucon_disk.specs.Run.{LeavesOnly}
 use Rattle.ucon_journal.specs.Journal.{disk_of}
 use Rattle.ucon_model.specs.declared.command.Entry.{Entry}
+use Rattle.ucon_model.specs.Found.{taken}
 use Rattle.ucon_model.specs.History.{trace, changes}
 use Rattle.ucon_model.specs.Payload.{revocations_in}
 use Rattle.ucon_model.specs.Plain.{PlainReply}
@@ -44,12 +45,12 @@ invariant_of-self-in-Err-record g c =
     let changing = sym c.in_ok-drafted.ensures.changes ∙ changed in
     let does = ap changes (sym said_is) ∙ changing in
     let pends = c.in_ok-drafted.ensures.pending changed P (trace P H) kept.stands in
-    let is_entry : c.in-Ok.ready.entry ≡ e = c.in-Ok.ensures.entry in
-    let takes = c.in-Ok.ensures.taken P H said_is changing ∙ ap (λ (x : Entry). Some (H ++ x ∷ [])) is_entry in
+    let is_entry : c.in-Ok.entry ≡ e = c.in-Ok.ensures.entry in
+    let takes = ap (taken accepted P H) c.deref.ensures.value ∙ c.in-Ok.ensures.taken P H said_is changing ∙ ap (λ (x : Entry). Some (H ++ x ∷ [])) is_entry in
     let rest = at_rest_moved contents images c.self.inside.journal c.prepare.new.journal text P H (kept.rests refl)
     (c.prepare.ensures.closed (kept.rests refl).closed) c.prepare.ensures.gate c.prepare.ensures.disk in
     let one : OneByOne = λ front behind. c.payloads_are_found_one_by_one.ensures accepted front behind in
-    let run = run_perhaps contents images c.prepare.new.journal text P H rest one e c.in-Ok.ready.payload.items takes g.D.Disk.moment g.D.Disk.images_since
+    let run = run_perhaps contents images c.prepare.new.journal text P H rest one e c.deref.result.now takes g.D.Disk.moment g.D.Disk.images_since
     (disk_of c.record.new.journal) c.record.ensures.images in
     let run_here = subst (λ (d : g.row.D.Denot). IsSome (contents d) → LeavesOnly g.D.Disk.moment g.D.Disk.images_since d (disk_of c.record.new.journal) (IsFoundWith text H (Some e)))
     c.prepare.ensures.disk run in
@@ -75,11 +76,11 @@ returns-in-Err-record-clause-inside g c =
     let said_is = c.in_ok-drafted.ensures.reply P (trace P H) inv.stands in
     let changed : c.in_ok-drafted.drafted.changes ≡ true = search rules in
     let changing = sym c.in_ok-drafted.ensures.changes ∙ changed in
-    let takes = c.in-Ok.ensures.taken P H said_is changing ∙ ap (λ (x : Entry). Some (H ++ x ∷ [])) c.in-Ok.ensures.entry in
+    let takes = ap (taken accepted P H) c.deref.ensures.value ∙ c.in-Ok.ensures.taken P H said_is changing ∙ ap (λ (x : Entry). Some (H ++ x ∷ [])) c.in-Ok.ensures.entry in
     let rest = at_rest_moved contents images c.self.inside.journal c.prepare.new.journal text P H (inv.rests none)
     (c.prepare.ensures.closed (inv.rests none).closed) c.prepare.ensures.gate c.prepare.ensures.disk in
     let one : OneByOne = λ front behind. c.payloads_are_found_one_by_one.ensures accepted front behind in
-    let run = run_perhaps contents images c.prepare.new.journal text P H rest one e c.in-Ok.ready.payload.items takes g.D.Disk.moment g.D.Disk.images_since
+    let run = run_perhaps contents images c.prepare.new.journal text P H rest one e c.deref.result.now takes g.D.Disk.moment g.D.Disk.images_since
     (disk_of c.record.new.journal) c.record.ensures.images in
     let run_here = subst (λ (d : g.row.D.Denot). IsSome (contents d) → LeavesOnly g.D.Disk.moment g.D.Disk.images_since d (disk_of c.record.new.journal) (IsFoundWith text H (Some e)))
     c.prepare.ensures.disk run in
@@ -99,12 +100,12 @@ returns-in-Err-record-clause-stays g c =
     let said_is = c.in_ok-drafted.ensures.reply P (trace P H) inv.stands in
     let changed : c.in_ok-drafted.drafted.changes ≡ true = search rules in
     let changing = sym c.in_ok-drafted.ensures.changes ∙ changed in
-    let is_entry : c.in-Ok.ready.entry ≡ e = c.in-Ok.ensures.entry in
-    let takes = c.in-Ok.ensures.taken P H said_is changing ∙ ap (λ (x : Entry). Some (H ++ x ∷ [])) is_entry in
+    let is_entry : c.in-Ok.entry ≡ e = c.in-Ok.ensures.entry in
+    let takes = ap (taken accepted P H) c.deref.ensures.value ∙ c.in-Ok.ensures.taken P H said_is changing ∙ ap (λ (x : Entry). Some (H ++ x ∷ [])) is_entry in
     let rest = at_rest_moved contents images c.self.inside.journal c.prepare.new.journal text P H (inv.rests none)
     (c.prepare.ensures.closed (inv.rests none).closed) c.prepare.ensures.gate c.prepare.ensures.disk in
     let one : OneByOne = λ front behind. c.payloads_are_found_one_by_one.ensures accepted front behind in
-    let run = run_perhaps contents images c.prepare.new.journal text P H rest one e c.in-Ok.ready.payload.items takes g.D.Disk.moment g.D.Disk.images_since
+    let run = run_perhaps contents images c.prepare.new.journal text P H rest one e c.deref.result.now takes g.D.Disk.moment g.D.Disk.images_since
     (disk_of c.record.new.journal) c.record.ensures.images in
     let run_here = subst (λ (d : g.row.D.Denot). IsSome (contents d) → LeavesOnly g.D.Disk.moment g.D.Disk.images_since d (disk_of c.record.new.journal) (IsFoundWith text H (Some e)))
     c.prepare.ensures.disk run in
@@ -143,14 +144,14 @@ invariant_of-self-2 g c =
     let said_is = c.in_ok-drafted.ensures.reply P (trace P H) kept.stands in
     let changed : c.in_ok-drafted.drafted.changes ≡ true = search rules in
     let changing = sym c.in_ok-drafted.ensures.changes ∙ changed in
-    let is_entry : c.in-Ok.ready.entry ≡ e = c.in-Ok.ensures.entry in
-    let takes = c.in-Ok.ensures.taken P H said_is changing ∙ ap (λ (x : Entry). Some (H ++ x ∷ [])) is_entry in
+    let is_entry : c.in-Ok.entry ≡ e = c.in-Ok.ensures.entry in
+    let takes = ap (taken accepted P H) c.deref.ensures.value ∙ c.in-Ok.ensures.taken P H said_is changing ∙ ap (λ (x : Entry). Some (H ++ x ∷ [])) is_entry in
     let rest = at_rest_moved contents images c.self.inside.journal c.prepare.new.journal text P H (kept.rests refl)
     (c.prepare.ensures.closed (kept.rests refl).closed) c.prepare.ensures.gate c.prepare.ensures.disk in
     let one : OneByOne = λ front behind. c.payloads_are_found_one_by_one.ensures accepted front behind in
     let added : c.record.new.entries.items ≡ H ++ e ∷ [] = c.in_default.ensures.added
-    ∙ (ap (λ (l : List Entry). l ++ c.in-Ok.ready.entry ∷ []) c.prepare.ensures.entries ∙ ap (λ (x : Entry). H ++ x ∷ []) c.in-Ok.ensures.entry) in
-    let next = at_rest_with contents images c.prepare.new.journal text P H rest one e c.in-Ok.ready.payload.items takes c.record.new.journal
+    ∙ (ap (λ (l : List Entry). l ++ c.in-Ok.entry ∷ []) c.prepare.ensures.entries ∙ ap (λ (x : Entry). H ++ x ∷ []) c.in-Ok.ensures.entry) in
+    let next = at_rest_with contents images c.prepare.new.journal text P H rest one e c.deref.result.now takes c.record.new.journal
     c.in_default.ensures.gate c.in_default.ensures.closed c.in_default.ensures.only c.record.ensures.tells c.in_default.ensures.payloads in
     let pends = c.in_ok-drafted.ensures.pending changed P (trace P H) kept.stands in
     let more = kept_more contents images g.E.Engine.follows c.self.inside.engine c.record.new.engine c.self.inside.journal c.record.new.journal text H e kept
@@ -170,12 +171,12 @@ returns-clause-inside g c =
     let said_is = c.in_ok-drafted.ensures.reply P (trace P H) kept.stands in
     let changed : c.in_ok-drafted.drafted.changes ≡ true = search rules in
     let changing = sym c.in_ok-drafted.ensures.changes ∙ changed in
-    let is_entry : c.in-Ok.ready.entry ≡ e = c.in-Ok.ensures.entry in
-    let takes = c.in-Ok.ensures.taken P H said_is changing ∙ ap (λ (x : Entry). Some (H ++ x ∷ [])) is_entry in
+    let is_entry : c.in-Ok.entry ≡ e = c.in-Ok.ensures.entry in
+    let takes = ap (taken accepted P H) c.deref.ensures.value ∙ c.in-Ok.ensures.taken P H said_is changing ∙ ap (λ (x : Entry). Some (H ++ x ∷ [])) is_entry in
     let rest = at_rest_moved contents images c.self.inside.journal c.prepare.new.journal text P H (kept.rests none)
     (c.prepare.ensures.closed (kept.rests none).closed) c.prepare.ensures.gate c.prepare.ensures.disk in
     let one : OneByOne = λ front behind. c.payloads_are_found_one_by_one.ensures accepted front behind in
-    let run = run_perhaps contents images c.prepare.new.journal text P H rest one e c.in-Ok.ready.payload.items takes g.D.Disk.moment g.D.Disk.images_since
+    let run = run_perhaps contents images c.prepare.new.journal text P H rest one e c.deref.result.now takes g.D.Disk.moment g.D.Disk.images_since
     (disk_of c.record.new.journal) c.record.ensures.images in
     let run_here = subst (λ (d : g.row.D.Denot). IsSome (contents d) → LeavesOnly g.D.Disk.moment g.D.Disk.images_since d (disk_of c.record.new.journal) (IsFoundWith text H (Some e)))
     c.prepare.ensures.disk run in
@@ -195,14 +196,14 @@ returns-clause-holds g c =
     let said_is = c.in_ok-drafted.ensures.reply P (trace P H) kept.stands in
     let changed : c.in_ok-drafted.drafted.changes ≡ true = search rules in
     let changing = sym c.in_ok-drafted.ensures.changes ∙ changed in
-    let is_entry : c.in-Ok.ready.entry ≡ e = c.in-Ok.ensures.entry in
-    let takes = c.in-Ok.ensures.taken P H said_is changing ∙ ap (λ (x : Entry). Some (H ++ x ∷ [])) is_entry in
+    let is_entry : c.in-Ok.entry ≡ e = c.in-Ok.ensures.entry in
+    let takes = ap (taken accepted P H) c.deref.ensures.value ∙ c.in-Ok.ensures.taken P H said_is changing ∙ ap (λ (x : Entry). Some (H ++ x ∷ [])) is_entry in
     let rest = at_rest_moved contents images c.self.inside.journal c.prepare.new.journal text P H (kept.rests none)
     (c.prepare.ensures.closed (kept.rests none).closed) c.prepare.ensures.gate c.prepare.ensures.disk in
     let one : OneByOne = λ front behind. c.payloads_are_found_one_by_one.ensures accepted front behind in
     let added : c.record.new.entries.items ≡ H ++ e ∷ [] = c.in_default.ensures.added
-    ∙ (ap (λ (l : List Entry). l ++ c.in-Ok.ready.entry ∷ []) c.prepare.ensures.entries ∙ ap (λ (x : Entry). H ++ x ∷ []) c.in-Ok.ensures.entry) in
-    let next = at_rest_with contents images c.prepare.new.journal text P H rest one e c.in-Ok.ready.payload.items takes c.record.new.journal
+    ∙ (ap (λ (l : List Entry). l ++ c.in-Ok.entry ∷ []) c.prepare.ensures.entries ∙ ap (λ (x : Entry). H ++ x ∷ []) c.in-Ok.ensures.entry) in
+    let next = at_rest_with contents images c.prepare.new.journal text P H rest one e c.deref.result.now takes c.record.new.journal
     c.in_default.ensures.gate c.in_default.ensures.closed c.in_default.ensures.only c.record.ensures.tells c.in_default.ensures.payloads in
     subst (λ (l : List Entry). IfSome (contents (disk_of c.record.new.journal)) (λ file. IsFoundAs text file l)) (sym added)
     (found_at_rest contents images c.record.new.journal text P (H ++ e ∷ []) next)
@@ -214,7 +215,7 @@ returns-clause-events g c =
     let e : Entry = record { caller = c.args.caller; command = c.args.command.now } in
     let none : c.self.inside.mark ≡ None = unmarked c.self.inside.mark (search rules) in
     let added : c.record.new.entries.items ≡ H ++ e ∷ [] = c.in_default.ensures.added
-    ∙ (ap (λ (l : List Entry). l ++ c.in-Ok.ready.entry ∷ []) c.prepare.ensures.entries ∙ ap (λ (x : Entry). H ++ x ∷ []) c.in-Ok.ensures.entry) in
+    ∙ (ap (λ (l : List Entry). l ++ c.in-Ok.entry ∷ []) c.prepare.ensures.entries ∙ ap (λ (x : Entry). H ++ x ∷ []) c.in-Ok.ensures.entry) in
     subst (λ (x : Kept g.row.D.Denot). Continues (λ event. number_of event ≡ c.args.caller.0 + 1) (events_of x) (events c.record.new.entries.items c.self.inside.mark))
     c.self.view_is
     (subst (λ (z : List Entry × Option Entry). Continues (λ event. number_of event ≡ c.args.caller.0 + 1) (events H z.1) (events z.0 z.1))
@@ -233,17 +234,17 @@ returns-clause-stays g c =
     let said_is = c.in_ok-drafted.ensures.reply P (trace P H) kept.stands in
     let changed : c.in_ok-drafted.drafted.changes ≡ true = search rules in
     let changing = sym c.in_ok-drafted.ensures.changes ∙ changed in
-    let is_entry : c.in-Ok.ready.entry ≡ e = c.in-Ok.ensures.entry in
-    let takes = c.in-Ok.ensures.taken P H said_is changing ∙ ap (λ (x : Entry). Some (H ++ x ∷ [])) is_entry in
+    let is_entry : c.in-Ok.entry ≡ e = c.in-Ok.ensures.entry in
+    let takes = ap (taken accepted P H) c.deref.ensures.value ∙ c.in-Ok.ensures.taken P H said_is changing ∙ ap (λ (x : Entry). Some (H ++ x ∷ [])) is_entry in
     let rest = at_rest_moved contents images c.self.inside.journal c.prepare.new.journal text P H (kept.rests none)
     (c.prepare.ensures.closed (kept.rests none).closed) c.prepare.ensures.gate c.prepare.ensures.disk in
     let one : OneByOne = λ front behind. c.payloads_are_found_one_by_one.ensures accepted front behind in
-    let run = run_perhaps contents images c.prepare.new.journal text P H rest one e c.in-Ok.ready.payload.items takes g.D.Disk.moment g.D.Disk.images_since
+    let run = run_perhaps contents images c.prepare.new.journal text P H rest one e c.deref.result.now takes g.D.Disk.moment g.D.Disk.images_since
     (disk_of c.record.new.journal) c.record.ensures.images in
     let run_here = subst (λ (d : g.row.D.Denot). IsSome (contents d) → LeavesOnly g.D.Disk.moment g.D.Disk.images_since d (disk_of c.record.new.journal) (IsFoundWith text H (Some e)))
     c.prepare.ensures.disk run in
     let added : c.record.new.entries.items ≡ H ++ e ∷ [] = c.in_default.ensures.added
-    ∙ (ap (λ (l : List Entry). l ++ c.in-Ok.ready.entry ∷ []) c.prepare.ensures.entries ∙ ap (λ (x : Entry). H ++ x ∷ []) c.in-Ok.ensures.entry) in
+    ∙ (ap (λ (l : List Entry). l ++ c.in-Ok.entry ∷ []) c.prepare.ensures.entries ∙ ap (λ (x : Entry). H ++ x ∷ []) c.in-Ok.ensures.entry) in
     let tells = c.record.ensures.tells ∙ ap (λ (d : g.row.D.Denot). is_some (contents d)) c.prepare.ensures.disk in
     let unfailed = c.in_default.ensures.cause ∙ ap (λ (d : g.row.D.Denot). g.D.Disk.faults d) c.prepare.ensures.disk in
     subst (λ (x : Kept g.row.D.Denot). Stays contents images g.D.Disk.moment g.D.Disk.images_since g.D.Disk.faults x
