@@ -4,18 +4,9 @@ use Rattle.ucon_base.specs.declared.value.Side.{Side}
 use Rattle.ucon_model.specs.Plain.{Bytes, PlainPolicy}
 use Rattle.ucon_model.specs.Action.{Trace}
 use Rattle.ucon_state.specs.Following.{Follows}
+pub use Rattle.ucon_state.specs.Following.{IsFollowing, AfterEach}
 use Rattle.ucon_state.specs.Shown.{Shown}
 use Rattle.ucon_state.specs.Tables.{cell_of}
-
--- it follows some trace that began under some policy
-pub record IsFollowing (s : Shown) : Type 0 where
-  pub policy : PlainPolicy
-  pub trace : Trace
-  pub follows : Follows s policy trace
-
--- it holds after each trace that the state follows
-abbrev pub AfterEach : Shown → (PlainPolicy → Trace → Type 0) → Type 0
-AfterEach s Q = (P : PlainPolicy) (T : Trace) → Follows s P T → Q P T
 
 -- what follows a trace before follows after it the trace that this makes of it
 abbrev pub Leads : Shown → Shown → (PlainPolicy → Trace → Trace) → Type 0

@@ -1,5 +1,5 @@
--- Who reads what is read anew, session by session.
-use Rattle.std.proofs.Common.{◌≡◌, ◌∙◌, ◌⊎◌, ◌+◌, ◌<◌, inl, inr, ℕ, zero, suc, List, [], length, refl, sym, ap, subst, arith}
+-- Who reads what, and shares whose judgement, is read anew, session by session.
+use Rattle.std.proofs.Common.{◌≡◌, ◌↔◌, ◌∙◌, ◌⊎◌, ◌+◌, ◌<◌, inl, inr, ℕ, zero, suc, List, [], length, refl, sym, ap, subst, arith}
 use Rattle.std.specs.Prelude.{Option, Some, None, IsSome, is_some, option_map, Bool, true, false, cond}
 use Rattle.std.specs.List.{Contains}
 use Rattle.std.proofs.lemmas.Bool.Decides.{eqb_tells}
@@ -9,8 +9,16 @@ use Rattle.ucon_model.specs.Readings.{is_accessing_state}
 use Rattle.ucon_model.specs.Usages.{going_on}
 use Rattle.ucon_state.specs.Shown.{Shown}
 use Rattle.ucon_state.specs.Tables.{session_in}
+use Rattle.ucon_cascade.specs.Grouping.{AreGrouped, AreGroupedBelow, GetsFirst}
+use Rattle.ucon_cascade.specs.Lists.{leader_in}
+use Rattle.ucon_cascade.specs.Putting.{GoesOn}
+use Rattle.ucon_cascade.specs.Readers.{AreReadBelow, IsKept, StandAsTheyRead, first_of, readers_at}
+use Rattle.ucon_cascade.specs.declared.readers.Readers.{Readers}
+use Rattle.ucon_cascade.proofs.Grouped.{among_like, grouped_all, grouped_fewer, grouped_more}
+use Rattle.ucon_cascade.proofs.Leading.{stands_by, stands_if_there}
+use Rattle.ucon_cascade.proofs.Listed.{leader_cases}
 use Rattle.ucon_cascade.specs.Numbering.{AreNumbered, IsExact, IsExactBelow, place_numbers}
-use Rattle.ucon_cascade.specs.Readers.{ComesTo, StandsNowhere}
+use Rattle.ucon_cascade.specs.Listing.{ComesTo, StandsNowhere}
 use Rattle.ucon_cascade.proofs.Putting.{usage_below}
 
 nothing_in : (n : ℕ) → Contains [] n → ⊥
@@ -88,11 +96,12 @@ none_comes s standing n exact over = record {
         cc
 
 -- the same who stand
-pub below_like : (s : Shown) (standing standing' : ℕ → List ℕ) (n : ℕ) → ((place : ℕ) → standing' place ≡ standing place) → IsExactBelow s standing n → IsExactBelow s standing' n
+pub below_like : (s : Shown) (standing standing' : ℕ → List ℕ) (n : ℕ) → ((m place : ℕ) → Contains (standing' place) m ↔ Contains (standing place) m)
+    → IsExactBelow s standing n → IsExactBelow s standing' n
 below_like s standing standing' n same exact = record {
-  below = λ m place stands. exact.below m place (subst (λ (xs : List ℕ). Contains xs m) (same place) stands);
-  sound = λ m place stands. exact.sound m place (subst (λ (xs : List ℕ). Contains xs m) (same place) stands);
-  complete = λ m place below reads. subst (λ (xs : List ℕ). Contains xs m) (sym (same place)) (exact.complete m place below reads);
+  below = λ m place stands. exact.below m place ((same m place).0 stands);
+  sound = λ m place stands. exact.sound m place ((same m place).0 stands);
+  complete = λ m place below reads. (same m place).1 (exact.complete m place below reads);
   numbered = exact.numbered;
 }
 
@@ -106,6 +115,90 @@ all_read s standing limit all exact = record {
   where
     within : (n : ℕ) → n < length s.tables.sessions + 1 → n < limit
     within n below = omega (arith, below, all)
+
+-- ---- readers
+
+some_row : (o : Option SessionRow) → IsSome o → (row : SessionRow) × (o ≡ Some row)
+some_row None some = let no : ⊥ = cc in absurd no
+some_row (Some row) some = (row, refl)
+
+-- at first nobody is in a list
+pub none_read : (s : Shown) (r : Readers) → ((place : ℕ) → readers_at r place ≡ []) → AreReadBelow s 1 r
+none_read s r nobody = record {
+  exact = nobody_yet s (readers_at r) nobody;
+  grouped = record {
+    low = λ n below goes. absurd (none n below goes);
+    on = λ n below goes. absurd (none n below goes);
+    itself = λ n below goes. absurd (none n below goes);
+    like = λ n below goes. absurd (none n below goes);
+  };
+}
+  where
+    none : (n : ℕ) → n < 1 → GoesOn s n → ⊥
+    none n below goes = let row = some_row (going_on (session_in s.tables n)) goes in no_first s n row.0 below row.1
+
+-- whoever is in a list is below
+pub listed_below : (s : Shown) (r : Readers) (limit n : ℕ) → IsKept r → AreReadBelow s limit r → IsSome (leader_in r.standing.lists.wheel n) → n < limit
+listed_below s r limit n kept read listed = elim (leader_cases r.standing.lists.wheel n) [
+  | inl none ↦ (let no : IsSome {T = ℕ} None = subst (λ (o : Option ℕ). IsSome o) none listed in let not : false ≡ true = no in absurd cc)
+  | inr some ↦
+      let stands = stands_if_there some.0 r.standing.index.places (kept.at_rest.led some.0 n some.2) in
+      read.exact.below n stands.0 (stands_by r.standing.lists.wheel r.standing.index stands.0 some.0 n stands.1 some.2)
+]
+
+-- those who are in a list stand where they read
+pub all_stand : (s : Shown) (r : Readers) (n : ℕ) → IsKept r → AreReadBelow s n r → StandAsTheyRead s r n
+all_stand s r n kept read m row apart listed is =
+    let below = listed_below s r n m kept read listed in (
+      read.exact.numbered m row below is,
+      λ place. (
+        λ stands. (
+            let reads = read.exact.sound m place stands in
+            let both : Some reads.row ≡ Some row = sym reads.is ∙ is in
+            let one : reads.row ≡ row = cc in
+            subst (λ (other : SessionRow). Contains (place_numbers s other) place) one reads.reads),
+        λ reads. read.exact.complete m place below (record { row = row; is = is; reads = reads }),
+      ),
+    )
+
+-- the next session reads nothing
+pub none_reads_next : (s : Shown) (r : Readers) (n : ℕ) → AreReadBelow s n r → going_on (session_in s.tables n) ≡ None → AreReadBelow s (n + 1) r
+none_reads_next s r n read over = record {
+  exact = none_comes s (readers_at r) n read.exact over;
+  grouped = grouped_fewer s (λ m. m < n) (λ m. m < n + 1) (first_of r) read.grouped
+      (λ m below goes. elim (last_or_before n m below) [
+        | inl last ↦
+            let none : going_on (session_in s.tables m) ≡ None = ap (λ (k : ℕ). going_on (session_in s.tables k)) last ∙ over in
+            let no : IsSome {T = SessionRow} None = subst (λ (o : Option SessionRow). IsSome o) none goes in
+            let not : false ≡ true = no in
+            absurd cc
+        | inr before ↦ before
+      ]);
+}
+
+-- the next session reads its places
+pub one_reads_next : (s : Shown) (r r' : Readers) (n : ℕ) (row : SessionRow) → AreReadBelow s n r → going_on (session_in s.tables n) ≡ Some row → AreNumbered s row
+    → ComesTo (readers_at r) (readers_at r') n (place_numbers s row) → GetsFirst s (first_of r) (first_of r') n → AreReadBelow s (n + 1) r'
+one_reads_next s r r' n row read goes_on numbered comes gets = record {
+  exact = one_comes s (readers_at r) (readers_at r') n row read.exact goes_on numbered comes;
+  grouped = grouped_fewer s (λ m. (m ≡ n) ⊎ (m < n)) (λ m. m < n + 1) (first_of r')
+      (grouped_more s (λ m. m < n) (first_of r) (first_of r') n read.grouped
+      (λ m below goes. (let low = read.grouped.low m below goes in (λ same. omega (arith, below, same), λ same. omega (arith, below, same, low))))
+      (subst (λ (o : Option SessionRow). IsSome o) (sym goes_on) refl) gets)
+      (λ m below goes. last_or_before n m below);
+}
+
+-- the same who stand, with the same firsts
+pub read_like : (s : Shown) (r r' : Readers) (n : ℕ) → ((m place : ℕ) → Contains (readers_at r' place) m ↔ Contains (readers_at r place) m)
+    → ((m : ℕ) → first_of r' m ≡ first_of r m) → AreReadBelow s n r → AreReadBelow s n r'
+read_like s r r' n same firsts read = record {
+  exact = below_like s (readers_at r) (readers_at r') n same read.exact;
+  grouped = among_like s (λ m. m < n) (first_of r) (first_of r') firsts read.grouped;
+}
+
+-- when all are grouped
+pub all_grouped : (s : Shown) (first : ℕ → ℕ) (limit : ℕ) → length s.tables.sessions < limit → AreGroupedBelow s limit first → AreGrouped s first
+all_grouped s first limit all grouped = grouped_all s (λ n. n < limit) first grouped (λ n goes. (let below = usage_below s n goes in omega (arith, below, all)))
 
 -- ---- whether a usage goes on
 
@@ -135,19 +228,3 @@ is_over_in (Some row) state is off some =
 pub no_session : (o : Option SessionRow) → option_map (λ row. row.state) o ≡ None → IsSome (going_on o) → ⊥
 no_session None is some = cc
 no_session (Some row) is some = absurd cc
-
-pub none_goes_on : (o : Option SessionRow) → option_map (λ row. row.state) o ≡ None → going_on o ≡ None
-none_goes_on None is = refl
-none_goes_on (Some row) is = absurd cc
-
-pub over_in : (o : Option SessionRow) (state : SessionState) → option_map (λ row. row.state) o ≡ Some state → is_accessing_state state ≡ false → going_on o ≡ None
-over_in None state is off = absurd cc
-over_in (Some row) state is off =
-    let same : row.state ≡ state = cc in
-    off_state (is_accessing_state row.state) row (ap is_accessing_state same ∙ off)
-
-pub goes_on_as_it_is : (o : Option SessionRow) (state : SessionState) → option_map (λ row. row.state) o ≡ Some state → is_accessing_state state ≡ true → going_on o ≡ o
-goes_on_as_it_is None state is on = absurd cc
-goes_on_as_it_is (Some row) state is on =
-    let same : row.state ≡ state = cc in
-    on_state (is_accessing_state row.state) row (ap is_accessing_state same ∙ on)

@@ -1,37 +1,27 @@
--- The readers are exact after a usage has begun.
-use Rattle.std.proofs.Common.{◌≡◌, ◌↔◌, ◌⊎◌, ◌∙◌, inl, inr, ℕ, zero, suc, Bool, true, false, List, [], ◌∷◌, refl, sym, subst, arith}
+-- The readers are exact, and the sessions grouped, after a usage has begun.
+use Rattle.std.proofs.Common.{◌≡◌, ◌≢◌, ◌↔◌, ◌⊎◌, ◌∙◌, inl, inr, ℕ, Bool, true, false, List, refl, sym, ap, subst, arith}
 use Rattle.std.specs.Prelude.{Option, Some, None, IsSome, cond}
-use Rattle.std.specs.List.{All, Contains}
+use Rattle.std.specs.List.{Contains}
 use Rattle.std.proofs.lemmas.Bool.Decides.{eqb_tells}
-use Rattle.std.proofs.lemmas.List.Elements.{All-contains}
-use Rattle.ucon_links.specs.Lists.{IsAbsent}
 use Rattle.ucon_model.specs.declared.reply.Head.TheVariants as heads
 use Rattle.ucon_model.specs.declared.session.SessionRow.{SessionRow}
+use Rattle.ucon_model.specs.Groups.{JudgedAlike}
 use Rattle.ucon_model.specs.Readings.{is_accessing_state}
 use Rattle.ucon_model.specs.Usages.{going_on}
 use Rattle.ucon_state.specs.Shown.{Shown}
 use Rattle.ucon_state.specs.Tables.{session_in}
 use Rattle.ucon_cascade.specs.Cascading.{WereExact}
+use Rattle.ucon_cascade.specs.Grouping.{AreGrouped, AreGroupedAmong, GetsFirst, MayLead}
+use Rattle.ucon_cascade.specs.Listing.{ComesTo, StandsNowhere}
+use Rattle.ucon_cascade.specs.Lists.{leader_in}
 use Rattle.ucon_cascade.specs.Numbering.{AreNumbered, IsExact, place_numbers}
-use Rattle.ucon_cascade.specs.Readers.{ComesTo, StandsNowhere}
-use Rattle.ucon_cascade.proofs.Exact.{exact_with}
+use Rattle.ucon_cascade.specs.Putting.{GoesOn}
+use Rattle.ucon_cascade.specs.Readers.{StandAsTheyRead, first_of, readers_at}
+use Rattle.ucon_cascade.specs.declared.readers.Readers.{Readers}
+use Rattle.ucon_cascade.proofs.Exact.{exact_with, numbered_still, numbers_stay}
+use Rattle.ucon_cascade.proofs.Grouped.{among_still, goes_same, grouped_all, grouped_more, numbered_alike, numbers_alike}
 
-further : (x : ℕ) (xs : List ℕ) (n : ℕ) → Contains xs n → Contains (x ∷ xs) n
-further x xs n (i, within, is) = (suc i, omega (arith, within), is)
-
--- a number is one of these, or none of them
-pub there_or_absent : (n : ℕ) (xs : List ℕ) → Contains xs n ⊎ IsAbsent n xs
-there_or_absent n [] = inr tt
-there_or_absent n (x ∷ xs) = elim (eqb_tells x n) [
-  | inl here ↦ inl (0, omega arith, here.1)
-  | inr other ↦ elim (there_or_absent n xs) [ inl later ↦ inl (further x xs n later) | inr absent ↦ inr (other.1, absent) ]
-]
-
-first_or_later : (x : ℕ) (xs : List ℕ) (n : ℕ) → Contains (x ∷ xs) n → (n ≡ x) ⊎ Contains xs n
-first_or_later x xs n (zero, within, is) = inl (sym is)
-first_or_later x xs n (suc i, within, is) = inr (i, omega (arith, within), is)
-
-begun_row : (o : Option SessionRow) (row : SessionRow) → o ≡ Some row → IsSome (going_on o) → going_on o ≡ Some row
+pub begun_row : (o : Option SessionRow) (row : SessionRow) → o ≡ Some row → IsSome (going_on o) → going_on o ≡ Some row
 begun_row None row is some = absurd cc
 begun_row (Some other) row is some = by (is_accessing_state other.state) some
   where
@@ -39,30 +29,10 @@ begun_row (Some other) row is some = by (is_accessing_state other.state) some
     by true some = is
     by false some = absurd cc
 
--- ---- coming to places
+one_row_of : (o : Option SessionRow) (row other : SessionRow) → o ≡ Some row → o ≡ Some other → row ≡ other
+one_row_of o row other is told = let both : Some row ≡ Some other = sym is ∙ told in cc
 
--- a session that is put first at these places comes to them
-pub put_first : (standing standing' : ℕ → List ℕ) (k : ℕ) (places : List ℕ) → All (λ place. standing' place ≡ k ∷ standing place) places
-    → ((place : ℕ) → IsAbsent place places → standing' place ≡ standing place) → ComesTo standing standing' k places
-put_first standing standing' k places first elsewhere n place = (
-  λ stands. elim (there_or_absent place places) [
-    | inl there ↦ elim (first_or_later k (standing place) n (subst (λ (xs : List ℕ). Contains xs n) (at there) stands)) [
-      | inl here ↦ inl (here, there)
-      | inr later ↦ inr later
-    ]
-    | inr absent ↦ inr (subst (λ (xs : List ℕ). Contains xs n) (elsewhere place absent) stands)
-  ],
-  λ either. elim either [
-    | inl here ↦ subst (λ (xs : List ℕ). Contains xs n) (sym (at here.1)) (0, omega arith, sym here.0)
-    | inr stood ↦ elim (there_or_absent place places) [
-      | inl there ↦ subst (λ (xs : List ℕ). Contains xs n) (sym (at there)) (further k (standing place) n stood)
-      | inr absent ↦ subst (λ (xs : List ℕ). Contains xs n) (sym (elsewhere place absent)) stood
-    ]
-  ],
-)
-  where
-    at : Contains places place → standing' place ≡ k ∷ standing place
-    at there = All-contains (λ p. standing' p ≡ k ∷ standing p) places place first there
+-- ---- coming to places
 
 -- the same places, told otherwise
 pub comes_like : (standing standing' : ℕ → List ℕ) (k : ℕ) (places others : List ℕ) → ((n : ℕ) → Contains places n ↔ Contains others n)
@@ -72,20 +42,92 @@ comes_like standing standing' k places others same comes n place = (
   λ either. (comes n place).1 (elim either [ inl here ↦ inl (here.0, (same place).1 here.1) | inr stood ↦ inr stood ]),
 )
 
+-- where another's places are a session's
+pub joined_comes : (s : Shown) (r r' : Readers) (n m : ℕ) (row : SessionRow) → session_in s.tables n ≡ Some row → MayLead s (first_of r) n m
+    → IsSome (leader_in r.standing.lists.wheel m) → StandAsTheyRead s r n
+    → ((k place : ℕ) → Contains (readers_at r' place) k ↔ (((k ≡ n) × Contains (readers_at r place) m) ⊎ Contains (readers_at r place) k))
+    → ComesTo (readers_at r) (readers_at r') n (place_numbers s row) × AreNumbered s row
+joined_comes s r r' n m row is may listed exact comes =
+    let apart : m ≢ n = λ same. (let below = may.below in omega (arith, same, below)) in
+    let reads = exact m may.like.row apart listed (begun_row (session_in s.tables m) may.like.row may.like.is may.on) in
+    let mine : may.like.other ≡ row = one_row_of (session_in s.tables n) may.like.other row may.like.other_is is in
+    let alike : JudgedAlike s.policy may.like.row row = subst (λ (other : SessionRow). JudgedAlike s.policy may.like.row other) mine may.like.alike in
+    let places = numbers_alike s may.like.row row alike in (
+      λ k place. (
+        λ stands. elim ((comes k place).0 stands) [
+          | inl here ↦ inl (here.0, subst (λ (ns : List ℕ). Contains ns place) places ((reads.1 place).0 here.1))
+          | inr stood ↦ inr stood
+        ],
+        λ either. (comes k place).1 (elim either [
+          | inl here ↦ inl (here.0, (reads.1 place).1 (subst (λ (ns : List ℕ). Contains ns place) (sym places) here.1))
+          | inr stood ↦ inr stood
+        ]),
+      ),
+      numbered_alike s may.like.row row alike reads.0,
+    )
+
 -- ---- a usage begins
 
--- whoever begins stood nowhere
-pub begins_from_nowhere : (s : Shown) (standing : ℕ → List ℕ) (k : ℕ) → WereExact s standing (heads.Permitted k) → StandsNowhere standing k
-begins_from_nowhere s standing k were place stood =
-    let reads = were.exact.sound k place stood in
-    let no : None ≡ Some reads.row = sym ((were.told k).begun refl).0 ∙ reads.is in
-    cc
+module _ (s : Shown) (r : Readers) (k : ℕ) (were : WereExact s (readers_at r) (first_of r) (heads.Permitted k)) where
+  others_same : (n : ℕ) → n ≢ k → going_on (session_in s.tables n) ≡ going_on (session_in were.before.tables n)
+  others_same n other = (were.told n).same (λ h. (let back : k ≡ n = cc in other (sym back))) (λ h. cc)
 
--- session k's usage has begun, which reads its places
-pub exact_begun : (s : Shown) (standing standing' : ℕ → List ℕ) (k : ℕ) (row : SessionRow) → WereExact s standing (heads.Permitted k)
-    → session_in s.tables k ≡ Some row → AreNumbered s row → ComesTo standing standing' k (place_numbers s row) → IsExact s standing'
-exact_begun s standing standing' k row were is numbered comes =
-    exact_with were.before s standing standing' k row were.base were.exact ((were.told k).begun refl).0
-    (begun_row (session_in s.tables k) row is ((were.told k).begun refl).1) numbered
-    (λ n other. (were.told n).same (λ h. (let back : k ≡ n = cc in other (sym back))) (λ h. cc))
-    (λ n place. (comes n place).0) (λ place reads. (comes k place).1 (inl (refl, reads))) (λ n place stood. (comes n place).1 (inr stood))
+  -- whoever begins stood nowhere
+  pub begins_from_nowhere : StandsNowhere (readers_at r) k
+  begins_from_nowhere place stood =
+      let reads = were.exact.sound k place stood in
+      let no : None ≡ Some reads.row = sym ((were.told k).begun refl).0 ∙ reads.is in
+      cc
+
+  -- the others stand where they read
+  pub others_stand : StandAsTheyRead s r k
+  others_stand m row apart listed is =
+      let was : going_on (session_in were.before.tables m) ≡ Some row = sym (others_same m apart) ∙ is in
+      let numbered = were.exact.numbered m row was in
+      let same = numbers_stay were.before s were.base row numbered in (
+        numbered_still were.before s were.base row numbered,
+        λ place. (
+          λ stands. (
+              let reads = were.exact.sound m place stands in
+              let both : Some reads.row ≡ Some row = sym reads.is ∙ was in
+              let one : reads.row ≡ row = cc in
+              subst (λ (ns : List ℕ). Contains ns place) (sym same) (subst (λ (other : SessionRow). Contains (place_numbers were.before other) place) one reads.reads)),
+          λ reads. were.exact.complete m place (record { row = row; is = was; reads = subst (λ (ns : List ℕ). Contains ns place) same reads }),
+        ),
+      )
+
+  -- session k's usage has begun, which reads its places
+  pub exact_begun : (standing' : ℕ → List ℕ) (row : SessionRow) → session_in s.tables k ≡ Some row → AreNumbered s row
+      → ComesTo (readers_at r) standing' k (place_numbers s row) → IsExact s standing'
+  exact_begun standing' row is numbered comes =
+      exact_with were.before s (readers_at r) standing' k row were.base were.exact ((were.told k).begun refl).0
+      (begun_row (session_in s.tables k) row is ((were.told k).begun refl).1) numbered others_same
+      (λ n place. (comes n place).0) (λ place reads. (comes k place).1 (inl (refl, reads))) (λ n place stood. (comes n place).1 (inr stood))
+
+  goes_not : (n : ℕ) → GoesOn were.before n → n ≢ k
+  goes_not n goes same =
+      let none : going_on (session_in were.before.tables n) ≡ None = ap (λ (m : ℕ). going_on (session_in were.before.tables m)) same ∙ ((were.told k).begun refl).0 in
+      let no : IsSome {T = SessionRow} None = subst (λ (o : Option SessionRow). IsSome o) none goes in
+      let not : false ≡ true = no in
+      cc
+
+  others_grouped : AreGroupedAmong s (λ n. n ≢ k) (first_of r)
+  others_grouped =
+      among_still were.before s (λ n. n ≢ k) (first_of r) were.base were.grouped others_same
+      (λ n apart goes. others_same (first_of r n) (goes_not (first_of r n) (were.grouped.on n goes)))
+
+  -- nobody else is led by it
+  led_by_others : (n : ℕ) → n ≢ k → GoesOn s n → first_of r n ≢ k
+  led_by_others n apart goes = goes_not (first_of r n) (were.grouped.on n (goes_same were.before s n (others_same n apart) goes))
+
+  pub grouped_begun : (first' : ℕ → ℕ) → GetsFirst s (first_of r) first' k → AreGrouped s first'
+  grouped_begun first' gets =
+      grouped_all s (λ n. (n ≡ k) ⊎ (n ≢ k)) first'
+      (grouped_more s (λ n. n ≢ k) (first_of r) first' k others_grouped (λ n apart goes. (apart, led_by_others n apart goes)) ((were.told k).begun refl).1 gets)
+      (λ n goes. elim (eqb_tells n k) [ inl here ↦ inl here.1 | inr other ↦ inr other.1 ])
+
+  pub alone_begun : (first' : ℕ → ℕ) → GetsFirst s (first_of r) first' k → (n : ℕ) → GoesOn s n → first' n ≡ k → n ≡ k
+  alone_begun first' gets n goes is = elim (eqb_tells n k) [
+    | inl here ↦ here.1
+    | inr other ↦ absurd (led_by_others n other.1 goes (sym (gets.joins.others n other.1) ∙ is))
+  ]

@@ -9,6 +9,7 @@ use Rattle.ucon_model.specs.Usages.{going_on}
 use Rattle.ucon_state.specs.Tables.{session_in}
 use Rattle.ucon_cascade.specs.Cascading.{work_of}
 use Rattle.ucon_cascade.specs.Putting.{GoesOn}
+use Rattle.ucon_cascade.proofs.Firsts.{goes_after}
 use Rattle.ucon_cascade.proofs.Following.{IsOver, OthersStay}
 use Rattle.std.specs.Option.{option_map_or}
 use Rattle.ucon_model.specs.Plain.{Bytes, PlainPolicy}
@@ -18,9 +19,9 @@ use Rattle.ucon_model.specs.Settle.{fails_at, least_failing, revocation, settle,
 use Rattle.ucon_model.specs.Touches.{sum_to, touches_by}
 use Rattle.ucon_state.specs.Following.{Follows}
 use Rattle.ucon_state.specs.Shown.{Shown}
-use Rattle.ucon_cascade.specs.Paid.{ArePaid, CostsItsTouches, GoOnUpTo, StayPaid, StayPaidRevoking, itself}
+use Rattle.ucon_cascade.specs.Paid.{ArePaid, CostsItsTouches, GoOnUpTo, StayPaid, StayPaidRevoking}
 use Rattle.ucon_cascade.proofs.Monitored.{DoneInOrder}
-use Rattle.ucon_cascade.proofs.Paying.{JudgementsArePaid, goes_on, in_front, one_up, sum_le}
+use Rattle.ucon_cascade.proofs.Paying.{JudgementsArePaid, in_front, one_up, sum_le}
 
 -- ---- more actions touch more
 
@@ -66,31 +67,24 @@ costs_within P T actions i k le =
 -- ---- so many turns
 
 -- After so many turns the counter rose by judgements that are paid for by the touches of the actions and of those turns.
-abbrev pub ArePaidAfter : Shown → List ℕ → (turns : ℕ) → List ℕ → (before after : ℕ) → Type 0
-ArePaidAfter s work turns members before after =
-    (P : PlainPolicy) (T : Trace) (actions : List Action) (k : ℕ) → Follows s P (extended T actions) → GoOnUpTo s k → ArePaid P T actions work 0 k
-    → (judged : ℕ) × (after ≤ before + judged) × ArePaid P T (actions ++ settle_within turns P (extended T actions)) members judged k
+abbrev pub ArePaidAfter : Shown → (first : ℕ → ℕ) (work : List ℕ) (turns : ℕ) (now_first : ℕ → ℕ) (members : List ℕ) → (before after : ℕ) → Type 0
+ArePaidAfter s first work turns now_first members before after =
+    (P : PlainPolicy) (T : Trace) (actions : List Action) (k : ℕ) → Follows s P (extended T actions) → GoOnUpTo s k → ArePaid P T actions first work 0 k
+    → (judged : ℕ) × (after ≤ before + judged) × ArePaid P T (actions ++ settle_within turns P (extended T actions)) now_first members judged k
 
 -- those who go on after are among those who went on before
 abbrev pub FewerGoOn : Shown → Shown → Type 0
 FewerGoOn s s' = (k : ℕ) → GoOnUpTo s k → GoOnUpTo s' k
-
-pub no_turns : (s : Shown) (work : List ℕ) (before : ℕ) → ArePaidAfter s work 0 work before before
-no_turns s work before P T actions k h up_to paid =
-    (0, omega arith, subst (λ (all : List Action). ArePaid P T all work 0 k) (sym (append_none actions)) paid)
-  where
-    append_none : (xs : List Action) → xs ++ [] ≡ xs
-    append_none [] = refl
-    append_none (x ∷ xs) = ap (λ rest. x ∷ rest) (append_none xs)
 
 -- what the state follows after so many turns
 abbrev pub FollowsTurns : Shown → Shown → ℕ → Type 0
 FollowsTurns s s' turns = (P : PlainPolicy) (T : Trace) → Follows s P T → Follows s' P (settled_to turns P T)
 
 -- after turns in which the work became less, nothing more is touched
-pub paid_on : DoneInOrder → (s s' : Shown) (work members less : List ℕ) (turns before before' now now' after : ℕ) → FollowsTurns s s' turns → FewerGoOn s s'
-    → now' + before ≤ before' + now → ArePaidAfter s work turns members before now → StayPaid s' members less now' after → ArePaidAfter s work turns less before' after
-paid_on in_order s s' work members less turns before before' now now' after follows fewer lift paid stay P T actions k h up_to begins =
+pub paid_on : DoneInOrder → (s s' : Shown) (first : ℕ → ℕ) (work : List ℕ) (turns : ℕ) (now_first : ℕ → ℕ) (members less : List ℕ) (before before' now now' after : ℕ)
+    → FollowsTurns s s' turns → FewerGoOn s s' → now' + before ≤ before' + now → ArePaidAfter s first work turns now_first members before now
+    → StayPaid s' now_first members less now' after → ArePaidAfter s first work turns now_first less before' after
+paid_on in_order s s' first work turns now_first members less before before' now now' after follows fewer lift paid stay P T actions k h up_to begins =
     let U = extended T actions in
     let so_far = paid P T actions k h up_to begins in
     let h' = subst (λ (V : Trace). Follows s' P V) (sym (in_order T actions (settle_within turns P U))) (follows P U h) in
@@ -100,30 +94,31 @@ paid_on in_order s s' work members less turns before before' now now' after foll
     (so_far.0 + then.0, omega (arith, a, b, lift), then.2)
 
 -- one more turn
-pub paid_turn : DoneInOrder → (s s' : Shown) (work members next : List ℕ) (f : ℕ × Bytes) (turns before after : ℕ) → FollowsTurns s s' turns → FewerGoOn s s'
+pub paid_turn : DoneInOrder → (s s' : Shown) (first : ℕ → ℕ) (work : List ℕ) (turns : ℕ) (now_first next_first : ℕ → ℕ) (members next : List ℕ) (f : ℕ × Bytes) (before after : ℕ)
+    → FollowsTurns s s' turns → FewerGoOn s s'
     → ((P : PlainPolicy) (T : Trace) → Follows s P T → settle_within (turns + 1) P T ≡ settle_within turns P T ++ revocation P (settled_to turns P T) f)
-    → ArePaidAfter s work turns (f.0 ∷ members) (before + 1) after → StayPaidRevoking s' f members next
-    → ArePaidAfter s work (turns + 1) next before after
-paid_turn in_order s s' work members next f turns before after follows fewer more paid revoking P T actions k h up_to begins =
+    → ArePaidAfter s first work turns now_first (f.0 ∷ members) (before + 1) after → StayPaidRevoking s' f now_first members next_first next
+    → ArePaidAfter s first work (turns + 1) next_first next before after
+paid_turn in_order s s' first work turns now_first next_first members next f before after follows fewer more paid revoking P T actions k h up_to begins =
     let U = extended T actions in
     let so_far = paid P T actions k h up_to begins in
     let a = so_far.1 in
     let done = actions ++ settle_within turns P U in
     let at : extended T done ≡ settled_to turns P U = in_order T actions (settle_within turns P U) in
     let h' = subst (λ (V : Trace). Follows s' P V) (sym at) (follows P U h) in
-    let then : ArePaid P T (done ++ revocation P (extended T done) f) next (so_far.0 + 1) k =
+    let then : ArePaid P T (done ++ revocation P (extended T done) f) next_first next (so_far.0 + 1) k =
     revoking P T done k so_far.0 h' (fewer k up_to) so_far.2 in
     let is : done ++ revocation P (extended T done) f ≡ actions ++ settle_within (turns + 1) P U =
     ap (λ (V : Trace). done ++ revocation P V f) at
     ∙ append_assoc actions (settle_within turns P U) (revocation P (settled_to turns P U) f)
     ∙ ap (λ (all : List Action). actions ++ all) (sym (more P U h)) in
-    (so_far.0 + 1, omega (arith, a), subst (λ (all : List Action). ArePaid P T all next (so_far.0 + 1) k) is then)
+    (so_far.0 + 1, omega (arith, a), subst (λ (all : List Action). ArePaid P T all next_first next (so_far.0 + 1) k) is then)
 
 -- so the cost is within the touches
-pub cost_is_paid : (s : Shown) (work members : List ℕ) (turns before after : ℕ)
-    → ((P : PlainPolicy) (T : Trace) → Follows s P T → turns ≤ accessing T) → ArePaidAfter s work turns members before after
-    → CostsItsTouches s work before after
-cost_is_paid s work members turns before after few paid P T actions k h up_to begins =
+pub cost_is_paid : (s : Shown) (first : ℕ → ℕ) (work : List ℕ) (turns : ℕ) (now_first : ℕ → ℕ) (members : List ℕ) (before after : ℕ)
+    → ((P : PlainPolicy) (T : Trace) → Follows s P T → turns ≤ accessing T) → ArePaidAfter s first work turns now_first members before after
+    → CostsItsTouches s first work before after
+cost_is_paid s first work turns now_first members before after few paid P T actions k h up_to begins =
     let so_far = paid P T actions k h up_to begins in
     let a = so_far.1 in
     let b = so_far.2 in
@@ -132,28 +127,29 @@ cost_is_paid s work members turns before after few paid P T actions k h up_to be
 
 -- ---- whoever was found to fail
 
-accessing_as_failing : (P : PlainPolicy) (T : Trace) (n : ℕ) (label : Bytes) → fails_at P T n ≡ Some label → is_accessing (session T n) ≡ true
+pub accessing_as_failing : (P : PlainPolicy) (T : Trace) (n : ℕ) (label : Bytes) → fails_at P T n ≡ Some label → is_accessing (session T n) ≡ true
 accessing_as_failing P T n label fails = by (is_accessing (session T n)) fails
   where
     by : (b : Bool) → cond b (failing (in_force P T) (readings P T) n) None ≡ Some label → b ≡ true
     by true is = refl
     by false is = absurd (let no : None ≡ Some label = is in cc)
 
--- the judgement by which one was found to fail is paid for too
-pub found_is_paid : JudgementsArePaid → DoneInOrder → (s s' : Shown) (work members : List ℕ) (f : ℕ × Bytes) (turns before after : ℕ) → FollowsTurns s s' turns
-    → FewerGoOn s s' → ((P : PlainPolicy) (T : Trace) → Follows s' P T → fails_at P T f.0 ≡ Some f.1)
-    → ((P : PlainPolicy) (T : Trace) → Follows s P T → turns ≤ accessing T) → ArePaidAfter s work turns (f.0 ∷ members) (before + 1) after
-    → CostsItsTouches s work before after
-found_is_paid law in_order s s' work members f turns before after follows fewer fails few paid P T actions k h up_to begins =
+-- the judgement by which one was found to fail is paid for too, where it is the first of its list
+pub found_is_paid : JudgementsArePaid → DoneInOrder → (s s' : Shown) (first : ℕ → ℕ) (work : List ℕ) (turns : ℕ) (now_first : ℕ → ℕ) (members : List ℕ) (f : ℕ × Bytes)
+    (before after : ℕ) → FollowsTurns s s' turns → FewerGoOn s s' → ((P : PlainPolicy) (T : Trace) → Follows s' P T → fails_at P T f.0 ≡ Some f.1)
+    → (GoesOn s' f.0 → now_first f.0 ≡ f.0) → ((P : PlainPolicy) (T : Trace) → Follows s P T → turns ≤ accessing T)
+    → ArePaidAfter s first work turns now_first (f.0 ∷ members) (before + 1) after → CostsItsTouches s first work before after
+found_is_paid law in_order s s' first work turns now_first members f before after follows fewer fails leads few paid P T actions k h up_to begins =
     let U = extended T actions in
     let so_far = paid P T actions k h up_to begins in
     let done = actions ++ settle_within turns P U in
     let V = extended T done in
     let h' : Follows s' P V = subst (λ (V : Trace). Follows s' P V) (sym (in_order T actions (settle_within turns P U))) (follows P U h) in
     let on = accessing_as_failing P V f.0 f.1 (fails P V h') in
-    let within = fewer k up_to f.0 (goes_on (session_in s'.tables f.0) (ap is_accessing (h'.tables.sessions.rows f.0) ∙ on)) in
+    let goes = goes_after s' P V h' f.0 on in
     let a = so_far.1 in
-    let b = law P T done itself (work_of (f.0 ∷ members)) so_far.0 k f.0 so_far.2 (one_up P V h'.sound.numbered f.0 on) within on refl (in_front f.0 members) in
+    let b = law P T done now_first (work_of (f.0 ∷ members)) so_far.0 k f.0 so_far.2 (one_up P V h'.sound.numbered f.0 on) (fewer k up_to f.0 goes) on (leads goes)
+    (in_front f.0 members) in
     let c = costs_within P T actions turns k (few P U h) in
     omega (arith, a, b, c)
 

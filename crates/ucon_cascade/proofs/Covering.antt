@@ -1,6 +1,6 @@
--- The members of the work cover.
-use Rattle.std.proofs.Common.{◌≡◌, ◌⊎◌, ◌∙◌, ◌<◌, inl, inr, ℕ, ℤ, zero, suc, Bool, true, false, List, [], ◌∷◌, ◌++◌, refl, sym, ap, subst, arith}
-use Rattle.std.specs.Prelude.{◌&&◌, ◌||◌, nat_eq, Option, Some, None, IsSome, is_some, cond}
+-- The members of the work cover by the firsts of lists.
+use Rattle.std.proofs.Common.{◌≡◌, ◌≢◌, ◌⊎◌, ◌∙◌, ◌<◌, inl, inr, ℕ, zero, suc, Bool, true, false, List, [], ◌∷◌, ◌++◌, refl, sym, ap, subst, arith}
+use Rattle.std.specs.Prelude.{◌&&◌, ◌||◌, nat_eq, not, Option, Some, None, IsSome, is_some}
 use Rattle.std.specs.List.{Contains, flat_map, list_any}
 use Rattle.std.specs.Option.{option_map_or, option_to_list}
 use Rattle.std.specs.Str.{bytes_eq}
@@ -10,34 +10,33 @@ use Rattle.std.proofs.lemmas.Slice.Eq.{bytes_eq-Decides}
 use Rattle.ucon_base.specs.Elements.{Each}
 use Rattle.ucon_base.specs.declared.value.Side.{Side}
 use Rattle.ucon_base.specs.declared.value.Side.TheVariants as sides
-use Rattle.ucon_model.specs.declared.command.Caller.{Caller}
 use Rattle.ucon_model.specs.declared.command.Command.{Command}
 use Rattle.ucon_model.specs.declared.command.Command.TheVariants.{Subject, Object, Set, Env, Tick, Act, Try, Again, Beat, End, Look, Value as Value', Amend}
 use Rattle.ucon_model.specs.declared.formula.Ref.{Ref}
 use Rattle.ucon_model.specs.declared.policy.When.{When}
-use Rattle.ucon_model.specs.declared.policy.When.TheVariants.{Before, During, AfterEnd, AfterRevoke}
+use Rattle.ucon_model.specs.declared.policy.When.TheVariants.{Before, During, AfterEnd}
 use Rattle.ucon_model.specs.declared.reply.Head.{Head}
 use Rattle.ucon_model.specs.declared.reply.Head.TheVariants as heads
 use Rattle.ucon_model.specs.declared.session.SessionRow.{SessionRow}
 use Rattle.ucon_model.specs.Plain.{Bytes, PlainPolicy}
-use Rattle.ucon_model.specs.Action.{Trace, tick}
-use Rattle.ucon_model.specs.Readings.{in_force, is_accessing, is_accessing_state, same_side, session}
-use Rattle.ucon_model.specs.Deadlines.{is_due}
-use Rattle.ucon_model.specs.Decision.{failing}
-use Rattle.ucon_model.specs.Truth.{readings}
+use Rattle.ucon_model.specs.Action.{Trace}
+use Rattle.ucon_model.specs.Readings.{in_force, is_accessing, same_side, session}
 use Rattle.ucon_model.specs.Reach.{Location, attribute_of, variable_of, location_of, places_of, reads_at, readers, same_location, session_targets, targets}
 use Rattle.ucon_model.specs.Settle.{fails_at, least_failing}
 use Rattle.ucon_model.specs.Sound.{IsNumbered}
 use Rattle.ucon_model.specs.Updates.{updates_of}
 use Rattle.ucon_model.specs.Usages.{going_on}
 use Rattle.ucon_model.specs.Afterwards.{command_locations, concerned_by, permit_locations, permitted_by, work_afterwards}
-use Rattle.ucon_model.specs.Work.{Covers, IsLeastOf, Work, joined, own_work}
+use Rattle.ucon_model.specs.Groups.{FirstsCover, IsLed}
+use Rattle.ucon_model.specs.Work.{IsLeastOf, Work, without}
 use Rattle.ucon_state.specs.Following.{Follows}
 use Rattle.ucon_state.specs.Shown.{Shown}
 use Rattle.ucon_state.specs.Tables.{session_in}
-use Rattle.ucon_cascade.specs.Cascading.{work_of}
+use Rattle.ucon_actions.specs.Leads.{AfterEach}
+use Rattle.ucon_cascade.specs.Cascading.{IsWork, work_of}
 use Rattle.ucon_cascade.specs.Numbering.{IsExact, place_number}
 use Rattle.ucon_cascade.specs.Passing.{is_tick}
+use Rattle.ucon_cascade.proofs.Firsts.{going_row, led}
 use Rattle.ucon_cascade.specs.Putting.{IsCommandWork, IsOwnWork, IsPermitWork, StandsAt, StandsAtOne, targets_in}
 
 -- ---- truth values
@@ -106,7 +105,7 @@ stands_at s standing exact n row is location reads =
       stands = exact.complete n found.0 (record { row = row; is = is; reads = found.2 });
     }
 
-stands_at_one : (s : Shown) (standing : ℕ → List ℕ) → IsExact s standing → (n : ℕ) (row : SessionRow) → going_on (session_in s.tables n) ≡ Some row → (locations : List Location)
+pub stands_at_one : (s : Shown) (standing : ℕ → List ℕ) → IsExact s standing → (n : ℕ) (row : SessionRow) → going_on (session_in s.tables n) ≡ Some row → (locations : List Location)
     → list_any (reads_at s.policy row) locations ≡ true → StandsAtOne s standing locations n
 stands_at_one s standing exact n row is [] reads = absurd cc
 stands_at_one s standing exact n row is (location ∷ rest) reads = elim (or_cases (reads_at s.policy row location) (list_any (reads_at s.policy row) rest) reads) [
@@ -119,19 +118,6 @@ stands_at_one s standing exact n row is (location ∷ rest) reads = elim (or_cas
 -- the tables tell each session of the trace
 abbrev pub SessionsAre : Shown → Trace → Type 0
 SessionsAre s T = (n : ℕ) → session_in s.tables n ≡ session T n
-
--- whoever fails is accessing
-row_of_failing : (P : PlainPolicy) (T : Trace) (n : ℕ) (label : Bytes) → fails_at P T n ≡ Some label → (row : SessionRow) × (session T n ≡ Some row) × (going_on (session T n) ≡ Some row)
-row_of_failing P T n label fails = by (session T n) fails
-  where
-    on_state : (b : Bool) (row : SessionRow) (told : Option Bytes) → cond b told None ≡ Some label → cond b (Some row) None ≡ Some row
-    on_state true row told is = refl
-    on_state false row told is = absurd cc
-
-    by : (o : Option SessionRow) → cond (is_accessing o) (failing (in_force P T) (readings P T) n) None ≡ Some label
-        → (row : SessionRow) × (o ≡ Some row) × (going_on o ≡ Some row)
-    by None is = absurd cc
-    by (Some row) is = (row, refl, on_state (is_accessing_state row.state) row (failing (in_force P T) (readings P T) n) is)
 
 -- a reader of locations stands at one
 reader_stands : (s : Shown) (standing : ℕ → List ℕ) (P : PlainPolicy) (T : Trace) → Follows s P T → IsExact s standing → (n : ℕ) (row : SessionRow) → session T n ≡ Some row
@@ -227,60 +213,48 @@ is_member n (x ∷ xs) h = elim (eqb_tells n x) [
       (suc found.0, omega (arith, found.1), found.2)
 ]
 
--- who stands where own actions wrote, who is permitted, and all where the policy was replaced, cover after them, where they don't move the tick
-pub covers_own : (s : Shown) (standing : ℕ → List ℕ) (P : PlainPolicy) (T : Trace) (c : Command) (head : Head) (members : List ℕ) → Follows s P T → SessionsAre s T → IsExact s standing
-    → is_tick c ≡ false → Covers P T (work_afterwards P T c head) → ((n : ℕ) → IsOwnWork s standing c head n → Contains members n) → Covers P T (work_of members)
-covers_own s standing P T c head members h same exact no_tick covers put n label fails =
-    let row = row_of_failing P T n label fails in
+-- whoever is concerned by own actions that don't move the tick, and accessing, is permitted or stands where they wrote, or the policy was replaced
+pub concerned_is_own : (s : Shown) (standing : ℕ → List ℕ) (P : PlainPolicy) (T : Trace) (c : Command) (head : Head) → Follows s P T → SessionsAre s T → IsExact s standing
+    → is_tick c ≡ false → (n : ℕ) → is_accessing (session T n) ≡ true → work_afterwards P T c head n ≡ true → IsOwnWork s standing c head n
+concerned_is_own s standing P T c head h same exact no_tick n on concerned =
+    let row = going_row (session T n) on in
     let is : going_on (session_in s.tables n) ≡ Some row.0 = ap going_on (same n) ∙ row.2 in
-    elim (or_cases (permitted_by head n) _ (covers n label fails)) [
-      | inl permitted ↦ member n members (put n (inl (permitted_is s standing n head permitted)))
+    elim (or_cases (permitted_by head n) _ concerned) [
+      | inl permitted ↦ inl (permitted_is s standing n head permitted)
       | inr others ↦ elim (or_cases (readers P T (permit_locations P T head) n) _ others) [
-        | inl reads ↦ member n members (put n (inl (permit_stands s standing P T h same exact n row.0 row.1 is head reads)))
-        | inr more ↦ member n members (put n (inr (command_stands s standing P T h same exact n row.0 row.1 is c no_tick more)))
+        | inl reads ↦ inl (permit_stands s standing P T h same exact n row.0 row.1 is head reads)
+        | inr more ↦ inr (command_stands s standing P T h same exact n row.0 row.1 is c no_tick more)
       ]
     ]
 
--- whoever doesn't fail may go
-pub passed_over : (P : PlainPolicy) (T : Trace) (n : ℕ) (rest : List ℕ) → Covers P T (work_of (n ∷ rest)) → fails_at P T n ≡ None → Covers P T (work_of rest)
-passed_over P T n rest covers none m label fails = elim (eqb_tells m n) [
-  | inl here ↦ absurd (let no : None ≡ Some label = sym none ∙ ap (fails_at P T) (sym here.1) ∙ fails in cc)
-  | inr other ↦ (let has : work_of (n ∷ rest) m ≡ true = covers m label fails in rw other.0 at has)
+-- ---- one of the work holds
+
+-- whoever is in the work behind another is in the rest
+pub behind : (n m : ℕ) (rest : List ℕ) → m ≢ n → work_of (n ∷ rest) m ≡ true → work_of rest m ≡ true
+behind n m rest other has = elim (eqb_tells m n) [ inl here ↦ absurd (other here.1) | inr apart ↦ (rw apart.0 at has) ]
+
+rest_of : (n m : ℕ) (rest : List ℕ) → without n (work_of (n ∷ rest)) m ≡ true → work_of rest m ≡ true
+rest_of n m rest has = elim (eqb_tells m n) [
+  | inl here ↦ absurd (let no : false ≡ true = rw here.0 at has in cc)
+  | inr apart ↦ behind n m rest apart.1 (and_parts (not (nat_eq m n)) (work_of (n ∷ rest) m) has).1
 ]
 
--- ---- after a tick
+-- one that holds may go
+abbrev pub HoldingMayGo : Type 0
+HoldingMayGo = (P : PlainPolicy) (T : Trace) (first : ℕ → ℕ) (work : Work) (n : ℕ) → IsLed P T first → FirstsCover P T first work → fails_at P T n ≡ None
+    → FirstsCover P T first (without n work)
 
-accessing_as_failing : (b : Bool) (told : Option Bytes) (label : Bytes) → cond b told None ≡ Some label → b ≡ true
-accessing_as_failing true told label is = refl
-accessing_as_failing false told label is = absurd cc
-
--- each session stays where the tick moves
-abbrev pub StayAtTick : Trace → ℤ → Type 0
-StayAtTick T t = (n : ℕ) → session (tick t ∷ T) n ≡ session T n
-
--- of whom it passed a limit cover after it
-pub covers_due : (P : PlainPolicy) (T : Trace) (caller : Caller) (head : Head) (t : ℤ) (members : List ℕ) → StayAtTick T t
-    → Covers P (tick t ∷ T) (own_work P T caller (Tick t) head) → ((n : ℕ) → is_accessing (session T n) ≡ true → is_due P T t n ≡ true → Contains members n)
-    → Covers P (tick t ∷ T) (work_of members)
-covers_due P T caller head t members stay covers put n label fails =
-    let on = accessing_as_failing (is_accessing (session (tick t ∷ T) n)) (failing (in_force P (tick t ∷ T)) (readings P (tick t ∷ T)) n) label fails in
-    member n members (put n (ap is_accessing (sym (stay n)) ∙ on) (covers n label fails))
-
--- ---- after a revocation
-
--- the rest of the work, and who stands where the updates of the one who was revoked wrote, cover after it
-pub covers_revoked : (s : Shown) (standing : ℕ → List ℕ) (P : PlainPolicy) (T : Trace) (k : ℕ) (old new : List ℕ) → Follows s P T → SessionsAre s T → IsExact s standing
-    → Covers P T (joined (work_of old) (readers P T (session_targets P T k AfterRevoke)))
-    → ((n : ℕ) → StandsAtOne s standing (targets_in s k AfterRevoke) n ⊎ Contains old n → Contains new n) → Covers P T (work_of new)
-covers_revoked s standing P T k old new h same exact covers put n label fails =
-    let row = row_of_failing P T n label fails in
-    let is : going_on (session_in s.tables n) ≡ Some row.0 = ap going_on (same n) ∙ row.2 in
-    elim (or_cases (work_of old n) _ (covers n label fails)) [
-      | inl was ↦ member n new (put n (inr (is_member n old was)))
-      | inr reads ↦ member n new (put n (inl
-          (subst (λ (locations : List Location). StandsAtOne s standing locations n) (targets_are s P T h same k AfterRevoke)
-          (reader_stands s standing P T h exact n row.0 row.1 is (session_targets P T k AfterRevoke) reads))))
-    ]
+pub work_passes_over : HoldingMayGo → (s : Shown) (first : ℕ → ℕ) (n : ℕ) (rest : List ℕ) → IsWork s first (n ∷ rest) → AfterEach s (λ P T. fails_at P T n ≡ None)
+    → IsWork s first rest
+work_passes_over law s first n rest work none = record {
+  grouped = work.grouped;
+  covers = λ P T h m label fails.
+      rest_of n (first m) rest (law P T first (work_of (n ∷ rest)) n (led s first P T h work.grouped) (work.covers P T h) (none P T h) m label fails);
+  firsts = λ m has goes. work.firsts m (behind_one n m rest has) goes;
+}
+  where
+    behind_one : (n m : ℕ) (rest : List ℕ) → Contains rest m → Contains (n ∷ rest) m
+    behind_one n m rest (i, within, is) = (suc i, omega (arith, within), is)
 
 -- ---- the least of the work
 
@@ -298,10 +272,11 @@ least_is_first n rest above = record {
     by m below false is = is
     by m below true is = absurd (inside m below (is_member m (n ∷ rest) is))
 
--- of rising members that cover, the first is the least that fails, if it does
+-- of rising members that cover by firsts, the first is the least that fails, if it does
 abbrev pub HaveTheLeast : Type 0
-HaveTheLeast = (P : PlainPolicy) (T : Trace) (work : Work) (f : ℕ × Bytes) → IsNumbered T → Covers P T work → IsLeastOf work f.0 → fails_at P T f.0 ≡ Some f.1 → least_failing P T ≡ Some f
+HaveTheLeast = (P : PlainPolicy) (T : Trace) (first : ℕ → ℕ) (work : Work) (f : ℕ × Bytes) → IsNumbered T → IsLed P T first → FirstsCover P T first work → IsLeastOf work f.0
+    → fails_at P T f.0 ≡ Some f.1 → least_failing P T ≡ Some f
 
-pub first_is_least : HaveTheLeast → (P : PlainPolicy) (T : Trace) → IsNumbered T → (n : ℕ) (label : Bytes) (rest : List ℕ) → ((m : ℕ) → Contains rest m → n < m) → Covers P T (work_of (n ∷ rest))
-    → fails_at P T n ≡ Some label → least_failing P T ≡ Some (n, label)
-first_is_least law P T numbered n label rest above covers fails = law P T (work_of (n ∷ rest)) (n, label) numbered covers (least_is_first n rest above) fails
+pub first_is_least : HaveTheLeast → (P : PlainPolicy) (T : Trace) (first : ℕ → ℕ) → IsNumbered T → IsLed P T first → (n : ℕ) (label : Bytes) (rest : List ℕ)
+    → ((m : ℕ) → Contains rest m → n < m) → FirstsCover P T first (work_of (n ∷ rest)) → fails_at P T n ≡ Some label → least_failing P T ≡ Some (n, label)
+first_is_least law P T first numbered led n label rest above covers fails = law P T first (work_of (n ∷ rest)) (n, label) numbered led covers (least_is_first n rest above) fails

@@ -15,7 +15,7 @@ use Rattle.ucon_model.specs.Work.{Work}
 use Rattle.ucon_state.specs.Following.{Follows}
 use Rattle.ucon_state.specs.Shown.{Shown}
 use Rattle.ucon_cascade.specs.Cascading.{work_of}
-use Rattle.ucon_cascade.specs.Paid.{CostsItsTouches, GoOnUpTo, itself, touched}
+use Rattle.ucon_cascade.specs.Paid.{CostsItsTouches, GoOnUpTo, touched}
 use Rattle.ucon_cascade.proofs.Covering.{is_member}
 use Rattle.ucon_cascade.proofs.Monitored.{DoneInOrder, made_after}
 use Rattle.ucon_cascade.proofs.Putting.{usage_below}
@@ -55,14 +55,14 @@ DraftsAreBlocks = (P : PlainPolicy) (T : Trace) (caller : Caller) (c : Command) 
     → settle P (extended T actions) ≡ cascade → block P T caller c ≡ actions ++ cascade
 
 pub draft_is_paid : WorkBeginsPaid → DraftsAreBlocks → DoneInOrder → (s : Shown) (P : PlainPolicy) (T : Trace) (caller : Caller) (c : Command) (head : Head) (actions : List Action)
-    (members : List ℕ) (old new : ℕ) → Follows s P (extended T actions) → own P T caller c ≡ make head actions
-    → ((n : ℕ) → is_accessing (session (extended T actions) n) ≡ true → Contains members n → 1 ≤ touches_by P T actions n)
-    → CostsItsTouches s members old new → new ≤ old + touched P T caller c
-draft_is_paid begins blocks in_order s P T caller c head actions members old new h made touched_so costs =
+    (first : ℕ → ℕ) (members : List ℕ) (old new : ℕ) → Follows s P (extended T actions) → own P T caller c ≡ make head actions
+    → ((n : ℕ) → is_accessing (session (extended T actions) n) ≡ true → Contains members (first n) → 1 ≤ touches_by P T actions n)
+    → CostsItsTouches s first members old new → new ≤ old + touched P T caller c
+draft_is_paid begins blocks in_order s P T caller c head actions first members old new h made touched_so costs =
     let U = extended T actions in
     let k = sessions (after P T caller c) in
     let is_block = blocks P T caller c head actions (settle P U) made refl in
     let more : sessions U ≤ k = subst (λ (V : Trace). sessions U ≤ sessions V) (made_after in_order P T caller c head actions made) (sessions_grow (settle P U) U) in
     let up_to : GoOnUpTo s k = λ n goes. (let below = usage_below s n goes in let count = h.tables.sessions.count in omega (arith, below, count, more)) in
-    let paid = begins P T actions itself (work_of members) k (λ n on has. touched_so n on (is_member n members has)) in
+    let paid = begins P T actions first (work_of members) k (λ n on has. touched_so n on (is_member (first n) members has)) in
     subst (λ (all : List Action). new ≤ old + sum_to (touches_by P T all) k) (sym is_block) (costs P T actions k h up_to paid)

@@ -1,13 +1,12 @@
 -- The readers stay exact over a change.
-use Rattle.std.proofs.Common.{◌≡◌, ◌≢◌, ◌∙◌, ◌⊎◌, inl, inr, ◌+◌, ℕ, zero, suc, Bool, true, false, List, [], ◌∷◌, ◌++◌, length, refl, sym, ap, subst, arith}
-use Rattle.std.specs.Prelude.{nat_eq, not, filter, Option, Some, None, IsSome, is_some, option_map, cond}
+use Rattle.std.proofs.Common.{◌≡◌, ◌≢◌, ◌∙◌, ◌⊎◌, inl, inr, ◌+◌, ℕ, List, [], ◌∷◌, ◌++◌, length, refl, sym, ap, subst}
+use Rattle.std.specs.Prelude.{Option, Some, None, IsSome, is_some, option_map}
 use Rattle.std.specs.List.{Contains, flat_map}
 use Rattle.std.specs.Option.{option_to_list}
 use Rattle.std.proofs.lemmas.Bool.Decides.{eqb_tells}
 use Rattle.ucon_actions.specs.Leads.{KeepsBase}
 use Rattle.ucon_base.specs.Elements.{Each}
 use Rattle.ucon_base.specs.declared.value.Side.{Side}
-use Rattle.ucon_index.specs.Dependents.{others}
 use Rattle.ucon_model.specs.declared.formula.Ref.{Ref}
 use Rattle.ucon_model.specs.declared.session.SessionRow.{SessionRow}
 use Rattle.ucon_model.specs.Plain.{Bytes, PlainPolicy}
@@ -86,59 +85,6 @@ exact_still s s' standing base exact same = record {
   complete = λ n place reads. exact.complete n place (read_before s s' standing base exact n place (same n) reads);
   numbered = λ n row is. numbered_still s s' base row (exact.numbered n row (sym (same n) ∙ is));
 }
-
--- the members of a list but one
-filter_in : (p : ℕ → Bool) (xs : List ℕ) (n : ℕ) → Contains (filter p xs) n → Contains xs n × (p n ≡ true)
-filter_in p [] n (i, within, is) = absurd (omega (arith, within))
-filter_in p (x ∷ xs) n has = by (p x) refl has (λ rest. filter_in p xs n rest)
-  where
-    further : (x : ℕ) (xs : List ℕ) (n : ℕ) → Contains xs n → Contains (x ∷ xs) n
-    further x xs n (i, within, is) = (suc i, omega (arith, within), is)
-
-    by : (b : Bool) → p x ≡ b → Contains (cond b (x ∷ filter p xs) (filter p xs)) n → (Contains (filter p xs) n → Contains xs n × (p n ≡ true)) → Contains (x ∷ xs) n × (p n ≡ true)
-    by true holds_so (zero, within, is) in_rest = ((0, omega arith, is), ap p (sym is) ∙ holds_so)
-    by true holds_so (suc i, within, is) in_rest = let rest = in_rest (i, omega (arith, within), is) in (further x xs n rest.0, rest.1)
-    by false never has in_rest = let rest = in_rest has in (further x xs n rest.0, rest.1)
-
-in_filter : (p : ℕ → Bool) (xs : List ℕ) (n : ℕ) → Contains xs n → p n ≡ true → Contains (filter p xs) n
-in_filter p [] n (i, within, is) holds_so = absurd (omega (arith, within))
-in_filter p (x ∷ xs) n (zero, within, is) holds_so = by (p x) (ap p is ∙ holds_so)
-  where
-    by : (b : Bool) → b ≡ true → Contains (cond b (x ∷ filter p xs) (filter p xs)) n
-    by true is_true = (0, omega arith, is)
-    by false is_true = absurd cc
-in_filter p (x ∷ xs) n (suc i, within, is) holds_so = by (p x) (in_filter p xs n (i, omega (arith, within), is) holds_so)
-  where
-    by : (b : Bool) → Contains (filter p xs) n → Contains (cond b (x ∷ filter p xs) (filter p xs)) n
-    by true (j, inside, at) = (suc j, omega (arith, inside), at)
-    by false has = has
-
-apart : (n m : ℕ) → ((nat_eq n m ≡ true) × (n ≡ m)) ⊎ ((nat_eq n m ≡ false) × (n ≢ m)) → not (nat_eq n m) ≡ true → n ≢ m
-apart n m (inl here) holds_so = absurd (let no : false ≡ true = rw here.0 at holds_so in cc)
-apart n m (inr other) holds_so = other.1
-
-apart_told : (n m : ℕ) → ((nat_eq n m ≡ true) × (n ≡ m)) ⊎ ((nat_eq n m ≡ false) × (n ≢ m)) → n ≢ m → not (nat_eq n m) ≡ true
-apart_told n m (inl here) other = absurd (other here.1)
-apart_told n m (inr other) h = ap not other.0
-
--- where session k's usage is over, and each other goes on as before
-pub exact_without : (s s' : Shown) (standing : ℕ → List ℕ) (k : ℕ) → KeepsBase s s' → IsExact s standing → going_on (session_in s'.tables k) ≡ None
-    → ((n : ℕ) → n ≢ k → going_on (session_in s'.tables n) ≡ going_on (session_in s.tables n)) → IsExact s' (λ place. others k (standing place))
-exact_without s s' standing k base exact over same = record {
-  sound = λ n place stands.
-      let both = filter_in (λ other. not (nat_eq other k)) (standing place) n stands in
-      reads_on s s' standing base exact n place (same n (apart n k (eqb_tells n k) both.1)) (exact.sound n place both.0);
-  complete = λ n place reads.
-      let other : n ≢ k = λ is. none_reads (subst (λ (m : ℕ). going_on (session_in s'.tables m) ≡ Some reads.row) is reads.is) in
-      in_filter (λ other. not (nat_eq other k)) (standing place) n (exact.complete n place (read_before s s' standing base exact n place (same n other) reads))
-      (apart_told n k (eqb_tells n k) other);
-  numbered = λ n row is.
-      let other : n ≢ k = λ at. none_reads (subst (λ (m : ℕ). going_on (session_in s'.tables m) ≡ Some row) at is) in
-      numbered_still s s' base row (exact.numbered n row (sym (same n other) ∙ is));
-}
-  where
-    none_reads : {row : SessionRow} → going_on (session_in s'.tables k) ≡ Some row → ⊥
-    none_reads is = let no : None ≡ Some _ = sym over ∙ is in cc
 
 -- where session k's usage begins, which reads these places, and each other goes on as before
 pub exact_with : (s s' : Shown) (standing standing' : ℕ → List ℕ) (k : ℕ) (row : SessionRow) → KeepsBase s s' → IsExact s standing → going_on (session_in s.tables k) ≡ None

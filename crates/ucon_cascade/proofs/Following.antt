@@ -1,24 +1,24 @@
--- The readers are exact after a head is followed, and after a revocation.
-use Rattle.std.proofs.Common.{◌≡◌, ◌≢◌, ◌∙◌, ℕ, List, sym, ap, subst, refl}
-use Rattle.std.specs.Prelude.{None}
+-- The readers are exact, and the sessions grouped, after a head is followed.
+use Rattle.std.proofs.Common.{◌≡◌, ◌≢◌, ◌↔◌, ◌∙◌, ◌≤◌, ℕ, List, sym, ap, subst, refl}
+use Rattle.std.specs.Prelude.{Option, None, Some, IfSome, IsSome}
 use Rattle.std.specs.List.{Contains}
-use Rattle.ucon_actions.specs.Leads.{KeepsBase}
-use Rattle.ucon_index.specs.Dependents.{others}
 use Rattle.ucon_model.specs.declared.reply.Head.{Head}
 use Rattle.ucon_model.specs.declared.reply.Head.TheVariants as heads
+use Rattle.ucon_model.specs.declared.session.SessionRow.{SessionRow}
 use Rattle.ucon_model.specs.Plain.{Bytes, PlainPolicy}
 use Rattle.ucon_model.specs.Action.{Trace, extended}
 use Rattle.ucon_model.specs.Readings.{session}
 use Rattle.ucon_model.specs.Settle.{revocation}
 use Rattle.ucon_model.specs.Usages.{going_on}
-use Rattle.ucon_state.specs.Following.{Follows}
 use Rattle.ucon_state.specs.Shown.{Shown}
 use Rattle.ucon_state.specs.Tables.{session_in}
 use Rattle.ucon_cascade.specs.Cascading.{WereExact}
+use Rattle.ucon_cascade.specs.Grouping.{AreGrouped}
 use Rattle.ucon_cascade.specs.Numbering.{IsExact}
-use Rattle.ucon_cascade.specs.Readers.{readers_at}
-use Rattle.ucon_cascade.specs.declared.readers.Readers.{Readers}
-use Rattle.ucon_cascade.proofs.Exact.{exact_still, exact_without}
+use Rattle.ucon_cascade.proofs.Exact.{exact_still}
+use Rattle.ucon_cascade.proofs.Grouped.{among_all, among_like, grouped_all, grouped_still}
+use Rattle.ucon_cascade.proofs.Leading.{told_if}
+use Rattle.ucon_cascade.proofs.Leaving.{exact_left, grouped_left}
 
 -- the same who stand
 pub exact_like : (s : Shown) (standing standing' : ℕ → List ℕ) → ((place : ℕ) → standing' place ≡ standing place) → IsExact s standing → IsExact s standing'
@@ -28,17 +28,47 @@ exact_like s standing standing' same exact = record {
   numbered = exact.numbered;
 }
 
--- a head that permits and ends nobody
-pub follow_quiet : (s : Shown) (standing : ℕ → List ℕ) (head : Head) → WereExact s standing head → ((n : ℕ) → head ≢ heads.Permitted n) → ((n : ℕ) → head ≢ heads.Ended n)
-    → IsExact s standing
-follow_quiet s standing head were no_permit no_end =
-    exact_still were.before s standing were.base were.exact (λ n. (were.told n).same (no_permit n) (no_end n))
+-- the same firsts
+pub grouped_like : (s : Shown) (first first' : ℕ → ℕ) → ((n : ℕ) → first' n ≡ first n) → AreGrouped s first → AreGrouped s first'
+grouped_like s first first' same grouped =
+    grouped_all s (λ n. Unit {0}) first' (among_like s (λ n. Unit {0}) first first' same (among_all s first grouped)) (λ n goes. tt)
 
--- one that ends session k
-pub follow_ended : (s : Shown) (standing : ℕ → List ℕ) (k : ℕ) → WereExact s standing (heads.Ended k) → IsExact s (λ place. others k (standing place))
-follow_ended s standing k were =
-    exact_without were.before s standing k were.base were.exact ((were.told k).over refl)
-    (λ n other. (were.told n).same (λ h. cc) (λ h. (let back : k ≡ n = cc in other (sym back))))
+-- ---- a head that permits and ends nobody
+
+module _ (s : Shown) (standing : ℕ → List ℕ) (first : ℕ → ℕ) (head : Head) (were : WereExact s standing first head) (no_permit : (n : ℕ) → head ≢ heads.Permitted n)
+    (no_end : (n : ℕ) → head ≢ heads.Ended n) where
+  pub follow_quiet : IsExact s standing
+  follow_quiet = exact_still were.before s standing were.base were.exact (λ n. (were.told n).same (no_permit n) (no_end n))
+
+  pub group_quiet : AreGrouped s first
+  group_quiet = grouped_still were.before s first were.base were.grouped (λ n. (were.told n).same (no_permit n) (no_end n))
+
+-- ---- one that ends session k
+
+module _ (s : Shown) (standing : ℕ → List ℕ) (first : ℕ → ℕ) (k : ℕ) (were : WereExact s standing first (heads.Ended k)) where
+  others_same : (n : ℕ) → n ≢ k → going_on (session_in s.tables n) ≡ going_on (session_in were.before.tables n)
+  others_same n other = (were.told n).same (λ h. cc) (λ h. (let back : k ≡ n = cc in other (sym back)))
+
+  pub follow_ended : (standing' : ℕ → List ℕ) → ((n place : ℕ) → Contains (standing' place) n ↔ ((n ≢ k) × Contains (standing place) n)) → IsExact s standing'
+  follow_ended standing' left = exact_left were.before s k were.base ((were.told k).over refl) others_same standing standing' were.exact left
+
+  pub group_ended : (first' : ℕ → ℕ) (next : Option ℕ) → ((m : ℕ) → first' m ≤ m) → ((m : ℕ) → m ≢ k → first m ≢ k → first' m ≡ first m)
+      → ((m : ℕ) → m ≢ k → first m ≡ k → next ≡ Some (first' m)) → IfSome next (λ m. (m ≢ k) × (first m ≡ k) × (first' m ≡ m))
+      → IfSome next (λ m. (place : ℕ) × Contains (standing place) m) → AreGrouped s first'
+  group_ended first' next low same told at stands =
+      grouped_left were.before s k were.base ((were.told k).over refl) others_same first first' were.grouped
+      (record {
+        low = low;
+        same = same;
+        next = λ m other was. (let all = told_if (λ m. (m ≢ k) × (first m ≡ k) × (first' m ≡ m)) next (first' m) (told m other was) at in
+            record { other = all.0; was = all.1; is = all.2 });
+      })
+      (λ m next_one.
+      let place = told_if (λ m. (place : ℕ) × Contains (standing place) m) next m (told m next_one.other next_one.was ∙ ap (λ (n : ℕ). Some n) next_one.is) stands in
+      let reads = were.exact.sound m place.0 place.1 in
+      subst (λ (o : Option SessionRow). IsSome o) (sym reads.is) refl)
+
+-- ---- a revocation
 
 -- a revocation of session k
 abbrev pub IsOver : Type 0
@@ -46,15 +76,3 @@ IsOver = (P : PlainPolicy) (T : Trace) (f : ℕ × Bytes) → going_on (session 
 
 abbrev pub OthersStay : Type 0
 OthersStay = (P : PlainPolicy) (T : Trace) (f : ℕ × Bytes) (n : ℕ) → n ≢ f.0 → session (extended T (revocation P T f)) n ≡ session T n
-
-pub exact_revoked : IsOver → OthersStay → (s s' : Shown) (standing : ℕ → List ℕ) (P : PlainPolicy) (T : Trace) (f : ℕ × Bytes) → ((n : ℕ) → session_in s.tables n ≡ session T n)
-    → ((n : ℕ) → session_in s'.tables n ≡ session (extended T (revocation P T f)) n) → KeepsBase s s' → IsExact s standing → IsExact s' (λ place. others f.0 (standing place))
-exact_revoked over stay s s' standing P T f same same' base exact =
-    exact_without s s' standing f.0 base exact (ap going_on (same' f.0) ∙ over P T f) (λ n other. ap going_on (same' n ∙ stay P T f n other ∙ sym (same n)))
-
--- so where the readers hide the one who was revoked
-pub exact_hidden : IsOver → OthersStay → (s s' : Shown) (r r' : Readers) (P : PlainPolicy) (T : Trace) (f : ℕ × Bytes) → Follows s P T → Follows s' P (extended T (revocation P T f))
-    → KeepsBase s s' → IsExact s (readers_at r) → ((place : ℕ) → readers_at r' place ≡ others f.0 (readers_at r place)) → IsExact s' (readers_at r')
-exact_hidden over stay s s' r r' P T f h h' base exact hidden =
-    exact_like s' (λ place. others f.0 (readers_at r place)) (readers_at r') hidden
-    (exact_revoked over stay s s' (readers_at r) P T f h.tables.sessions.rows h'.tables.sessions.rows base exact)

@@ -113,6 +113,13 @@ gets_more v x w n R row ps i d within first then =
     (sym (ap timed_parts (map_more predicate_of ps i d within) ∙ timed_append (map predicate_of (take i ps)) (predicate_of (get_or ps i d) ∷ [])))
     (gets_limits v x w n R row (timed_parts (map predicate_of (take i ps))) (timed_parts (predicate_of (get_or ps i d) ∷ [])) first then)
 
+-- without timed parts so far, and one predicate more without
+pub untimed_more : (ps : List Predicate) (i : ℕ) (d : Predicate) → i < length ps → timed_parts (map predicate_of (take i ps)) ≡ []
+    → timed_parts (predicate_of (get_or ps i d) ∷ []) ≡ [] → timed_parts (map predicate_of (take (i + 1) ps)) ≡ []
+untimed_more ps i d within none last =
+    ap timed_parts (map_more predicate_of ps i d within) ∙ timed_append (map predicate_of (take i ps)) (predicate_of (get_or ps i d) ∷ [])
+    ∙ ap (λ (more : List Timed). timed_parts (map predicate_of (take i ps)) ++ more) last ∙ ap (λ (parts : List Timed). parts ++ []) none
+
 -- one that isn't ongoing has no timed parts
 pub no_parts : (p : PlainPredicate) → ongoing p ≡ false → [] ≡ timed_parts (p ∷ [])
 no_parts p off = rw off refl

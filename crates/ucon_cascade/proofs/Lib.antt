@@ -1,4 +1,8 @@
-pub mod Standing
+pub mod Outcomes
+pub mod Listed
+pub mod Told
+pub mod Leading
+pub mod Placed
 pub mod Walking
 pub mod Alike
 pub mod Anew
@@ -28,3 +32,8 @@ pub mod Gaining
 pub mod Moving
 pub mod AllTimed
 pub mod Touched
+pub mod Leaving
+pub mod Firsts
+pub mod Revoking
+pub mod Sharing
+pub mod Grouped

@@ -1,7 +1,7 @@
 -- The monitor within a step: what its own actions are, and what undoing gives.
-use Rattle.std.proofs.Common.{◌≡◌, ◌∙◌, ◌↔◌, ℕ, ℤ, List, [], ◌++◌, sym, ap, subst, arith}
+use Rattle.std.proofs.Common.{◌≡◌, ◌∙◌, ◌↔◌, ◌≤◌, inl, inr, ℕ, ℤ, List, [], ◌++◌, sym, ap, subst, arith}
 use Rattle.std.specs.List.{Contains}
-use Rattle.std.specs.Prelude.{false, Option, Some, None, option_map, Result, Ok, Err, OnErr, OnOk}
+use Rattle.std.specs.Prelude.{false, true, is_some, Option, Some, None, option_map}
 use Rattle.ucon_actions.specs.Gives.{Makes}
 use Rattle.ucon_actions.specs.Leads.{KeepsBase, KeepsOpening}
 use Rattle.ucon_model.specs.declared.command.Caller.{Caller}
@@ -23,28 +23,12 @@ use Rattle.ucon_state.specs.Shown.{Shown, given_back, kept}
 use Rattle.ucon_state.specs.Tables.{Tables, session_in}
 use Rattle.ucon_cascade.specs.Cascading.{WereExact}
 use Rattle.ucon_cascade.specs.Monitor.{IsSettled, Stands}
+use Rattle.ucon_cascade.specs.Grouping.{AreAlike, AreGrouped}
 use Rattle.ucon_cascade.specs.Numbering.{IsExact}
+use Rattle.ucon_cascade.specs.Putting.{GoesOn}
 use Rattle.ucon_cascade.specs.Timers.{AreTimely, HasDeadline}
 use Rattle.ucon_wheel.specs.Deadlines.{Deadlines}
-use Rattle.ucon_cascade.proofs.Following.{exact_like}
-
--- ---- answers
-
-pub on_err : {X E A : Type 0} (r : Result X E) → A → OnErr r A
-on_err (Ok x) a = tt
-on_err (Err e) a = a
-
-pub on_ok : {X E A : Type 0} (r : Result X E) → A → OnOk r A
-on_ok (Ok x) a = a
-on_ok (Err e) a = tt
-
-pub ok_then : {X E A B : Type 0} (r : Result X E) → (A → B) → OnOk r A → OnOk r B
-ok_then (Ok x) f a = f a
-ok_then (Err e) f a = tt
-
-pub ok_both : {X E A B C : Type 0} (r : Result X E) → (A → B → C) → OnOk r A → OnOk r B → OnOk r C
-ok_both (Ok x) f a b = f a b
-ok_both (Err e) f a b = tt
+pub use Rattle.ucon_cascade.proofs.Outcomes.{ok_both, ok_then, on_err, on_ok}
 
 -- ---- own actions
 
@@ -81,12 +65,14 @@ told_between tell_it s s' P T caller c head actions h h' is n =
     subst (λ (o : Option SessionRow). IsUsageTold head n o (session_in s'.tables n)) (sym (h.tables.sessions.rows n))
     (subst (λ (o : Option SessionRow). IsUsageTold head n (session T n) o) (sym (h'.tables.sessions.rows n)) (tell_it P T caller c head actions n h.sound.numbered is))
 
-pub were_exact : HeadsTell → (s s' : Shown) (standing : ℕ → List ℕ) (P : PlainPolicy) (T : Trace) (caller : Caller) (c : Command) (head : Head) (actions : List Action)
-    → Follows s P T → Follows s' P (extended T actions) → own P T caller c ≡ make head actions → KeepsBase s s' → IsExact s standing → WereExact s' standing head
-were_exact tell_it s s' standing P T caller c head actions h h' is base exact = record {
+pub were_exact : HeadsTell → (s s' : Shown) (standing : ℕ → List ℕ) (first : ℕ → ℕ) (P : PlainPolicy) (T : Trace) (caller : Caller) (c : Command) (head : Head)
+    (actions : List Action) → Follows s P T → Follows s' P (extended T actions) → own P T caller c ≡ make head actions → KeepsBase s s' → IsExact s standing → AreGrouped s first
+    → WereExact s' standing first head
+were_exact tell_it s s' standing first P T caller c head actions h h' is base exact grouped = record {
   before = s;
   base = base;
   exact = exact;
+  grouped = grouped;
   told = told_between tell_it s s' P T caller c head actions h h' is;
 }
 
@@ -105,6 +91,21 @@ exact_empty s standing P h nobody = record {
 
     none_reads : (n : ℕ) (row : SessionRow) → going_on (session_in s.tables n) ≡ Some row → ⊥
     none_reads n row is = let no : None ≡ Some row = ap going_on (sym (h.tables.sessions.rows n)) ∙ is in cc
+
+-- and nobody has to be grouped
+pub grouped_empty : (s : Shown) (first : ℕ → ℕ) (P : PlainPolicy) → Follows s P [] → AreGrouped s first
+grouped_empty s first P h = record {
+  low = λ n goes. absurd (none_goes n goes);
+  on = λ n goes. absurd (none_goes n goes);
+  itself = λ n goes. absurd (none_goes n goes);
+  like = λ n goes. absurd (none_goes n goes);
+}
+  where
+    none_goes : (n : ℕ) → GoesOn s n → ⊥
+    none_goes n goes =
+        let none : going_on (session_in s.tables n) ≡ None = ap going_on (h.tables.sessions.rows n) in
+        let no : false ≡ true = ap is_some (sym none) ∙ goes in
+        cc
 
 -- ---- undoing and keeping
 
@@ -163,18 +164,48 @@ timely_empty v P is = record {
         let no : None ≡ Some false = now in
         cc
 
-pub stands_like : (s : Shown) (standing standing' : ℕ → List ℕ) (v w : Deadlines) (P : PlainPolicy) (T : Trace) → ((place : ℕ) → standing' place ≡ standing place)
-    → ((n : ℕ) (d : ℤ) → HasDeadline w n d ↔ HasDeadline v n d) → Stands s standing v P T → Stands s standing' w P T
-stands_like s standing standing' v w P T same same_deadlines stands = record {
+-- the same who stand, told by their numbers
+pub exact_same : (s : Shown) (standing standing' : ℕ → List ℕ) → ((n place : ℕ) → Contains (standing' place) n ↔ Contains (standing place) n) → IsExact s standing
+    → IsExact s standing'
+exact_same s standing standing' same exact = record {
+  sound = λ n place stands. exact.sound n place ((same n place).0 stands);
+  complete = λ n place reads. (same n place).1 (exact.complete n place reads);
+  numbered = exact.numbered;
+}
+
+-- the same firsts
+pub grouped_like : (s : Shown) (first first' : ℕ → ℕ) → ((n : ℕ) → first' n ≡ first n) → AreGrouped s first → AreGrouped s first'
+grouped_like s first first' same grouped = record {
+  low = λ n goes. subst (λ (m : ℕ). m ≤ n) (sym (same n)) (grouped.low n goes);
+  on = λ n goes. subst (GoesOn s) (sym (same n)) (grouped.on n goes);
+  itself = λ n goes. ap first' (same n) ∙ same (first n) ∙ grouped.itself n goes ∙ sym (same n);
+  like = λ n goes. elim (grouped.like n goes) [
+    | inl itself ↦ inl (same n ∙ itself)
+    | inr alike ↦ inr (subst (λ (m : ℕ). AreAlike s m n) (sym (same n)) alike)
+  ];
+}
+
+pub stands_like : (s : Shown) (standing standing' : ℕ → List ℕ) (first first' : ℕ → ℕ) (v w : Deadlines) (P : PlainPolicy) (T : Trace)
+    → ((n place : ℕ) → Contains (standing' place) n ↔ Contains (standing place) n) → ((n : ℕ) → first' n ≡ first n)
+    → ((n : ℕ) (d : ℤ) → HasDeadline w n d ↔ HasDeadline v n d) → Stands s standing first v P T → Stands s standing' first' w P T
+stands_like s standing standing' first first' v w P T same same_firsts same_deadlines stands = record {
   follows = stands.follows;
   nobody = stands.nobody;
-  exact = exact_like s standing standing' same stands.exact;
+  exact = exact_same s standing standing' same stands.exact;
+  grouped = grouped_like s first first' same_firsts stands.grouped;
   timely = timely_like v w P T same_deadlines stands.timely;
 }
 
+pub same_lists : (standing standing' : ℕ → List ℕ) → ((place : ℕ) → standing' place ≡ standing place) → (n place : ℕ) → Contains (standing' place) n ↔ Contains (standing place) n
+same_lists standing standing' same n place = (
+  λ has. subst (λ (xs : List ℕ). Contains xs n) (same place) has,
+  λ has. subst (λ (xs : List ℕ). Contains xs n) (sym (same place)) has,
+)
+
 -- what undoing would give matters to nobody who reads
-pub stands_kept : (s : Shown) (standing : ℕ → List ℕ) (v : Deadlines) (P : PlainPolicy) (T : Trace) → Stands s standing v P T → Stands (kept s) standing v P T
-stands_kept s standing v P T stands = record {
+pub stands_kept : (s : Shown) (standing : ℕ → List ℕ) (first : ℕ → ℕ) (v : Deadlines) (P : PlainPolicy) (T : Trace) → Stands s standing first v P T
+    → Stands (kept s) standing first v P T
+stands_kept s standing first v P T stands = record {
   follows = record {
     policy = stands.follows.policy;
     typed = stands.follows.typed;
@@ -187,6 +218,15 @@ stands_kept s standing v P T stands = record {
     complete = λ n place reads. stands.exact.complete n place (record { row = reads.row; is = reads.is; reads = reads.reads });
     numbered = stands.exact.numbered;
   };
+  grouped = record {
+    low = stands.grouped.low;
+    on = stands.grouped.on;
+    itself = stands.grouped.itself;
+    like = λ n goes. elim (stands.grouped.like n goes) [
+      | inl itself ↦ inl itself
+      | inr alike ↦ inr (record { row = alike.row; other = alike.other; is = alike.is; other_is = alike.other_is; alike = alike.alike })
+    ];
+  };
   timely = stands.timely;
 }
 
@@ -196,6 +236,6 @@ pub status_is : (s : Shown) (P : PlainPolicy) (T : Trace) → Follows s P T → 
 status_is s P T h n = ap (option_map (λ (row : SessionRow). row.state)) (h.tables.sessions.rows n)
 
 -- undoing a change gives what stood before it
-pub stands_before : (s s' : Shown) (standing : ℕ → List ℕ) (v : Deadlines) (P : PlainPolicy) (T : Trace) → KeepsOpening s s' → IsSettled s → Stands s standing v P T
-    → Stands (given_back s') standing v P T
-stands_before s s' standing v P T keeps settled stands = subst (λ (x : Shown). Stands x standing v P T) (sym (given_back_is s s' keeps settled)) stands
+pub stands_before : (s s' : Shown) (standing : ℕ → List ℕ) (first : ℕ → ℕ) (v : Deadlines) (P : PlainPolicy) (T : Trace) → KeepsOpening s s' → IsSettled s
+    → Stands s standing first v P T → Stands (given_back s') standing first v P T
+stands_before s s' standing first v P T keeps settled stands = subst (λ (x : Shown). Stands x standing first v P T) (sym (given_back_is s s' keeps settled)) stands

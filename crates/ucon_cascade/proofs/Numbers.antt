@@ -1,5 +1,5 @@
 -- The numbers of the places that a session reads, one after the other.
-use Rattle.std.proofs.Common.{◌≡◌, ◌≢◌, ◌↔◌, ◌⊎◌, ◌∙◌, ◌+◌, ◌<◌, inl, inr, ℕ, zero, suc, true, false, List, [], ◌∷◌, ◌++◌, length, get_or, take, refl, sym, ap, subst, arith}
+use Rattle.std.proofs.Common.{◌≡◌, ◌≢◌, ◌↔◌, ◌⊎◌, ◌∙◌, ◌+◌, ◌<◌, inl, inr, ℕ, zero, suc, true, false, List, [], ◌∷◌, ◌++◌, length, get_or, take, sym, ap, subst, arith}
 use Rattle.std.specs.Prelude.{◌==◌, Option, Some, IsSome, is_some}
 use Rattle.std.specs.List.{Contains, list_any}
 use Rattle.std.specs.Option.{option_to_list}
@@ -11,18 +11,11 @@ use Rattle.ucon_base.specs.Elements.{each_append}
 use Rattle.ucon_links.specs.Lists.{IsAbsent, IsDistinct}
 use Rattle.ucon_model.specs.declared.formula.Ref.{Ref}
 use Rattle.ucon_model.specs.declared.session.SessionRow.{SessionRow}
-use Rattle.ucon_model.specs.Decision.{right_named}
-use Rattle.ucon_model.specs.Places.{places_read}
-use Rattle.ucon_model.specs.Plain.{PlainRight}
 use Rattle.ucon_model.specs.Reach.{location_of}
 use Rattle.ucon_state.specs.Shown.{Shown}
-use Rattle.ucon_cascade.specs.Numbering.{HaveNumbers, numbers_of, place_number, place_numbers}
+use Rattle.ucon_cascade.specs.Numbering.{HaveNumbers, numbers_of, place_number}
 
 -- ---- by the right
-
-pub read_by : (s : Shown) (row : SessionRow) (r : PlainRight) → right_named s.policy.rights row.right ≡ Some r
-    → place_numbers s row ≡ numbers_of s row (places_read r)
-read_by s row r is = rw is refl
 
 -- ---- one more
 

@@ -10,30 +10,46 @@ use Rattle.ucon_model.specs.Usages.{going_on}
 use Rattle.ucon_state.specs.Shown.{Shown}
 use Rattle.ucon_state.specs.Tables.{Tables, session_in}
 use Rattle.ucon_cascade.specs.Numbering.{IsExact}
-use Rattle.ucon_cascade.specs.Putting.{AllBelow, GainsThose, GoesOn, StandsAt, StandsAtOne}
+use Rattle.ucon_cascade.specs.Putting.{AllBelow, GainsFirsts, GoesOn, StandsAt, StandsAtOne}
 
 -- nobody more
-pub gains_none : (old : List ℕ) (Those : ℕ → Type 0) → ((n : ℕ) → Those n → ⊥) → GainsThose old old Those
-gains_none old Those none_of n = (λ has. inr has, λ either. elim either [ inl one_of ↦ absurd (none_of n one_of) | inr has ↦ has ])
+pub gains_none : (first : ℕ → ℕ) (old : List ℕ) (Those : ℕ → Type 0) → ((n : ℕ) → Those n → ⊥) → GainsFirsts first old old Those
+gains_none first old Those none_of n = (λ has. inr has, λ either. elim either [ inl one_of ↦ absurd (none_of n one_of.0) | inr has ↦ has ])
 
 -- these and then those
-pub gains_both : (old mid new : List ℕ) (These Those : ℕ → Type 0) → GainsThose old mid These → GainsThose mid new Those → GainsThose old new (λ n. Those n ⊎ These n)
-gains_both old mid new These Those first then n = (
-  λ has. elim ((then n).0 has) [
-    | inl of_those ↦ inl (inl of_those)
-    | inr was ↦ elim ((first n).0 was) [ inl of_these ↦ inl (inr of_these) | inr before ↦ inr before ]
+pub gains_both : (first : ℕ → ℕ) (old mid new : List ℕ) (These Those : ℕ → Type 0) → GainsFirsts first old mid These → GainsFirsts first mid new Those
+    → GainsFirsts first old new (λ n. Those n ⊎ These n)
+gains_both first old mid new These Those one two n = (
+  λ has. elim ((two n).0 has) [
+    | inl of_those ↦ inl (inl of_those.0, of_those.1)
+    | inr was ↦ elim ((one n).0 was) [ inl of_these ↦ inl (inr of_these.0, of_these.1) | inr before ↦ inr before ]
   ],
   λ either. elim either [
-    | inl put ↦ elim put [ inl of_those ↦ (then n).1 (inl of_those) | inr of_these ↦ (then n).1 (inr ((first n).1 (inl of_these))) ]
-    | inr before ↦ (then n).1 (inr ((first n).1 (inr before)))
+    | inl put ↦ elim put.0 [ inl of_those ↦ (two n).1 (inl (of_those, put.1)) | inr of_these ↦ (two n).1 (inr ((one n).1 (inl (of_these, put.1)))) ]
+    | inr before ↦ (two n).1 (inr ((one n).1 (inr before)))
   ],
 )
 
 -- the same, said in other words
-pub gains_like : (old new : List ℕ) (These Those : ℕ → Type 0) → ((n : ℕ) → These n ↔ Those n) → GainsThose old new These → GainsThose old new Those
-gains_like old new These Those same gains n = (
-  λ has. elim ((gains n).0 has) [ inl of_these ↦ inl ((same n).0 of_these) | inr before ↦ inr before ],
-  λ either. (gains n).1 (elim either [ inl of_those ↦ inl ((same n).1 of_those) | inr before ↦ inr before ]),
+pub gains_like : (first : ℕ → ℕ) (old new : List ℕ) (These Those : ℕ → Type 0) → ((n : ℕ) → These n ↔ Those n) → GainsFirsts first old new These
+    → GainsFirsts first old new Those
+gains_like first old new These Those same gains n = (
+  λ has. elim ((gains n).0 has) [ inl of_these ↦ inl ((same n).0 of_these.0, of_these.1) | inr before ↦ inr before ],
+  λ either. (gains n).1 (elim either [ inl of_those ↦ inl ((same n).1 of_those.0, of_those.1) | inr before ↦ inr before ]),
+)
+
+-- a number, if it is the first of its list
+pub gains_itself : (first : ℕ → ℕ) (old new : List ℕ) (k : ℕ) → first k ≡ k → ((n : ℕ) → Contains new n ↔ ((n ≡ k) ⊎ Contains old n)) → GainsFirsts first old new (λ n. n ≡ k)
+gains_itself first old new k is put n = (
+  λ has. elim ((put n).0 has) [ inl same ↦ inl (same, subst (λ m. first m ≡ m) (sym same) is) | inr before ↦ inr before ],
+  λ either. (put n).1 (elim either [ inl one ↦ inl one.0 | inr before ↦ inr before ]),
+)
+
+-- nobody where it isn't
+pub gains_not_itself : (first : ℕ → ℕ) (old : List ℕ) (k : ℕ) → (first k ≡ k → ⊥) → GainsFirsts first old old (λ n. n ≡ k)
+gains_not_itself first old k other n = (
+  λ has. inr has,
+  λ either. elim either [ inl one ↦ absurd (other (subst (λ m. first m ≡ m) one.0 one.1)) | inr before ↦ before ],
 )
 
 -- at one of these locations, or at one of those
@@ -79,11 +95,11 @@ none_go_on s zero goes = absurd cc
 none_go_on s (suc n) goes = let below : suc n < 1 = goes.0 in omega (arith, below)
 
 -- the next one, if its usage goes on
-pub next_goes_on : (s : Shown) (old mid new : List ℕ) (n : ℕ) → GainsThose old mid (GoOnBelow s n) → GainsThose mid new (λ m. (m ≡ n) × GoesOn s n)
-    → GainsThose old new (GoOnBelow s (n + 1))
-next_goes_on s old mid new n first then =
-    gains_like old new (λ m. ((m ≡ n) × GoesOn s n) ⊎ GoOnBelow s n m) (GoOnBelow s (n + 1)) same
-    (gains_both old mid new (GoOnBelow s n) (λ m. (m ≡ n) × GoesOn s n) first then)
+pub next_goes_on : (s : Shown) (first : ℕ → ℕ) (old mid new : List ℕ) (n : ℕ) → GainsFirsts first old mid (GoOnBelow s n)
+    → GainsFirsts first mid new (λ m. (m ≡ n) × GoesOn s n) → GainsFirsts first old new (GoOnBelow s (n + 1))
+next_goes_on s first old mid new n one two =
+    gains_like first old new (λ m. ((m ≡ n) × GoesOn s n) ⊎ GoOnBelow s n m) (GoOnBelow s (n + 1)) same
+    (gains_both first old mid new (GoOnBelow s n) (λ m. (m ≡ n) × GoesOn s n) one two)
   where
     same : (m : ℕ) → (((m ≡ n) × GoesOn s n) ⊎ GoOnBelow s n m) ↔ GoOnBelow s (n + 1) m
     same m = (
@@ -98,8 +114,10 @@ next_goes_on s old mid new n first then =
     )
 
 -- all of them
-pub all_go_on : (s : Shown) (old new : List ℕ) (limit : ℕ) → length s.tables.sessions < limit → GainsThose old new (GoOnBelow s limit) → GainsThose old new (GoesOn s)
-all_go_on s old new limit all gains = gains_like old new (GoOnBelow s limit) (GoesOn s) (λ n. (λ goes. goes.1, λ goes. (within n (usage_below s n goes), goes))) gains
+pub all_go_on : (s : Shown) (first : ℕ → ℕ) (old new : List ℕ) (limit : ℕ) → length s.tables.sessions < limit → GainsFirsts first old new (GoOnBelow s limit)
+    → GainsFirsts first old new (GoesOn s)
+all_go_on s first old new limit all gains =
+    gains_like first old new (GoOnBelow s limit) (GoesOn s) (λ n. (λ goes. goes.1, λ goes. (within n (usage_below s n goes), goes))) gains
   where
     within : (n : ℕ) → n < length s.tables.sessions + 1 → n < limit
     within n below = omega (arith, below, all)

@@ -14,7 +14,7 @@ use Rattle.ucon_model.specs.Views.{update_of}
 use Rattle.ucon_state.specs.Shown.{Shown}
 use Rattle.ucon_state.specs.Tables.{session_in}
 use Rattle.ucon_cascade.specs.Numbering.{place_number}
-use Rattle.ucon_cascade.specs.Putting.{GainsThose, StandsAt, StandsAtOne, targets_in}
+use Rattle.ucon_cascade.specs.Putting.{GainsFirsts, StandsAt, StandsAtOne, targets_in}
 use Rattle.ucon_cascade.proofs.Putting.{gains_both, gains_like, stands_at_both, stands_at_only}
 
 -- ---- who stands at a location
@@ -29,10 +29,10 @@ at_place s standing location place is n = (
   λ at. (let both : Some at.place ≡ Some place = sym at.is ∙ is in let same : at.place ≡ place = cc in subst (λ (p : ℕ). Contains (standing p) n) same at.stands),
 )
 
-pub gains_at : (s : Shown) (standing : ℕ → List ℕ) (old new : List ℕ) (location : Location) (place : ℕ) → place_number s location ≡ Some place
-    → GainsThose old new (λ n. Contains (standing place) n) → GainsThose old new (StandsAt s standing location)
-gains_at s standing old new location place is gains =
-    gains_like old new (λ n. Contains (standing place) n) (StandsAt s standing location) (at_place s standing location place is) gains
+pub gains_at : (s : Shown) (standing : ℕ → List ℕ) (first : ℕ → ℕ) (old new : List ℕ) (location : Location) (place : ℕ) → place_number s location ≡ Some place
+    → GainsFirsts first old new (λ n. Contains (standing place) n) → GainsFirsts first old new (StandsAt s standing location)
+gains_at s standing first old new location place is gains =
+    gains_like first old new (λ n. Contains (standing place) n) (StandsAt s standing location) (at_place s standing location place is) gains
 
 -- ---- where one update writes
 
@@ -65,14 +65,16 @@ targets_more row when us i d within = ap (targets row when) (map_more update_of 
 -- ---- who gains
 
 -- those who stand at these and then at those
-pub gains_more : (s : Shown) (standing : ℕ → List ℕ) (old mid new : List ℕ) (locations more : List Location)
-    → GainsThose old mid (StandsAtOne s standing locations) → GainsThose mid new (StandsAtOne s standing more)
-    → GainsThose old new (StandsAtOne s standing (locations ++ more))
-gains_more s standing old mid new locations more first then =
-    gains_like old new (λ n. StandsAtOne s standing more n ⊎ StandsAtOne s standing locations n) (StandsAtOne s standing (locations ++ more)) (λ n. stands_at_both s standing locations more n)
-    (gains_both old mid new (StandsAtOne s standing locations) (StandsAtOne s standing more) first then)
+pub gains_more : (s : Shown) (standing : ℕ → List ℕ) (first : ℕ → ℕ) (old mid new : List ℕ) (locations more : List Location)
+    → GainsFirsts first old mid (StandsAtOne s standing locations) → GainsFirsts first mid new (StandsAtOne s standing more)
+    → GainsFirsts first old new (StandsAtOne s standing (locations ++ more))
+gains_more s standing first old mid new locations more one two =
+    gains_like first old new (λ n. StandsAtOne s standing more n ⊎ StandsAtOne s standing locations n) (StandsAtOne s standing (locations ++ more))
+    (λ n. stands_at_both s standing locations more n)
+    (gains_both first old mid new (StandsAtOne s standing locations) (StandsAtOne s standing more) one two)
 
 -- those who stand at one
-pub gains_one : (s : Shown) (standing : ℕ → List ℕ) (old new : List ℕ) (location : Location)
-    → GainsThose old new (StandsAt s standing location) → GainsThose old new (StandsAtOne s standing (location ∷ []))
-gains_one s standing old new location gains = gains_like old new (StandsAt s standing location) (StandsAtOne s standing (location ∷ [])) (λ n. stands_at_only s standing location n) gains
+pub gains_one : (s : Shown) (standing : ℕ → List ℕ) (first : ℕ → ℕ) (old new : List ℕ) (location : Location)
+    → GainsFirsts first old new (StandsAt s standing location) → GainsFirsts first old new (StandsAtOne s standing (location ∷ []))
+gains_one s standing first old new location gains =
+    gains_like first old new (StandsAt s standing location) (StandsAtOne s standing (location ∷ [])) (λ n. stands_at_only s standing location n) gains

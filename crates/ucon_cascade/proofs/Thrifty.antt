@@ -1,5 +1,5 @@
--- Whoever comes into the work after a revocation reads what the updates of the one who was revoked wrote.
-use Rattle.std.proofs.Common.{◌≡◌, ◌∙◌, ◌⊎◌, ◌+◌, ◌<◌, ◌≤◌, inl, inr, ℕ, zero, suc, Bool, true, false, List, [], ◌∷◌, ◌++◌, length, get_or, map, refl, sym, ap, subst, arith}
+-- Who reads what the updates of one who was revoked wrote.
+use Rattle.std.proofs.Common.{◌≡◌, ◌≢◌, ◌∙◌, ◌+◌, ◌<◌, inl, inr, ℕ, zero, suc, Bool, true, false, List, [], ◌∷◌, length, get_or, map, refl, sym, ap, subst, arith}
 use Rattle.std.specs.Prelude.{◌^◌, nat_eq, nat_lt, filter, position, Option, Some, None, option_map, cond}
 use Rattle.std.specs.List.{Contains, list_any}
 use Rattle.std.specs.Option.{option_map_or, option_to_list}
@@ -16,26 +16,21 @@ use Rattle.ucon_model.specs.declared.policy.When.TheVariants.{AfterRevoke}
 use Rattle.ucon_model.specs.declared.session.SessionRow.{SessionRow}
 use Rattle.ucon_model.specs.declared.session.SessionState.TheVariants.{Revoked}
 use Rattle.ucon_model.specs.Plain.{Bytes, PlainPolicy, PlainUpdate}
-use Rattle.ucon_model.specs.Action.{Action, Trace, extended, revoke}
-use Rattle.ucon_model.specs.Decision.{failing}
+use Rattle.ucon_model.specs.Action.{Trace, extended, revoke}
 use Rattle.ucon_model.specs.Reach.{Location, attribute_of, variable_of, location_of, places_of, reads_at, readers, same_location, session_targets, target, targets}
-use Rattle.ucon_model.specs.Readings.{changed_if, env_position, in_force, is_accessing, is_accessing_state, same_side, session}
-use Rattle.ucon_model.specs.Settle.{fails_at, revocation}
-use Rattle.ucon_model.specs.Touches.{IsPaid, IsThrifty}
-use Rattle.ucon_model.specs.Truth.{readings}
+use Rattle.ucon_model.specs.Readings.{changed_if, env_position, in_force, is_accessing, same_side, session}
+use Rattle.ucon_model.specs.Settle.{revocation}
 use Rattle.ucon_model.specs.Updates.{entity_of, same_when, session_writes, updates_of}
 use Rattle.ucon_model.specs.Usages.{going_on}
-use Rattle.ucon_model.specs.Work.{Work}
 use Rattle.ucon_state.specs.Following.{Follows}
 use Rattle.ucon_state.specs.Shown.{Shown}
 use Rattle.ucon_state.specs.Tables.{cell_of, session_in}
-use Rattle.ucon_cascade.specs.Cascading.{work_of}
 use Rattle.ucon_cascade.specs.Numbering.{IsExact, numbers_of, place_number, told}
-use Rattle.ucon_cascade.specs.Paid.{StayPaidRevoking, itself}
+use Rattle.ucon_cascade.specs.Grouping.{AreGrouped}
 use Rattle.ucon_cascade.specs.Putting.{StandsAt, StandsAtOne, targets_in}
-use Rattle.ucon_cascade.proofs.Covering.{is_member, member, or_left, or_right, targets_are}
+use Rattle.ucon_cascade.proofs.Covering.{or_left, or_right, stands_at_one, targets_are}
+use Rattle.ucon_cascade.proofs.Firsts.{LikeReadAlike, accessing_after, goes_after, going_row, reads_as_first}
 use Rattle.ucon_cascade.proofs.Following.{IsOver, OthersStay}
-use Rattle.ucon_cascade.proofs.Paying.{behind_front, goes_on, in_front, one_up}
 
 -- ---- a number is of one location
 
@@ -168,72 +163,55 @@ targets_stay policy sessions P U f =
     ∙ ap (λ (o : Option SessionRow). option_map_or (λ row. targets row AfterRevoke (updates_of (in_force P U) row)) o []) (sessions P f.0 AfterRevoke V f.0)
     ∙ changed_targets (in_force P U) AfterRevoke (nat_eq f.0 f.0) (session U f.0)
 
--- ---- no more comes in than has to
+-- ---- who reads where the one who was revoked writes
 
-pub going_row : (o : Option SessionRow) → is_accessing o ≡ true → (row : SessionRow) × (o ≡ Some row) × (going_on o ≡ Some row)
-going_row None on = absurd (let no : false ≡ true = on in cc)
-going_row (Some row) on = (row, refl, let told : is_accessing_state row.state ≡ true = on in rw told refl)
+module _ (whose : CellsAreOfOne) (policy : UpdatesLeavePolicy) (sessions : UpdatesLeaveSessions) (over : IsOver) (stay : OthersStay) (s : Shown) (standing : ℕ → List ℕ)
+    (P : PlainPolicy) (U : Trace) (f : ℕ × Bytes) (h : Follows s P (extended U (revocation P U f))) (exact : IsExact s standing) where
+  abbrev W : Trace
+  W = extended U (revocation P U f)
 
-pub is_thrifty : CellsAreOfOne → UpdatesLeavePolicy → UpdatesLeaveSessions → IsOver → OthersStay → (s : Shown) (standing : ℕ → List ℕ) (P : PlainPolicy) (U : Trace) (f : ℕ × Bytes)
-    (old new : List ℕ) → Follows s P (extended U (revocation P U f)) → IsExact s standing
-    → ((m : ℕ) → Contains new m → StandsAtOne s standing (targets_in s f.0 AfterRevoke) m ⊎ Contains old m) → IsThrifty P U f itself (work_of (f.0 ∷ old)) itself (work_of new)
-is_thrifty whose policy sessions over stay s standing P U f old new h exact gains m on has =
-    elim (gains m (is_member m new has)) [
-      | inl stands ↦ inr (reads stands)
-      | inr was ↦ inl (behind_front f.0 m old (member m old was))
-    ]
-  where
-    W : Trace
-    W = extended U (revocation P U f)
+  -- where the one who was revoked writes, read off the tables
+  abbrev locations : List Location
+  locations = targets_in s f.0 AfterRevoke
 
-    there : (row : SessionRow) × (session W m ≡ Some row) × (going_on (session W m) ≡ Some row)
-    there = going_row (session W m) on
+  -- whoever goes on isn't the one who was revoked
+  pub other : (m : ℕ) → is_accessing (session W m) ≡ true → m ≢ f.0
+  other m on is =
+      let there = going_row (session W m) on in
+      let none : None ≡ Some there.0 = sym (over P U f) ∙ ap (λ (k : ℕ). going_on (session W k)) (sym is) ∙ there.2 in
+      cc
 
-    other : m ≡ f.0 → ⊥
-    other is =
-        let none : None ≡ Some there.0 = sym (over P U f) ∙ ap (λ (k : ℕ). going_on (session W k)) (sym is) ∙ there.2 in
-        cc
+  same_policy : s.policy ≡ in_force P U
+  same_policy = h.policy ∙ policy P f.0 AfterRevoke (revoke f.0 f.1 ∷ U)
 
-    at : session U m ≡ Some there.0
-    at = sym (stay P U f m other) ∙ there.1
+  same_locations : session_targets P U f.0 AfterRevoke ≡ locations
+  same_locations = sym (targets_stay policy sessions P U f) ∙ targets_are s P W h h.tables.sessions.rows f.0 AfterRevoke
 
-    in_tables : going_on (session_in s.tables m) ≡ Some there.0
-    in_tables = ap going_on (h.tables.sessions.rows m) ∙ there.2
+  in_tables : (m : ℕ) (row : SessionRow) → going_on (session W m) ≡ Some row → going_on (session_in s.tables m) ≡ Some row
+  in_tables m row is = ap going_on (h.tables.sessions.rows m) ∙ is
 
-    same_policy : s.policy ≡ in_force P U
-    same_policy = h.policy ∙ policy P f.0 AfterRevoke (revoke f.0 f.1 ∷ U)
+  -- whether one that goes on reads what the updates of the one who was revoked wrote
+  reads_told : (m : ℕ) (row : SessionRow) → m ≢ f.0 → session W m ≡ Some row → readers P U (session_targets P U f.0 AfterRevoke) m ≡ list_any (reads_at s.policy row) locations
+  reads_told m row apart is =
+      ap (λ (o : Option SessionRow). option_map_or (λ row. list_any (reads_at (in_force P U) row) (session_targets P U f.0 AfterRevoke)) o false) (sym (stay P U f m apart) ∙ is)
+      ∙ ap (λ (Q : PlainPolicy). list_any (reads_at Q row) (session_targets P U f.0 AfterRevoke)) (sym same_policy)
+      ∙ ap (λ (ls : List Location). list_any (reads_at s.policy row) ls) same_locations
 
-    same_targets : targets_in s f.0 AfterRevoke ≡ session_targets P U f.0 AfterRevoke
-    same_targets = sym (targets_are s P W h h.tables.sessions.rows f.0 AfterRevoke) ∙ targets_stay policy sessions P U f
+  module _ (alike : LikeReadAlike) (new_first : ℕ → ℕ) (grouped : AreGrouped s new_first) where
+    -- whose list's first stands there, reads it
+    pub first_stands : (m : ℕ) → is_accessing (session W m) ≡ true → StandsAtOne s standing locations (new_first m) → readers P U (session_targets P U f.0 AfterRevoke) m ≡ true
+    first_stands m on stands =
+        let row = going_row (session W m) on in
+        let first_row = going_row (session W (new_first m)) (accessing_after s P W h (new_first m) (grouped.on m (goes_after s P W h m on))) in
+        reads_told m row.0 (other m on) row.1
+        ∙ sym (reads_as_first alike s new_first grouped m row.0 first_row.0 (in_tables m row.0 row.2) (in_tables (new_first m) first_row.0 first_row.2) locations)
+        ∙ reads_at_one whose s standing P W h exact (new_first m) first_row.0 (in_tables (new_first m) first_row.0 first_row.2) locations stands
 
-    reads : StandsAtOne s standing (targets_in s f.0 AfterRevoke) m → readers P U (session_targets P U f.0 AfterRevoke) m ≡ true
-    reads stands =
-        let told : list_any (reads_at s.policy there.0) (targets_in s f.0 AfterRevoke) ≡ true = reads_at_one whose s standing P W h exact m there.0 in_tables (targets_in s f.0 AfterRevoke) stands in
-        ap (λ (o : Option SessionRow). option_map_or (λ row. list_any (reads_at (in_force P U) row) (session_targets P U f.0 AfterRevoke)) o false) at
-        ∙ ap (λ (Q : PlainPolicy). list_any (reads_at Q there.0) (session_targets P U f.0 AfterRevoke)) (sym same_policy)
-        ∙ ap (λ (locations : List Location). list_any (reads_at s.policy there.0) locations) (sym same_targets)
-        ∙ told
-
--- ---- so a revocation is paid for
-
--- the judgement by which one was found to fail is paid for, and those whom its revocation concerns
-abbrev pub RevocationsArePaid : Type 0
-RevocationsArePaid = (P : PlainPolicy) (T : Trace) (actions : List Action) (first : ℕ → ℕ) (work : Work) (steps k : ℕ) (f : ℕ × Bytes) (new_first : ℕ → ℕ) (next : Work)
-    → IsPaid P T actions first work steps k → 1 ≤ f.0 → f.0 ≤ k → is_accessing (session (extended T actions) f.0) ≡ true → first f.0 ≡ f.0 → work f.0 ≡ true
-    → IsThrifty P (extended T actions) f first work new_first next
-    → IsPaid P T (actions ++ revocation P (extended T actions) f) new_first next (steps + 1) k
-
-accessing_as_failing : (b : Bool) (told : Option Bytes) (label : Bytes) → cond b told None ≡ Some label → b ≡ true
-accessing_as_failing true told label is = refl
-accessing_as_failing false told label is = absurd (let no : None ≡ Some label = is in cc)
-
-pub revoking_is_paid : RevocationsArePaid → CellsAreOfOne → UpdatesLeavePolicy → UpdatesLeaveSessions → IsOver → OthersStay → (s s' : Shown) (standing : ℕ → List ℕ) (f : ℕ × Bytes)
-    (old new : List ℕ) → ((P : PlainPolicy) (T : Trace) → Follows s P T → fails_at P T f.0 ≡ Some f.1)
-    → ((P : PlainPolicy) (T : Trace) → Follows s P T → Follows s' P (extended T (revocation P T f))) → IsExact s' standing
-    → ((m : ℕ) → Contains new m → StandsAtOne s' standing (targets_in s' f.0 AfterRevoke) m ⊎ Contains old m) → StayPaidRevoking s f old new
-revoking_is_paid law whose policy sessions over stay s s' standing f old new fails leads exact gains P T actions k judged h up_to paid =
-    let U = extended T actions in
-    let on = accessing_as_failing (is_accessing (session U f.0)) (failing (in_force P U) (readings P U) f.0) f.1 (fails P U h) in
-    law P T actions itself (work_of (f.0 ∷ old)) judged k f itself (work_of new) paid (one_up P U h.sound.numbered f.0 on)
-    (up_to f.0 (goes_on (session_in s.tables f.0) (ap is_accessing (h.tables.sessions.rows f.0) ∙ on))) on refl (in_front f.0 old)
-    (is_thrifty whose policy sessions over stay s' standing P U f old new (leads P U h) exact gains)
+    -- and the first of the list of one who reads it stands there
+    pub stands_for_reader : (m : ℕ) → is_accessing (session W m) ≡ true → readers P U (session_targets P U f.0 AfterRevoke) m ≡ true → StandsAtOne s standing locations (new_first m)
+    stands_for_reader m on reads =
+        let row = going_row (session W m) on in
+        let first_row = going_row (session W (new_first m)) (accessing_after s P W h (new_first m) (grouped.on m (goes_after s P W h m on))) in
+        let first_is = in_tables (new_first m) first_row.0 first_row.2 in
+        stands_at_one s standing exact (new_first m) first_row.0 first_is locations
+        (reads_as_first alike s new_first grouped m row.0 first_row.0 (in_tables m row.0 row.2) first_is locations ∙ sym (reads_told m row.0 (other m on) row.1) ∙ reads)

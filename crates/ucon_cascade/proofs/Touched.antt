@@ -40,7 +40,7 @@ use Rattle.ucon_cascade.proofs.Covering.{or_left, or_right, targets_are}
 use Rattle.ucon_cascade.proofs.Heads.{begun_row}
 use Rattle.ucon_cascade.proofs.Monitored.{HeadsTell}
 use Rattle.ucon_cascade.proofs.OwnTime.{Makes, behind, found, given, is_act, made_so, own_actions_take_no_time, unless, usage}
-use Rattle.ucon_cascade.proofs.Paying.{goes_on}
+use Rattle.ucon_cascade.proofs.Firsts.{goes_on}
 use Rattle.ucon_cascade.proofs.Thrifty.{CellsAreOfOne, UpdatesLeavePolicy, UpdatesLeaveSessions, reads_at_one, targets_alike}
 use Rattle.ucon_cascade.proofs.Ticking.{accessing_row}
 

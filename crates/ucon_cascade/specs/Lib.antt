@@ -1,8 +1,12 @@
 pub mod Numbering
 pub mod Putting
-pub mod Readers
+pub mod Grouping
 pub mod Timers
+pub mod Lists
+pub mod Listing
+pub mod Readers
 pub mod Passing
 pub mod Cascading
 pub mod Paid
 pub mod Monitor
+pub mod Leaving

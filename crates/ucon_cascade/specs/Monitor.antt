@@ -13,18 +13,20 @@ use Rattle.ucon_model.specs.OwnActions.{own}
 use Rattle.ucon_model.specs.Work.{NobodyFails}
 use Rattle.ucon_state.specs.Following.{Follows}
 use Rattle.ucon_state.specs.Shown.{Shown, shown, given_back}
+use Rattle.ucon_cascade.specs.Grouping.{AreGrouped}
 use Rattle.ucon_cascade.specs.Numbering.{IsExact}
-use Rattle.ucon_cascade.specs.Readers.{IsKept, UndoGives, readers_at}
+use Rattle.ucon_cascade.specs.Readers.{IsKept, UndoGives, first_of, readers_at}
 use Rattle.ucon_cascade.specs.Timers.{AreTimely, IsKept as AreKept, UndoGives as TimersGive}
 use Rattle.ucon_wheel.specs.Deadlines.{Deadlines}
 use Rattle.ucon_cascade.specs.declared.monitor.Monitor.{Monitor}
 
--- A state with the readers of its places and the deadlines of its usages stands for a trace: it follows it, nobody fails, the readers are
--- exact, and the deadlines timely.
-pub record Stands (s : Shown) (standing : ℕ → List ℕ) (v : Deadlines) (P : PlainPolicy) (T : Trace) : Type 0 where
+-- A state with the readers of its places, the firsts of their lists and the deadlines of its usages stands for a trace: it follows it,
+-- nobody fails, the readers are exact and grouped by their firsts, and the deadlines timely.
+pub record Stands (s : Shown) (standing : ℕ → List ℕ) (first : ℕ → ℕ) (v : Deadlines) (P : PlainPolicy) (T : Trace) : Type 0 where
   pub follows : Follows s P T
   pub nobody : NobodyFails P T
   pub exact : IsExact s standing
+  pub grouped : AreGrouped s first
   pub timely : AreTimely v P T
 
 -- undoing gives the policy and the tables that are there now
@@ -34,31 +36,32 @@ pub record IsSettled (s : Shown) : Type 0 where
 
 -- It stands for the trace, there is nothing to undo, and nothing is left to be rechecked.
 pub record IsReady (m : Monitor) (P : PlainPolicy) (T : Trace) : Type 0 where
-  pub stands : Stands (shown m.state) (readers_at m.readers) m.timers.wheel P T
+  pub stands : Stands (shown m.state) (readers_at m.readers) (first_of m.readers) m.timers.wheel P T
   pub settled : IsSettled (shown m.state)
   pub kept : IsKept m.readers
   pub timers_kept : AreKept m.timers
   pub limit : m.work.limit ≡ 1048577
   pub no_work : m.work.members ≡ []
 
--- A command's own actions were made, and the head tells them: the state that they led from, with these readers and deadlines, stood for a
--- trace. Its policy and its cells are still there, but where the command replaced the policy.
-pub record AreMade (now : Shown) (standing : ℕ → List ℕ) (v : Deadlines) (c : Command) (head : Head) : Type 0 where
+-- A command's own actions were made, and the head tells them: the state that they led from, with these readers, firsts and deadlines, stood
+-- for a trace. Its policy and its cells are still there, but where the command replaced the policy.
+pub record AreMade (now : Shown) (standing : ℕ → List ℕ) (first : ℕ → ℕ) (v : Deadlines) (c : Command) (head : Head) : Type 0 where
   pub was : Shown
   pub policy : PlainPolicy
   pub trace : Trace
   pub caller : Caller
-  pub stood : Stands was standing v policy trace
+  pub stood : Stands was standing first v policy trace
   pub base : is_amendment c ≡ false → KeepsBase was now
   pub made : Makes head now policy trace (own policy trace caller c)
 
 -- undoing gives what stands for the trace
 pub record GoesBack (m : Monitor) (P : PlainPolicy) (T : Trace) : Type 0 where
   pub stood : ℕ → List ℕ
-  pub undone : UndoGives m.readers stood
+  pub first : ℕ → ℕ
+  pub undone : UndoGives m.readers stood first
   pub was : Deadlines
   pub timers_undone : TimersGive m.timers was
-  pub stands : Stands (given_back (shown m.state)) stood was P T
+  pub stands : Stands (given_back (shown m.state)) stood first was P T
   pub limit : m.work.limit ≡ 1048577
 
 -- undoing gives what stands for some trace
@@ -69,6 +72,6 @@ pub record MayGoBack (m : Monitor) : Type 0 where
 
 -- It stands for the trace after the entry's command, undoing gives what stands for the trace, and nothing is left to be rechecked.
 pub record HasPending (m : Monitor) (P : PlainPolicy) (T : Trace) (e : Entry) : Type 0 where
-  pub stands : Stands (shown m.state) (readers_at m.readers) m.timers.wheel P (after P T e.caller e.command)
+  pub stands : Stands (shown m.state) (readers_at m.readers) (first_of m.readers) m.timers.wheel P (after P T e.caller e.command)
   pub back : GoesBack m P T
   pub no_work : m.work.members ≡ []

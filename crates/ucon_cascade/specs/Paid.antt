@@ -17,33 +17,31 @@ use Rattle.ucon_cascade.specs.Putting.{GoesOn}
 abbrev pub touched : PlainPolicy → Trace → Caller → Command → ℕ
 touched P T caller c = sum_to (touches_by P T (block P T caller c)) (sessions (after P T caller c))
 
--- each session stands in the work for itself alone
-abbrev pub itself : ℕ → ℕ
-itself n = n
-
--- so many judgements, and one more for each member of the work whose usage goes on, are at most the touches of the actions so far
-abbrev pub ArePaid : PlainPolicy → Trace → List Action → List ℕ → ℕ → ℕ → Type 0
-ArePaid P T actions members judged k = IsPaid P T actions itself (work_of members) judged k
+-- So many judgements are at most the touches of the actions so far, with one more for each session whose usage goes on and whose list's
+-- first is in the work: a list in the work owes its length.
+abbrev pub ArePaid : PlainPolicy → Trace → List Action → (ℕ → ℕ) → List ℕ → ℕ → ℕ → Type 0
+ArePaid P T actions first members judged k = IsPaid P T actions first (work_of members) judged k
 
 -- each usage that goes on is of one of the sessions 1 to k
 abbrev pub GoOnUpTo : Shown → ℕ → Type 0
 GoOnUpTo s k = (n : ℕ) → GoesOn s n → n ≤ k
 
 -- Judgements that are paid for stay so, with those by which a counter rose while the work became less.
-abbrev pub StayPaid : Shown → (old new : List ℕ) → (before after : ℕ) → Type 0
-StayPaid s old new before after =
+abbrev pub StayPaid : Shown → (ℕ → ℕ) → (old new : List ℕ) → (before after : ℕ) → Type 0
+StayPaid s first old new before after =
     (P : PlainPolicy) (T : Trace) (actions : List Action) (k judged : ℕ) → Follows s P (extended T actions) → GoOnUpTo s k
-    → ArePaid P T actions old judged k → (more : ℕ) × (after ≤ before + more) × ArePaid P T actions new (judged + more) k
+    → ArePaid P T actions first old judged k → (more : ℕ) × (after ≤ before + more) × ArePaid P T actions first new (judged + more) k
 
--- So do they, with the judgement by which one was found to fail, once it is revoked and those whom that concerns are in the work.
-abbrev pub StayPaidRevoking : Shown → ℕ × Bytes → (old new : List ℕ) → Type 0
-StayPaidRevoking s f old new =
+-- So do they, with the judgement by which one was found to fail, once it is revoked and has left its list, and the firsts of those whom
+-- that concerns are in the work.
+abbrev pub StayPaidRevoking : Shown → ℕ × Bytes → (first : ℕ → ℕ) (old : List ℕ) (new_first : ℕ → ℕ) (new : List ℕ) → Type 0
+StayPaidRevoking s f first old new_first new =
     (P : PlainPolicy) (T : Trace) (actions : List Action) (k judged : ℕ) → Follows s P (extended T actions) → GoOnUpTo s k
-    → ArePaid P T actions (f.0 ∷ old) judged k → ArePaid P T (actions ++ revocation P (extended T actions) f) new (judged + 1) k
+    → ArePaid P T actions first (f.0 ∷ old) judged k → ArePaid P T (actions ++ revocation P (extended T actions) f) new_first new (judged + 1) k
 
 -- Where the work after a draft's own actions is paid for, the counter rises while it is worked off by at most the touches of those actions
 -- and of the settling.
-abbrev pub CostsItsTouches : Shown → List ℕ → (before after : ℕ) → Type 0
-CostsItsTouches s work before after =
+abbrev pub CostsItsTouches : Shown → (ℕ → ℕ) → List ℕ → (before after : ℕ) → Type 0
+CostsItsTouches s first work before after =
     (P : PlainPolicy) (T : Trace) (actions : List Action) (k : ℕ) → Follows s P (extended T actions) → GoOnUpTo s k
-    → ArePaid P T actions work 0 k → after ≤ before + sum_to (touches_by P T (actions ++ settle P (extended T actions))) k
+    → ArePaid P T actions first work 0 k → after ≤ before + sum_to (touches_by P T (actions ++ settle P (extended T actions))) k

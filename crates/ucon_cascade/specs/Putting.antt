@@ -26,9 +26,9 @@ abbrev pub StandsAtOne : Shown → (ℕ → List ℕ) → List Location → ℕ 
 StandsAtOne s standing [] n = ⊥
 StandsAtOne s standing (location ∷ rest) n = StandsAt s standing location n ⊎ StandsAtOne s standing rest n
 
--- the work has its old members and these, and no others
-abbrev pub GainsThose : List ℕ → List ℕ → (ℕ → Type 0) → Type 0
-GainsThose old new Those = (n : ℕ) → Contains new n ↔ (Those n ⊎ Contains old n)
+-- the work has its old members and those of these who are the first of their list, and no others
+abbrev pub GainsFirsts : (ℕ → ℕ) → List ℕ → List ℕ → (ℕ → Type 0) → Type 0
+GainsFirsts first old new Those = (n : ℕ) → Contains new n ↔ ((Those n × (first n ≡ n)) ⊎ Contains old n)
 
 -- where session n's right in force writes at a time
 abbrev pub targets_in : Shown → ℕ → When → List Location

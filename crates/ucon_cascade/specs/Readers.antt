@@ -1,48 +1,44 @@
--- Who reads which place, and what undoing gives.
-use Rattle.std.specs.Prelude.{◌≡◌, ◌↔◌, ◌⊎◌, ℕ, true, List, [], length, Option, Some, None}
+-- Who reads which place, who shares a judgement with whom, and what undoing gives.
+use Rattle.std.specs.Prelude.{◌≡◌, ◌≢◌, ◌↔◌, ℕ, List, Some, None, IsSome}
 use Rattle.std.specs.List.{Contains}
-use Rattle.ucon_index.specs.Dependents.{Dependents, UnhideGives, is_there, remove, stands_in}
+use Rattle.ucon_model.specs.declared.session.SessionRow.{SessionRow}
+use Rattle.ucon_model.specs.Usages.{going_on}
+use Rattle.ucon_state.specs.Shown.{Shown}
+use Rattle.ucon_state.specs.Tables.{session_in}
+use Rattle.ucon_cascade.specs.Grouping.{AreGroupedBelow}
+use Rattle.ucon_cascade.specs.Listing.{ChangesGive, HoldsThose, IsKept as IsAtRest, Listing, readers_in}
+use Rattle.ucon_cascade.specs.Lists.{first_in, leader_in}
+use Rattle.ucon_cascade.specs.Numbering.{AreNumbered, IsExactBelow, place_numbers}
 use Rattle.ucon_cascade.specs.declared.readers.Readers.{Readers}
 
 -- who reads a place
 abbrev pub readers_at : Readers → ℕ → List ℕ
-readers_at r place = stands_in r.index place
+readers_at r place = readers_in r.standing place
 
--- session n comes to these places, and stands there beside those who stood there
-abbrev pub ComesTo : (old new : ℕ → List ℕ) → ℕ → List ℕ → Type 0
-ComesTo old new n places = (m place : ℕ) → Contains (new place) m ↔ (((m ≡ n) × Contains places place) ⊎ Contains (old place) m)
+-- the first of the list in which session n is, who is judged for it; n itself where it is in none
+abbrev pub first_of : Readers → ℕ → ℕ
+first_of r n = first_in r.standing.lists.wheel n
 
--- session n stands at no place
-abbrev pub StandsNowhere : (ℕ → List ℕ) → ℕ → Type 0
-StandsNowhere standing n = (place : ℕ) → Contains (standing place) n → ⊥
+-- each other that is in a list and whose usage goes on stands exactly where it reads, and each place that it reads has a number
+abbrev pub StandAsTheyRead : Shown → Readers → ℕ → Type 0
+StandAsTheyRead s r n =
+    (m : ℕ) (row : SessionRow) → m ≢ n → IsSome (leader_in r.standing.lists.wheel m) → going_on (session_in s.tables m) ≡ Some row
+    → AreNumbered s row × ((place : ℕ) → Contains (readers_at r place) m ↔ Contains (place_numbers s row) place)
+
+-- the readers are right so far as the sessions below a number go
+pub record AreReadBelow (s : Shown) (limit : ℕ) (r : Readers) : Type 0 where
+  pub exact : IsExactBelow s (readers_at r) limit
+  pub grouped : AreGroupedBelow s limit (first_of r)
 
 -- ---- undoing
 
--- taking out the session that was added gives the second
-abbrev pub TakingOutGives : Option ℕ → Dependents → Dependents → Type 0
-TakingOutGives None v base = v ≡ base
-TakingOutGives (Some n) v base = (is_there n v.places ≡ true) × (remove v n ≡ base)
-
--- these stand at each place of the index, and nobody is hidden
-pub record HoldsThose (v : Dependents) (standing : ℕ → List ℕ) : Type 0 where
-  pub stands : (place : ℕ) → stands_in v place ≡ standing place
-  pub nobody_hidden : v.hidden ≡ []
-
--- undoing each change of the index gives one that holds these
-pub record ChangesGive (r : Readers) (standing : ℕ → List ℕ) : Type 0 where
-  pub unhidden : Dependents
-  pub base : Dependents
-  pub unhiding : UnhideGives (length r.index.hidden) r.index unhidden
-  pub taking_out : TakingOutGives r.added unhidden base
-  pub holds : HoldsThose base standing
-
--- undoing gives an index that holds these: the one that was replaced, where one was, else the one without its changes
-pub data UndoGives (r : Readers) (standing : ℕ → List ℕ) : Type 0 where
-  by_changes : r.replaced ≡ None → ChangesGive r standing → UndoGives r standing
-  by_replaced : (before : Dependents) → r.replaced ≡ Some before → HoldsThose before standing → UndoGives r standing
+-- undoing gives what holds these: what was replaced, where something was, else what is there without its changes
+pub data UndoGives (r : Readers) (standing : ℕ → List ℕ) (first : ℕ → ℕ) : Type 0 where
+  by_changes : r.replaced ≡ None → ChangesGive r.standing standing first → UndoGives r standing first
+  by_replaced : (before : Listing) → r.replaced ≡ Some before → IsAtRest before
+      → HoldsThose before.lists.wheel before.index standing first → UndoGives r standing first
 
 -- there is nothing to undo
 pub record IsKept (r : Readers) : Type 0 where
-  pub none_added : r.added ≡ None
+  pub at_rest : IsAtRest r.standing
   pub none_replaced : r.replaced ≡ None
-  pub nobody_hidden : r.index.hidden ≡ []

@@ -1,21 +1,28 @@
 //! Who reads what after a command's own actions.
 
-ghost use Rattle.std.specs.Prelude.{◌≡◌, ◌+◌, false, IfOk, OnOk};
+ghost use Rattle.std.specs.Prelude.{◌≡◌, ◌≢◌, ◌+◌, ℕ, [], false, IfOk, IfSome, IsSome, OnOk, Some};
 ghost use Rattle.ucon_actions.specs.Gives.{is_amendment};
 ghost use Rattle.ucon_cascade.specs.Cascading.{WereExact};
-ghost use Rattle.ucon_cascade.specs.Numbering.{AreNumbered, IsExact, IsExactBelow, place_numbers};
-ghost use Rattle.ucon_cascade.specs.Readers.{ComesTo, IsKept, StandsNowhere, UndoGives, readers_at};
+ghost use Rattle.ucon_cascade.specs.Numbering.{AreNumbered, IsExact, place_numbers};
+ghost use Rattle.ucon_cascade.specs.Grouping.{AreGrouped, GetsFirst, MayLead, StandsAlone};
+ghost use Rattle.ucon_cascade.specs.Lists.{leader_in};
+ghost use Rattle.ucon_cascade.specs.Putting.{GoesOn};
+ghost use Rattle.ucon_cascade.specs.Readers.{AreReadBelow, IsKept, StandAsTheyRead, UndoGives, first_of, readers_at};
+ghost use Rattle.ucon_cascade.specs.Listing.{ComesTo, StandsNowhere};
 ghost use Rattle.ucon_model.specs.declared.reply.Head.TheVariants as heads;
+ghost use Rattle.ucon_model.specs.Reach.{places_of, timed_of};
 ghost use Rattle.ucon_model.specs.Usages.{going_on};
 ghost use Rattle.ucon_state.specs.Shown.{shown};
 ghost use Rattle.ucon_state.specs.Tables.{session_in};
 
+use crate::kinds::{Kind, are_alike, is_timed, kind_of};
 use crate::places::place_numbers;
 use crate::readers::Readers;
 use std::alloc::Global;
 use ucon_actions::{is_accessing, session, session_state, sessions};
 use ucon_base::NoMemory;
-use ucon_model::{Command, Head, SessionRow};
+use ucon_check::places_read;
+use ucon_model::{Command, Head, Ref, SessionRow, View};
 use ucon_state::State;
 
 /// All is read anew where the command replaced the policy. Else a permitted session begins to read, and an ended one reads nothing any more.
@@ -27,9 +34,12 @@ pub fn follow_actions(
     head: &Head,
 ) -> Result<(), NoMemory>
     requires kept { IsKept readers.old }
-    requires were { is_amendment command.now ≡ false → WereExact (shown state.now) (readers_at readers.old) head.now }
+    requires were { is_amendment command.now ≡ false → WereExact (shown state.now) (readers_at readers.old) (first_of readers.old) head.now }
     ensures exact { OnOk result (IsExact (shown state.now) (readers_at readers.new)) }
-    ensures undo { UndoGives readers.new (readers_at readers.old) }
+    ensures grouped { OnOk result (AreGrouped (shown state.now) (first_of readers.new)) }
+    ensures alone { OnOk result ((k n : ℕ) → is_amendment command.now ≡ false → head.now ≡ heads.Permitted k
+        → GoesOn (shown state.now) n → first_of readers.new n ≡ k → n ≡ k) }
+    ensures undo { UndoGives readers.new (readers_at readers.old) (first_of readers.old) }
 {
     if is_amendment(command) {
         return read_anew(alloc, state, readers);
@@ -52,14 +62,16 @@ fn follow_head(
     head: &Head,
 ) -> Result<(), NoMemory>
     requires kept { IsKept readers.old }
-    requires were { WereExact (shown state.now) (readers_at readers.old) head.now }
+    requires were { WereExact (shown state.now) (readers_at readers.old) (first_of readers.old) head.now }
     ensures exact { OnOk result (IsExact (shown state.now) (readers_at readers.new)) }
-    ensures undo { UndoGives readers.new (readers_at readers.old) }
+    ensures grouped { OnOk result (AreGrouped (shown state.now) (first_of readers.new)) }
+    ensures alone { OnOk result ((k n : ℕ) → head.now ≡ heads.Permitted k → GoesOn (shown state.now) n → first_of readers.new n ≡ k → n ≡ k) }
+    ensures undo { UndoGives readers.new (readers_at readers.old) (first_of readers.old) }
 {
     match head {
         Head::Permitted(n) => begin_to_read(alloc, state, readers, *n),
         Head::Ended(n) => {
-            readers.hide(*n);
+            readers.hide(*n)?;
             Ok(())
         }
         _ => Ok(()),
@@ -74,9 +86,11 @@ fn begin_to_read(
     n: u32,
 ) -> Result<(), NoMemory>
     requires kept { IsKept readers.old }
-    requires were { WereExact (shown state.now) (readers_at readers.old) (heads.Permitted n) }
+    requires were { WereExact (shown state.now) (readers_at readers.old) (first_of readers.old) (heads.Permitted n) }
     ensures exact { OnOk result (IsExact (shown state.now) (readers_at readers.new)) }
-    ensures undo { UndoGives readers.new (readers_at readers.old) }
+    ensures grouped { OnOk result (AreGrouped (shown state.now) (first_of readers.new)) }
+    ensures alone { OnOk result ((m : ℕ) → GoesOn (shown state.now) m → first_of readers.new m ≡ n → m ≡ n) }
+    ensures undo { UndoGives readers.new (readers_at readers.old) (first_of readers.old) }
 {
     let Some(row) = session(state, n) else {
         return Ok(());
@@ -84,7 +98,8 @@ fn begin_to_read(
     add_reader(alloc, state, readers, n, &row)
 }
 
-/// From here on session n reads the places of its right.
+/// From here on session n reads the places of its right: in the list of one that is judged like it, if one is known, else in a list of its
+/// own.
 fn add_reader(
     alloc: Global,
     state: &State,
@@ -93,20 +108,85 @@ fn add_reader(
     row: &SessionRow,
 ) -> Result<(), NoMemory>
     requires kept { IsKept readers.old }
+    requires row { session_in (shown state.now).tables n ≡ Some row.now }
+    requires nowhere { StandsNowhere (readers_at readers.old) n }
+    requires exact { StandAsTheyRead (shown state.now) readers.old n }
+    ensures comes { OnOk result (ComesTo (readers_at readers.old) (readers_at readers.new) n (place_numbers (shown state.now) row.now)) }
+    ensures first { OnOk result (GetsFirst (shown state.now) (first_of readers.old) (first_of readers.new) n) }
+    ensures numbered { OnOk result (AreNumbered (shown state.now) row.now) }
+    ensures undo { UndoGives readers.new (readers_at readers.old) (first_of readers.old) }
+{
+    let Some(right) = state.checked().policy().right(&row.right) else {
+        return readers.lead(n, &[]);
+    };
+    let places = places_read(alloc, right)?;
+    let places = places.slice();
+    if places.is_empty() || is_timed(right) {
+        return lead(alloc, state, readers, n, row, places);
+    }
+    let kind = kind_of(state, row, places);
+    if let Some(first) = first_alike(state, readers, n, row, places, kind) {
+        return readers.join(n, first);
+    }
+    lead(alloc, state, readers, n, row, places)?;
+    readers.remember(kind, n)
+}
+
+/// The first of a list that session n may join: one whose usage goes on, that is below it, and that is judged like it. A session that is
+/// below the first of a list doesn't join it, since who is judged for the others would change.
+fn first_alike(
+    state: &State,
+    readers: &Readers,
+    n: u32,
+    row: &SessionRow,
+    places: &[Ref],
+    kind: Kind,
+) -> Option<u32>
+    requires row { session_in (shown state.now).tables n ≡ Some row.now }
+    requires places { places.now ≡ places_of (shown state.now).policy row.now }
+    requires untimed { timed_of (shown state.now).policy row.now ≡ [] }
+    ensures may { IfSome result (MayLead (shown state.now) (first_of readers.now) n) }
+    ensures listed { IfSome result (λ m. IsSome (leader_in readers.now.standing.lists.wheel m)) }
+{
+    let first = readers.guess(kind)?;
+    if first >= n {
+        return None;
+    }
+    let other = going_on(state, first)?;
+    if are_alike(&other, row, places) {
+        Some(first)
+    } else {
+        None
+    }
+}
+
+/// From here on session n reads the places of its right, in a list of its own.
+fn lead(
+    alloc: Global,
+    state: &State,
+    readers: &mut Readers,
+    n: u32,
+    row: &SessionRow,
+    places: &[Ref],
+) -> Result<(), NoMemory>
+    requires kept { IsKept readers.old }
+    requires places { places.now ≡ places_of (shown state.now).policy row.now }
     requires nowhere { StandsNowhere (readers_at readers.old) n }
     ensures comes { OnOk result (ComesTo (readers_at readers.old) (readers_at readers.new) n (place_numbers (shown state.now) row.now)) }
+    ensures alone { OnOk result (StandsAlone (first_of readers.old) (first_of readers.new) n) }
     ensures numbered { OnOk result (AreNumbered (shown state.now) row.now) }
-    ensures undo { UndoGives readers.new (readers_at readers.old) }
+    ensures undo { UndoGives readers.new (readers_at readers.old) (first_of readers.old) }
 {
-    let places = place_numbers(alloc, state, row)?;
-    readers.add(n, places.slice())
+    let numbers = place_numbers(alloc, state, row, places)?;
+    readers.lead(n, numbers.slice())
 }
 
 /// Who reads what now takes the place of who did before.
 fn read_anew(alloc: Global, state: &State, readers: &mut Readers) -> Result<(), NoMemory>
     requires kept { IsKept readers.old }
     ensures exact { OnOk result (IsExact (shown state.now) (readers_at readers.new)) }
-    ensures undo { UndoGives readers.new (readers_at readers.old) }
+    ensures grouped { OnOk result (AreGrouped (shown state.now) (first_of readers.new)) }
+    ensures undo { UndoGives readers.new (readers_at readers.old) (first_of readers.old) }
 {
     let all = all_readers(alloc, state)?;
     readers.replace(all);
@@ -114,8 +194,9 @@ fn read_anew(alloc: Global, state: &State, readers: &mut Readers) -> Result<(), 
 }
 
 /// Who reads what.
-fn all_readers(alloc: Global, state: &State) -> Result<Readers, NoMemory>
-    ensures { IfOk result (λ r. IsExact (shown state.now) (readers_at r)) }
+pub fn all_readers(alloc: Global, state: &State) -> Result<Readers, NoMemory>
+    ensures exact { IfOk result (λ r. IsExact (shown state.now) (readers_at r)) }
+    ensures grouped { IfOk result (λ r. AreGrouped (shown state.now) (first_of r)) }
 {
     let mut readers = Readers::new(alloc)?;
     for before in 0..sessions(state) {
@@ -143,8 +224,8 @@ fn add_accessing(
     n: u32,
 ) -> Result<(), NoMemory>
     requires kept { IsKept readers.old }
-    requires below { IsExactBelow (shown state.now) (readers_at readers.old) n }
-    ensures { OnOk result (IsExactBelow (shown state.now) (readers_at readers.new) (n + 1)) }
+    requires below { AreReadBelow (shown state.now) n readers.old }
+    ensures { OnOk result (AreReadBelow (shown state.now) (n + 1) readers.new) }
 {
     let Some(row) = going_on(state, n) else {
         return Ok(());

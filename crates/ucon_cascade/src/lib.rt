@@ -3,13 +3,17 @@
 #![tactic(auto)]
 
 mod follow;
+mod kinds;
 mod limits;
+mod lists;
 mod monitor;
 mod own_work;
 mod passing;
 mod places;
 mod readers;
+mod restoring;
 mod settle;
+mod standing;
 mod timers;
 
 pub use monitor::Monitor;

@@ -2,8 +2,9 @@
 
 ghost use Rattle.std.specs.Prelude.{◌≡◌, ◌+◌, ◌≤◌, List, [], IfOk, OnErr, OnOk, IsTrue, IsFalse};
 ghost use Rattle.ucon_actions.specs.Leads.{AfterEach, KeepsBase, Leads};
+ghost use Rattle.ucon_cascade.specs.Grouping.{AreGrouped};
 ghost use Rattle.ucon_cascade.specs.Numbering.{IsExact};
-ghost use Rattle.ucon_cascade.specs.Readers.{IsKept, UndoGives, readers_at};
+ghost use Rattle.ucon_cascade.specs.Readers.{IsKept, UndoGives, first_of, readers_at};
 ghost use Rattle.ucon_cascade.specs.Paid.{touched};
 ghost use Rattle.ucon_cascade.specs.Passing.{WereMade};
 ghost use Rattle.ucon_cascade.specs.Timers.{AreTimely, IsKept as AreKept, UndoGives as TimersGive};
@@ -14,13 +15,15 @@ ghost use Rattle.ucon_model.specs.History.{changes};
 ghost use Rattle.ucon_model.specs.Plain.{PlainPolicy};
 ghost use Rattle.ucon_model.specs.Settle.{revoked_in, settle};
 ghost use Rattle.ucon_model.specs.Views.{reply_of};
-ghost use Rattle.ucon_state.specs.Engine.{FollowsLike, IsIdle};
+ghost use Rattle.ucon_model.specs.Work.{NobodyFails};
+ghost use Rattle.ucon_state.specs.Engine.{FollowsLike, HasNothingToUndo, IsIdle};
 ghost use Rattle.ucon_state.specs.Shown.{shown};
 
-use crate::follow::follow_actions;
+use crate::follow::{all_readers, follow_actions};
 use crate::own_work::put_own_work;
-use crate::passing::follow_time;
+use crate::passing::{all_timers, follow_time};
 use crate::readers::Readers;
+use crate::restoring::least_failing;
 use crate::settle::settle;
 use crate::timers::Timers;
 use std::alloc::Global;
@@ -28,18 +31,19 @@ use ucon_actions::{ActionFault, Outcome, own_actions};
 use ucon_base::{NoMemory, Rows, Steps};
 use ucon_model::{
     Caller, Checked, Command, Head, Reply, Revoked, SessionState, View, actions_are_done_in_order,
-    drafts_are_blocks, heads_tell_whose_usage_begins_or_ends, judgements_are_paid_for,
-    nobody_fails_after_settling, own_work_is_read_off, readings_that_agree_are_one,
+    drafts_are_blocks, firsts_go_on_covering, heads_tell_whose_usage_begins_or_ends,
+    judgements_are_paid_for, nobody_fails_after_settling, one_judgement_serves_all_alike,
+    own_work_is_read_off, readings_that_agree_are_one, the_least_failing_is_found,
     updates_write_their_targets, work_is_read_off_afterwards,
 };
 use ucon_pend::Pend;
 use ucon_state::{
-    Drafted, Engine, State, cells_are_of_one_attribute, each_action_is_followed, sessions_are_few,
-    tables_keep_what_is_followed,
+    Drafted, Engine, RestoreFault, State, cells_are_of_one_attribute, each_action_is_followed,
+    sessions_are_few, tables_keep_what_is_followed,
 };
 
 /// After each change it rechecks the sessions that read what was changed, and no others but, at a tick, those of whom it passed a deadline,
-/// and all where the policy was replaced.
+/// and all where the policy was replaced. Of sessions that are judged alike the first is judged for all.
 #[derive(Drop)]
 pub struct Monitor {
     alloc: Global,
@@ -93,6 +97,22 @@ impl Engine for Monitor {
 
     fn status(&self, session: u32) -> Option<SessionState> {
         self.state.session_state(session)
+    }
+
+    fn state(&self) -> &State {
+        &self.state
+    }
+
+    fn into_state(self) -> State {
+        self.state
+    }
+
+    fn restore(alloc: Global, state: State) -> Result<Monitor, RestoreFault> {
+        the_least_failing_is_found();
+        match least_failing(&state) {
+            Some(found) => Err(RestoreFault::Unsettled(found.0, found.1)),
+            None => Ok(Monitor::over(alloc, state)?),
+        }
     }
 }
 
@@ -164,7 +184,8 @@ impl Monitor {
         head: &Head,
         steps: &mut Steps,
     ) -> Result<Rows<Revoked>, NoMemory>
-        requires made { AreMade (shown self.old.state) (readers_at self.old.readers) self.old.timers.wheel command.now head.now }
+        requires made { AreMade (shown self.old.state) (readers_at self.old.readers) (first_of self.old.readers) self.old.timers.wheel
+            command.now head.now }
         requires kept { IsKept self.old.readers }
         requires timers_kept { AreKept self.old.timers }
         requires limit { self.old.work.limit ≡ 1048577 }
@@ -172,7 +193,8 @@ impl Monitor {
         ensures leads { OnOk result (Leads (shown self.old.state) (shown self.new.state) (λ P T. extended T (settle P T))) }
         ensures revoked { IfOk result (λ revoked. AfterEach (shown self.old.state) (λ P T. revoked.items ≡ revoked_in (settle P T))) }
         ensures exact { OnOk result (IsExact (shown self.new.state) (readers_at self.new.readers)) }
-        ensures undo { UndoGives self.new.readers (readers_at self.old.readers) }
+        ensures grouped { OnOk result (AreGrouped (shown self.new.state) (first_of self.new.readers)) }
+        ensures undo { UndoGives self.new.readers (readers_at self.old.readers) (first_of self.old.readers) }
         ensures timely { OnOk result ((P : PlainPolicy) (T : Trace) (caller : Caller) (actions : List Action)
             → WereMade (shown self.old.state) self.old.timers.wheel P T caller command.now head.now actions
             → AreTimely self.new.timers.wheel P (extended (extended T actions) (settle P (extended T actions)))) }
@@ -187,8 +209,10 @@ impl Monitor {
         actions_are_done_in_order();
         cells_are_of_one_attribute();
         drafts_are_blocks();
+        firsts_go_on_covering();
         heads_tell_whose_usage_begins_or_ends();
         judgements_are_paid_for();
+        one_judgement_serves_all_alike();
         own_work_is_read_off();
         readings_that_agree_are_one();
         sessions_are_few();
@@ -213,6 +237,26 @@ impl Monitor {
             &mut self.work,
             steps,
         )
+    }
+
+    /// The monitor over a state in which nobody fails: who reads what, and which deadlines there are, is made anew.
+    fn over(alloc: Global, state: State) -> Result<Monitor, NoMemory>
+        requires settled { HasNothingToUndo (shown state) }
+        requires nobody { AfterEach (shown state) NobodyFails }
+        ensures { IfOk result (λ m. AfterEach (shown state) (IsReady m)) }
+    {
+        let work = Pend::new(alloc, 1_048_577)?;
+        let mut readers = all_readers(alloc, &state)?;
+        let mut timers = all_timers(alloc, &state)?;
+        readers.keep();
+        timers.keep();
+        Ok(Monitor {
+            alloc,
+            state,
+            readers,
+            timers,
+            work,
+        })
     }
 
     /// Gives back what stood at the last keep.

@@ -5,8 +5,8 @@ ghost use Rattle.ucon_model.specs.declared.reply.Head.TheVariants as heads;
 ghost use Rattle.ucon_model.specs.Reach.{attribute_of, targets, variable_of};
 ghost use Rattle.ucon_model.specs.Views.{update_of};
 ghost use Rattle.ucon_state.specs.Shown.{shown};
-ghost use Rattle.ucon_cascade.specs.Putting.{AllBelow, GainsThose, GoesOn, IsCommandWork, IsOwnWork, IsPermitWork, StandsAt, StandsAtOne, targets_in};
-ghost use Rattle.ucon_cascade.specs.Readers.{readers_at};
+ghost use Rattle.ucon_cascade.specs.Putting.{AllBelow, GainsFirsts, GoesOn, IsCommandWork, IsOwnWork, IsPermitWork, StandsAt, StandsAtOne, targets_in};
+ghost use Rattle.ucon_cascade.specs.Readers.{first_of, readers_at};
 
 use crate::places::{attribute_place, variable_place};
 use crate::readers::Readers;
@@ -16,7 +16,7 @@ use ucon_model::{Command, Head, SessionRow, Update, View, When};
 use ucon_pend::Pend;
 use ucon_state::State;
 
-/// Puts into the work who reads an attribute of an entity.
+/// Puts into the work who reads an attribute of an entity; of each list its first, as everywhere here.
 fn put_attribute(
     state: &State,
     readers: &Readers,
@@ -27,7 +27,7 @@ fn put_attribute(
 )
     requires { AllBelow (readers_at readers.now) work.old.limit }
     ensures limit { work.new.limit ≡ work.old.limit }
-    ensures members { GainsThose work.old.members work.new.members
+    ensures members { GainsFirsts (first_of readers.now) work.old.members work.new.members
         (StandsAt (shown state.now) (readers_at readers.now) (attribute_of side name.now attr.now)) }
 {
     let Some(place) = attribute_place(state, side, name, attr) else {
@@ -40,7 +40,7 @@ fn put_attribute(
 fn put_variable(state: &State, readers: &Readers, name: &Name, work: &mut Pend)
     requires { AllBelow (readers_at readers.now) work.old.limit }
     ensures limit { work.new.limit ≡ work.old.limit }
-    ensures members { GainsThose work.old.members work.new.members
+    ensures members { GainsFirsts (first_of readers.now) work.old.members work.new.members
         (StandsAt (shown state.now) (readers_at readers.now) (variable_of name.now)) }
 {
     let Some(place) = variable_place(state, name) else {
@@ -60,7 +60,7 @@ fn put_target(
 )
     requires { AllBelow (readers_at readers.now) work.old.limit }
     ensures limit { work.new.limit ≡ work.old.limit }
-    ensures members { GainsThose work.old.members work.new.members
+    ensures members { GainsFirsts (first_of readers.now) work.old.members work.new.members
         (StandsAtOne (shown state.now) (readers_at readers.now) (targets row.now when (update_of u.now ∷ []))) }
 {
     if !is_of(u, when) {
@@ -80,7 +80,7 @@ fn put_target(
 pub fn put_targets(state: &State, readers: &Readers, n: u32, when: When, work: &mut Pend)
     requires { AllBelow (readers_at readers.now) work.old.limit }
     ensures limit { work.new.limit ≡ work.old.limit }
-    ensures members { GainsThose work.old.members work.new.members
+    ensures members { GainsFirsts (first_of readers.now) work.old.members work.new.members
         (StandsAtOne (shown state.now) (readers_at readers.now) (targets_in (shown state.now) n when)) }
 {
     let Some(row) = session(state, n) else {
@@ -97,36 +97,48 @@ fn put_permitted(state: &State, readers: &Readers, head: &Head, work: &mut Pend)
     requires below { AllBelow (readers_at readers.now) work.old.limit }
     requires permitted { (n : ℕ) → head.now ≡ heads.Permitted n → n < work.old.limit }
     ensures limit { work.new.limit ≡ work.old.limit }
-    ensures members { GainsThose work.old.members work.new.members (IsPermitWork (shown state.now) (readers_at readers.now) head.now) }
+    ensures members { GainsFirsts (first_of readers.now) work.old.members work.new.members
+        (IsPermitWork (shown state.now) (readers_at readers.now) head.now) }
 {
     let Head::Permitted(n) = head else {
         return;
     };
     put_targets(state, readers, *n, When::Before, work);
-    work.put(*n);
+    put_first(readers, *n, work);
 }
 
-/// Puts session n into the work, if it is accessing.
-fn put_if_accessing(state: &State, n: u32, work: &mut Pend)
+/// Puts session n into the work, if it is the first of its list.
+fn put_first(readers: &Readers, n: u32, work: &mut Pend)
     requires { n < work.old.limit }
     ensures limit { work.new.limit ≡ work.old.limit }
-    ensures members { GainsThose work.old.members work.new.members (λ m. (m ≡ n) × GoesOn (shown state.now) n) }
+    ensures members { GainsFirsts (first_of readers.now) work.old.members work.new.members (λ m. m ≡ n) }
+{
+    if readers.first(n) == n {
+        work.put(n);
+    }
+}
+
+/// Puts session n into the work, if it is accessing and the first of its list.
+fn put_if_accessing(state: &State, readers: &Readers, n: u32, work: &mut Pend)
+    requires { n < work.old.limit }
+    ensures limit { work.new.limit ≡ work.old.limit }
+    ensures members { GainsFirsts (first_of readers.now) work.old.members work.new.members (λ m. (m ≡ n) × GoesOn (shown state.now) n) }
 {
     if let Some(session) = session_state(state, n) {
         if is_accessing(session) {
-            work.put(n);
+            put_first(readers, n, work);
         }
     }
 }
 
-/// Puts all accessing sessions into the work.
-fn put_accessing(state: &State, work: &mut Pend)
+/// Puts the first of each list of accessing sessions into the work.
+fn put_accessing(state: &State, readers: &Readers, work: &mut Pend)
     requires { length (shown state.now).tables.sessions < work.old.limit }
     ensures limit { work.new.limit ≡ work.old.limit }
-    ensures members { GainsThose work.old.members work.new.members (GoesOn (shown state.now)) }
+    ensures members { GainsFirsts (first_of readers.now) work.old.members work.new.members (GoesOn (shown state.now)) }
 {
     for before in 0..sessions(state) {
-        put_if_accessing(state, before + 1, work);
+        put_if_accessing(state, readers, before + 1, work);
     }
 }
 
@@ -135,7 +147,8 @@ fn put_commanded(state: &State, readers: &Readers, command: &Command, work: &mut
     requires below { AllBelow (readers_at readers.now) work.old.limit }
     requires few { length (shown state.now).tables.sessions < work.old.limit }
     ensures limit { work.new.limit ≡ work.old.limit }
-    ensures members { GainsThose work.old.members work.new.members (IsCommandWork (shown state.now) (readers_at readers.now) command.now) }
+    ensures members { GainsFirsts (first_of readers.now) work.old.members work.new.members
+        (IsCommandWork (shown state.now) (readers_at readers.now) command.now) }
 {
     match command {
         Command::Set {
@@ -147,14 +160,14 @@ fn put_commanded(state: &State, readers: &Readers, command: &Command, work: &mut
         Command::Env { name, .. } => put_variable(state, readers, name, work),
         Command::Beat(n) => put_targets(state, readers, *n, When::During, work),
         Command::End(n) => put_targets(state, readers, *n, When::AfterEnd, work),
-        Command::Amend(_) => put_accessing(state, work),
+        Command::Amend(_) => put_accessing(state, readers, work),
         _ => {}
     }
 }
 
 /// Puts into the work, after a command's own actions, whoever they may have made fail: who is permitted, who reads where they wrote, and
-/// everybody where the policy was replaced. An act makes nobody fail, and nobody reads of an entity that is new. Whom a tick concerns is in
-/// the work already.
+/// everybody where the policy was replaced; of each list its first, which is judged for all. An act makes nobody fail, and nobody reads of
+/// an entity that is new. Whom a tick concerns is in the work already.
 pub fn put_own_work(
     state: &State,
     readers: &Readers,
@@ -166,7 +179,7 @@ pub fn put_own_work(
     requires few { length (shown state.now).tables.sessions < work.old.limit }
     requires permitted { (n : ℕ) → head.now ≡ heads.Permitted n → n < work.old.limit }
     ensures limit { work.new.limit ≡ work.old.limit }
-    ensures members { GainsThose work.old.members work.new.members
+    ensures members { GainsFirsts (first_of readers.now) work.old.members work.new.members
         (IsOwnWork (shown state.now) (readers_at readers.now) command.now head.now) }
 {
     put_commanded(state, readers, command, work);

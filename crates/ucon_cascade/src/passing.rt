@@ -52,6 +52,7 @@ pub fn follow_time(
     ensures touched { OnOk result ((P : PlainPolicy) (T : Trace) (caller : Caller) (actions : List Action)
         → WereMade (shown state.now) timers.old.wheel P T caller command.now head.now actions
         → (n : ℕ) → Contains work.new.members n → 1 ≤ touches_by P T actions n) }
+    ensures quiet { is_tick command.now ≡ false → work.new.members ≡ [] }
     ensures limit { work.new.limit ≡ work.old.limit }
     ensures undo { UndoGives timers.new timers.old.wheel }
 {
@@ -140,7 +141,7 @@ fn time_anew(alloc: Global, state: &State, timers: &mut Timers) -> Result<(), No
 }
 
 /// All deadlines.
-fn all_timers(alloc: Global, state: &State) -> Result<Timers, NoMemory>
+pub fn all_timers(alloc: Global, state: &State) -> Result<Timers, NoMemory>
     ensures { IfOk result (λ t. AfterEach (shown state.now) (AreTimely t.wheel)) }
 {
     let mut timers = Timers::new(alloc)?;

@@ -3,13 +3,12 @@
 ghost use Rattle.std.specs.List.{Contains, list_any};
 ghost use Rattle.std.specs.Prelude.{◌≡◌, ◌==◌, ◌↔◌, ◌⊎◌, ◌++◌, ℕ, IfOk, OnOk};
 ghost use Rattle.ucon_links.specs.Lists.{IsDistinct};
-ghost use Rattle.ucon_model.specs.Reach.{attribute_of, location_of, variable_of};
+ghost use Rattle.ucon_model.specs.Reach.{attribute_of, location_of, places_of, variable_of};
 ghost use Rattle.ucon_state.specs.Shown.{shown};
 ghost use Rattle.ucon_cascade.specs.Numbering.{AreNumbered, HaveNumbers, numbers_of, place_number, place_numbers};
 
 use std::alloc::{AllocError, Global};
 use ucon_base::{Name, NoMemory, Rows, Side};
-use ucon_check::places_read;
 use ucon_model::{Ref, SessionRow, View};
 use ucon_state::State;
 
@@ -43,17 +42,19 @@ pub fn place_of(state: &State, row: &SessionRow, place: &Ref) -> Option<u32>
 }
 
 /// The numbers of the places that a session reads, each once. One that is none of a `u32` is answered as want of memory.
-pub fn place_numbers(alloc: Global, state: &State, row: &SessionRow) -> Result<Rows<u32>, NoMemory>
+pub fn place_numbers(
+    alloc: Global,
+    state: &State,
+    row: &SessionRow,
+    places: &[Ref],
+) -> Result<Rows<u32>, NoMemory>
+    requires { places.now ≡ places_of (shown state.now).policy row.now }
     ensures numbers { IfOk result (λ numbers. (n : ℕ) → Contains numbers.items n ↔ Contains (place_numbers (shown state.now) row.now) n) }
     ensures distinct { IfOk result (λ numbers. IsDistinct numbers.items) }
     ensures all { OnOk result (AreNumbered (shown state.now) row.now) }
 {
-    let Some(right) = state.checked().policy().right(&row.right) else {
-        return Ok(Rows::new(alloc));
-    };
-    let places = places_read(alloc, right)?;
     let mut numbers = Rows::new(alloc);
-    add_places(state, row, places.slice(), &mut numbers)?;
+    add_places(state, row, places, &mut numbers)?;
     Ok(numbers)
 }
 

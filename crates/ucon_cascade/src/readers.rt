@@ -1,163 +1,159 @@
-//! Which usages read which places, and what a draft has changed of it.
+//! Which usages read which places, who of them share a judgement, and what a draft has changed of it.
 
-ghost use Rattle.std.specs.Prelude.{◌≡◌, ◌↔◌, ◌⊎◌, ◌<◌, ◌≤◌, ℕ, ◌∷◌, [], false, None, List, OnOk, OnErr, IfOk, length};
+ghost use Rattle.std.specs.Prelude.{◌≡◌, ◌≢◌, ◌↔◌, ◌⊎◌, ◌<◌, ◌≤◌, ℕ, [], None, Some, IsSome, List, OnOk, IfOk, IfSome};
 ghost use Rattle.std.specs.List.{All, Contains};
-ghost use Rattle.ucon_links.specs.Lists.{IsAbsent, IsDistinct};
-ghost use Rattle.ucon_index.specs.Dependents.{is_there, others};
+ghost use Rattle.ucon_links.specs.Lists.{IsDistinct};
+ghost use Rattle.ucon_cascade.specs.Grouping.{Joins, StandsAlone};
+ghost use Rattle.ucon_cascade.specs.Listing.{ComesTo, StandsNowhere};
+ghost use Rattle.ucon_cascade.specs.Lists.{leader_in};
 
-use std::alloc::{AllocError, Global};
+use crate::kinds::Kind;
+use crate::standing::Standing;
+use indexmap::IndexMap;
+use std::alloc::Global;
 use std::mem;
 use ucon_base::NoMemory;
-use ucon_index::{Index, walks_meet_who_stands};
 use ucon_pend::Pend;
 
-/// For each place the accessing sessions that read it. What a draft changes can be undone until it is kept.
+/// For each place the accessing sessions that read it, in lists of such as share one judgement. What a draft changes can be undone until
+/// it is kept.
 #[derive(Drop)]
 pub struct Readers {
-    index: Index,
-    /// The session that the draft has added.
-    added: Option<u32>,
-    /// The index before the draft, where the draft has put another in its place.
-    replaced: Option<Index>,
+    standing: Standing,
+    /// Who stood where before the draft, where the draft has put others in their place.
+    replaced: Option<Standing>,
+    /// By its kind the leader whose list a session might join: a guess, which has to be checked, and of which nothing is undone.
+    guesses: IndexMap<Kind, u32>,
 }
 
 impl Readers {
-    ghost use Rattle.ucon_cascade.specs.Readers.{readers_at, ChangesGive, IsKept, UndoGives};
+    ghost use Rattle.ucon_cascade.specs.Readers.{first_of, readers_at, IsKept, UndoGives};
 
     /// Nobody reads anything.
     pub fn new(alloc: Global) -> Result<Readers, NoMemory>
         ensures nobody { IfOk result (λ r. (place : ℕ) → readers_at r place ≡ []) }
+        ensures alone { IfOk result (λ r. (n : ℕ) → leader_in r.standing.lists.wheel n ≡ None) }
         ensures kept { IfOk result IsKept }
     {
-        let index = Index::new(alloc)?;
+        let standing = Standing::new(alloc)?;
         Ok(Readers {
-            index,
-            added: None,
+            standing,
             replaced: None,
+            guesses: IndexMap::new(alloc),
         })
     }
 
-    /// From here on the session reads these places. One that reads none isn't kept.
-    pub fn add(&mut self, session: u32, places: &[u32]) -> Result<(), NoMemory>
-        requires kept { IsKept self.old }
-        requires distinct { IsDistinct places.now }
-        requires new { is_there session self.old.index.places ≡ false }
-        ensures read { OnOk result (All (λ place. readers_at self.new place ≡ session ∷ readers_at self.old place) places.now) }
-        ensures elsewhere { (place : ℕ) → IsAbsent place places.now → readers_at self.new place ≡ readers_at self.old place }
-        ensures err { OnErr result ((place : ℕ) → readers_at self.new place ≡ readers_at self.old place) }
-        ensures undo { UndoGives self.new (readers_at self.old) }
+    /// The first of the list in which a session is, who is judged for it. The session itself where it is in none.
+    pub fn first(&self, session: u32) -> u32
+        ensures { result ≡ first_of self.now session }
     {
-        if places.is_empty() {
-            return Ok(());
-        }
-        self.make_room(session, places)?;
-        self.index.add(session, places);
-        self.added = Some(session);
+        self.standing.first(session)
+    }
+
+    /// The first of a list that a session of this kind might join. None where none is known.
+    pub fn guess(&self, kind: Kind) -> Option<u32>
+        ensures itself { IfSome result (λ m. first_of self.now m ≡ m) }
+        ensures listed { IfSome result (λ m. IsSome (leader_in self.now.standing.lists.wheel m)) }
+    {
+        let leader = self.guesses.get(&kind)?;
+        self.standing.first_led(*leader)
+    }
+
+    /// Remembers a leader for sessions of this kind.
+    pub fn remember(&mut self, kind: Kind, leader: u32) -> Result<(), NoMemory>
+        ensures standing { self.new.standing ≡ self.old.standing }
+        ensures replaced { self.new.replaced ≡ self.old.replaced }
+    {
+        self.guesses.insert(kind, leader)?;
         Ok(())
     }
 
-    /// Makes room for a session at these places.
-    fn make_room(&mut self, session: u32, places: &[u32]) -> Result<(), NoMemory>
-        ensures read { (place : ℕ) → readers_at self.new place ≡ readers_at self.old place }
-        ensures kept { IsKept self.old → IsKept self.new }
-        ensures there { is_there session self.new.index.places ≡ is_there session self.old.index.places }
-        ensures exist { OnOk result (All (λ place. place < length self.new.index.places) places.now) }
-        ensures session { OnOk result (session < self.new.index.sessions) }
-        ensures room { OnOk result (length places.now ≤ self.new.index.spare) }
+    /// From here on a session reads, in a list of its own, these places. One that reads none isn't kept. A session founds one list: a
+    /// second is answered as want of memory.
+    pub fn lead(&mut self, session: u32, places: &[u32]) -> Result<(), NoMemory>
+        requires kept { IsKept self.old }
+        requires distinct { IsDistinct places.now }
+        requires nowhere { StandsNowhere (readers_at self.old) session }
+        ensures comes { OnOk result (ComesTo (readers_at self.old) (readers_at self.new) session places.now) }
+        ensures alone { OnOk result (StandsAlone (first_of self.old) (first_of self.new) session) }
+        ensures undo { UndoGives self.new (readers_at self.old) (first_of self.old) }
     {
-        for place in places {
-            let Some(count) = place.checked_add(1) else {
-                return Err(NoMemory::from(AllocError));
-            };
-            self.index.grow(count)?;
-        }
-        let Some(sessions) = session.checked_add(1) else {
-            return Err(NoMemory::from(AllocError));
-        };
-        self.index.grow_sessions(sessions)?;
-        let Ok(nodes) = u32::try_from(places.len()) else {
-            return Err(NoMemory::from(AllocError));
-        };
-        if self.index.node_count() >= u32::MAX - nodes {
-            return Err(NoMemory::from(AllocError));
-        }
-        self.index.reserve(nodes)
+        self.standing.lead(session, places)
     }
 
-    /// From here on the session reads nothing.
-    pub fn hide(&mut self, session: u32)
-        ensures read { (place : ℕ) → readers_at self.new place ≡ others session (readers_at self.old place) }
-        ensures undo { (standing : ℕ → List ℕ) → UndoGives self.old standing → UndoGives self.new standing }
+    /// From here on a session reads, in the list of another, what that one reads.
+    pub fn join(&mut self, session: u32, other: u32) -> Result<(), NoMemory>
+        requires kept { IsKept self.old }
+        requires listed { IsSome (leader_in self.old.standing.lists.wheel other) }
+        requires nowhere { StandsNowhere (readers_at self.old) session }
+        ensures comes { OnOk result ((n place : ℕ) → Contains (readers_at self.new place) n
+            ↔ (((n ≡ session) × Contains (readers_at self.old place) other) ⊎ Contains (readers_at self.old place) n)) }
+        ensures joins { OnOk result (first_of self.old other ≡ other → other < session
+            → Joins (first_of self.old) (first_of self.new) session other) }
+        ensures undo { UndoGives self.new (readers_at self.old) (first_of self.old) }
     {
-        if self.index.is_there(session) {
-            self.index.hide(session);
-        }
+        self.standing.join(session, other)
     }
 
-    /// Puts those who read a place into the work.
+    /// From here on a session reads nothing. Where it was the first of others, that gives who is their first from here on.
+    pub fn hide(&mut self, session: u32) -> Result<Option<u32>, NoMemory>
+        ensures read { OnOk result ((n place : ℕ) → Contains (readers_at self.new place) n
+            ↔ ((n ≢ session) × Contains (readers_at self.old place) n)) }
+        ensures same { OnOk result ((n : ℕ) → n ≢ session → first_of self.old n ≢ session → first_of self.new n ≡ first_of self.old n) }
+        ensures next { IfOk result (λ next. (n : ℕ) → n ≢ session → first_of self.old n ≡ session → next ≡ Some (first_of self.new n)) }
+        ensures first { IfOk result (λ next. IfSome next (λ m.
+            (m ≢ session) × (first_of self.old m ≡ session) × (first_of self.new m ≡ m))) }
+        ensures stands { IfOk result (λ next. IfSome next (λ m. (place : ℕ) × Contains (readers_at self.old place) m)) }
+        ensures low { OnOk result ((n : ℕ) → first_of self.new n ≤ n) }
+        ensures undo { (standing : ℕ → List ℕ) (first : ℕ → ℕ) → UndoGives self.old standing first → UndoGives self.new standing first }
+    {
+        self.standing.hide(session)
+    }
+
+    /// Puts those into the work who are judged for whoever reads a place.
     pub fn put(&self, place: u32, work: &mut Pend)
         requires { All (λ n. n < work.old.limit) (readers_at self.now place) }
         ensures limit { work.new.limit ≡ work.old.limit }
-        ensures members { (n : ℕ) → Contains work.new.members n ↔ (Contains (readers_at self.now place) n ⊎ Contains work.old.members n) }
+        ensures members { (n : ℕ) → Contains work.new.members n
+            ↔ ((Contains (readers_at self.now place) n × (first_of self.now n ≡ n)) ⊎ Contains work.old.members n) }
     {
-        walks_meet_who_stands();
-        if place >= self.index.place_count() {
-            return;
-        }
-        let mut at = self.index.first(place);
-        while let Some(node) = at {
-            work.put(self.index.owner(node));
-            at = self.index.next(node);
-        }
+        self.standing.put(place, work);
     }
 
     /// From here on these are who reads what. Undoing gives back who did before.
     pub fn replace(&mut self, others: Readers)
         requires kept { IsKept self.old }
         ensures read { (place : ℕ) → readers_at self.new place ≡ readers_at others place }
-        ensures undo { UndoGives self.new (readers_at self.old) }
+        ensures firsts { (n : ℕ) → first_of self.new n ≡ first_of others n }
+        ensures undo { UndoGives self.new (readers_at self.old) (first_of self.old) }
     {
-        let before = mem::replace(&mut self.index, others.index);
+        let before = mem::replace(&mut self.standing, others.standing);
+        self.guesses = others.guesses;
         self.replaced = Some(before);
     }
 
     /// Gives back who read what at the last keep. It takes no memory.
     pub fn undo(&mut self)
-        requires { (standing : ℕ → List ℕ) × UndoGives self.old standing }
-        ensures read { (standing : ℕ → List ℕ) → UndoGives self.old standing → (place : ℕ) → readers_at self.new place ≡ standing place }
+        requires { (standing : ℕ → List ℕ) × (first : ℕ → ℕ) × UndoGives self.old standing first }
+        ensures read { (standing : ℕ → List ℕ) (first : ℕ → ℕ) → UndoGives self.old standing first
+            → (place : ℕ) → readers_at self.new place ≡ standing place }
+        ensures firsts { (standing : ℕ → List ℕ) (first : ℕ → ℕ) → UndoGives self.old standing first → (n : ℕ) → first_of self.new n ≡ first n }
         ensures kept { IsKept self.new }
     {
         match self.replaced.take() {
-            Some(before) => {
-                self.index = before;
-                self.added = None;
-            }
-            None => self.undo_changes(),
+            Some(before) => self.standing = before,
+            None => self.standing.undo(),
         }
-    }
-
-    /// Takes back each change of the index.
-    fn undo_changes(&mut self)
-        requires { (standing : ℕ → List ℕ) × ChangesGive self.old standing }
-        ensures read { (standing : ℕ → List ℕ) → ChangesGive self.old standing → (place : ℕ) → readers_at self.new place ≡ standing place }
-        ensures nobody_hidden { self.new.index.hidden ≡ [] }
-        ensures none_added { self.new.added ≡ None }
-        ensures replaced { self.new.replaced ≡ self.old.replaced }
-    {
-        self.index.unhide_everybody();
-        if let Some(session) = self.added {
-            self.index.remove(session);
-        }
-        self.added = None;
     }
 
     /// From here on undoing gives what is there now.
     pub fn keep(&mut self)
-        ensures read { (place : ℕ) → readers_at self.new place ≡ readers_at self.old place }
+        ensures read { (n place : ℕ) → Contains (readers_at self.new place) n ↔ Contains (readers_at self.old place) n }
+        ensures firsts { (n : ℕ) → first_of self.new n ≡ first_of self.old n }
+        ensures leaders { (n : ℕ) → leader_in self.new.standing.lists.wheel n ≡ leader_in self.old.standing.lists.wheel n }
         ensures kept { IsKept self.new }
     {
-        self.index.forget_hidden();
-        self.added = None;
+        self.standing.keep();
         self.replaced = None;
     }
 }

@@ -1,14 +1,17 @@
-//! The cascade of revocations by a list of work: only who is in it is rechecked, least first.
+//! The cascade of revocations by a list of work: only who is in it is rechecked, least first. Of each list of sessions that are judged
+//! alike at most the first is in it, and is judged for all.
 
-ghost use Rattle.std.specs.Prelude.{◌≡◌, ◌+◌, ◌≤◌, ◌∷◌, [], ◌++◌, ℕ, false, Some, IfNone, IfOk, IfSome, OnOk, List};
+ghost use Rattle.std.specs.Prelude.{◌≡◌, ◌≢◌, ◌↔◌, ◌⊎◌, ◌+◌, ◌≤◌, ◌∷◌, [], ◌++◌, ℕ, false, Some, IfNone, IfOk, IfSome, OnOk, List};
+ghost use Rattle.std.specs.List.{Contains};
 ghost use Rattle.ucon_model.specs.Action.{extended};
 ghost use Rattle.ucon_model.specs.Settle.{fails_at, least_failing, revocation, settle, revoked_in};
 ghost use Rattle.ucon_actions.specs.Leads.{AfterEach, IsFollowing, KeepsBase, Leads};
-ghost use Rattle.ucon_cascade.specs.Cascading.{CoversEach, work_of};
-ghost use Rattle.ucon_model.specs.Work.{Covers, joined, only};
+ghost use Rattle.ucon_cascade.specs.Cascading.{IsWork};
+ghost use Rattle.ucon_cascade.specs.Grouping.{AreGrouped};
+ghost use Rattle.ucon_cascade.specs.Leaving.{IsNext, LeavesList};
 ghost use Rattle.ucon_cascade.specs.Numbering.{IsExact};
-ghost use Rattle.ucon_cascade.specs.Putting.{GoesOn};
-ghost use Rattle.ucon_cascade.specs.Readers.{UndoGives, readers_at};
+ghost use Rattle.ucon_cascade.specs.Putting.{AllBelow, GoesOn};
+ghost use Rattle.ucon_cascade.specs.Readers.{UndoGives, first_of, readers_at};
 ghost use Rattle.ucon_cascade.specs.Paid.{CostsItsTouches, StayPaid, StayPaidRevoking};
 ghost use Rattle.ucon_model.specs.Readings.{is_accessing};
 ghost use Rattle.ucon_cascade.specs.Timers.{AreTimely, UndoGives as TimersGive};
@@ -27,9 +30,9 @@ use ucon_actions::{accessing, is_accessing, revoke, session_state};
 use ucon_base::{Name, NoMemory, Rows, Steps};
 use ucon_eval::{failing, typed_tests_make_no_set};
 use ucon_model::{
-    Revoked, When, actions_are_done_in_order, covering_work_has_the_least,
-    heads_tell_whose_usage_begins_or_ends, judgements_are_paid_for, readings_that_agree_are_one,
-    turns_follow_each_other, updates_write_their_targets, work_is_read_off_afterwards,
+    Revoked, When, actions_are_done_in_order, firsts_go_on_covering, firsts_have_the_least,
+    heads_tell_whose_usage_begins_or_ends, judgements_are_paid_for, one_judgement_serves_all_alike,
+    readings_that_agree_are_one, turns_follow_each_other, updates_write_their_targets,
 };
 use ucon_pend::Pend;
 use ucon_state::{
@@ -37,7 +40,7 @@ use ucon_state::{
 };
 
 /// The label by which session n fails, if it is accessing. Only then it is judged.
-fn fails_at(state: &State, n: u32, steps: &mut Steps) -> Option<Name>
+pub fn fails_at(state: &State, n: u32, steps: &mut Steps) -> Option<Name>
     requires { IsFollowing (shown state.now) }
     ensures label { AfterEach (shown state.now) (λ P T. fails_at P T n ≡ result) }
     ensures once { steps.new ≤ steps.old + 1 }
@@ -55,17 +58,20 @@ fn fails_at(state: &State, n: u32, steps: &mut Steps) -> Option<Name>
 /// Takes sessions out of the work, least first, up to one that fails: the least of all. Where there is none, the work is done.
 fn next_failing(state: &State, work: &mut Pend, steps: &mut Steps) -> Option<(u32, Name)>
     requires following { IsFollowing (shown state.now) }
-    requires covers { CoversEach (shown state.now) work.old.members }
+    requires work { (first : ℕ → ℕ) × IsWork (shown state.now) first work.old.members }
     ensures least { AfterEach (shown state.now) (λ P T. least_failing P T ≡ result) }
-    ensures covers { IfSome result (λ found. AfterEach (shown state.now) (λ P T. Covers P T (joined (only found.0) (work_of work.new.members)))) }
+    ensures work { IfSome result (λ found. (first : ℕ → ℕ) → IsWork (shown state.now) first work.old.members
+        → IsWork (shown state.now) first (found.0 ∷ work.new.members)) }
     ensures done { IfNone result (work.new.members ≡ []) }
     ensures fails { IfSome result (λ found. AfterEach (shown state.now) (λ P T. fails_at P T found.0 ≡ Some found.1)) }
-    ensures paid { IfNone result (StayPaid (shown state.now) work.old.members work.new.members steps.old steps.new) }
-    ensures found { IfSome result (λ found.
-        StayPaid (shown state.now) work.old.members (found.0 ∷ work.new.members) (steps.old + 1) steps.new) }
+    ensures paid { IfNone result ((first : ℕ → ℕ) → IsWork (shown state.now) first work.old.members
+        → StayPaid (shown state.now) first work.old.members work.new.members steps.old steps.new) }
+    ensures found { IfSome result (λ found. (first : ℕ → ℕ) → IsWork (shown state.now) first work.old.members
+        → StayPaid (shown state.now) first work.old.members (found.0 ∷ work.new.members) (steps.old + 1) steps.new) }
     ensures limit { work.new.limit ≡ work.old.limit }
 {
-    covering_work_has_the_least();
+    firsts_go_on_covering();
+    firsts_have_the_least();
     judgements_are_paid_for();
     while let Some(n) = work.pop_least() {
         if let Some(label) = fails_at(state, n, steps) {
@@ -75,7 +81,25 @@ fn next_failing(state: &State, work: &mut Pend, steps: &mut Steps) -> Option<(u3
     None
 }
 
-/// Revokes session n, notes it, and puts into the work who reads where its updates wrote.
+/// Takes session n out of its list, and puts the next of the list into the work where it was the first.
+fn leave_list(readers: &mut Readers, n: u32, work: &mut Pend) -> Result<(), NoMemory>
+    requires { AllBelow (readers_at readers.old) work.old.limit }
+    ensures read { OnOk result ((m place : ℕ) → Contains (readers_at readers.new place) m ↔ ((m ≢ n) × Contains (readers_at readers.old place) m)) }
+    ensures leaves { OnOk result (LeavesList (first_of readers.old) (first_of readers.new) n) }
+    ensures stands { OnOk result ((m : ℕ) → IsNext (first_of readers.old) (first_of readers.new) n m
+        → (place : ℕ) × Contains (readers_at readers.old place) m) }
+    ensures members { OnOk result ((m : ℕ) → Contains work.new.members m
+        ↔ (IsNext (first_of readers.old) (first_of readers.new) n m ⊎ Contains work.old.members m)) }
+    ensures undo { (standing : ℕ → List ℕ) (first : ℕ → ℕ) → UndoGives readers.old standing first → UndoGives readers.new standing first }
+    ensures limit { work.new.limit ≡ work.old.limit }
+{
+    if let Some(next) = readers.hide(n)? {
+        work.put(next);
+    }
+    Ok(())
+}
+
+/// Revokes session n, notes it, and puts into the work who reads where its updates wrote, and the next of its list.
 fn revoke_next(
     alloc: Global,
     state: &mut State,
@@ -89,19 +113,20 @@ fn revoke_next(
     requires following { IsFollowing (shown state.old) }
     requires least { AfterEach (shown state.old) (λ P T. least_failing P T ≡ Some (n, label)) }
     requires fails { AfterEach (shown state.old) (λ P T. fails_at P T n ≡ Some label) }
-    requires covers { AfterEach (shown state.old) (λ P T. Covers P T (joined (only n) (work_of work.old.members))) }
+    requires work { IsWork (shown state.old) (first_of readers.old) (n ∷ work.old.members) }
     requires exact { IsExact (shown state.old) (readers_at readers.old) }
     requires limit { work.old.limit ≡ 1048577 }
     ensures leads { OnOk result (Leads (shown state.old) (shown state.new) (λ P T. extended T (revocation P T (n, label)))) }
     ensures revoked { OnOk result (revoked.new.items ≡ revoked.old.items ++ record { session = n; label = label } ∷ []) }
-    ensures covers { OnOk result (CoversEach (shown state.new) work.new.members) }
+    ensures work { OnOk result (IsWork (shown state.new) (first_of readers.new) work.new.members) }
     ensures exact { OnOk result (IsExact (shown state.new) (readers_at readers.new)) }
-    ensures undo { (standing : ℕ → List ℕ) → UndoGives readers.old standing → UndoGives readers.new standing }
+    ensures undo { (standing : ℕ → List ℕ) (first : ℕ → ℕ) → UndoGives readers.old standing first → UndoGives readers.new standing first }
     ensures timed { OnOk result ((P : PlainPolicy) (T : Trace) → Follows (shown state.old) P T → AreTimely timers.old.wheel P T
         → AreTimely timers.new.wheel P (extended T (revocation P T (n, label)))) }
     ensures timers_undo { (before : Deadlines) → TimersGive timers.old before → TimersGive timers.new before }
     ensures fewer { OnOk result ((m : ℕ) → GoesOn (shown state.new) m → GoesOn (shown state.old) m) }
-    ensures paid { OnOk result (StayPaidRevoking (shown state.old) (n, label) work.old.members work.new.members) }
+    ensures paid { OnOk result (StayPaidRevoking (shown state.old) (n, label)
+        (first_of readers.old) work.old.members (first_of readers.new) work.new.members) }
     ensures limit { work.new.limit ≡ work.old.limit }
     ensures base { KeepsBase (shown state.old) (shown state.new) }
 {
@@ -109,13 +134,14 @@ fn revoke_next(
     readings_that_agree_are_one();
     sessions_are_few();
     tables_keep_what_is_followed();
+    firsts_go_on_covering();
     judgements_are_paid_for();
+    one_judgement_serves_all_alike();
     updates_write_their_targets();
     cells_are_of_one_attribute();
-    work_is_read_off_afterwards();
     revoke(alloc, state, n, label)?;
     revoked.push(Revoked { session: n, label })?;
-    readers.hide(n);
+    leave_list(readers, n, work)?;
     timers.hide_all(n)?;
     put_targets(state, readers, n, When::AfterRevoke, work);
     Ok(())
@@ -131,18 +157,19 @@ pub fn settle(
     steps: &mut Steps,
 ) -> Result<Rows<Revoked>, NoMemory>
     requires following { IsFollowing (shown state.old) }
-    requires covers { CoversEach (shown state.old) work.old.members }
+    requires work { IsWork (shown state.old) (first_of readers.old) work.old.members }
     requires exact { IsExact (shown state.old) (readers_at readers.old) }
     requires limit { work.old.limit ≡ 1048577 }
     ensures leads { OnOk result (Leads (shown state.old) (shown state.new) (λ P T. extended T (settle P T))) }
     ensures revoked { IfOk result (λ revoked. AfterEach (shown state.old) (λ P T. revoked.items ≡ revoked_in (settle P T))) }
     ensures exact { OnOk result (IsExact (shown state.new) (readers_at readers.new)) }
-    ensures undo { (standing : ℕ → List ℕ) → UndoGives readers.old standing → UndoGives readers.new standing }
+    ensures grouped { OnOk result (AreGrouped (shown state.new) (first_of readers.new)) }
+    ensures undo { (standing : ℕ → List ℕ) (first : ℕ → ℕ) → UndoGives readers.old standing first → UndoGives readers.new standing first }
     ensures done { OnOk result (work.new.members ≡ []) }
     ensures timed { OnOk result ((P : PlainPolicy) (T : Trace) → Follows (shown state.old) P T → AreTimely timers.old.wheel P T
         → AreTimely timers.new.wheel P (extended T (settle P T))) }
     ensures timers_undo { (before : Deadlines) → TimersGive timers.old before → TimersGive timers.new before }
-    ensures cost { CostsItsTouches (shown state.old) work.old.members steps.old steps.new }
+    ensures cost { CostsItsTouches (shown state.old) (first_of readers.old) work.old.members steps.old steps.new }
     ensures limit { work.new.limit ≡ work.old.limit }
     ensures base { KeepsBase (shown state.old) (shown state.new) }
 {

@@ -1,7 +1,7 @@
 //! The deadlines of usages that go on, and what a draft has changed of them.
 
-ghost use Rattle.std.specs.Prelude.{◌≡◌, ◌↔◌, ◌⊎◌, ◌+◌, ◌≤ℤ◌, ◌<ℤ◌, [], ℕ, ℤ, IfOk, IfSome, IfNone, OnOk, OnErr, None, length};
-ghost use Rattle.ucon_wheel.specs.Deadlines.{Deadlines, shown};
+ghost use Rattle.std.specs.Prelude.{◌≡◌, ◌↔◌, ◌⊎◌, ◌+◌, ◌≤ℤ◌, ◌<ℤ◌, [], ℕ, ℤ, IfOk, IfSome, IfNone, OnOk, OnErr, None, IsTrue, length};
+ghost use Rattle.ucon_wheel.specs.Deadlines.{Deadlines, IsBehind, IsShown, Pair, shown};
 ghost use Rattle.ucon_cascade.specs.Timers.{CanUndo, undone};
 
 use std::alloc::Global;
@@ -57,12 +57,30 @@ impl Timers {
         })
     }
 
+    /// Whether a session has this deadline.
+    pub fn has(&self, session: u32, deadline: i64) -> bool
+        ensures { IsTrue result ↔ HasDeadline self.now.wheel session deadline }
+    {
+        self.wheel.has(session, deadline)
+    }
+
+    /// The first deadline behind this one, with its session: the earlier first, and of one tick that of the lower session.
+    pub fn behind(&self, session: u32, deadline: i64) -> Option<(i64, u32)>
+        ensures there { IfSome result (λ p. IsShown self.now.wheel p × IsBehind (deadline, session) p) }
+        ensures least { IfSome result (λ p. (q : Pair) → IsShown self.now.wheel q → IsBehind (deadline, session) q → (q ≡ p) ⊎ IsBehind p q) }
+        ensures none { IfNone result ((q : Pair) → IsShown self.now.wheel q → IsBehind (deadline, session) q → ⊥) }
+    {
+        self.wheel.behind(session, deadline)
+    }
+
     /// Gives a session a deadline, if it hasn't it.
     pub fn put(&mut self, session: u32, deadline: i64) -> Result<(), NoMemory>
         requires { IsHidden self.old.wheel session deadline → ⊥ }
         ensures gets { OnOk result (Gets self.old.wheel self.new.wheel session (λ d. d ≡ deadline)) }
         ensures hidden { HidesNoMore self.old.wheel self.new.wheel }
         ensures below { (tick : ℤ) → tick ≤ℤ deadline → count_below self.new.wheel tick ≡ count_below self.old.wheel tick }
+        ensures err { OnErr result (self.new.wheel ≡ self.old.wheel) }
+        ensures replaced { self.new.replaced ≡ self.old.replaced }
         ensures undo { (before : Deadlines) → UndoGives self.old before → UndoGives self.new before }
     {
         if self.wheel.is_there(session, deadline) {
@@ -82,6 +100,7 @@ impl Timers {
         ensures fewer { OnOk result (length (shown self.new.wheel) + 1 ≡ length (shown self.old.wheel)) }
         ensures below { OnOk result ((tick : ℤ) → deadline <ℤ tick → count_below self.new.wheel tick + 1 ≡ count_below self.old.wheel tick) }
         ensures err { OnErr result (self.new.wheel ≡ self.old.wheel) }
+        ensures replaced { self.new.replaced ≡ self.old.replaced }
         ensures undo { (before : Deadlines) → UndoGives self.old before → UndoGives self.new before }
     {
         self.changes.reserve(1)?;

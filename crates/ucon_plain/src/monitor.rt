@@ -12,13 +12,15 @@ ghost use Rattle.ucon_model.specs.Views.{reply_of};
 ghost use Rattle.ucon_plain.specs.Cascading.{AreActionsOf};
 ghost use Rattle.ucon_state.specs.Engine.{FollowsLike, IsIdle};
 
+use crate::settle::least_failing;
 use crate::step::take_step;
 use std::alloc::Global;
 use ucon_base::{NoMemory, Steps};
 use ucon_model::{
     Caller, Checked, Command, Reply, SessionState, blocks_are_legal, settling_is_the_only_cascade,
+    the_least_failing_is_found,
 };
-use ucon_state::{Drafted, Engine, State, each_action_is_followed};
+use ucon_state::{Drafted, Engine, RestoreFault, State, each_action_is_followed};
 
 /// It rechecks every accessing session after each change, as the definitions do.
 #[derive(Drop)]
@@ -61,6 +63,23 @@ impl Engine for PlainMonitor {
 
     fn status(&self, session: u32) -> Option<SessionState> {
         self.state.session_state(session)
+    }
+
+    fn state(&self) -> &State {
+        &self.state
+    }
+
+    fn into_state(self) -> State {
+        self.state
+    }
+
+    fn restore(alloc: Global, state: State) -> Result<PlainMonitor, RestoreFault> {
+        the_least_failing_is_found();
+        let mut steps = Steps::new();
+        match least_failing(&state, &mut steps) {
+            Some(found) => Err(RestoreFault::Unsettled(found.0, found.1)),
+            None => Ok(PlainMonitor { alloc, state }),
+        }
     }
 }
 

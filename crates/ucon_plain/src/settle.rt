@@ -28,7 +28,7 @@ fn fails_at(state: &State, n: u32, steps: &mut Steps) -> Option<Name>
 }
 
 /// The least accessing session that fails, with its label.
-fn least_failing(state: &State, steps: &mut Steps) -> Option<(u32, Name)>
+pub fn least_failing(state: &State, steps: &mut Steps) -> Option<(u32, Name)>
     requires { IsFollowing (shown state.now) }
     ensures { AfterEach (shown state.now) (λ P T. least_failing P T ≡ result) }
 {

@@ -1,22 +1,19 @@
 -- The tables of a state under a policy that replaces another, and the names of its rights.
-use Rattle.std.proofs.Common.{◌≡◌, ◌∙◌, ◌≤◌, ◌<◌, ◌+◌, ◌^◌, ◌⊎◌, inl, inr, ℕ, zero, suc, refl, sym, ap, subst, List, [], ◌∷◌, ◌++◌, length, map, drop, position, slice_get, slice_index_or, Contains, Bool, true, false, is_some, Option, Some, None, unwrap_or, cond, arith}
-use Rattle.std.specs.Option.{option_map_or}
+use Rattle.std.proofs.Common.{◌≡◌, ◌∙◌, ◌≤◌, ◌<◌, ◌+◌, ◌^◌, ◌⊎◌, inl, inr, ℕ, zero, suc, refl, sym, ap, subst, List, [], ◌∷◌, ◌++◌, length, map, drop, position, slice_get, slice_index_or, Bool, true, false, is_some, Option, Some, None, unwrap_or, cond, arith}
 use Rattle.std.specs.Str.{bytes_eq}
 use Rattle.std.proofs.lemmas.List.{drop_all, length-append, length-map, length_push}
-use Rattle.ucon_base.specs.declared.value.Side.{Side}
 use Rattle.ucon_base.specs.declared.value.Side.TheVariants as sides
 use Rattle.ucon_base.specs.declared.value.Value.{Value}
 use Rattle.ucon_model.specs.Plain.{Bytes, PlainPolicy, PlainRight}
 use Rattle.ucon_model.specs.declared.policy.Right.{Right}
 use Rattle.ucon_model.specs.Views.{right_of}
-use Rattle.ucon_model.specs.Readings.{attrs_of}
 use Rattle.ucon_model.specs.Decision.{right_named}
 use Rattle.ucon_state.specs.declared.change.Undo.{Undo}
 use Rattle.ucon_state.specs.declared.session.Session.{Session}
 use Rattle.ucon_state.specs.Applied.{all_kept_cells, laid_from, kept_variable, amended}
-use Rattle.ucon_state.specs.Shown.{Shown, showing}
+use Rattle.ucon_state.specs.Shown.{showing}
 use Rattle.ucon_state.specs.Sound.{CellsAreThere, IsSound, HasRights, IsKept, AllSound}
-use Rattle.ucon_state.specs.Stored.{Stored, NumbersAreBelow, AreDistinct, AreNumbered, name_at, right_at, row_of, named}
+use Rattle.ucon_state.specs.Stored.{Stored, AreDistinct, AreNumbered, name_at, right_at, row_of, named}
 use Rattle.ucon_state.specs.Tables.{width}
 use Rattle.ucon_state.specs.Undo.{all_undone, policy_before, policy_undone, tables_before}
 use Rattle.ucon_state.proofs.Following.Amending.{names-laid, length-laid, room, room_kept}

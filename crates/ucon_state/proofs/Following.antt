@@ -10,3 +10,5 @@ pub mod Amending
 pub mod Variables
 pub mod Keeping
 pub mod LegalTraces
+pub mod Putting
+pub mod Alike

@@ -1,5 +1,5 @@
 -- Entities are laid one after the other.
-use Rattle.std.proofs.Common.{◌≡◌, ◌∙◌, ◌<◌, ◌≤◌, ◌+◌, ℕ, zero, suc, Bool, true, false, cond, refl, sym, ap, subst, List, [], ◌∷◌, ◌++◌, length, map, filter, drop, position, slice_get, Option, Some, None, option_map, arith, append_assoc}
+use Rattle.std.proofs.Common.{◌≡◌, ◌∙◌, ◌<◌, ◌≤◌, ◌+◌, ℕ, zero, suc, Bool, true, false, cond, refl, sym, ap, List, [], ◌∷◌, ◌++◌, length, map, filter, drop, position, slice_get, Option, Some, None, option_map, arith, append_assoc}
 use Rattle.std.proofs.lemmas.List.{append-nil, drop_all, length-append, length-map}
 use Rattle.std.proofs.lemmas.Option.{get_or_from_slice_get, slice_get_within}
 use Rattle.indexmap.specs.IndexMap.{insert_entry}

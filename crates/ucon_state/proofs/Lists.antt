@@ -1,5 +1,5 @@
 -- Lists that are changed and changed back.
-use Rattle.std.proofs.Common.{◌≡◌, ◌∙◌, ◌-◌, ◌+◌, IsSome, cond, if◌then◌else◌, true, false, ◌≤◌, Bool, map, None, unwrap_or, position, ℕ, zero, suc, refl, sym, ap, List, [], ◌∷◌, ◌++◌, length, take, slice_get, slice_set, get_or, Some, arith}
+use Rattle.std.proofs.Common.{◌≡◌, ◌∙◌, ◌-◌, ◌+◌, IsSome, is_some, cond, if◌then◌else◌, true, false, ◌≤◌, Bool, map, None, unwrap_or, position, ℕ, zero, suc, refl, sym, ap, List, [], ◌∷◌, ◌++◌, length, take, slice_get, slice_set, get_or, Some, arith}
 use Rattle.std.proofs.lemmas.List.{length-append, set-set, set-get_or}
 use Rattle.std.proofs.Math.Seq.{take-append_seam}
 use Rattle.std.specs.Map.{keys_of, lookup}
@@ -7,6 +7,8 @@ use Rattle.indexmap.specs.IndexMap.{insert_entry}
 use Rattle.indexmap.proofs.MapLemmas.{Found-position, Missing-position, insert_entry-first, insert_entry-absent}
 use Rattle.indexmap.specs.Layout.{set_value_at}
 use Rattle.ucon_state.specs.Undo.{front}
+use Rattle.ucon_state.proofs.Following.Names.{not_placed}
+use Rattle.ucon_state.proofs.Following.Places.{placed_where_found}
 
 -- without what was added last
 pub front_of_push : {X : Type 0} (xs : List X) (x : X) → front (xs ++ x ∷ []) ≡ xs
@@ -37,6 +39,9 @@ inserted_at eq es k x i at = insert_entry-first eq k x es i (Found-position (eq 
 -- and one that isn't comes behind the others
 pub inserted_last : {K X : Type 0} (eq : K → K → Bool) (es : List (K × X)) (k : K) (x : X) → position (eq k) (keys_of es) ≡ None → insert_entry eq es k x ≡ es ++ (k, x) ∷ []
 inserted_last eq es k x none = insert_entry-absent eq k x es (Missing-position (eq k) es none).absent
+
+pub added_last : {K X : Type 0} (eq : K → K → Bool) (es : List (K × X)) (k : K) (x : X) → lookup (eq k) es ≡ None → insert_entry eq es k x ≡ es ++ (k, x) ∷ []
+added_last eq es k x none = inserted_last eq es k x (not_placed (position (eq k) (keys_of es)) (placed_where_found (eq k) es ∙ ap is_some none))
 
 -- a row that is there keeps its place, and one that isn't is one more
 pub inserted_length : {K X : Type 0} (eq : K → K → Bool) (es : List (K × X)) (k : K) (x : X) → length (insert_entry eq es k x) ≤ length es + 1

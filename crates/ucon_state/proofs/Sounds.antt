@@ -12,7 +12,7 @@ use Rattle.ucon_state.specs.declared.act.Act.{Act}
 use Rattle.ucon_model.specs.Readings.{attrs_of}
 use Rattle.ucon_state.specs.Tables.{TablesOf, entities_of, same_act}
 use Rattle.ucon_state.proofs.Lists.{inserted_length, kept_length}
-use Rattle.ucon_state.specs.Applied.{opening_of, defaults_of, with_entity, with_cell, with_variable, with_tick, with_act, with_new_session}
+use Rattle.ucon_state.specs.Applied.{opening_of, defaults_of, with_entity, with_cell, with_variable, with_tick, with_act, with_new_act, with_new_session}
 use Rattle.ucon_state.specs.Sound.{IsSound, CellsAreThere}
 
 -- what one item contains is that item
@@ -60,6 +60,9 @@ module _ {S : Type 0} (P : PlainPolicy) (t : TablesOf S) (s : IsSound P t) where
       by : IsSome (lookup (same_act a) t.acts) ⊎ (length t.acts < 1048576) → length (insert_entry same_act t.acts a t.tick) ≤ 1048576
       by (inl there) = subst (λ n. n ≤ 1048576) (sym (kept_length same_act t.acts a t.tick there)) s.acts
       by (inr few) = omega (arith, few, inserted_length same_act t.acts a t.tick)
+
+  pub new_act_sound : (a : Act) (moment : ℤ) → length t.acts < 1048576 → IsSound P (with_new_act t a moment)
+  new_act_sound a moment room = record { subjects = s.subjects; objects = s.objects; acts = omega (arith, room, length-append t.acts ((a, moment) ∷ [])); sessions = s.sessions; cells = s.cells; variables = s.variables; subject_cells = s.subject_cells; object_cells = s.object_cells }
 
   -- the cells of a new entity are there, and those of the others still are
   more_cells : (side : Side) (values : List Value) → CellsAreThere P t side → (e : Bytes × ℕ) → Contains (entities_of side t) e → e.1 + length (attrs_of P side) ≤ length (t.cells ++ values)

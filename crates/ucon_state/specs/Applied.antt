@@ -50,6 +50,10 @@ with_tick t now = record t { tick = now }
 abbrev pub with_act : {S : Type 0} → TablesOf S → Act → TablesOf S
 with_act t a = record t { acts = insert_entry same_act t.acts a t.tick }
 
+-- with an act behind the others that was done at this moment
+abbrev pub with_new_act : {S : Type 0} → TablesOf S → Act → ℤ → TablesOf S
+with_new_act t a moment = record t { acts = t.acts ++ (a, moment) ∷ [] }
+
 -- with a new session behind the others
 abbrev pub with_new_session : {S : Type 0} → TablesOf S → S → TablesOf S
 with_new_session t session = record t { sessions = t.sessions ++ session ∷ [] }

@@ -96,6 +96,16 @@ pub record Follows (s : Shown) (P : PlainPolicy) (T : Trace) : Type 0 where
   pub tables : TablesFollow P s.tables T
   pub sound : IsSound P T
 
+-- the state follows some trace that began under some policy
+pub record IsFollowing (s : Shown) : Type 0 where
+  pub policy : PlainPolicy
+  pub trace : Trace
+  pub follows : Follows s policy trace
+
+-- it holds after each trace that the state follows
+abbrev pub AfterEach : Shown → (PlainPolicy → Trace → Type 0) → Type 0
+AfterEach s Q = (P : PlainPolicy) (T : Trace) → Follows s P T → Q P T
+
 -- Tables under a policy give to read what a trace does, and count what it counts. The entities of a side stand in the order in which
 -- they were first made, each under one number; an attribute has a cell where its entity is there and it is declared for the side.
 pub record Keeps (Q : PlainPolicy) (t : Tables) (P : PlainPolicy) (T : Trace) : Type 0 where

@@ -1,15 +1,15 @@
 -- All that is there to be listed: after a trace, and in a state.
-use Rattle.std.specs.Prelude.{ℕ, ℤ, List, length, map, Option}
+use Rattle.std.specs.Prelude.{◌≡◌, ℕ, ℤ, List, length, map, Option}
 use Rattle.ucon_base.specs.declared.value.Side.{Side}
 use Rattle.ucon_base.specs.declared.value.Value.{Value}
 use Rattle.ucon_model.specs.declared.session.SessionRow.{SessionRow}
 use Rattle.ucon_model.specs.Plain.{Bytes, PlainPolicy}
 use Rattle.ucon_model.specs.Action.{Trace}
-use Rattle.ucon_model.specs.Readings.{in_force, tick_of, entity_names, attribute, variable, moment, act_rows, session, sessions}
+use Rattle.ucon_model.specs.Readings.{in_force, tick_of, entities, entity_names, attribute, variable, moment, act_rows, session, sessions}
 use Rattle.ucon_state.specs.declared.held.ActRow.{ActRow}
 use Rattle.ucon_state.specs.declared.state.State.{State}
 use Rattle.ucon_state.specs.Following.{row_of}
-use Rattle.ucon_state.specs.Shown.{shown}
+use Rattle.ucon_state.specs.Shown.{Shown, shown}
 use Rattle.ucon_state.specs.Tables.{Tables, entities_of, attribute_in, variable_in, moment_in, session_in}
 
 -- The policy in force; the entities of each side in the order in which they were made; what an attribute of an entity holds, and a
@@ -57,6 +57,11 @@ held_in Q t = record {
 -- what is there in a state
 abbrev pub held : State → Held
 held s = held_in (shown s).policy (shown s).tables
+
+-- The trace gives to read what the state does: the same is there after it, and no entity was made twice.
+pub record ReadsAlike (s : Shown) (P : PlainPolicy) (T : Trace) : Type 0 where
+  pub held_alike : held_in s.policy s.tables ≡ held_after P T
+  pub made_once : (side : Side) → entities side T ≡ length (entity_names side T)
 
 -- the three names of an act
 abbrev pub names_of : ActRow → Bytes × Bytes × Bytes

@@ -8,3 +8,4 @@ pub mod Shown
 pub mod Following
 pub mod Engine
 pub mod Held
+pub mod Putting

@@ -9,8 +9,12 @@ ghost use Rattle.ucon_model.specs.Plain.{PlainPolicy};
 ghost use Rattle.ucon_model.specs.History.{changes};
 ghost use Rattle.ucon_model.specs.Settle.{fails_at};
 ghost use Rattle.ucon_model.specs.Views.{reply_of};
-ghost use Rattle.ucon_state.specs.Engine.{FollowsLike, IsIdle, IsPending, state_of};
+ghost use Rattle.ucon_state.specs.Engine.{CanBeTakenUp, FollowsLike, HasNothingToUndo, IsIdle, IsPending, TakesUp, state_of};
+ghost use Rattle.ucon_state.specs.Following.{Follows};
+ghost use Rattle.ucon_state.specs.Shown.{shown};
 
+use crate::restore_fault::RestoreFault;
+use crate::state::State;
 use std::alloc::Global;
 use ucon_base::{NoMemory, Steps};
 use ucon_model::{Caller, Checked, Command, Reply, SessionState};
@@ -65,4 +69,21 @@ pub trait Engine: Drop {
         ensures idle { (P : PlainPolicy) (T : Trace) → follows self.now P T → result ≡ state_of T session }
         ensures pending { (P : PlainPolicy) (T : Trace) (e : Entry) → has_pending self.now P T e
             → result ≡ state_of (after P T e.caller e.command) session };
+
+    /// What is there now. A pending change counts.
+    fn state(&self) -> &State
+        ensures idle { (P : PlainPolicy) (T : Trace) → follows self.now P T → Follows (shown result.now) P T }
+        ensures pending { (P : PlainPolicy) (T : Trace) (e : Entry) → has_pending self.now P T e
+            → Follows (shown result.now) P (after P T e.caller e.command) };
+
+    /// Gives the state out. It takes no memory.
+    fn into_state(self) -> State
+        requires { IsIdle follows self }
+        ensures follows { (P : PlainPolicy) (T : Trace) → follows self P T → Follows (shown result) P T }
+        ensures settled { HasNothingToUndo (shown result) };
+
+    /// Goes on from a state, as an engine that is after a trace which gives the same to read.
+    fn restore(alloc: Global, state: State) -> Result<Self, RestoreFault>
+        requires { CanBeTakenUp (shown state) }
+        ensures { TakesUp follows (shown state) result };
 }

@@ -1,6 +1,6 @@
 //! Laws of the tables. A law is a function without parameters that does nothing: its contract is what is proved.
 
-ghost use Rattle.std.specs.Prelude.{◌≡◌, ◌≤◌, ℕ, List, [], ◌∷◌, length, Some, false};
+ghost use Rattle.std.specs.Prelude.{◌≡◌, ◌↔◌, ◌≤◌, ℕ, List, [], ◌∷◌, length, Some, false};
 ghost use Rattle.ucon_base.specs.declared.value.Side.{Side};
 ghost use Rattle.ucon_model.specs.Plain.{Bytes, PlainPolicy};
 ghost use Rattle.ucon_model.specs.Action.{Action, Trace, extended};
@@ -10,10 +10,14 @@ ghost use Rattle.ucon_model.specs.Typing.{IsTyped};
 ghost use Rattle.ucon_model.specs.History.{History, AreCommands, trace};
 ghost use Rattle.ucon_model.specs.Reach.{replaces};
 ghost use Rattle.ucon_state.specs.Tables.{cell_of};
-ghost use Rattle.ucon_state.specs.Applied.{applied, opening_tables, tables_of};
+ghost use Rattle.ucon_state.specs.Applied.{applied, opening_tables, tables_of, with_new_session};
 ghost use Rattle.ucon_state.specs.declared.state.State.{State};
-ghost use Rattle.ucon_state.specs.Following.{Follows, IsLegalTrace, Keeps, all_applied};
-ghost use Rattle.ucon_state.specs.Shown.{Shown, changed_by, shown};
+ghost use Rattle.ucon_state.specs.Held.{ReadsAlike};
+ghost use Rattle.ucon_state.specs.Putting.{MayPutAct, MayPutSession, with_act_row};
+ghost use Rattle.ucon_state.specs.declared.held.ActRow.{ActRow};
+ghost use Rattle.ucon_model.specs.declared.session.SessionRow.{SessionRow};
+ghost use Rattle.ucon_state.specs.Following.{Follows, IsFollowing, IsLegalTrace, Keeps, all_applied};
+ghost use Rattle.ucon_state.specs.Shown.{Shown, changed_by, changed_to, shown};
 
 use ucon_model::{blocks_are_legal, legal_actions_keep_traces_sound};
 
@@ -31,6 +35,18 @@ pub fn each_action_is_followed()
 /// cells of attributes, the values, the acts, the sessions, and how many there are of each sort.
 pub fn tables_keep_what_is_followed()
     ensures { (s : Shown) (P : PlainPolicy) (T : Trace) → Follows s P T → Keeps s.policy s.tables P T }
+{}
+
+/// A state that follows some trace follows each that gives the same to read, and no other.
+pub fn states_follow_what_reads_alike()
+    ensures { (s : Shown) (P : PlainPolicy) (T : Trace) → IsFollowing s → Follows s P T ↔ ReadsAlike s P T }
+{}
+
+/// A state that follows some trace still follows one with an act more, or a session, that was put into it.
+pub fn what_is_put_is_followed()
+    ensures acts { (s : Shown) (row : ActRow) → IsFollowing s → MayPutAct s.tables row → IsFollowing (changed_to s (with_act_row s.tables row)) }
+    ensures sessions { (s : Shown) (row : SessionRow) → IsFollowing s → MayPutSession s.tables row
+        → IsFollowing (changed_to s (with_new_session s.tables row)) }
 {}
 
 /// A cell is of one attribute of one entity, and the cells of those that are there stay while the policy in force does.

@@ -9,6 +9,8 @@ mod engine;
 mod held;
 mod laws;
 mod layout;
+mod putting;
+mod restore_fault;
 mod session;
 mod state;
 mod tables;
@@ -19,7 +21,8 @@ pub use engine::{Drafted, Engine};
 pub use held::{ActRow, states_hold_what_they_follow};
 pub use laws::{
     cells_are_of_one_attribute, changes_add_up, each_action_is_followed, legal_traces_go_on,
-    sessions_are_few, tables_keep_the_trace, tables_keep_what_is_followed,
-    traces_of_histories_are_legal,
+    sessions_are_few, states_follow_what_reads_alike, tables_keep_the_trace,
+    tables_keep_what_is_followed, traces_of_histories_are_legal, what_is_put_is_followed,
 };
+pub use restore_fault::RestoreFault;
 pub use state::{CellId, State};

@@ -19,12 +19,13 @@ use crate::act::Act;
 use crate::change::{Before, Undo};
 use crate::counts::Counts;
 use crate::defaults::{attr_defaults, env_defaults, right_names};
+use crate::held::ActRow;
 use crate::layout::Layout;
 use crate::session::Session;
 use crate::tables::Tables;
 use std::alloc::{AllocError, Global};
 use ucon_base::{Int, Name, NoMemory, Side, Value};
-use ucon_model::{Caller, Checked, SessionState};
+use ucon_model::{Caller, Checked, SessionRow, SessionState};
 
 /// The number of a cell.
 pub type CellId = u32;
@@ -43,6 +44,9 @@ pub struct State {
 }
 
 impl State {
+    ghost use Rattle.ucon_state.specs.Applied.{with_new_session};
+    ghost use Rattle.ucon_state.specs.Putting.{MayPutAct, MayPutSession, with_act_row};
+    ghost use Rattle.ucon_state.specs.Stored.{row_of};
     ghost use Rattle.ucon_state.specs.Shown.{shown, changed_by, changed_to, given_back, kept, right_names, right_name, subject_name, object_name, AreThere};
 
     /// No entities, each variable at its default, tick 0.
@@ -224,17 +228,71 @@ impl State {
         ensures number { IfOk result (λ n. n ≡ length (shown self.old).tables.sessions + 1) }
         ensures err { OnErr result (shown self.new ≡ shown self.old) }
     {
-        self.changes.reserve(1)?;
-        let change = self.tables.add_session(Session {
+        self.push_session(Session {
             caller,
             state: SessionState::Requesting,
             right,
             subject,
             object,
             start: Int::zero(),
-        })?;
+        })
+    }
+
+    /// Adds a session with these numbers, and gives its own, from 1.
+    fn push_session(&mut self, session: Session) -> Result<u32, NoMemory>
+        requires few { length (shown self.old).tables.sessions < 1048576 }
+        requires there { AreThere self.old session.right session.subject session.object }
+        ensures ok { OnOk result (shown self.new ≡ changed_to (shown self.old) (with_new_session (shown self.old).tables
+            (row_of (right_names self.old) (shown self.old).tables.subjects (shown self.old).tables.objects session))) }
+        ensures number { IfOk result (λ n. n ≡ length (shown self.old).tables.sessions + 1) }
+        ensures err { OnErr result (shown self.new ≡ shown self.old) }
+    {
+        self.changes.reserve(1)?;
+        let change = self.tables.add_session(session)?;
         self.changes.push_reserved(Undo::Changed(change));
         Ok(self.tables.sessions.len() as u32)
+    }
+
+    /// Puts an act behind the others, with the tick at which it was last done.
+    pub fn put_act(&mut self, row: ActRow) -> Result<(), NoMemory>
+        requires { MayPutAct (shown self.old).tables row }
+        ensures ok { OnOk result (shown self.new ≡ changed_to (shown self.old) (with_act_row (shown self.old).tables row)) }
+        ensures err { OnErr result (shown self.new ≡ shown self.old) }
+    {
+        self.changes.reserve(1)?;
+        let act = Act {
+            subject: row.subject,
+            action: row.action,
+            object: row.object,
+        };
+        let change = self.tables.add_act(act, row.moment)?;
+        self.changes.push_reserved(Undo::Changed(change));
+        Ok(())
+    }
+
+    /// Puts a session behind the others, in its state and with its start, and gives its number, from 1. The policy in force needn't have
+    /// its right any more.
+    pub fn put_session(&mut self, row: SessionRow) -> Result<u32, NoMemory>
+        requires { MayPutSession (shown self.old).tables row }
+        ensures ok { OnOk result (shown self.new ≡ changed_to (shown self.old) (with_new_session (shown self.old).tables row)) }
+        ensures number { IfOk result (λ n. n ≡ length (shown self.old).tables.sessions + 1) }
+        ensures err { OnErr result (shown self.new ≡ shown self.old) }
+    {
+        let right = self.right_number(row.right)?;
+        let Some(subject) = self.find(Side::Subject, &row.subject) else {
+            unreachable!()
+        };
+        let Some(object) = self.find(Side::Object, &row.object) else {
+            unreachable!()
+        };
+        self.push_session(Session {
+            caller: row.caller,
+            state: row.state,
+            right,
+            subject,
+            object,
+            start: row.start,
+        })
     }
 
     /// A session becomes denied, accessing, ended or revoked. Where it becomes accessing, it starts now.
@@ -300,6 +358,19 @@ impl State {
             self.add_right(right.name)?;
         }
         Ok(())
+    }
+
+    /// The number of the right with this name, which sessions may have from now on.
+    fn right_number(&mut self, name: Name) -> Result<u32, NoMemory>
+        ensures shown { shown self.new ≡ shown self.old }
+        ensures named { IfOk result (λ n. right_name self.new n ≡ name) }
+        ensures within { IfOk result (λ n. n < length (right_names self.new)) }
+    {
+        self.add_right(name)?;
+        let Some(number) = number_of(&self.rights, &name) else {
+            unreachable!()
+        };
+        Ok(number as u32)
     }
 
     /// Adds the name of a right, if it isn't there.

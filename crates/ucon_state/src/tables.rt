@@ -30,7 +30,7 @@ pub struct Tables {
 impl Tables {
     ghost use Rattle.std.specs.Prelude.{[], pos};
     ghost use Rattle.ucon_state.specs.Tables.{session_in, moment_in, entities_of, entity_number};
-    ghost use Rattle.ucon_state.specs.Applied.{with_name, with_new_entity, with_cell, with_variable, with_tick, with_act, with_new_session};
+    ghost use Rattle.ucon_state.specs.Applied.{with_name, with_new_entity, with_cell, with_variable, with_tick, with_act, with_new_act, with_new_session};
     ghost use Rattle.ucon_state.specs.Stored.{name_at, with_moved};
     ghost use Rattle.ucon_state.specs.Undo.{undone};
     ghost use Rattle.ucon_state.specs.Views.{lists_of, with_layout};
@@ -198,6 +198,17 @@ impl Tables {
                 Ok(Change::Act)
             }
         }
+    }
+
+    /// Adds an act that isn't there, with its moment.
+    pub fn add_act(&mut self, act: Act, moment: Int) -> Result<Change, NoMemory>
+        requires { moment_in (lists_of self.old) act.subject act.action act.object ≡ None }
+        ensures ok { OnOk result (lists_of self.new ≡ with_new_act (lists_of self.old) act moment) }
+        ensures undone { IfOk result (λ c. undone c (lists_of self.new) ≡ lists_of self.old) }
+        ensures err { OnErr result (lists_of self.new ≡ lists_of self.old) }
+    {
+        self.acts.insert(act, moment)?;
+        Ok(Change::Act)
     }
 
     /// Adds a session.

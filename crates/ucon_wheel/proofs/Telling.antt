@@ -1,16 +1,17 @@
 -- Which pairs are shown once one is put or hidden, or those that are hidden are forgotten; and what the first one tells of the others.
-use Rattle.std.proofs.Common.{◌≡◌, ◌≢◌, ◌⊎◌, ◌↔◌, inl, inr, ℕ, ℤ, ◌≤ℤ◌, ◌<ℤ◌, List, [], ◌∷◌, filter, Some, None, Option, option_map, is_some, Bool, true, false, not, cond, refl, sym, ap, ◌∙◌, subst, arith}
+use Rattle.std.proofs.Common.{◌≡◌, ◌≢◌, ◌⊎◌, ◌↔◌, inl, inr, ℕ, ℤ, ◌<◌, ◌≤ℤ◌, ◌<ℤ◌, List, [], ◌∷◌, filter, Some, None, Option, option_map, is_some, Bool, true, false, not, cond, refl, sym, ap, ◌∙◌, subst, arith}
 use Rattle.std.specs.Prelude.{◌==◌, find, int_lt}
 use Rattle.std.specs.declared.cmp.Ordering.{Ordering}
 use Rattle.std.specs.declared.cmp.Ordering.TheVariants.{Less, Equal, Greater}
 use Rattle.std.specs.Ordering.{is_lt, ordering_then, int_cmp, nat_cmp}
+use Rattle.std.specs.Cmp.{int_cmp_is, nat_cmp_is}
 use Rattle.std.specs.List.{AllByRecursion}
 use Rattle.std.specs.List.Sorted.{IsStrictlySortedBy}
 use Rattle.std.specs.Map.{keys_of, lookup}
 use Rattle.std.proofs.lemmas.Bool.{eqb-true, eqb-false}
-use Rattle.std.proofs.lemmas.Cmp.{int_ranked}
+use Rattle.std.proofs.lemmas.Cmp.{int_ranked, ranked}
 use Rattle.std.proofs.lemmas.Int.{ints}
-use Rattle.ucon_wheel.specs.Deadlines.{Pair, Deadlines, pair_cmp, is_pair, IsShown, put, hide, forget_hidden, shown, later, first_below, due, first_of}
+use Rattle.ucon_wheel.specs.Deadlines.{Pair, Deadlines, pair_cmp, is_pair, IsBehind, IsShown, put, hide, forget_hidden, shown, first, first_behind, later, first_below, due, first_of}
 use Rattle.ucon_wheel.specs.Lines.{Has}
 use Rattle.ucon_wheel.proofs.Linking.{some_of}
 use Rattle.ucon_wheel.proofs.Marking.{pair_same, pair_self, lookup_set, put_other}
@@ -161,6 +162,86 @@ none_below tick (first ∷ rest) sorted none p has = none_first tick first rest 
 
 pub due_rest : (v : Deadlines) (tick : ℤ) (after : Option Pair) → IsInOrder (shown v) → None ≡ due v tick after → after ≡ None → (p : Pair) → IsShown v p → tick ≤ℤ p.0
 due_rest v tick after sorted none all p there = none_below tick (shown v) sorted (none ∙ ap (λ a. due v tick a) all) p (has_shown p v.pairs there)
+
+-- ---- the first pair behind one
+
+-- the order in words
+pub behind_less : (a b : Pair) → IsBehind a b → pair_cmp a b ≡ Less
+behind_less a b (inl earlier) = ap (λ o. ordering_then o (nat_cmp a.1 b.1)) (sym (int_cmp_is a.0 b.0 Less earlier))
+behind_less a b (inr same) =
+    ap (λ o. ordering_then o (nat_cmp a.1 b.1)) (sym (int_cmp_is a.0 b.0 Equal same.0)) ∙ sym (nat_cmp_is a.1 b.1 Less same.1)
+
+pub less_behind : (a b : Pair) → pair_cmp a b ≡ Less → IsBehind a b
+less_behind a b less = by (int_cmp a.0 b.0) refl less
+  where
+    among_one : (o : Ordering) → nat_cmp a.1 b.1 ≡ o → o ≡ Less → a.1 < b.1
+    among_one Less is lower = let low : a.1 < b.1 = ranked a.1 b.1 Less (sym is) in low
+    among_one Equal is lower = let no : ⊥ = cc in absurd no
+    among_one Greater is lower = let no : ⊥ = cc in absurd no
+
+    by : (o : Ordering) → int_cmp a.0 b.0 ≡ o → ordering_then o (nat_cmp a.1 b.1) ≡ Less → IsBehind a b
+    by Less is lower = inl (let before : a.0 <ℤ b.0 = int_ranked a.0 b.0 Less (sym is) in before)
+    by Equal is lower = inr ((let same : a.0 ≡ b.0 = int_ranked a.0 b.0 Equal (sym is) in same), among_one (nat_cmp a.1 b.1) refl lower)
+    by Greater is lower = let no : ⊥ = cc in absurd no
+
+less_if : (o : Ordering) → is_lt o ≡ true → o ≡ Less
+less_if Less is = refl
+less_if Equal is = let no : ⊥ = cc in absurd no
+less_if Greater is = let no : ⊥ = cc in absurd no
+
+module _ (a : Pair) where
+  abbrev first_later : List Pair → Option Pair
+  first_later pairs = first (later (Some a) pairs)
+
+  at_first : (x : Pair) (rest : List Pair) (p : Pair) (t : Bool) → is_lt (pair_cmp a x) ≡ t → Some p ≡ first (cond t (x ∷ later (Some a) rest) (later (Some a) rest))
+      → (Some p ≡ first_later rest → Has rest p × (pair_cmp a p ≡ Less)) → Has (x ∷ rest) p × (pair_cmp a p ≡ Less)
+  at_first x rest p true is found more =
+      let same : x ≡ p = some_of (sym found) in (inl same, subst (λ (q : Pair). pair_cmp a q ≡ Less) same (less_if (pair_cmp a x) is))
+  at_first x rest p false is found more = let both = more found in (inr both.0, both.1)
+
+  behind_there : (pairs : List Pair) (p : Pair) → Some p ≡ first_later pairs → Has pairs p × (pair_cmp a p ≡ Less)
+  behind_there [] p found = let no : ⊥ = cc in absurd no
+  behind_there (x ∷ rest) p found = at_first x rest p (is_lt (pair_cmp a x)) refl found (behind_there rest p)
+
+  least_at : (x : Pair) (rest : List Pair) (p q : Pair) (t : Bool) → is_lt (pair_cmp a x) ≡ t → Some p ≡ first (cond t (x ∷ later (Some a) rest) (later (Some a) rest))
+      → AllByRecursion (λ r. pair_cmp x r ≡ Less) rest → Has (x ∷ rest) q → pair_cmp a q ≡ Less
+      → (Some p ≡ first_later rest → Has rest q → (q ≡ p) ⊎ (pair_cmp p q ≡ Less)) → (q ≡ p) ⊎ (pair_cmp p q ≡ Less)
+  least_at x rest p q true is found less (inl same) behind more = let first : x ≡ p = some_of (sym found) in inl (sym same ∙ first)
+  least_at x rest p q true is found less (inr has) behind more =
+      let first : x ≡ p = some_of (sym found) in
+      inr (subst (λ (r : Pair). pair_cmp r q ≡ Less) first (all_has (λ r. pair_cmp x r ≡ Less) rest q less has))
+  least_at x rest p q false is found less (inl same) behind more =
+      let no : false ≡ true = sym is ∙ ap is_lt (ap (pair_cmp a) same ∙ behind) in
+      absurd (let never : ⊥ = cc in never)
+  least_at x rest p q false is found less (inr has) behind more = more found has
+
+  behind_least : (pairs : List Pair) (p q : Pair) → IsInOrder pairs → Some p ≡ first_later pairs → Has pairs q → pair_cmp a q ≡ Less → (q ≡ p) ⊎ (pair_cmp p q ≡ Less)
+  unfolding IsStrictlySortedBy
+  behind_least [] p q sorted found has behind = absurd has
+  behind_least (x ∷ rest) p q sorted found has behind =
+      least_at x rest p q (is_lt (pair_cmp a x)) refl found sorted.0 has behind (λ later_found later_has_it. behind_least rest p q sorted.1 later_found later_has_it behind)
+
+  none_at : (x : Pair) (rest : List Pair) (q : Pair) (t : Bool) → is_lt (pair_cmp a x) ≡ t → None ≡ first (cond t (x ∷ later (Some a) rest) (later (Some a) rest))
+      → Has (x ∷ rest) q → pair_cmp a q ≡ Less → (None ≡ first_later rest → Has rest q → ⊥) → ⊥
+  none_at x rest q true is none has behind more = let no : ⊥ = cc in no
+  none_at x rest q false is none (inl same) behind more = let no : false ≡ true = sym is ∙ ap is_lt (ap (pair_cmp a) same ∙ behind) in let never : ⊥ = cc in never
+  none_at x rest q false is none (inr has) behind more = more none has
+
+  behind_none : (pairs : List Pair) (q : Pair) → None ≡ first_later pairs → Has pairs q → pair_cmp a q ≡ Less → ⊥
+  behind_none [] q none has behind = has
+  behind_none (x ∷ rest) q none has behind = none_at x rest q (is_lt (pair_cmp a x)) refl none has behind (λ later_none later_has_it. behind_none rest q later_none later_has_it behind)
+
+  pub first_behind_there : (v : Deadlines) (p : Pair) → AreOrdered v.pairs → Some p ≡ first_behind v (Some a) → IsShown v p × IsBehind a p
+  first_behind_there v p ordered is = let both = behind_there (shown v) p is in (shown_has p v.pairs ordered both.0, less_behind a p both.1)
+
+  pub first_behind_least : (v : Deadlines) (p q : Pair) → IsInOrder (shown v) → Some p ≡ first_behind v (Some a) → IsShown v q → IsBehind a q → (q ≡ p) ⊎ IsBehind p q
+  first_behind_least v p q ordered is there behind = elim (behind_least (shown v) p q ordered is (has_shown q v.pairs there) (behind_less a q behind)) [
+    | inl same ↦ inl same
+    | inr less ↦ inr (less_behind p q less)
+  ]
+
+  pub first_behind_none : (v : Deadlines) (q : Pair) → None ≡ first_behind v (Some a) → IsShown v q → IsBehind a q → ⊥
+  first_behind_none v q none there behind = behind_none (shown v) q none (has_shown q v.pairs there) (behind_less a q behind)
 
 -- ---- the first deadline of a session
 

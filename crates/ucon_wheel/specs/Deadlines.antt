@@ -1,5 +1,5 @@
 -- Deadlines of sessions: the pairs in order, of which some are hidden, and the order in which they were hidden.
-use Rattle.std.specs.Prelude.{◌≡◌, ℕ, zero, suc, ℤ, Bool, true, false, not, List, [], ◌∷◌, filter, map, Option, Some, None, option_map, find, ◌==◌, if◌then◌else◌, int_lt}
+use Rattle.std.specs.Prelude.{◌≡◌, ◌⊎◌, ◌<◌, ◌<ℤ◌, ℕ, zero, suc, ℤ, Bool, true, false, not, List, [], ◌∷◌, filter, map, Option, Some, None, option_map, find, ◌==◌, if◌then◌else◌, int_lt}
 use Rattle.std.specs.declared.cmp.Ordering.{Ordering}
 use Rattle.std.specs.Ordering.{is_eq, is_lt, int_cmp, nat_cmp, ordering_then}
 use Rattle.std.specs.Map.{lookup, set_value, remove_entry}
@@ -12,6 +12,10 @@ Pair = ℤ × ℕ
 -- the earlier deadline first, and of one deadline the lower session
 abbrev pub pair_cmp : Pair → Pair → Ordering
 pair_cmp a b = ordering_then (int_cmp a.0 b.0) (nat_cmp a.1 b.1)
+
+-- the second pair comes behind the first in this order
+abbrev pub IsBehind : Pair → Pair → Type 0
+IsBehind a b = (a.0 <ℤ b.0) ⊎ ((a.0 ≡ b.0) × (a.1 < b.1))
 
 abbrev pub is_pair : Pair → Pair → Bool
 is_pair a b = is_eq (pair_cmp a b)

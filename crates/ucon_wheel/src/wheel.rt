@@ -3,7 +3,7 @@
 ghost use Rattle.std.specs.Prelude.{◌≡◌, ◌≢◌, ◌⊎◌, ◌↔◌, ℤ, ◌<ℤ◌, ◌≤ℤ◌, is_some, ◌-◌, ◌<◌, ◌≤◌, [], length, IfOk, IfSome, IfNone, OnOk, OnErr, IsTrue, None};
 ghost use Rattle.std.specs.List.Sorted.{IsStrictlySortedBy};
 ghost use Rattle.ucon_wheel.specs.Lines.{without_pair};
-ghost use Rattle.ucon_wheel.specs.Deadlines.{Pair, Deadlines, state_of, IsShown, pair_cmp, put, with_pair, take_back, hide, unhide, forget_hidden, shown, first_behind, due, first_of};
+ghost use Rattle.ucon_wheel.specs.Deadlines.{Pair, Deadlines, state_of, IsBehind, IsShown, pair_cmp, put, with_pair, take_back, hide, unhide, forget_hidden, shown, first_behind, due, first_of};
 
 use crate::lines::{Deadline, Lines};
 use crate::marks::Marks;
@@ -206,6 +206,16 @@ impl Wheel {
             Some(pair) if self.marks.has(pair) => self.lines.behind(pair),
             Some(_) => self.marks.first_behind(after),
         }
+    }
+
+    /// The least pair that isn't hidden behind this one. Hidden pairs are passed over only where this one is itself hidden or not there.
+    pub fn behind(&self, session: u32, deadline: i64) -> Option<(i64, u32)>
+        ensures there { IfSome result (λ p. IsShown self.now p × IsBehind (deadline, session) p) }
+        ensures least { IfSome result (λ p. (q : Pair) → IsShown self.now q → IsBehind (deadline, session) q → (q ≡ p) ⊎ IsBehind p q) }
+        ensures none { IfNone result ((q : Pair) → IsShown self.now q → IsBehind (deadline, session) q → ⊥) }
+    {
+        self.marks.pairs_are_ordered();
+        self.next_behind(Some(pair_of(session, deadline)))
     }
 
     /// The least pair behind `after` that isn't hidden, if its deadline is below the tick. Hidden pairs are passed over only where

@@ -13,11 +13,11 @@ use Rattle.ucon_model.specs.declared.policy.AttrDecl.{AttrDecl}
 use Rattle.ucon_model.specs.declared.policy.EnvDecl.{EnvDecl}
 use Rattle.ucon_model.specs.Plain.{Bytes, PlainPolicy}
 use Rattle.ucon_model.specs.Action.{Trace, amend}
-use Rattle.ucon_model.specs.Readings.{in_force, same_side, has_entity, declared_attr, declared_env, attribute, attrs_of, attr_position, env_position, attr_default, env_default, given_attr, given_env, variable}
-use Rattle.ucon_state.specs.Tables.{Tables, entities_of, width, first_cell, cell_of, attribute_in, variable_in}
+use Rattle.ucon_model.specs.Readings.{in_force, same_side, has_entity, declared_attr, declared_env, attribute, attrs_of, attr_position, env_position, given_attr, given_env}
+use Rattle.ucon_state.specs.Tables.{Tables, entities_of, width, first_cell, attribute_in, variable_in}
 use Rattle.ucon_state.specs.Applied.{kept_value, kept_cells, all_kept_cells, laid_from, kept_variable, amended}
 use Rattle.ucon_state.specs.Following.{KeepsNames, HaveOwnCells, KeepsEntities, KeepsVariables}
-use Rattle.ucon_state.proofs.Following.Places.{still_there, added_there, is_there, place_within, found_there, placed_where_first}
+use Rattle.ucon_state.proofs.Following.Places.{still_there, added_there, place_within, found_there, placed_where_first}
 use Rattle.ucon_state.proofs.Following.Names.{same_name}
 use Rattle.ucon_state.proofs.Following.Cells.{from_first, cell_of-first_cell, declared_there, place_where_declared}
 

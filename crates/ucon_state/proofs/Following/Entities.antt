@@ -64,19 +64,19 @@ same_reading read P t (deny n label) leaves each = by_row read t _ Denied (sessi
 same_reading read P t (ends n) leaves each = by_row read t _ Ended (session_in t n) each
 same_reading read P t (revoke n label) leaves each = by_row read t _ Revoked (session_in t n) each
 
-entities_read : (side : Side) → ReadsEntities (entities_of side)
+pub entities_read : (side : Side) → ReadsEntities (entities_of side)
 entities_read sides.Subject t variables now acts rows = refl
 entities_read sides.Object t variables now acts rows = refl
 
-first_read : (side : Side) (name : Bytes) → ReadsEntities (λ t. first_cell t side name)
+pub first_read : (side : Side) (name : Bytes) → ReadsEntities (λ t. first_cell t side name)
 first_read sides.Subject name t variables now acts rows = refl
 first_read sides.Object name t variables now acts rows = refl
 
-attribute_read : (P : PlainPolicy) (side : Side) (name attr : Bytes) → ReadsEntities (λ t. attribute_in P t side name attr)
+pub attribute_read : (P : PlainPolicy) (side : Side) (name attr : Bytes) → ReadsEntities (λ t. attribute_in P t side name attr)
 attribute_read P sides.Subject name attr t variables now acts rows = refl
 attribute_read P sides.Object name attr t variables now acts rows = refl
 
-same_names : (es : List (Bytes × ℕ)) (side : Side) (T : Trace) (a : Action) → LeavesEntities a → KeepsNames es side T → KeepsNames es side (a ∷ T)
+pub same_names : (es : List (Bytes × ℕ)) (side : Side) (T : Trace) (a : Action) → LeavesEntities a → KeepsNames es side T → KeepsNames es side (a ∷ T)
 same_names es side T (subject name) leaves h = absurd leaves
 same_names es side T (object name) leaves h = absurd leaves
 same_names es side T (write s name attr v) leaves h = absurd leaves
@@ -84,7 +84,7 @@ same_names es side T (amend text Q) leaves h = absurd leaves
 same_names es sides.Subject T a leaves h = record { names = h.names; count = h.count; there = h.there; number = h.number }
 same_names es sides.Object T a leaves h = record { names = h.names; count = h.count; there = h.there; number = h.number }
 
-same_attribute : (P : PlainPolicy) (T : Trace) (a : Action) → LeavesEntities a → (side : Side) (name attr : Bytes) → attribute P T side name attr ≡ attribute P (a ∷ T) side name attr
+pub same_attribute : (P : PlainPolicy) (T : Trace) (a : Action) → LeavesEntities a → (side : Side) (name attr : Bytes) → attribute P T side name attr ≡ attribute P (a ∷ T) side name attr
 same_attribute P T (subject name) leaves side n attr = absurd leaves
 same_attribute P T (object name) leaves side n attr = absurd leaves
 same_attribute P T (write s name b v) leaves side n attr = absurd leaves
@@ -92,14 +92,14 @@ same_attribute P T (amend text Q) leaves side n attr = absurd leaves
 same_attribute P T a leaves sides.Subject n attr = refl
 same_attribute P T a leaves sides.Object n attr = refl
 
-same_own_cells : (P : PlainPolicy) (t u : Tables) → ((side : Side) (name : Bytes) → first_cell u side name ≡ first_cell t side name) → length u.cells ≡ length t.cells
+pub same_own_cells : (P : PlainPolicy) (t u : Tables) → ((side : Side) (name : Bytes) → first_cell u side name ≡ first_cell t side name) → length u.cells ≡ length t.cells
     → HaveOwnCells P t → HaveOwnCells P u
 same_own_cells P t u firsts cells h = record {
   within = λ side n f e. omega (arith, cells, h.within side n f (sym (firsts side n) ∙ e));
   apart = λ side side' n n' f f' e e'. h.apart side side' n n' f f' (sym (firsts side n) ∙ e) (sym (firsts side' n') ∙ e');
 }
 
-same_policy : (P : PlainPolicy) (T : Trace) (a : Action) → LeavesEntities a → in_force P (a ∷ T) ≡ in_force P T
+pub same_policy : (P : PlainPolicy) (T : Trace) (a : Action) → LeavesEntities a → in_force P (a ∷ T) ≡ in_force P T
 same_policy P T (amend text Q) leaves = absurd leaves
 same_policy P T a leaves = refl
 

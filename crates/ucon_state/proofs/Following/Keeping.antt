@@ -45,7 +45,7 @@ moved_leaves read t n state each =
 
 -- ---- variables
 
-abbrev LeavesVariables : Action → Type 0
+abbrev pub LeavesVariables : Action → Type 0
 LeavesVariables (env name v) = ⊥
 LeavesVariables (amend text Q) = ⊥
 LeavesVariables a = Unit {0}
@@ -65,7 +65,7 @@ same_variables P t (deny n label) leaves = moved_leaves (λ u. u.variables) t n 
 same_variables P t (ends n) leaves = moved_leaves (λ u. u.variables) t n Ended (λ rows. refl)
 same_variables P t (revoke n label) leaves = moved_leaves (λ u. u.variables) t n Revoked (λ rows. refl)
 
-still_variables : (P : PlainPolicy) (variables : List Value) (T : Trace) (a : Action) → LeavesVariables a → KeepsVariables P variables T → KeepsVariables P variables (a ∷ T)
+pub still_variables : (P : PlainPolicy) (variables : List Value) (T : Trace) (a : Action) → LeavesVariables a → KeepsVariables P variables T → KeepsVariables P variables (a ∷ T)
 still_variables P variables T (env name v) leaves h = absurd leaves
 still_variables P variables T (amend text Q) leaves h = absurd leaves
 still_variables P variables T a leaves h = record { count = h.count; values = h.values }
@@ -111,7 +111,7 @@ keeps_tick_after P t T (revoke n label) h = moved_leaves (λ u. u.tick) t n Revo
 
 -- ---- acts
 
-abbrev LeavesActs : Action → Type 0
+abbrev pub LeavesActs : Action → Type 0
 LeavesActs (act s a o) = ⊥
 LeavesActs a = Unit {0}
 
@@ -130,7 +130,7 @@ same_acts P t (ends n) leaves = moved_leaves (λ u. u.acts) t n Ended (λ rows. 
 same_acts P t (amend text Q) leaves = refl
 same_acts P t (revoke n label) leaves = moved_leaves (λ u. u.acts) t n Revoked (λ rows. refl)
 
-still_acts : (es : List (Act × ℤ)) (T : Trace) (a : Action) → LeavesActs a → KeepsActs es T → KeepsActs es (a ∷ T)
+pub still_acts : (es : List (Act × ℤ)) (T : Trace) (a : Action) → LeavesActs a → KeepsActs es T → KeepsActs es (a ∷ T)
 still_acts es T (act s a o) leaves h = absurd leaves
 still_acts es T a leaves h = record { moments = h.moments; rows = h.rows; count = h.count }
 

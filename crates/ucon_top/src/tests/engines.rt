@@ -12,7 +12,7 @@ use ucon_disk::MemDisk;
 use ucon_model::{Caller, Checked, Command, SessionState};
 use ucon_plain::PlainMonitor;
 use ucon_script::generate;
-use ucon_state::{Drafted, Engine};
+use ucon_state::{Drafted, Engine, RestoreFault, State};
 use ucon_vectors::{amended_rows, timed_rows, worked_rows};
 
 /// Drafts each step and undoes it, before it drafts it again.
@@ -54,6 +54,19 @@ impl<E: Engine> Engine for Redrafting<E> {
 
     fn status(&self, session: u32) -> Option<SessionState> {
         self.engine.status(session)
+    }
+
+    fn state(&self) -> &State {
+        self.engine.state()
+    }
+
+    fn into_state(self) -> State {
+        self.engine.into_state()
+    }
+
+    fn restore(alloc: Global, state: State) -> Result<Redrafting<E>, RestoreFault> {
+        let engine = E::restore(alloc, state)?;
+        Ok(Redrafting { engine })
     }
 }
 

@@ -1,27 +1,55 @@
-use Rattle.std.proofs.Common.{ℕ, List, refl, subst, sym}
-use Rattle.std.specs.List.{Contains}
+use Rattle.std.proofs.Common.{◌≡◌, ◌∙◌, [], ℕ, List, None, ap, subst, sym}
+use Rattle.std.specs.Prelude.{Option}
+use Rattle.std.specs.Option.{option_map_or}
+use Rattle.ucon_model.specs.Decision.{right_named}
+use Rattle.ucon_model.specs.Places.{places_read}
+use Rattle.ucon_model.specs.Plain.{PlainPolicy, PlainRight}
 use Rattle.ucon_state.specs.Shown.{shown}
-use Rattle.ucon_cascade.specs.Numbering.{place_numbers}
-use Rattle.ucon_cascade.specs.Readers.{readers_at}
-use Rattle.ucon_cascade.proofs.Begun.{comes_like, put_first}
-use Rattle.ucon_cascade.proofs.Monitored.{ok_then}
-use Rattle.ucon_cascade.proofs.Standing.{kept_gives, nowhere_is_not_there}
+use Rattle.ucon_cascade.specs.Listing.{ComesTo, Listing, readers_in}
+use Rattle.ucon_cascade.specs.Numbering.{numbers_of, place_numbers}
+use Rattle.ucon_cascade.specs.Readers.{first_of, readers_at}
+use Rattle.ucon_cascade.proofs.Begun.{joined_comes}
+use Rattle.ucon_cascade.proofs.Outcomes.{ok_then, on_ok}
+use Rattle.ucon_cascade.proofs.Placed.{kept_gives, undo_still}
 use Rattle.ucon_cascade.proofs.follow.add_reader.Goals as goal
 
-pub returns-in_err-places-clause-undo : goal.returns-in_err-places-clause-undo
-returns-in_err-places-clause-undo c = kept_gives c.args.readers.now (readers_at c.args.readers.now) c.requires.kept (λ place. refl)
+pub returns-in_default-clause-comes : goal.returns-in_default-clause-comes
+returns-in_default-clause-comes c =
+    let s = shown c.args.state.now in
+    let row = c.args.row.now in
+    let told = rw c.in_default.is at c.right.ensures in
+    let is : right_named s.policy.rights row.right ≡ None =
+    ap (λ (Q : PlainPolicy). right_named Q.rights row.right) (sym (c.policy.ensures.policy ∙ c.checked.ensures)) ∙ sym told in
+    let none : place_numbers s row ≡ [] =
+    ap (numbers_of s row) (ap (λ (r : Option PlainRight). option_map_or places_read r []) is) in
+    ok_then c.lead.result (subst (λ (ns : List ℕ). ComesTo (readers_at c.args.readers.now) (readers_at c.lead.new.self) c.args.n ns) (sym none)) c.lead.ensures.comes
 
-pub add-requires-clause-new : goal.add-requires-clause-new
-add-requires-clause-new c = nowhere_is_not_there c.args.n c.args.readers.now.index.places c.requires.nowhere
+pub returns-in_err-places-clause-undo : goal.returns-in_err-places-clause-undo
+returns-in_err-places-clause-undo c = kept_gives c.args.readers.now c.requires.kept
+
+pub returns-in-Some-first_alike-clause-comes : goal.returns-in-Some-first_alike-clause-comes
+returns-in-Some-first_alike-clause-comes c =
+    let may = c.in-Some-first_alike.ensures in
+    ok_then c.join.result
+    (λ comes. (joined_comes (shown c.args.state.now) c.args.readers.now c.join.new.self c.args.n c.in-Some-first_alike.first c.args.row.now c.requires.row may.may may.listed
+    c.requires.exact comes).0)
+    c.join.ensures.comes
+
+pub returns-in-Some-first_alike-clause-numbered : goal.returns-in-Some-first_alike-clause-numbered
+returns-in-Some-first_alike-clause-numbered c =
+    let may = c.in-Some-first_alike.ensures in
+    ok_then c.join.result
+    (λ comes. (joined_comes (shown c.args.state.now) c.args.readers.now c.join.new.self c.args.n c.in-Some-first_alike.first c.args.row.now c.requires.row may.may may.listed
+    c.requires.exact comes).1)
+    c.join.ensures.comes
 
 pub returns-clause-comes : goal.returns-clause-comes
 returns-clause-comes c =
-    let before = readers_at c.args.readers.now in
-    let now = readers_at c.add.new.self in
-    let places = c.slice.result.now in
-    let numbers = place_numbers (shown c.args.state.now) c.args.row.now in
-    ok_then c.add.result
-    (λ read. comes_like before now c.args.n places numbers
-    (λ n. subst (λ (ns : List ℕ). (Contains ns n → Contains numbers n) × (Contains numbers n → Contains ns n)) (sym c.slice.ensures) (c.in_ok-places.ensures.numbers n))
-    (put_first before now c.args.n places read c.add.ensures.elsewhere))
-    c.add.ensures.read
+    on_ok c.remember.result
+    (subst (λ (s : Listing). ComesTo (readers_at c.args.readers.now) (readers_in s) c.args.n (place_numbers (shown c.args.state.now) c.args.row.now))
+    (sym c.remember.ensures.standing) c.in_ok-lead.ensures.comes)
+
+pub returns-clause-undo : goal.returns-clause-undo
+returns-clause-undo c =
+    undo_still c.lead-2.new.readers c.remember.new.self (readers_at c.args.readers.now) (first_of c.args.readers.now) c.remember.ensures.standing c.remember.ensures.replaced
+    c.in_ok-lead.ensures.undo

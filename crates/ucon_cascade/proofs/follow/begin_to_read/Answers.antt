@@ -1,16 +1,27 @@
 use Rattle.std.proofs.Common.{◌∙◌, sym}
 use Rattle.ucon_state.specs.Shown.{shown}
-use Rattle.ucon_cascade.specs.Readers.{readers_at}
-use Rattle.ucon_cascade.proofs.Begun.{begins_from_nowhere, exact_begun}
-use Rattle.ucon_cascade.proofs.Monitored.{ok_both}
+use Rattle.ucon_cascade.specs.Readers.{first_of, readers_at}
+use Rattle.ucon_cascade.proofs.Begun.{alone_begun, begins_from_nowhere, exact_begun, grouped_begun, others_stand}
+use Rattle.ucon_cascade.proofs.Outcomes.{ok_both, ok_then}
 use Rattle.ucon_cascade.proofs.follow.begin_to_read.Goals as goal
 
 pub add_reader-requires-clause-nowhere : goal.add_reader-requires-clause-nowhere
-add_reader-requires-clause-nowhere c = begins_from_nowhere (shown c.args.state.now) (readers_at c.args.readers.now) c.args.n c.requires.were
+add_reader-requires-clause-nowhere c = begins_from_nowhere (shown c.args.state.now) c.args.readers.now c.args.n c.requires.were
+
+pub add_reader-requires-clause-exact : goal.add_reader-requires-clause-exact
+add_reader-requires-clause-exact c = others_stand (shown c.args.state.now) c.args.readers.now c.args.n c.requires.were
 
 pub returns-clause-exact : goal.returns-clause-exact
 returns-clause-exact c =
     ok_both c.add_reader.result
-    (λ comes numbered. exact_begun (shown c.args.state.now) (readers_at c.args.readers.now) (readers_at c.add_reader.new.readers) c.args.n c.in-Some.row c.requires.were
+    (λ comes numbered. exact_begun (shown c.args.state.now) c.args.readers.now c.args.n c.requires.were (readers_at c.add_reader.new.readers) c.in-Some.row
     (sym c.session.ensures.tables ∙ c.in-Some.is) numbered comes)
     c.add_reader.ensures.comes c.add_reader.ensures.numbered
+
+pub returns-clause-grouped : goal.returns-clause-grouped
+returns-clause-grouped c =
+    ok_then c.add_reader.result (grouped_begun (shown c.args.state.now) c.args.readers.now c.args.n c.requires.were (first_of c.add_reader.new.readers)) c.add_reader.ensures.first
+
+pub returns-clause-alone : goal.returns-clause-alone
+returns-clause-alone c =
+    ok_then c.add_reader.result (alone_begun (shown c.args.state.now) c.args.readers.now c.args.n c.requires.were (first_of c.add_reader.new.readers)) c.add_reader.ensures.first

@@ -6,8 +6,8 @@ use Rattle.ucon_model.specs.Reach.{Location, targets}
 use Rattle.ucon_model.specs.Updates.{updates_of}
 use Rattle.ucon_model.specs.Views.{update_of}
 use Rattle.ucon_state.specs.Shown.{shown}
-use Rattle.ucon_cascade.specs.Putting.{AllBelow, GainsThose, StandsAtOne}
-use Rattle.ucon_cascade.specs.Readers.{readers_at}
+use Rattle.ucon_cascade.specs.Putting.{AllBelow, GainsFirsts, StandsAtOne}
+use Rattle.ucon_cascade.specs.Readers.{first_of, readers_at}
 use Rattle.ucon_cascade.proofs.Putting.{gains_none}
 use Rattle.ucon_cascade.proofs.Targets.{gains_more, targets_at, targets_more, targets_none}
 use Rattle.ucon_cascade.proofs.own_work.put_targets.Goals as goal
@@ -16,13 +16,14 @@ pub returns-in_default-clause-members : goal.returns-in_default-clause-members
 returns-in_default-clause-members c =
     let s = shown c.args.state.now in
     let standing = readers_at c.args.readers.now in
+    let first = first_of c.args.readers.now in
     let m = c.args.work.now.members in
-    subst (λ (locations : List Location). GainsThose m m (StandsAtOne s standing locations)) (sym (targets_none s c.args.n c.args.when (sym c.session.ensures.tables ∙ c.in_default.is)))
-    (gains_none m (StandsAtOne s standing []) (λ n none. none))
+    subst (λ (locations : List Location). GainsFirsts first m m (StandsAtOne s standing locations)) (sym (targets_none s c.args.n c.args.when (sym c.session.ensures.tables ∙ c.in_default.is)))
+    (gains_none first m (StandsAtOne s standing []) (λ n none. none))
 
 pub loop-u-init : goal.loop-u-init
 loop-u-init c = record {
-  members = gains_none c.args.work.now.members (StandsAtOne (shown c.args.state.now) (readers_at c.args.readers.now) []) (λ n none. none);
+  members = gains_none (first_of c.args.readers.now) c.args.work.now.members (StandsAtOne (shown c.args.state.now) (readers_at c.args.readers.now) []) (λ n none. none);
   limit = search;
 }
 
@@ -33,16 +34,17 @@ pub loop-u-preserved : goal.loop-u-preserved
 loop-u-preserved c =
     let s = shown c.args.state.now in
     let standing = readers_at c.args.readers.now in
+    let first = first_of c.args.readers.now in
     let row = c.in-Some.row in
     let us = c.updates_of-updates.result.now in
     let i = c.loop-u.u-index in
     let u = c.u-item.result in
-    let last = λ (v : Update). GainsThose c.loop-u.work.members c.put_target.new.work.members (StandsAtOne s standing (targets row c.args.when (update_of v ∷ []))) in
-    let more = gains_more s standing c.args.work.now.members c.loop-u.work.members c.put_target.new.work.members
+    let last = λ (v : Update). GainsFirsts first c.loop-u.work.members c.put_target.new.work.members (StandsAtOne s standing (targets row c.args.when (update_of v ∷ []))) in
+    let more = gains_more s standing first c.args.work.now.members c.loop-u.work.members c.put_target.new.work.members
     (targets row c.args.when (map update_of (take i us))) (targets row c.args.when (update_of (get_or us i u) ∷ []))
     c.loop-u.invariant.members (subst last c.u-item.is c.put_target.ensures.members) in
     record {
-      members = subst (λ (locations : List Location). GainsThose c.args.work.now.members c.put_target.new.work.members (StandsAtOne s standing locations))
+      members = subst (λ (locations : List Location). GainsFirsts first c.args.work.now.members c.put_target.new.work.members (StandsAtOne s standing locations))
           (sym (targets_more row c.args.when us i u c.loop-u-test.true)) more;
       limit = c.put_target.ensures.limit ∙ c.loop-u.invariant.limit;
     }
@@ -51,12 +53,13 @@ pub returns-clause-members : goal.returns-clause-members
 returns-clause-members c =
     let s = shown c.args.state.now in
     let standing = readers_at c.args.readers.now in
+    let first = first_of c.args.readers.now in
     let row = c.in-Some.row in
     let us = c.updates_of-updates.result.now in
     let i = c.loop-u.u-index in
     let seen : map update_of us ≡ updates_of s.policy row = c.updates_of-updates.ensures ∙ ap (λ (Q : PlainPolicy). updates_of Q row) (c.policy.ensures.policy ∙ c.checked.ensures) in
     let whole : take i us ≡ us = take_all i us c.loop-u-test.false in
-    subst (λ (locations : List Location). GainsThose c.args.work.now.members c.loop-u.work.members (StandsAtOne s standing locations))
+    subst (λ (locations : List Location). GainsFirsts first c.args.work.now.members c.loop-u.work.members (StandsAtOne s standing locations))
     (ap (λ (xs : List Update). targets row c.args.when (map update_of xs)) whole
     ∙ ap (λ (xs : List PlainUpdate). targets row c.args.when xs) seen
     ∙ sym (targets_at s c.args.n c.args.when row (sym c.session.ensures.tables ∙ c.in-Some.is)))

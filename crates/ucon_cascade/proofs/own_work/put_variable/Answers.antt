@@ -2,7 +2,7 @@ use Rattle.std.proofs.Common.{◌∙◌, sym}
 use Rattle.ucon_model.specs.Reach.{variable_of}
 use Rattle.ucon_state.specs.Shown.{shown}
 use Rattle.ucon_cascade.specs.Putting.{StandsAt}
-use Rattle.ucon_cascade.specs.Readers.{readers_at}
+use Rattle.ucon_cascade.specs.Readers.{first_of, readers_at}
 use Rattle.ucon_cascade.proofs.Putting.{gains_none}
 use Rattle.ucon_cascade.proofs.Targets.{gains_at, nobody_at}
 use Rattle.ucon_cascade.proofs.own_work.put_variable.Goals as goal
@@ -11,12 +11,14 @@ pub returns-in_default-clause-members : goal.returns-in_default-clause-members
 returns-in_default-clause-members c =
     let s = shown c.args.state.now in
     let standing = readers_at c.args.readers.now in
+    let first = first_of c.args.readers.now in
     let location = variable_of c.args.name.now in
-    gains_none c.args.work.now.members (StandsAt s standing location) (nobody_at s standing location (sym c.variable_place.ensures ∙ c.in_default.is))
+    gains_none first c.args.work.now.members (StandsAt s standing location) (nobody_at s standing location (sym c.variable_place.ensures ∙ c.in_default.is))
 
 pub returns-clause-members : goal.returns-clause-members
 returns-clause-members c =
     let s = shown c.args.state.now in
     let standing = readers_at c.args.readers.now in
+    let first = first_of c.args.readers.now in
     let location = variable_of c.args.name.now in
-    gains_at s standing c.args.work.now.members c.put.new.work.members location c.in-Some.place (sym c.variable_place.ensures ∙ c.in-Some.is) c.put.ensures.members
+    gains_at s standing first c.args.work.now.members c.put.new.work.members location c.in-Some.place (sym c.variable_place.ensures ∙ c.in-Some.is) c.put.ensures.members

@@ -1,4 +1,4 @@
-use Rattle.std.proofs.Common.{◌≡◌, ◌≤◌, ◌+◌, ◌∙◌, ℕ, ◌++◌, ◌∷◌, [], List, sym, ap, subst, arith}
+use Rattle.std.proofs.Common.{◌≡◌, ◌≤◌, ◌+◌, ◌∙◌, ℕ, ◌++◌, ◌∷◌, [], List, sym, ap, refl, subst, arith}
 use Rattle.std.specs.Prelude.{None}
 use Rattle.ucon_model.specs.declared.reply.Revoked.{Revoked}
 use Rattle.ucon_model.specs.Plain.{PlainPolicy}
@@ -7,6 +7,7 @@ use Rattle.ucon_model.specs.Readings.{accessing}
 use Rattle.ucon_model.specs.Settle.{least_failing, settled_to, revoked_in}
 use Rattle.ucon_state.specs.Following.{Follows}
 use Rattle.ucon_state.specs.Shown.{shown}
+use Rattle.ucon_cascade.specs.Readers.{first_of}
 use Rattle.ucon_cascade.specs.Timers.{AreTimely}
 use Rattle.ucon_cascade.proofs.Costing.{cost_is_paid, found_is_paid, paid_on, paid_turn}
 use Rattle.ucon_cascade.proofs.Monitored.{base_on}
@@ -54,20 +55,20 @@ turns-preserved c =
           rw c.in_ok-revoke_next-in-Some.ensures.revoked
           (ap (λ (rs : List Revoked). rs ++ record { session = found.0; label = found.1 } ∷ []) (c.turns.invariant.revoked P T h)
           ∙ sym (c.turns_follow_each_other.ensures.revokes i P T (found.0, found.1) (least P T h)));
-      covers = c.in_ok-revoke_next-in-Some.ensures.covers;
+      work = c.in_ok-revoke_next-in-Some.ensures.work;
       exact = c.in_ok-revoke_next-in-Some.ensures.exact;
-      undo = λ standing gives. c.in_ok-revoke_next-in-Some.ensures.undo standing (c.turns.invariant.undo standing gives);
+      undo = λ standing first gives. c.in_ok-revoke_next-in-Some.ensures.undo standing first (c.turns.invariant.undo standing first gives);
       timed = λ P T h timely.
           subst (λ (U : Trace). AreTimely c.revoke_next.new.timers.wheel P U) (sym (c.turns_follow_each_other.ensures.trace i P T (found.0, found.1) (least P T h)))
           (c.in_ok-revoke_next-in-Some.ensures.timed P (settled_to i P T) (c.turns.invariant.leads P T h) (c.turns.invariant.timed P T h timely));
       timers_undo = λ before gives. c.in_ok-revoke_next-in-Some.ensures.timers_undo before (c.turns.invariant.timers_undo before gives);
       paid =
-          paid_turn c.actions_are_done_in_order.ensures s s1 c.args.work.now.members c.next_failing.new.work.members c.revoke_next.new.work.members
-          (found.0, found.1) i c.args.steps.now c.next_failing.new.steps c.turns.invariant.leads c.turns.invariant.fewer
+          paid_turn c.actions_are_done_in_order.ensures s s1 (first_of c.args.readers.now) c.args.work.now.members i (first_of c.turns.readers) (first_of c.revoke_next.new.readers)
+          c.next_failing.new.work.members c.revoke_next.new.work.members (found.0, found.1) c.args.steps.now c.next_failing.new.steps c.turns.invariant.leads c.turns.invariant.fewer
           (λ P T h. c.turns_follow_each_other.ensures.more i P T (found.0, found.1) (least P T h))
-          (paid_on c.actions_are_done_in_order.ensures s s1 c.args.work.now.members c.turns.work.members (found.0 ∷ c.next_failing.new.work.members)
-          i c.args.steps.now (c.args.steps.now + 1) c.turns.steps (c.turns.steps + 1) c.next_failing.new.steps c.turns.invariant.leads c.turns.invariant.fewer
-          (omega arith) c.turns.invariant.paid c.in-Some.ensures.found)
+          (paid_on c.actions_are_done_in_order.ensures s s1 (first_of c.args.readers.now) c.args.work.now.members i (first_of c.turns.readers) c.turns.work.members
+          (found.0 ∷ c.next_failing.new.work.members) c.args.steps.now (c.args.steps.now + 1) c.turns.steps (c.turns.steps + 1) c.next_failing.new.steps c.turns.invariant.leads
+          c.turns.invariant.fewer (omega arith) c.turns.invariant.paid (c.in-Some.ensures.found (first_of c.turns.readers) c.turns.invariant.work))
           c.in_ok-revoke_next-in-Some.ensures.paid;
       fewer = λ k up_to n goes. c.turns.invariant.fewer k up_to n (c.in_ok-revoke_next-in-Some.ensures.fewer n goes);
       limit = c.in_ok-revoke_next-in-Some.ensures.limit ∙ (c.next_failing.ensures.limit ∙ c.turns.invariant.limit);
@@ -84,18 +85,20 @@ returns-in_err-revoke_next-in-Some-clause-base c =
     base_on (shown c.args.state.now) (shown c.turns.state) (shown c.revoke_next.new.state) c.turns.invariant.base c.revoke_next.ensures.base
 
 pub returns-in_err-revoke_next-in-Some-clause-undo : goal.returns-in_err-revoke_next-in-Some-clause-undo
-returns-in_err-revoke_next-in-Some-clause-undo c = λ standing gives. c.revoke_next.ensures.undo standing (c.turns.invariant.undo standing gives)
+returns-in_err-revoke_next-in-Some-clause-undo c = λ standing first gives. c.revoke_next.ensures.undo standing first (c.turns.invariant.undo standing first gives)
 
 pub returns-in-None-clause-cost : goal.returns-in-None-clause-cost
 returns-in-None-clause-cost c =
     let s = shown c.args.state.now in
     let s1 = shown c.turns.state in
     let i = c.turns.counter in
-    cost_is_paid s c.args.work.now.members c.next_failing.new.work.members i c.args.steps.now c.next_failing.new.steps
+    let first = first_of c.args.readers.now in
+    let now_first = first_of c.turns.readers in
+    cost_is_paid s first c.args.work.now.members i now_first c.next_failing.new.work.members c.args.steps.now c.next_failing.new.steps
     (λ P T h. omega (arith, c.turns-test.true, c.accessing-usages.ensures.trace P T h))
-    (paid_on c.actions_are_done_in_order.ensures s s1 c.args.work.now.members c.turns.work.members c.next_failing.new.work.members
-    i c.args.steps.now c.args.steps.now c.turns.steps c.turns.steps c.next_failing.new.steps c.turns.invariant.leads c.turns.invariant.fewer
-    (omega arith) c.turns.invariant.paid c.in-None.ensures.paid)
+    (paid_on c.actions_are_done_in_order.ensures s s1 first c.args.work.now.members i now_first c.turns.work.members c.next_failing.new.work.members
+    c.args.steps.now c.args.steps.now c.turns.steps c.turns.steps c.next_failing.new.steps c.turns.invariant.leads c.turns.invariant.fewer
+    (omega arith) c.turns.invariant.paid (c.in-None.ensures.paid now_first c.turns.invariant.work))
 
 pub returns-in_err-revoke_next-in-Some-clause-cost : goal.returns-in_err-revoke_next-in-Some-clause-cost
 returns-in_err-revoke_next-in-Some-clause-cost c =
@@ -103,17 +106,21 @@ returns-in_err-revoke_next-in-Some-clause-cost c =
     let s1 = shown c.turns.state in
     let i = c.turns.counter in
     let found = c.in-Some.found in
-    found_is_paid c.judgements_are_paid_for.ensures.holds c.actions_are_done_in_order.ensures s s1 c.args.work.now.members c.next_failing.new.work.members
-    (found.0, found.1) i c.args.steps.now c.next_failing.new.steps c.turns.invariant.leads c.turns.invariant.fewer c.in-Some.ensures.fails
+    let first = first_of c.args.readers.now in
+    let now_first = first_of c.turns.readers in
+    let work = c.in-Some.ensures.work now_first c.turns.invariant.work in
+    found_is_paid c.judgements_are_paid_for.ensures.holds c.actions_are_done_in_order.ensures s s1 first c.args.work.now.members i now_first c.next_failing.new.work.members
+    (found.0, found.1) c.args.steps.now c.next_failing.new.steps c.turns.invariant.leads c.turns.invariant.fewer c.in-Some.ensures.fails
+    (work.firsts found.0 (0, omega arith, refl))
     (λ P T h. omega (arith, c.turns-test.true, c.accessing-usages.ensures.trace P T h))
-    (paid_on c.actions_are_done_in_order.ensures s s1 c.args.work.now.members c.turns.work.members (found.0 ∷ c.next_failing.new.work.members)
-    i c.args.steps.now (c.args.steps.now + 1) c.turns.steps (c.turns.steps + 1) c.next_failing.new.steps c.turns.invariant.leads c.turns.invariant.fewer
-    (omega arith) c.turns.invariant.paid c.in-Some.ensures.found)
+    (paid_on c.actions_are_done_in_order.ensures s s1 first c.args.work.now.members i now_first c.turns.work.members (found.0 ∷ c.next_failing.new.work.members)
+    c.args.steps.now (c.args.steps.now + 1) c.turns.steps (c.turns.steps + 1) c.next_failing.new.steps c.turns.invariant.leads c.turns.invariant.fewer
+    (omega arith) c.turns.invariant.paid (c.in-Some.ensures.found now_first c.turns.invariant.work))
 
 pub returns-clause-cost : goal.returns-clause-cost
 returns-clause-cost c =
     let s = shown c.args.state.now in
-    cost_is_paid s c.args.work.now.members c.turns.work.members c.turns.counter c.args.steps.now c.turns.steps
+    cost_is_paid s (first_of c.args.readers.now) c.args.work.now.members c.turns.counter (first_of c.turns.readers) c.turns.work.members c.args.steps.now c.turns.steps
     (λ P T h. omega (arith, c.turns-test.false, c.turns.auto.counter-end, c.accessing-usages.ensures.trace P T h))
     c.turns.invariant.paid
 

@@ -5,9 +5,9 @@ use Rattle.ucon_model.specs.Settle.{settle_within, settled_to, revoked_in}
 use Rattle.ucon_state.specs.Following.{Follows}
 use Rattle.ucon_state.specs.Shown.{shown}
 use Rattle.ucon_actions.specs.Leads.{Leads, KeepsBase}
-use Rattle.ucon_cascade.specs.Cascading.{CoversEach}
+use Rattle.ucon_cascade.specs.Cascading.{IsWork}
 use Rattle.ucon_cascade.specs.Numbering.{IsExact}
-use Rattle.ucon_cascade.specs.Readers.{UndoGives, readers_at}
+use Rattle.ucon_cascade.specs.Readers.{UndoGives, first_of, readers_at}
 use Rattle.ucon_cascade.specs.Timers.{AreTimely, UndoGives as TimersGive}
 use Rattle.ucon_wheel.specs.Deadlines.{Deadlines}
 use Rattle.ucon_cascade.proofs.Costing.{ArePaidAfter, FewerGoOn}
@@ -18,12 +18,12 @@ abbrev pub invariant-turns : goal.invariant-turns
 invariant-turns l = record {
   leads : Leads (shown l.fn.state) (shown l.state) (settled_to l.counter);
   revoked : (P : PlainPolicy) (T : Trace) → Follows (shown l.fn.state) P T → l.revoked.items ≡ revoked_in (settle_within l.counter P T);
-  covers : CoversEach (shown l.state) l.work.members;
+  work : IsWork (shown l.state) (first_of l.readers) l.work.members;
   exact : IsExact (shown l.state) (readers_at l.readers);
-  undo : (standing : ℕ → List ℕ) → UndoGives l.fn.readers standing → UndoGives l.readers standing;
+  undo : (standing : ℕ → List ℕ) (first : ℕ → ℕ) → UndoGives l.fn.readers standing first → UndoGives l.readers standing first;
   timed : (P : PlainPolicy) (T : Trace) → Follows (shown l.fn.state) P T → AreTimely l.fn.timers.wheel P T → AreTimely l.timers.wheel P (settled_to l.counter P T);
   timers_undo : (before : Deadlines) → TimersGive l.fn.timers before → TimersGive l.timers before;
-  paid : ArePaidAfter (shown l.fn.state) l.fn.work.members l.counter l.work.members l.fn.steps l.steps;
+  paid : ArePaidAfter (shown l.fn.state) (first_of l.fn.readers) l.fn.work.members l.counter (first_of l.readers) l.work.members l.fn.steps l.steps;
   fewer : FewerGoOn (shown l.fn.state) (shown l.state);
   limit : l.work.limit ≡ l.fn.work.limit;
   base : KeepsBase (shown l.fn.state) (shown l.state);

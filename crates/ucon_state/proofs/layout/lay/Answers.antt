@@ -6,7 +6,7 @@ use Rattle.ucon_model.specs.Plain.{Bytes}
 use Rattle.ucon_state.specs.Applied.{laid_from}
 use Rattle.ucon_state.specs.Tables.{entities_of, width}
 use Rattle.ucon_state.specs.Views.{lists_of}
-use Rattle.ucon_state.proofs.Laying.{all_cells_added, all_laid, cells_of_one, its_cells_added, one_more_laid}
+use Rattle.ucon_state.proofs.Laying.{cells_of_one, its_cells_added, one_more_laid}
 use Rattle.ucon_state.proofs.layout.lay.Goals as goal
 
 pub keep_cells-requires : goal.keep_cells-requires

@@ -1,4 +1,4 @@
-use Rattle.std.proofs.Common.{◌≡◌, ◌∙◌, refl, subst}
+use Rattle.std.proofs.Common.{◌≡◌, ◌∙◌, subst}
 use Rattle.std.specs.Prelude.{None}
 use Rattle.ucon_actions.specs.Gives.{Makes}
 use Rattle.ucon_model.specs.Action.{Trace, extended}
@@ -6,10 +6,10 @@ use Rattle.ucon_model.specs.OwnActions.{own}
 use Rattle.ucon_model.specs.Settle.{fails_at}
 use Rattle.ucon_state.specs.Following.{Follows}
 use Rattle.ucon_state.specs.Shown.{shown}
-use Rattle.ucon_cascade.specs.Readers.{readers_at}
+use Rattle.ucon_cascade.specs.Readers.{first_of, readers_at}
 use Rattle.ucon_cascade.proofs.Monitored.{made_actions, made_after, made_reply, on_err, opening_on, stands_before}
 use Rattle.ucon_cascade.specs.Timers.{AreTimely}
-use Rattle.ucon_cascade.proofs.Standing.{kept_gives}
+use Rattle.ucon_cascade.proofs.Placed.{kept_gives}
 use Rattle.ucon_cascade.proofs.Undoing.{kept_gives_wheel}
 use Rattle.ucon_cascade.proofs.monitor.Monitor.make_step.Goals as goal
 
@@ -35,10 +35,11 @@ returns-in-Err-NoMemory-clause-err c = λ P T h.
     let r = c.args.self.now.readers in
     record {
       stood = readers_at r;
-      undone = kept_gives r (readers_at r) h.kept (λ place. refl);
+      first = first_of r;
+      undone = kept_gives r h.kept;
       was = c.args.self.now.timers.wheel;
       timers_undone = kept_gives_wheel c.args.self.now.timers h.timers_kept;
-      stands = stands_before (shown c.args.self.now.state) (shown c.own_actions.new.state) (readers_at r) c.args.self.now.timers.wheel P T c.own_actions.ensures.opening h.settled h.stands;
+      stands = stands_before (shown c.args.self.now.state) (shown c.own_actions.new.state) (readers_at r) (first_of r) c.args.self.now.timers.wheel P T c.own_actions.ensures.opening h.settled h.stands;
       limit = h.limit;
     }
 
@@ -49,10 +50,11 @@ returns-in_err-revoked-in-Ok-Made-clause-err c = on_err c.from_residual.result (
     let s2 = shown c.go_on.new.self.state in
     record {
       stood = readers_at c.args.self.now.readers;
+      first = first_of c.args.self.now.readers;
       undone = c.go_on.ensures.undo;
       was = c.args.self.now.timers.wheel;
       timers_undone = c.go_on.ensures.timers_undo;
-      stands = stands_before s s2 (readers_at c.args.self.now.readers) c.args.self.now.timers.wheel P T (opening_on s s1 s2 c.own_actions.ensures.opening c.go_on.ensures.base) h.settled h.stands;
+      stands = stands_before s s2 (readers_at c.args.self.now.readers) (first_of c.args.self.now.readers) c.args.self.now.timers.wheel P T (opening_on s s1 s2 c.own_actions.ensures.opening c.go_on.ensures.base) h.settled h.stands;
       limit = c.go_on.ensures.limit ∙ h.limit;
     })
 
@@ -76,16 +78,18 @@ returns-in_ok-revoked-in-Ok-Made-clause-pending c _ = λ P T h.
         follows = subst (λ (U : Trace). Follows s2 P U) after_it (c.in_ok-revoked-in-Ok-Made.ensures.leads P (extended T done.0) done.2);
         nobody = λ n. subst (λ (U : Trace). fails_at P U n ≡ None) after_it (c.nobody_fails_after_settling.ensures.nobody P (extended T done.0) n done.2.sound.numbered);
         exact = c.in_ok-revoked-in-Ok-Made.ensures.exact;
+        grouped = c.in_ok-revoked-in-Ok-Made.ensures.grouped;
         timely = subst (λ (U : Trace). AreTimely c.go_on.new.self.timers.wheel P U) after_it
             (c.in_ok-revoked-in-Ok-Made.ensures.timely P T c.args.caller done.0
             (record { sound = h.stands.follows.sound; nobody = h.stands.nobody; made = done.1; follows = done.2; timely = h.stands.timely }));
       };
       back = record {
         stood = readers_at c.args.self.now.readers;
+        first = first_of c.args.self.now.readers;
         undone = c.go_on.ensures.undo;
         was = c.args.self.now.timers.wheel;
         timers_undone = c.go_on.ensures.timers_undo;
-        stands = stands_before s s2 (readers_at c.args.self.now.readers) c.args.self.now.timers.wheel P T (opening_on s s1 s2 c.own_actions.ensures.opening c.go_on.ensures.base) h.settled h.stands;
+        stands = stands_before s s2 (readers_at c.args.self.now.readers) (first_of c.args.self.now.readers) c.args.self.now.timers.wheel P T (opening_on s s1 s2 c.own_actions.ensures.opening c.go_on.ensures.base) h.settled h.stands;
         limit = c.go_on.ensures.limit ∙ h.limit;
       };
       no_work = c.in_ok-revoked-in-Ok-Made.ensures.done;

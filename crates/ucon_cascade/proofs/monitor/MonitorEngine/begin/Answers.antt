@@ -3,8 +3,8 @@ use Rattle.ucon_model.specs.Checked.{checked_policy}
 use Rattle.ucon_pend.specs.NumberSet.{NumberSet}
 use Rattle.ucon_state.specs.Applied.{opening_tables}
 use Rattle.ucon_state.specs.Shown.{shown}
-use Rattle.ucon_cascade.specs.Readers.{readers_at}
-use Rattle.ucon_cascade.proofs.Monitored.{exact_empty, timely_empty}
+use Rattle.ucon_cascade.specs.Readers.{first_of, readers_at}
+use Rattle.ucon_cascade.proofs.Monitored.{exact_empty, grouped_empty, timely_empty}
 use Rattle.ucon_cascade.proofs.monitor.MonitorEngine.begin.Goals as goal
 
 pub returns : goal.returns
@@ -17,6 +17,7 @@ returns c =
         follows = follows;
         nobody = λ n. refl;
         exact = exact_empty s (readers_at c.in_ok-readers.readers) P follows c.in_ok-readers.ensures.nobody;
+        grouped = grouped_empty s (first_of c.in_ok-readers.readers) P follows;
         timely = timely_empty c.in_ok-timers.timers.wheel P c.in_ok-timers.ensures.none;
       };
       settled = record {

@@ -2,7 +2,7 @@ use Rattle.std.proofs.Common.{◌≡◌, ◌∙◌, ap, subst, sym}
 use Rattle.ucon_model.specs.Block.{after}
 use Rattle.ucon_state.specs.Shown.{Shown, kept, shown}
 use Rattle.ucon_cascade.specs.Monitor.{Stands}
-use Rattle.ucon_cascade.specs.Readers.{readers_at}
+use Rattle.ucon_cascade.specs.Readers.{first_of, readers_at}
 use Rattle.ucon_cascade.proofs.Monitored.{stands_kept, stands_like}
 use Rattle.ucon_cascade.proofs.monitor.MonitorEngine.keep.Goals as goal
 
@@ -16,8 +16,9 @@ returns-clause-follows c = λ P T e h.
     let U = after P T e.caller e.command in
     let is : shown c.keep.new.self ≡ kept s = c.keep.ensures in
     record {
-      stands = subst (λ (x : Shown). Stands x (readers_at r') w P U) (sym is)
-          (stands_like (kept s) (readers_at r) (readers_at r') v w P U c.keep-2.ensures.read c.keep-3.ensures.wheel (stands_kept s (readers_at r) v P U h.stands));
+      stands = subst (λ (x : Shown). Stands x (readers_at r') (first_of r') w P U) (sym is)
+          (stands_like (kept s) (readers_at r) (readers_at r') (first_of r) (first_of r') v w P U c.keep-2.ensures.read c.keep-2.ensures.firsts c.keep-3.ensures.wheel
+          (stands_kept s (readers_at r) (first_of r) v P U h.stands));
       settled = record {
         policy = ap (λ (x : Shown). x.opening_policy) is ∙ sym (ap (λ (x : Shown). x.policy) is);
         tables = ap (λ (x : Shown). x.opening) is ∙ sym (ap (λ (x : Shown). x.tables) is);

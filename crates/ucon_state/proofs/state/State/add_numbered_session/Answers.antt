@@ -1,41 +1,15 @@
-use Rattle.std.proofs.Common.{◌∙◌, sym, ap, subst, ◌++◌, ◌∷◌, [], ◌<◌, length, pos}
-use Rattle.std.proofs.lemmas.List.{length-map}
+use Rattle.std.proofs.Common.{◌≡◌, subst, ℤ}
+use Rattle.std.specs.Prelude.{OnOk}
 use Rattle.ucon_model.specs.declared.session.SessionState.TheVariants.{Requesting}
-use Rattle.ucon_model.specs.Checked.{checked_policy}
-use Rattle.ucon_state.specs.declared.session.Session.{Session}
-use Rattle.ucon_state.specs.Shown.{right_names}
-use Rattle.ucon_state.specs.Sound.{IsKept}
-use Rattle.ucon_state.specs.Stored.{NumbersAreBelow, named, row_of}
-use Rattle.ucon_state.specs.Views.{lists_of}
-use Rattle.ucon_state.specs.declared.change.Undo.TheVariants.{Changed}
-use Rattle.ucon_state.proofs.Stages.{noted_sound, noted_shown, numbered_now, sound_now}
 use Rattle.ucon_state.specs.Applied.{with_new_session}
-use Rattle.ucon_state.proofs.Numbered.{named_session, numbered_session}
-use Rattle.ucon_state.proofs.Sounds.{session_sound}
+use Rattle.ucon_state.specs.Shown.{changed_to, right_names, shown}
+use Rattle.ucon_state.specs.Stored.{row_of}
 use Rattle.ucon_state.proofs.state.State.add_numbered_session.Goals as goal
-
-pub invariant_of-self-2 : goal.invariant_of-self-2
-invariant_of-self-2 c =
-    let P = checked_policy c.args.self.now.checked in
-    let R = right_names c.args.self.now in
-    let t = lists_of c.args.self.now.tables in
-    let added = c.push_reserved.ensures.items ∙ ap (λ cs. cs ++ Changed c.in_ok-change.change ∷ []) c.reserve.ensures.items in
-    let before = sound_now P R c.args.self.now.changes.items t c.args.self.now.sound in
-    let numbered = numbered_now P R c.args.self.now.changes.items t c.args.self.now.sound in
-    let s : Session = record { caller = c.args.caller; state = Requesting; right = c.args.right; subject = c.args.subject; object = c.args.object; start = pos 0 } in
-    let is = c.in_ok-change.ensures.ok ∙ ap (λ start. with_new_session t (record s { start = start })) c.zero.ensures in
-    let below : NumbersAreBelow (length R) (length t.subjects) (length t.objects) s =
-    record { right = c.requires.there.right_below; subject = c.requires.there.subject_below; object = c.requires.there.object_below } in
-    let few : length t.sessions < 1048576 = subst (λ n. n < 1048576) (length-map t.sessions (row_of R t.subjects t.objects)) c.requires.few in
-    let now : IsKept P R (with_new_session t s) = (session_sound P t before s few, numbered_session R t numbered s below) in
-    record { sound = noted_sound P R _ _ c.in_ok-change.change t _ added c.in_ok-change.ensures.undone c.args.self.now.sound (subst (IsKept P R) (sym is) now); has_rights = c.args.self.now.has_rights }
 
 pub returns-clause-ok : goal.returns-clause-ok
 returns-clause-ok c =
-    let P = checked_policy c.args.self.now.checked in
-    let R = right_names c.args.self.now in
-    let t = lists_of c.args.self.now.tables in
-    let added = c.push_reserved.ensures.items ∙ ap (λ cs. cs ++ Changed c.in_ok-change.change ∷ []) c.reserve.ensures.items in
-    let s : Session = record { caller = c.args.caller; state = Requesting; right = c.args.right; subject = c.args.subject; object = c.args.object; start = pos 0 } in
-    let is = c.in_ok-change.ensures.ok ∙ ap (λ start. with_new_session t (record s { start = start })) c.zero.ensures in
-    noted_shown P R _ _ c.in_ok-change.change t _ _ added c.in_ok-change.ensures.undone (ap (named R) is ∙ named_session R t s)
+    let s = shown c.args.self.now in
+    subst (λ (start : ℤ). OnOk c.push_session.result (shown c.push_session.new.self ≡ changed_to s (with_new_session s.tables
+    (row_of (right_names c.args.self.now) s.tables.subjects s.tables.objects
+    (record { caller = c.args.caller; state = Requesting; right = c.args.right; subject = c.args.subject; object = c.args.object; start = start })))))
+    c.zero.ensures c.push_session.ensures.ok

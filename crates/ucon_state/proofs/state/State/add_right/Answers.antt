@@ -1,4 +1,4 @@
-use Rattle.std.proofs.Common.{◌≡◌, ◌∙◌, ◌<◌, ◌^◌, sym, ap, subst, List, [], ◌∷◌, ◌++◌, length, position, is_some, true, arith}
+use Rattle.std.proofs.Common.{◌∙◌, ◌<◌, ◌^◌, sym, ap, subst, List, [], ◌∷◌, ◌++◌, length, position, is_some, arith}
 use Rattle.std.proofs.lemmas.List.{length_push}
 use Rattle.std.specs.Str.{bytes_eq}
 use Rattle.ucon_model.specs.Checked.{checked_policy}

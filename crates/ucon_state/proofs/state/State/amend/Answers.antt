@@ -1,4 +1,4 @@
-use Rattle.std.proofs.Common.{◌≡◌, ◌∙◌, ◌<◌, ◌^◌, List, length, sym, ap, subst, ◌++◌, ◌∷◌, []}
+use Rattle.std.proofs.Common.{◌∙◌, ◌<◌, ◌^◌, List, length, sym, ap, subst, ◌++◌, ◌∷◌, []}
 use Rattle.std.specs.Box.{with_value}
 use Rattle.ucon_model.specs.Action.{amend}
 use Rattle.ucon_model.specs.Checked.{checked_policy}

@@ -3,7 +3,7 @@ use Rattle.ucon_model.specs.Checked.{checked_policy}
 use Rattle.ucon_model.specs.Plain.{PlainPolicy}
 use Rattle.ucon_state.specs.Shown.{right_names}
 use Rattle.ucon_state.specs.Sound.{AllSound}
-use Rattle.ucon_state.specs.Stored.{Stored, named}
+use Rattle.ucon_state.specs.Stored.{named}
 use Rattle.ucon_state.specs.Undo.{all_undone, policy_before, policy_undone}
 use Rattle.ucon_state.specs.Views.{lists_of}
 use Rattle.ucon_state.proofs.Stages.{holds_now, newest_first, newest_policy, sound_without_one}

@@ -1,0 +1,30 @@
+use Rattle.std.proofs.Common.{◌∙◌, sym, ap, subst, ◌++◌, ◌∷◌, []}
+use Rattle.ucon_model.specs.Checked.{checked_policy}
+use Rattle.ucon_state.specs.Putting.{act_in}
+use Rattle.ucon_state.specs.Shown.{right_names}
+use Rattle.ucon_state.specs.Sound.{IsKept}
+use Rattle.ucon_state.specs.Stored.{named}
+use Rattle.ucon_state.specs.Views.{lists_of}
+use Rattle.ucon_state.specs.declared.change.Undo.TheVariants.{Changed}
+use Rattle.ucon_state.proofs.Stages.{noted_sound, noted_shown, numbered_now, sound_now}
+use Rattle.ucon_state.proofs.Sounds.{new_act_sound}
+use Rattle.ucon_state.proofs.state.State.put_act.Goals as goal
+
+pub invariant_of-self-2 : goal.invariant_of-self-2
+invariant_of-self-2 c =
+    let P = checked_policy c.args.self.now.checked in
+    let R = right_names c.args.self.now in
+    let t = lists_of c.args.self.now.tables in
+    let added = c.push_reserved.ensures.items ∙ ap (λ cs. cs ++ Changed c.in_ok-change.change ∷ []) c.reserve.ensures.items in
+    let before = sound_now P R c.args.self.now.changes.items t c.args.self.now.sound in
+    let now = new_act_sound P t before (act_in c.args.row) c.args.row.moment c.requires.room in
+    let numbered = numbered_now P R c.args.self.now.changes.items t c.args.self.now.sound in
+    record { sound = noted_sound P R _ _ c.in_ok-change.change t _ added c.in_ok-change.ensures.undone c.args.self.now.sound (subst (IsKept P R) (sym c.in_ok-change.ensures.ok) (now, numbered)); has_rights = c.args.self.now.has_rights }
+
+pub returns-clause-ok : goal.returns-clause-ok
+returns-clause-ok c =
+    let P = checked_policy c.args.self.now.checked in
+    let R = right_names c.args.self.now in
+    let t = lists_of c.args.self.now.tables in
+    let added = c.push_reserved.ensures.items ∙ ap (λ cs. cs ++ Changed c.in_ok-change.change ∷ []) c.reserve.ensures.items in
+    noted_shown P R _ _ c.in_ok-change.change t _ _ added c.in_ok-change.ensures.undone (ap (named R) c.in_ok-change.ensures.ok)

@@ -1,0 +1,91 @@
+//! What can be put into a state as it stood. `specs/Putting.antt` says what that is.
+
+ghost use Rattle.std.specs.Prelude.{◌≡◌, ◌↔◌, IsTrue};
+ghost use Rattle.ucon_state.specs.Putting.{EntitiesAreThere, HasRoomIn, IsPast, MayPutAct, MayPutSession, StartsAtZero};
+ghost use Rattle.ucon_state.specs.Shown.{shown};
+ghost use Rattle.ucon_state.specs.Tables.{Tables, accessing_among};
+
+use crate::held::ActRow;
+use crate::state::State;
+use ucon_base::{Int, Name, Side};
+use ucon_model::{SessionRow, SessionState};
+
+impl State {
+    /// Whether the act can be put behind the others.
+    pub fn may_put_act(&self, row: &ActRow) -> bool
+        ensures { IsTrue result ↔ MayPutAct (shown self.now).tables row.now }
+    {
+        if self.counts().acts >= 1_048_576 {
+            return false;
+        }
+        if !self.are_there(&row.subject, &row.object) {
+            return false;
+        }
+        if !self.is_past(row.moment) {
+            return false;
+        }
+        let last = self.tables.moment(&row.subject, &row.action, &row.object);
+        last.is_none()
+    }
+
+    /// Whether the session can be put behind the others.
+    pub fn may_put_session(&self, row: &SessionRow) -> bool
+        ensures { IsTrue result ↔ MayPutSession (shown self.now).tables row.now }
+    {
+        let counts = self.counts();
+        if counts.sessions >= 1_048_576 {
+            return false;
+        }
+        if !has_room_in(row.state, counts.accessing) {
+            return false;
+        }
+        if !self.are_there(&row.subject, &row.object) {
+            return false;
+        }
+        if !self.is_past(row.start) {
+            return false;
+        }
+        starts_at_zero(row.state, row.start)
+    }
+
+    /// Whether these two are there.
+    fn are_there(&self, subject: &Name, object: &Name) -> bool
+        ensures { IsTrue result ↔ EntitiesAreThere (shown self.now).tables subject.now object.now }
+    {
+        if self.find(Side::Subject, subject).is_none() {
+            return false;
+        }
+        self.find(Side::Object, object).is_some()
+    }
+
+    /// Whether the moment isn't before the beginning, and not after now.
+    fn is_past(&self, moment: Int) -> bool
+        ensures { IsTrue result ↔ IsPast (shown self.now).tables moment }
+    {
+        if !Int::zero().is_at_most(moment) {
+            return false;
+        }
+        moment.is_at_most(self.tables.tick)
+    }
+}
+
+/// Whether there is room for one more session in this state, where so many are accessing.
+fn has_room_in(state: SessionState, accessing: u32) -> bool
+    ensures { (t : Tables) → accessing ≡ accessing_among t.sessions → IsTrue result ↔ HasRoomIn t state }
+{
+    match state {
+        SessionState::Accessing => accessing < 65_536,
+        _ => true,
+    }
+}
+
+/// Whether a session in this state may have this start: 0, where it was never permitted.
+fn starts_at_zero(state: SessionState, start: Int) -> bool
+    ensures { IsTrue result ↔ StartsAtZero state start }
+{
+    match state {
+        SessionState::Requesting => start == Int::zero(),
+        SessionState::Denied => start == Int::zero(),
+        _ => true,
+    }
+}
