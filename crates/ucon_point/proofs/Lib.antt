@@ -1,0 +1,16 @@
+pub mod Cuts
+pub mod Digits
+pub mod LineWalk
+pub mod Listed
+pub mod LowerLaws
+pub mod OneLine
+pub mod PointsRead
+pub mod PointsRefused
+pub mod PointsSpelled
+pub mod PoliciesRefused
+pub mod Refusals
+pub mod RowsHeld
+pub mod RowsRead
+pub mod RowsRefused
+pub mod RowsSpelled
+pub mod Told
