@@ -90,7 +90,7 @@ fn opening(alloc: Global, policy: &[u8]) -> Result<State, Fail>
     ensures { IfOk result (λ s. IsFollowing (shown s)) }
 {
     each_action_is_followed();
-    let checked = check(alloc, read_policy(alloc, policy)?)?;
+    let checked = check(read_policy(alloc, policy)?)?;
     Ok(State::new(alloc, checked)?)
 }
 

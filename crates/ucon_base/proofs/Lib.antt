@@ -5,6 +5,7 @@ pub mod Rising
 pub mod Runs
 pub mod Saturated
 pub mod SameArrays
+pub mod SetsFound
 pub mod SetsRead
 pub mod SetsSpelled
 pub mod TextFront

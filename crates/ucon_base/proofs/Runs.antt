@@ -133,6 +133,10 @@ abbrev pub joined : List Member → Result (List Member) ValueFault → Result (
 joined front (Ok ms) = Ok (front ++ ms)
 joined front (Err f) = Err f
 
+pub joined_nothing : (r : Result (List Member) ValueFault) → joined [] r ≡ r
+joined_nothing (Ok ms) = refl
+joined_nothing (Err f) = refl
+
 pub joined_before : (front : List Member) (m : Member) (r : Result (List Member) ValueFault) → joined front (before m r) ≡ joined (front ++ m ∷ []) r
 joined_before front m (Ok ms) = ap Ok (sym (append_assoc front (m ∷ []) ms))
 joined_before front m (Err f) = refl

@@ -1,14 +1,16 @@
 -- A set that was read has rising texts, and its spelling is what was read.
-use Rattle.std.proofs.Common.{◌≡◌, ℕ, ◌+◌, ◌≤◌, Bool, true, ◌&&◌, List, [], ◌∷◌, ◌++◌, length, map, Option, Some, None, Ok, Err, is_ok, is_some, inl, inr, refl, sym, ap, ◌∙◌, arith, append_assoc}
+use Rattle.std.proofs.Common.{◌≡◌, ℕ, ◌+◌, ◌≤◌, ◌<◌, Bool, true, ◌&&◌, List, [], ◌∷◌, ◌++◌, length, map, Option, Some, None, Ok, Err, is_ok, is_some, inl, inr, refl, sym, ap, ◌∙◌, arith, append_assoc}
 use Rattle.std.specs.Prelude.{Result, ◌==◌, nat_lt, nat_le}
 use Rattle.std.specs.List.{list_all}
-use Rattle.std.proofs.lemmas.Bool.{and_parts, and_from, cases_Bool, true≢false, false≢true, eqb-true, ltb-false, le-leb, le-ltb}
+use Rattle.std.proofs.lemmas.Bool.{and_parts, and_from, cases_Bool, true≢false, false≢true, eqb-true, ltb-false, le-leb, le-ltb, lt-ltb}
 use Rattle.std.proofs.lemmas.List.{length-map}
 use Rattle.ucon_base.specs.declared.value.Value.TheVariants.{Set}
-use Rattle.ucon_base.specs.declared.members.Quoted.{Quoted}
+use Rattle.ucon_base.specs.declared.members.Found.{Found}
+use Rattle.ucon_base.specs.declared.value.Value.{Value}
 use Rattle.ucon_base.specs.declared.value_fault.ValueFault.{ValueFault}
-use Rattle.ucon_base.specs.Members.{member_of, texts_seen, EachIsText}
-use Rattle.ucon_base.specs.Reading.{Member, Stage, rises, can_rise, inside, opened, behind, awaiting, closed, before, members, first_long, unless_long}
+use Rattle.ucon_base.specs.declared.value_fault.ValueFault.TheVariants.{TooLong, TooMany}
+use Rattle.ucon_base.specs.Members.{texts_seen, IsFound, EachIsText}
+use Rattle.ucon_base.specs.Reading.{Member, Stage, rises, can_rise, inside, opened, behind, awaiting, closed, before, members, first_long, unless_long, set_of, set_read}
 use Rattle.ucon_base.specs.Spelling.{more_texts, set_spelling}
 use Rattle.ucon_base.specs.TextBytes.{is_text_byte}
 use Rattle.ucon_base.specs.Value.{is_rising, is_set}
@@ -42,7 +44,7 @@ abbrev got : Result (List Member) ValueFault → List Member
 got (Ok ms) = ms
 got (Err f) = []
 
-refused : {f : ValueFault} {ms : List Member} → Err f ≡ Ok ms → ⊥
+refused : {A : Type 0} {f : ValueFault} {v : A} → Err f ≡ Ok v → ⊥
 refused h = false≢true (ap is_ok h)
 
 before_parts : (m : Member) (r : Result (List Member) ValueFault) (ms : List Member) → before m r ≡ Ok ms → (rest : List Member) × ((r ≡ Ok rest) × (ms ≡ m ∷ rest))
@@ -160,25 +162,66 @@ pub rising_from_chain : (ts : List (List ℕ)) → chain None ts ≡ true → is
 rising_from_chain [] h = refl
 rising_from_chain (t ∷ ts) h = above t ts h
 
-pub each_is_text : (qs : List Quoted) → first_long (map member_of qs) ≡ None → list_all texty (texts (map member_of qs)) ≡ true → EachIsText qs
+pub each_is_text : (ms : List Member) → first_long ms ≡ None → list_all texty (texts ms) ≡ true → EachIsText (texts ms)
 each_is_text [] h plain = tt
-each_is_text (q ∷ qs) h plain =
-    let t : List ℕ = q.text.now in
-    let parts = and_parts (texty t) (list_all texty (texts (map member_of qs))) plain in
+each_is_text (m ∷ ms) h plain =
+    let t : List ℕ = m.text in
+    let parts = and_parts (texty t) (list_all texty (texts ms)) plain in
     elim (cases_Bool (nat_lt 64 (length t))) [
       | inl long ↦ absurd (true≢false (ap is_some (rw long at h)))
       | inr short ↦ (
         and_from _ _ (le-leb (length t) 64 (ltb-false 64 (length t) short)) (rw (clean t parts.0) refl),
-        each_is_text qs (rw short at h) parts.1,
+        each_is_text ms (rw short at h) parts.1,
       )
     ]
 
-pub seen_texts : (qs : List Quoted) → texts_seen qs ≡ texts (map member_of qs)
-seen_texts [] = refl
-seen_texts (q ∷ qs) = ap (λ ts. q.text.now ∷ ts) (seen_texts qs)
+abbrev set_texts : Value → List (List ℕ)
+set_texts (Set ts) = ts
+set_texts v = []
 
-pub set_if : (qs : List Quoted) → length qs ≤ 64 → is_rising (texts_seen qs) ≡ true → is_set (texts_seen qs) ≡ true
-set_if qs few h = and_from (nat_le (length (texts_seen qs)) 64) (is_rising (texts_seen qs)) (le-leb (length (texts_seen qs)) 64 (omega (arith, few, length-map qs (λ q. q.text.now)))) h
+abbrev got_texts : Result Value ValueFault → List (List ℕ)
+got_texts (Ok v) = set_texts v
+got_texts (Err f) = []
 
-pub set_told : (qs : List Quoted) → length qs ≤ 64 → unless_long None (map member_of qs) ≡ Ok (Set (texts_seen qs))
-set_told qs few = rw (length-map qs member_of, le-ltb 64 (length qs) few) (ap (λ ts. Ok (Set ts)) (sym (seen_texts qs)))
+kept : (long : Option ℕ) (ms : List Member) (ts : List (List ℕ)) → first_long ms ≡ long → Fine None (texts ms) → unless_long long ms ≡ Ok (Set ts)
+    → (is_set ts ≡ true) × EachIsText ts
+kept (Some p) ms ts is fine h = absurd (refused h)
+kept None ms ts none fine h =
+    elim (cases_Bool (nat_lt 64 (length ms))) [
+      | inl many ↦ absurd (refused (rw many at h))
+      | inr few ↦
+          let same : texts ms ≡ ts = ap got_texts (rw few at h) in
+          let short : length (texts ms) ≤ 64 = omega (arith, ltb-false 64 (length ms) few, length-map ms (λ (m : Member). m.text)) in
+          rw (← same) (
+            and_from (nat_le (length (texts ms)) 64) (is_rising (texts ms)) (le-leb (length (texts ms)) 64 short) (rising_from_chain (texts ms) fine.rising),
+            each_is_text ms none fine.plain,
+          )
+    ]
+
+kept_of : (said : Result (List Member) ValueFault) (ts : List (List ℕ)) → ((ms : List Member) → said ≡ Ok ms → Fine None (texts ms)) → set_of said ≡ Ok (Set ts)
+    → (is_set ts ≡ true) × EachIsText ts
+kept_of (Ok ms) ts fine h = kept (first_long ms) ms ts refl (fine ms refl) h
+kept_of (Err f) ts fine h = absurd (refused h)
+
+-- a set that was read keeps its limits
+pub set_holds : (bs : List ℕ) (ts : List (List ℕ)) → set_read bs ≡ Ok (Set ts) → (is_set ts ≡ true) × EachIsText ts
+set_holds bs ts h = kept_of (members None opened 1 bs) ts (λ ms is. (sound None opened 1 bs ms is).1) h
+
+-- ---- what is told of what was found
+
+pub told_long : (said : Result (List Member) ValueFault) (found : Found) (at : ℕ) → IsFound said found → found.long ≡ Some at → set_of said ≡ Err (TooLong at)
+told_long (Ok ms) found at h is = let long : first_long ms ≡ Some at = sym h.long ∙ is in rw long refl
+told_long (Err f) found at h is = absurd h
+
+pub told_many : (said : Result (List Member) ValueFault) (found : Found) → IsFound said found → found.long ≡ None → 64 < found.count → set_of said ≡ Err (TooMany found.count)
+told_many (Ok ms) found h none many =
+    let long : first_long ms ≡ None = sym h.long ∙ none in
+    rw (long, lt-ltb 64 (length ms) (omega (arith, many, h.count))) (ap (λ n. Err (TooMany n)) (sym h.count))
+told_many (Err f) found h none many = absurd h
+
+pub told_found : (said : Result (List Member) ValueFault) (found : Found) → IsFound said found → found.long ≡ None → found.count ≤ 64 → set_of said ≡ Ok (Set (texts_seen found))
+told_found (Ok ms) found h none few =
+    let long : first_long ms ≡ None = sym h.long ∙ none in
+    let short : length ms ≤ 64 = omega (arith, few, h.count) in
+    rw (long, le-ltb 64 (length ms) short) (ap (λ ts. Ok (Set ts)) (sym (h.texts short)))
+told_found (Err f) found h none few = absurd h

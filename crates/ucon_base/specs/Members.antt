@@ -1,18 +1,30 @@
--- The members of a set as its reader keeps them.
-use Rattle.std.specs.Prelude.{ℕ, ◌+◌, List, [], ◌∷◌, Option, Some, None, Result, Ok, IsTrue, map, ◌==◌, if◌then◌else◌}
-use Rattle.ucon_base.specs.declared.members.Quoted.{Quoted}
+-- What the reader of a set keeps of its members.
+use Rattle.std.specs.Prelude.{◌≡◌, ◌≤◌, ℕ, ◌+◌, List, [], ◌∷◌, length, take, map, Option, Some, None, Result, Ok, Err, IsTrue, nat_lt, ◌==◌, if◌then◌else◌}
+use Rattle.ucon_base.specs.declared.members.Found.{Found}
 use Rattle.ucon_base.specs.declared.value_fault.ValueFault.{ValueFault}
 use Rattle.ucon_base.specs.Elements.{Each}
 use Rattle.ucon_base.specs.TextBytes.{is_text}
-use Rattle.ucon_base.specs.Reading.{Member, awaiting, members}
+use Rattle.ucon_base.specs.Reading.{Member, awaiting, members, first_long}
 
--- a member, seen without its reference
-abbrev pub member_of : Quoted → Member
-member_of q = record { at = q.at; text = q.text.now }
+-- the texts that are kept
+abbrev pub texts_seen : Found → List (List ℕ)
+texts_seen found = map (λ t. t.now) (take found.count found.texts)
 
--- the texts of members
-abbrev pub texts_seen : List Quoted → List (List ℕ)
-texts_seen qs = map (λ q. q.text.now) qs
+-- the place of a text, if it is too long
+abbrev pub long_at : ℕ → List ℕ → Option ℕ
+long_at at t = if nat_lt 64 (length t) then Some at else None
+
+-- how many members these are, which of them is the first too long, and their texts where there is room for all
+pub record Holds (found : Found) (ms : List Member) : Type 0 where
+  pub count : found.count ≡ length ms
+  pub long : found.long ≡ first_long ms
+  pub room : length found.texts ≡ 64
+  pub texts : length ms ≤ 64 → texts_seen found ≡ map (λ m. m.text) ms
+
+-- the members that are said
+abbrev pub IsFound : Result (List Member) ValueFault → Found → Type 0
+IsFound (Ok ms) found = Holds found ms
+IsFound (Err f) found = ⊥
 
 -- what stands behind a `"` that bytes begin with
 abbrev pub after_quote : List ℕ → Option (List ℕ)
@@ -24,6 +36,6 @@ abbrev pub awaited : Option (List ℕ) → ℕ → Option (List ℕ) → Result 
 awaited last at None = Ok []
 awaited last at (Some more) = members last awaiting (at + 1) more
 
--- the bytes of each are a text
-abbrev pub EachIsText : List Quoted → Type 0
-EachIsText qs = Each (λ q. IsTrue (is_text q.text.now)) qs
+-- each is a text
+abbrev pub EachIsText : List (List ℕ) → Type 0
+EachIsText ts = Each (λ t. IsTrue (is_text t)) ts

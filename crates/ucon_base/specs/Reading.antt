@@ -158,6 +158,11 @@ abbrev pub value_read : List ℕ → Result Value ValueFault
 value_read [] = integer_read []
 value_read (b ∷ bs) = if b == 34 then text_read bs else if b == 123 then set_read bs else integer_read (b ∷ bs)
 
+-- whether a set is spelled
+abbrev pub spells_set : Result Value ValueFault → Bool
+spells_set (Ok (Set ts)) = true
+spells_set said = false
+
 -- what is said is the fault, unless it is want of memory
 abbrev pub IsCause : {A : Type 0} → Result A ValueFault → ValueFault → Type 0
 IsCause said (NoMemory e) = ⊤

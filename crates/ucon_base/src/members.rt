@@ -1,97 +1,125 @@
 //! Sets, read from their one spelling.
 
-ghost use Rattle.std.specs.Prelude.{◌≡◌, ◌+◌, ◌≤◌, ◌<◌, List, ℕ, [], map, length, None, option_copied, IfOk, IfSome, IsTrue, MatchResult, Option, Some};
+ghost use Rattle.std.specs.Prelude.{◌≡◌, ◌+◌, ◌≤◌, ◌<◌, ◌++◌, ◌∷◌, List, ℕ, [], map, length, None, option_copied, IfOk, IfSome, MatchResult, Option, Ok, Err, Some, false};
 ghost use Rattle.std.specs.Ordering.{nat_cmp, is_lt};
 ghost use Rattle.std.specs.Cmp.Lexicographic.{slice_cmp};
-ghost use Rattle.ucon_base.specs.Reading.{rises, can_rise, begins_with, inside, opened, behind, awaiting, before, members, IsCause, first_long, unless_long, set_read};
-ghost use Rattle.ucon_base.specs.Members.{member_of, texts_seen, after_quote, awaited, EachIsText};
-ghost use Rattle.ucon_base.specs.Value.{is_rising};
+ghost use Rattle.ucon_base.specs.declared.value.Value.TheVariants.{Set};
+ghost use Rattle.ucon_base.specs.Reading.{Member, rises, can_rise, begins_with, inside, opened, behind, awaiting, before, members, IsCause, set_read, spells_set};
+ghost use Rattle.ucon_base.specs.Members.{Holds, IsFound, texts_seen, long_at, after_quote, awaited, EachIsText};
 
 use crate::reading::text_len;
 use crate::text_set::of_rising;
 use crate::{NoMemory, Text, Value, ValueFault};
 use std::alloc::Global;
 
-/// A text of a set, with the place of its opening quote.
+/// The most texts of a set.
+const MOST_TEXTS: usize = 64;
+
+/// What was found of a set: its first texts, how many there are, and the place of the first one that is too long.
 #[derive(Clone, Copy)]
-pub struct Quoted<'a> {
-    at: usize,
-    text: &'a [u8],
+struct Found<'a> {
+    texts: [&'a [u8]; MOST_TEXTS],
+    count: usize,
+    long: Option<usize>,
 }
 
-/// The set whose bytes these are behind its opening bracket.
+impl<'a> Found<'a> {
+    fn nothing() -> Found<'a>
+        ensures { Holds result [] }
+    {
+        Found {
+            texts: [b"".as_slice(); MOST_TEXTS],
+            count: 0,
+            long: None,
+        }
+    }
+
+    /// Counts one more text, whose opening quote is at this place, and keeps it if there is room.
+    fn add(&mut self, at: usize, text: &'a [u8])
+        requires { self.old.count < usize.MAX }
+        ensures holds { (ms : List Member) → Holds self.old ms → Holds self.new (ms ++ record { at = at; text = text.now } ∷ []) }
+        ensures count { self.new.count ≡ self.old.count + 1 }
+    {
+        if self.count < MOST_TEXTS {
+            self.texts[self.count] = text;
+        }
+        self.long = self.long.or(long_at(at, text));
+        self.count += 1;
+    }
+}
+
+/// The place of a text, if it is too long.
+fn long_at(at: usize, text: &[u8]) -> Option<usize>
+    ensures { result ≡ long_at at text.now }
+{
+    if text.len() > 64 { Some(at) } else { None }
+}
+
+/// The set whose bytes these are behind its opening bracket. Memory is taken only where they spell one.
 pub fn read_set(alloc: Global, bytes: &[u8]) -> Result<Value, ValueFault>
-    ensures { MatchResult result (λ v. set_read bytes.now ≡ Ok v) (IsCause (set_read bytes.now)) }
+    ensures read { MatchResult result (λ v. set_read bytes.now ≡ Ok v) (IsCause (set_read bytes.now)) }
+    ensures sure { spells_set (set_read bytes.now) ≡ false → result ≡ set_read bytes.now }
 {
-    let members = members(alloc, bytes)?;
-    match first_long(&members) {
-        Some(at) => Err(ValueFault::TooLong(at)),
-        None => set_of(alloc, &members),
-    }
-}
-
-/// The set of these members, if it has no more than a set may have.
-fn set_of(alloc: Global, members: &[Quoted<'_>]) -> Result<Value, ValueFault>
-    requires texts { EachIsText members.now }
-    requires rising { IsTrue (is_rising (texts_seen members.now)) }
-    ensures { MatchResult result (λ v. unless_long None (map member_of members.now) ≡ Ok v) (IsCause (unless_long None (map member_of members.now))) }
-{
-    if members.len() > 64 {
-        return Err(ValueFault::TooMany(members.len()));
-    }
-    let texts = texts_of(alloc, members)?;
+    let found = spelled(bytes)?;
+    let texts = texts_of(alloc, &found.texts[..found.count])?;
     Ok(Value::Set(of_rising(texts)))
 }
 
-fn first_long(members: &[Quoted<'_>]) -> Option<usize>
-    ensures { result ≡ first_long (map member_of members.now) }
+/// What is found of a set that keeps its limits.
+fn spelled<'a>(bytes: &'a [u8]) -> Result<Found<'a>, ValueFault>
+    ensures read { MatchResult result (λ found. set_read bytes.now ≡ Ok (Set (texts_seen found))) (λ f. set_read bytes.now ≡ Err f) }
+    ensures few { IfOk result (λ found. found.count ≤ 64) }
 {
-    for m in members {
-        if m.text.len() > 64 {
-            return Some(m.at);
+    let found = members(bytes)?;
+    match found.long {
+        Some(at) => Err(ValueFault::TooLong(at)),
+        None => {
+            if found.count > MOST_TEXTS {
+                return Err(ValueFault::TooMany(found.count));
+            }
+            Ok(found)
         }
     }
-    None
 }
 
 #[tactic(auto, using(crate::proofs::TextFront::no_fault))]
-fn texts_of(alloc: Global, members: &[Quoted<'_>]) -> Result<Vec<Text>, NoMemory>
-    requires { EachIsText members.now }
-    ensures { IfOk result (λ v. v.items ≡ texts_seen members.now) }
+fn texts_of(alloc: Global, texts: &[&[u8]]) -> Result<Vec<Text>, NoMemory>
+    requires { EachIsText (map (λ t. t.now) texts.now) }
+    ensures { IfOk result (λ v. v.items ≡ map (λ t. t.now) texts.now) }
 {
-    let mut texts = Vec::new(alloc);
-    for m in members {
-        match Text::read(m.text) {
-            Ok(text) => texts.push(text)?,
+    let mut read = Vec::new(alloc);
+    for t in texts {
+        match Text::read(t) {
+            Ok(text) => read.push(text)?,
             Err(_) => unreachable!(),
         }
     }
-    Ok(texts)
+    Ok(read)
 }
 
-/// The members of a set.
+/// What is found of a set.
 #[tactic(auto, using(crate::proofs::Runs::opened_is))]
-fn members<'a>(alloc: Global, bytes: &'a [u8]) -> Result<Vec<Quoted<'a>>, ValueFault>
-    ensures { MatchResult result (λ ms. members None opened 1 bytes.now ≡ Ok (map member_of ms.items)) (IsCause (members None opened 1 bytes.now)) }
+fn members<'a>(bytes: &'a [u8]) -> Result<Found<'a>, ValueFault>
+    ensures { MatchResult result (IsFound (members None opened 1 bytes.now)) (λ f. members None opened 1 bytes.now ≡ Err f) }
 {
     match bytes {
-        [b'}'] => Ok(Vec::new(alloc)),
+        [b'}'] => Ok(Found::nothing()),
         [b'}', ..] => Err(ValueFault::BadSpelling(2)),
-        _ => some_members(alloc, bytes),
+        _ => some_members(bytes),
     }
 }
 
-/// The members of a set that has some.
-fn some_members<'a>(alloc: Global, bytes: &'a [u8]) -> Result<Vec<Quoted<'a>>, ValueFault>
-    ensures { MatchResult result (λ ms. members None awaiting 1 bytes.now ≡ Ok (map member_of ms.items)) (IsCause (members None awaiting 1 bytes.now)) }
+/// What is found of a set that has some texts.
+fn some_members<'a>(bytes: &'a [u8]) -> Result<Found<'a>, ValueFault>
+    ensures { MatchResult result (IsFound (members None awaiting 1 bytes.now)) (λ f. members None awaiting 1 bytes.now ≡ Err f) }
 {
-    let mut found = Vec::new(alloc);
+    let mut found = Found::nothing();
     let mut last = None;
     let mut at = 1;
     let mut rest = bytes;
     while let Some(quoted) = after_quote(rest) {
         let (text, after) = member(last, at, quoted)?;
-        found.push(Quoted { at, text })?;
+        found.add(at, text);
         at += text.len() + 2;
         match next_member(at, after)? {
             None => return Ok(found),

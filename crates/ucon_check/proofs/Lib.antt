@@ -1,3 +1,6 @@
-pub mod Telling
 pub mod Alike
+pub mod Counting
+pub mod Declared
 pub mod Parts
+pub mod Searches
+pub mod Telling

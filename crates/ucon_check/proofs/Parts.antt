@@ -1,5 +1,5 @@
 -- What the parts of a right, and of a policy, tell of the whole.
-use Rattle.std.proofs.Common.{◌≡◌, ◌∙◌, sym, ap, subst, ℕ, ◌+◌, List, [], length, Option, None, arith}
+use Rattle.std.proofs.Common.{◌≡◌, ◌∙◌, sym, ap, subst, ℕ, ◌+◌, List, [], length, Option, Some, None, arith}
 use Rattle.std.specs.Prelude.{option_map, Result, MatchResult}
 use Rattle.std.specs.Option.{option_or}
 use Rattle.ucon_model.specs.declared.policy.AttrDecl.{AttrDecl}
@@ -8,18 +8,18 @@ use Rattle.ucon_model.specs.Plain.{PlainPredicate, PlainUpdate, PlainRight, Plai
 use Rattle.ucon_model.specs.Typing.{TypeFault, attr_fault, env_fault, heading_fault, predicate_fault, update_fault, first_fault_of, one_item, items_of, whole_fault, right_fault, type_fault}
 use Rattle.ucon_check.specs.declared.fault.CheckFault.{CheckFault}
 use Rattle.ucon_check.specs.Numbers.{told_number}
-use Rattle.ucon_check.specs.Told.{told, IsTold, Answers}
+use Rattle.ucon_check.specs.Told.{told, Answers}
 use Rattle.ucon_check.proofs.Telling.{told_rest, answers_first, list_told, told_again}
 use Rattle.ucon_check.proofs.Alike.{env_alike, predicate_alike, update_alike, right_alike}
 
 -- faults that are told alike are answered alike
 pub answers_alike : {T : Type 0} (a b : Option TypeFault) (r : Result T CheckFault) → option_map told a ≡ option_map told b → Answers a r → Answers b r
-answers_alike {T} a b r e h = subst (λ (g : Option CheckFault). MatchResult r (λ (x : T). g ≡ None) (IsTold g)) e h
+answers_alike {T} a b r e h = subst (λ (g : Option CheckFault). MatchResult r (λ (x : T). g ≡ None) (λ f. g ≡ Some f)) e h
 
 -- behind a part without a fault, an answer of the next part is one of the whole
-answers_second : (a b c : Option TypeFault) (g : Option CheckFault) (e : CheckFault) → option_map told a ≡ None → g ≡ option_map told b → IsTold g e
-    → IsTold (option_map told (option_or a (option_or b c))) e
-answers_second a b c g e none is h = rw (told_rest a (option_or b c) none) (answers_first b c e (subst (λ (o : Option CheckFault). IsTold o e) is h))
+answers_second : (a b c : Option TypeFault) (g : Option CheckFault) (e : CheckFault) → option_map told a ≡ None → g ≡ option_map told b → g ≡ Some e
+    → option_map told (option_or a (option_or b c)) ≡ Some e
+answers_second a b c g e none is h = told_rest a (option_or b c) none ∙ answers_first b c e (sym is ∙ h)
 
 -- ---- a right
 
@@ -42,7 +42,7 @@ updates_told P n r first second preds updates a b same same' =
 
 pub preds_of_right : (P : PlainPolicy) (before : List PlainRight) (n : ℕ) (r : PlainRight) (first : ℕ) (preds : List PlainPredicate) (e : CheckFault)
     → first ≡ told_number (n + 1) → preds ≡ r.preds → option_map told (heading_fault before n r) ≡ None
-    → IsTold (option_map told (first_fault_of one_item (predicate_fault P) [] first preds)) e → IsTold (option_map told (right_fault P before n r)) e
+    → option_map told (first_fault_of one_item (predicate_fault P) [] first preds) ≡ Some e → option_map told (right_fault P before n r) ≡ Some e
 preds_of_right P before n r first preds e is same none h =
     answers_second (heading_fault before n r) (first_fault_of one_item (predicate_fault P) [] (n + 1) r.preds)
     (option_or (first_fault_of one_item (update_fault P) [] (n + 1 + length r.preds) r.updates) (whole_fault r))
@@ -52,7 +52,7 @@ pub updates_of_right : (P : PlainPolicy) (before : List PlainRight) (n : ℕ) (r
     (updates : List PlainUpdate) (e : CheckFault)
     → first ≡ told_number (n + 1) → second ≡ told_number (first + length preds) → preds ≡ r.preds → updates ≡ r.updates
     → option_map told (heading_fault before n r) ≡ None → option_map told (first_fault_of one_item (predicate_fault P) [] first preds) ≡ None
-    → IsTold (option_map told (first_fault_of one_item (update_fault P) [] second updates)) e → IsTold (option_map told (right_fault P before n r)) e
+    → option_map told (first_fault_of one_item (update_fault P) [] second updates) ≡ Some e → option_map told (right_fault P before n r) ≡ Some e
 updates_of_right P before n r first second preds updates e is is' same same' none none' h =
     rw (told_rest (heading_fault before n r)
     (option_or (first_fault_of one_item (predicate_fault P) [] (n + 1) r.preds)
@@ -102,17 +102,17 @@ rights_told P first second attrs envs rights same same' same'' is is' =
     (rights_behind (length attrs) (length envs) (length P.attrs) (length P.envs) first second (ap length same) (ap length same') is is')
 
 pub attrs_of_policy : (P : PlainPolicy) (attrs : List AttrDecl) (e : CheckFault) → attrs ≡ P.attrs
-    → IsTold (option_map told (first_fault_of one_item attr_fault [] 1 attrs)) e → IsTold (option_map told (type_fault P)) e
+    → option_map told (first_fault_of one_item attr_fault [] 1 attrs) ≡ Some e → option_map told (type_fault P) ≡ Some e
 unfolding type_fault
 attrs_of_policy P attrs e same h =
     answers_first (first_fault_of one_item attr_fault [] 1 P.attrs)
     (option_or (first_fault_of one_item env_fault [] (1 + length P.attrs) P.envs)
     (first_fault_of items_of (right_fault P) [] (1 + length P.attrs + length P.envs) P.rights)) e
-    (subst (λ (g : Option CheckFault). IsTold g e) (attrs_told P attrs same) h)
+    (sym (attrs_told P attrs same) ∙ h)
 
 pub envs_of_policy : (P : PlainPolicy) (first : ℕ) (attrs : List AttrDecl) (envs : List EnvDecl) (e : CheckFault) → attrs ≡ P.attrs → envs ≡ P.envs
     → first ≡ told_number (1 + length attrs) → option_map told (first_fault_of one_item attr_fault [] 1 attrs) ≡ None
-    → IsTold (option_map told (first_fault_of one_item env_fault [] first envs)) e → IsTold (option_map told (type_fault P)) e
+    → option_map told (first_fault_of one_item env_fault [] first envs) ≡ Some e → option_map told (type_fault P) ≡ Some e
 unfolding type_fault
 envs_of_policy P first attrs envs e same same' is none h =
     answers_second (first_fault_of one_item attr_fault [] 1 P.attrs) (first_fault_of one_item env_fault [] (1 + length P.attrs) P.envs)

@@ -6,9 +6,9 @@ use Rattle.std.proofs.lemmas.List.{drop_more, take_more, map-append}
 use Rattle.ucon_model.specs.Plain.{Bytes}
 use Rattle.ucon_model.specs.Typing.{TypeFault, item_fault, first_fault_of}
 use Rattle.ucon_check.specs.declared.fault.CheckFault.{CheckFault}
-use Rattle.ucon_check.specs.declared.fault.CheckFault.TheVariants.{Twice, NoName, WrongReader, WrongKind, NotCore, TooManyCells, NoMemory}
+use Rattle.ucon_check.specs.declared.fault.CheckFault.TheVariants.{Twice, NoName, WrongReader, WrongKind}
 use Rattle.ucon_check.specs.Numbers.{told_number}
-use Rattle.ucon_check.specs.Told.{told, IsTold}
+use Rattle.ucon_check.specs.Told.{told}
 
 -- ---- one fault or another
 
@@ -21,19 +21,10 @@ pub told_rest : (a b : Option TypeFault) → option_map told a ≡ None → opti
 told_rest None b none = refl
 told_rest (Some f) b none = absurd cc
 
-told_first : (a b : Option TypeFault) (c : CheckFault) → option_map told a ≡ Some c → option_map told (option_or a b) ≡ Some c
-told_first None b c is = absurd cc
-told_first (Some f) b c is = is
-
 -- an answer of the first fault is one of the whole
-pub answers_first : (a b : Option TypeFault) (e : CheckFault) → IsTold (option_map told a) e → IsTold (option_map told (option_or a b)) e
-answers_first a b (NoMemory e) h = tt
-answers_first a b (Twice name n) h = told_first a b (Twice name n) h
-answers_first a b (NoName name n) h = told_first a b (NoName name n) h
-answers_first a b (WrongReader n) h = told_first a b (WrongReader n) h
-answers_first a b (WrongKind n) h = told_first a b (WrongKind n) h
-answers_first a b (NotCore name) h = told_first a b (NotCore name) h
-answers_first a b (TooManyCells name n) h = told_first a b (TooManyCells name n) h
+pub answers_first : (a b : Option TypeFault) (e : CheckFault) → option_map told a ≡ Some e → option_map told (option_or a b) ≡ Some e
+answers_first None b e is = absurd cc
+answers_first (Some f) b e is = is
 
 -- ---- by told numbers
 
@@ -81,11 +72,11 @@ goes_on size fault alike before rest before' rest' n x whole r b is none =
 -- at an item with a fault, its answer is one of the whole
 pub stops : {T : Type 0} (size : T → ℕ) (fault : List T → ℕ → T → Option TypeFault) (before rest rest' : List T) (n : ℕ) (x : T)
     (whole : Option CheckFault) (e : CheckFault) → rest ≡ x ∷ rest'
-    → option_map told (first_fault_of size fault before n rest) ≡ whole → IsTold (option_map told (fault before n x)) e → IsTold whole e
+    → option_map told (first_fault_of size fault before n rest) ≡ whole → option_map told (fault before n x) ≡ Some e → whole ≡ Some e
 stops size fault before rest rest' n x whole e r is h =
     let now : option_map told (option_or (fault before n x) (first_fault_of size fault (before ++ x ∷ []) (n + size x) rest')) ≡ whole =
     sym (ap (λ ys. option_map told (first_fault_of size fault before n ys)) r) ∙ is in
-    rw (← now) (answers_first (fault before n x) (first_fault_of size fault (before ++ x ∷ []) (n + size x) rest') e h)
+    sym now ∙ answers_first (fault before n x) (first_fault_of size fault (before ++ x ∷ []) (n + size x) rest') e h
 
 -- the rest of a list, one element on
 pub rest_is : {X T : Type 0} (view : X → T) (xs : List X) (i : ℕ) (x : X) → i < length xs → x ≡ get_or xs i x → map view (drop i xs) ≡ view x ∷ map view (drop (i + 1) xs)

@@ -1,2 +1,4 @@
+pub mod Counted
 pub mod Numbers
+pub mod Sought
 pub mod Told

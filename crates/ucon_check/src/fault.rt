@@ -3,7 +3,7 @@
 ghost use Rattle.std.specs.Prelude.{◌≡◌, ◌+◌};
 ghost use Rattle.ucon_check.specs.Numbers.{told_number};
 
-use ucon_base::{Name, NoMemory};
+use ucon_base::Name;
 
 /// The first fault of a policy. Its items are numbered from 1 in written order: each attribute, each variable, and then of each
 /// right the heading, each predicate and each update. A number that no u32 holds is told as the greatest.
@@ -21,17 +21,6 @@ pub enum CheckFault {
     NotCore(Name),
     /// The ongoing predicates of the right of this name read so many distinct places, more than 32.
     TooManyCells(Name, u32),
-    NoMemory(NoMemory),
-}
-
-impl From<NoMemory> for CheckFault {
-    ghost use Rattle.ucon_check.specs.declared.fault.CheckFault.TheVariants.{NoMemory as Memory};
-
-    ghost from_gives = { λ e fault. fault ≡ Memory e };
-
-    fn from(e: NoMemory) -> CheckFault {
-        CheckFault::NoMemory(e)
-    }
 }
 
 /// So many items further.

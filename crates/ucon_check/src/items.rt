@@ -1,68 +1,21 @@
 //! The faults of single items.
 
-ghost use Rattle.std.specs.Prelude.{◌≡◌, [], map, not, is_some, codes};
+ghost use Rattle.std.specs.Prelude.{◌≡◌, [], map, is_some, codes};
 ghost use Rattle.std.specs.List.{list_any};
 ghost use Rattle.std.specs.Str.{bytes_eq};
 ghost use Rattle.ucon_model.specs.Decision.{right_named};
-ghost use Rattle.ucon_model.specs.Places.{test_places};
 ghost use Rattle.ucon_model.specs.Views.{formula_of, test_of, predicate_of, update_of, right_of, policy_of};
-ghost use Rattle.ucon_model.specs.Typing.{name_of, is_declared, undeclared, name_if, is_variable, has_lasts, is_recurring, counts_from_start, reads_wrongly, is_wrong_reader, item_fault, attr_fault, env_fault, heading_fault, is_label_taken, predicate_fault, update_fault};
+ghost use Rattle.ucon_model.specs.Typing.{name_if, has_lasts, is_recurring, counts_from_start, reads_wrongly, is_wrong_reader, item_fault, attr_fault, env_fault, heading_fault, is_label_taken, predicate_fault, update_fault};
 ghost use Rattle.ucon_check.specs.Told.{Answers};
 
 use crate::CheckFault;
-use crate::places::{is_ongoing, test_places, update_places};
-use crate::sorts::{
-    declared_attr, declared_env, is_typed_start, is_typed_test, is_typed_update, place_sort,
+use crate::places::is_ongoing;
+use crate::sorts::{declared_attr, declared_env, is_typed_start, is_typed_test, is_typed_update};
+use crate::sought::{
+    Sought, formula_reads, undeclared_in_test, undeclared_in_update, update_reads,
 };
-use std::alloc::Global;
 use ucon_base::Name;
-use ucon_model::{AttrDecl, EnvDecl, Form, Formula, Policy, Predicate, Ref, Right, Test, Update};
-
-fn name_of(place: &Ref) -> Name
-    ensures { result ≡ name_of place.now }
-{
-    match place {
-        Ref::Subject(attr) => *attr,
-        Ref::Object(attr) => *attr,
-        Ref::Env(name) => *name,
-    }
-}
-
-fn is_declared(policy: &Policy, place: &Ref) -> bool
-    ensures { result ≡ is_declared (policy_of policy.now) place.now }
-{
-    place_sort(policy, place).is_some()
-}
-
-/// The leftmost name among these places that isn't declared.
-fn undeclared(policy: &Policy, places: &[Ref]) -> Option<Name>
-    ensures { result ≡ undeclared (policy_of policy.now) places.now }
-{
-    for place in places {
-        if !is_declared(policy, place) {
-            return Some(name_of(place));
-        }
-    }
-    None
-}
-
-fn is_variable(place: &Ref) -> bool
-    ensures { result ≡ is_variable place.now }
-{
-    matches!(place, Ref::Env(_))
-}
-
-fn has_variable(places: &[Ref]) -> bool
-    ensures { result ≡ list_any is_variable places.now }
-{
-    places.iter().any(is_variable)
-}
-
-fn has_attribute(places: &[Ref]) -> bool
-    ensures { result ≡ list_any (λ p. not (is_variable p)) places.now }
-{
-    places.iter().any(|p| !is_variable(p))
-}
+use ucon_model::{AttrDecl, EnvDecl, Form, Formula, Policy, Predicate, Right, Test, Update};
 
 fn has_lasts(f: &Formula) -> bool
     ensures { result ≡ has_lasts (formula_of f.now) }
@@ -93,24 +46,22 @@ fn counts_from_start(test: &Test) -> bool
     }
 }
 
-/// Whether a test, which reads these places, reads what its kind may not.
-fn reads_wrongly(test: &Test, places: &[Ref]) -> bool
-    requires { places.now ≡ test_places (test_of test.now) }
+/// Whether a test reads what its kind may not.
+fn reads_wrongly(test: &Test) -> bool
     ensures { result ≡ reads_wrongly (test_of test.now) }
 {
     match test {
-        Test::A(f) => has_variable(places) || has_lasts(f),
+        Test::A(f) => formula_reads(&Sought::Variable, f) || has_lasts(f),
         Test::B(_) => false,
-        Test::C(_) => has_attribute(places),
+        Test::C(f) => formula_reads(&Sought::Attribute, f),
     }
 }
 
-/// Whether a predicate, which reads these places, reads what it may not.
-fn is_wrong_reader(p: &Predicate, places: &[Ref]) -> bool
-    requires { places.now ≡ test_places (test_of p.now.test) }
+/// Whether a predicate reads what it may not.
+fn is_wrong_reader(p: &Predicate) -> bool
     ensures { result ≡ is_wrong_reader (predicate_of p.now) }
 {
-    reads_wrongly(&p.test, places) || (!is_ongoing(p) && counts_from_start(&p.test))
+    reads_wrongly(&p.test) || (!is_ongoing(p) && counts_from_start(&p.test))
 }
 
 fn name_if(stood: bool, name: &Name) -> Option<Name>
@@ -200,7 +151,6 @@ fn is_no_right(label: &[u8]) -> bool
 
 /// A predicate, behind those before it in its right.
 pub fn check_predicate(
-    alloc: Global,
     policy: &Policy,
     before: &[Predicate],
     item: u32,
@@ -208,23 +158,21 @@ pub fn check_predicate(
 ) -> Result<(), CheckFault>
     ensures { Answers (predicate_fault (policy_of policy.now) (map predicate_of before.now) item (predicate_of p.now)) result }
 {
-    let places = test_places(alloc, &p.test)?;
     let taken = is_label(before, &p.label) || is_no_right(p.label.bytes());
     check_item(
         item,
         name_if(taken, &p.label),
-        undeclared(policy, &places),
-        is_wrong_reader(p, &places),
+        undeclared_in_test(policy, &p.test),
+        is_wrong_reader(p),
         is_typed_test(policy, &p.test),
     )
 }
 
 /// An update.
-pub fn check_update(alloc: Global, policy: &Policy, item: u32, u: &Update) -> Result<(), CheckFault>
+pub fn check_update(policy: &Policy, item: u32, u: &Update) -> Result<(), CheckFault>
     ensures { Answers (update_fault (policy_of policy.now) [] item (update_of u.now)) result }
 {
-    let places = update_places(alloc, u)?;
-    let unknown = undeclared(policy, &places);
-    let wrong = has_variable(&places);
+    let unknown = undeclared_in_update(policy, u);
+    let wrong = update_reads(&Sought::Variable, u);
     check_item(item, None, unknown, wrong, is_typed_update(policy, u))
 }

@@ -2,11 +2,13 @@
 #![tactic(auto)]
 
 mod cores;
+mod counted;
 mod fault;
 mod follow;
 mod items;
 mod places;
 mod sorts;
+mod sought;
 #[cfg(test)]
 mod tests;
 mod typing;

@@ -4,12 +4,12 @@ ghost use Rattle.std.specs.Prelude.{◌≡◌, [], ◌++◌, ◌<◌, length, ma
 ghost use Rattle.std.specs.List.{list_any, flat_map};
 ghost use Rattle.ucon_model.specs.Checked.{checked_policy};
 ghost use Rattle.ucon_model.specs.Decision.{ongoing};
-ghost use Rattle.ucon_model.specs.Views.{expr_of, formula_of, test_of, predicate_of, update_of, right_of};
-ghost use Rattle.ucon_model.specs.Places.{expr_places, formula_places, test_places, attr_place, update_places, same_place, with_place, places_read};
+ghost use Rattle.ucon_model.specs.Views.{expr_of, formula_of, test_of, predicate_of, right_of};
+ghost use Rattle.ucon_model.specs.Places.{expr_places, formula_places, test_places, attr_place, same_place, with_place, places_read};
 
 use std::alloc::Global;
 use ucon_base::{Name, NoMemory, Rows, Side};
-use ucon_model::{Checked, Expr, Formula, Phase, Predicate, Ref, Right, Test, Update};
+use ucon_model::{Checked, Expr, Formula, Phase, Predicate, Ref, Right, Test};
 
 /// Adds the places that an expression reads.
 fn put_expr(e: &Expr, places: &mut Vec<Ref>) -> Result<(), NoMemory>
@@ -60,7 +60,7 @@ fn put_formula(f: &Formula, places: &mut Vec<Ref>) -> Result<(), NoMemory>
 }
 
 /// The places that a test reads.
-pub fn test_places(alloc: Global, test: &Test) -> Result<Vec<Ref>, NoMemory>
+fn test_places(alloc: Global, test: &Test) -> Result<Vec<Ref>, NoMemory>
     ensures { IfOk result (λ places. places.items ≡ test_places (test_of test.now)) }
 {
     let mut places = Vec::new(alloc);
@@ -82,17 +82,7 @@ pub fn attr_place(side: Side, attr: &Name) -> Ref
     }
 }
 
-/// The place that an update writes, and then those that it reads.
-pub fn update_places(alloc: Global, u: &Update) -> Result<Vec<Ref>, NoMemory>
-    ensures { IfOk result (λ places. places.items ≡ update_places (update_of u.now)) }
-{
-    let mut places = Vec::new(alloc);
-    places.push(attr_place(u.side, &u.attr))?;
-    put_expr(&u.value, &mut places)?;
-    Ok(places)
-}
-
-fn same_place(p: &Ref, q: &Ref) -> bool
+pub fn same_place(p: &Ref, q: &Ref) -> bool
     ensures { result ≡ same_place p.now q.now }
 {
     match (p, q) {

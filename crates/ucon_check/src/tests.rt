@@ -77,7 +77,7 @@ fn first_faults_are_told(rt: HostRuntime) -> Result<(), Fail> {
         (most, 2, CheckFault::Twice(right, 8)),
     ] {
         let policy = policy(alloc, second.bytes(), rights)?;
-        assert_eq!(rt; check(alloc, policy).err(), Some(expected));
+        assert_eq!(rt; check(policy).err(), Some(expected));
     }
     Ok(())
 }
@@ -85,7 +85,7 @@ fn first_faults_are_told(rt: HostRuntime) -> Result<(), Fail> {
 #[test]
 fn three_users_at_most(rt: HostRuntime) -> Result<(), Fail> {
     let alloc = rt.alloc();
-    let checked = check(alloc, policy(alloc, b"most", 1)?)?;
+    let checked = check(policy(alloc, b"most", 1)?)?;
     assert_eq!(rt; checked.policy().rights.len(), 1);
     let cores = core_models(alloc, &checked, 0)?;
     let names: [&[u8]; 2] = [b"onA1", b"onA3"];
@@ -135,14 +135,11 @@ fn declares(alloc: Global, attr: Kind, env: Kind) -> Result<Checked, Fail> {
         start: first_of(alloc, env)?,
     })?;
     let rights = Rows::new(alloc);
-    Ok(check(
-        alloc,
-        Policy {
-            attrs,
-            envs,
-            rights,
-        },
-    )?)
+    Ok(check(Policy {
+        attrs,
+        envs,
+        rights,
+    })?)
 }
 
 #[test]

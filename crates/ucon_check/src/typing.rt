@@ -1,19 +1,19 @@
 //! The first fault of a policy.
 
-ghost use Rattle.std.specs.Prelude.{◌≡◌, ◌+◌, [], map, false, option_map, Err, IfOk, IfErr};
+ghost use Rattle.std.specs.Prelude.{◌≡◌, ◌+◌, [], map, option_map, None, Some, IfOk, IfErr};
 ghost use Rattle.ucon_model.specs.Checked.{checked_policy};
-ghost use Rattle.ucon_model.specs.Cores.{is_core};
 ghost use Rattle.ucon_model.specs.Views.{predicate_of, update_of, right_of, policy_of};
-ghost use Rattle.ucon_model.specs.Typing.{attr_fault, env_fault, predicate_fault, update_fault, first_fault_of, one_item, items_of, whole_fault, right_fault, type_fault, IsTyped};
+ghost use Rattle.ucon_model.specs.Typing.{undeclared, attr_fault, env_fault, predicate_fault, update_fault, first_fault_of, one_item, items_of, whole_fault, right_fault, type_fault, IsTyped};
+ghost use Rattle.ucon_check.specs.Counted.{AreDeclaredOnce};
 ghost use Rattle.ucon_check.specs.Numbers.{told_number};
-ghost use Rattle.ucon_check.specs.Told.{told, IsTold, Answers};
+ghost use Rattle.ucon_check.specs.Sought.{all_read};
+ghost use Rattle.ucon_check.specs.Told.{told, Answers};
 
 use crate::CheckFault;
 use crate::cores::is_core;
+use crate::counted::count_read;
 use crate::fault::after;
 use crate::items::{check_attr, check_env, check_heading, check_predicate, check_update};
-use crate::places::places_read;
-use std::alloc::Global;
 use ucon_model::{AttrDecl, Checked, EnvDecl, Policy, Predicate, Right, Update};
 
 /// The most distinct places that a right's ongoing predicates may read.
@@ -44,48 +44,39 @@ fn check_envs(first: u32, envs: &[EnvDecl]) -> Result<(), CheckFault>
 }
 
 /// A right's predicates, the first of which is this item.
-fn check_predicates(
-    alloc: Global,
-    policy: &Policy,
-    first: u32,
-    preds: &[Predicate],
-) -> Result<(), CheckFault>
+fn check_predicates(policy: &Policy, first: u32, preds: &[Predicate]) -> Result<(), CheckFault>
     ensures { Answers (first_fault_of one_item (predicate_fault (policy_of policy.now)) [] first (map predicate_of preds.now)) result }
 {
     let mut item = first;
     for (i, p) in preds.iter().enumerate() {
-        check_predicate(alloc, policy, &preds[..i], item, p)?;
+        check_predicate(policy, &preds[..i], item, p)?;
         item = after(item, 1);
     }
     Ok(())
 }
 
 /// A right's updates, the first of which is this item.
-fn check_updates(
-    alloc: Global,
-    policy: &Policy,
-    first: u32,
-    updates: &[Update],
-) -> Result<(), CheckFault>
+fn check_updates(policy: &Policy, first: u32, updates: &[Update]) -> Result<(), CheckFault>
     ensures { Answers (first_fault_of one_item (update_fault (policy_of policy.now)) [] first (map update_of updates.now)) result }
 {
     let mut item = first;
     for u in updates {
-        check_update(alloc, policy, item, u)?;
+        check_update(policy, item, u)?;
         item = after(item, 1);
     }
     Ok(())
 }
 
-/// A right as a whole. That it is of no core model is told whatever memory there is.
-fn check_whole(alloc: Global, right: &Right) -> Result<(), CheckFault>
-    ensures told { Answers (whole_fault (right_of right.now)) result }
-    ensures sure { is_core (right_of right.now) ≡ false → result ≡ Err (CheckFault.NotCore right.now.name) }
+/// A right as a whole, all of whose places are declared.
+fn check_whole(policy: &Policy, right: &Right) -> Result<(), CheckFault>
+    requires once { AreDeclaredOnce (policy_of policy.now) }
+    requires declared { undeclared (policy_of policy.now) (all_read (right_of right.now)) ≡ None }
+    ensures { Answers (whole_fault (right_of right.now)) result }
 {
     if !is_core(right) {
         return Err(CheckFault::NotCore(right.name));
     }
-    let count = places_read(alloc, right)?.len();
+    let count = count_read(policy, right);
     if count > MOST_PLACES {
         return Err(CheckFault::TooManyCells(right.name, after(0, count)));
     }
@@ -94,21 +85,21 @@ fn check_whole(alloc: Global, right: &Right) -> Result<(), CheckFault>
 
 /// A right, behind those before it, whose heading is this item.
 fn check_right(
-    alloc: Global,
     policy: &Policy,
     before: &[Right],
     item: u32,
     right: &Right,
 ) -> Result<(), CheckFault>
+    requires { AreDeclaredOnce (policy_of policy.now) }
     ensures { Answers (right_fault (policy_of policy.now) (map right_of before.now) item (right_of right.now)) result }
 {
     let preds = right.preds.slice();
     let first_pred = after(item, 1);
     let first_update = after(first_pred, preds.len());
     check_heading(before, item, right)?;
-    check_predicates(alloc, policy, first_pred, preds)?;
-    check_updates(alloc, policy, first_update, right.updates.slice())?;
-    check_whole(alloc, right)
+    check_predicates(policy, first_pred, preds)?;
+    check_updates(policy, first_update, right.updates.slice())?;
+    check_whole(policy, right)
 }
 
 /// The item behind a right whose heading is this item.
@@ -120,23 +111,19 @@ fn after_right(item: u32, right: &Right) -> u32
 }
 
 /// The rights, of which the first one's heading is this item.
-fn check_rights(
-    alloc: Global,
-    policy: &Policy,
-    first: u32,
-    rights: &[Right],
-) -> Result<(), CheckFault>
+fn check_rights(policy: &Policy, first: u32, rights: &[Right]) -> Result<(), CheckFault>
+    requires { AreDeclaredOnce (policy_of policy.now) }
     ensures { Answers (first_fault_of items_of (right_fault (policy_of policy.now)) [] first (map right_of rights.now)) result }
 {
     let mut item = first;
     for (i, r) in rights.iter().enumerate() {
-        check_right(alloc, policy, &rights[..i], item, r)?;
+        check_right(policy, &rights[..i], item, r)?;
         item = after_right(item, r);
     }
     Ok(())
 }
 
-fn check_policy(alloc: Global, policy: &Policy) -> Result<(), CheckFault>
+fn check_policy(policy: &Policy) -> Result<(), CheckFault>
     ensures { Answers (type_fault (policy_of policy.now)) result }
 {
     let attrs = policy.attrs.slice();
@@ -144,19 +131,15 @@ fn check_policy(alloc: Global, policy: &Policy) -> Result<(), CheckFault>
     let first_env = after(1, attrs.len());
     check_attrs(1, attrs)?;
     check_envs(first_env, envs)?;
-    check_rights(
-        alloc,
-        policy,
-        after(first_env, envs.len()),
-        policy.rights.slice(),
-    )
+    let first_right = after(first_env, envs.len());
+    check_rights(policy, first_right, policy.rights.slice())
 }
 
-/// The policy, if it is well typed, or its first fault.
-pub fn check(alloc: Global, policy: Policy) -> Result<Checked, CheckFault>
+/// The policy, if it is well typed, or its first fault. That is told whatever memory there is, since none is taken.
+pub fn check(policy: Policy) -> Result<Checked, CheckFault>
     ensures ok { IfOk result (λ c. (checked_policy c ≡ policy_of policy) × IsTyped (policy_of policy)) }
-    ensures err { IfErr result (IsTold (option_map told (type_fault (policy_of policy)))) }
+    ensures err { IfErr result (λ fault. option_map told (type_fault (policy_of policy)) ≡ Some fault) }
 {
-    check_policy(alloc, &policy)?;
+    check_policy(&policy)?;
     Ok(Checked::new(policy))
 }

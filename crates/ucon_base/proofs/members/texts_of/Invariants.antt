@@ -1,9 +1,9 @@
-use Rattle.std.proofs.Common.{◌≡◌, ◌++◌, drop}
-use Rattle.ucon_base.specs.Members.{texts_seen, EachIsText}
+use Rattle.std.proofs.Common.{◌≡◌, ◌++◌, drop, map}
+use Rattle.ucon_base.specs.Members.{EachIsText}
 use Rattle.ucon_base.proofs.members.texts_of.Given as goal
 
-abbrev pub invariant-loop-m : goal.invariant-loop-m
-invariant-loop-m l = record {
-  texts : l.texts.items ++ texts_seen (drop l.m-index l.members) ≡ texts_seen l.members;
-  each : EachIsText (drop l.m-index l.members);
+abbrev pub invariant-loop-t : goal.invariant-loop-t
+invariant-loop-t l = record {
+  texts : l.read.items ++ map (λ t. t.now) (drop l.t-index l.texts) ≡ map (λ t. t.now) l.texts;
+  each : EachIsText (map (λ t. t.now) (drop l.t-index l.texts));
 }

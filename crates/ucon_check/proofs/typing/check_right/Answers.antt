@@ -1,8 +1,9 @@
-use Rattle.std.proofs.Common.{map, ap}
+use Rattle.std.proofs.Common.{[], map, ap}
 use Rattle.std.proofs.lemmas.List.{length-map}
 use Rattle.std.proofs.lemmas.Result.{err_from_is_err_and}
 use Rattle.ucon_model.specs.Views.{predicate_of, update_of, right_of, policy_of}
 use Rattle.ucon_model.specs.Typing.{whole_fault, right_fault}
+use Rattle.ucon_check.proofs.Declared.{preds_known}
 use Rattle.ucon_check.proofs.Parts.{answers_alike, preds_of_right, updates_of_right, whole_of_right}
 use Rattle.ucon_check.proofs.typing.check_right.Goals as goal
 
@@ -26,6 +27,14 @@ returns-in_err-check_updates c =
     (rw (length-map preds predicate_of) c.after-first_update.ensures) (ap (map predicate_of) c.slice-preds.ensures) (ap (map update_of) c.slice.ensures)
     c.in_ok-check_heading.ensures c.in_ok-check_predicates.ensures c.in_err-check_updates.ensures)
 
+pub check_whole-requires : goal.check_whole-requires
+check_whole-requires c = record {
+  once = c.requires;
+  declared =
+      preds_known (policy_of c.args.policy.now) [] c.after-first_pred.result (right_of c.args.right.now).preds
+      (rw c.slice-preds.ensures at c.in_ok-check_predicates.ensures);
+}
+
 pub returns : goal.returns
 returns c =
     let P = policy_of c.args.policy.now in
@@ -36,4 +45,4 @@ returns c =
     (whole_of_right P before c.args.item r c.after-first_pred.result c.after-first_update.result (map predicate_of preds) (map update_of c.slice.result.now)
     c.after-first_pred.ensures (rw (length-map preds predicate_of) c.after-first_update.ensures) (ap (map predicate_of) c.slice-preds.ensures)
     (ap (map update_of) c.slice.ensures) c.in_ok-check_heading.ensures c.in_ok-check_predicates.ensures c.in_ok-check_updates.ensures)
-    c.check_whole.ensures.told
+    c.check_whole.ensures

@@ -1,0 +1,16 @@
+use Rattle.std.proofs.Common.{None}
+use Rattle.ucon_base.specs.Reading.{opened, members}
+use Rattle.ucon_base.proofs.SetsRead.{told_long, told_many, told_found}
+use Rattle.ucon_base.proofs.members.spelled.Goals as goal
+
+pub returns-in-Some-clause-read : goal.returns-in-Some-clause-read
+returns-in-Some-clause-read c =
+    told_long (members None opened 1 c.args.bytes.now) c.in_ok-found.found c.in-Some.at c.in_ok-found.ensures c.in-Some.is
+
+pub returns-then-found-gt-MOST_TEXTS-clause-read : goal.returns-then-found-gt-MOST_TEXTS-clause-read
+returns-then-found-gt-MOST_TEXTS-clause-read c =
+    told_many (members None opened 1 c.args.bytes.now) c.in_ok-found.found c.in_ok-found.ensures c.in-None.is c.if-found-gt-MOST_TEXTS.true
+
+pub returns-else-found-gt-MOST_TEXTS-clause-read : goal.returns-else-found-gt-MOST_TEXTS-clause-read
+returns-else-found-gt-MOST_TEXTS-clause-read c =
+    told_found (members None opened 1 c.args.bytes.now) c.in_ok-found.found c.in_ok-found.ensures c.in-None.is c.if-found-gt-MOST_TEXTS.false
