@@ -10,13 +10,10 @@ use Rattle.ucon_model.specs.Usages.{going_on}
 use Rattle.ucon_state.specs.Shown.{Shown}
 use Rattle.ucon_state.specs.Tables.{session_in}
 use Rattle.ucon_cascade.specs.Grouping.{AreGrouped, AreGroupedBelow, GetsFirst}
-use Rattle.ucon_cascade.specs.Lists.{leader_in}
 use Rattle.ucon_cascade.specs.Putting.{GoesOn}
-use Rattle.ucon_cascade.specs.Readers.{AreReadBelow, IsKept, StandAsTheyRead, first_of, readers_at}
+use Rattle.ucon_cascade.specs.Readers.{AreReadBelow, StandAsTheyRead, first_of, readers_at}
 use Rattle.ucon_cascade.specs.declared.readers.Readers.{Readers}
 use Rattle.ucon_cascade.proofs.Grouped.{among_like, grouped_all, grouped_fewer, grouped_more}
-use Rattle.ucon_cascade.proofs.Leading.{stands_by, stands_if_there}
-use Rattle.ucon_cascade.proofs.Listed.{leader_cases}
 use Rattle.ucon_cascade.specs.Numbering.{AreNumbered, IsExact, IsExactBelow, place_numbers}
 use Rattle.ucon_cascade.specs.Listing.{ComesTo, StandsNowhere}
 use Rattle.ucon_cascade.proofs.Putting.{usage_below}
@@ -137,19 +134,10 @@ none_read s r nobody = record {
     none : (n : ℕ) → n < 1 → GoesOn s n → ⊥
     none n below goes = let row = some_row (going_on (session_in s.tables n)) goes in no_first s n row.0 below row.1
 
--- whoever is in a list is below
-pub listed_below : (s : Shown) (r : Readers) (limit n : ℕ) → IsKept r → AreReadBelow s limit r → IsSome (leader_in r.standing.lists.wheel n) → n < limit
-listed_below s r limit n kept read listed = elim (leader_cases r.standing.lists.wheel n) [
-  | inl none ↦ (let no : IsSome {T = ℕ} None = subst (λ (o : Option ℕ). IsSome o) none listed in let not : false ≡ true = no in absurd cc)
-  | inr some ↦
-      let stands = stands_if_there some.0 r.standing.index.places (kept.at_rest.led some.0 n some.2) in
-      read.exact.below n stands.0 (stands_by r.standing.lists.wheel r.standing.index stands.0 some.0 n stands.1 some.2)
-]
-
--- those who are in a list stand where they read
-pub all_stand : (s : Shown) (r : Readers) (n : ℕ) → IsKept r → AreReadBelow s n r → StandAsTheyRead s r n
-all_stand s r n kept read m row apart listed is =
-    let below = listed_below s r n m kept read listed in (
+-- those who stand somewhere stand where they read
+pub all_stand : (s : Shown) (r : Readers) (n : ℕ) → AreReadBelow s n r → StandAsTheyRead s r n
+all_stand s r n read m row apart stood is =
+    let below = read.exact.below m stood.0 stood.1 in (
       read.exact.numbered m row below is,
       λ place. (
         λ stands. (

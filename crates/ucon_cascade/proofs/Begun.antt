@@ -12,8 +12,7 @@ use Rattle.ucon_state.specs.Shown.{Shown}
 use Rattle.ucon_state.specs.Tables.{session_in}
 use Rattle.ucon_cascade.specs.Cascading.{WereExact}
 use Rattle.ucon_cascade.specs.Grouping.{AreGrouped, AreGroupedAmong, GetsFirst, MayLead}
-use Rattle.ucon_cascade.specs.Listing.{ComesTo, StandsNowhere}
-use Rattle.ucon_cascade.specs.Lists.{leader_in}
+use Rattle.ucon_cascade.specs.Listing.{ComesTo, StandsNowhere, StandsSomewhere}
 use Rattle.ucon_cascade.specs.Numbering.{AreNumbered, IsExact, place_numbers}
 use Rattle.ucon_cascade.specs.Putting.{GoesOn}
 use Rattle.ucon_cascade.specs.Readers.{StandAsTheyRead, first_of, readers_at}
@@ -44,12 +43,12 @@ comes_like standing standing' k places others same comes n place = (
 
 -- where another's places are a session's
 pub joined_comes : (s : Shown) (r r' : Readers) (n m : ℕ) (row : SessionRow) → session_in s.tables n ≡ Some row → MayLead s (first_of r) n m
-    → IsSome (leader_in r.standing.lists.wheel m) → StandAsTheyRead s r n
+    → StandsSomewhere (readers_at r) m → StandAsTheyRead s r n
     → ((k place : ℕ) → Contains (readers_at r' place) k ↔ (((k ≡ n) × Contains (readers_at r place) m) ⊎ Contains (readers_at r place) k))
     → ComesTo (readers_at r) (readers_at r') n (place_numbers s row) × AreNumbered s row
-joined_comes s r r' n m row is may listed exact comes =
+joined_comes s r r' n m row is may stood exact comes =
     let apart : m ≢ n = λ same. (let below = may.below in omega (arith, same, below)) in
-    let reads = exact m may.like.row apart listed (begun_row (session_in s.tables m) may.like.row may.like.is may.on) in
+    let reads = exact m may.like.row apart stood (begun_row (session_in s.tables m) may.like.row may.like.is may.on) in
     let mine : may.like.other ≡ row = one_row_of (session_in s.tables n) may.like.other row may.like.other_is is in
     let alike : JudgedAlike s.policy may.like.row row = subst (λ (other : SessionRow). JudgedAlike s.policy may.like.row other) mine may.like.alike in
     let places = numbers_alike s may.like.row row alike in (
@@ -81,7 +80,7 @@ module _ (s : Shown) (r : Readers) (k : ℕ) (were : WereExact s (readers_at r) 
 
   -- the others stand where they read
   pub others_stand : StandAsTheyRead s r k
-  others_stand m row apart listed is =
+  others_stand m row apart stood is =
       let was : going_on (session_in were.before.tables m) ≡ Some row = sym (others_same m apart) ∙ is in
       let numbered = were.exact.numbered m row was in
       let same = numbers_stay were.before s were.base row numbered in (

@@ -2,6 +2,7 @@ pub mod Outcomes
 pub mod Listed
 pub mod Told
 pub mod Leading
+pub mod Founding
 pub mod Placed
 pub mod Walking
 pub mod Alike

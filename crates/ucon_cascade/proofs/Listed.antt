@@ -1,6 +1,6 @@
 -- Who is in a list, and who is its first.
 use Rattle.std.proofs.Common.{◌≡◌, ◌≢◌, ◌∙◌, ◌⊎◌, inl, inr, ◌↔◌, ◌+◌, ◌*◌, ◌/◌, ◌%◌, ℕ, zero, suc, ◌≤◌, ℤ, pos, negsuc, Bool, true, false, cond, List, [], ◌∷◌, refl, sym, ap, subst, arith, ◌&&◌}
-use Rattle.std.specs.Prelude.{Option, Some, None, is_some, nat_abs, nat_eq, not, min, find, option_map, slice_get}
+use Rattle.std.specs.Prelude.{Option, Some, None, is_some, nat_abs, nat_eq, not, min, find, option_map}
 use Rattle.std.specs.List.{Contains, flat_map}
 use Rattle.std.specs.Option.{option_map_or}
 use Rattle.std.specs.declared.cmp.Ordering.{Ordering}
@@ -12,7 +12,7 @@ use Rattle.std.specs.Map.{lookup}
 use Rattle.std.proofs.lemmas.Bool.Decides.{eqb_tells}
 use Rattle.std.proofs.lemmas.List.Elements.{Contains-append_left, Contains-append_right, Contains-append_cases}
 use Rattle.ucon_wheel.specs.Deadlines.{Deadlines, Pair, IsShown, is_pair, pair_cmp, state_of}
-use Rattle.ucon_cascade.specs.Lists.{AreOfOne, AreTold, first_in, in_front, is_number, is_of_member, is_of_some, is_shown, leader_in, least_of, member_of, members_in, of_list}
+use Rattle.ucon_cascade.specs.Lists.{AreOfOne, AreTold, first_in, in_front, is_number, is_of_member, is_of_some, is_shown, leader_in, leader_told, least_of, member_of, members_in, of_list}
 
 -- ---- elements
 
@@ -83,7 +83,7 @@ shown_state (Some false) is = refl
 shown_is : (v : Deadlines) (p : Pair) → is_shown v p ≡ true → IsShown v p
 shown_is v p is = shown_state (state_of v p) is
 
-is_shown_so : (v : Deadlines) (p : Pair) → IsShown v p → is_shown v p ≡ true
+pub is_shown_so : (v : Deadlines) (p : Pair) → IsShown v p → is_shown v p ≡ true
 is_shown_so v p is = ap (λ (o : Option Bool). option_map_or not o false) is
 
 -- a pair that is there stands among the pairs
@@ -212,13 +212,15 @@ pub is_none_if : (v : Deadlines) (n : ℕ) → ((l : ℕ) → Contains (members_
 is_none_if v n nowhere = elim (leader_cases v n) [ inl none ↦ none | inr some ↦ absurd (nowhere some.0 some.2) ]
 
 -- what tells the leaders lets nobody be in two lists
-pub listed_leader : (v : Deadlines) (leaders : List ℕ) → AreTold v leaders → (l n : ℕ) → IsShown v (of_list l, n) → slice_get leaders n ≡ Some l
-listed_leader v leaders told l n there = elim (told (of_list l) n (ap is_some there)) [
-  | inl front ↦ absurd (not_front l n front)
-  | inr of ↦ subst (λ (k : ℕ). slice_get leaders n ≡ Some k) (sym (one_list l of.0 of.1)) of.2
-]
+pub listed_leader : (v : Deadlines) (leaders : List (Option ℕ)) → AreTold v leaders → (l n : ℕ) → IsShown v (of_list l, n) → leader_told leaders n ≡ Some l
+listed_leader v leaders told l n there =
+    let is = told (of_list l) n (ap is_some there) in
+    elim is.2 [
+      | inl front ↦ absurd (not_front l n front)
+      | inr of ↦ subst (λ (k : ℕ). leader_told leaders n ≡ Some k) (sym (one_list l is.0 of)) is.1
+    ]
 
-pub told_of_one : (v : Deadlines) (leaders : List ℕ) → AreTold v leaders → AreOfOne v
+pub told_of_one : (v : Deadlines) (leaders : List (Option ℕ)) → AreTold v leaders → AreOfOne v
 told_of_one v leaders told l n has = elim (leader_cases v n) [
   | inl none ↦ absurd (leader_none v n l none has)
   | inr some ↦
@@ -226,6 +228,17 @@ told_of_one v leaders told l n has = elim (leader_cases v n) [
       let there = listed_leader v leaders told some.0 n (member_shown v some.0 n some.2) in
       some.1 ∙ sym there ∙ here
 ]
+
+-- ---- joined lists
+
+pub same_shown : (v w : Deadlines) (p : Pair) → (IsShown w p → IsShown v p) → (IsShown v p → IsShown w p) → is_shown w p ≡ is_shown v p
+same_shown v w p there back = by (is_shown w p) refl (is_shown v p) refl
+  where
+    by : (a : Bool) → is_shown w p ≡ a → (b : Bool) → is_shown v p ≡ b → is_shown w p ≡ is_shown v p
+    by true is true was = is ∙ sym was
+    by false is false was = is ∙ sym was
+    by true is false was = absurd (let both : false ≡ true = sym was ∙ is_shown_so v p (there (shown_is w p is)) in cc)
+    by false is true was = absurd (let both : false ≡ true = sym is ∙ is_shown_so w p (back (shown_is v p was)) in cc)
 
 -- ---- the least
 

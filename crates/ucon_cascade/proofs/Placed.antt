@@ -4,8 +4,8 @@ use Rattle.std.specs.Prelude.{Option, None, Some}
 use Rattle.std.specs.List.{flat_map}
 use Rattle.ucon_index.specs.Dependents.{Place, Dependents, UnhideGives, empty_place, hide, place_at, stands_in, has_session, is_there}
 use Rattle.ucon_wheel.specs.Deadlines.{Deadlines}
-use Rattle.ucon_cascade.specs.Listing.{ChangesGive, IsKept, Listing, TakingOutGives, readers_in}
-use Rattle.ucon_cascade.specs.Lists.{first_in, members_in}
+use Rattle.ucon_cascade.specs.Listing.{AreLed, ChangesGive, IsKept, Listing, TakingOutGives, readers_in}
+use Rattle.ucon_cascade.specs.Lists.{first_in, led_by}
 use Rattle.ucon_cascade.specs.Readers.{IsKept as IsKeptSo, UndoGives, by_changes, by_replaced, first_of, readers_at}
 use Rattle.ucon_cascade.specs.Timers.{UndoGives as ListsGive}
 use Rattle.ucon_cascade.specs.declared.readers.Readers.{Readers}
@@ -33,6 +33,13 @@ is_there-grown session (place ∷ rest) n = ap (λ b. has_session session place.
 
 -- ---- undoing
 
+-- whoever is there in one index is there in another
+pub led_there : (v : Deadlines) (i j : Dependents) → AreLed v i → ((l : ℕ) → is_there l j.places ≡ is_there l i.places) → AreLed v j
+led_there v i j led there = record {
+  there = λ l n member. (let was = led.there l n member in (there l ∙ was.0, was.1));
+  alone = λ l is unjoined. led.alone l (sym (there l) ∙ is) unjoined;
+}
+
 -- where an index is as it was, or has one more leader, undoing gives what stood there before
 pub base_gives : (s s' : Listing) (base : Dependents) → IsKept s → ListsGive s'.lists s.lists.wheel → TakingOutGives s'.added s'.index base → s'.index.hidden ≡ []
     → base.hidden ≡ [] → ((place : ℕ) → stands_in base place ≡ stands_in s.index place) → ((l : ℕ) → is_there l base.places ≡ is_there l s.index.places)
@@ -45,9 +52,9 @@ base_gives s s' base kept lists taking_out none_hidden base_hidden stands there 
   unhiding = subst (λ hidden. UnhideGives (length hidden) s'.index s'.index) (sym none_hidden) refl;
   taking_out = taking_out;
   holds = record {
-    stands = λ place. ap (flat_map (members_in s.lists.wheel)) (stands place);
+    stands = λ place. ap (flat_map (led_by s.lists.wheel)) (stands place);
     firsts = λ n. refl;
-    led = λ leader n member. there leader ∙ kept.led leader n member;
+    led = led_there s.lists.wheel s.index base kept.led there;
     nobody_hidden = base_hidden;
   };
 }

@@ -2,20 +2,22 @@
 use Rattle.std.proofs.Common.{◌≡◌, ◌≢◌, ◌∙◌, ◌⊎◌, inl, inr, ◌↔◌, ◌+◌, ◌*◌, ◌<◌, ◌≤ℤ◌, ◌<ℤ◌, arith, ℕ, zero, suc, length, ℤ, pos, Bool, true, false, cond, List, [], ◌∷◌, refl, sym, ap, subst}
 use Rattle.std.specs.Prelude.{Option, Some, None, IsSome, is_some, slice_get, slice_set}
 use Rattle.std.specs.List.{Contains}
+use Rattle.std.specs.Option.{option_map_or}
+use Rattle.std.proofs.lemmas.Bool.Decides.{eqb_tells}
 use Rattle.std.specs.Map.{lookup, remove_entry, set_value}
 use Rattle.std.proofs.lemmas.Int.{ints}
 use Rattle.ucon_wheel.specs.Deadlines.{Deadlines, IsBehind, IsShown, Pair, is_pair, state_of, unhide_first}
-use Rattle.ucon_cascade.specs.Lists.{AreOfOne, AreTold, HasJoined, HasLeft, HidesNone, IsTold, in_front, leader_in, members_in, of_list}
+use Rattle.ucon_cascade.specs.Lists.{AreOfOne, AreTold, HasJoined, HasLeft, HidesNone, IsTold, in_front, is_joined, leader_in, leader_told, members_in, of_list}
 use Rattle.ucon_cascade.specs.Timers.{AreSame, Gets, HasDeadline, HidesNoMore, HidesNothing, IsHidden, Loses, all_undone, undone}
 use Rattle.ucon_cascade.specs.declared.timers.Change.{Change}
 use Rattle.ucon_cascade.specs.declared.timers.Change.TheVariants.{Put, Hidden}
-use Rattle.ucon_cascade.proofs.Listed.{is_none_if, listed_leader, member_shown, not_front, one_list, shown_member, told_of_one}
+use Rattle.ucon_cascade.proofs.Listed.{is_none_if, is_shown_so, leader_none, listed_leader, member_shown, not_front, one_list, same_shown, shown_member, told_of_one}
 
 -- the second has pairs of the first alone
 abbrev pub HasNoMore : (old new : Deadlines) → Type 0
 HasNoMore old new = (d : ℤ) (l : ℕ) → IsSome (state_of new (d, l)) → IsSome (state_of old (d, l))
 
-pub told_less : (v w : Deadlines) (leaders : List ℕ) → AreTold v leaders → HasNoMore v w → AreTold w leaders
+pub told_less : (v w : Deadlines) (leaders : List (Option ℕ)) → AreTold v leaders → HasNoMore v w → AreTold w leaders
 told_less v w leaders told less d l there = told d l (less d l there)
 
 -- a pair that is there is shown or hidden
@@ -30,19 +32,25 @@ shown_or_hidden v d l there = by (state_of v (d, l)) refl there
 -- ---- a deadline comes
 
 -- the new one is told, and all old ones still are
-pub told_more : (v w : Deadlines) (leaders leaders' : List ℕ) (session : ℕ) (deadline : ℤ) → AreTold v leaders → HidesNone v
+pub told_more : (v w : Deadlines) (leaders leaders' : List (Option ℕ)) (session : ℕ) (deadline : ℤ) → AreTold v leaders → HidesNone v
     → Gets v w session (λ d. d ≡ deadline) → HidesNoMore v w → IsTold leaders' deadline session
-    → ((l n : ℕ) → HasDeadline v n (of_list l) → slice_get leaders n ≡ Some l → slice_get leaders' n ≡ Some l) → AreTold w leaders'
+    → ((d : ℤ) (n : ℕ) → HasDeadline v n d → IsTold leaders d n → IsTold leaders' d n) → AreTold w leaders'
 told_more v w leaders leaders' session deadline told none gets no_more new others d n there = elim (shown_or_hidden w d n there) [
   | inl shows ↦ elim ((gets n d).0 shows) [
     | inl here ↦ subst (λ (k : ℕ). IsTold leaders' d k) (sym here.0) (subst (λ (e : ℤ). IsTold leaders' e session) (sym here.1) new)
-    | inr old ↦ elim (told d n (ap is_some old)) [
-      | inl front ↦ inl front
-      | inr of ↦ inr (of.0, of.1, others of.0 n (subst (HasDeadline v n) of.1 old) of.2)
-    ]
+    | inr old ↦ others d n old (told d n (ap is_some old))
   ]
   | inr hides ↦ absurd (none n d (no_more n d hides))
 ]
+
+-- who is in no list hasn't the deadline of one
+pub none_there : (v : Deadlines) (session leader : ℕ) → HidesNone v → leader_in v session ≡ None → state_of v (of_list leader, session) ≡ None
+none_there v session leader none alone = by (state_of v (of_list leader, session)) refl
+  where
+    by : (o : Option Bool) → state_of v (of_list leader, session) ≡ o → state_of v (of_list leader, session) ≡ None
+    by None is = is
+    by (Some true) is = absurd (none session (of_list leader) is)
+    by (Some false) is = absurd (leader_none v session leader alone (shown_member v leader session is))
 
 -- ---- changes are taken back
 
@@ -163,22 +171,55 @@ keep_less v w same nothing d l some = elim (shown_or_hidden w d l some) [
 
 -- ---- leaders
 
-pub leader_if : (v : Deadlines) (leaders : List ℕ) (n l : ℕ) → AreTold v leaders → HasDeadline v n (of_list l) → leader_in v n ≡ Some l
+pub leader_if : (v : Deadlines) (leaders : List (Option ℕ)) (n l : ℕ) → AreTold v leaders → HasDeadline v n (of_list l) → leader_in v n ≡ Some l
 leader_if v leaders n l told there = told_of_one v leaders told l n (shown_member v l n there)
 
-pub none_listed : (v : Deadlines) (leaders : List ℕ) (n : ℕ) → AreTold v leaders → slice_get leaders n ≡ None → leader_in v n ≡ None
+pub none_listed : (v : Deadlines) (leaders : List (Option ℕ)) (n : ℕ) → AreTold v leaders → leader_told leaders n ≡ None → leader_in v n ≡ None
 none_listed v leaders n told none = is_none_if v n (λ l has.
     let leads = listed_leader v leaders told l n (member_shown v l n has) in
     let no : None ≡ Some l = sym none ∙ leads in
     cc)
 
-pub none_of_that : (v : Deadlines) (leaders : List ℕ) (n leader : ℕ) → AreTold v leaders → slice_get leaders n ≡ Some leader → (HasDeadline v n (of_list leader) → ⊥)
+pub none_of_that : (v : Deadlines) (leaders : List (Option ℕ)) (n leader : ℕ) → AreTold v leaders → leader_told leaders n ≡ Some leader → (HasDeadline v n (of_list leader) → ⊥)
     → leader_in v n ≡ None
 none_of_that v leaders n leader told listed never = is_none_if v n (λ l has.
     let there = member_shown v l n has in
     let same : Some l ≡ Some leader = sym (listed_leader v leaders told l n there) ∙ listed in
     let led : l ≡ leader = cc in
     never (subst (λ (k : ℕ). HasDeadline v n (of_list k)) led there))
+
+-- ---- which lists were joined
+
+-- a member's deadline comes
+pub joined_put : (v w : Deadlines) (leader session : ℕ) (deadline : ℤ) → deadline ≡ of_list leader → Gets v w session (λ d. d ≡ deadline) → (l : ℕ)
+    → is_joined w l ≡ is_joined v l
+joined_put v w leader session deadline is gets l =
+    same_shown v w (in_front l, l)
+    (λ shown. elim ((gets l (in_front l)).0 shown) [ inl new ↦ absurd (not_front leader l (sym is ∙ sym new.1)) | inr old ↦ old ])
+    (λ shown. (gets l (in_front l)).1 (inr shown))
+
+-- or goes
+pub joined_hide : (v w : Deadlines) (leader session : ℕ) (deadline : ℤ) → deadline ≡ of_list leader → Loses v w session deadline → (l : ℕ)
+    → is_joined w l ≡ is_joined v l
+joined_hide v w leader session deadline is loses l =
+    same_shown v w (in_front l, l) (λ shown. ((loses l (in_front l)).0 shown).1)
+    (λ shown. (loses l (in_front l)).1 (λ same. not_front leader l (sym is ∙ sym same.1), shown))
+
+-- or that of a leader comes, which joins its list
+pub joined_front : (v w : Deadlines) (session : ℕ) (deadline : ℤ) → deadline ≡ in_front session → Gets v w session (λ d. d ≡ deadline) → is_joined w session ≡ true
+joined_front v w session deadline is gets = is_shown_so w (in_front session, session) ((gets session (in_front session)).1 (inl (refl, sym is)))
+
+pub others_joined : (v w : Deadlines) (session : ℕ) (deadline : ℤ) → Gets v w session (λ d. d ≡ deadline) → (l : ℕ)
+    → (l ≡ session) ⊎ (is_joined w l ≡ is_joined v l)
+others_joined v w session deadline gets l = elim (eqb_tells l session) [
+  | inl here ↦ inl here.1
+  | inr other ↦ inr (same_shown v w (in_front l, l)
+      (λ shown. elim ((gets l (in_front l)).0 shown) [ inl new ↦ absurd (other.1 new.0) | inr old ↦ old ])
+      (λ shown. (gets l (in_front l)).1 (inr shown)))
+]
+
+pub kept_joined : (v w : Deadlines) → ((n : ℕ) (d : ℤ) → HasDeadline w n d ↔ HasDeadline v n d) → (l : ℕ) → is_joined w l ≡ is_joined v l
+kept_joined v w same l = same_shown v w (in_front l, l) (same l (in_front l)).0 (same l (in_front l)).1
 
 -- ---- the first behind a leader
 
@@ -187,12 +228,11 @@ pub behind_front : (l n : ℕ) → IsBehind (in_front l, l) (of_list l, n)
 behind_front l n = inl (let low : pos (2 * l) <ℤ pos (2 * l + 1) = omega (arith, ints) in low)
 
 -- what stands behind a leader, and not behind a member of its list, is a member
-pub first_is_member : (v : Deadlines) (leaders : List ℕ) (l : ℕ) (p : Pair) → AreTold v leaders → IsShown v p → IsBehind (in_front l, l) p → (n : ℕ)
+pub first_is_member : (v : Deadlines) (leaders : List (Option ℕ)) (l : ℕ) (p : Pair) → AreTold v leaders → IsShown v p → IsBehind (in_front l, l) p → (n : ℕ)
     → (p ≡ (of_list l, n)) ⊎ IsBehind p (of_list l, n) → p.0 ≡ of_list l
-first_is_member v leaders l p told there behind n before = elim (told p.0 p.1 (ap is_some there)) [
-  | inl front ↦ absurd (by_front front)
-  | inr of ↦ of.1 ∙ ap of_list (by_list of.0 of.1)
-]
+first_is_member v leaders l p told there behind n before =
+    let is = told p.0 p.1 (ap is_some there) in
+    elim is.2 [ inl front ↦ absurd (by_front front) | inr of ↦ of ∙ ap of_list (by_list is.0 of) ]
   where
     low : in_front l ≤ℤ p.0
     low = elim behind [ inl earlier ↦ (let is : pos (2 * l) <ℤ p.0 = earlier in omega (arith, ints, is)) | inr same ↦ (let is : pos (2 * l) ≡ p.0 = same.0 in omega (arith, ints, is)) ]
@@ -243,14 +283,40 @@ between_members l n m p behind before = elim before [
 
 -- ---- a leader is listed
 
-pub listed_here : (xs : List ℕ) (i x : ℕ) → i < length xs → slice_get (slice_set xs i x) i ≡ Some x
+told_some : (o : Option (Option ℕ)) (l : ℕ) → option_map_or (λ leader. leader) o None ≡ Some l → o ≡ Some (Some l)
+told_some None l is = absurd (let no : None ≡ Some l = is in cc)
+told_some (Some o) l is = ap (λ (x : Option ℕ). Some x) is
+
+pub listed_here : (xs : List (Option ℕ)) (i x : ℕ) → i < length xs → leader_told (slice_set xs i (Some x)) i ≡ Some x
 listed_here [] i x within = absurd (omega (arith, within))
 listed_here (y ∷ ys) zero x within = refl
 listed_here (y ∷ ys) (suc i) x within = listed_here ys i x (omega (arith, within))
 
-pub listed_elsewhere : (xs : List ℕ) (i j x : ℕ) → j ≢ i → slice_get (slice_set xs i x) j ≡ slice_get xs j
+listed_elsewhere : (xs : List (Option ℕ)) (i j x : ℕ) → j ≢ i → leader_told (slice_set xs i (Some x)) j ≡ leader_told xs j
 listed_elsewhere [] i j x apart = refl
 listed_elsewhere (y ∷ ys) zero zero x apart = absurd (apart refl)
 listed_elsewhere (y ∷ ys) zero (suc j) x apart = refl
 listed_elsewhere (y ∷ ys) (suc i) zero x apart = refl
 listed_elsewhere (y ∷ ys) (suc i) (suc j) x apart = listed_elsewhere ys i j x (λ same. apart (ap suc same))
+
+-- and the others' leaders still are, and whether it leads itself
+pub told_still : (v : Deadlines) (leaders reached : List (Option ℕ)) (session leader : ℕ) → leader_in v session ≡ None → session < length reached
+    → ((n l : ℕ) → slice_get leaders n ≡ Some (Some l) → slice_get reached n ≡ Some (Some l)) → (d : ℤ) (n : ℕ) → HasDeadline v n d → IsTold leaders d n
+    → IsTold (slice_set reached session (Some leader)) d n
+told_still v leaders reached session leader alone within kept d n there is = elim (eqb_tells n session) [
+  | inl here ↦ subst (λ (k : ℕ). IsTold (slice_set reached session (Some leader)) d k) (sym here.1) (
+    leader,
+    listed_here reached session leader within,
+    elim is.2 [
+      | inl front ↦ inl (subst (λ (k : ℕ). d ≡ in_front k) here.1 front)
+      | inr of ↦ absurd (leader_none v session is.0 alone (shown_member v is.0 session
+          (subst (λ (k : ℕ). HasDeadline v k (of_list is.0)) here.1 (subst (HasDeadline v n) of there))))
+    ],
+  )
+  | inr other ↦ (
+    is.0,
+    listed_elsewhere reached session n leader other.1
+        ∙ ap (λ (o : Option (Option ℕ)). option_map_or (λ leader. leader) o None) (kept n is.0 (told_some (slice_get leaders n) is.0 is.1)),
+    is.2,
+  )
+]

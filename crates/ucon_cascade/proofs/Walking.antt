@@ -6,12 +6,12 @@ use Rattle.ucon_index.specs.Dependents.{Dependents, stands_in}
 use Rattle.ucon_index.specs.Walk.{IsWalked}
 use Rattle.ucon_wheel.specs.Deadlines.{Deadlines}
 use Rattle.ucon_cascade.specs.Listing.{standing_by}
-use Rattle.ucon_cascade.specs.Lists.{first_in, members_in}
+use Rattle.ucon_cascade.specs.Lists.{first_in, led_by}
 use Rattle.ucon_cascade.proofs.Listed.{flat_map_has, in_flat_map, only_in}
 
 -- session n is the first of one of these leaders' lists
 abbrev pub IsFirstOf : Deadlines → List ℕ → ℕ → Type 0
-IsFirstOf lists leaders n = Contains (flat_map (members_in lists) leaders) n × (first_in lists n ≡ n)
+IsFirstOf lists leaders n = Contains (flat_map (led_by lists) leaders) n × (first_in lists n ≡ n)
 
 -- the firsts of those whom the walk has met are in the work, beside those who were
 pub record IsPutting (lists : Deadlines) (v : Dependents) (place : ℕ) (at : Option ℕ) (before now : List ℕ) : Type 0 where
@@ -24,24 +24,24 @@ nobody_met lists before n = (λ has. inr has, λ either. elim either [ inl none 
 
 -- one more is met
 pub one_met : (lists : Deadlines) (met before old new : List ℕ) (leader n : ℕ) → Contains old n ↔ (IsFirstOf lists met n ⊎ Contains before n)
-    → Contains new n ↔ ((Contains (members_in lists leader) n × (first_in lists n ≡ n)) ⊎ Contains old n)
+    → Contains new n ↔ ((Contains (led_by lists leader) n × (first_in lists n ≡ n)) ⊎ Contains old n)
     → Contains new n ↔ (IsFirstOf lists (met ++ leader ∷ []) n ⊎ Contains before n)
 one_met lists met before old new leader n so_far put = (
   λ has. elim (put.0 has) [
-    | inl here ↦ inl (flat_map_has (members_in lists) (met ++ leader ∷ []) leader n (Contains-append_right met (leader ∷ []) leader (0, omega arith, refl)) here.0, here.1)
+    | inl here ↦ inl (flat_map_has (led_by lists) (met ++ leader ∷ []) leader n (Contains-append_right met (leader ∷ []) leader (0, omega arith, refl)) here.0, here.1)
     | inr was ↦ elim (so_far.0 was) [
       | inl first ↦ (
-          let of = in_flat_map (members_in lists) met n first.0 in
-          inl (flat_map_has (members_in lists) (met ++ leader ∷ []) of.0 n (Contains-append_left met (leader ∷ []) of.0 of.1) of.2, first.1))
+          let of = in_flat_map (led_by lists) met n first.0 in
+          inl (flat_map_has (led_by lists) (met ++ leader ∷ []) of.0 n (Contains-append_left met (leader ∷ []) of.0 of.1) of.2, first.1))
       | inr in_before ↦ inr in_before
     ]
   ],
   λ either. elim either [
     | inl first ↦ (
-        let of = in_flat_map (members_in lists) (met ++ leader ∷ []) n first.0 in
+        let of = in_flat_map (led_by lists) (met ++ leader ∷ []) n first.0 in
         elim (Contains-append_cases met (leader ∷ []) of.0 of.1) [
-          | inl was ↦ put.1 (inr (so_far.1 (inl (flat_map_has (members_in lists) met of.0 n was of.2, first.1))))
-          | inr here ↦ put.1 (inl (subst (λ (l : ℕ). Contains (members_in lists l) n) (only_in leader of.0 here) of.2, first.1))
+          | inl was ↦ put.1 (inr (so_far.1 (inl (flat_map_has (led_by lists) met of.0 n was of.2, first.1))))
+          | inr here ↦ put.1 (inl (subst (λ (l : ℕ). Contains (led_by lists l) n) (only_in leader of.0 here) of.2, first.1))
         ])
     | inr in_before ↦ put.1 (inr (so_far.1 (inr in_before)))
   ],
@@ -49,8 +49,8 @@ one_met lists met before old new leader n so_far put = (
 
 -- whoever is in a list that stands at a place is below the limit
 pub members_below : (lists : Deadlines) (v : Dependents) (place leader limit : ℕ) → All (λ n. n < limit) (standing_by lists v place)
-    → Contains (stands_in v place) leader → All (λ n. n < limit) (members_in lists leader)
+    → Contains (stands_in v place) leader → All (λ n. n < limit) (led_by lists leader)
 members_below lists v place leader limit below stands =
-    All-weaker (Contains (members_in lists leader)) (λ n. n < limit)
-    (λ n member. All-contains (λ n. n < limit) (standing_by lists v place) n below (flat_map_has (members_in lists) (stands_in v place) leader n stands member))
-    (members_in lists leader) (All-contains_itself (members_in lists leader))
+    All-weaker (Contains (led_by lists leader)) (λ n. n < limit)
+    (λ n member. All-contains (λ n. n < limit) (standing_by lists v place) n below (flat_map_has (led_by lists) (stands_in v place) leader n stands member))
+    (led_by lists leader) (All-contains_itself (led_by lists leader))

@@ -1,9 +1,9 @@
 -- Who stands at which place, in lists under their leaders, and what undoing gives.
-use Rattle.std.specs.Prelude.{◌≡◌, ◌↔◌, ◌⊎◌, ℕ, true, List, [], length, Option, Some, None}
+use Rattle.std.specs.Prelude.{◌≡◌, ◌↔◌, ◌⊎◌, ℕ, false, true, List, [], length, Option, Some, None}
 use Rattle.std.specs.List.{Contains, flat_map}
 use Rattle.ucon_index.specs.Dependents.{Dependents, UnhideGives, is_there, remove, stands_in}
 use Rattle.ucon_wheel.specs.Deadlines.{Deadlines}
-use Rattle.ucon_cascade.specs.Lists.{first_in, members_in}
+use Rattle.ucon_cascade.specs.Lists.{first_in, is_joined, leader_in, led_by, members_in}
 use Rattle.ucon_cascade.specs.Timers.{IsKept as AreKept, UndoGives as ListsGive}
 use Rattle.ucon_cascade.specs.declared.timers.Timers.{Timers}
 
@@ -13,16 +13,18 @@ pub record Listing : Type 0 where
   pub index : Dependents
   pub added : Option ℕ
 
--- who stands at a place: the members of the lists of the leaders that stand there
+-- who stands at a place: who is in the lists of the leaders that stand there
 abbrev pub standing_by : Deadlines → Dependents → ℕ → List ℕ
-standing_by lists index place = flat_map (members_in lists) (stands_in index place)
+standing_by lists index place = flat_map (led_by lists) (stands_in index place)
 
 abbrev pub readers_in : Listing → ℕ → List ℕ
 readers_in s place = standing_by s.lists.wheel s.index place
 
--- each leader whose list has a member stands somewhere
-abbrev pub AreLed : Deadlines → Dependents → Type 0
-AreLed lists index = (leader n : ℕ) → Contains (members_in lists leader) n → is_there leader index.places ≡ true
+-- each list that has a member was joined, and its leader stands somewhere; and a leader that stands somewhere, and whose list wasn't joined,
+-- is in no other
+pub record AreLed (lists : Deadlines) (index : Dependents) : Type 0 where
+  pub there : (leader n : ℕ) → Contains (members_in lists leader) n → (is_there leader index.places ≡ true) × (is_joined lists leader ≡ true)
+  pub alone : (leader : ℕ) → is_there leader index.places ≡ true → is_joined lists leader ≡ false → leader_in lists leader ≡ None
 
 -- session n comes to these places, and stands there beside those who stood there
 abbrev pub ComesTo : (old new : ℕ → List ℕ) → ℕ → List ℕ → Type 0
@@ -31,6 +33,10 @@ ComesTo old new n places = (m place : ℕ) → Contains (new place) m ↔ (((m �
 -- session n stands at no place
 abbrev pub StandsNowhere : (ℕ → List ℕ) → ℕ → Type 0
 StandsNowhere standing n = (place : ℕ) → Contains (standing place) n → ⊥
+
+-- session n stands at some place
+abbrev pub StandsSomewhere : (ℕ → List ℕ) → ℕ → Type 0
+StandsSomewhere standing n = (place : ℕ) × Contains (standing place) n
 
 -- ---- undoing
 

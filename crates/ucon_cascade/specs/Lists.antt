@@ -1,5 +1,5 @@
 -- Lists of sessions in a wheel: a member has a deadline that tells its leader.
-use Rattle.std.specs.Prelude.{◌≡◌, ◌≢◌, ◌↔◌, ◌⊎◌, ◌+◌, ◌*◌, ◌/◌, ◌%◌, ℕ, ℤ, pos, negsuc, nat_abs, min, Bool, false, not, ◌&&◌, nat_eq, List, [], ◌∷◌, find, Option, Some, None, IsSome, option_map, slice_get, if◌then◌else◌}
+use Rattle.std.specs.Prelude.{◌≡◌, ◌≢◌, ◌↔◌, ◌⊎◌, ◌+◌, ◌*◌, ◌/◌, ◌%◌, ℕ, ℤ, pos, negsuc, nat_abs, min, Bool, false, true, not, ◌&&◌, nat_eq, List, [], ◌∷◌, find, Option, Some, None, IsSome, option_map, slice_get, if◌then◌else◌}
 use Rattle.std.specs.List.{Contains, flat_map}
 use Rattle.std.specs.Option.{option_map_or}
 use Rattle.ucon_wheel.specs.Deadlines.{Deadlines, Pair, state_of}
@@ -57,16 +57,28 @@ least_of n (m ∷ ms) = min m (least_of n ms)
 abbrev pub first_in : Deadlines → ℕ → ℕ
 first_in v n = option_map_or (λ leader. least_of n (members_in v leader)) (leader_in v n) n
 
--- a session has this deadline as a leader, or as a member of a list, whose leader is listed by its number
-abbrev pub IsTold : List ℕ → ℤ → ℕ → Type 0
-IsTold leaders deadline n = (deadline ≡ in_front n) ⊎ ((leader : ℕ) × (deadline ≡ of_list leader) × (slice_get leaders n ≡ Some leader))
+-- whether the list of a leader was joined
+abbrev pub is_joined : Deadlines → ℕ → Bool
+is_joined v leader = is_shown v (in_front leader, leader)
+
+-- who is in the list of a leader: the leader alone, until somebody joins it
+abbrev pub led_by : Deadlines → ℕ → List ℕ
+led_by v leader = if is_joined v leader then members_in v leader else leader ∷ []
+
+-- the leader that is listed for a session
+abbrev pub leader_told : List (Option ℕ) → ℕ → Option ℕ
+leader_told leaders n = option_map_or (λ leader. leader) (slice_get leaders n) None
+
+-- a leader is listed for a session, and it has this deadline as a leader itself, or as a member of that one's list
+abbrev pub IsTold : List (Option ℕ) → ℤ → ℕ → Type 0
+IsTold leaders deadline n = (leader : ℕ) × (leader_told leaders n ≡ Some leader) × ((deadline ≡ in_front n) ⊎ (deadline ≡ of_list leader))
 
 -- so it is with each pair, hidden ones too
-abbrev pub AreTold : Deadlines → List ℕ → Type 0
+abbrev pub AreTold : Deadlines → List (Option ℕ) → Type 0
 AreTold v leaders = (deadline : ℤ) (n : ℕ) → IsSome (state_of v (deadline, n)) → IsTold leaders deadline n
 
 -- so it is of these, and nothing was put in their place
-pub record AreSound (members : Timers) (leaders : List ℕ) : Type 0 where
+pub record AreSound (members : Timers) (leaders : List (Option ℕ)) : Type 0 where
   pub told : AreTold members.wheel leaders
   pub none_replaced : members.replaced ≡ None
 
@@ -85,9 +97,25 @@ HasJoined old new leader session =
 abbrev pub HasLeft : (old new : Deadlines) → ℕ → Type 0
 HasLeft old new session = (l n : ℕ) → Contains (members_in new l) n ↔ ((n ≢ session) × Contains (members_in old l) n)
 
--- each list has the members that it had, or fewer
-abbrev pub HasMembersOf : (old new : Deadlines) → Type 0
-HasMembersOf old new = (l n : ℕ) → Contains (members_in new l) n → Contains (members_in old l) n
+-- a leader is in no list, and nobody is in its own
+abbrev pub IsAlone : Deadlines → ℕ → Type 0
+IsAlone v leader = (leader_in v leader ≡ None) × ((n : ℕ) → Contains (members_in v leader) n → ⊥)
+
+-- a session came into the list of a leader, as it is with the leader in it
+abbrev pub HasCome : (old new : Deadlines) → (leader session : ℕ) → Type 0
+HasCome old new leader session = (l n : ℕ) → Contains (led_by new l) n ↔ (((n ≡ session) × (l ≡ leader)) ⊎ Contains (led_by old l) n)
+
+-- the list of a leader may have been joined by a session, and by the leader itself where it wasn't joined before, and no other was
+pub record JoinsAtMost (old new : Deadlines) (leader session : ℕ) : Type 0 where
+  pub members : (l n : ℕ) → Contains (members_in new l) n
+      → ((l ≡ leader) × (is_joined new leader ≡ true) × ((n ≡ session) ⊎ ((n ≡ leader) × (is_joined old leader ≡ false)))) ⊎ Contains (members_in old l) n
+  pub joined : (l : ℕ) → is_joined old l ≡ true → is_joined new l ≡ true
+
+-- the list of a leader was joined by the leader alone, if at all
+pub record IsFounded (old new : Deadlines) (leader : ℕ) : Type 0 where
+  pub members : (l n : ℕ) → Contains (members_in new l) n
+      → ((l ≡ leader) × (n ≡ leader) × (is_joined old leader ≡ false) × (is_joined new leader ≡ true)) ⊎ Contains (members_in old l) n
+  pub joined : (l : ℕ) → is_joined old l ≡ true → is_joined new l ≡ true
 
 -- no pair is hidden
 abbrev pub HidesNone : Deadlines → Type 0

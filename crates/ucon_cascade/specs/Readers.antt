@@ -1,13 +1,13 @@
 -- Who reads which place, who shares a judgement with whom, and what undoing gives.
-use Rattle.std.specs.Prelude.{◌≡◌, ◌≢◌, ◌↔◌, ℕ, List, Some, None, IsSome}
+use Rattle.std.specs.Prelude.{◌≡◌, ◌≢◌, ◌↔◌, ℕ, List, Some, None}
 use Rattle.std.specs.List.{Contains}
 use Rattle.ucon_model.specs.declared.session.SessionRow.{SessionRow}
 use Rattle.ucon_model.specs.Usages.{going_on}
 use Rattle.ucon_state.specs.Shown.{Shown}
 use Rattle.ucon_state.specs.Tables.{session_in}
 use Rattle.ucon_cascade.specs.Grouping.{AreGroupedBelow}
-use Rattle.ucon_cascade.specs.Listing.{ChangesGive, HoldsThose, IsKept as IsAtRest, Listing, readers_in}
-use Rattle.ucon_cascade.specs.Lists.{first_in, leader_in}
+use Rattle.ucon_cascade.specs.Listing.{ChangesGive, HoldsThose, IsKept as IsAtRest, Listing, StandsSomewhere, readers_in}
+use Rattle.ucon_cascade.specs.Lists.{first_in}
 use Rattle.ucon_cascade.specs.Numbering.{AreNumbered, IsExactBelow, place_numbers}
 use Rattle.ucon_cascade.specs.declared.readers.Readers.{Readers}
 
@@ -19,10 +19,10 @@ readers_at r place = readers_in r.standing place
 abbrev pub first_of : Readers → ℕ → ℕ
 first_of r n = first_in r.standing.lists.wheel n
 
--- each other that is in a list and whose usage goes on stands exactly where it reads, and each place that it reads has a number
+-- each other that stands somewhere and whose usage goes on stands exactly where it reads, and each place that it reads has a number
 abbrev pub StandAsTheyRead : Shown → Readers → ℕ → Type 0
 StandAsTheyRead s r n =
-    (m : ℕ) (row : SessionRow) → m ≢ n → IsSome (leader_in r.standing.lists.wheel m) → going_on (session_in s.tables m) ≡ Some row
+    (m : ℕ) (row : SessionRow) → m ≢ n → StandsSomewhere (readers_at r) m → going_on (session_in s.tables m) ≡ Some row
     → AreNumbered s row × ((place : ℕ) → Contains (readers_at r place) m ↔ Contains (place_numbers s row) place)
 
 -- the readers are right so far as the sessions below a number go

@@ -1,14 +1,13 @@
 //! Who reads what after a command's own actions.
 
-ghost use Rattle.std.specs.Prelude.{◌≡◌, ◌≢◌, ◌+◌, ℕ, [], false, IfOk, IfSome, IsSome, OnOk, Some};
+ghost use Rattle.std.specs.Prelude.{◌≡◌, ◌+◌, ℕ, [], false, IfOk, IfSome, OnOk, Some};
 ghost use Rattle.ucon_actions.specs.Gives.{is_amendment};
 ghost use Rattle.ucon_cascade.specs.Cascading.{WereExact};
 ghost use Rattle.ucon_cascade.specs.Numbering.{AreNumbered, IsExact, place_numbers};
 ghost use Rattle.ucon_cascade.specs.Grouping.{AreGrouped, GetsFirst, MayLead, StandsAlone};
-ghost use Rattle.ucon_cascade.specs.Lists.{leader_in};
 ghost use Rattle.ucon_cascade.specs.Putting.{GoesOn};
 ghost use Rattle.ucon_cascade.specs.Readers.{AreReadBelow, IsKept, StandAsTheyRead, UndoGives, first_of, readers_at};
-ghost use Rattle.ucon_cascade.specs.Listing.{ComesTo, StandsNowhere};
+ghost use Rattle.ucon_cascade.specs.Listing.{ComesTo, StandsNowhere, StandsSomewhere};
 ghost use Rattle.ucon_model.specs.declared.reply.Head.TheVariants as heads;
 ghost use Rattle.ucon_model.specs.Reach.{places_of, timed_of};
 ghost use Rattle.ucon_model.specs.Usages.{going_on};
@@ -146,7 +145,7 @@ fn first_alike(
     requires places { places.now ≡ places_of (shown state.now).policy row.now }
     requires untimed { timed_of (shown state.now).policy row.now ≡ [] }
     ensures may { IfSome result (MayLead (shown state.now) (first_of readers.now) n) }
-    ensures listed { IfSome result (λ m. IsSome (leader_in readers.now.standing.lists.wheel m)) }
+    ensures stands { IfSome result (StandsSomewhere (readers_at readers.now)) }
 {
     let first = readers.guess(kind)?;
     if first >= n {

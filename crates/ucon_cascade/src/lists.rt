@@ -1,9 +1,9 @@
 //! Lists of sessions under the numbers of their leaders.
 
-ghost use Rattle.std.specs.Prelude.{◌≡◌, ◌≢◌, ◌↔◌, ◌⊎◌, ◌<◌, ◌≤◌, ℕ, [], None, Some, IfNone, IfOk, IfSome, IsTrue, OnErr, OnOk, length, slice_get};
+ghost use Rattle.std.specs.Prelude.{◌≡◌, ◌≢◌, ◌↔◌, ◌<◌, ◌≤◌, ℕ, [], None, Some, IfNone, IfOk, IfSome, IsTrue, OnErr, OnOk, false, true, length, slice_get};
 ghost use Rattle.std.specs.List.{Contains};
 ghost use Rattle.ucon_wheel.specs.Deadlines.{Deadlines};
-ghost use Rattle.ucon_cascade.specs.Lists.{in_front, of_list};
+ghost use Rattle.ucon_cascade.specs.Lists.{in_front, leader_told, of_list};
 
 use crate::timers::Timers;
 use std::alloc::Global;
@@ -17,8 +17,8 @@ pub struct Lists {
     /// For each member a deadline that tells its leader, and in front of the members of a list that was joined one of its leader, which
     /// stays. So the members of a list stand in order, and who is the first or the next is found in one step.
     members: Timers,
-    /// By the number of a session that is in a list, the leader of that list. Of others it tells nothing.
-    leaders: Vec<u32>,
+    /// By the number of a session that is in a list, or whose list was joined, the leader of that list. Of others it tells nothing.
+    leaders: Vec<Option<u32>>,
 }
 
 impl Model for Lists {
@@ -34,11 +34,11 @@ impl Model for Lists {
 }
 
 /// The leader that is listed for a session.
-fn leader_at(leaders: &[u32], session: u32) -> Option<u32>
-    ensures { result ≡ slice_get leaders.now session }
+fn leader_at(leaders: &[Option<u32>], session: u32) -> Option<u32>
+    ensures { result ≡ leader_told leaders.now session }
 {
     let leader = leaders.get(session as usize)?;
-    Some(*leader)
+    *leader
 }
 
 /// The deadline by which the members of a leader's list stand.
@@ -63,19 +63,19 @@ fn is_of_list(pair: (i64, u32), leader: u32) -> bool
 }
 
 /// Makes the leaders reach a session's number.
-fn reach(leaders: &mut Vec<u32>, session: u32) -> Result<(), NoMemory>
-    ensures kept { (n leader : ℕ) → slice_get leaders.old.items n ≡ Some leader → slice_get leaders.new.items n ≡ Some leader }
+fn reach(leaders: &mut Vec<Option<u32>>, session: u32) -> Result<(), NoMemory>
+    ensures kept { (n leader : ℕ) → slice_get leaders.old.items n ≡ Some (Some leader) → slice_get leaders.new.items n ≡ Some (Some leader) }
     ensures reached { OnOk result (session < length leaders.new.items) }
 {
     let count = session as usize + 1;
     if leaders.len() < count {
-        leaders.resize(count, 0)?;
+        leaders.resize(count, None)?;
     }
     Ok(())
 }
 
 impl Lists {
-    ghost use Rattle.ucon_cascade.specs.Lists.{AreOfOne, HasJoined, HasLeft, HasMembersOf, HidesNone, first_in, leader_in, members_in};
+    ghost use Rattle.ucon_cascade.specs.Lists.{AreOfOne, HasCome, HasJoined, HasLeft, HidesNone, IsAlone, IsFounded, JoinsAtMost, first_in, is_joined, leader_in, led_by, members_in};
     ghost use Rattle.ucon_cascade.specs.Timers.{IsKept, UndoGives};
 
     /// No lists.
@@ -101,6 +101,17 @@ impl Lists {
         } else {
             None
         }
+    }
+
+    /// Whether a leader's list was joined. Until then the leader, if it leads, is alone in it, and nothing is kept of it.
+    pub fn is_joined(&self, leader: u32) -> bool
+        ensures joined { result ≡ is_joined self.now.wheel leader }
+        ensures of_one { AreOfOne self.now.wheel }
+    {
+        if leader_at(&self.leaders, leader).is_none() {
+            return false;
+        }
+        self.members.has(leader, in_front(leader))
     }
 
     /// The least member of a leader's list. None where it has no member.
@@ -133,29 +144,40 @@ impl Lists {
         }
     }
 
-    /// A session that is in no list founds one.
-    pub fn found(&mut self, session: u32) -> Result<(), NoMemory>
-        requires none_hidden { HidesNone self.old.wheel }
-        requires alone { leader_in self.old.wheel session ≡ None }
-        ensures joins { OnOk result (HasJoined self.old.wheel self.new.wheel session session) }
-        ensures err { OnErr result (self.new.wheel ≡ self.old.wheel) }
-        ensures of_one { AreOfOne self.new.wheel }
-        ensures undo { (before : Deadlines) → UndoGives self.old before → UndoGives self.new before }
-    {
-        self.enter(session, session)
-    }
-
-    /// A session that is in no list joins a leader's.
+    /// A session that is in no list joins a leader's, which is joined by its leader too, if it wasn't joined yet.
     pub fn join(&mut self, leader: u32, session: u32) -> Result<(), NoMemory>
         requires none_hidden { HidesNone self.old.wheel }
         requires alone { leader_in self.old.wheel session ≡ None }
-        ensures joins { OnOk result (HasJoined self.old.wheel self.new.wheel leader session) }
-        ensures err { OnErr result (HasMembersOf self.old.wheel self.new.wheel) }
+        requires other { is_joined self.old.wheel leader ≡ false → session ≢ leader }
+        requires leads { is_joined self.old.wheel leader ≡ false → IsAlone self.old.wheel leader }
+        ensures comes { OnOk result (HasCome self.old.wheel self.new.wheel leader session) }
+        ensures joined { OnOk result (is_joined self.new.wheel leader ≡ true) }
+        ensures at_most { JoinsAtMost self.old.wheel self.new.wheel leader session }
         ensures of_one { AreOfOne self.new.wheel }
         ensures undo { (before : Deadlines) → UndoGives self.old before → UndoGives self.new before }
     {
-        self.members.put(leader, in_front(leader))?;
+        self.found(leader)?;
         self.enter(leader, session)
+    }
+
+    /// A leader whose list wasn't joined comes into it itself, in front of whoever joins it.
+    fn found(&mut self, leader: u32) -> Result<(), NoMemory>
+        requires none_hidden { HidesNone self.old.wheel }
+        requires leads { is_joined self.old.wheel leader ≡ false → IsAlone self.old.wheel leader }
+        ensures same { OnOk result ((l n : ℕ) → Contains (led_by self.new.wheel l) n ↔ Contains (led_by self.old.wheel l) n) }
+        ensures joined { OnOk result (is_joined self.new.wheel leader ≡ true) }
+        ensures founded { IsFounded self.old.wheel self.new.wheel leader }
+        ensures hidden { HidesNone self.new.wheel }
+        ensures of_one { AreOfOne self.new.wheel }
+        ensures undo { (before : Deadlines) → UndoGives self.old before → UndoGives self.new before }
+    {
+        if self.is_joined(leader) {
+            return Ok(());
+        }
+        reach(&mut self.leaders, leader)?;
+        self.members.put(leader, in_front(leader))?;
+        self.leaders[leader as usize] = Some(leader);
+        self.enter(leader, leader)
     }
 
     /// Puts a session that is in no list into a leader's.
@@ -164,12 +186,14 @@ impl Lists {
         requires alone { leader_in self.old.wheel session ≡ None }
         ensures joins { OnOk result (HasJoined self.old.wheel self.new.wheel leader session) }
         ensures err { OnErr result (self.new.wheel ≡ self.old.wheel) }
+        ensures joined { (l : ℕ) → is_joined self.new.wheel l ≡ is_joined self.old.wheel l }
+        ensures hidden { HidesNone self.new.wheel }
         ensures of_one { AreOfOne self.new.wheel }
         ensures undo { (before : Deadlines) → UndoGives self.old before → UndoGives self.new before }
     {
         reach(&mut self.leaders, session)?;
-        self.members.put(session, of_list(leader))?;
-        self.leaders[session as usize] = leader;
+        self.members.add(session, of_list(leader))?;
+        self.leaders[session as usize] = Some(leader);
         Ok(())
     }
 
@@ -177,6 +201,7 @@ impl Lists {
     pub fn leave(&mut self, leader: u32, session: u32) -> Result<(), NoMemory>
         requires { Contains (members_in self.old.wheel leader) session }
         ensures leaves { OnOk result (HasLeft self.old.wheel self.new.wheel session) }
+        ensures joined { (l : ℕ) → is_joined self.new.wheel l ≡ is_joined self.old.wheel l }
         ensures err { OnErr result (self.new.wheel ≡ self.old.wheel) }
         ensures of_one { AreOfOne self.new.wheel }
         ensures undo { (before : Deadlines) → UndoGives self.old before → UndoGives self.new before }
@@ -198,6 +223,7 @@ impl Lists {
         ensures members { (l n : ℕ) → Contains (members_in self.new.wheel l) n ↔ Contains (members_in self.old.wheel l) n }
         ensures leaders { (n : ℕ) → leader_in self.new.wheel n ≡ leader_in self.old.wheel n }
         ensures firsts { (n : ℕ) → first_in self.new.wheel n ≡ first_in self.old.wheel n }
+        ensures joined { (l : ℕ) → is_joined self.new.wheel l ≡ is_joined self.old.wheel l }
         ensures kept { IsKept self.new }
     {
         self.members.keep();

@@ -1,11 +1,10 @@
 //! Which usages read which places, who of them share a judgement, and what a draft has changed of it.
 
-ghost use Rattle.std.specs.Prelude.{◌≡◌, ◌≢◌, ◌↔◌, ◌⊎◌, ◌<◌, ◌≤◌, ℕ, [], None, Some, IsSome, List, OnOk, IfOk, IfSome};
+ghost use Rattle.std.specs.Prelude.{◌≡◌, ◌≢◌, ◌↔◌, ◌⊎◌, ◌<◌, ◌≤◌, ℕ, [], None, Some, List, OnOk, IfOk, IfSome};
 ghost use Rattle.std.specs.List.{All, Contains};
 ghost use Rattle.ucon_links.specs.Lists.{IsDistinct};
 ghost use Rattle.ucon_cascade.specs.Grouping.{Joins, StandsAlone};
-ghost use Rattle.ucon_cascade.specs.Listing.{ComesTo, StandsNowhere};
-ghost use Rattle.ucon_cascade.specs.Lists.{leader_in};
+ghost use Rattle.ucon_cascade.specs.Listing.{ComesTo, StandsNowhere, StandsSomewhere};
 
 use crate::kinds::Kind;
 use crate::standing::Standing;
@@ -14,6 +13,15 @@ use std::alloc::Global;
 use std::mem;
 use ucon_base::NoMemory;
 use ucon_pend::Pend;
+
+/// Forgets those who were replaced, where some were: most often none were, and to move none costs as much as to move some.
+fn forget(replaced: &mut Option<Standing>)
+    ensures { replaced.new ≡ None }
+{
+    if replaced.is_some() {
+        *replaced = None;
+    }
+}
 
 /// For each place the accessing sessions that read it, in lists of such as share one judgement. What a draft changes can be undone until
 /// it is kept.
@@ -32,7 +40,6 @@ impl Readers {
     /// Nobody reads anything.
     pub fn new(alloc: Global) -> Result<Readers, NoMemory>
         ensures nobody { IfOk result (λ r. (place : ℕ) → readers_at r place ≡ []) }
-        ensures alone { IfOk result (λ r. (n : ℕ) → leader_in r.standing.lists.wheel n ≡ None) }
         ensures kept { IfOk result IsKept }
     {
         let standing = Standing::new(alloc)?;
@@ -53,7 +60,7 @@ impl Readers {
     /// The first of a list that a session of this kind might join. None where none is known.
     pub fn guess(&self, kind: Kind) -> Option<u32>
         ensures itself { IfSome result (λ m. first_of self.now m ≡ m) }
-        ensures listed { IfSome result (λ m. IsSome (leader_in self.now.standing.lists.wheel m)) }
+        ensures stands { IfSome result (StandsSomewhere (readers_at self.now)) }
     {
         let leader = self.guesses.get(&kind)?;
         self.standing.first_led(*leader)
@@ -84,7 +91,7 @@ impl Readers {
     /// From here on a session reads, in the list of another, what that one reads.
     pub fn join(&mut self, session: u32, other: u32) -> Result<(), NoMemory>
         requires kept { IsKept self.old }
-        requires listed { IsSome (leader_in self.old.standing.lists.wheel other) }
+        requires stands { StandsSomewhere (readers_at self.old) other }
         requires nowhere { StandsNowhere (readers_at self.old) session }
         ensures comes { OnOk result ((n place : ℕ) → Contains (readers_at self.new place) n
             ↔ (((n ≡ session) × Contains (readers_at self.old place) other) ⊎ Contains (readers_at self.old place) n)) }
@@ -150,10 +157,9 @@ impl Readers {
     pub fn keep(&mut self)
         ensures read { (n place : ℕ) → Contains (readers_at self.new place) n ↔ Contains (readers_at self.old place) n }
         ensures firsts { (n : ℕ) → first_of self.new n ≡ first_of self.old n }
-        ensures leaders { (n : ℕ) → leader_in self.new.standing.lists.wheel n ≡ leader_in self.old.standing.lists.wheel n }
         ensures kept { IsKept self.new }
     {
         self.standing.keep();
-        self.replaced = None;
+        forget(&mut self.replaced);
     }
 }

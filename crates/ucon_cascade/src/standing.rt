@@ -1,12 +1,12 @@
 //! Who stands at which place, in lists under their leaders.
 
-ghost use Rattle.std.specs.Prelude.{◌≡◌, ◌≢◌, ◌↔◌, ◌⊎◌, ◌<◌, ◌≤◌, ℕ, [], None, Some, true, IsSome, List, OnOk, IfOk, IfSome, length};
+ghost use Rattle.std.specs.Prelude.{◌≡◌, ◌≢◌, ◌↔◌, ◌⊎◌, ◌<◌, ◌≤◌, ℕ, [], None, Some, false, true, IsSome, List, OnOk, IfNone, IfOk, IfSome, length};
 ghost use Rattle.std.specs.List.{All, Contains};
 ghost use Rattle.ucon_links.specs.Lists.{IsDistinct};
 ghost use Rattle.ucon_index.specs.Dependents.{Dependents, UnhideGives, hide, is_there, others, stands_in};
-ghost use Rattle.ucon_cascade.specs.Listing.{TakingOutGives, standing_by};
+ghost use Rattle.ucon_cascade.specs.Listing.{AreLed, TakingOutGives, standing_by};
 ghost use Rattle.ucon_cascade.specs.Grouping.{Joins, StandsAlone};
-ghost use Rattle.ucon_cascade.specs.Lists.{first_in, leader_in, members_in};
+ghost use Rattle.ucon_cascade.specs.Lists.{AreOfOne, first_in, is_joined, leader_in, led_by};
 
 use crate::lists::Lists;
 use std::alloc::{AllocError, Global};
@@ -37,12 +37,11 @@ impl Model for Standing {
 }
 
 impl Standing {
-    ghost use Rattle.ucon_cascade.specs.Listing.{ChangesGive, ComesTo, IsKept, StandsNowhere, readers_in};
+    ghost use Rattle.ucon_cascade.specs.Listing.{ChangesGive, ComesTo, IsKept, StandsNowhere, StandsSomewhere, readers_in};
 
     /// Nobody stands anywhere.
     pub fn new(alloc: Global) -> Result<Standing, NoMemory>
         ensures nobody { IfOk result (λ s. (place : ℕ) → readers_in s place ≡ []) }
-        ensures alone { IfOk result (λ s. (n : ℕ) → leader_in s.lists.wheel n ≡ None) }
         ensures kept { IfOk result IsKept }
     {
         let lists = Lists::new(alloc)?;
@@ -64,12 +63,16 @@ impl Standing {
         self.lists.first(leader).unwrap_or(session)
     }
 
-    /// The first of a leader's list. None where it has no member.
+    /// The first of a leader's list. None where nobody is in it.
     pub fn first_led(&self, leader: u32) -> Option<u32>
         ensures itself { IfSome result (λ m. first_in self.now.lists.wheel m ≡ m) }
-        ensures listed { IfSome result (λ m. IsSome (leader_in self.now.lists.wheel m)) }
+        ensures stands { IfSome result (StandsSomewhere (readers_in self.now)) }
     {
-        self.lists.first(leader)
+        if self.index.is_there(leader) {
+            first_in_list(&self.lists, leader)
+        } else {
+            None
+        }
     }
 
     /// A session comes, in a list of its own, to these places. One that comes to none isn't kept. A list has its founder's number, and a
@@ -88,8 +91,10 @@ impl Standing {
         if self.index.is_there(session) {
             return Err(NoMemory::from(AllocError));
         }
+        if self.lists.is_joined(session) {
+            return Err(NoMemory::from(AllocError));
+        }
         make_room(&mut self.index, session, places)?;
-        self.lists.found(session)?;
         self.index.add(session, places);
         self.added = Some(session);
         Ok(())
@@ -98,7 +103,7 @@ impl Standing {
     /// A session comes into the list of another, and stands where that one does.
     pub fn join(&mut self, session: u32, other: u32) -> Result<(), NoMemory>
         requires kept { IsKept self.old }
-        requires listed { IsSome (leader_in self.old.lists.wheel other) }
+        requires stands { StandsSomewhere (readers_in self.old) other }
         requires nowhere { StandsNowhere (readers_in self.old) session }
         ensures comes { OnOk result ((n place : ℕ) → Contains (readers_in self.new place) n
             ↔ (((n ≡ session) × Contains (readers_in self.old place) other) ⊎ Contains (readers_in self.old place) n)) }
@@ -106,9 +111,7 @@ impl Standing {
             → Joins (first_in self.old.lists.wheel) (first_in self.new.lists.wheel) session other) }
         ensures undo { ChangesGive self.new (readers_in self.old) (first_in self.old.lists.wheel) }
     {
-        let Some(leader) = self.lists.leader(other) else {
-            unreachable!();
-        };
+        let leader = self.lists.leader(other).unwrap_or(other);
         self.lists.join(leader, session)
     }
 
@@ -127,6 +130,7 @@ impl Standing {
         ensures undo { (standing : ℕ → List ℕ) (first : ℕ → ℕ) → ChangesGive self.old standing first → ChangesGive self.new standing first }
     {
         let Some(leader) = self.lists.leader(session) else {
+            hide_alone(&self.lists, &mut self.index, session);
             return Ok(None);
         };
         let first = self.lists.first(leader);
@@ -165,7 +169,6 @@ impl Standing {
     pub fn keep(&mut self)
         ensures read { (n place : ℕ) → Contains (readers_in self.new place) n ↔ Contains (readers_in self.old place) n }
         ensures firsts { (n : ℕ) → first_in self.new.lists.wheel n ≡ first_in self.old.lists.wheel n }
-        ensures leaders { (n : ℕ) → leader_in self.new.lists.wheel n ≡ leader_in self.old.lists.wheel n }
         ensures kept { IsKept self.new }
     {
         self.index.forget_hidden();
@@ -200,6 +203,21 @@ fn make_room(index: &mut Index, leader: u32, places: &[u32]) -> Result<(), NoMem
         return Err(NoMemory::from(AllocError));
     }
     index.reserve(nodes)
+}
+
+/// Takes a session that is in no list out of the index, if it stands there alone.
+fn hide_alone(lists: &Lists, index: &mut Index, session: u32)
+    ensures stays { is_joined lists.now.wheel session ≡ true → index.new ≡ index.old }
+    ensures stands { is_joined lists.now.wheel session ≡ false → (l place : ℕ)
+        → Contains (stands_in index.new place) l ↔ ((l ≢ session) × Contains (stands_in index.old place) l) }
+    ensures hidden { (index.new ≡ index.old) ⊎ ((index.new ≡ hide index.old session) × UnhideGives 1 index.new index.old) }
+{
+    if lists.is_joined(session) {
+        return;
+    }
+    if index.is_there(session) {
+        index.hide(session);
+    }
 }
 
 /// Takes a leader out of the index where its list has no first.
@@ -243,7 +261,8 @@ fn take_out(index: &mut Index, added: Option<u32>)
 
 /// Puts the firsts of the lists whose leaders stand at a place into the work.
 fn put_firsts(lists: &Lists, index: &Index, place: u32, work: &mut Pend)
-    requires { All (λ n. n < work.old.limit) (standing_by lists.now.wheel index.now place) }
+    requires below { All (λ n. n < work.old.limit) (standing_by lists.now.wheel index.now place) }
+    requires led { AreLed lists.now.wheel index.now }
     ensures limit { work.new.limit ≡ work.old.limit }
     ensures members { (n : ℕ) → Contains work.new.members n
         ↔ ((Contains (standing_by lists.now.wheel index.now place) n × (first_in lists.now.wheel n ≡ n)) ⊎ Contains work.old.members n) }
@@ -261,12 +280,27 @@ fn put_firsts(lists: &Lists, index: &Index, place: u32, work: &mut Pend)
 
 /// Puts the first of a leader's list into the work.
 fn put_first(lists: &Lists, leader: u32, work: &mut Pend)
-    requires { All (λ n. n < work.old.limit) (members_in lists.now.wheel leader) }
+    requires below { All (λ n. n < work.old.limit) (led_by lists.now.wheel leader) }
+    requires alone { is_joined lists.now.wheel leader ≡ false → leader_in lists.now.wheel leader ≡ None }
     ensures limit { work.new.limit ≡ work.old.limit }
     ensures members { (n : ℕ) → Contains work.new.members n
-        ↔ ((Contains (members_in lists.now.wheel leader) n × (first_in lists.now.wheel n ≡ n)) ⊎ Contains work.old.members n) }
+        ↔ ((Contains (led_by lists.now.wheel leader) n × (first_in lists.now.wheel n ≡ n)) ⊎ Contains work.old.members n) }
 {
-    if let Some(first) = lists.first(leader) {
+    if let Some(first) = first_in_list(lists, leader) {
         work.put(first);
+    }
+}
+
+/// The first of a leader's list. None where nobody is in it.
+fn first_in_list(lists: &Lists, leader: u32) -> Option<u32>
+    ensures there { IfSome result (λ m. Contains (led_by lists.now.wheel leader) m) }
+    ensures least { IfSome result (λ m. (n : ℕ) → Contains (led_by lists.now.wheel leader) n → m ≤ n) }
+    ensures none { IfNone result ((n : ℕ) → Contains (led_by lists.now.wheel leader) n → ⊥) }
+    ensures of_one { AreOfOne lists.now.wheel }
+{
+    if lists.is_joined(leader) {
+        lists.first(leader)
+    } else {
+        Some(leader)
     }
 }

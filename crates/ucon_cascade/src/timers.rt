@@ -1,7 +1,7 @@
 //! The deadlines of usages that go on, and what a draft has changed of them.
 
 ghost use Rattle.std.specs.Prelude.{◌≡◌, ◌↔◌, ◌⊎◌, ◌+◌, ◌≤ℤ◌, ◌<ℤ◌, [], ℕ, ℤ, IfOk, IfSome, IfNone, OnOk, OnErr, None, IsTrue, length};
-ghost use Rattle.ucon_wheel.specs.Deadlines.{Deadlines, IsBehind, IsShown, Pair, shown};
+ghost use Rattle.ucon_wheel.specs.Deadlines.{Deadlines, IsBehind, IsShown, Pair, shown, state_of};
 ghost use Rattle.ucon_cascade.specs.Timers.{CanUndo, undone};
 
 use std::alloc::Global;
@@ -26,6 +26,15 @@ fn take_back(wheel: &mut Wheel, change: Change)
     match change {
         Change::Put(session, deadline) => wheel.take_back(session, deadline),
         Change::Hidden => wheel.unhide_last(),
+    }
+}
+
+/// Forgets the wheel that was replaced, where one was: most often none was, and to move none costs as much as to move one.
+fn forget(replaced: &mut Option<Wheel>)
+    ensures { replaced.new ≡ None }
+{
+    if replaced.is_some() {
+        *replaced = None;
     }
 }
 
@@ -86,6 +95,19 @@ impl Timers {
         if self.wheel.is_there(session, deadline) {
             return Ok(());
         }
+        self.add(session, deadline)
+    }
+
+    /// Gives a session a deadline that it hasn't.
+    pub fn add(&mut self, session: u32, deadline: i64) -> Result<(), NoMemory>
+        requires { state_of self.old.wheel (deadline, session) ≡ None }
+        ensures gets { OnOk result (Gets self.old.wheel self.new.wheel session (λ d. d ≡ deadline)) }
+        ensures hidden { HidesNoMore self.old.wheel self.new.wheel }
+        ensures below { (tick : ℤ) → tick ≤ℤ deadline → count_below self.new.wheel tick ≡ count_below self.old.wheel tick }
+        ensures err { OnErr result (self.new.wheel ≡ self.old.wheel) }
+        ensures replaced { self.new.replaced ≡ self.old.replaced }
+        ensures undo { (before : Deadlines) → UndoGives self.old before → UndoGives self.new before }
+    {
         self.changes.reserve(1)?;
         self.wheel.put(session, deadline)?;
         self.changes.push_reserved(Change::Put(session, deadline));
@@ -174,6 +196,6 @@ impl Timers {
     {
         self.wheel.forget_hidden();
         self.changes.clear();
-        self.replaced = None;
+        forget(&mut self.replaced);
     }
 }

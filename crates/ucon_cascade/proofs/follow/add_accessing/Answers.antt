@@ -13,7 +13,7 @@ pub add_reader-requires-clause-nowhere : goal.add_reader-requires-clause-nowhere
 add_reader-requires-clause-nowhere c = not_yet (shown c.args.state.now) (readers_at c.args.readers.now) c.args.n c.requires.below.exact
 
 pub add_reader-requires-clause-exact : goal.add_reader-requires-clause-exact
-add_reader-requires-clause-exact c = all_stand (shown c.args.state.now) c.args.readers.now c.args.n c.requires.kept c.requires.below
+add_reader-requires-clause-exact c = all_stand (shown c.args.state.now) c.args.readers.now c.args.n c.requires.below
 
 pub returns : goal.returns
 returns c =

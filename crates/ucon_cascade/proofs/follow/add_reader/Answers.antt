@@ -31,7 +31,7 @@ pub returns-in-Some-first_alike-clause-comes : goal.returns-in-Some-first_alike-
 returns-in-Some-first_alike-clause-comes c =
     let may = c.in-Some-first_alike.ensures in
     ok_then c.join.result
-    (λ comes. (joined_comes (shown c.args.state.now) c.args.readers.now c.join.new.self c.args.n c.in-Some-first_alike.first c.args.row.now c.requires.row may.may may.listed
+    (λ comes. (joined_comes (shown c.args.state.now) c.args.readers.now c.join.new.self c.args.n c.in-Some-first_alike.first c.args.row.now c.requires.row may.may may.stands
     c.requires.exact comes).0)
     c.join.ensures.comes
 
@@ -39,7 +39,7 @@ pub returns-in-Some-first_alike-clause-numbered : goal.returns-in-Some-first_ali
 returns-in-Some-first_alike-clause-numbered c =
     let may = c.in-Some-first_alike.ensures in
     ok_then c.join.result
-    (λ comes. (joined_comes (shown c.args.state.now) c.args.readers.now c.join.new.self c.args.n c.in-Some-first_alike.first c.args.row.now c.requires.row may.may may.listed
+    (λ comes. (joined_comes (shown c.args.state.now) c.args.readers.now c.join.new.self c.args.n c.in-Some-first_alike.first c.args.row.now c.requires.row may.may may.stands
     c.requires.exact comes).1)
     c.join.ensures.comes
 

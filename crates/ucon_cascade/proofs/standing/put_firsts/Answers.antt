@@ -1,8 +1,9 @@
 use Rattle.std.proofs.Common.{◌≡◌, ◌<◌, ◌∙◌, ◌++◌, ◌∷◌, ◌⊎◌, ◌↔◌, [], ℕ, List, Some, None, ap, is_some, subst, sym, refl}
 use Rattle.std.specs.List.{All, Contains}
-use Rattle.ucon_index.specs.Dependents.{place_at}
+use Rattle.ucon_index.specs.Dependents.{place_at, stands_in}
 use Rattle.ucon_index.specs.Walk.{IsWalked, left_from}
-use Rattle.ucon_cascade.specs.Lists.{first_in, members_in}
+use Rattle.ucon_cascade.specs.Lists.{first_in, led_by}
+use Rattle.ucon_cascade.proofs.Leading.{there_if_stands}
 use Rattle.ucon_cascade.proofs.Walking.{IsFirstOf, members_below, nobody_met, one_met}
 use Rattle.ucon_cascade.proofs.standing.put_firsts.Goals as goal
 
@@ -27,17 +28,26 @@ owner-requires c =
     let met = c.walks_meet_who_stands.ensures.meets v c.args.place way.met c.in-Some.node c.first-at.ensures.distinct within (subst (IsWalked v c.args.place way.met) c.in-Some.is way.way) in
     ap is_some met.session_is
 
-pub put_first-requires : goal.put_first-requires
-put_first-requires c =
+pub put_first-requires-clause-below : goal.put_first-requires-clause-below
+put_first-requires-clause-below c =
     let v = c.args.index.now in
     let lists = c.args.lists.now.wheel in
     let way = c.loop-at.invariant.way in
     let within : c.args.place < _ = subst (λ n. c.args.place < n) c.place_count.ensures c.if-place-place_count.false in
     let met = c.walks_meet_who_stands.ensures.meets v c.args.place way.met c.in-Some.node c.first-at.ensures.distinct within (subst (IsWalked v c.args.place way.met) c.in-Some.is way.way) in
     let same : met.session ≡ c.owner.result = some_of (sym met.session_is ∙ c.owner.ensures) in
-    let below = members_below lists v c.args.place met.session c.args.work.now.limit c.requires met.stands in
-    subst (λ (l : ℕ). All (λ n. n < c.loop-at.work.limit) (members_in lists l)) same
-    (subst (λ (limit : ℕ). All (λ n. n < limit) (members_in lists met.session)) (sym c.loop-at.invariant.limit) below)
+    let below = members_below lists v c.args.place met.session c.args.work.now.limit c.requires.below met.stands in
+    subst (λ (l : ℕ). All (λ n. n < c.loop-at.work.limit) (led_by lists l)) same
+    (subst (λ (limit : ℕ). All (λ n. n < limit) (led_by lists met.session)) (sym c.loop-at.invariant.limit) below)
+
+pub put_first-requires-clause-alone : goal.put_first-requires-clause-alone
+put_first-requires-clause-alone c =
+    let v = c.args.index.now in
+    let way = c.loop-at.invariant.way in
+    let within : c.args.place < _ = subst (λ n. c.args.place < n) c.place_count.ensures c.if-place-place_count.false in
+    let met = c.walks_meet_who_stands.ensures.meets v c.args.place way.met c.in-Some.node c.first-at.ensures.distinct within (subst (IsWalked v c.args.place way.met) c.in-Some.is way.way) in
+    let same : met.session ≡ c.owner.result = some_of (sym met.session_is ∙ c.owner.ensures) in
+    c.requires.led.alone c.owner.result (there_if_stands c.owner.result v.places c.args.place (subst (Contains (stands_in v c.args.place)) same met.stands))
 
 pub next-at-requires : goal.next-at-requires
 next-at-requires c =
@@ -69,7 +79,7 @@ loop-at-preserved c =
         met = way.met ++ met.session ∷ [];
         way = met.more c.next-at.result c.next-at.ensures.next;
         members = λ n. one_met lists way.met c.args.work.now.members c.loop-at.work.members c.put_first.new.work.members met.session n (way.members n)
-            (subst (λ (l : ℕ). Contains c.put_first.new.work.members n ↔ ((Contains (members_in lists l) n × (first_in lists n ≡ n)) ⊎ Contains c.loop-at.work.members n)) (sym same)
+            (subst (λ (l : ℕ). Contains c.put_first.new.work.members n ↔ ((Contains (led_by lists l) n × (first_in lists n ≡ n)) ⊎ Contains c.loop-at.work.members n)) (sym same)
             (c.put_first.ensures.members n));
       };
       limit = search;

@@ -1,6 +1,7 @@
-use Rattle.std.proofs.Common.{◌≡◌, ◌∙◌, ℕ, Some, None, List, slice_get, false, true, ap, sym, subst, w64}
+use Rattle.std.proofs.Common.{◌≡◌, ◌∙◌, ℕ, Some, None, List, false, true, ap, sym, subst, w64}
 use Rattle.std.proofs.lemmas.Int.{to_z-of_z}
-use Rattle.ucon_cascade.specs.Lists.{AreOfOne, leader_in}
+use Rattle.std.specs.Prelude.{Option}
+use Rattle.ucon_cascade.specs.Lists.{AreOfOne, leader_in, leader_told}
 use Rattle.ucon_cascade.specs.Timers.{HasDeadline}
 use Rattle.ucon_cascade.specs.declared.timers.Timers.{Timers}
 use Rattle.ucon_cascade.proofs.Listed.{told_of_one}
@@ -11,7 +12,7 @@ pub returns-in_err-leader-clause-leader : goal.returns-in_err-leader-clause-lead
 returns-in_err-leader-clause-leader c =
     let v = c.self.inside.members.wheel in
     let items : c.deref.result.now ≡ c.self.inside.leaders.items = search in
-    let none : None ≡ slice_get c.self.inside.leaders.items c.args.session = sym c.in_err-leader.was ∙ c.leader_at.ensures ∙ ap (λ (xs : List ℕ). slice_get xs c.args.session) items in
+    let none : None ≡ leader_told c.self.inside.leaders.items c.args.session = sym c.in_err-leader.was ∙ c.leader_at.ensures ∙ ap (λ (xs : List (Option ℕ)). leader_told xs c.args.session) items in
     c.from_residual.ensures
     ∙ sym (ap (λ (t : Timers). leader_in t.wheel c.args.session) (sym c.self.view_is) ∙ none_listed v c.self.inside.leaders.items c.args.session c.self.invariant.told (sym none))
 
@@ -35,8 +36,8 @@ returns-else-has-clause-leader c =
     let v = c.self.inside.members.wheel in
     let number = to_z-of_z w64 c.of_list.result (record { sfits = c.of_list.type_inv }) ∙ c.of_list.ensures in
     let items : c.deref.result.now ≡ c.self.inside.leaders.items = search in
-    let listed : Some c.in_ok-leader.leader ≡ slice_get c.self.inside.leaders.items c.args.session =
-    sym c.in_ok-leader.was ∙ c.leader_at.ensures ∙ ap (λ (xs : List ℕ). slice_get xs c.args.session) items in
+    let listed : Some c.in_ok-leader.leader ≡ leader_told c.self.inside.leaders.items c.args.session =
+    sym c.in_ok-leader.was ∙ c.leader_at.ensures ∙ ap (λ (xs : List (Option ℕ)). leader_told xs c.args.session) items in
     let none = none_of_that v c.self.inside.leaders.items c.args.session c.in_ok-leader.leader c.self.invariant.told (sym listed)
     (λ there.
     let both : false ≡ true = sym c.if-has.false ∙ c.has.ensures.1 (subst (HasDeadline v c.args.session) (sym number) there) in

@@ -1,11 +1,11 @@
-use Rattle.std.proofs.Common.{◌≡◌, ◌∙◌, IsSome, Contains, sym, subst, of_z, to_z, w64}
+use Rattle.std.proofs.Common.{◌≡◌, ◌∙◌, IsSome, Contains, ap, sym, subst, of_z, to_z, w64}
 use Rattle.ucon_wheel.specs.Deadlines.{Deadlines, state_of}
 use Rattle.std.proofs.lemmas.Int.{to_z-of_z}
-use Rattle.ucon_cascade.specs.Lists.{HasLeft, members_in, of_list}
+use Rattle.ucon_cascade.specs.Lists.{HasLeft, is_joined, members_in, of_list}
 use Rattle.ucon_cascade.specs.Timers.{HasDeadline, UndoGives}
 use Rattle.ucon_cascade.specs.declared.timers.Timers.{Timers}
 use Rattle.ucon_cascade.proofs.Listed.{member_shown, told_of_one}
-use Rattle.ucon_cascade.proofs.Told.{HasNoMore, hide_leaves, hide_less, told_less}
+use Rattle.ucon_cascade.proofs.Told.{HasNoMore, joined_hide, hide_leaves, hide_less, told_less}
 use Rattle.ucon_cascade.proofs.Outcomes.{either_way, ok_then}
 use Rattle.ucon_cascade.proofs.lists.Lists.leave.Goals as goal
 
@@ -49,3 +49,12 @@ returns-clause-of_one c = told_of_one c.hide.new.self.wheel c.self.inside.leader
 pub returns-clause-undo : goal.returns-clause-undo
 returns-clause-undo c = λ before gives.
     c.hide.ensures.undo before (subst (λ (t : Timers). UndoGives t before) (sym c.self.view_is) gives)
+
+pub returns-clause-joined : goal.returns-clause-joined
+returns-clause-joined c = λ l.
+    let v = c.self.inside.members.wheel in
+    let number : to_z w64 (of_z w64 c.of_list.result) ≡ of_list c.args.leader = to_z-of_z w64 c.of_list.result (record { sfits = c.of_list.type_inv }) ∙ c.of_list.ensures in
+    either_way c.hide.result c.hide.ensures.loses c.hide.ensures.err
+    (λ loses. joined_hide v c.hide.new.self.wheel c.args.leader c.args.session (to_z w64 (of_z w64 c.of_list.result)) number loses l)
+    (λ same. ap (λ (x : Deadlines). is_joined x l) same)
+    ∙ ap (λ (t : Timers). is_joined t.wheel l) c.self.view_is

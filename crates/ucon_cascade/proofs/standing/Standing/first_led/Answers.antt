@@ -1,23 +1,26 @@
-use Rattle.std.proofs.Common.{◌≡◌, ◌≤◌, ℕ, ap, refl, subst}
-use Rattle.std.specs.Prelude.{IfSome, IsSome, is_some}
+use Rattle.std.proofs.Common.{◌≡◌, ◌∙◌, ◌≤◌, ℕ, false, None, sym, refl, subst}
+use Rattle.std.specs.Prelude.{IfSome}
 use Rattle.std.specs.List.{Contains}
-use Rattle.ucon_cascade.specs.Listing.{Listing}
-use Rattle.ucon_cascade.specs.Lists.{first_in, leader_in, members_in}
-use Rattle.ucon_cascade.proofs.Leading.{if_told, own_first, told_if}
+use Rattle.ucon_cascade.specs.Listing.{Listing, StandsSomewhere, readers_in, standing_by}
+use Rattle.ucon_cascade.specs.Lists.{first_in, is_joined, leader_in, led_by}
+use Rattle.ucon_cascade.proofs.Leading.{if_told, own_first, stands_by, stands_if_there, told_if}
 use Rattle.ucon_cascade.proofs.standing.Standing.first_led.Goals as goal
 
-pub returns-clause-itself : goal.returns-clause-itself
-returns-clause-itself c =
+pub returns-then-is_there-clause-itself : goal.returns-then-is_there-clause-itself
+returns-then-is_there-clause-itself c =
     let v = c.self.inside.lists.wheel in
-    subst (λ (s : Listing). IfSome c.first.result (λ m. first_in s.lists.wheel m ≡ m)) c.self.view_is
-    (if_told (λ m. first_in v m ≡ m) c.first.result (λ m is.
-    let member = told_if (λ m. Contains (members_in v c.args.leader) m) c.first.result m is c.first.ensures.there in
-    let least = told_if (λ m. (n : ℕ) → Contains (members_in v c.args.leader) n → m ≤ n) c.first.result m is c.first.ensures.least in
-    ((own_first v c.first.ensures.of_one c.args.leader m member least m).0 refl).1))
+    let alone : is_joined v c.args.leader ≡ false → leader_in v c.args.leader ≡ None = c.self.invariant.alone c.args.leader (sym c.is_there.ensures ∙ c.if-is_there.true) in
+    subst (λ (s : Listing). IfSome c.first_in_list.result (λ m. first_in s.lists.wheel m ≡ m)) c.self.view_is
+    (if_told (λ m. first_in v m ≡ m) c.first_in_list.result (λ m is.
+    let member = told_if (λ m. Contains (led_by v c.args.leader) m) c.first_in_list.result m is c.first_in_list.ensures.there in
+    let least = told_if (λ m. (n : ℕ) → Contains (led_by v c.args.leader) n → m ≤ n) c.first_in_list.result m is c.first_in_list.ensures.least in
+    ((own_first v c.first_in_list.ensures.of_one c.args.leader m alone member least m).0 refl).1))
 
-pub returns-clause-listed : goal.returns-clause-listed
-returns-clause-listed c =
+pub returns-then-is_there-clause-stands : goal.returns-then-is_there-clause-stands
+returns-then-is_there-clause-stands c =
     let v = c.self.inside.lists.wheel in
-    subst (λ (s : Listing). IfSome c.first.result (λ m. IsSome (leader_in s.lists.wheel m))) c.self.view_is
-    (if_told (λ m. IsSome (leader_in v m)) c.first.result (λ m is.
-    ap is_some (c.first.ensures.of_one c.args.leader m (told_if (λ m. Contains (members_in v c.args.leader) m) c.first.result m is c.first.ensures.there))))
+    let i = c.self.inside.index in
+    let stands = stands_if_there c.args.leader i.places (sym c.is_there.ensures ∙ c.if-is_there.true) in
+    subst (λ (s : Listing). IfSome c.first_in_list.result (StandsSomewhere (readers_in s))) c.self.view_is
+    (if_told (StandsSomewhere (standing_by v i)) c.first_in_list.result (λ m is.
+    (stands.0, stands_by v i stands.0 c.args.leader m stands.1 (told_if (λ m. Contains (led_by v c.args.leader) m) c.first_in_list.result m is c.first_in_list.ensures.there))))

@@ -1,39 +1,48 @@
-use Rattle.std.proofs.Common.{◌≡◌, ◌≢◌, ◌↔◌, ℕ, List, Some, None, ap, sym, refl, subst, ◌≤◌, ◌∙◌}
+use Rattle.std.proofs.Common.{◌≡◌, ◌≢◌, ◌↔◌, inl, inr, ℕ, List, Some, None, true, ap, sym, refl, subst, ◌≤◌, ◌∙◌}
 use Rattle.std.specs.Prelude.{Option, IfNone, IfSome, is_some}
 use Rattle.std.specs.List.{Contains}
 use Rattle.ucon_index.specs.Dependents.{Dependents, stands_in}
 use Rattle.ucon_wheel.specs.Deadlines.{Deadlines}
 use Rattle.ucon_cascade.specs.Listing.{AreLed, ChangesGive, Listing, readers_in, standing_by}
-use Rattle.ucon_cascade.specs.Lists.{first_in, members_in}
-use Rattle.ucon_cascade.proofs.Leading.{first_told, left_first, left_next, left_same, left_stands, left_where, now_least, now_none, now_there, of_others, stands_if_there, there_if_stands, whose_list, without_stands}
-use Rattle.ucon_cascade.proofs.Listed.{alone_leads, first_is_low, leader_none, leader_some}
+use Rattle.ucon_cascade.specs.Lists.{first_in, is_joined, led_by, members_in}
+use Rattle.ucon_cascade.proofs.Leading.{first_told, joined_led, led_like, led_member, left_alone, left_alone_led, left_first, left_next, left_same, left_stands, left_where, now_least, now_none, now_there, of_others, stands_if_there, there_if_stands, there_like, without_stands}
+use Rattle.ucon_cascade.proofs.Listed.{alone_leads, first_is_low, leader_some}
 use Rattle.ucon_cascade.proofs.Placed.{hidden_gives, listed_gives}
 use Rattle.ucon_cascade.proofs.standing.Standing.hide.Goals as goal
 
 -- ---- who is in no list
 
+pub invariant_of-self : goal.invariant_of-self
+invariant_of-self c =
+    left_alone_led c.self.inside.lists.wheel c.self.inside.index c.hide_alone.new.index c.args.session c.self.invariant c.hide_alone.ensures.stays c.hide_alone.ensures.stands
+
 pub returns-in_default-clause-read : goal.returns-in_default-clause-read
 returns-in_default-clause-read c =
     let v = c.self.inside.lists.wheel in
-    let i = c.self.inside.index in
-    subst (λ (s : Listing). (n place : ℕ) → Contains (readers_in s place) n ↔ ((n ≢ c.args.session) × Contains (readers_in s place) n)) c.self.view_is
-    (λ n place. (
-      λ has. (
-        λ same. (let at = whose_list v i place n has in
-            leader_none v c.args.session at.0 (sym c.in_default.ensures.leader) (subst (Contains (members_in v at.0)) same at.2)),
-        has,
-      ),
-      λ both. both.1,
-    ))
+    subst (λ (s : Listing). (n place : ℕ) → Contains (standing_by v c.hide_alone.new.index place) n ↔ ((n ≢ c.args.session) × Contains (readers_in s place) n)) c.self.view_is
+    (left_alone v c.self.inside.index c.hide_alone.new.index c.args.session (sym c.in_default.ensures.leader) c.hide_alone.ensures.stays c.hide_alone.ensures.stands)
+
+pub returns-in_default-clause-same : goal.returns-in_default-clause-same
+returns-in_default-clause-same c = λ n apart other. ap (λ (s : Listing). first_in s.lists.wheel n) c.self.view_is
 
 pub returns-in_default-clause-next : goal.returns-in_default-clause-next
 returns-in_default-clause-next c =
     let v = c.self.inside.lists.wheel in
-    subst (λ (s : Listing). (n : ℕ) → n ≢ c.args.session → first_in s.lists.wheel n ≡ c.args.session → None ≡ Some (first_in s.lists.wheel n)) c.self.view_is
+    subst (λ (s : Listing). (n : ℕ) → n ≢ c.args.session → first_in s.lists.wheel n ≡ c.args.session → None ≡ Some (first_in v n)) c.self.view_is
     (λ n apart is. absurd (alone_leads v c.args.session c.in_default.ensures.of_one (sym c.in_default.ensures.leader) n apart is))
 
 pub returns-in_default-clause-low : goal.returns-in_default-clause-low
-returns-in_default-clause-low c = first_is_low c.args.self.now.lists.wheel
+returns-in_default-clause-low c = first_is_low c.self.inside.lists.wheel
+
+pub returns-in_default-clause-undo : goal.returns-in_default-clause-undo
+returns-in_default-clause-undo c = λ standing first gives.
+    let s : Listing = record { lists = c.self.inside.lists; index = c.self.inside.index; added = c.self.inside.added } in
+    let t : Listing = record { lists = c.self.inside.lists; index = c.hide_alone.new.index; added = c.self.inside.added } in
+    let mine = subst (λ (x : Listing). ChangesGive x standing first) (sym c.self.view_is) gives in
+    elim c.hide_alone.ensures.hidden [
+      | inl same ↦ listed_gives s t standing first refl same (λ before gives_it. gives_it) mine
+      | inr out ↦ hidden_gives s t c.args.session standing first refl out.0 out.1 (λ before gives_it. gives_it) mine
+    ]
 
 -- ---- who leaves a list
 
@@ -43,8 +52,8 @@ next-next-requires c = leader_some c.self.inside.lists.wheel c.args.session c.in
 pub leave-requires : goal.leave-requires
 leave-requires c = leader_some c.self.inside.lists.wheel c.args.session c.in-Some.leader (sym c.in-Some.ensures.leader)
 
-pub invariant_of-self : goal.invariant_of-self
-invariant_of-self c = subst (λ (v : Deadlines). AreLed v c.self.inside.index) (sym c.in_err-leave.ensures.err) c.self.invariant
+pub invariant_of-self-in_err-leave : goal.invariant_of-self-in_err-leave
+invariant_of-self-in_err-leave c = subst (λ (v : Deadlines). AreLed v c.self.inside.index) (sym c.in_err-leave.ensures.err) c.self.invariant
 
 pub returns-in_err-leave-clause-undo : goal.returns-in_err-leave-clause-undo
 returns-in_err-leave-clause-undo c = λ standing first gives.
@@ -54,7 +63,7 @@ returns-in_err-leave-clause-undo c = λ standing first gives.
 
 pub if_empty_hide-requires : goal.if_empty_hide-requires
 if_empty_hide-requires c =
-    c.self.invariant c.in-Some.leader c.args.session (leader_some c.self.inside.lists.wheel c.args.session c.in-Some.leader (sym c.in-Some.ensures.leader))
+    (c.self.invariant.there c.in-Some.leader c.args.session (leader_some c.self.inside.lists.wheel c.args.session c.in-Some.leader (sym c.in-Some.ensures.leader))).0
 
 -- the list's first before, and its first now
 
@@ -91,16 +100,23 @@ none_now c =
 led_now : (c : goal.After-next_first) → c.first-first.result ≡ Some c.args.session → c.next_first.result ≡ c.first_without.result
 led_now c own = c.next_first.ensures.was own ∙ sym (c.first_without.ensures.was own)
 
--- the leaders that still have members stand where they stood
-still : (c : goal.After-next_first) → (l n place : ℕ) → Contains (members_in c.leave.new.self.wheel l) n → Contains (stands_in c.self.inside.index place) l
+-- the leader's list was joined, and is so still
+joined : (c : goal.After-next_first) → is_joined c.leave.new.self.wheel c.in-Some.leader ≡ true
+joined c =
+    let v = c.self.inside.lists.wheel in
+    c.leave.ensures.joined c.in-Some.leader
+    ∙ (c.self.invariant.there c.in-Some.leader c.args.session (leader_some v c.args.session c.in-Some.leader (sym c.in-Some.ensures.leader))).1
+
+-- the leaders of lists that somebody is still in stand where they stood
+still : (c : goal.After-next_first) → (l n place : ℕ) → Contains (led_by c.leave.new.self.wheel l) n → Contains (stands_in c.self.inside.index place) l
     → Contains (stands_in c.if_empty_hide.new.index place) l
-still c l n place member stands = by c.first_without.result refl (none_now c)
+still c l n place led stands = by c.first_without.result refl (none_now c)
   where
     by : (o : Option ℕ) → c.first_without.result ≡ o → IfNone o ((n : ℕ) → Contains (members_in c.leave.new.self.wheel c.in-Some.leader) n → ⊥)
         → Contains (stands_in c.if_empty_hide.new.index place) l
     by None is empty =
-        without_stands c.self.inside.lists.wheel c.leave.new.self.wheel c.self.inside.index c.if_empty_hide.new.index c.in-Some.leader empty (c.if_empty_hide.ensures.stands is) l n place
-        member stands
+        without_stands c.self.inside.lists.wheel c.leave.new.self.wheel c.self.inside.index c.if_empty_hide.new.index c.in-Some.leader
+        (λ m has. empty m (led_member c.leave.new.self.wheel c.in-Some.leader m (joined c) has)) (c.if_empty_hide.ensures.stands is) l n place led stands
     by (Some m) is empty =
         subst (λ (i : Dependents). Contains (stands_in i place) l) (sym (c.if_empty_hide.ensures.led (ap is_some is))) stands
 
@@ -113,17 +129,25 @@ were c l place stands = by c.first_without.result refl
     by (Some m) is = subst (λ (i : Dependents). Contains (stands_in i place) l) (c.if_empty_hide.ensures.led (ap is_some is)) stands
 
 pub invariant_of-self-2 : goal.invariant_of-self-2
-invariant_of-self-2 c = λ leader n member.
-    let led = c.self.invariant leader n ((c.in_ok-leave.ensures.leaves leader n).0 member).1 in
-    let stood = stands_if_there leader c.self.inside.index.places led in
-    there_if_stands leader c.if_empty_hide.new.index.places stood.0 (still c leader n stood.0 member stood.1)
+invariant_of-self-2 c =
+    let v = c.self.inside.lists.wheel in
+    let w = c.leave.new.self.wheel in
+    let i = c.self.inside.index in
+    let j = c.if_empty_hide.new.index in
+    led_like v w i j c.self.invariant (λ l n has. ((c.in_ok-leave.ensures.leaves l n).0 has).1) c.leave.ensures.joined
+    (λ l n member there.
+    let stood = stands_if_there l i.places there in
+    let is = (c.self.invariant.there l n ((c.in_ok-leave.ensures.leaves l n).0 member).1).1 in
+    there_if_stands l j.places stood.0 (still c l n stood.0 (joined_led w l n (c.leave.ensures.joined l ∙ is) member) stood.1))
+    (there_like j i (were c))
 
 pub returns-clause-read : goal.returns-clause-read
 returns-clause-read c =
     let v = c.self.inside.lists.wheel in
     let w = c.leave.new.self.wheel in
     subst (λ (s : Listing). (n place : ℕ) → Contains (standing_by w c.if_empty_hide.new.index place) n ↔ ((n ≢ c.args.session) × Contains (readers_in s place) n)) c.self.view_is
-    (left_stands v w c.self.inside.index c.if_empty_hide.new.index c.args.session c.in_ok-leave.ensures.leaves (still c) (were c))
+    (left_stands v w c.self.inside.index c.if_empty_hide.new.index c.args.session c.in-Some.leader c.self.invariant c.in_ok-leave.ensures.leaves
+    (sym c.in-Some.ensures.leader) c.leave.ensures.joined (still c) (were c))
 
 pub returns-clause-same : goal.returns-clause-same
 returns-clause-same c =

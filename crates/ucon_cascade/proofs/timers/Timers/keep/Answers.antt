@@ -1,4 +1,4 @@
-use Rattle.std.proofs.Common.{refl, ap}
+use Rattle.std.proofs.Common.{ap}
 use Rattle.ucon_wheel.specs.Deadlines.{Deadlines}
 use Rattle.ucon_cascade.proofs.Showing.{none_hidden}
 use Rattle.ucon_cascade.proofs.timers.Timers.keep.Goals as goal
@@ -9,7 +9,7 @@ returns-clause-wheel c = λ n deadline. c.forget_hidden.ensures.shown (deadline,
 pub returns-clause-kept : goal.returns-clause-kept
 returns-clause-kept c = record {
   none_changed = c.clear.ensures.items;
-  none_replaced = refl;
+  none_replaced = c.forget.ensures;
   nothing_hidden = record {
     none_listed = ap (λ (v : Deadlines). v.hidden) c.forget_hidden.ensures.forgotten;
     none_hidden = none_hidden c.args.self.now.wheel c.forget_hidden.new.self c.forget_hidden.ensures.forgotten;
