@@ -9,7 +9,7 @@ use Rattle.std.proofs.lemmas.Bool.{le-ltb, lt-ltb, ltb-true, ltb-false, and_part
 use Rattle.std.proofs.lemmas.Slice.Eq.{bytes_eq-Decides}
 use Rattle.ucon_model.specs.declared.command.Entry.{Entry}
 use Rattle.ucon_model.specs.CommandLine.{command_spelling}
-use Rattle.ucon_model.specs.Found.{Finding, damaged, holds, first_gate, next_gate, gate_behind, with_step, taken, policy_taken, found_behind, found_in, payloads_behind, payloads_of}
+use Rattle.ucon_model.specs.Found.{Finding, damaged, holds, first_gate, next_gate, gate_behind, with_step, Takes, TakesSteps, taken, only_steps, policy_taken, found_behind, found_in, payloads_behind, payloads_of}
 use Rattle.ucon_model.specs.History.{History, IsProper, IsProperFrom, changes, said}
 use Rattle.ucon_model.specs.LegalRun.{tells_change}
 use Rattle.ucon_model.specs.Payload.{Told, entry_told, most_payload, payload_read, payload_spelling, told}
@@ -115,23 +115,23 @@ module _ (reads : Bytes → Option PlainPolicy) (tells : TextsTell) (as_read : S
 
   -- ---- what is written is found
 
-  found-behind : StepsAreRead reads → (text : Bytes) (P : PlainPolicy) (rest front : History) (number gate : ℕ) → IsProperFrom P front rest → AreSteps P front rest
-      → found_behind reads text P front number gate (payloads_behind P front rest) ≡ holds text P (front ++ rest) (gate_behind gate (payloads_behind P front rest))
-  found-behind back text P [] front number gate proper steps = ap (λ H. holds text P H gate) (sym (append-nil front))
-  found-behind back text P (e ∷ rest) front number gate proper steps =
+  found-behind : StepsAreRead reads → (takes : Takes) → TakesSteps reads takes → (text : Bytes) (P : PlainPolicy) (rest front : History) (number gate : ℕ) → IsProperFrom P front rest → AreSteps P front rest
+      → found_behind takes text P front number gate (payloads_behind P front rest) ≡ holds text P (front ++ rest) (gate_behind gate (payloads_behind P front rest))
+  found-behind back takes each text P [] front number gate proper steps = ap (λ H. holds text P H gate) (sym (append-nil front))
+  found-behind back takes each text P (e ∷ rest) front number gate proper steps =
       let payload : Bytes = payload_spelling (told e (said P front e.caller e.command)) in
-      ap (λ o. unwrap_or (option_map (λ later. found_behind reads text P later (number + 1) (next_gate gate payload) (payloads_behind P (front ++ e ∷ []) rest)) o) (damaged number gate))
-      (taken_next back P front e steps.0 proper.0)
-      ∙ found-behind back text P rest (front ++ e ∷ []) (number + 1) (next_gate gate payload) proper.1 steps.1
+      ap (λ o. unwrap_or (option_map (λ later. found_behind takes text P later (number + 1) (next_gate gate payload) (payloads_behind P (front ++ e ∷ []) rest)) o) (damaged number gate))
+      (each text P front (front ++ e ∷ []) payload (taken_next back P front e steps.0 proper.0))
+      ∙ found-behind back takes each text P rest (front ++ e ∷ []) (number + 1) (next_gate gate payload) proper.1 steps.1
       ∙ ap (λ H. holds text P H (gate_behind (next_gate gate payload) (payloads_behind P (front ++ e ∷ []) rest))) (append_assoc front (e ∷ []) rest)
 
-  pub history_found : StepsAreRead reads → (text : Bytes) (P : PlainPolicy) (H : History)
+  pub history_found : StepsAreRead reads → (takes : Takes) (text : Bytes) (P : PlainPolicy) (H : History) → TakesSteps reads takes
       → reads text ≡ Some P → length text ≤ most_payload → IsProper P H → AreSteps P [] H
-      → found_in reads (payloads_of text P H) ≡ holds text P H (gate_behind first_gate (payloads_of text P H))
-  history_found back text P H read short proper steps =
-      ap (λ o. unwrap_or (option_map (λ Q. found_behind reads text Q [] 1 (next_gate first_gate text) (payloads_behind P [] H)) o) (damaged 0 first_gate))
+      → found_in reads takes (payloads_of text P H) ≡ holds text P H (gate_behind first_gate (payloads_of text P H))
+  history_found back takes text P H each read short proper steps =
+      ap (λ o. unwrap_or (option_map (λ Q. found_behind takes text Q [] 1 (next_gate first_gate text) (payloads_behind P [] H)) o) (damaged 0 first_gate))
       (ap (λ b. cond b None (reads text)) (le-ltb most_payload (length text) short) ∙ read)
-      ∙ found-behind back text P H [] 1 (next_gate first_gate text) proper steps
+      ∙ found-behind back takes each text P H [] 1 (next_gate first_gate text) proper steps
 
   -- ---- what is found was written
 
@@ -204,9 +204,9 @@ module _ (reads : Bytes → Option PlainPolicy) (tells : TextsTell) (as_read : S
     proper : IsProperFrom P front rest
 
   behind_taken : (text : Bytes) (P : PlainPolicy) (front : History) (number gate : ℕ) (payload : Bytes) (payloads : List Bytes) (found_text : Bytes) (Q : PlainPolicy) (H : History) (end : ℕ)
-      → ((later : History) → found_behind reads text P later (number + 1) (next_gate gate payload) payloads ≡ holds found_text Q H end → IsFoundBehind text P later (next_gate gate payload) payloads found_text Q H end)
+      → ((later : History) → found_behind (only_steps reads) text P later (number + 1) (next_gate gate payload) payloads ≡ holds found_text Q H end → IsFoundBehind text P later (next_gate gate payload) payloads found_text Q H end)
       → (o : Option History) → taken reads P front payload ≡ o
-      → unwrap_or (option_map (λ later. found_behind reads text P later (number + 1) (next_gate gate payload) payloads) o) (damaged number gate) ≡ holds found_text Q H end
+      → unwrap_or (option_map (λ later. found_behind (only_steps reads) text P later (number + 1) (next_gate gate payload) payloads) o) (damaged number gate) ≡ holds found_text Q H end
       → IsFoundBehind text P front gate (payload ∷ payloads) found_text Q H end
   behind_taken text P front number gate payload payloads found_text Q H end next None is h = absurd (false≢true (ap is_held h))
   behind_taken text P front number gate payload payloads found_text Q H end next (Some later) is h =
@@ -225,7 +225,7 @@ module _ (reads : Bytes → Option PlainPolicy) (tells : TextsTell) (as_read : S
       }
 
   behind_found : (text : Bytes) (P : PlainPolicy) (payloads : List Bytes) (front : History) (number gate : ℕ) (found_text : Bytes) (Q : PlainPolicy) (H : History) (end : ℕ)
-      → found_behind reads text P front number gate payloads ≡ holds found_text Q H end → IsFoundBehind text P front gate payloads found_text Q H end
+      → found_behind (only_steps reads) text P front number gate payloads ≡ holds found_text Q H end → IsFoundBehind text P front gate payloads found_text Q H end
   behind_found text P [] front number gate found_text Q H end h = record {
     rest = [];
     same_text = ap (text_in text) h;
@@ -249,7 +249,7 @@ module _ (reads : Bytes → Option PlainPolicy) (tells : TextsTell) (as_read : S
 
   from_first : (first : Bytes) (payloads : List Bytes) (text : Bytes) (P : PlainPolicy) (H : History) (gate : ℕ)
       → (o : Option PlainPolicy) → policy_taken reads first ≡ o
-      → unwrap_or (option_map (λ Q. found_behind reads first Q [] 1 (next_gate first_gate first) payloads) o) (damaged 0 first_gate) ≡ holds text P H gate
+      → unwrap_or (option_map (λ Q. found_behind (only_steps reads) first Q [] 1 (next_gate first_gate first) payloads) o) (damaged 0 first_gate) ≡ holds text P H gate
       → IsJournalOf (first ∷ payloads) text P H gate
   from_first first payloads text P H gate None is h = absurd (false≢true (ap is_held h))
   from_first first payloads text P H gate (Some Q) is h =
@@ -265,6 +265,6 @@ module _ (reads : Bytes → Option PlainPolicy) (tells : TextsTell) (as_read : S
       )
 
   pub found_history : (payloads : List Bytes) (text : Bytes) (P : PlainPolicy) (H : History) (gate : ℕ)
-      → found_in reads payloads ≡ holds text P H gate → IsJournalOf payloads text P H gate
+      → found_in reads (only_steps reads) payloads ≡ holds text P H gate → IsJournalOf payloads text P H gate
   found_history [] text P H gate h = absurd (false≢true (ap is_held h))
   found_history (first ∷ payloads) text P H gate h = from_first first payloads text P H gate (policy_taken reads first) refl h

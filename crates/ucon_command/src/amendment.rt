@@ -9,7 +9,7 @@ ghost use Rattle.ucon_syntax.specs.Policies.{accepted};
 
 use std::alloc::Global;
 use ucon_base::{NoMemory, Rows};
-use ucon_check::{CheckFault, check};
+use ucon_check::check;
 use ucon_model::{Amend, Checked};
 use ucon_syntax::{SyntaxFault, read_policy};
 
@@ -23,9 +23,8 @@ pub fn read_accepted(alloc: Global, text: &[u8]) -> Result<Option<Checked>, NoMe
         Err(SyntaxFault::NoMemory(e)) => return Err(e),
         Err(_) => return Ok(None),
     };
-    match check(alloc, policy) {
+    match check(policy) {
         Ok(checked) => Ok(Some(checked)),
-        Err(CheckFault::NoMemory(e)) => Err(e),
         Err(_) => Ok(None),
     }
 }

@@ -20,8 +20,8 @@ pub fn command_of(alloc: Global, line: &[u8], cuts: Cuts) -> Result<Command, NoM
     ensures { IfOk result (λ c. command_cut cuts line.now ≡ Some c) }
 {
     match cuts {
-        Cuts::Subject { name } => Ok(Command::Subject(last_name(line, name))),
-        Cuts::Object { name } => Ok(Command::Object(last_name(line, name))),
+        Cuts::Subject { name } => subject_command(line, name),
+        Cuts::Object { name } => object_command(line, name),
         Cuts::Set {
             side,
             name,
@@ -29,24 +29,40 @@ pub fn command_of(alloc: Global, line: &[u8], cuts: Cuts) -> Result<Command, NoM
             value,
         } => set_command(alloc, line, side, name, attr, value),
         Cuts::Env { name, value } => env_command(alloc, line, name, value),
-        Cuts::Tick { tick } => Ok(Command::Tick(last_integer(alloc, line, tick)?)),
+        Cuts::Tick { tick } => tick_command(alloc, line, tick),
         Cuts::Act {
             subject,
             action,
             object,
-        } => Ok(act_command(line, subject, action, object)),
+        } => act_command(line, subject, action, object),
         Cuts::Try {
             subject,
             right,
             object,
-        } => Ok(try_command(line, subject, right, object)),
+        } => try_command(line, subject, right, object),
         Cuts::Again(n) => Ok(Command::Again(n)),
         Cuts::Beat(n) => Ok(Command::Beat(n)),
         Cuts::End(n) => Ok(Command::End(n)),
         Cuts::Look(n) => Ok(Command::Look(n)),
-        Cuts::Value { side, name, attr } => Ok(value_command(line, side, name, attr)),
-        Cuts::Amend { policy } => Ok(Command::Amend(last_amendment(alloc, line, policy)?)),
+        Cuts::Value { side, name, attr } => value_command(line, side, name, attr),
+        Cuts::Amend { policy } => amend_command(alloc, line, policy),
     }
+}
+
+/// `subject`, by where its name begins.
+fn subject_command(line: &[u8], name: u16) -> Result<Command, NoMemory>
+    requires { IsTrue (ends_in_name name line.now) }
+    ensures { IfOk result (λ c. command_cut (Cuts.Subject name) line.now ≡ Some c) }
+{
+    Ok(Command::Subject(last_name(line, name)))
+}
+
+/// `object`, by where its name begins.
+fn object_command(line: &[u8], name: u16) -> Result<Command, NoMemory>
+    requires { IsTrue (ends_in_name name line.now) }
+    ensures { IfOk result (λ c. command_cut (Cuts.Object name) line.now ≡ Some c) }
+{
+    Ok(Command::Object(last_name(line, name)))
 }
 
 /// `set`, by where its names and its value begin.
@@ -83,45 +99,63 @@ fn env_command(alloc: Global, line: &[u8], name: u16, value: u16) -> Result<Comm
     })
 }
 
+/// `tick`, by where its integer begins.
+fn tick_command(alloc: Global, line: &[u8], tick: u16) -> Result<Command, NoMemory>
+    requires within { tick ≤ length line.now }
+    requires integer { IsSome (integer_in (drop tick line.now)) }
+    ensures { IfOk result (λ c. command_cut (Cuts.Tick tick) line.now ≡ Some c) }
+{
+    Ok(Command::Tick(last_integer(alloc, line, tick)?))
+}
+
 /// `act`, by where its names begin.
-fn act_command(line: &[u8], subject: u16, action: u16, object: u16) -> Command
+fn act_command(line: &[u8], subject: u16, action: u16, object: u16) -> Result<Command, NoMemory>
     requires subject { IsTrue (has_name subject action line.now) }
     requires action { IsTrue (has_name action object line.now) }
     requires object { IsTrue (ends_in_name object line.now) }
-    ensures { command_cut (Cuts.Act subject action object) line.now ≡ Some result }
+    ensures { IfOk result (λ c. command_cut (Cuts.Act subject action object) line.now ≡ Some c) }
 {
-    Command::Act {
+    Ok(Command::Act {
         subject: name_between(line, subject, action),
         action: name_between(line, action, object),
         object: last_name(line, object),
-    }
+    })
 }
 
 /// `try`, by where its names begin.
-fn try_command(line: &[u8], subject: u16, right: u16, object: u16) -> Command
+fn try_command(line: &[u8], subject: u16, right: u16, object: u16) -> Result<Command, NoMemory>
     requires subject { IsTrue (has_name subject right line.now) }
     requires right { IsTrue (has_name right object line.now) }
     requires object { IsTrue (ends_in_name object line.now) }
-    ensures { command_cut (Cuts.Try subject right object) line.now ≡ Some result }
+    ensures { IfOk result (λ c. command_cut (Cuts.Try subject right object) line.now ≡ Some c) }
 {
-    Command::Try {
+    Ok(Command::Try {
         subject: name_between(line, subject, right),
         right: name_between(line, right, object),
         object: last_name(line, object),
-    }
+    })
 }
 
 /// `value`, by where its names begin.
-fn value_command(line: &[u8], side: Side, name: u16, attr: u16) -> Command
+fn value_command(line: &[u8], side: Side, name: u16, attr: u16) -> Result<Command, NoMemory>
     requires name { IsTrue (has_name name attr line.now) }
     requires attr { IsTrue (ends_in_name attr line.now) }
-    ensures { command_cut (Cuts.Value side name attr) line.now ≡ Some result }
+    ensures { IfOk result (λ c. command_cut (Cuts.Value side name attr) line.now ≡ Some c) }
 {
-    Command::Value {
+    Ok(Command::Value {
         side,
         name: name_between(line, name, attr),
         attr: last_name(line, attr),
-    }
+    })
+}
+
+/// `amend`, by where its policy begins.
+fn amend_command(alloc: Global, line: &[u8], policy: u32) -> Result<Command, NoMemory>
+    requires within { policy ≤ length line.now }
+    requires amendment { IsSome (amendment_in accepted (drop policy line.now)) }
+    ensures { IfOk result (λ c. command_cut (Cuts.Amend policy) line.now ≡ Some c) }
+{
+    Ok(Command::Amend(last_amendment(alloc, line, policy)?))
 }
 
 /// The name from one place up to the space before another.

@@ -6,7 +6,7 @@ ghost use Rattle.ucon_base.specs.Elements.{Each};
 ghost use Rattle.ucon_model.specs.declared.command.Entry.{Entry};
 ghost use Rattle.ucon_model.specs.declared.command.Command.{Command};
 ghost use Rattle.ucon_model.specs.CommandLine.{IsCommand, command_spelling, line_read, most_bytes};
-ghost use Rattle.ucon_model.specs.Found.{found_in, first_gate, gate_behind, holds, payloads_of, taken};
+ghost use Rattle.ucon_model.specs.Found.{Takes, TakesSteps, found_in, first_gate, gate_behind, holds, only_steps, payloads_of, taken};
 ghost use Rattle.ucon_model.specs.History.{History, IsProper, changes, said};
 ghost use Rattle.ucon_model.specs.Output.{Lacks};
 ghost use Rattle.ucon_model.specs.Payload.{Told, entry_told, most_payload, payload_read, payload_spelling, told};
@@ -73,13 +73,14 @@ pub fn steps_are_taken_as_spelled()
     texts_tell_changes();
 }
 
-/// What is found in a proper history's payloads is that history, and payloads in which a history is found are that history's.
+/// What is found in a proper history's payloads is that history, and payloads in which a history is found are that history's, where each
+/// has to tell a step.
 pub fn histories_are_found()
-    ensures written { (text : Bytes) (P : PlainPolicy) (H : History)
+    ensures written { (takes : Takes) (text : Bytes) (P : PlainPolicy) (H : History) → TakesSteps accepted takes
         → accepted text ≡ Some P → length text ≤ most_payload → IsProper P H → AreSteps P [] H
-        → found_in accepted (payloads_of text P H) ≡ holds text P H (gate_behind first_gate (payloads_of text P H)) }
+        → found_in accepted takes (payloads_of text P H) ≡ holds text P H (gate_behind first_gate (payloads_of text P H)) }
     ensures read { (payloads : List Bytes) (text : Bytes) (P : PlainPolicy) (H : History) (gate : ℕ)
-        → found_in accepted payloads ≡ holds text P H gate
+        → found_in accepted (only_steps accepted) payloads ≡ holds text P H gate
         → (payloads ≡ payloads_of text P H) × (gate ≡ gate_behind first_gate payloads) × (accepted text ≡ Some P) × IsProper P H }
 {
     payloads_are_read_back();
@@ -89,8 +90,9 @@ pub fn histories_are_found()
 /// What is found in the payloads of a proper history of commands of the 64 clients is that history, and each payload fits its record: its
 /// replies can be spelled.
 pub fn proper_histories_are_found()
-    ensures found { (text : Bytes) (P : PlainPolicy) (H : History) → accepted text ≡ Some P → AreOfClients H → IsProper P H
-        → found_in accepted (payloads_of text P H) ≡ holds text P H (gate_behind first_gate (payloads_of text P H)) }
+    ensures found { (takes : Takes) (text : Bytes) (P : PlainPolicy) (H : History) → TakesSteps accepted takes → accepted text ≡ Some P → AreOfClients H
+        → IsProper P H
+        → found_in accepted takes (payloads_of text P H) ≡ holds text P H (gate_behind first_gate (payloads_of text P H)) }
     ensures fits { (text : Bytes) (P : PlainPolicy) (H : History) → accepted text ≡ Some P → AreOfClients H → IsProper P H
         → Each (λ payload. length payload ≤ most_payload) (payloads_of text P H) }
 {

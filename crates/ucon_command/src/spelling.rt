@@ -8,6 +8,7 @@ use std::alloc::Global;
 use ucon_base::{Name, NoMemory, Value, put, put_number};
 
 /// Adds a space and a name.
+#[inline(always)]
 pub fn put_name(out: &mut Vec<u8>, name: &Name) -> Result<(), NoMemory>
     ensures { OnOk result (out.new.items ≡ out.old.items ++ 32 ∷ name.now) }
 {
@@ -24,6 +25,7 @@ pub fn put_value(alloc: Global, out: &mut Vec<u8>, v: &Value) -> Result<(), NoMe
 }
 
 /// Adds a word and a session's number.
+#[inline(always)]
 pub fn put_session(out: &mut Vec<u8>, word: &[u8], n: u32) -> Result<(), NoMemory>
     ensures { OnOk result (out.new.items ≡ out.old.items ++ (word.now ++ decimal n)) }
 {

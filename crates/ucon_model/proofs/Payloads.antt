@@ -5,7 +5,7 @@ use Rattle.std.specs.Fmt.{digits}
 use Rattle.std.specs.Str.{bytes_eq}
 use Rattle.ucon_model.specs.declared.command.Command.TheVariants as commands
 use Rattle.ucon_model.specs.CommandLine.{command_spelling, line_read, command_read, one_word}
-use Rattle.ucon_model.specs.Found.{taken, found_in, payloads_of, fresh, damaged, holds}
+use Rattle.ucon_model.specs.Found.{taken, only_steps, found_in, payloads_of, fresh, damaged, holds}
 use Rattle.ucon_model.specs.Payload.{told, payload_spelling, payload_read, step_read}
 use Rattle.ucon_model.specs.Plain.{Bytes, PlainPolicy}
 use Rattle.ucon_model.specs.ReplyText.{reply_read, told_read, made_read, labelled_read, one_revoked}
@@ -46,29 +46,29 @@ one_step : payloads_of bare_right bare_policy (by 0 (commands.Subject (codes "a"
 unfolding command_spelling digits
 one_step = refl
 
-found_one_step : found_in reads_bare (bare_right ∷ subject_a ∷ []) ≡ holds bare_right bare_policy (by 0 (commands.Subject (codes "a")) ∷ []) 43
+found_one_step : found_in reads_bare (only_steps reads_bare) (bare_right ∷ subject_a ∷ []) ≡ holds bare_right bare_policy (by 0 (commands.Subject (codes "a")) ∷ []) 43
 unfolding taken payload_read step_read line_read command_read one_word reply_read told_read made_read digits
 found_one_step = refl
 
 -- a reply's text that is damaged, and a step of a caller that may not take it, whatever it says it was answered
-damaged_reply : found_in reads_bare (bare_right ∷ codes "0 subject a\noj" ∷ []) ≡ damaged 1 24
+damaged_reply : found_in reads_bare (only_steps reads_bare) (bare_right ∷ codes "0 subject a\noj" ∷ []) ≡ damaged 1 24
 unfolding taken payload_read step_read line_read command_read one_word reply_read told_read made_read digits
 damaged_reply = refl
 
-not_the_reply : found_in reads_bare (bare_right ∷ codes "1 subject a\nok" ∷ []) ≡ damaged 1 24
+not_the_reply : found_in reads_bare (only_steps reads_bare) (bare_right ∷ codes "1 subject a\nok" ∷ []) ≡ damaged 1 24
 unfolding taken payload_read step_read line_read command_read one_word reply_read told_read made_read digits
 not_the_reply = refl
 
-changes_nothing : found_in reads_bare (bare_right ∷ codes "1 subject a\nnot admin" ∷ []) ≡ damaged 1 24
+changes_nothing : found_in reads_bare (only_steps reads_bare) (bare_right ∷ codes "1 subject a\nnot admin" ∷ []) ≡ damaged 1 24
 unfolding taken payload_read step_read line_read command_read one_word reply_read told_read made_read digits
 changes_nothing = refl
 
-other_revocations : found_in reads_bare (bare_right ∷ codes "0 subject a\nok revoked 1 cap" ∷ []) ≡ damaged 1 24
+other_revocations : found_in reads_bare (only_steps reads_bare) (bare_right ∷ codes "0 subject a\nok revoked 1 cap" ∷ []) ≡ damaged 1 24
 unfolding taken payload_read step_read line_read command_read one_word reply_read told_read made_read one_revoked labelled_read digits
 other_revocations = refl
 
 -- the first wrong record is told: record 0 where its policy isn't accepted, and a step that is done a second time
-first_wrong : map (found_in reads_bare) ([] ∷ (codes "right" ∷ codes "x" ∷ []) ∷ (bare_right ∷ subject_a ∷ subject_a ∷ codes "x" ∷ []) ∷ [])
+first_wrong : map (found_in reads_bare (only_steps reads_bare)) ([] ∷ (codes "right" ∷ codes "x" ∷ []) ∷ (bare_right ∷ subject_a ∷ subject_a ∷ codes "x" ∷ []) ∷ [])
     ≡ fresh ∷ damaged 0 8 ∷ damaged 2 43 ∷ []
 unfolding taken payload_read step_read line_read command_read one_word reply_read told_read made_read digits
 first_wrong = refl

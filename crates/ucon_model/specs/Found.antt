@@ -1,5 +1,5 @@
--- What a journal's payloads say, record by record. How a policy's text is read is an argument.
-use Rattle.std.specs.Prelude.{ℕ, ◌+◌, Bool, ◌&&◌, nat_lt, List, [], ◌∷◌, ◌++◌, length, Option, Some, None, option_map, option_and_then, unwrap_or, if◌then◌else◌}
+-- What a journal's payloads say, record by record. How a policy's text is read is an argument, and what a later payload may be.
+use Rattle.std.specs.Prelude.{◌≡◌, ℕ, ◌+◌, Bool, ◌&&◌, nat_lt, List, [], ◌∷◌, ◌++◌, length, Option, Some, None, option_map, option_and_then, unwrap_or, if◌then◌else◌}
 use Rattle.std.specs.Result.{result_ok}
 use Rattle.std.specs.Str.{bytes_eq}
 use Rattle.ucon_model.specs.History.{History, said, changes}
@@ -36,29 +36,44 @@ unfoldable pub taken : (Bytes → Option PlainPolicy) → PlainPolicy → Histor
 taken reads P H payload =
     if nat_lt most_payload (length payload) then None else option_and_then (with_step P H) (result_ok (payload_read reads payload))
 
+-- What a payload makes of the entries before it, under a policy that has this text; none where the record is wrong.
+abbrev pub Takes : Type 0
+Takes = Bytes → PlainPolicy → History → Bytes → Option History
+
+-- each payload has to tell the next step
+abbrev pub only_steps : (Bytes → Option PlainPolicy) → Takes
+only_steps reads text P H payload = taken reads P H payload
+
+-- each payload that tells the next step is taken as it
+abbrev pub TakesSteps : (Bytes → Option PlainPolicy) → Takes → Type 0
+TakesSteps reads takes =
+    (text : Bytes) (P : PlainPolicy) (H later : History) (payload : Bytes) → taken reads P H payload ≡ Some later → takes text P H payload ≡ Some later
+
 -- the policy of record 0; none where the record is wrong
 abbrev pub policy_taken : (Bytes → Option PlainPolicy) → Bytes → Option PlainPolicy
 policy_taken reads payload = if nat_lt most_payload (length payload) then None else reads payload
 
 -- what is found behind these entries, from the record of this number on, whose gate is here
-abbrev pub found_behind : (Bytes → Option PlainPolicy) → Bytes → PlainPolicy → History → (number gate : ℕ) → List Bytes → Finding
-found_behind reads text P H number gate [] = holds text P H gate
-found_behind reads text P H number gate (payload ∷ payloads) =
+abbrev pub found_behind : Takes → Bytes → PlainPolicy → History → (number gate : ℕ) → List Bytes → Finding
+found_behind takes text P H number gate [] = holds text P H gate
+found_behind takes text P H number gate (payload ∷ payloads) =
     unwrap_or
-    (option_map (λ later. found_behind reads text P later (number + 1) (next_gate gate payload) payloads) (taken reads P H payload))
+    (option_map (λ later. found_behind takes text P later (number + 1) (next_gate gate payload) payloads) (takes text P H payload))
     (damaged number gate)
 
 -- what is found in the payloads of a journal's records that count
-abbrev pub found_in : (Bytes → Option PlainPolicy) → List Bytes → Finding
-found_in reads [] = fresh
-found_in reads (text ∷ payloads) =
-    unwrap_or (option_map (λ P. found_behind reads text P [] 1 (next_gate first_gate text) payloads) (policy_taken reads text)) (damaged 0 first_gate)
+abbrev pub found_in : (Bytes → Option PlainPolicy) → Takes → List Bytes → Finding
+found_in reads takes [] = fresh
+found_in reads takes (text ∷ payloads) =
+    unwrap_or
+    (option_map (λ P. found_behind takes text P [] 1 (next_gate first_gate text) payloads) (policy_taken reads text))
+    (damaged 0 first_gate)
 
 -- what is found where behind so many payloads, in which this is found, stand more
-abbrev pub found_on : (Bytes → Option PlainPolicy) → Finding → ℕ → List Bytes → Finding
-found_on reads fresh number payloads = found_in reads payloads
-found_on reads (holds text P H gate) number payloads = found_behind reads text P H number gate payloads
-found_on reads found number payloads = found
+abbrev pub found_on : (Bytes → Option PlainPolicy) → Takes → Finding → ℕ → List Bytes → Finding
+found_on reads takes fresh number payloads = found_in reads takes payloads
+found_on reads takes (holds text P H gate) number payloads = found_behind takes text P H number gate payloads
+found_on reads takes found number payloads = found
 
 -- ---- what a history leaves
 

@@ -5,6 +5,8 @@ ghost use Rattle.std.specs.List.{before_first, after_first};
 ghost use Rattle.ucon_model.specs.Document.{is_divider, before_divider, lines_of, policy_part};
 ghost use Rattle.ucon_script.specs.Lines.{Divides};
 
+use memchr::memchr;
+
 /// Where a divider stands.
 #[derive(Clone, Copy)]
 pub struct Divider<'a> {
@@ -71,5 +73,5 @@ fn first_place(bytes: &[u8], separator: u8) -> Option<usize>
     ensures place { result ≡ position (λ b. b == separator) bytes.now }
     ensures within { IfSome result (λ i. i + 1 ≤ length bytes.now) }
 {
-    bytes.iter().position(|b| *b == separator)
+    memchr(separator, bytes)
 }

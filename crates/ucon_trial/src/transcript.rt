@@ -89,7 +89,21 @@ fn put_client(out: &mut Vec<u8>, caller: Caller) -> Result<(), NoMemory>
     ensures text { OnOk result (out.new.items ≡ out.old.items ++ (decimal caller.0 ++ 32 ∷ [])) }
     ensures client { OnOk result (caller.0 < 256) }
 {
-    put_number(out, caller.0 as u64)?;
+    put_caller(out, caller)?;
     out.push(b' ')?;
+    Ok(())
+}
+
+/// Adds the client's number, which mostly has one digit.
+#[tactic(auto, using(std::proofs::lemmas::Fmt::decimal_digit))]
+fn put_caller(out: &mut Vec<u8>, caller: Caller) -> Result<(), NoMemory>
+    ensures text { OnOk result (out.new.items ≡ out.old.items ++ decimal caller.0) }
+    ensures client { OnOk result (caller.0 < 256) }
+{
+    if caller.0 < 10 {
+        out.push(b'0' + caller.0)?;
+        return Ok(());
+    }
+    put_number(out, caller.0 as u64)?;
     Ok(())
 }

@@ -8,10 +8,10 @@ returns c =
     let spelled = c.changing_replies_can_be_spelled.ensures in
     let few = c.revocations_are_few.ensures in
     record {
-      found = λ text P H accepts clients proper.
+      found = λ takes text P H each accepts clients proper.
           let both = (c.accepted_texts_spell_typed_policies.ensures text P).0 accepts in
           let short : length text ≤ most_payload = omega (arith, both.0.short) in
-          c.histories_are_found.ensures.written text P H accepts short proper (are_steps spelled few text P both.0 both.1 [] H tt clients proper);
+          c.histories_are_found.ensures.written takes text P H each accepts short proper (are_steps spelled few text P both.0 both.1 [] H tt clients proper);
       fits = λ text P H accepts clients proper.
           let both = (c.accepted_texts_spell_typed_policies.ensures text P).0 accepts in
           let short : length text ≤ most_payload = omega (arith, both.0.short) in
