@@ -1,5 +1,5 @@
 -- What digits tell.
-use Rattle.std.proofs.Common.{◌≡◌, ℕ, ◌+◌, ◌-◌, ◌*◌, ◌^◌, ◌<◌, ◌≤◌, Bool, true, false, cond, List, [], ◌∷◌, length, drop, get_or, Some, None, decimal, refl, sym, ap, ◌∙◌, arith, inl, inr, ⊎_elim}
+use Rattle.std.proofs.Common.{◌≡◌, ℕ, ◌+◌, ◌-◌, ◌*◌, ◌^◌, ◌<◌, ◌≤◌, Bool, true, false, cond, List, [], ◌∷◌, length, drop, get_or, Some, None, decimal, refl, sym, ap, ◌∙◌, arith, ⊎_elim}
 use Rattle.std.specs.Prelude.{MatchOption, Option, option_and_then, unwrap_or, nat_le, nat_lt}
 use Rattle.std.specs.List.{list_all}
 use Rattle.std.specs.Str.{bytes_eq}
@@ -10,8 +10,6 @@ use Rattle.std.proofs.lemmas.List.{drop_more}
 use Rattle.std.proofs.lemmas.Slice.Eq.{bytes_eq-Decides}
 use Rattle.std.proofs.lemmas.Str.Parse.{IsNumeralModel, IsDigitsTest, FoldsDigits, numerals_by_fold}
 use Rattle.ucon_base.specs.Reading.{is_digit, number_from, number_of}
-use Rattle.ucon_model.specs.declared.command.Caller.{Caller}
-use Rattle.ucon_model.specs.Document.{caller_of}
 use Rattle.ucon_model.specs.Output.{number_read}
 use Rattle.ucon_model.specs.Payload.{caller_read, client_numbered}
 use Rattle.ucon_model.specs.Plain.{Bytes}

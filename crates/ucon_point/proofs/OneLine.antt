@@ -1,11 +1,11 @@
 -- What is read as a value has no newline.
-use Rattle.std.proofs.Common.{◌≡◌, ℕ, suc, ◌+◌, ◌≤◌, ◌<◌, Bool, true, false, not, List, [], ◌∷◌, ◌++◌, length, drop, Option, Some, None, Ok, Err, is_ok, is_some, inl, inr, refl, ap, arith}
+use Rattle.std.proofs.Common.{◌≡◌, ℕ, suc, ◌+◌, ◌≤◌, true, false, not, List, [], ◌∷◌, ◌++◌, length, drop, Option, Some, None, Ok, Err, is_ok, is_some, inl, inr, refl, ap, arith}
 use Rattle.std.specs.Prelude.{Result, ◌&&◌, ◌==◌, nat_lt, nat_le, option_map, position}
-use Rattle.std.specs.List.{list_all, prefix_len}
-use Rattle.std.proofs.lemmas.Bool.{and_parts, and_from, cases_Bool, true≢false, false≢true, eqb-true, ne_eqb, le-leb, leb-true, ltb-false}
+use Rattle.std.specs.List.{prefix_len}
+use Rattle.std.proofs.lemmas.Bool.{and_parts, cases_Bool, true≢false, false≢true, eqb-true, ne_eqb, leb-true, ltb-false}
 use Rattle.ucon_base.specs.declared.value.Value.{Value}
 use Rattle.ucon_base.specs.declared.value_fault.ValueFault.{ValueFault}
-use Rattle.ucon_base.specs.Reading.{Member, Stage, opened, inside, behind, awaiting, closed, before, members, set_of, set_read, rises, can_rise, is_digit, bad_number_place, bad_integer_place, spelled_integer, unless_bad, integer_read, bad_close, text_len, text_read, value_read}
+use Rattle.ucon_base.specs.Reading.{Member, Stage, opened, inside, behind, awaiting, closed, before, members, set_of, set_read, rises, can_rise, is_digit, bad_number_place, bad_integer_place, spelled_integer, unless_bad, bad_close, text_len, text_read, value_read}
 use Rattle.ucon_base.specs.TextBytes.{is_text_byte}
 use Rattle.ucon_model.specs.Output.{Lacks}
 use Rattle.ucon_model.specs.Plain.{Bytes}

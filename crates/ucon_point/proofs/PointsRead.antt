@@ -1,13 +1,12 @@
 -- The text of a checkpoint is read as the checkpoint.
-use Rattle.std.proofs.Common.{◌≡◌, ℕ, ◌+◌, ◌<◌, ◌≤◌, ◌^◌, Bool, true, false, List, [], ◌∷◌, ◌++◌, length, take, drop, map, Some, None, Ok, refl, sym, ap, ◌∙◌, subst, inl, inr, arith, append_assoc, length-append}
-use Rattle.std.specs.Prelude.{ℤ, Option, IsSomeAnd, option_and_then, codes, nat_le, nat_lt, is_none}
+use Rattle.std.proofs.Common.{◌≡◌, ℕ, ◌+◌, ◌<◌, ◌≤◌, ◌^◌, true, List, [], ◌∷◌, ◌++◌, length, map, Some, None, Ok, refl, ap, ◌∙◌, inl, inr, arith, append_assoc, length-append}
+use Rattle.std.specs.Prelude.{ℤ, Option, IsSomeAnd, codes, nat_lt}
 use Rattle.std.specs.Fmt.{decimal, signed_decimal}
 use Rattle.std.specs.List.{flat_map}
 use Rattle.std.specs.Str.{bytes_eq}
 use Rattle.std.proofs.lemmas.Bool.{le-ltb, lt-leb, ltb-false, cases_Bool}
 use Rattle.std.proofs.lemmas.Slice.Eq.{bytes_eq-Decides}
 use Rattle.std.proofs.Math.Seq.{take-append_seam, drop-append_seam}
-use Rattle.ucon_base.specs.declared.value.Side.{Side}
 use Rattle.ucon_base.specs.declared.value.Side.TheVariants as sides
 use Rattle.ucon_base.specs.declared.value.Value.{Value}
 use Rattle.ucon_base.specs.declared.value.Value.TheVariants.{Int}
@@ -20,13 +19,13 @@ use Rattle.ucon_model.specs.Output.{Lacks}
 use Rattle.ucon_model.specs.Plain.{Bytes, PlainPolicy}
 use Rattle.ucon_model.specs.Spelling.{state_word}
 use Rattle.ucon_syntax.specs.Policies.{accepted, reading_of}
-use Rattle.ucon_point.specs.declared.order.Reached.{Reached}
 use Rattle.ucon_point.specs.declared.row.Row.{Row}
 use Rattle.ucon_point.specs.declared.row.Row.TheVariants.{Variable, Entity, Attribute, Act, Session}
-use Rattle.ucon_point.specs.Order.{after, after_all, awaited, beginning}
-use Rattle.ucon_point.specs.PointRead.{Point, IsPoint, point_spelling, row_line, counted, tick_read, is_whole, line_at, policy_told, text_at, policy_at, lines_of, row_at, rows_at, rows_from, point_behind, point_read}
-use Rattle.ucon_point.specs.PointText.{line, entries_line, policy_lines, tick_line}
-use Rattle.ucon_point.specs.RowText.{row_spelling, row_read, IsRow, IsSpelled}
+use Rattle.ucon_point.specs.Order.{awaited}
+use Rattle.ucon_point.specs.Standing.{Standing, start, put, put_all}
+use Rattle.ucon_point.specs.PointRead.{Said, IsPoint, point_spelling, row_line, counted, tick_read, is_whole, line_at, policy_told, text_at, policy_at, lines_of, row_at, rows_at, rows_from, point_behind, point_read}
+use Rattle.ucon_point.specs.PointText.{entries_line, policy_lines, tick_line}
+use Rattle.ucon_point.specs.RowText.{row_spelling, IsRow, IsSpelled}
 use Rattle.ucon_point.proofs.Cuts.{cut_at-append, nothing}
 use Rattle.ucon_point.proofs.Digits.{count_read-decimal}
 use Rattle.ucon_point.proofs.LineWalk.{lines_of-some}
@@ -45,7 +44,7 @@ line_back reads total w rest x is lacks = rw (cut_at-append 10 w rest lacks, is)
 pub line_first : (w rest : Bytes) → (w ++ 10 ∷ []) ++ rest ≡ w ++ 10 ∷ rest
 line_first w rest = append_assoc w (10 ∷ []) rest
 
-bytes_same : (bs : Bytes) → bytes_eq bs bs ≡ true
+pub bytes_same : (bs : Bytes) → bytes_eq bs bs ≡ true
 bytes_same bs = (bytes_eq-Decides bs bs).1 refl
 
 counted_back : (word : Bytes) (n : ℕ) → Lacks 32 word → n < 2 ^ 64 → counted word (word ++ 32 ∷ decimal n) ≡ Some n
@@ -54,7 +53,7 @@ counted_back word n lacks lt = rw (cut_at-append 32 word (decimal n) lacks, byte
 tick_back : (t : ℤ) → IsSpelled (Int t) → is_whole t ≡ true → tick_read (codes "tick" ++ 32 ∷ signed_decimal t) ≡ Some t
 tick_back t spelled whole = rw (integer_back t spelled, whole) refl
 
-some_and : {A : Type 0} (o : Option A) (P : A → Type 0) → IsSomeAnd o P → (x : A) × ((o ≡ Some x) × P x)
+pub some_and : {A : Type 0} (o : Option A) (P : A → Type 0) → IsSomeAnd o P → (x : A) × ((o ≡ Some x) × P x)
 some_and None P h = absurd h
 some_and (Some x) P h = (x, (refl, h))
 
@@ -132,25 +131,25 @@ module _ (lack : TextsLack) where
       ∙ lines_of-some (row_spelling row ++ 10 ∷ rest) (row_spelling row) rest (cut_at-append 10 (row_spelling row) rest (row_one_line row h.0))
       ∙ ap (λ (l : List Bytes × Bytes). (row_spelling row ∷ l.0, l.1)) (lines_back rows h.1)
 
-  row_at_back : (place : ℕ) (Q : PlainPolicy) (r next : Reached) (row : Row) → IsRow row → after Q r row ≡ Some next → row_at place Q r (row_spelling row) ≡ Ok (row, next)
+  row_at_back : (place : ℕ) (Q : PlainPolicy) (r next : Standing) (row : Row) → IsRow row → put Q r row ≡ Some next → row_at place Q r (row_spelling row) ≡ Ok (row, next)
   unfolding row_at
   row_at_back place Q r next row h is = rw (row_back lack row h, is) refl
 
-  pub rows_back : (place : ℕ) (Q : PlainPolicy) (r end : Reached) (rows : List Row) → Each IsRow rows → after_all Q r rows ≡ Some end → awaited Q end ≡ None
+  pub rows_back : (place : ℕ) (Q : PlainPolicy) (r end : Standing) (rows : List Row) → Each IsRow rows → put_all Q r rows ≡ Some end → awaited Q end.reached ≡ None
       → rows_at place Q r [] (map row_spelling rows) ≡ Ok rows
   rows_back place Q r end [] h order none =
-      let here : awaited Q r ≡ None = ap (awaited Q) (same r end order) ∙ none in
+      let here : awaited Q r.reached ≡ None = ap (λ (s : Standing). awaited Q s.reached) (same r end order) ∙ none in
       rw here refl
   rows_back place Q r end (row ∷ rows) h order none =
-      let k = and_then_is (after Q r row) (λ next. after_all Q next rows) end order in
-      let next : Reached = k.0 in
-      let is : after Q r row ≡ Some next = k.1.0 in
+      let k = and_then_is (put Q r row) (λ next. put_all Q next rows) end order in
+      let next : Standing = k.0 in
+      let is : put Q r row ≡ Some next = k.1.0 in
       rw (row_at_back place Q r next row h.0 is, rows_back (place + length (row_spelling row) + 1) Q next end rows h.1 k.1.1 none) refl
 
-  rows_from_back : (total : ℕ) (Q : PlainPolicy) (end : Reached) (rows : List Row) → Each IsRow rows → after_all Q beginning rows ≡ Some end → awaited Q end ≡ None
-      → rows_from total Q beginning (flat_map row_line rows) ≡ Ok rows
-  rows_from_back total Q end rows h order none =
-      rw (lines_back rows h) (rows_back _ Q beginning end rows h order none)
+  rows_from_back : (total : ℕ) (Q : PlainPolicy) (r end : Standing) (rows : List Row) → Each IsRow rows → put_all Q r rows ≡ Some end → awaited Q end.reached ≡ None
+      → rows_from total Q r (flat_map row_line rows) ≡ Ok rows
+  rows_from_back total Q r end rows h order none =
+      rw (lines_back rows h) (rows_back _ Q r end rows h order none)
 
   -- ---- policies
 
@@ -182,15 +181,15 @@ module _ (lack : TextsLack) where
       ap (line_at tick_read total) (line_first w rest)
       ∙ line_back tick_read total w rest t (tick_back t spelled whole) (spaced (codes "tick") (signed_decimal t) (lack.tested 10 (codes "tick") refl) (integer_one_line t spelled))
 
-  pub point_back : (p : Point) → IsPoint p → point_read (point_spelling p) ≡ Ok p
+  pub point_back : (p : Said) → IsPoint p → point_read (point_spelling p) ≡ Ok p
   unfolding point_read point_behind
   point_back p h =
       let total : ℕ = length (point_spelling p) in
       let rows : Bytes = flat_map row_line p.rows in
-      let order = some_and (after_all p.policy beginning p.rows) (λ r. awaited p.policy r ≡ None) h.order in
+      let order = some_and (put_all p.policy (start p.policy p.tick) p.rows) (λ s. awaited p.policy s.reached ≡ None) h.order in
       rw (
         entries_back total p.entries (policy_lines p.text ++ (tick_line p.tick ++ rows)) h.entries,
         policy_back total p.text (tick_line p.tick ++ rows) p.policy h.policy,
         ticks_back total p.tick rows h.tick h.from_zero,
-        rows_from_back total p.policy order.0 p.rows h.rows order.1.0 order.1.1,
+        rows_from_back total p.policy (start p.policy p.tick) order.0 p.rows h.rows order.1.0 order.1.1,
       ) refl

@@ -1,16 +1,15 @@
 -- Where bytes are refused, no text of a checkpoint begins with them up to the end of the line there.
-use Rattle.std.proofs.Common.{◌≡◌, ℕ, ◌+◌, ◌-◌, ◌≤◌, true, false, List, [], ◌∷◌, ◌++◌, length, Ok, Err, is_ok, refl, sym, ap, ◌∙◌, inl, inr, arith, append_assoc, length-append}
+use Rattle.std.proofs.Common.{◌≡◌, ℕ, false, ◌++◌, length, Ok, Err, is_ok, refl, sym, ap, ◌∙◌, inl, inr, arith, append_assoc}
 use Rattle.std.specs.Prelude.{◌⊎◌, Result, codes, IfErr}
 use Rattle.std.proofs.lemmas.Bool.{false≢true}
 use Rattle.ucon_model.specs.Payload.{◌>>=◌}
 use Rattle.ucon_model.specs.Plain.{Bytes, PlainPolicy}
 use Rattle.ucon_point.specs.declared.fault.PointFault.{PointFault}
 use Rattle.ucon_point.specs.declared.fault.PointFault.TheVariants.{BadPlace, NoMemory}
-use Rattle.ucon_point.specs.declared.row.PointRows.{PointRows}
-use Rattle.ucon_point.specs.declared.row.Row.{Row}
+use Rattle.ucon_point.specs.declared.point.Point.{Point}
 use Rattle.ucon_point.specs.Faults.{IsBadLine, IsRefusedAt}
-use Rattle.ucon_point.specs.Order.{beginning}
-use Rattle.ucon_point.specs.PointRead.{Point, IsPoint, counted, tick_read, line_at, policy_at, rows_from, point_behind, point_read, point_spelling}
+use Rattle.ucon_point.specs.Standing.{start}
+use Rattle.ucon_point.specs.PointRead.{Said, counted, tick_read, line_at, policy_at, rows_from, point_behind, point_read}
 use Rattle.ucon_point.proofs.PoliciesRefused.{policy_local, policy_safe}
 use Rattle.ucon_point.proofs.Refusals.{Reads, IsSafe, IsStopped, both_safe, line_local, line_safe, same_err, same_place}
 use Rattle.ucon_point.proofs.RowsRefused.{rows_safe}
@@ -39,15 +38,15 @@ module _ {A B : Type 0} (f : Reads A) (k : A → B) (safe : IsSafe f) where
 behind_safe : (entries : ℕ) (text : Bytes) (Q : PlainPolicy) → IsSafe (λ total bytes. point_behind total entries text Q bytes)
 unfolding point_behind
 behind_safe entries text Q =
-    both_safe (line_at tick_read) (λ tick total bytes. rows_from total Q beginning bytes >>= (λ rows. Ok (record { entries = entries; text = text; policy = Q; tick = tick; rows = rows })))
+    both_safe (line_at tick_read) (λ tick total bytes. rows_from total Q (start Q tick) bytes >>= (λ rows. Ok (record { entries = entries; text = text; policy = Q; tick = tick; rows = rows })))
     (line_local tick_read) (line_safe tick_read)
-    (λ tick. made_safe (λ total bytes. rows_from total Q beginning bytes) (λ rows. record { entries = entries; text = text; policy = Q; tick = tick; rows = rows }) (rows_safe Q beginning))
+    (λ tick. made_safe (λ total bytes. rows_from total Q (start Q tick) bytes) (λ rows. record { entries = entries; text = text; policy = Q; tick = tick; rows = rows }) (rows_safe Q (start Q tick)))
 
 policies_safe : (entries : ℕ) → IsSafe (λ total bytes. policy_at total bytes >>= (λ p. point_behind total entries p.0.0 p.0.1 p.1))
 policies_safe entries = both_safe policy_at (λ q total bytes. point_behind total entries q.0 q.1 bytes) policy_local policy_safe (λ q. behind_safe entries q.0 q.1)
 
 -- the reader of a checkpoint among more bytes
-abbrev whole_read : Reads Point
+abbrev whole_read : Reads Said
 whole_read total bytes = line_at (counted (codes "point")) total bytes >>= (λ n. policy_at total n.1 >>= (λ p. point_behind total n.0 p.0.0 p.0.1 p.1))
 
 point_safe : IsSafe whole_read
@@ -78,7 +77,7 @@ point_bad written bytes place h = told (point_safe (length bytes) bytes (omega a
               false≢true (sym (s.again (length bs) rest) ∙ sym (ap is_ok (read_whole bs)) ∙ ap is_ok read);
         })
 
-pub place_told : AreWritten → (bytes : Bytes) (r : Result PointRows PointFault) → IsAnswer bytes r → IfErr r (IsRefusedAt bytes)
+pub place_told : AreWritten → (bytes : Bytes) (r : Result Point PointFault) → IsAnswer bytes r → IfErr r (IsRefusedAt bytes)
 place_told written bytes (Ok p) h = tt
 place_told written bytes (Err (NoMemory e)) h = tt
 place_told written bytes (Err (BadPlace place)) h = point_bad written bytes place h

@@ -1,6 +1,6 @@
 -- Bytes that are read as a checkpoint are its text.
-use Rattle.std.proofs.Common.{◌≡◌, ℕ, ◌+◌, ◌-◌, ◌<◌, ◌≤◌, ◌^◌, Bool, true, false, cond, List, [], ◌∷◌, ◌++◌, length, take, drop, map, Some, None, Ok, Err, is_ok, refl, sym, ap, ◌∙◌, subst, inl, inr, arith, append_assoc, append-nil}
-use Rattle.std.specs.Prelude.{ℤ, Option, Result, IsSomeAnd, option_and_then, option_map, ok_or, unwrap_or, codes, nat_le, nat_lt, is_none, ◌==◌, ◌&&◌}
+use Rattle.std.proofs.Common.{◌≡◌, ℕ, ◌+◌, ◌-◌, ◌<◌, ◌^◌, Bool, true, false, cond, List, [], ◌∷◌, ◌++◌, length, take, drop, map, Some, None, Ok, Err, is_ok, refl, sym, ap, ◌∙◌, subst, inl, inr, arith, append_assoc, append-nil}
+use Rattle.std.specs.Prelude.{ℤ, Option, Result, IsSomeAnd, option_and_then, ok_or, unwrap_or, codes, nat_le, nat_lt, is_none, ◌==◌, ◌&&◌}
 use Rattle.std.specs.Fmt.{decimal, signed_decimal}
 use Rattle.std.specs.List.{flat_map}
 use Rattle.std.specs.Result.{result_ok}
@@ -15,10 +15,10 @@ use Rattle.ucon_model.specs.Output.{cut_at}
 use Rattle.ucon_model.specs.Payload.{◌>>=◌}
 use Rattle.ucon_model.specs.Plain.{Bytes, PlainPolicy}
 use Rattle.ucon_syntax.specs.Policies.{accepted}
-use Rattle.ucon_point.specs.declared.order.Reached.{Reached}
 use Rattle.ucon_point.specs.declared.row.Row.{Row}
-use Rattle.ucon_point.specs.Order.{after, after_all, awaited, beginning, AreWhole}
-use Rattle.ucon_point.specs.PointRead.{Point, IsPoint, point_spelling, row_line, count_read, behind_if, behind, counted, from_zero, is_whole, tick_read, line_at, behind_newline, policy_told, text_at, policy_at, with_byte, lines_of, before, row_at, rows_at, rows_from, point_behind, point_read}
+use Rattle.ucon_point.specs.Order.{awaited}
+use Rattle.ucon_point.specs.Standing.{Standing, start, put, put_all}
+use Rattle.ucon_point.specs.PointRead.{Said, IsPoint, point_spelling, row_line, count_read, behind_if, behind, counted, from_zero, is_whole, tick_read, line_at, behind_newline, policy_told, text_at, policy_at, with_byte, lines_of, before, row_at, rows_at, rows_from, point_behind, point_read}
 use Rattle.ucon_point.specs.PointText.{line, entries_line, policy_lines, tick_line}
 use Rattle.ucon_point.specs.RowText.{row_spelling, row_read, IsRow, IsSpelled}
 use Rattle.ucon_point.proofs.Cuts.{nothing, cut_is}
@@ -152,7 +152,7 @@ before_is : (row : Row) (r : Result (List Row) ℕ) (rows : List Row) → before
 before_is row (Ok rest) rows h = (rest, (refl, done _ rows h))
 before_is row (Err place) rows h = absurd (refused h)
 
-none_is : {A : Type 0} (o : Option A) → is_none o ≡ true → o ≡ None
+pub none_is : {A : Type 0} (o : Option A) → is_none o ≡ true → o ≡ None
 none_is None h = refl
 none_is (Some x) h = absurd (false≢true h)
 
@@ -165,41 +165,41 @@ nothing_left [] h = refl
 nothing_left (b ∷ bs) h = let none : length (b ∷ bs) ≡ 0 = eqb-true (length (b ∷ bs)) 0 h in absurd (omega (arith, none))
 
 -- what the rows and the lines that they were read from have to do with each other
-pub record AreRead (Q : PlainPolicy) (r : Reached) (last : Bytes) (lines : List Bytes) (rows : List Row) : Type 0 where
+pub record AreRead (Q : PlainPolicy) (r : Standing) (last : Bytes) (lines : List Bytes) (rows : List Row) : Type 0 where
   pub none_left : last ≡ []
   pub spelled : map row_spelling rows ≡ lines
   pub in_form : Each IsRow rows
-  pub end : Reached
-  pub order : after_all Q r rows ≡ Some end
-  pub complete : awaited Q end ≡ None
+  pub end : Standing
+  pub order : put_all Q r rows ≡ Some end
+  pub complete : awaited Q end.reached ≡ None
 
 module _ (values : ValuesAreSpelled) where
-  row_at_is : (place : ℕ) (Q : PlainPolicy) (r : Reached) (w : Bytes) (p : Row × Reached) → row_at place Q r w ≡ Ok p → (row_spelling p.0 ≡ w) × IsRow p.0 × (after Q r p.0 ≡ Some p.1)
+  row_at_is : (place : ℕ) (Q : PlainPolicy) (r : Standing) (w : Bytes) (p : Row × Standing) → row_at place Q r w ≡ Ok p → (row_spelling p.0 ≡ w) × IsRow p.0 × (put Q r p.0 ≡ Some p.1)
   unfolding row_at
   row_at_is place Q r w p h =
       let row = bind_is (ok_or (row_read w) place) _ p h in
-      let next = bind_is (ok_or (after Q r row.0) place) _ p row.1.1 in
+      let next = bind_is (ok_or (put Q r row.0) place) _ p row.1.1 in
       let is : (row.0, next.0) ≡ p = done _ p next.1.1 in
       let told = row_is values w row.0 (said_is (row_read w) place row.0 row.1.0) in
-      let P : Row × Reached → Type 0 = λ q. (row_spelling q.0 ≡ w) × IsRow q.0 × (after Q r q.0 ≡ Some q.1) in
-      subst P is (told.0, told.1, said_is (after Q r row.0) place next.0 next.1.0)
+      let P : Row × Standing → Type 0 = λ q. (row_spelling q.0 ≡ w) × IsRow q.0 × (put Q r q.0 ≡ Some q.1) in
+      subst P is (told.0, told.1, said_is (put Q r row.0) place next.0 next.1.0)
 
-  rows_at_is : (place : ℕ) (Q : PlainPolicy) (r : Reached) (last : Bytes) (lines : List Bytes) (rows : List Row) → rows_at place Q r last lines ≡ Ok rows → AreRead Q r last lines rows
+  rows_at_is : (place : ℕ) (Q : PlainPolicy) (r : Standing) (last : Bytes) (lines : List Bytes) (rows : List Row) → rows_at place Q r last lines ≡ Ok rows → AreRead Q r last lines rows
   rows_at_is place Q r last [] rows h =
-      let k = ended (length last == 0 && is_none (awaited Q r)) (place + length last) rows h in
-      let parts = and_parts (length last == 0) (is_none (awaited Q r)) k.0 in
+      let k = ended (length last == 0 && is_none (awaited Q r.reached)) (place + length last) rows h in
+      let parts = and_parts (length last == 0) (is_none (awaited Q r.reached)) k.0 in
       subst (AreRead Q r last []) k.1 (record {
         none_left = nothing_left last parts.0;
         spelled = refl;
         in_form = tt;
         end = r;
         order = refl;
-        complete = none_is (awaited Q r) parts.1;
+        complete = none_is (awaited Q r.reached) parts.1;
       })
   rows_at_is place Q r last (w ∷ ws) rows h =
       let first = bind_is (row_at place Q r w) _ rows h in
       let row : Row = first.0.0 in
-      let next : Reached = first.0.1 in
+      let next : Standing = first.0.1 in
       let one = row_at_is place Q r w first.0 first.1.0 in
       let more = before_is row (rows_at (place + length w + 1) Q next last ws) rows first.1.1 in
       let rest = rows_at_is (place + length w + 1) Q next last ws more.0 more.1.0 in
@@ -208,7 +208,7 @@ module _ (values : ValuesAreSpelled) where
         spelled = ap (λ (u : Bytes). u ∷ map row_spelling more.0) one.0 ∙ ap (λ (us : List Bytes). w ∷ us) rest.spelled;
         in_form = (one.1, rest.in_form);
         end = rest.end;
-        order = ap (λ o. option_and_then (λ n. after_all Q n more.0) o) one.2 ∙ rest.order;
+        order = ap (λ o. option_and_then (λ n. put_all Q n more.0) o) one.2 ∙ rest.order;
         complete = rest.complete;
       })
 
@@ -219,14 +219,14 @@ module _ (values : ValuesAreSpelled) where
   and_some : {A : Type 0} (o : Option A) (P : A → Type 0) (x : A) → o ≡ Some x → P x → IsSomeAnd o P
   and_some o P x is h = subst (λ q. IsSomeAnd q P) (sym is) h
 
-  rows_from_is : (total : ℕ) (Q : PlainPolicy) (bytes : Bytes) (rows : List Row) → rows_from total Q beginning bytes ≡ Ok rows
-      → (flat_map row_line rows ≡ bytes) × Each IsRow rows × AreWhole Q rows
-  rows_from_is total Q bytes rows h =
-      let is = rows_at_is (total - length bytes) Q beginning (lines_of bytes).1 (lines_of bytes).0 rows h in
+  rows_from_is : (total : ℕ) (Q : PlainPolicy) (r : Standing) (bytes : Bytes) (rows : List Row) → rows_from total Q r bytes ≡ Ok rows
+      → (flat_map row_line rows ≡ bytes) × Each IsRow rows × IsSomeAnd (put_all Q r rows) (λ s. awaited Q s.reached ≡ None)
+  rows_from_is total Q r bytes rows h =
+      let is = rows_at_is (total - length bytes) Q r (lines_of bytes).1 (lines_of bytes).0 rows h in
       let text : Bytes = flat_map (λ w. w ++ 10 ∷ []) (lines_of bytes).0 in (
         spelled_lines rows ∙ ap (flat_map (λ w. w ++ 10 ∷ [])) is.spelled ∙ none_behind text (lines_of bytes).1 is.none_left ∙ joined_lines bytes,
         is.in_form,
-        and_some (after_all Q beginning rows) (λ r. awaited Q r ≡ None) is.end is.order is.complete,
+        and_some (put_all Q r rows) (λ s. awaited Q s.reached ≡ None) is.end is.order is.complete,
       )
     where
       none_behind : (text last : Bytes) → last ≡ [] → text ≡ text ++ last
@@ -247,23 +247,23 @@ module _ (values : ValuesAreSpelled) where
       let told = subst P whole.0 (ap (λ (r : Bytes). codes "tick" ++ 32 ∷ r) is.0 ∙ behind_is (codes "tick") w rest.0 rest.1.0, is.1) in
       (told.0, told.1, whole.1)
 
-  pub point_is : (bytes : Bytes) (p : Point) → point_read bytes ≡ Ok p → IsPoint p × (point_spelling p ≡ bytes)
+  pub point_is : (bytes : Bytes) (p : Said) → point_read bytes ≡ Ok p → IsPoint p × (point_spelling p ≡ bytes)
   unfolding point_read point_behind
   point_is bytes p h =
       let total : ℕ = length bytes in
       let entries = bind_is (line_at (counted (codes "point")) total bytes) _ p h in
       let policy = bind_is (policy_at total entries.0.1) _ p entries.1.1 in
       let tick = bind_is (line_at tick_read total policy.0.1) _ p policy.1.1 in
-      let rows = bind_is (rows_from total policy.0.0.1 beginning tick.0.1) _ p tick.1.1 in
+      let rows = bind_is (rows_from total policy.0.0.1 (start policy.0.0.1 tick.0.0) tick.0.1) _ p tick.1.1 in
       let n = line_at_is (counted (codes "point")) total bytes entries.0 entries.1.0 in
       let n_is = counted_is (codes "point") n.0 entries.0.0 n.1.0 in
       let Q_is = policy_at_is total entries.0.1 policy.0 policy.1.0 in
       let t = line_at_is tick_read total policy.0.1 tick.0 tick.1.0 in
       let t_is = tick_is t.0 tick.0.0 t.1.0 in
-      let rows_are = rows_from_is total policy.0.0.1 tick.0.1 rows.0 rows.1.0 in
+      let rows_are = rows_from_is total policy.0.0.1 (start policy.0.0.1 tick.0.0) tick.0.1 rows.0 rows.1.0 in
       let e : Bytes = entries_line entries.0.0 in
       let q : Bytes = policy_lines policy.0.0.0 in
-      subst (λ (x : Point). IsPoint x × (point_spelling x ≡ bytes)) (done _ p rows.1.1) (
+      subst (λ (x : Said). IsPoint x × (point_spelling x ≡ bytes)) (done _ p rows.1.1) (
         record { entries = n_is.1; policy = Q_is.1; tick = t_is.1; from_zero = t_is.2; rows = rows_are.1; order = rows_are.2 },
         ap (λ (r : Bytes). e ++ (q ++ (tick_line tick.0.0 ++ r))) rows_are.0
             ∙ ap (λ (r : Bytes). e ++ (q ++ r)) (line_first (codes "tick" ++ 32 ∷ signed_decimal tick.0.0) tick.0.1 ∙ ap (λ (w : Bytes). w ++ 10 ∷ tick.0.1) t_is.0 ∙ t.1.1)

@@ -1,5 +1,5 @@
 -- The lines of a policy that are refused are refused whatever follows.
-use Rattle.std.proofs.Common.{◌≡◌, ℕ, suc, ◌+◌, ◌-◌, ◌<◌, ◌≤◌, Bool, true, false, cond, List, [], ◌∷◌, ◌++◌, length, take, drop, Some, None, Ok, Err, is_ok, refl, sym, ap, ◌∙◌, subst, inl, inr, arith, append_assoc, length-append, length-drop}
+use Rattle.std.proofs.Common.{◌≡◌, ℕ, ◌-◌, ◌<◌, ◌≤◌, Bool, true, false, cond, [], ◌∷◌, ◌++◌, length, take, drop, Some, None, Ok, Err, is_ok, refl, sym, ap, ◌∙◌, inl, inr, arith, append_assoc, length-append, length-drop}
 use Rattle.std.specs.Prelude.{◌⊎◌, Option, Result, ok_or, codes, nat_le, nat_lt, ◌==◌}
 use Rattle.std.proofs.lemmas.Bool.{lt-leb, le-ltb, leb-false, ltb-false, cases_Bool, false≢true}
 use Rattle.std.proofs.lemmas.List.{length-take-le, take-append-drop}

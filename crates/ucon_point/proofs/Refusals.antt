@@ -1,26 +1,16 @@
 -- What is refused is refused by the bytes up to the end of one line, whatever follows.
-use Rattle.std.proofs.Common.{◌≡◌, ℕ, suc, ◌+◌, ◌-◌, ◌<◌, ◌≤◌, Bool, true, false, cond, List, [], ◌∷◌, ◌++◌, length, take, drop, Some, None, Ok, Err, is_ok, refl, sym, ap, ◌∙◌, subst, inl, inr, ⊎_elim, arith, append_assoc, append-nil, length-append}
-use Rattle.std.specs.Prelude.{◌⊎◌, Option, Result, ok_or, unwrap_or, option_map, codes, nat_le, nat_lt, is_none, ◌==◌, ◌&&◌}
-use Rattle.std.specs.List.{flat_map}
+use Rattle.std.proofs.Common.{◌≡◌, ℕ, ◌+◌, ◌-◌, ◌≤◌, false, [], ◌∷◌, ◌++◌, length, Some, None, Ok, Err, is_ok, refl, sym, ap, ◌∙◌, inl, inr, arith, append_assoc, length-append}
+use Rattle.std.specs.Prelude.{◌⊎◌, Option, Result, ok_or, unwrap_or}
 use Rattle.std.specs.Result.{result_err}
-use Rattle.std.proofs.lemmas.Bool.{lt-leb, le-ltb, leb-false, leb-true, ltb-false, cases_Bool, eqb-true, false≢true}
-use Rattle.std.proofs.lemmas.Grind.{flat_map-append}
-use Rattle.std.proofs.lemmas.List.{length-take-le, take-append-drop}
-use Rattle.std.proofs.Math.Seq.{take-append_seam, drop-append_seam}
-use Rattle.ucon_base.specs.Elements.{Each}
+use Rattle.std.proofs.lemmas.Bool.{false≢true}
 use Rattle.ucon_model.specs.Output.{Lacks, cut_at}
 use Rattle.ucon_model.specs.Payload.{◌>>=◌}
-use Rattle.ucon_model.specs.Plain.{Bytes, PlainPolicy}
-use Rattle.ucon_syntax.specs.Policies.{accepted}
-use Rattle.ucon_point.specs.declared.order.Reached.{Reached}
-use Rattle.ucon_point.specs.declared.row.Row.{Row}
+use Rattle.ucon_model.specs.Plain.{Bytes}
 use Rattle.ucon_point.specs.Faults.{IsPlainLine, IsPolicyLine}
-use Rattle.ucon_point.specs.Order.{awaited, beginning}
-use Rattle.ucon_point.specs.PointRead.{Point, counted, tick_read, line_at, behind_newline, policy_told, text_at, policy_at, with_byte, lines_of, before, row_at, rows_at, rows_from, point_behind, point_read}
-use Rattle.ucon_point.proofs.Cuts.{nothing, cut_at-append, cut_is, cut_lacks}
-use Rattle.ucon_point.proofs.LineWalk.{lines_of-some}
+use Rattle.ucon_point.specs.PointRead.{line_at}
+use Rattle.ucon_point.proofs.Cuts.{cut_at-append, cut_is, cut_lacks}
 use Rattle.ucon_point.proofs.PointsRead.{line_back, line_first}
-use Rattle.ucon_point.proofs.PointsSpelled.{refused, bind_is, said_is, done, joined, joined_lines}
+use Rattle.ucon_point.proofs.PointsSpelled.{bind_is, said_is, done}
 
 abbrev pub pair : {A B : Type 0} → A → B → A × B
 pair x y = (x, y)

@@ -1,5 +1,5 @@
 -- The text of what is there is that of its rows.
-use Rattle.std.proofs.Common.{◌≡◌, ℕ, zero, suc, pos, Bool, true, false, cond, List, [], ◌∷◌, ◌++◌, map, Some, None, refl, sym, ap, ◌∙◌, append_assoc, append-nil, unwrap_or}
+use Rattle.std.proofs.Common.{◌≡◌, ℕ, zero, suc, Bool, true, false, cond, List, [], ◌∷◌, ◌++◌, map, Some, None, refl, sym, ap, ◌∙◌, append-nil}
 use Rattle.std.specs.Prelude.{Option, codes}
 use Rattle.std.specs.List.{flat_map}
 use Rattle.std.proofs.lemmas.Grind.{flat_map-append}
@@ -7,16 +7,15 @@ use Rattle.ucon_base.specs.declared.value.Side.{Side}
 use Rattle.ucon_base.specs.declared.value.Side.TheVariants as sides
 use Rattle.ucon_base.specs.declared.value.Value.{Value}
 use Rattle.ucon_model.specs.declared.policy.AttrDecl.{AttrDecl}
-use Rattle.ucon_model.specs.declared.policy.EnvDecl.{EnvDecl}
 use Rattle.ucon_model.specs.declared.session.SessionRow.{SessionRow}
 use Rattle.ucon_model.specs.Plain.{Bytes}
 use Rattle.ucon_model.specs.Readings.{same_side}
 use Rattle.ucon_state.specs.Held.{Held}
 use Rattle.ucon_point.specs.declared.row.Row.{Row}
-use Rattle.ucon_point.specs.declared.row.Row.TheVariants.{Variable, Entity, Attribute, Act, Session}
+use Rattle.ucon_point.specs.declared.row.Row.TheVariants.{Variable, Entity, Attribute, Session}
 use Rattle.ucon_point.specs.HeldRows.{given, variable_rows, attribute_rows, entity_rows, act_row, session_rows, session_rows_to, rows_held, point_held}
 use Rattle.ucon_point.specs.PointRead.{point_spelling, row_line}
-use Rattle.ucon_point.specs.PointText.{line, entries_line, policy_lines, tick_line, value_line, entity_line, act_line, session_lines_of, sessions_to, variable_line, attribute_line, entity_lines, point_text}
+use Rattle.ucon_point.specs.PointText.{entries_line, policy_lines, tick_line, value_line, act_line, session_lines_of, sessions_to, variable_line, attribute_line, entity_lines, point_text}
 
 abbrev lines : List Row → Bytes
 lines rows = flat_map row_line rows

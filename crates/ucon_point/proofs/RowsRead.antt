@@ -1,9 +1,8 @@
 -- A row's line is read as the row.
-use Rattle.std.proofs.Common.{◌≡◌, ℕ, suc, ◌<◌, ◌^◌, true, false, List, [], ◌∷◌, ◌++◌, Some, Ok, refl, sym, ap, ◌∙◌, arith, append_assoc}
-use Rattle.std.specs.Prelude.{ℤ, Option, option_map, codes}
+use Rattle.std.proofs.Common.{◌≡◌, ◌<◌, true, ◌∷◌, ◌++◌, Some, refl, ◌∙◌, arith}
+use Rattle.std.specs.Prelude.{ℤ, Option, codes}
 use Rattle.std.specs.Fmt.{decimal, signed_decimal}
 use Rattle.std.proofs.lemmas.Bool.{lt-ltb}
-use Rattle.ucon_base.specs.declared.value.Side.{Side}
 use Rattle.ucon_base.specs.declared.value.Side.TheVariants as sides
 use Rattle.ucon_base.specs.declared.value.Value.{Value}
 use Rattle.ucon_base.specs.declared.value.Value.TheVariants.{Int}
@@ -13,8 +12,8 @@ use Rattle.ucon_model.specs.declared.command.Caller.{Caller}
 use Rattle.ucon_model.specs.declared.session.SessionState.{SessionState}
 use Rattle.ucon_model.specs.declared.session.SessionState.TheVariants as states
 use Rattle.ucon_model.specs.CommandLine.{name_in, value_in, integer_in}
-use Rattle.ucon_model.specs.Output.{Lacks, cut_at}
-use Rattle.ucon_model.specs.Payload.{caller_read, client_numbered}
+use Rattle.ucon_model.specs.Output.{Lacks}
+use Rattle.ucon_model.specs.Payload.{caller_read}
 use Rattle.ucon_model.specs.Plain.{Bytes}
 use Rattle.ucon_model.specs.ReplyText.{state_read}
 use Rattle.ucon_model.specs.Spelling.{state_word}
@@ -24,7 +23,6 @@ use Rattle.ucon_point.specs.RowText.{row_spelling, IsRow, IsSpelled, AreNames, f
 use Rattle.ucon_point.proofs.Cuts.{cut_at-append}
 use Rattle.ucon_point.proofs.Digits.{caller_read_is, count_read-decimal}
 use Rattle.ucon_point.proofs.LowerLaws.{TextsLack}
-use Rattle.ucon_point.proofs.OneLine.{value_lacks}
 
 -- ---- words
 

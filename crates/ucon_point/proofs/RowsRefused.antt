@@ -1,5 +1,5 @@
 -- A row's line that is refused is refused whatever follows.
-use Rattle.std.proofs.Common.{◌≡◌, ℕ, suc, ◌+◌, ◌-◌, ◌≤◌, Bool, true, false, cond, List, [], ◌∷◌, ◌++◌, length, Some, None, Ok, Err, is_ok, refl, sym, ap, ◌∙◌, subst, inl, inr, arith, append_assoc, append-nil, length-append}
+use Rattle.std.proofs.Common.{◌≡◌, ℕ, ◌+◌, ◌-◌, Bool, true, false, cond, List, [], ◌∷◌, ◌++◌, length, Some, None, Ok, Err, is_ok, refl, sym, ap, ◌∙◌, subst, inl, inr, arith, append_assoc, length-append}
 use Rattle.std.specs.Prelude.{◌⊎◌, Option, Result, ok_or, is_none, ◌==◌, ◌&&◌}
 use Rattle.std.specs.List.{flat_map}
 use Rattle.std.proofs.lemmas.Bool.{false≢true}
@@ -7,9 +7,9 @@ use Rattle.ucon_base.specs.Elements.{Each, each_parts}
 use Rattle.ucon_model.specs.Output.{Lacks}
 use Rattle.ucon_model.specs.Payload.{◌>>=◌}
 use Rattle.ucon_model.specs.Plain.{Bytes, PlainPolicy}
-use Rattle.ucon_point.specs.declared.order.Reached.{Reached}
 use Rattle.ucon_point.specs.declared.row.Row.{Row}
-use Rattle.ucon_point.specs.Order.{after, awaited}
+use Rattle.ucon_point.specs.Order.{awaited}
+use Rattle.ucon_point.specs.Standing.{Standing, put}
 use Rattle.ucon_point.specs.PointRead.{before, lines_of, row_at, rows_at, rows_from, with_byte}
 use Rattle.ucon_point.specs.RowText.{row_read}
 use Rattle.ucon_point.proofs.Cuts.{cut_at-append}
@@ -56,34 +56,34 @@ text_parts (f ∷ fs) w ws last =
 
 -- ---- rows
 
-row_same : (o : Option Row) (Q : PlainPolicy) (r : Reached) (m n : ℕ) (p : Row × Reached)
-    → (ok_or o m >>= (λ row. ok_or (after Q r row) m >>= (λ next. Ok (pair row next)))) ≡ Ok p → (ok_or o n >>= (λ row. ok_or (after Q r row) n >>= (λ next. Ok (pair row next)))) ≡ Ok p
+row_same : (o : Option Row) (Q : PlainPolicy) (r : Standing) (m n : ℕ) (p : Row × Standing)
+    → (ok_or o m >>= (λ row. ok_or (put Q r row) m >>= (λ next. Ok (pair row next)))) ≡ Ok p → (ok_or o n >>= (λ row. ok_or (put Q r row) n >>= (λ next. Ok (pair row next)))) ≡ Ok p
 row_same None Q r m n p h = absurd (false≢true (ap is_ok h))
-row_same (Some row) Q r m n p h = next (after Q r row) h
+row_same (Some row) Q r m n p h = next (put Q r row) h
   where
-    next : (o : Option Reached) → (ok_or o m >>= (λ next. Ok (pair row next))) ≡ Ok p → (ok_or o n >>= (λ next. Ok (pair row next))) ≡ Ok p
+    next : (o : Option Standing) → (ok_or o m >>= (λ next. Ok (pair row next))) ≡ Ok p → (ok_or o n >>= (λ next. Ok (pair row next))) ≡ Ok p
     next None k = absurd (false≢true (ap is_ok k))
     next (Some x) k = k
 
-row_bad : (o : Option Row) (Q : PlainPolicy) (r : Reached) (m n place : ℕ) → (ok_or o m >>= (λ row. ok_or (after Q r row) m >>= (λ next. Ok (pair row next)))) ≡ Err place
-    → (m ≡ place) × ((ok_or o n >>= (λ row. ok_or (after Q r row) n >>= (λ next. Ok (pair row next)))) ≡ Err n)
-row_bad None Q r m n place h = (same_err {A = Row × Reached} m place h, refl)
-row_bad (Some row) Q r m n place h = next (after Q r row) h
+row_bad : (o : Option Row) (Q : PlainPolicy) (r : Standing) (m n place : ℕ) → (ok_or o m >>= (λ row. ok_or (put Q r row) m >>= (λ next. Ok (pair row next)))) ≡ Err place
+    → (m ≡ place) × ((ok_or o n >>= (λ row. ok_or (put Q r row) n >>= (λ next. Ok (pair row next)))) ≡ Err n)
+row_bad None Q r m n place h = (same_err {A = Row × Standing} m place h, refl)
+row_bad (Some row) Q r m n place h = next (put Q r row) h
   where
-    next : (o : Option Reached) → (ok_or o m >>= (λ next. Ok (pair row next))) ≡ Err place → (m ≡ place) × ((ok_or o n >>= (λ next. Ok (pair row next))) ≡ Err n)
-    next None k = (same_err {A = Row × Reached} m place k, refl)
+    next : (o : Option Standing) → (ok_or o m >>= (λ next. Ok (pair row next))) ≡ Err place → (m ≡ place) × ((ok_or o n >>= (λ next. Ok (pair row next))) ≡ Err n)
+    next None k = (same_err {A = Row × Standing} m place k, refl)
     next (Some x) k = absurd (same_place (row, x) place k)
 
-row_at_same : (m n : ℕ) (Q : PlainPolicy) (r : Reached) (w : Bytes) (p : Row × Reached) → row_at m Q r w ≡ Ok p → row_at n Q r w ≡ Ok p
+row_at_same : (m n : ℕ) (Q : PlainPolicy) (r : Standing) (w : Bytes) (p : Row × Standing) → row_at m Q r w ≡ Ok p → row_at n Q r w ≡ Ok p
 unfolding row_at
 row_at_same m n Q r w p h = row_same (row_read w) Q r m n p h
 
-row_at_bad : (m n : ℕ) (Q : PlainPolicy) (r : Reached) (w : Bytes) (place : ℕ) → row_at m Q r w ≡ Err place → (m ≡ place) × (row_at n Q r w ≡ Err n)
+row_at_bad : (m n : ℕ) (Q : PlainPolicy) (r : Standing) (w : Bytes) (place : ℕ) → row_at m Q r w ≡ Err place → (m ≡ place) × (row_at n Q r w ≡ Err n)
 unfolding row_at
 row_at_bad m n Q r w place h = row_bad (row_read w) Q r m n place h
 
 -- a line among lines that is refused, whatever follows
-record AreStopped (at : ℕ) (Q : PlainPolicy) (r : Reached) (lines : List Bytes) (place : ℕ) : Type 0 where
+record AreStopped (at : ℕ) (Q : PlainPolicy) (r : Standing) (lines : List Bytes) (place : ℕ) : Type 0 where
   front : List Bytes
   line : Bytes
   rest : List Bytes
@@ -104,8 +104,8 @@ end_bad true n place h = absurd (same_place [] place h)
 end_bad false n place h = sym (same_err {A = List Row} n place h)
 
 module _ (Q : PlainPolicy) (last : Bytes) where
-  rows_more : (at : ℕ) (r : Reached) (w : Bytes) (ws : List Bytes) (place : ℕ) (o : Result (Row × Reached) ℕ) → row_at at Q r w ≡ o
-      → ((next : Reached) → rows_at (at + length w + 1) Q next last ws ≡ Err place → AreStopped (at + length w + 1) Q next ws place ⊎ (place ≡ at + length w + 1 + length (text_of ws ++ last)))
+  rows_more : (at : ℕ) (r : Standing) (w : Bytes) (ws : List Bytes) (place : ℕ) (o : Result (Row × Standing) ℕ) → row_at at Q r w ≡ o
+      → ((next : Standing) → rows_at (at + length w + 1) Q next last ws ≡ Err place → AreStopped (at + length w + 1) Q next ws place ⊎ (place ≡ at + length w + 1 + length (text_of ws ++ last)))
       → (o >>= (λ p. before p.0 (rows_at (at + length w + 1) Q p.1 last ws))) ≡ Err place → AreStopped at Q r (w ∷ ws) place ⊎ (place ≡ at + length (text_of (w ∷ ws) ++ last))
   rows_more at r w ws place (Err e) is rest h =
       let err : row_at at Q r w ≡ Err place = is ∙ ap (λ (n : ℕ). Err n) (same_err {A = List Row} e place h) in
@@ -136,12 +136,12 @@ module _ (Q : PlainPolicy) (last : Bytes) where
                 ∙ before_bad p.0 (rows_at (m + length w + 1) Q p.1 l (s.front ++ s.line ∷ more)) (s.again (m + length w + 1) l more);
           })
 
-  rows_bad : (at : ℕ) (r : Reached) (lines : List Bytes) (place : ℕ) → rows_at at Q r last lines ≡ Err place
+  rows_bad : (at : ℕ) (r : Standing) (lines : List Bytes) (place : ℕ) → rows_at at Q r last lines ≡ Err place
       → AreStopped at Q r lines place ⊎ (place ≡ at + length (text_of lines ++ last))
-  rows_bad at r [] place h = inr (end_bad (length last == 0 && is_none (awaited Q r)) (at + length last) place h)
+  rows_bad at r [] place h = inr (end_bad (length last == 0 && is_none (awaited Q r.reached)) (at + length last) place h)
   rows_bad at r (w ∷ ws) place h = rows_more at r w ws place (row_at at Q r w) refl (λ next. rows_bad (at + length w + 1) next ws place) h
 
-pub rows_safe : (Q : PlainPolicy) (r : Reached) → IsSafe (λ total bytes. rows_from total Q r bytes)
+pub rows_safe : (Q : PlainPolicy) (r : Standing) → IsSafe (λ total bytes. rows_from total Q r bytes)
 rows_safe Q r total bytes le place h = told (rows_bad Q (lines_of bytes).1 (total - length bytes) r (lines_of bytes).0 place h)
   where
     told : AreStopped (total - length bytes) Q r (lines_of bytes).0 place ⊎ (place ≡ total - length bytes + length (text_of (lines_of bytes).0 ++ (lines_of bytes).1))

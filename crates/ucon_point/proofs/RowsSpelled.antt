@@ -1,5 +1,5 @@
 -- A line that is read as a row is the row's.
-use Rattle.std.proofs.Common.{◌≡◌, ℕ, ◌<◌, ◌^◌, Bool, true, false, cond, List, [], ◌∷◌, ◌++◌, Some, None, Ok, Err, refl, sym, ap, ◌∙◌, subst, inl, inr, ⊎_elim, arith, append_assoc}
+use Rattle.std.proofs.Common.{◌≡◌, ℕ, ◌<◌, Bool, true, false, cond, List, [], ◌∷◌, ◌++◌, Some, None, Ok, Err, refl, sym, ap, ◌∙◌, subst, inl, inr, ⊎_elim}
 use Rattle.std.specs.Prelude.{ℤ, ◌⊎◌, Option, Result, option_map, option_and_then, unwrap_or, codes, find, nat_lt}
 use Rattle.std.specs.Fmt.{decimal, signed_decimal}
 use Rattle.std.specs.Result.{result_ok}
@@ -24,7 +24,7 @@ use Rattle.ucon_model.specs.Plain.{Bytes}
 use Rattle.ucon_model.specs.ReplyText.{state_read, session_states}
 use Rattle.ucon_model.specs.Spelling.{state_word}
 use Rattle.ucon_point.specs.declared.row.Row.{Row}
-use Rattle.ucon_point.specs.declared.row.Row.TheVariants.{Variable, Entity, Attribute, Act, Session}
+use Rattle.ucon_point.specs.declared.row.Row.TheVariants.{Variable, Entity, Attribute}
 use Rattle.ucon_point.specs.PointRead.{count_read}
 use Rattle.ucon_point.specs.PointText.{entity_word}
 use Rattle.ucon_point.specs.RowText.{row_spelling, IsRow, IsSpelled, AreNames, front, names_front, valued, act_read, session_read, row_told, row_read}
@@ -38,14 +38,14 @@ pub and_then_is : {A B : Type 0} (o : Option A) (f : A → Option B) (y : B) →
 and_then_is None f y h = absurd (nothing h)
 and_then_is (Some x) f y h = (x, (refl, h))
 
-mapped_is : {A B : Type 0} (o : Option A) (f : A → B) (y : B) → option_map f o ≡ Some y → (x : A) × ((o ≡ Some x) × (f x ≡ y))
+pub mapped_is : {A B : Type 0} (o : Option A) (f : A → B) (y : B) → option_map f o ≡ Some y → (x : A) × ((o ≡ Some x) × (f x ≡ y))
 mapped_is None f y h = absurd (nothing h)
 mapped_is (Some x) f y h = (x, (refl, ap (λ o. unwrap_or o y) h))
 
 pub same : {A : Type 0} (x y : A) → Some x ≡ Some y → x ≡ y
 same x y h = ap (λ o. unwrap_or o x) h
 
-kept : {A : Type 0} (b : Bool) (x y : A) → cond b (Some x) None ≡ Some y → (b ≡ true) × (x ≡ y)
+pub kept : {A : Type 0} (b : Bool) (x y : A) → cond b (Some x) None ≡ Some y → (b ≡ true) × (x ≡ y)
 kept true x y h = (refl, same x y h)
 kept false x y h = absurd (nothing h)
 

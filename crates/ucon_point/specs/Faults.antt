@@ -4,7 +4,10 @@ use Rattle.ucon_model.specs.Output.{Lacks}
 use Rattle.ucon_model.specs.Plain.{Bytes}
 use Rattle.ucon_point.specs.declared.fault.PointFault.{PointFault}
 use Rattle.ucon_point.specs.declared.fault.PointFault.TheVariants.{BadPlace, NoMemory}
-use Rattle.ucon_point.specs.PointRead.{Point, IsPoint, counted, point_spelling}
+use Rattle.ucon_state.specs.Held.{Held}
+use Rattle.ucon_point.specs.HeldRows.{point_held}
+use Rattle.ucon_point.specs.PointRead.{Said, IsPoint, counted, point_spelling}
+use Rattle.ucon_point.specs.PointText.{point_text}
 
 -- what is read is refused at this place, unless it is want of memory
 abbrev pub IsBadAt : {A : Type 0} → Result A ℕ → PointFault → Type 0
@@ -13,8 +16,13 @@ IsBadAt read (NoMemory e) = ⊤
 
 -- the bytes are the text of no checkpoint, unless it is want of memory
 abbrev pub IsNoText : Bytes → PointFault → Type 0
-IsNoText bytes (BadPlace place) = (p : Point) → IsPoint p → point_spelling p ≡ bytes → ⊥
+IsNoText bytes (BadPlace place) = (p : Said) → IsPoint p → point_spelling p ≡ bytes → ⊥
 IsNoText bytes (NoMemory e) = ⊤
+
+-- the bytes are the text of nothing that is there so that it can be put row after row, unless it is want of memory
+abbrev pub IsTextOfNothing : Bytes → PointFault → Type 0
+IsTextOfNothing bytes (BadPlace place) = (entries : ℕ) (text : Bytes) (h : Held) → IsPoint (point_held entries text h) → point_text entries text h ≡ bytes → ⊥
+IsTextOfNothing bytes (NoMemory e) = ⊤
 
 -- ---- where the bytes are refused
 
@@ -36,7 +44,7 @@ pub record IsPolicyLine (bytes : Bytes) : Type 0 where
 
 -- no text of a checkpoint begins with these bytes
 abbrev pub NoTextBegins : Bytes → Type 0
-NoTextBegins bytes = (p : Point) → IsPoint p → (rest : Bytes) → point_spelling p ≡ bytes ++ rest → ⊥
+NoTextBegins bytes = (p : Said) → IsPoint p → (rest : Bytes) → point_spelling p ≡ bytes ++ rest → ⊥
 
 -- a line begins at the place, and no text begins with the bytes up to its end
 pub record IsBadLine (bytes : Bytes) (place : ℕ) : Type 0 where

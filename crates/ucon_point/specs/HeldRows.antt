@@ -12,7 +12,7 @@ use Rattle.ucon_model.specs.Readings.{same_side}
 use Rattle.ucon_state.specs.Held.{Held}
 use Rattle.ucon_point.specs.declared.row.Row.{Row}
 use Rattle.ucon_point.specs.declared.row.Row.TheVariants.{Variable, Entity, Attribute, Act, Session}
-use Rattle.ucon_point.specs.PointRead.{Point}
+use Rattle.ucon_point.specs.PointRead.{Said}
 
 -- a row of a value that is there
 abbrev pub given : (Value → Row) → Option Value → List Row
@@ -50,5 +50,5 @@ rows_held h =
     ++ (map (act_row h) h.acts ++ session_rows_to h.session h.sessions)))
 
 -- the checkpoint of what is there
-abbrev pub point_held : ℕ → Bytes → Held → Point
+abbrev pub point_held : ℕ → Bytes → Held → Said
 point_held entries text h = record { entries = entries; text = text; policy = h.policy; tick = h.tick; rows = rows_held h }

@@ -1,6 +1,6 @@
 -- Which row of a checkpoint may come after which, under the policy in force: first a value of each variable; then each subject, and behind it a
 -- value of each attribute of its side; then the objects likewise; then acts; then sessions. Values come in the order of the declarations.
-use Rattle.std.specs.Prelude.{◌≡◌, ℕ, ◌+◌, Bool, true, false, ◌&&◌, nat_le, List, [], ◌∷◌, map, slice_get, Option, Some, None, IsSomeAnd, option_and_then, if◌then◌else◌}
+use Rattle.std.specs.Prelude.{ℕ, ◌+◌, Bool, true, false, ◌&&◌, nat_le, List, [], map, slice_get, Option, Some, None, if◌then◌else◌}
 use Rattle.std.specs.Str.{bytes_eq}
 use Rattle.ucon_base.specs.declared.value.Kind.{Kind}
 use Rattle.ucon_base.specs.declared.value.Side.{Side}
@@ -72,12 +72,3 @@ after Q r (Attribute name v) = if is_variables r.stage then None else with_value
 after Q r (Entity side name) = with_row (awaited Q r) r (stage_of side)
 after Q r (Act a) = with_row (awaited Q r) r Acts
 after Q r (Session s) = with_row (awaited Q r) r Sessions
-
--- how far they have come with more
-abbrev pub after_all : PlainPolicy → Reached → List Row → Option Reached
-after_all Q r [] = Some r
-after_all Q r (row ∷ rows) = option_and_then (λ next. after_all Q next rows) (after Q r row)
-
--- rows that come in this order, and leave no value awaited
-abbrev pub AreWhole : PlainPolicy → List Row → Type 0
-AreWhole Q rows = IsSomeAnd (after_all Q beginning rows) (λ r. awaited Q r ≡ None)

@@ -4,31 +4,25 @@ use Rattle.std.specs.List.{flat_map}
 use Rattle.std.specs.Str.{bytes_eq}
 use Rattle.ucon_base.specs.declared.value.Value.TheVariants.{Int}
 use Rattle.ucon_base.specs.Elements.{Each}
-use Rattle.ucon_model.specs.Checked.{checked_policy}
 use Rattle.ucon_model.specs.CommandLine.{integer_in}
 use Rattle.ucon_model.specs.Output.{cut_at, number_read}
 use Rattle.ucon_model.specs.Payload.{◌>>=◌}
 use Rattle.ucon_model.specs.Plain.{Bytes, PlainPolicy}
 use Rattle.ucon_syntax.specs.Policies.{accepted}
-use Rattle.ucon_point.specs.declared.order.Reached.{Reached}
-use Rattle.ucon_point.specs.declared.row.PointRows.{PointRows}
 use Rattle.ucon_point.specs.declared.row.Row.{Row}
-use Rattle.ucon_point.specs.Order.{after, awaited, beginning, AreWhole}
+use Rattle.ucon_point.specs.Order.{awaited}
 use Rattle.ucon_point.specs.PointText.{entries_line, line, policy_lines, tick_line}
 use Rattle.ucon_point.specs.RowText.{row_words, row_read, IsRow, IsSpelled}
+use Rattle.ucon_point.specs.Standing.{Standing, start, put, AreWhole}
 
 -- What a checkpoint says: how many entries there were; the text of the policy in force, and the policy; the tick; and a row for each line
 -- behind it.
-pub record Point : Type 0 where
+pub record Said : Type 0 where
   pub entries : ℕ
   pub text : Bytes
   pub policy : PlainPolicy
   pub tick : ℤ
   pub rows : List Row
-
--- the same of what the code holds
-abbrev pub point_of : PointRows → Point
-point_of p = record { entries = p.entries; text = p.text.items; policy = checked_policy p.policy; tick = p.tick; rows = p.rows.items }
 
 -- ---- what is written
 
@@ -37,7 +31,7 @@ abbrev pub row_line : Row → Bytes
 row_line row = line (row_words row)
 
 -- the text of a checkpoint
-abbrev pub point_spelling : Point → Bytes
+abbrev pub point_spelling : Said → Bytes
 point_spelling p = entries_line p.entries ++ (policy_lines p.text ++ (tick_line p.tick ++ flat_map row_line p.rows))
 
 abbrev pub is_whole : ℤ → Bool
@@ -46,13 +40,13 @@ is_whole (negsuc n) = false
 
 -- What a checkpoint may say: fewer than 2^64 entries; the text of a well typed policy; a tick of 0 or more; and rows of names, values and
 -- clients, whole and in their order under that policy.
-pub record IsPoint (p : Point) : Type 0 where
+pub record IsPoint (p : Said) : Type 0 where
   pub entries : p.entries < 2 ^ 64
   pub policy : accepted p.text ≡ Some p.policy
   pub tick : IsSpelled (Int p.tick)
   pub from_zero : is_whole p.tick ≡ true
   pub rows : Each IsRow p.rows
-  pub order : AreWhole p.policy p.rows
+  pub order : AreWhole p.policy p.tick p.rows
 
 -- ---- what is read
 
@@ -125,11 +119,11 @@ abbrev pub lines_of : Bytes → List Bytes × Bytes
 lines_of [] = ([], [])
 lines_of (b ∷ bs) = if b == 10 then ([] ∷ (lines_of bs).0, (lines_of bs).1) else with_byte b (lines_of bs)
 
--- a row and how far the rows have come with it, or the place of its line
-unfoldable pub row_at : ℕ → PlainPolicy → Reached → Bytes → Result (Row × Reached) ℕ
+-- a row and what the rows have made with it, or the place of its line
+unfoldable pub row_at : ℕ → PlainPolicy → Standing → Bytes → Result (Row × Standing) ℕ
 row_at place Q r line = do
   row ← ok_or (row_read line) place
-  next ← ok_or (after Q r row) place
+  next ← ok_or (put Q r row) place
   Ok (row, next)
 
 -- a row before others
@@ -139,24 +133,24 @@ before row (Err place) = Err place
 
 -- The rows of lines of which the first begins here, and behind the last of which these bytes stand. Where a line has no row that may come there
 -- the result is its place; where the bytes end too soon, the place of their end.
-abbrev pub rows_at : ℕ → PlainPolicy → Reached → Bytes → List Bytes → Result (List Row) ℕ
-rows_at place Q r last [] = if length last == 0 && is_none (awaited Q r) then Ok [] else Err (place + length last)
+abbrev pub rows_at : ℕ → PlainPolicy → Standing → Bytes → List Bytes → Result (List Row) ℕ
+rows_at place Q r last [] = if length last == 0 && is_none (awaited Q r.reached) then Ok [] else Err (place + length last)
 rows_at place Q r last (line ∷ lines) = row_at place Q r line >>= (λ p. before p.0 (rows_at (place + length line + 1) Q p.1 last lines))
 
 -- the rows that bytes tell, the last of so many
-abbrev pub rows_from : ℕ → PlainPolicy → Reached → Bytes → Result (List Row) ℕ
+abbrev pub rows_from : ℕ → PlainPolicy → Standing → Bytes → Result (List Row) ℕ
 rows_from total Q r bytes = rows_at (total - length bytes) Q r (lines_of bytes).1 (lines_of bytes).0
 
 -- the tick and the rows behind this number of entries and this policy
-unfoldable pub point_behind : ℕ → ℕ → Bytes → PlainPolicy → Bytes → Result Point ℕ
+unfoldable pub point_behind : ℕ → ℕ → Bytes → PlainPolicy → Bytes → Result Said ℕ
 point_behind total entries text Q bytes = do
   tick ← line_at tick_read total bytes
-  rows ← rows_from total Q beginning tick.1
+  rows ← rows_from total Q (start Q tick.0) tick.1
   Ok (record { entries = entries; text = text; policy = Q; tick = tick.0; rows = rows })
 
 -- What the bytes say as a checkpoint. Else the place of the first line that cannot be one there, the policy's line being one with its text;
 -- or the length of the bytes where they end too soon.
-unfoldable pub point_read : Bytes → Result Point ℕ
+unfoldable pub point_read : Bytes → Result Said ℕ
 point_read bytes = do
   entries ← line_at (counted (codes "point")) (length bytes) bytes
   policy ← policy_at (length bytes) entries.1

@@ -1,6 +1,6 @@
 //! The lines of a checkpoint before its rows: the number of entries, the policy, the tick.
 
-ghost use Rattle.std.specs.Prelude.{◌≡◌, ◌≤◌, option_and_then, option_map, codes, length, IfOk, MatchOption, MatchResult, None, Ok, Some, ⊤};
+ghost use Rattle.std.specs.Prelude.{◌≡◌, ◌≤◌, ◌≤ℤ◌, pos, option_and_then, option_map, codes, length, IfOk, IfSome, MatchOption, MatchResult, None, Ok, Some, ⊤};
 ghost use Rattle.ucon_model.specs.Checked.{checked_policy};
 ghost use Rattle.ucon_model.specs.CommandLine.{integer_in};
 ghost use Rattle.ucon_syntax.specs.Policies.{accepted};
@@ -11,7 +11,7 @@ use crate::fault::PointFault;
 use crate::words::{count_in, cut_at, integer_in};
 use std::alloc::Global;
 use ucon_base::{Int, NoMemory, Rows};
-use ucon_check::{CheckFault, check};
+use ucon_check::check;
 use ucon_model::Checked;
 use ucon_syntax::{SyntaxFault, read_policy};
 
@@ -50,6 +50,7 @@ pub fn count_at<'a>(
 pub fn tick_at(alloc: Global, total: usize, bytes: &[u8]) -> Result<(Int, &[u8]), PointFault>
     requires { length bytes.now ≤ total }
     ensures read { MatchResult result (λ p. line_at tick_read total bytes.now ≡ Ok (p.0, p.1.now)) (IsBadAt (line_at tick_read total bytes.now)) }
+    ensures since { IfOk result (λ p. pos 0 ≤ℤ p.0) }
     ensures within { IfOk result (λ p. length p.1.now ≤ length bytes.now) }
 {
     let Some((line, rest)) = cut_at(b'\n', bytes) else {
@@ -133,9 +134,8 @@ fn accepted(alloc: Global, text: &[u8]) -> Result<Option<Checked>, NoMemory>
         Err(SyntaxFault::NoMemory(e)) => return Err(e),
         Err(_) => return Ok(None),
     };
-    match check(alloc, policy) {
+    match check(policy) {
         Ok(checked) => Ok(Some(checked)),
-        Err(CheckFault::NoMemory(e)) => Err(e),
         Err(_) => Ok(None),
     }
 }
@@ -171,7 +171,8 @@ fn counted(word: &[u8], line: &[u8]) -> Option<u64>
 
 /// The tick, of 0 or more, that a line tells.
 fn tick_in(alloc: Global, line: &[u8]) -> Result<Option<Int>, NoMemory>
-    ensures { IfOk result (λ tick. tick ≡ tick_read line.now) }
+    ensures read { IfOk result (λ tick. tick ≡ tick_read line.now) }
+    ensures since { IfOk result (λ tick. IfSome tick (λ t. pos 0 ≤ℤ t)) }
 {
     let Some(rest) = behind(b"tick", line) else {
         return Ok(None);
@@ -183,7 +184,8 @@ fn tick_in(alloc: Global, line: &[u8]) -> Result<Option<Int>, NoMemory>
 }
 
 fn from_zero(tick: Int) -> Option<Int>
-    ensures { result ≡ from_zero tick }
+    ensures read { result ≡ from_zero tick }
+    ensures since { IfSome result (λ t. pos 0 ≤ℤ t) }
 {
     if tick.get() >= 0 { Some(tick) } else { None }
 }

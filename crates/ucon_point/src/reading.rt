@@ -1,37 +1,51 @@
 //! A checkpoint from its text.
 
-ghost use Rattle.std.specs.Prelude.{◌≡◌, ◌≤◌, ◌&&◌, ◌==◌, [], ◌∷◌, ◌++◌, is_none, length, IfErr, IfOk, MatchResult, OnOk, Ok};
+ghost use Rattle.std.specs.Prelude.{◌≡◌, ◌≤◌, ◌≤ℤ◌, pos, ◌&&◌, ◌==◌, is_none, length, IfErr, IfOk, MatchResult, Ok, Some};
 ghost use Rattle.ucon_model.specs.Checked.{checked_policy};
 ghost use Rattle.ucon_model.specs.Views.{policy_of};
-ghost use Rattle.ucon_point.specs.Faults.{IsBadAt, IsNoText, IsRefusedAt};
+ghost use Rattle.ucon_point.specs.Faults.{IsBadAt, IsNoText, IsRefusedAt, IsTextOfNothing};
+ghost use Rattle.ucon_point.specs.Opened.{ArePut, IsPut, IsRead};
 ghost use Rattle.ucon_point.specs.Order.{awaited, beginning};
-ghost use Rattle.ucon_point.specs.PointRead.{IsPoint, point_behind, point_of, point_read, point_spelling, row_at, rows_from};
+ghost use Rattle.ucon_point.specs.PointRead.{point_behind, point_read, row_at, rows_from};
+ghost use Rattle.ucon_point.specs.PointText.{point_text};
+ghost use Rattle.ucon_point.specs.Standing.{HasLast, standing, start};
+ghost use Rattle.ucon_state.specs.Engine.{CanBeTakenUp};
+ghost use Rattle.ucon_state.specs.Held.{held};
+ghost use Rattle.ucon_state.specs.Shown.{shown};
+ghost use Rattle.ucon_syntax.specs.Policies.{accepted};
 
 use crate::fault::PointFault;
 use crate::header::{PolicyText, count_at, policy_at, tick_at};
-use crate::laws::points_are_read_back;
+use crate::laws::{points_are_read_back, rows_make_what_they_say, texts_are_of_rows};
 use crate::order::{Reached, after, awaited, beginning};
-use crate::row::{PointRows, Row};
+use crate::point::Point;
+use crate::putting::put_row;
 use crate::rows::row_in;
 use crate::words::cut_at;
 use std::alloc::Global;
-use ucon_base::{NoMemory, Rows};
-use ucon_model::Policy;
+use ucon_base::{Int, NoMemory};
+use ucon_model::{Checked, Policy, View};
+use ucon_state::State;
 
-/// What the bytes hold as the text of a checkpoint. They are that text, and where they are refused they are the text of none.
-pub fn read_rows(alloc: Global, bytes: &[u8]) -> Result<PointRows, PointFault>
-    ensures read { MatchResult result (λ p. point_read bytes.now ≡ Ok (point_of p)) (IsBadAt (point_read bytes.now)) }
-    ensures text { IfOk result (λ p. IsPoint (point_of p) × (point_spelling (point_of p) ≡ bytes.now)) }
+/// What the bytes hold as the text of a checkpoint, as a state that an engine can take up: they are the text of what is there in it.
+/// Where they are refused they are the text of none that such a state holds.
+pub fn read_point(alloc: Global, bytes: &[u8]) -> Result<Point, PointFault>
+    ensures text { IfOk result (λ p. point_text p.entries p.policy.items (held p.state) ≡ bytes.now) }
+    ensures policy { IfOk result (λ p. accepted p.policy.items ≡ Some (held p.state).policy) }
+    ensures state { IfOk result (λ p. CanBeTakenUp (shown p.state)) }
     ensures refused { IfErr result (IsNoText bytes.now) }
+    ensures held { IfErr result (IsTextOfNothing bytes.now) }
     ensures place { IfErr result (IsRefusedAt bytes.now) }
 {
     points_are_read_back();
+    texts_are_of_rows();
+    rows_make_what_they_say();
     point(alloc, bytes)
 }
 
 #[tactic(auto, unfolding(crate::specs::PointRead::point_read))]
-fn point(alloc: Global, bytes: &[u8]) -> Result<PointRows, PointFault>
-    ensures { MatchResult result (λ p. point_read bytes.now ≡ Ok (point_of p)) (IsBadAt (point_read bytes.now)) }
+fn point(alloc: Global, bytes: &[u8]) -> Result<Point, PointFault>
+    ensures { MatchResult result (IsRead (point_read bytes.now)) (IsBadAt (point_read bytes.now)) }
 {
     let total = bytes.len();
     let (entries, rest) = count_at(b"point", total, bytes)?;
@@ -49,79 +63,88 @@ fn point_behind(
     entries: u64,
     policy: PolicyText,
     bytes: &[u8],
-) -> Result<PointRows, PointFault>
+) -> Result<Point, PointFault>
     requires { length bytes.now ≤ total }
-    ensures { MatchResult result (λ p. point_behind total entries policy.text.items (checked_policy policy.policy) bytes.now ≡ Ok (point_of p)) (IsBadAt (point_behind total entries policy.text.items (checked_policy policy.policy) bytes.now)) }
+    ensures { MatchResult result (IsRead (point_behind total entries policy.text.items (checked_policy policy.policy) bytes.now))
+        (IsBadAt (point_behind total entries policy.text.items (checked_policy policy.policy) bytes.now)) }
 {
     match tick_at(alloc, total, bytes) {
         Ok((tick, rest)) => {
-            let rows = rows_from(alloc, total, policy.policy.policy(), rest)?;
-            Ok(PointRows {
+            let mut state = opening(alloc, policy.policy, tick)?;
+            put_rows(alloc, total, &mut state, rest)?;
+            state.keep();
+            Ok(Point {
                 entries,
-                text: policy.text,
-                policy: policy.policy,
-                tick,
-                rows,
+                policy: policy.text,
+                state,
             })
         }
         Err(fault) => Err(fault),
     }
 }
 
-/// The rows that the bytes tell, the last of so many.
-fn rows_from(
-    alloc: Global,
-    total: usize,
-    policy: &Policy,
-    bytes: &[u8],
-) -> Result<Rows<Row>, PointFault>
-    requires { length bytes.now ≤ total }
-    ensures { MatchResult result (λ rows. rows_from total (policy_of policy.now) beginning bytes.now ≡ Ok rows.items) (IsBadAt (rows_from total (policy_of policy.now) beginning bytes.now)) }
+/// Nothing is there, and it is this tick.
+fn opening(alloc: Global, policy: Checked, tick: Int) -> Result<State, NoMemory>
+    requires { pos 0 ≤ℤ tick }
+    ensures policy { IfOk result (λ s. (shown s).policy ≡ checked_policy policy) }
+    ensures start { IfOk result (λ s. standing beginning s ≡ start (checked_policy policy) tick) }
 {
-    let mut rows = Vec::new(alloc);
+    let mut state = State::new(alloc, policy)?;
+    state.set_tick(tick)?;
+    Ok(state)
+}
+
+/// Puts the rows that the bytes tell into a state, the last of so many.
+fn put_rows(alloc: Global, total: usize, state: &mut State, bytes: &[u8]) -> Result<(), PointFault>
+    requires { length bytes.now ≤ total }
+    ensures policy { IfOk result (λ _. (shown state.new).policy ≡ (shown state.old).policy) }
+    ensures rows { MatchResult result
+        (λ _. ArePut (shown state.old).policy (standing beginning state.old) (rows_from total (shown state.old).policy (standing beginning state.old) bytes.now) state.new)
+        (IsBadAt (rows_from total (shown state.old).policy (standing beginning state.old) bytes.now)) }
+{
     let mut reached = beginning();
     let mut rest = bytes;
     while let Some((line, behind)) = cut_at(b'\n', rest) {
-        let (row, next) = match row_at(alloc, total - rest.len(), policy, reached, line) {
-            Ok(read) => read,
+        reached = match put_line(alloc, total - rest.len(), state, reached, line) {
+            Ok(next) => next,
             Err(fault) => return Err(fault),
         };
-        add(&mut rows, row)?;
-        reached = next;
         rest = behind;
     }
-    if is_end(policy, reached, rest) {
-        Ok(Rows::from(rows))
+    if is_end(state.checked().policy(), reached, rest) {
+        Ok(())
     } else {
         Err(PointFault::BadPlace(total))
     }
 }
 
-fn add(rows: &mut Vec<Row>, row: Row) -> Result<(), NoMemory>
-    ensures { OnOk result (rows.new.items ≡ rows.old.items ++ row ∷ []) }
-{
-    rows.push(row)?;
-    Ok(())
-}
-
-/// A row and how far the rows have come with it, or the place of its line.
+/// Puts a line's row into a state, and says how far the rows have come with it; or tells the place of the line.
 #[tactic(auto, unfolding(crate::specs::PointRead::row_at))]
-fn row_at(
+fn put_line(
     alloc: Global,
     place: usize,
-    policy: &Policy,
+    state: &mut State,
     reached: Reached,
     line: &[u8],
-) -> Result<(Row, Reached), PointFault>
-    ensures { MatchResult result (λ p. row_at place (policy_of policy.now) reached line.now ≡ Ok p) (IsBadAt (row_at place (policy_of policy.now) reached line.now)) }
+) -> Result<Reached, PointFault>
+    requires { HasLast reached.stage (shown state.old).tables }
+    ensures policy { IfOk result (λ _. (shown state.new).policy ≡ (shown state.old).policy) }
+    ensures row { MatchResult result
+        (λ next. IsPut (row_at place (shown state.old).policy (standing reached state.old) line.now) (standing next state.new))
+        (IsBadAt (row_at place (shown state.old).policy (standing reached state.old) line.now)) }
+    ensures last { IfOk result (λ next. HasLast next.stage (shown state.new).tables) }
 {
     let Some(row) = row_in(alloc, line)? else {
         return Err(PointFault::BadPlace(place));
     };
-    let Some(next) = after(policy, reached, &row) else {
+    let Some(next) = after(state.checked().policy(), reached, &row) else {
         return Err(PointFault::BadPlace(place));
     };
-    Ok((row, next))
+    if put_row(state, reached.stage, row)? {
+        Ok(next)
+    } else {
+        Err(PointFault::BadPlace(place))
+    }
 }
 
 /// Whether no byte is left, and no value is awaited.

@@ -1,7 +1,7 @@
 //! What a checkpoint holds, line by line.
 
-use ucon_base::{Int, Name, Rows, Side, Value};
-use ucon_model::{Checked, SessionRow};
+use ucon_base::{Name, Side, Value};
+use ucon_model::SessionRow;
 use ucon_state::ActRow;
 
 /// What one line behind the tick says.
@@ -15,18 +15,4 @@ pub enum Row {
     Attribute(Name, Value),
     Act(ActRow),
     Session(SessionRow),
-}
-
-/// What a checkpoint holds.
-#[derive(Debug, Drop)]
-pub struct PointRows {
-    /// How many entries there were.
-    pub entries: u64,
-    /// The text of the policy in force.
-    pub text: Rows<u8>,
-    /// The policy in force.
-    pub policy: Checked,
-    pub tick: Int,
-    /// The lines behind the tick, in their order.
-    pub rows: Rows<Row>,
 }

@@ -12,7 +12,7 @@ use ucon_syntax::read_policy;
 
 /// Where the bytes are refused.
 fn place(alloc: Global, bytes: &[u8]) -> Result<Option<usize>, Fail> {
-    match read_rows(alloc, bytes) {
+    match read_point(alloc, bytes) {
         Ok(_) => Ok(None),
         Err(PointFault::BadPlace(place)) => Ok(Some(place)),
         Err(PointFault::NoMemory(refused)) => Err(refused)?,
@@ -79,10 +79,7 @@ fn lines_are_refused_at_their_places(rt: HostRuntime) -> Result<(), Fail> {
             b"point 0\npolicy 25\nattr s n : int 0..9 = 3;\n\ntick 0\nsubject a\n",
             Some(61),
         ),
-        (
-            b"point 0\npolicy 0\n\ntick 0\nact a b c 0\nsession 63 r a b ended 0\n",
-            None,
-        ),
+        (b"point 0\npolicy 0\n\ntick 0\nact a b c 0\n", Some(25)),
         (
             b"point 0\npolicy 0\n\ntick 0\nsession 64 r a b ended 0\n",
             Some(25),
@@ -95,18 +92,57 @@ fn lines_are_refused_at_their_places(rt: HostRuntime) -> Result<(), Fail> {
 }
 
 #[test]
+fn rows_that_cannot_be_put_are_refused(rt: HostRuntime) -> Result<(), Fail> {
+    let cases: [(&[u8], Option<usize>); 7] = [
+        (
+            b"point 0\npolicy 0\n\ntick 5\nsubject a\nobject c\nact a b c 5\nsession 63 r a c ended 5\n",
+            None,
+        ),
+        (
+            b"point 0\npolicy 0\n\ntick 5\nsubject a\nsubject a\nsubject A\n",
+            Some(35),
+        ),
+        (
+            b"point 0\npolicy 0\n\ntick 5\nsubject a\nobject c\nact a b c 6\n",
+            Some(44),
+        ),
+        (
+            b"point 0\npolicy 0\n\ntick 5\nsubject a\nobject c\nact a b c 5\nact a b c 5\n",
+            Some(56),
+        ),
+        (
+            b"point 0\npolicy 0\n\ntick 5\nsubject a\nobject c\nact c b a 5\n",
+            Some(44),
+        ),
+        (
+            b"point 0\npolicy 0\n\ntick 5\nsubject a\nobject c\nsession 0 r a c requesting 1\n",
+            Some(44),
+        ),
+        (
+            b"point 0\npolicy 0\n\ntick 5\nsubject a\nobject c\nsession 0 r a c accessing 6\n",
+            Some(44),
+        ),
+    ];
+    for (bytes, want) in cases {
+        assert_eq!(rt; place(rt.alloc(), bytes)?, want);
+    }
+    Ok(())
+}
+
+#[test]
 fn one_subject_is_written_and_read(rt: HostRuntime) -> Result<(), Fail> {
     let alloc = rt.alloc();
     let policy = b"right r {}\n".as_slice();
-    let mut state = State::new(alloc, check(alloc, read_policy(alloc, policy)?)?)?;
+    let mut state = State::new(alloc, check(read_policy(alloc, policy)?)?)?;
     add(&rt, &mut state, Side::Subject, b"a")?;
     let text = point_text(alloc, 1, policy, &state)?;
     assert!(rt; text.as_slice() == SMALL);
-    let point = read_rows(alloc, SMALL)?;
+    let point = read_point(alloc, SMALL)?;
     assert_eq!(rt; point.entries, 1);
-    assert!(rt; point.text.slice() == policy);
-    assert_eq!(rt; point.tick.get(), 0);
-    assert_eq!(rt; point.rows.len(), 1);
+    assert!(rt; point.policy.slice() == policy);
+    assert!(rt; point.state.find(Side::Subject, &name(b"a")?) == Some(0));
+    let again = point_text(alloc, point.entries, point.policy.slice(), &point.state)?;
+    assert!(rt; again.as_slice() == SMALL);
     Ok(())
 }
 
@@ -200,7 +236,7 @@ fn act(rt: &impl Abort, state: &mut State) -> Result<(), Fail> {
 
 /// A subject, an object and five sessions.
 fn opened(rt: &impl Abort, alloc: Global) -> Result<State, Fail> {
-    let mut state = State::new(alloc, check(alloc, read_policy(alloc, POLICY)?)?)?;
+    let mut state = State::new(alloc, check(read_policy(alloc, POLICY)?)?)?;
     add(rt, &mut state, Side::Subject, b"a")?;
     add(rt, &mut state, Side::Object, b"b")?;
     for caller in [0, 1, 2, 3, 63] {
@@ -234,18 +270,19 @@ fn all_sorts_of_rows_are_written(rt: HostRuntime) -> Result<(), Fail> {
 
 #[test]
 fn all_sorts_of_rows_are_read(rt: HostRuntime) -> Result<(), Fail> {
-    let point = read_rows(rt.alloc(), FULL)?;
+    let point = read_point(rt.alloc(), FULL)?;
     assert_eq!(rt; point.entries, 7);
-    assert_eq!(rt; point.tick.get(), 5);
-    assert_eq!(rt; point.rows.len(), 12);
-    let Some(Row::Act(act)) = point.rows.at(6) else {
+    assert_eq!(rt; point.state.tick().get(), 5);
+    let Some(act) = point.state.act(0) else {
         return Err("no act")?;
     };
     assert_eq!(rt; act.moment.get(), 2);
-    let Some(Row::Session(session)) = point.rows.at(10) else {
+    let Some(session) = point.state.session(4) else {
         return Err("no session")?;
     };
     assert!(rt; session.state == SessionState::Revoked);
     assert_eq!(rt; session.start.get(), 3);
+    let text = point_text(rt.alloc(), 7, POLICY, &point.state)?;
+    assert!(rt; text.as_slice() == FULL);
     Ok(())
 }

@@ -1,6 +1,4 @@
-use Rattle.std.proofs.Common.{◌≤◌, ◌^◌, None, sym, subst, arith}
-use Rattle.std.specs.Prelude.{ℕ, MatchOption, Option}
-use Rattle.ucon_base.specs.Reading.{number_of}
+use Rattle.std.proofs.Common.{arith}
 use Rattle.ucon_point.proofs.Digits.{with_digit-le, too_large}
 use Rattle.ucon_point.proofs.words.digits_told.Goals as goal
 
