@@ -35,6 +35,12 @@ KNOWN = [
         "./ucon serve door.journal < door.ucon",
         keeps=True,
     ),
+    Form(
+        "point JOURNAL",
+        "adds a checkpoint to a journal, and runs no line of the script",
+        "./ucon point door.journal < door.ucon",
+        keeps=True,
+    ),
 ]
 # Forms that the program doesn't have yet. A name goes from here when its form comes.
 COMING: Tuple[str, ...] = ()

@@ -15,12 +15,12 @@ use Rattle.ucon_store.specs.declared.fault.StoreFault.TheVariants.{NotJournal, D
 use Rattle.ucon_store.specs.Faults.{of_open}
 use Rattle.ucon_store.specs.Found.{finding_of, found, Holds, IsFoundAs}
 use Rattle.ucon_store.specs.Opening.{HasReason, HasOtherPolicy}
-use Rattle.ucon_store.proofs.Finding.{found_as}
+use Rattle.ucon_store.proofs.Finding.{found_as, takes_of}
 use Rattle.ucon_store.proofs.Runs.{true_or_false, opened_short, opened_long, found_opened}
 
 pub found_none : (file : Bytes) → journal.found file ≡ journal.NotJournal → found file ≡ not_journal
 unfolding found
-found_none file is = ap finding_of is
+found_none file is = ap (finding_of (takes_of file)) is
 
 opened_is_journal : (file : Bytes) → journal.found file ≢ journal.NotJournal → journal.found (opened file) ≢ journal.NotJournal
 opened_is_journal file is bad = ⊎_elim

@@ -11,6 +11,7 @@ use Rattle.ucon_model.specs.Payload.{most_payload}
 use Rattle.ucon_model.specs.Plain.{Bytes, PlainPolicy}
 use Rattle.ucon_syntax.specs.Policies.{accepted}
 use Rattle.ucon_store.specs.Found.{finding_of, found}
+use Rattle.ucon_store.proofs.Finding.{takes_of}
 
 length-record : (p : Bytes) → length (record_bytes p) ≡ 5 + length p
 length-record p = omega (arith, length-append (1 ∷ to_be_bytes w32 (length p)) p)
@@ -28,13 +29,13 @@ short : (ps : List Bytes) → Each (λ p. length p ≤ most_payload) ps → AreS
 short [] h = tt
 short (p ∷ ps) h = (omega (arith, h.0), short ps h.1)
 
-found_as_read : (file : Bytes) (payloads : List Bytes) (gate : ℕ) → journal.found file ≡ journal.Holds payloads gate → found file ≡ found_in accepted payloads
+found_as_read : (file : Bytes) (payloads : List Bytes) (gate : ℕ) → journal.found file ≡ journal.Holds payloads gate → found file ≡ found_in accepted (takes_of file) payloads
 unfolding found
-found_as_read file payloads gate is = ap finding_of is
+found_as_read file payloads gate is = ap (finding_of (takes_of file)) is
 
 pub journal_found : ((v : ℕ) (p : Bytes) (ps : List Bytes) → IsVersion v → AreShort (p ∷ ps) → journal.found (journal_bytes v (p ∷ ps)) ≡ journal.Holds (p ∷ ps) (length (journal_bytes v (p ∷ ps)) - 1))
     → (version : ℕ) (text : Bytes) (P : PlainPolicy) (H : History) → IsVersion version → Each (λ p. length p ≤ most_payload) (payloads_of text P H)
-    → found_in accepted (payloads_of text P H) ≡ holds text P H (gate_behind first_gate (payloads_of text P H))
+    → found_in accepted (takes_of (journal_bytes version (payloads_of text P H))) (payloads_of text P H) ≡ holds text P H (gate_behind first_gate (payloads_of text P H))
     → found (journal_bytes version (payloads_of text P H)) ≡ holds text P H (length (journal_bytes version (payloads_of text P H)) - 1)
 journal_found back version text P H is fits finds =
     let payloads = payloads_of text P H in

@@ -4,7 +4,11 @@ pub mod Differences
 pub mod Finding
 pub mod Journals
 pub mod Openings
+pub mod Places
+pub mod Pointed
 pub mod Recorded
 pub mod Runs
+pub mod SamePlaces
 pub mod Stepping
 pub mod Taking
+pub mod Versions

@@ -1,15 +1,17 @@
 -- What putting a step's record on the disk leaves there.
 use Rattle.std.proofs.Common.{◌≡◌, inl, inr, ⊎_elim, ℕ, ◌≤◌, List, [], ◌∷◌, ◌++◌, length, Option, Some, None, refl, sym, ap, ◌∙◌, subst, true, false, arith, ◌+◌, length-append}
 use Rattle.std.proofs.lemmas.List.{map-append}
-use Rattle.std.specs.Prelude.{is_some, IsSome, IfSome}
+use Rattle.std.specs.Prelude.{is_some, take, IsSome, IfSome}
+use Rattle.std.specs.Str.{bytes_eq}
 use Rattle.ucon_model.specs.declared.command.Entry.{Entry}
 use Rattle.ucon_model.specs.Plain.{Bytes, PlainPolicy}
 use Rattle.ucon_model.specs.History.{History}
-use Rattle.ucon_model.specs.Found.{taken, found_in, found_on}
+use Rattle.ucon_model.specs.Found.{Takes, taken, found_in, found_on}
 use Rattle.ucon_disk.specs.Disk.{Only}
 use Rattle.ucon_disk.specs.Run.{IsAtRest, LeavesOnly, LeavesAfter, weaker}
 use Rattle.ucon_journal.specs.declared.journal.Journal.{Journal}
-use Rattle.ucon_journal.specs.Journal.{disk_of, gate_of, told_payloads, IsClosed}
+use Rattle.ucon_journal.specs.Journal.{disk_of, gate_of, version_of, told_payloads, IsClosed}
+use Rattle.ucon_journal.specs.JournalBytes.{magic}
 use Rattle.ucon_journal.specs.Found as journalled
 use Rattle.ucon_journal.specs.Opened.{StillHolds, PerhapsAdded}
 use Rattle.ucon_turn.specs.Lists.{Begins, Continues, begins_refl}
@@ -19,11 +21,13 @@ use Rattle.ucon_syntax.specs.Policies.{accepted}
 use Rattle.ucon_store.specs.Found.{Holds, IsFoundAs, IsFoundWith}
 use Rattle.ucon_store.specs.Kept.{Kept, IsAtRestWith}
 use Rattle.ucon_store.specs.Stays.{Stays, IsFoundBetween}
+use Rattle.ucon_store.specs.Points.{has_points, points_of}
 use Rattle.ucon_store.proofs.Finding.{holds_same, holds_more, found_as}
+use Rattle.ucon_store.proofs.Versions.{closed_kind, steps_taken}
 use Rattle.ucon_disk.specs.Causes.{raised}
 
 abbrev pub OneByOne : Type 0
-OneByOne = (front rest : List Bytes) → found_in accepted (front ++ rest) ≡ found_on accepted (found_in accepted front) (length front) rest
+OneByOne = (takes : Takes) (front rest : List Bytes) → found_in accepted takes (front ++ rest) ≡ found_on accepted takes (found_in accepted takes front) (length front) rest
 
 pub told_file : (o : Option Bytes) → IsSome o → (file : Bytes) × (o ≡ Some file)
 told_file None told = absurd (cc told)
@@ -32,12 +36,16 @@ told_file (Some file) told = (file, refl)
 pub some_told : (P : Bytes → Type 0) (o : Option Bytes) (file : Bytes) → o ≡ Some file → IfSome o P → P file
 some_told P o file is h = let g : IfSome (Some file) P = subst (λ (x : Option Bytes). IfSome x P) is h in g
 
+-- files with one magic are of one kind
+pub same_kind : (file c : Bytes) → take 8 c ≡ take 8 file → has_points c ≡ has_points file
+same_kind file c same = ap (λ (front : Bytes). bytes_eq front (magic 2)) same
+
 -- the payloads of before, or those with the step's, are found as the history, or as it with the step
 pub found_perhaps : OneByOne → (text : Bytes) (P : PlainPolicy) (H : History) (e : Entry) (payload file c : Bytes) → taken accepted P H payload ≡ Some (H ++ e ∷ []) → Holds text P H file
     → PerhapsAdded payload file c → IsFoundWith text H (Some e) c
 found_perhaps one text P H e payload file c takes h perhaps = ⊎_elim
-    (λ (same : StillHolds file (journalled.counted file) c). inl (found_as text P H c (holds_same text P H file c h same.payloads)))
-    (λ (more : StillHolds file (journalled.counted file ++ payload ∷ []) c). inr (e, refl, found_as text P (H ++ e ∷ []) c (holds_more one text P H e payload file c takes h more.payloads)))
+    (λ (same : StillHolds file (journalled.counted file) c). inl (found_as text P H c (holds_same text P H file c h (same_kind file c same.magic) same.payloads)))
+    (λ (more : StillHolds file (journalled.counted file ++ payload ∷ []) c). inr (e, refl, found_as text P (H ++ e ∷ []) c (holds_more one text P H (H ++ e ∷ []) payload file c (steps_taken (has_points file) text P H (H ++ e ∷ []) payload takes) h (same_kind file c more.magic) more.payloads)))
     perhaps
 
 module _ {D : Type 0} (contents : D → Option (List ℕ)) (images : D → List ℕ → Type 0) where
@@ -72,10 +80,10 @@ module _ {D : Type 0} (contents : D → Option (List ℕ)) (images : D → List 
           (λ c. found_perhaps one text P H e payload f.0 c takes (holds_now f.0 f.1)) (run.each f.0 (at_rest_as f.0 f.1))
 
       -- at Ok the journal is at rest with the step
-      pub at_rest_with : (next : Journal D) → gate_of journal + 5 ≤ gate_of next → IsClosed contents next → Only (contents (disk_of next)) (images (disk_of next)) → is_some (contents (disk_of next)) ≡ is_some (contents (disk_of journal))
+      pub at_rest_with : (next : Journal D) → version_of next ≡ version_of journal → gate_of journal + 5 ≤ gate_of next → IsClosed contents next → Only (contents (disk_of next)) (images (disk_of next)) → is_some (contents (disk_of next)) ≡ is_some (contents (disk_of journal))
           → IfSome (contents (disk_of journal)) (λ file. told_payloads (contents (disk_of next)) ≡ told_payloads (contents (disk_of journal)) ++ payload ∷ [])
           → IsAtRestWith contents images next text P (H ++ e ∷ [])
-      at_rest_with next more closed only tells added = record { closed = closed; few = omega (arith, rest.few, length-append H (e ∷ []), more); only = only; holds = each (contents (disk_of journal)) (contents (disk_of next)) refl refl }
+      at_rest_with next version more closed only tells added = record { closed = closed; few = omega (arith, rest.few, length-append H (e ∷ []), more); only = only; holds = each (contents (disk_of journal)) (contents (disk_of next)) refl refl }
         where
           each : (o n : Option Bytes) → contents (disk_of journal) ≡ o → contents (disk_of next) ≡ n → IfSome n (Holds text P (H ++ e ∷ []))
           each None None is now = tt
@@ -84,7 +92,10 @@ module _ {D : Type 0} (contents : D → Option (List ℕ)) (images : D → List 
           each (Some file) (Some c) is now =
               let more = some_told (λ _. told_payloads (contents (disk_of next)) ≡ told_payloads (contents (disk_of journal)) ++ payload ∷ []) (contents (disk_of journal)) file is added in
               let more' : journalled.counted c ≡ journalled.counted file ++ payload ∷ [] = sym (ap told_payloads now) ∙ (more ∙ ap (λ (x : Option Bytes). told_payloads x ++ payload ∷ []) is) in
-              holds_more one text P H e payload file c takes (holds_now file is) more'
+              let was : has_points file ≡ points_of (version_of journal) = some_told (λ f. has_points f ≡ points_of (version_of journal)) (contents (disk_of journal)) file is (closed_kind contents journal rest.closed) in
+              let here : has_points c ≡ points_of (version_of next) = some_told (λ f. has_points f ≡ points_of (version_of next)) (contents (disk_of next)) c now (closed_kind contents next closed) in
+              holds_more one text P H (H ++ e ∷ []) payload file c (steps_taken (has_points file) text P H (H ++ e ∷ []) payload takes) (holds_now file is)
+              (here ∙ (ap points_of version ∙ sym was)) more'
 
 module _ {D : Type 0} (contents : D → Option (List ℕ)) (images : D → List ℕ → Type 0) (moment : D → ℕ) (images_since : D → ℕ → List ℕ → Type 0) (faults : D → ℕ) (x y : Kept D) (e : Entry) where
   -- what a step did that put a record on the disk, or met a fault there

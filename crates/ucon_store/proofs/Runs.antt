@@ -14,7 +14,7 @@ use Rattle.ucon_journal.specs.Journal.{told_payloads}
 use Rattle.ucon_journal.specs.Opened.{opened, StillHolds, SamePayloads, PerhapsAdded, Untouched}
 use Rattle.ucon_syntax.specs.Policies.{accepted}
 use Rattle.ucon_store.specs.Found.{finding_of, found, Holds, IsFoundAs, IsForeign, Opens}
-use Rattle.ucon_store.proofs.Finding.{found_as}
+use Rattle.ucon_store.proofs.Finding.{found_as, takes_of}
 use Rattle.ucon_store.proofs.Openings.{found_fresh, fresh_found, itself_opens, same_opens, mended_opens, made_opens, policy_holds}
 use Rattle.ucon_store.proofs.Recorded.{some_told}
 
@@ -29,7 +29,7 @@ at_most n le = grind arith
 
 short_fresh : (file : Bytes) → nat_le (length file) 9 ≡ true → found file ≡ fresh
 unfolding found
-short_fresh file short = ap (λ b. finding_of (if b then journal.Fresh else if is_some (journal.version_told file) then journal.Holds (journal.payloads_from file 8) (8 + length (records (journal.payloads_from file 8))) else journal.NotJournal)) short
+short_fresh file short = ap (λ b. finding_of (takes_of file) (if b then journal.Fresh else if is_some (journal.version_told file) then journal.Holds (journal.payloads_from file 8) (8 + length (records (journal.payloads_from file 8))) else journal.NotJournal)) short
 
 not_foreign : (text file : Bytes) → found file ≡ fresh → IsForeign (found file) text → ⊥
 not_foreign text file is foreign = let no : IsForeign fresh text = subst (λ (f : Finding). IsForeign f text) is foreign in no

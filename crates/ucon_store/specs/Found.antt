@@ -1,21 +1,23 @@
--- What is found in a file: the payloads of its records that count, and what they say.
+-- What is found in a file: the payloads of its records that count, and what they say. Behind record 0 each payload of version 1 tells a step,
+-- and each of version 2 tells a step or is a checkpoint.
 use Rattle.std.specs.Prelude.{◌≡◌, ◌⊎◌, ℕ, Option, Some, [], ◌∷◌, ◌++◌}
 use Rattle.ucon_model.specs.declared.command.Entry.{Entry}
 use Rattle.ucon_model.specs.Plain.{Bytes, PlainPolicy}
 use Rattle.ucon_model.specs.History.{History}
-use Rattle.ucon_model.specs.Found.{Finding, fresh, not_journal, damaged, holds, found_in}
+use Rattle.ucon_model.specs.Found.{Finding, Takes, fresh, not_journal, damaged, holds, found_in}
 use Rattle.ucon_journal.specs.Found as journal
 use Rattle.ucon_syntax.specs.Policies.{accepted}
+use Rattle.ucon_store.specs.Points.{has_points, takes_with}
 
 -- what the payloads that were found say, where a policy's text is read as an accepted one
-abbrev pub finding_of : journal.Found → Finding
-finding_of journal.Fresh = fresh
-finding_of journal.NotJournal = not_journal
-finding_of (journal.Holds payloads gate) = found_in accepted payloads
+abbrev pub finding_of : Takes → journal.Found → Finding
+finding_of takes journal.Fresh = fresh
+finding_of takes journal.NotJournal = not_journal
+finding_of takes (journal.Holds payloads gate) = found_in accepted takes payloads
 
 -- what is found in the bytes of a file
 unfoldable pub found : Bytes → Finding
-found file = finding_of (journal.found file)
+found file = finding_of (takes_with (has_points file)) (journal.found file)
 
 -- this is the policy's text and this the history; where nothing was recorded yet, the history is empty
 abbrev pub Tells : Finding → Bytes → History → Type 0

@@ -2,6 +2,9 @@ pub mod Events
 pub mod Faults
 pub mod Found
 pub mod Kept
+pub mod Opened
 pub mod Opening
+pub mod Pointing
+pub mod Points
 pub mod Stays
 pub mod Steps

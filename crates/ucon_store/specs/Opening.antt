@@ -1,5 +1,5 @@
 -- How a store is opened: what its journal's records give one by one, and why it isn't opened.
-use Rattle.std.specs.Prelude.{◌≡◌, ℕ, ◌+◌, ◌*◌, ◌==◌, ◌≤◌, List, [], ◌∷◌, length, Option, Some, None, option_map, IfSome, if◌then◌else◌}
+use Rattle.std.specs.Prelude.{◌≡◌, ℕ, ◌+◌, ◌*◌, ◌==◌, ◌<◌, ◌≤◌, List, [], ◌∷◌, length, Option, Some, None, option_map, IfSome, if◌then◌else◌}
 use Rattle.ucon_disk.specs.Causes.{raised}
 use Rattle.ucon_journal.specs.declared.journal.Journal.{Journal}
 use Rattle.ucon_journal.specs.Journal.{disk_of, gate_of}
@@ -14,6 +14,7 @@ use Rattle.ucon_store.specs.declared.fault.StoreFault.TheVariants.{NotJournal, D
 use Rattle.ucon_store.specs.declared.loading.Loaded.{Loaded}
 use Rattle.ucon_syntax.specs.Policies.{accepted}
 use Rattle.ucon_store.specs.Found.{found, Holds}
+use Rattle.ucon_store.specs.Points.{has_points, takes_with}
 
 -- the place of the first byte that differs, or the length of the shorter text where it begins the other; none where they are the same
 abbrev pub first_difference : Bytes → Bytes → Option ℕ
@@ -42,7 +43,8 @@ HasReason (NoMemory e) text file before now = now ≡ before
 
 -- what is found in a file is what is found behind these entries, in the records from this number and this gate on
 abbrev pub SaysBehind : Bytes → PlainPolicy → History → (number gate : ℕ) → Bytes → Type 0
-SaysBehind text P H number gate file = found file ≡ found_behind accepted text P H number gate (payloads_from file gate)
+SaysBehind text P H number gate file =
+    found file ≡ found_behind (takes_with (has_points file)) text P H number gate (payloads_from file gate)
 
 -- the engine stands for the entries under the policy of the text
 pub record IsStanding {E : Type 0} (follows : E → PlainPolicy → Trace → Type 0) (loaded : Loaded E) : Type 0 where
@@ -50,13 +52,14 @@ pub record IsStanding {E : Type 0} (follows : E → PlainPolicy → Trace → Ty
   pub accepts : accepted loaded.policy.items ≡ Some P
   pub stands : StandsFor follows loaded.engine P loaded.entries.items
 
--- where the disk tells, what is found in the file is what is found behind these entries in the records from the next gate on
+-- Where the disk tells, what is found in the file is what is found behind these entries in the records from the next gate on. So many records
+-- were taken in, the entries and record 0 among them, of five bytes at least each.
 pub record IsLoading {E D : Type 0} (follows : E → PlainPolicy → Trace → Type 0) (contents : D → Option (List ℕ))
     (loaded : Loaded E) (journal : Journal D) : Type 0 where
   pub standing : IsStanding follows loaded
-  pub few : 5 * length loaded.entries.items ≤ gate_of journal
-  pub says : IfSome (contents (disk_of journal)) (SaysBehind loaded.policy.items standing.P loaded.entries.items
-      (length loaded.entries.items + 1) (gate_of journal))
+  pub entries : length loaded.entries.items < loaded.records
+  pub few : 5 * loaded.records ≤ gate_of journal
+  pub says : IfSome (contents (disk_of journal)) (SaysBehind loaded.policy.items standing.P loaded.entries.items loaded.records (gate_of journal))
 
 -- where the disk tells, the file holds these entries
 pub record HasLoaded {E D : Type 0} (follows : E → PlainPolicy → Trace → Type 0) (contents : D → Option (List ℕ))

@@ -7,7 +7,7 @@ ghost use Rattle.ucon_store.specs.Opening.{first_difference};
 
 use std::alloc::Global;
 use ucon_base::NoMemory;
-use ucon_check::{CheckFault, check};
+use ucon_check::check;
 use ucon_model::Checked;
 use ucon_syntax::{SyntaxFault, read_policy};
 
@@ -22,9 +22,8 @@ pub(crate) fn read_accepted(alloc: Global, text: &[u8]) -> Result<Option<Checked
         Err(SyntaxFault::NoMemory(e)) => return Err(e),
         Err(_) => return Ok(None),
     };
-    match check(alloc, policy) {
+    match check(policy) {
         Ok(checked) => Ok(Some(checked)),
-        Err(CheckFault::NoMemory(e)) => Err(e),
         Err(_) => Ok(None),
     }
 }

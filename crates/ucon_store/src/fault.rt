@@ -1,6 +1,7 @@
 //! Why a call of a store failed.
 
 ghost use Rattle.std.specs.Prelude.{◌≡◌};
+ghost use Rattle.ucon_store.specs.declared.fault.PointRefusal.TheVariants as refusals;
 ghost use Rattle.ucon_store.specs.declared.fault.StepFault.TheVariants as step_faults;
 ghost use Rattle.ucon_store.specs.declared.fault.StoreFault.TheVariants as store_faults;
 ghost use Rattle.ucon_store.specs.Faults.{of_open, of_take};
@@ -56,6 +57,26 @@ pub(crate) fn at_record(number: u64, fault: TakeFault) -> StoreFault
         TakeFault::TooLong(place) => StoreFault::Damaged { number, place },
         TakeFault::DiskFault => StoreFault::DiskFault,
         TakeFault::NoMemory(e) => StoreFault::NoMemory(e),
+    }
+}
+
+/// Why no checkpoint was written, and nothing else either.
+#[derive(Clone, Copy, Debug, PartialEq, Eq)]
+pub enum PointRefusal {
+    /// The disk failed at an earlier step.
+    Stopped,
+    /// The journal is of version 1, which has no checkpoints.
+    OldJournal,
+    /// The checkpoint has more than 16,777,215 bytes: so many.
+    TooLarge(u64),
+    NoMemory(NoMemory),
+}
+
+impl From<NoMemory> for PointRefusal {
+    ghost from_gives = { λ e refusal. refusal ≡ refusals.NoMemory e };
+
+    fn from(e: NoMemory) -> PointRefusal {
+        PointRefusal::NoMemory(e)
     }
 }
 

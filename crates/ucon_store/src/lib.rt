@@ -8,12 +8,13 @@ mod laws;
 mod loading;
 mod opening;
 mod placed;
+mod points;
 mod recording;
 mod store;
 mod turned;
 
 pub use event::{Base, Event};
-pub use fault::{StepFault, StoreFault};
+pub use fault::{PointRefusal, StepFault, StoreFault};
 pub use laws::journals_are_found_as_their_histories;
 pub use placed::Placed;
 pub use store::Store;

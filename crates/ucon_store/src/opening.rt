@@ -11,6 +11,7 @@ ghost use Rattle.ucon_model.specs.Found.{found_in};
 ghost use Rattle.ucon_syntax.specs.Policies.{accepted};
 ghost use Rattle.ucon_store.specs.Found.{found, IsFoundAs, Opens};
 ghost use Rattle.ucon_store.specs.Opening.{HasReason, HasLoaded, IsStanding};
+ghost use Rattle.ucon_store.specs.Points.{SameKind, SamePlaces, has_points, takes_with};
 
 use crate::accepting::{first_difference, read_accepted};
 use crate::fault::{StoreFault, at_record};
@@ -40,6 +41,8 @@ pub(crate) fn load<E: Engine, D: Disk>(
     ensures found { IfOk result (λ l. IfSome (D.contents (disk_of journal.old)) (λ file. IsFoundAs policy.now file l.entries.items)) }
     ensures loaded { IfOk result (λ l. HasLoaded E.follows D.contents l journal.new) }
     ensures closed { OnOk result (IsClosed D.contents journal.new) }
+    ensures places { OnOk result (SamePlaces (D.contents (disk_of journal.old)) (D.contents (disk_of journal.new))) }
+    ensures kind { OnOk result (SameKind (D.contents (disk_of journal.old)) (D.contents (disk_of journal.new))) }
     ensures only { OnOk result (Only (D.contents (disk_of journal.new)) (D.images (disk_of journal.new))) }
     ensures reason { IfErr result (λ fault. HasReason fault policy.now (D.contents (disk_of journal.old))
         (D.faults (disk_of journal.old)) (D.faults (disk_of journal.new))) }
@@ -62,13 +65,15 @@ fn go_on<E: Engine, D: Disk>(
 ) -> Result<Loaded<E>, StoreFault>
     requires reading { IsReading D.contents journal.old }
     requires says { IfSome (D.contents (disk_of journal.old)) (λ file.
-        found file ≡ found_in accepted (payload_of journal.old ∷ payloads_from file (gate_of journal.old))) }
+        found file ≡ found_in accepted (takes_with (has_points file)) (payload_of journal.old ∷ payloads_from file (gate_of journal.old))) }
     requires gate { gate_of journal.old ≡ 13 + length (payload_of journal.old) }
     requires short { length (payload_of journal.old) ≤ MAX_PAYLOAD }
     ensures policy { IfOk result (λ l. l.policy.items ≡ policy.now) }
     ensures found { IfOk result (λ l. IfSome (D.contents (disk_of journal.old)) (λ file. IsFoundAs policy.now file l.entries.items)) }
     ensures loaded { IfOk result (λ l. HasLoaded E.follows D.contents l journal.new) }
     ensures closed { OnOk result (IsClosed D.contents journal.new) }
+    ensures places { OnOk result (SamePlaces (D.contents (disk_of journal.old)) (D.contents (disk_of journal.new))) }
+    ensures kind { OnOk result (SameKind (D.contents (disk_of journal.old)) (D.contents (disk_of journal.new))) }
     ensures only { OnOk result (Only (D.contents (disk_of journal.new)) (D.images (disk_of journal.new))) }
     ensures reason { IfErr result (λ fault. HasReason fault policy.now (D.contents (disk_of journal.old))
         (D.faults (disk_of journal.old)) (D.faults (disk_of journal.new))) }
@@ -89,6 +94,7 @@ fn go_on<E: Engine, D: Disk>(
 fn begin<E: Engine>(alloc: Global, text: &[u8]) -> Result<Loaded<E>, StoreFault>
     ensures policy { IfOk result (λ l. l.policy.items ≡ text.now) }
     ensures entries { IfOk result (λ l. l.entries.items ≡ []) }
+    ensures records { IfOk result (λ l. l.records ≡ 1) }
     ensures standing { IfOk result (λ l. IsStanding E.follows l) }
     ensures short { OnOk result (length text.now ≤ 65536) }
     ensures reason { IfErr result (λ fault. (fault ≡ StoreFault.NoMemory out_of_memory)
@@ -105,6 +111,7 @@ fn begin<E: Engine>(alloc: Global, text: &[u8]) -> Result<Loaded<E>, StoreFault>
         policy: copied(alloc, text)?,
         engine,
         entries: Rows::new(alloc),
+        records: 1,
         payload: Vec::new(alloc),
     })
 }
@@ -130,6 +137,8 @@ fn make<E: Engine, D: Disk>(
     ensures found { IfOk result (λ l. IfSome (D.contents (disk_of journal.old)) (λ file. IsFoundAs policy.now file l.entries.items)) }
     ensures loaded { IfOk result (λ l. HasLoaded E.follows D.contents l journal.new) }
     ensures closed { OnOk result (IsClosed D.contents journal.new) }
+    ensures places { OnOk result (SamePlaces (D.contents (disk_of journal.old)) (D.contents (disk_of journal.new))) }
+    ensures kind { OnOk result (SameKind (D.contents (disk_of journal.old)) (D.contents (disk_of journal.new))) }
     ensures only { OnOk result (Only (D.contents (disk_of journal.new)) (D.images (disk_of journal.new))) }
     ensures reason { IfErr result (λ fault. HasReason fault policy.now (D.contents (disk_of journal.old))
         (D.faults (disk_of journal.old)) (D.faults (disk_of journal.new))) }

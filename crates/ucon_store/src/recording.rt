@@ -4,7 +4,7 @@ ghost use Rattle.std.specs.Prelude.{◌≡◌, ◌+◌, ◌<◌, ◌≤◌, ◌^
 ghost use Rattle.ucon_disk.specs.Causes.{HasCause};
 ghost use Rattle.ucon_disk.specs.Disk.{Only};
 ghost use Rattle.ucon_disk.specs.Run.{LeavesAfter};
-ghost use Rattle.ucon_journal.specs.Journal.{disk_of, gate_of, told_payloads, HasRoomFor, IsClosed};
+ghost use Rattle.ucon_journal.specs.Journal.{disk_of, gate_of, version_of, told_payloads, HasRoomFor, IsClosed};
 ghost use Rattle.ucon_journal.specs.Opened.{PerhapsAdded};
 ghost use Rattle.ucon_model.specs.declared.command.Entry.{Entry};
 ghost use Rattle.ucon_model.specs.Action.{Trace};
@@ -81,6 +81,7 @@ pub(crate) fn record<E: Engine, D: Disk>(
     ensures closed { OnOk result (IsClosed D.contents journal.new) }
     ensures gate { OnOk result (gate_of journal.old + 5 ≤ gate_of journal.new) }
     ensures small { gate_of journal.new < 2 ^ 63 }
+    ensures version { version_of journal.new ≡ version_of journal.old }
     ensures only { OnOk result (Only (D.contents (disk_of journal.new)) (D.images (disk_of journal.new))) }
     ensures payloads { OnOk result (IfSome (D.contents (disk_of journal.old)) (λ file.
         told_payloads (D.contents (disk_of journal.new)) ≡ told_payloads (D.contents (disk_of journal.old)) ++ payload.now ∷ [])) }

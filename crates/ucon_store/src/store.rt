@@ -2,6 +2,7 @@
 
 ghost use Rattle.std.specs.Prelude.{◌≡◌, ◌↔◌, ◌⊎◌, ◌∷◌, [], ◌++◌, ℕ, List, length, true, false, None, Some, IsSome, IfSome, IfOk, IfErr, OnOk, IsErrOf, ◌≤◌, ◌<◌, ◌+◌, ◌^◌, option_copied, is_some};
 ghost use Rattle.ucon_base.specs.Memory.{out_of_memory};
+ghost use Rattle.ucon_disk.specs.Causes.{raised};
 ghost use Rattle.ucon_disk.specs.Disk.{Only};
 ghost use Rattle.ucon_disk.specs.Run.{LeavesAfter, LeavesOnly};
 ghost use Rattle.ucon_model.specs.History.{trace, changes};
@@ -14,19 +15,22 @@ ghost use Rattle.ucon_store.specs.Events.{events_of, number_of};
 ghost use Rattle.ucon_store.specs.Found.{Holds, IsFoundAs, IsFoundWith, Opens};
 ghost use Rattle.ucon_store.specs.Kept.{Kept};
 ghost use Rattle.ucon_store.specs.Opening.{HasReason};
+ghost use Rattle.ucon_store.specs.Pointing.{IsFoundPointed, IsSameStore, IsUnpointed};
+ghost use Rattle.ucon_store.specs.Points.{IsOld, SamePlaces, checkpoint, has_points, point_places};
 ghost use Rattle.ucon_store.specs.Stays.{Stays};
 ghost use Rattle.ucon_store.specs.Steps.{IsPlaced, HasFailed};
 
-use crate::fault::{StepFault, StoreFault};
+use crate::fault::{PointRefusal, StepFault, StoreFault};
 use crate::loading::Loaded;
 use crate::opening::load;
 use crate::placed::Placed;
+use crate::points::prepare_point;
 use crate::recording::{prepare, record};
 use std::alloc::Global;
 use std::marker::Model;
 use ucon_base::{Rows, Steps};
 use ucon_disk::Disk;
-use ucon_journal::Journal;
+use ucon_journal::{Journal, MAX_PAYLOAD};
 use ucon_model::{
     Caller, Command, Entry, SessionState, payloads_are_found_one_by_one, revocations_are_few,
 };
@@ -77,6 +81,9 @@ impl<E: Engine, D: Disk> Store<E, D> {
         ensures holds { IfOk result (λ s. IfSome (D.contents s.disk) (λ file. IsFoundAs policy.now file s.entries)) }
         ensures recorded { IfOk result (λ s. (P : PlainPolicy) → accepted policy.now ≡ Some P
             → IfSome (D.contents s.disk) (Holds policy.now P s.entries)) }
+        ensures places { IfOk result (λ s. SamePlaces (D.contents disk) (D.contents s.disk)) }
+        ensures old { IfOk result (λ s. (before now : List ℕ) → D.contents disk ≡ Some before → D.contents s.disk ≡ Some now
+            → has_points now ≡ false → IsOld before) }
         ensures tells { IfOk result (λ s. is_some (D.contents s.disk) ≡ is_some (D.contents disk)) }
         ensures unfailed { IfOk result (λ s. D.faults s.disk ≡ D.faults disk) }
         ensures reason { IfErr result (λ e. HasReason e.1 policy.now (D.contents disk) (D.faults disk) (D.faults e.0)) }
@@ -93,6 +100,7 @@ impl<E: Engine, D: Disk> Store<E, D> {
                     policy,
                     engine,
                     entries,
+                    records: _,
                     payload,
                 } = loaded;
                 Ok(Store {
@@ -176,6 +184,73 @@ impl<E: Engine, D: Disk> Store<E, D> {
             place: self.entries.len() as u64,
             reply: drafted.reply,
         })
+    }
+
+    /// Puts a checkpoint behind all entries, and gives the store back with their number, or as it was with why not. It takes all memory before
+    /// its first call of the disk. A disk fault ends the store and hands the disk back; whether the checkpoint is in the file shows at the next
+    /// opening.
+    pub fn point(self, alloc: Global) -> Result<(Store<E, D>, Result<u64, PointRefusal>), D>
+        ensures stopped { IfOk result (λ r. IsErrOf r.1 PointRefusal.Stopped ↔ IsSome self.mark) }
+        ensures same { IfOk result (λ r. IfErr r.1 (λ _. r.0 ≡ self)) }
+        ensures why { IfOk result (λ r. IfErr r.1 (λ refusal. (P : PlainPolicy) → accepted self.policy ≡ Some P
+            → IsUnpointed D.contents P self refusal)) }
+        ensures pointed { IfOk result (λ r. IfOk r.1 (λ entries. IsSameStore self r.0 × (entries ≡ length self.entries) × (self.mark ≡ None))) }
+        ensures added { IfOk result (λ r. OnOk r.1 ((before file : List ℕ) → D.contents self.disk ≡ Some before
+            → D.contents r.0.disk ≡ Some file
+            → (has_points before ≡ true) × (point_places file ≡ point_places before ++ length self.entries ∷ []))) }
+        ensures fits { IfOk result (λ r. OnOk r.1 ((P : PlainPolicy) → accepted self.policy ≡ Some P
+            → length (checkpoint self.policy P self.entries) ≤ MAX_PAYLOAD)) }
+        ensures inside { IfOk result (λ r. OnOk r.1 ((file : List ℕ) → D.contents self.disk ≡ Some file
+            → LeavesOnly D.moment D.images_since self.disk r.0.disk (IsFoundPointed self.policy self.entries (point_places file)))) }
+        ensures at_rest { IfOk result (λ r. OnOk r.1 (Only (D.contents r.0.disk) (D.images r.0.disk))) }
+        ensures holds { IfOk result (λ r. OnOk r.1 (IfSome (D.contents r.0.disk) (λ file. IsFoundAs self.policy file self.entries))) }
+        ensures stays { IfOk result (λ r. OnOk r.1 (Stays D.contents D.images D.moment D.images_since D.faults self r.0)) }
+        ensures failed { IfErr result (λ disk. (self.mark ≡ None) × (D.faults disk ≡ raised (D.faults self.disk))) }
+        ensures inside_err { IfErr result (λ disk. (file : List ℕ) → D.contents self.disk ≡ Some file
+            → LeavesOnly D.moment D.images_since self.disk disk (IsFoundPointed self.policy self.entries (point_places file))) }
+    {
+        payloads_are_found_one_by_one();
+        if self.mark.is_some() {
+            return Ok((self, Err(PointRefusal::Stopped)));
+        }
+        let Store {
+            engine,
+            mut journal,
+            policy,
+            opening,
+            entries,
+            mark,
+            payload,
+        } = self;
+        let text = match prepare_point(alloc, &mut journal, &policy, &entries, &engine) {
+            Ok(text) => text,
+            Err(refusal) => {
+                let same = Store {
+                    engine,
+                    journal,
+                    policy,
+                    opening,
+                    entries,
+                    mark,
+                    payload,
+                };
+                return Ok((same, Err(refusal)));
+            }
+        };
+        if journal.append(&text).is_err() {
+            return Err(journal.close());
+        }
+        let count = entries.len() as u64;
+        let store = Store {
+            engine,
+            journal,
+            policy,
+            opening,
+            entries,
+            mark,
+            payload,
+        };
+        Ok((store, Ok(count)))
     }
 
     /// The entry of the step that met a disk fault. None where no step did.

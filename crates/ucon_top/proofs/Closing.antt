@@ -30,6 +30,8 @@ of_run (outcomes.Damaged number place) text stopped before now failed fails w = 
 of_run outcomes.NotJournal text stopped before now failed fails w = w
 of_run (outcomes.OtherPolicy place) text stopped before now failed fails w = w
 of_run outcomes.TooLong text stopped before now failed fails w = w
+of_run (outcomes.FullPoint size) text stopped before now failed fails w = w
+of_run outcomes.OldJournal text stopped before now failed fails w = w
 
 module _ {D : Type 0} (sees : Caller → Caller → Bool) (P : PlainPolicy) (store closed : Kept D) (lines : List Entry) (text : Bytes) (stopped : Bool) (before now : Option Bytes) (failed fails : ℕ)
     (answers : AreAnswered sees P store closed lines (HaveOutput (λ out. out ≡ text) lines)) (is_stopped : is_some closed.mark ≡ stopped) where
@@ -49,3 +51,5 @@ module _ {D : Type 0} (sees : Caller → Caller → Bool) (P : PlainPolicy) (sto
   ends_so outcomes.NotJournal w = absurd w
   ends_so (outcomes.OtherPolicy place) w = absurd w
   ends_so outcomes.TooLong w = absurd w
+  ends_so (outcomes.FullPoint size) w = absurd w
+  ends_so outcomes.OldJournal w = absurd w

@@ -17,6 +17,7 @@ use Rattle.ucon_top.specs.Accepted.{IsAccepted, IsRefusedBy}
 use Rattle.ucon_top.specs.Complete.{IsComplete, IsOwnJournal, IsUnhindered}
 use Rattle.ucon_top.specs.Ending.{IsOfDocument, IsOfPrinting, IsUnrefused, MayEnd}
 use Rattle.ucon_top.specs.Played.{HasPlayed}
+use Rattle.ucon_top.specs.Pointed.{HasPointed}
 use Rattle.ucon_top.specs.Printed.{document_of}
 use Rattle.ucon_top.specs.Unread.{IsUnread}
 
@@ -56,6 +57,7 @@ not_long forms.Trial input bytes may is accepted long = too_much (length bytes) 
 not_long forms.Check input bytes may is accepted long = too_much (length bytes) accepted.short (subst (λ (o : Option Bytes). IfSome o (λ b. 4194304 < length b)) is long)
 not_long forms.Play input bytes may is accepted long = too_much (length bytes) accepted.short (subst (λ (o : Option Bytes). IfSome o (λ b. 4194304 < length b)) is long)
 not_long forms.Serve input bytes may is accepted long = too_much (length bytes) accepted.short (subst (λ (o : Option Bytes). IfSome o (λ b. 4194304 < length b)) is long)
+not_long forms.Point input bytes may is accepted long = too_much (length bytes) accepted.short (subst (λ (o : Option Bytes). IfSome o (λ b. 4194304 < length b)) is long)
 not_long (forms.Gen seed size) input bytes may is accepted long = may
 
 -- ---- by how the run ended
@@ -85,6 +87,8 @@ module _ (contents : Option Bytes) (source source' sink sink' disk disk' : ℕ) 
       by_outcome (outcomes.Damaged number place) bytes h m is u = absurd h
       by_outcome outcomes.NotJournal bytes h m is u = absurd h
       by_outcome (outcomes.OtherPolicy place) bytes h m is u = absurd h
+      by_outcome (outcomes.FullPoint size) bytes h m is u = absurd h
+      by_outcome outcomes.OldJournal bytes h m is u = absurd h
 
       over : (o : Option Bytes) → document_of form input ≡ o → IfSome o (Completes form outcome)
       over None is = tt
@@ -111,6 +115,8 @@ module _ (contents : Option Bytes) (source source' sink sink' disk disk' : ℕ) 
   printed_complete form outcomes.NotJournal bytes unrefused refused ends sink u = absurd ends
   printed_complete form (outcomes.OtherPolicy place) bytes unrefused refused ends sink u = absurd ends
   printed_complete form outcomes.TooLong bytes unrefused refused ends sink u = absurd ends
+  printed_complete form (outcomes.FullPoint size) bytes unrefused refused ends sink u = absurd ends
+  printed_complete form outcomes.OldJournal bytes unrefused refused ends sink u = absurd ends
 
 -- nor anything but these and its journal one over a journal
 module _ {D : Type 0} (contents : D → Option (List ℕ)) (images : D → List ℕ → Type 0) (moment : D → ℕ) (images_since : D → ℕ → List ℕ → Type 0) (faults : D → ℕ)
@@ -134,3 +140,28 @@ module _ {D : Type 0} (contents : D → Option (List ℕ)) (images : D → List 
   played_complete outcomes.Usage unrefused refused ends sink disk played own u = absurd ends
   played_complete outcomes.SourceFault unrefused refused ends sink disk played own u = absurd ends
   played_complete outcomes.TooLong unrefused refused ends sink disk played own u = absurd ends
+  played_complete (outcomes.FullPoint size) unrefused refused ends sink disk played own u = tt
+  played_complete outcomes.OldJournal unrefused refused ends sink disk played own u = tt
+
+  -- the same of a checkpoint
+  pub pointed_complete : (outcome : Outcome) → (IsAccepted bytes → IsRefusedBy outcome bytes → IsUnrefused outcome) → IsRefusedBy outcome bytes → IsOfDocument outcome
+      → (outcome ≡ outcomes.SinkFault → Rose sink sink') → (outcome ≡ outcomes.DiskFault → faults new ≡ raised (faults old))
+      → HasPointed contents images moment images_since faults held outcome bytes old new was written
+      → (IsUnhindered form bytes (contents old) source source' sink sink' (faults old) (faults new) → IsOwnJournal (policy_part bytes) (contents old))
+      → Completes (contents old) source source' sink sink' (faults old) (faults new) form outcome bytes
+  pointed_complete outcomes.Done unrefused refused ends sink disk pointed own u = tt
+  pointed_complete (outcomes.NoMemory e) unrefused refused ends sink disk pointed own u = tt
+  pointed_complete (outcomes.FullPoint size) unrefused refused ends sink disk pointed own u = tt
+  pointed_complete outcomes.OldJournal unrefused refused ends sink disk pointed own u = tt
+  pointed_complete (outcomes.Policy f) unrefused refused ends sink disk pointed own u = absurd (unrefused u.accepted refused)
+  pointed_complete (outcomes.Script f) unrefused refused ends sink disk pointed own u = absurd (unrefused u.accepted refused)
+  pointed_complete outcomes.SinkFault unrefused refused ends sink disk pointed own u = absurd (u.sink_works (sink refl))
+  pointed_complete outcomes.DiskFault unrefused refused ends sink disk pointed own u = absurd (u.disk_works (rose (faults old) (faults new) (disk refl)))
+  pointed_complete (outcomes.Damaged number place) unrefused refused ends sink disk pointed own u =
+      absurd (not_damaged (policy_part bytes) (contents old) (own u) number place pointed.reason.0)
+  pointed_complete outcomes.NotJournal unrefused refused ends sink disk pointed own u = absurd (not_foreign (policy_part bytes) (contents old) (own u) pointed.reason.0)
+  pointed_complete (outcomes.OtherPolicy place) unrefused refused ends sink disk pointed own u =
+      absurd (not_others (policy_part bytes) (contents old) (own u) place pointed.reason.0)
+  pointed_complete outcomes.Usage unrefused refused ends sink disk pointed own u = absurd ends
+  pointed_complete outcomes.SourceFault unrefused refused ends sink disk pointed own u = absurd ends
+  pointed_complete outcomes.TooLong unrefused refused ends sink disk pointed own u = absurd ends

@@ -11,3 +11,4 @@ pub mod Stepwise
 pub mod Parted
 pub mod Out
 pub mod Playing
+pub mod Pointing

@@ -10,7 +10,7 @@ use Rattle.ucon_flow.specs.Causes.{raised}
 use Rattle.ucon_flow.specs.Writing.{AppendsPrefix}
 use Rattle.ucon_model.specs.Plain.{Bytes}
 use Rattle.ucon_top.specs.declared.outcome.Outcome.{Outcome}
-use Rattle.ucon_top.specs.declared.outcome.Outcome.TheVariants.{Done, Usage, Policy, Script, SourceFault, SinkFault, DiskFault, Damaged, NotJournal, NoMemory, OtherPolicy, TooLong}
+use Rattle.ucon_top.specs.declared.outcome.Outcome.TheVariants.{Done, Usage, Policy, Script, SourceFault, SinkFault, DiskFault, Damaged, NotJournal, NoMemory, OtherPolicy, TooLong, FullPoint, OldJournal}
 use Rattle.ucon_top.specs.FaultWords.{cause_words, fault_line, fault_words}
 use Rattle.ucon_top.specs.Out.{GoesOut}
 
@@ -52,3 +52,5 @@ its_line NotJournal done = refl
 its_line (OtherPolicy place) done = refl
 its_line (NoMemory e) done = refl
 its_line TooLong done = refl
+its_line (FullPoint size) done = refl
+its_line OldJournal done = refl

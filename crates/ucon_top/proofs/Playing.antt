@@ -145,6 +145,8 @@ module _ {D : Type 0} (contents : D → Option (List ℕ)) (images : D → List 
     ends closed closes outcomes.NotJournal e = absurd e
     ends closed closes (outcomes.OtherPolicy place) e = absurd e
     ends closed closes outcomes.TooLong e = absurd e
+    ends closed closes (outcomes.FullPoint size) e = absurd e
+    ends closed closes outcomes.OldJournal e = absurd e
 
     pub ends_run : (outcome : Outcome) → IsClosedRun contents images moment images_since faults (sees_by form) P store (output_order form (entries_of lines)) outcome now (held was) (held written)
         → HasPlayed contents images moment images_since faults held form outcome bytes disk now was written
@@ -179,6 +181,8 @@ module _ {D : Type 0} (contents : D → Option (List ℕ)) (images : D → List 
       by_outcome (outcomes.Damaged number place) bytes u = absurd u
       by_outcome outcomes.NotJournal bytes u = absurd u
       by_outcome (outcomes.OtherPolicy place) bytes u = absurd u
+      by_outcome (outcomes.FullPoint size) bytes u = absurd u
+      by_outcome outcomes.OldJournal bytes u = absurd u
 
       over_input : (o : Option Bytes) → ((bytes : Bytes) → HasPlayed contents images moment images_since faults held form outcome bytes disk disk was was)
           → HasPlayedInput contents images moment images_since faults held form outcome o disk disk was was

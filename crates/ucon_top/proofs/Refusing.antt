@@ -11,7 +11,6 @@ use Rattle.ucon_syntax.specs.declared.read.SyntaxFault.{SyntaxFault}
 use Rattle.ucon_syntax.specs.declared.read.SyntaxFault.TheVariants as syntax
 use Rattle.ucon_check.specs.Told.{told}
 use Rattle.ucon_check.specs.declared.fault.CheckFault.{CheckFault}
-use Rattle.ucon_check.specs.declared.fault.CheckFault.TheVariants as checks
 use Rattle.ucon_command.specs.declared.line_fault.LineFault.{LineFault}
 use Rattle.ucon_command.specs.declared.line_fault.LineFault.TheVariants as lines
 use Rattle.ucon_script.specs.Document.{IsLineCause}
@@ -48,13 +47,7 @@ type_refused laws bytes f is fault =
 
 policy_refused : HaveOneReading → (bytes : Bytes) (f : PolicyFault) → IsAccepted bytes → IsPolicyFault f bytes → ⊥
 policy_refused laws bytes (Syntax f) is h = syntax_refused laws (policy_part bytes) is.policy is.has_policy.spelled f h
-policy_refused laws bytes (Typing (checks.Twice name n)) is h = type_refused laws bytes _ is h
-policy_refused laws bytes (Typing (checks.NoName name n)) is h = type_refused laws bytes _ is h
-policy_refused laws bytes (Typing (checks.WrongReader n)) is h = type_refused laws bytes _ is h
-policy_refused laws bytes (Typing (checks.WrongKind n)) is h = type_refused laws bytes _ is h
-policy_refused laws bytes (Typing (checks.NotCore right)) is h = type_refused laws bytes _ is h
-policy_refused laws bytes (Typing (checks.TooManyCells right n)) is h = type_refused laws bytes _ is h
-policy_refused laws bytes (Typing (checks.NoMemory e)) is h = h
+policy_refused laws bytes (Typing f) is h = type_refused laws bytes f is h
 
 line_refused : (read : Result (List ScriptLine) DocumentRefusal) (lines : List ScriptLine) (n : ℕ) (f : LineFault) → read ≡ Ok lines → IsLineCause n read f → ⊥
 line_refused read ls n (lines.TooLong k) e h = cc
@@ -84,3 +77,5 @@ never_refused laws bytes outcomes.NotJournal is h = tt
 never_refused laws bytes (outcomes.NoMemory e) is h = tt
 never_refused laws bytes (outcomes.OtherPolicy place) is h = tt
 never_refused laws bytes outcomes.TooLong is h = tt
+never_refused laws bytes (outcomes.FullPoint size) is h = tt
+never_refused laws bytes outcomes.OldJournal is h = tt

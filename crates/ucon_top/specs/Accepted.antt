@@ -8,7 +8,6 @@ use Rattle.ucon_syntax.specs.Policies.{accepted}
 use Rattle.ucon_syntax.specs.Refusals.{IsSyntaxFault}
 use Rattle.ucon_check.specs.Told.{told}
 use Rattle.ucon_check.specs.declared.fault.CheckFault.{CheckFault}
-use Rattle.ucon_check.specs.declared.fault.CheckFault.TheVariants as checks
 use Rattle.ucon_script.specs.Document.{IsCause}
 use Rattle.ucon_script.specs.declared.doc_fault.DocFault.{DocFault}
 use Rattle.ucon_script.specs.declared.doc_fault.DocFault.TheVariants as faults
@@ -46,7 +45,6 @@ pub record HasTypeFault (bytes : Bytes) (fault : CheckFault) : Type 0 where
 -- the policy part is refused so
 abbrev pub IsPolicyFault : PolicyFault → Bytes → Type 0
 IsPolicyFault (Syntax f) bytes = IsSyntaxFault (policy_part bytes) f
-IsPolicyFault (Typing (checks.NoMemory e)) bytes = ⊥
 IsPolicyFault (Typing f) bytes = HasTypeFault bytes f
 
 -- the policy is accepted, and the script is refused so

@@ -6,9 +6,9 @@ use Rattle.ucon_model.specs.History.{History}
 use Rattle.ucon_model.specs.Plain.{Bytes}
 use Rattle.ucon_store.specs.Found.{IsFoundAs}
 use Rattle.ucon_top.specs.declared.form.Form.{Form}
-use Rattle.ucon_top.specs.declared.form.Form.TheVariants.{Play, Serve}
+use Rattle.ucon_top.specs.declared.form.Form.TheVariants.{Play, Serve, Point}
 use Rattle.ucon_top.specs.declared.outcome.Outcome.{Outcome}
-use Rattle.ucon_top.specs.declared.outcome.Outcome.TheVariants.{Done, NoMemory}
+use Rattle.ucon_top.specs.declared.outcome.Outcome.TheVariants.{Done, NoMemory, FullPoint, OldJournal}
 use Rattle.ucon_top.specs.Accepted.{IsAccepted}
 
 -- the disk tells its file, which is fresh or a journal under the policy of this text
@@ -22,6 +22,7 @@ pub record IsOwnJournal (text : Bytes) (contents : Option Bytes) : Type 0 where
 abbrev pub FindsItsJournal : Form → Bytes → Option Bytes → Type 0
 FindsItsJournal Play bytes contents = IsOwnJournal (policy_part bytes) contents
 FindsItsJournal Serve bytes contents = IsOwnJournal (policy_part bytes) contents
+FindsItsJournal Point bytes contents = IsOwnJournal (policy_part bytes) contents
 FindsItsJournal form bytes contents = Unit {0}
 
 -- Nothing hinders a run of a form over these bytes: they are an accepted document, the journal, as the disk tells it, is fresh or the
@@ -33,8 +34,11 @@ pub record IsUnhindered (form : Form) (bytes : Bytes) (contents : Option Bytes) 
   pub sink_works : ¬ Rose sink sink'
   pub disk_works : ¬ Rose disk disk'
 
--- all lines were answered and the output is whole, or there was no memory
+-- all lines were answered, or the checkpoint is written, and the output is whole; or there was no memory; or no checkpoint could be written
+-- of this history, or in this journal
 abbrev pub IsComplete : Outcome → Type 0
 IsComplete Done = Unit {0}
 IsComplete (NoMemory e) = Unit {0}
+IsComplete (FullPoint size) = Unit {0}
+IsComplete OldJournal = Unit {0}
 IsComplete outcome = ⊥

@@ -1,19 +1,20 @@
 -- How a run ends.
 use Rattle.std.specs.Prelude.{ℕ}
 use Rattle.ucon_top.specs.declared.outcome.Outcome.{Outcome}
-use Rattle.ucon_top.specs.declared.outcome.Outcome.TheVariants.{Done, Usage, Policy, Script, SourceFault, SinkFault, DiskFault, Damaged, NotJournal, NoMemory, OtherPolicy, TooLong}
+use Rattle.ucon_top.specs.declared.outcome.Outcome.TheVariants.{Done, Usage, Policy, Script, SourceFault, SinkFault, DiskFault, Damaged, NotJournal, NoMemory, OtherPolicy, TooLong, FullPoint, OldJournal}
 use Rattle.ucon_flow.specs.declared.source.ReadFault.{ReadFault}
 use Rattle.ucon_flow.specs.declared.source.ReadFault.TheVariants as reads
 use Rattle.ucon_syntax.specs.declared.read.SyntaxFault.{SyntaxFault}
 use Rattle.ucon_syntax.specs.declared.read.SyntaxFault.TheVariants as syntax
 use Rattle.ucon_check.specs.declared.fault.CheckFault.{CheckFault}
-use Rattle.ucon_check.specs.declared.fault.CheckFault.TheVariants as checks
 use Rattle.ucon_script.specs.declared.doc_fault.DocFault.{DocFault}
 use Rattle.ucon_script.specs.declared.doc_fault.DocFault.TheVariants as scripts
+use Rattle.ucon_store.specs.declared.fault.PointRefusal.{PointRefusal}
+use Rattle.ucon_store.specs.declared.fault.PointRefusal.TheVariants as points
 use Rattle.ucon_store.specs.declared.fault.StoreFault.{StoreFault}
 use Rattle.ucon_store.specs.declared.fault.StoreFault.TheVariants as stores
 use Rattle.ucon_top.specs.declared.form.Form.{Form}
-use Rattle.ucon_top.specs.declared.form.Form.TheVariants.{Trial, Check, Gen, Play, Serve}
+use Rattle.ucon_top.specs.declared.form.Form.TheVariants.{Trial, Check, Gen, Play, Serve, Point}
 use Rattle.ucon_top.specs.declared.outcome.PolicyFault.TheVariants.{Syntax, Typing}
 use Rattle.ucon_top.specs.declared.outcome.Refused.{Refused}
 use Rattle.ucon_top.specs.declared.outcome.Refused.TheVariants as refusals
@@ -32,6 +33,8 @@ status_of NotJournal = 8
 status_of (NoMemory e) = 9
 status_of (OtherPolicy place) = 10
 status_of TooLong = 11
+status_of (FullPoint size) = 13
+status_of OldJournal = 14
 
 -- what refuses a document whose policy part has this fault, whose policy has this one, or whose script has this one
 abbrev pub by_syntax : SyntaxFault → Refused
@@ -39,7 +42,6 @@ by_syntax (syntax.NoMemory e) = refusals.NoMemory e
 by_syntax f = refusals.Policy (Syntax f)
 
 abbrev pub by_typing : CheckFault → Refused
-by_typing (checks.NoMemory e) = refusals.NoMemory e
 by_typing f = refusals.Policy (Typing f)
 
 abbrev pub by_script : DocFault → Refused
@@ -66,6 +68,13 @@ by_opening (stores.OtherPolicy place) = OtherPolicy place
 by_opening stores.DiskFault = DiskFault
 by_opening (stores.NoMemory e) = NoMemory e
 
+-- how a run ends whose checkpoint was refused; a store that was just opened isn't stopped, and what stops one is its disk
+abbrev pub by_refusal : PointRefusal → Outcome
+by_refusal points.Stopped = DiskFault
+by_refusal points.OldJournal = OldJournal
+by_refusal (points.TooLarge size) = FullPoint size
+by_refusal (points.NoMemory e) = NoMemory e
+
 -- how a run ends that had its document
 abbrev pub IsOfDocument : Outcome → Type 0
 IsOfDocument Usage = ⊥
@@ -90,6 +99,8 @@ IsOfAccepted DiskFault = Unit {0}
 IsOfAccepted (Damaged number place) = Unit {0}
 IsOfAccepted NotJournal = Unit {0}
 IsOfAccepted (OtherPolicy place) = Unit {0}
+IsOfAccepted (FullPoint size) = Unit {0}
+IsOfAccepted OldJournal = Unit {0}
 IsOfAccepted outcome = ⊥
 
 -- how a run ends that wrote nothing
@@ -114,18 +125,28 @@ IsUnrefused (Policy f) = ⊥
 IsUnrefused (Script f) = ⊥
 IsUnrefused outcome = Unit {0}
 
+-- how a run ends that no checkpoint ended
+abbrev pub IsOffPoint : Outcome → Type 0
+IsOffPoint (FullPoint size) = ⊥
+IsOffPoint OldJournal = ⊥
+IsOffPoint outcome = Unit {0}
+
 -- how a run ends that nothing of a disk ended
 abbrev pub IsOffDisk : Outcome → Type 0
 IsOffDisk DiskFault = ⊥
 IsOffDisk (Damaged number place) = ⊥
 IsOffDisk NotJournal = ⊥
 IsOffDisk (OtherPolicy place) = ⊥
+IsOffDisk (FullPoint size) = ⊥
+IsOffDisk OldJournal = ⊥
 IsOffDisk outcome = Unit {0}
 
--- how each form may end: those without a journal by nothing of a disk, and `gen`, which reads nothing, by nothing of the input either
+-- how each form may end: those without a journal by nothing of a disk, `gen`, which reads nothing, by nothing of the input either, and those
+-- that write no checkpoint by nothing of one
 abbrev pub MayEnd : Form → Outcome → Type 0
 MayEnd Trial outcome = IsOffDisk outcome
 MayEnd Check outcome = IsOffDisk outcome
 MayEnd (Gen seed size) outcome = IsOfPrinting outcome
-MayEnd Play outcome = Unit {0}
-MayEnd Serve outcome = Unit {0}
+MayEnd Play outcome = IsOffPoint outcome
+MayEnd Serve outcome = IsOffPoint outcome
+MayEnd Point outcome = Unit {0}

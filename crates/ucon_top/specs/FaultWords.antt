@@ -13,9 +13,9 @@ use Rattle.ucon_script.specs.declared.doc_fault.DocFault.TheVariants as scripts
 use Rattle.ucon_top.specs.declared.outcome.PolicyFault.{PolicyFault}
 use Rattle.ucon_top.specs.declared.outcome.PolicyFault.TheVariants.{Syntax, Typing}
 use Rattle.ucon_top.specs.declared.outcome.Outcome.{Outcome}
-use Rattle.ucon_top.specs.declared.outcome.Outcome.TheVariants.{Done, Usage, Policy, Script, SourceFault, SinkFault, DiskFault, Damaged, NotJournal, NoMemory, OtherPolicy, TooLong}
+use Rattle.ucon_top.specs.declared.outcome.Outcome.TheVariants.{Done, Usage, Policy, Script, SourceFault, SinkFault, DiskFault, Damaged, NotJournal, NoMemory, OtherPolicy, TooLong, FullPoint, OldJournal}
 
--- words, and the place, item or line where
+-- words, and the place, item or line where, or how many
 abbrev pub told_at : Bytes → ℕ → Bytes
 told_at words n = words ++ decimal n
 
@@ -34,7 +34,6 @@ typing_words (typing.WrongReader item) = told_at (codes "wrong reader at item ")
 typing_words (typing.WrongKind item) = told_at (codes "wrong kind at item ") item
 typing_words (typing.NotCore right) = codes "not core " ++ right
 typing_words (typing.TooManyCells right count) = codes "too many cells " ++ right ++ 32 ∷ decimal count
-typing_words (typing.NoMemory e) = codes "no memory"
 
 abbrev pub policy_words : PolicyFault → Bytes
 policy_words (Syntax f) = syntax_words f
@@ -68,6 +67,8 @@ cause_words NotJournal = codes "not a journal"
 cause_words (OtherPolicy place) = told_at (codes "other policy at ") place
 cause_words (NoMemory e) = codes "no memory"
 cause_words TooLong = codes "input too long"
+cause_words (FullPoint size) = told_at (codes "point too large ") size
+cause_words OldJournal = codes "old journal"
 
 -- a line behind the program's name
 abbrev pub fault_line : Bytes → Bytes

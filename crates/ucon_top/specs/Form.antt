@@ -8,7 +8,7 @@ use Rattle.ucon_model.specs.LegalRun.{in_text_order, own_answers}
 use Rattle.ucon_client.specs.Dividing.{by_client}
 use Rattle.ucon_model.specs.Plain.{Bytes}
 use Rattle.ucon_top.specs.declared.form.Form.{Form}
-use Rattle.ucon_top.specs.declared.form.Form.TheVariants.{Trial, Check, Gen, Play, Serve}
+use Rattle.ucon_top.specs.declared.form.Form.TheVariants.{Trial, Check, Gen, Play, Serve, Point}
 
 -- the form that is one word
 abbrev pub word_form : Bytes → Option Form
@@ -26,11 +26,12 @@ size_of n = if nat_le 1 n && nat_le n 100000 then Some n else None
 abbrev pub gen_form : Bytes → Bytes → Option Form
 gen_form seed size = option_and_then (λ s. option_and_then (λ n. Some (Gen s n)) (option_and_then size_of (number_spelled size))) (option_and_then seed_of (number_spelled seed))
 
--- `play` and `serve` with the journal's path
+-- `play`, `serve` and `point` with the journal's path
 abbrev pub journal_form : (word path : Bytes) → Option Form
 journal_form word [] = None
 journal_form word (b ∷ path) =
-    if bytes_eq word (codes "play") then Some Play else if bytes_eq word (codes "serve") then Some Serve else None
+    if bytes_eq word (codes "play") then Some Play else if bytes_eq word (codes "serve") then Some Serve
+    else if bytes_eq word (codes "point") then Some Point else None
 
 -- the form that these words are
 abbrev pub form_of : List Bytes → Option Form
@@ -46,6 +47,7 @@ HasSize Check = Unit {0}
 HasSize (Gen seed size) = size ≤ 100000
 HasSize Play = Unit {0}
 HasSize Serve = Unit {0}
+HasSize Point = Unit {0}
 
 -- the form runs its document over a journal
 abbrev pub HasJournal : Form → Type 0
@@ -57,6 +59,7 @@ HasJournal form = ⊥
 abbrev pub IsAlone : Form → Type 0
 IsAlone Play = ⊥
 IsAlone Serve = ⊥
+IsAlone Point = ⊥
 IsAlone form = Unit {0}
 
 -- whether a form is asked for that runs each client in a thread of its own

@@ -6,6 +6,8 @@ pub mod FaultWords
 pub mod Form
 pub mod Out
 pub mod Played
+pub mod Pointed
+pub mod PointEnding
 pub mod Printed
 pub mod Stepping
 pub mod Unread

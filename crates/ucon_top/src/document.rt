@@ -50,7 +50,7 @@ fn read_checked(alloc: Global, bytes: &[u8]) -> Result<Checked, Refused>
     ensures err { IfErr result (λ r. IsRefused r bytes.now) }
 {
     let policy = read_policy(alloc, policy_part(bytes))?;
-    let checked = check(alloc, policy)?;
+    let checked = check(policy)?;
     Ok(checked)
 }
 
@@ -80,6 +80,6 @@ fn form_output<E: Engine>(
         Form::Trial => trial_output::<E>(alloc, checked, script),
         Form::Check => models_text(alloc, &checked),
         Form::Gen { seed: _, size: _ } => trial_summary::<E>(alloc, checked, script),
-        Form::Play | Form::Serve => unreachable!(),
+        Form::Play | Form::Serve | Form::Point => unreachable!(),
     }
 }

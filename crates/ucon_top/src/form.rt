@@ -19,6 +19,8 @@ pub enum Form {
     Play,
     /// `serve JOURNAL`: runs the document over a journal, each client in a thread of its own.
     Serve,
+    /// `point JOURNAL`: runs no line of the document, and writes a checkpoint of a journal's state.
+    Point,
 }
 
 /// The most lines of a generated document, behind its opening ones.
@@ -79,6 +81,8 @@ fn journal_form(word: &[u8], path: &[u8]) -> Option<Form>
         Some(Form::Play)
     } else if word == b"serve".as_slice() {
         Some(Form::Serve)
+    } else if word == b"point".as_slice() {
+        Some(Form::Point)
     } else {
         None
     }

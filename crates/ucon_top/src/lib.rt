@@ -8,6 +8,7 @@ mod line_answer;
 mod outcome;
 mod parts_text;
 mod play;
+mod point;
 mod printing;
 mod reporting;
 mod serve;

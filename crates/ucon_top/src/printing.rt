@@ -4,6 +4,7 @@ ghost use Rattle.std.specs.Prelude.{◌≡◌, ◌++◌, codes};
 ghost use Rattle.std.specs.Fmt.{decimal};
 ghost use Rattle.ucon_top.specs.FaultWords.{told_at, syntax_words, typing_words, policy_words, line_words, script_words, cause_words, fault_line, fault_words};
 ghost use Rattle.ucon_top.specs.Out.{GoesOut};
+ghost use Rattle.ucon_top.specs.Pointed.{point_line};
 
 use crate::outcome::{Outcome, PolicyFault};
 use itoa::Buffer;
@@ -50,7 +51,17 @@ fn put_cause<W: Sink>(out: &mut W, outcome: &Outcome) -> Result<(), SinkFault>
         Outcome::OtherPolicy(place) => put_at(out, b"other policy at ", *place),
         Outcome::NoMemory(_) => put(out, b"no memory"),
         Outcome::TooLong => put(out, b"input too long"),
+        Outcome::FullPoint(size) => put_at(out, b"point too large ", *size),
+        Outcome::OldJournal => put(out, b"old journal"),
     }
+}
+
+/// Writes the line that tells how many entries stand before a checkpoint.
+pub(crate) fn put_point_line<W: Sink>(out: &mut W, entries: u64) -> Result<(), SinkFault>
+    ensures { GoesOut (W.contents out.old) (W.contents out.new) (W.faults out.old) (W.faults out.new) result (point_line entries) }
+{
+    put_at(out, b"point ", entries)?;
+    put(out, b"\n")
 }
 
 fn put_damaged<W: Sink>(out: &mut W, number: u64, place: u64) -> Result<(), SinkFault>
@@ -103,7 +114,6 @@ fn put_typing<W: Sink>(out: &mut W, fault: &CheckFault) -> Result<(), SinkFault>
         CheckFault::TooManyCells(right, count) => {
             put_counted(out, b"too many cells ", right, *count as u64)
         }
-        CheckFault::NoMemory(_) => put(out, b"no memory"),
     }
 }
 
@@ -163,7 +173,7 @@ fn put_name<W: Sink>(out: &mut W, words: &[u8], name: &Name) -> Result<(), SinkF
     put(out, name.bytes())
 }
 
-/// Writes words and the number of a place, an item or a line.
+/// Writes words and the number of a place, an item or a line, or of bytes.
 fn put_at<W: Sink>(out: &mut W, words: &[u8], n: u64) -> Result<(), SinkFault>
     ensures { GoesOut (W.contents out.old) (W.contents out.new) (W.faults out.old) (W.faults out.new) result (told_at words.now n) }
 {

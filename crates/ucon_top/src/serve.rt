@@ -13,7 +13,7 @@ ghost use Rattle.ucon_client.specs.Answers.{IsAnswered, told_in};
 ghost use Rattle.ucon_client.specs.Dividing.{by_client};
 ghost use Rattle.ucon_top.specs.Accepted.{IsAccepted, IsRefusedBy};
 ghost use Rattle.ucon_top.specs.Closing.{IsClosedRun, IsOfRun};
-ghost use Rattle.ucon_top.specs.Ending.{IsOfAccepted, IsOfDocument, IsUntouched, IsUnwritten, status_of};
+ghost use Rattle.ucon_top.specs.Ending.{IsOfAccepted, IsOfDocument, IsUntouched, IsUnwritten, MayEnd, status_of};
 ghost use Rattle.ucon_trial.specs.OneAnswer.{entry_of};
 ghost use Rattle.ucon_top.specs.Played.{HasPlayed};
 ghost use Rattle.ucon_top.specs.Stepping.{IsRunBetween};
@@ -48,6 +48,7 @@ pub fn serve<E: Engine + Send, K: Sink, D: Disk + Send, G: Gate + Sync, R: Threa
     requires { length bytes.now ≤ 4194304 }
     ensures status { result.status ≡ status_of result.outcome }
     ensures of_document { IsOfDocument result.outcome }
+    ensures form { MayEnd Form.Serve result.outcome }
     ensures refused { IsRefusedBy result.outcome bytes.now }
     ensures accepted { IsOfAccepted result.outcome → IsAccepted bytes.now }
     ensures sink { result.outcome ≡ Outcome.SinkFault → Rose (K.faults out.old) (K.faults out.new) }

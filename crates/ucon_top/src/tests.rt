@@ -5,6 +5,7 @@ mod serving;
 
 use super::*;
 use std::alloc::Global;
+use std::process::Abort;
 use std::sync::Wait;
 use std::test::Fail;
 use std::thread::Threads;
@@ -14,7 +15,8 @@ use ucon_flow::{MemSink, MemSource};
 use ucon_script::{generate, read_script};
 use ucon_vectors::{
     CAPPED, Example, Played, Row, Words, amended_rows, generated_rows, guide_examples,
-    language_examples, played_rows, timed_rows, typing_faults, well_typed_policies, worked_rows,
+    language_examples, played_rows, pointed_rows, timed_rows, typing_faults, well_typed_policies,
+    worked_rows,
 };
 
 fn words(alloc: Global, all: &[&str]) -> Result<Vec<String>, Fail> {
@@ -331,16 +333,17 @@ fn a_generated_document(rt: HostRuntime) -> Result<(), Fail> {
     Ok(())
 }
 
-/// How `play` ends over a document, a disk and a sink, and what it writes.
+/// How `play` or `point` ends over a document, a disk and a sink, and what it writes.
 fn played<R: Threads + Wait + Sync>(
     rt: &R,
     alloc: Global,
+    form: &str,
     document: &[u8],
     disk: MemDisk,
     mut sink: MemSink,
 ) -> Result<(Ended<MemDisk>, Vec<u8>), Fail> {
     let mut source = MemSource::new(Vec::from_slice(alloc, document)?, 7, Vec::new(alloc));
-    let all = words(alloc, &["play", "j"])?;
+    let all = words(alloc, &[form, "j"])?;
     let ended = run(rt, alloc, &all, &mut source, &mut sink, disk, &OpenGate);
     Ok((ended, Vec::from_slice(alloc, sink.bytes())?))
 }
@@ -354,7 +357,7 @@ fn kept<R: Threads + Wait + Sync>(
 ) -> Result<(u8, Vec<u8>, Vec<u8>), Fail> {
     let disk = MemDisk::new(alloc, file, Vec::new(alloc), None);
     let sink = MemSink::new(alloc, 3, Vec::new(alloc));
-    let (ended, output) = played(rt, alloc, document, disk, sink)?;
+    let (ended, output) = played(rt, alloc, "play", document, disk, sink)?;
     let left = Vec::from_slice(alloc, ended.disk.contents())?;
     Ok((ended.status, output, left))
 }
@@ -381,12 +384,30 @@ fn amended_rows_are_found_again(rt: HostRuntime) -> Result<(), Fail> {
 #[test]
 fn journals_hold_what_was_acknowledged(rt: HostRuntime) -> Result<(), Fail> {
     for row in played_rows() {
-        let agrees = play_row(&rt, rt.alloc(), &row)?;
-        assert!(rt; agrees.status, "the status of {}", row.name);
-        assert!(rt; agrees.output, "what {} writes", row.name);
-        assert!(rt; agrees.told, "what {} tells", row.name);
-        assert!(rt; agrees.left, "what {} leaves", row.name);
+        hold_row(&rt, rt.alloc(), &row)?;
     }
+    Ok(())
+}
+
+/// Checkpoints that are written to a journal, and documents that are played over a journal that has some.
+#[test]
+fn journals_hold_their_checkpoints(rt: HostRuntime) -> Result<(), Fail> {
+    for row in pointed_rows() {
+        hold_row(&rt, rt.alloc(), &row)?;
+    }
+    Ok(())
+}
+
+fn hold_row<R: Abort + Threads + Wait + Sync>(
+    rt: &R,
+    alloc: Global,
+    row: &Played,
+) -> Result<(), Fail> {
+    let agrees = play_row(rt, alloc, row)?;
+    assert!(rt; agrees.status, "the status of {}", row.name);
+    assert!(rt; agrees.output, "what {} writes", row.name);
+    assert!(rt; agrees.told, "what {} tells", row.name);
+    assert!(rt; agrees.left, "what {} leaves", row.name);
     Ok(())
 }
 
@@ -403,7 +424,7 @@ fn play_row<R: Threads + Wait + Sync>(rt: &R, alloc: Global, row: &Played) -> Re
     let file = Vec::from_slice(alloc, row.file)?;
     let disk = MemDisk::new(alloc, file, numbers(alloc, row.disk_faults)?, None);
     let sink = MemSink::new(alloc, 1, numbers(alloc, row.sink_faults)?);
-    let (ended, output) = played(rt, alloc, row.document, disk, sink)?;
+    let (ended, output) = played(rt, alloc, row.form, row.document, disk, sink)?;
     let told = fault_text(alloc, &ended.outcome)?;
     Ok(Agrees {
         status: ended.status == row.status,

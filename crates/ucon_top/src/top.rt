@@ -10,6 +10,7 @@ ghost use Rattle.ucon_top.specs.Ending.{status_of, IsOfAccepted, IsOfPrinting, I
 ghost use Rattle.ucon_top.specs.Form.{form_of, HasSize, IsAlone, HasJournal, asks_for_threads};
 ghost use Rattle.ucon_top.specs.Unread.{IsUnread};
 ghost use Rattle.ucon_top.specs.Played.{HasPlayedInput};
+ghost use Rattle.ucon_top.specs.Pointed.{HasPointedInput};
 ghost use Rattle.ucon_top.specs.Printed.{Adds, IsOutputOf, IsCutOutputOf, ReadsInput, document_of};
 
 use crate::document::output_of;
@@ -17,6 +18,7 @@ use crate::form::{Form, asks_for_threads, read_form};
 use crate::laws::accepted_documents_are_not_refused;
 use crate::outcome::{Ended, Outcome};
 use crate::play::play;
+use crate::point::point;
 use crate::serve::serve;
 use std::alloc::Global;
 use std::sync::Wait;
@@ -83,6 +85,13 @@ pub fn run<S: Source, K: Sink, D: Disk + Send, G: Gate + Sync, R: Threads + Wait
     ensures played { IfSome (form_of (map (λ w. string_bytes w) words.now)) (λ form. HasJournal form
         → HasPlayedInput D.contents D.images D.moment D.images_since D.faults K.contents form result.outcome (S.left input.old) disk result.disk
         out.old out.new) }
+
+    // Of `point`, by how it ended: the bytes written are the line with the number of entries, and a crash since leaves a file that is found as
+    // the history as which the journal was found, and as the call ends one with the checkpoint more; or no checkpoint was written, for this
+    // reason, or the journal wasn't opened.
+    ensures pointed { form_of (map (λ w. string_bytes w) words.now) ≡ Some Form.Point
+        → HasPointedInput D.contents D.images D.moment D.images_since D.faults K.contents result.outcome (S.left input.old) disk result.disk
+        out.old out.new }
     ensures fault { result.outcome ≡ Outcome.DiskFault → D.faults result.disk ≡ raised (D.faults disk) }
 
     // No other form makes a call of the disk, nor do these before their document is accepted: where that is refused, or too long, the disk is
@@ -92,7 +101,8 @@ pub fn run<S: Source, K: Sink, D: Disk + Send, G: Gate + Sync, R: Threads + Wait
         IfSome (document_of form (S.left input.old)) (λ bytes. (result.disk ≡ disk) ⊎ IsAccepted bytes)) }
     ensures alone { IfSome (form_of (map (λ w. string_bytes w) words.now)) (λ form. IsAlone form → result.disk ≡ disk) }
 
-    // Where nothing hinders the run, the lines were answered and the output is whole, or there was no memory.
+    // Where nothing hinders the run, the lines were answered, or the checkpoint is written, and the output is whole; or there was no memory, or
+    // for `point` one of its two causes.
     ensures complete { IfSome (form_of (map (λ w. string_bytes w) words.now)) (λ form.
         IfSome (document_of form (S.left input.old)) (λ bytes.
         IsUnhindered form bytes (D.contents disk) (S.faults input.old) (S.faults input.new) (K.faults out.old) (K.faults out.new)
@@ -109,6 +119,7 @@ pub fn run<S: Source, K: Sink, D: Disk + Send, G: Gate + Sync, R: Threads + Wait
 /// `trial` runs the document that the input is, from the empty history, in the order of its lines, and writes one answer a line.
 /// `check` writes the core models of each right of the document's policy. `gen` makes a document, runs it as `trial` does and writes the
 /// summary; it reads nothing. `play` runs the document over the journal on the disk, and writes one answer a line when all are answered.
+/// `point` runs no line, writes a checkpoint of the journal on the disk, and then a line with the number of its entries.
 #[tactic(auto, using(crate::proofs::Adding::adds_document))]
 pub fn run_alone<S: Source, K: Sink, D: Disk>(
     alloc: Global,
@@ -159,16 +170,24 @@ pub fn run_alone<S: Source, K: Sink, D: Disk>(
     ensures played { IfSome (form_of (map (λ w. string_bytes w) words.now)) (λ form. HasJournal form
         → HasPlayedInput D.contents D.images D.moment D.images_since D.faults K.contents form result.outcome (S.left input.old) disk result.disk
         out.old out.new) }
+
+    // Of `point`, by how it ended: the bytes written are the line with the number of entries, and a crash since leaves a file that is found as
+    // the history as which the journal was found, and as the call ends one with the checkpoint more; or no checkpoint was written, for this
+    // reason, or the journal wasn't opened.
+    ensures pointed { form_of (map (λ w. string_bytes w) words.now) ≡ Some Form.Point
+        → HasPointedInput D.contents D.images D.moment D.images_since D.faults K.contents result.outcome (S.left input.old) disk result.disk
+        out.old out.new }
     ensures fault { result.outcome ≡ Outcome.DiskFault → D.faults result.disk ≡ raised (D.faults disk) }
 
-    // No other form makes a call of the disk, nor does `play` before its document is accepted: where that is refused, or too long, the disk is
+    // No other form makes a call of the disk, nor do these before their document is accepted: where that is refused, or too long, the disk is
     // as it was, whatever the outcome.
     ensures untouched { IsUntouched result.outcome → result.disk ≡ disk }
     ensures unaccepted { IfSome (form_of (map (λ w. string_bytes w) words.now)) (λ form.
         IfSome (document_of form (S.left input.old)) (λ bytes. (result.disk ≡ disk) ⊎ IsAccepted bytes)) }
     ensures alone { IfSome (form_of (map (λ w. string_bytes w) words.now)) (λ form. IsAlone form → result.disk ≡ disk) }
 
-    // Where nothing hinders the run, the lines were answered and the output is whole, or there was no memory.
+    // Where nothing hinders the run, the lines were answered, or the checkpoint is written, and the output is whole; or there was no memory, or
+    // for `point` one of its two causes.
     ensures complete { IfSome (form_of (map (λ w. string_bytes w) words.now)) (λ form.
         IfSome (document_of form (S.left input.old)) (λ bytes.
         IsUnhindered form bytes (D.contents disk) (S.faults input.old) (S.faults input.new) (K.faults out.old) (K.faults out.new)
@@ -184,6 +203,7 @@ pub fn run_alone<S: Source, K: Sink, D: Disk>(
     };
     match form {
         Form::Play => play::<Monitor, K, D>(alloc, &bytes, out, disk),
+        Form::Point => point::<Monitor, K, D>(alloc, &bytes, out, disk),
         Form::Trial | Form::Check | Form::Gen { seed: _, size: _ } => {
             Ended::by(print_output(alloc, form, &bytes, out), disk)
         }
@@ -224,6 +244,7 @@ fn serve_input<S: Source, K: Sink, D: Disk + Send, G: Gate + Sync, R: Threads + 
 ) -> Ended<D>
     ensures status { result.status ≡ status_of result.outcome }
     ensures usage { result.outcome ≢ Outcome.Usage }
+    ensures form { MayEnd Form.Serve result.outcome }
     ensures source { result.outcome ≡ Outcome.SourceFault → Rose (S.faults input.old) (S.faults input.new) }
     ensures too_long { result.outcome ≡ Outcome.TooLong → IfSome (S.left input.old) (λ bytes. 4194304 < length bytes) }
     ensures refused { IfSome (S.left input.old) (IsRefusedBy result.outcome) }
@@ -260,7 +281,9 @@ fn document_bytes<S: Source>(alloc: Global, form: Form, input: &mut S) -> Result
     ensures unread { (ReadsInput form → ⊥) → input.new ≡ input.old }
 {
     match form {
-        Form::Trial | Form::Check | Form::Play | Form::Serve => Ok(read_all(alloc, input, LIMIT)?),
+        Form::Trial | Form::Check | Form::Play | Form::Serve | Form::Point => {
+            Ok(read_all(alloc, input, LIMIT)?)
+        }
         Form::Gen { seed, size } => Ok(generate(alloc, seed, size)?),
     }
 }

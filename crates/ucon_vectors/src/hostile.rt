@@ -268,6 +268,7 @@ const fn opened(
 ) -> Played {
     Played {
         name,
+        form: "play",
         file,
         document: policy,
         disk_faults: &[],

@@ -1,10 +1,12 @@
-//! Documents that are played over a journal, and what its file holds then.
+//! Documents that are played over a journal or a checkpoint of which is written, and what its file holds then.
 
-/// A document that is played over a file, with the calls of the disk and of the sink that fail, by their numbers from 0; what the program ends
+/// A document that is played over a file, or under which a checkpoint is written to it, with the calls of the disk and of the sink that fail, by their numbers from 0; what the program ends
 /// with, writes and tells; and the file behind it.
 #[derive(Clone, Copy, Debug)]
 pub struct Played {
     pub name: &'static str,
+    /// `play` or `point`.
+    pub form: &'static str,
     pub file: &'static [u8],
     pub document: &'static [u8],
     pub disk_faults: &'static [u64],
@@ -18,6 +20,25 @@ pub struct Played {
 /// One record behind the policy: client 0's `subject a`.
 pub const WITH_A: &[u8] =
     b"UCONJR02\x01\x00\x00\x00\x0bright r {}\n\x01\x00\x00\x00\x0e0 subject a\nok\x00";
+
+/// The same with a checkpoint behind the record.
+pub const WITH_A_AND_POINT: &[u8] =
+    b"UCONJR02\x01\x00\x00\x00\x0bright r {}\n\x01\x00\x00\x00\x0e0 subject a\nok\x01\x00\x00\x00\x2fpoint 1\npolicy 11\nright r {}\n\ntick 0\nsubject a\n\x00";
+/// With two checkpoints.
+const WITH_A_AND_TWO_POINTS: &[u8] =
+    b"UCONJR02\x01\x00\x00\x00\x0bright r {}\n\x01\x00\x00\x00\x0e0 subject a\nok\x01\x00\x00\x00\x2fpoint 1\npolicy 11\nright r {}\n\ntick 0\nsubject a\n\x01\x00\x00\x00\x2fpoint 1\npolicy 11\nright r {}\n\ntick 0\nsubject a\n\x00";
+/// With a step behind the checkpoint.
+const WITH_A_AND_POINT_AND_B: &[u8] =
+    b"UCONJR02\x01\x00\x00\x00\x0bright r {}\n\x01\x00\x00\x00\x0e0 subject a\nok\x01\x00\x00\x00\x2fpoint 1\npolicy 11\nright r {}\n\ntick 0\nsubject a\n\x01\x00\x00\x00\x0e0 subject b\nok\x00";
+/// The gate of the checkpoint is closed still, so that it doesn't count.
+const WITH_A_THEN_POINT: &[u8] =
+    b"UCONJR02\x01\x00\x00\x00\x0bright r {}\n\x01\x00\x00\x00\x0e0 subject a\nok\x00\x00\x00\x00\x2fpoint 1\npolicy 11\nright r {}\n\ntick 0\nsubject a\n\x00";
+/// The checkpoint has another subject than the record.
+const WRONG_SUBJECT: &[u8] =
+    b"UCONJR02\x01\x00\x00\x00\x0bright r {}\n\x01\x00\x00\x00\x0e0 subject a\nok\x01\x00\x00\x00\x2fpoint 1\npolicy 11\nright r {}\n\ntick 0\nsubject A\n\x00";
+/// The checkpoint tells another number of entries.
+const WRONG_NUMBER: &[u8] =
+    b"UCONJR02\x01\x00\x00\x00\x0bright r {}\n\x01\x00\x00\x00\x0e0 subject a\nok\x01\x00\x00\x00\x2fpoint 2\npolicy 11\nright r {}\n\ntick 0\nsubject a\n\x00";
 
 const WITH_B: &[u8] =
     b"UCONJR02\x01\x00\x00\x00\x0bright r {}\n\x01\x00\x00\x00\x0e0 subject b\nok\x00";
@@ -44,6 +65,10 @@ const WRONG_CALLER: &[u8] =
 
 const MADE: &[u8] = b"UCONJR02\x01\x00\x00\x00\x0bright r {}\n\x00";
 
+/// A checkpoint before the first entry.
+const POINTED: &[u8] =
+    b"UCONJR02\x01\x00\x00\x00\x0bright r {}\n\x01\x00\x00\x00\x25point 0\npolicy 11\nright r {}\n\ntick 0\n\x00";
+
 const FOREIGN: &[u8] = b"0123456789";
 
 const NO_LINES: &[u8] = b"right r {}\n";
@@ -69,6 +94,7 @@ const fn whole(
 ) -> Played {
     Played {
         name,
+        form: "play",
         file,
         document,
         disk_faults: &[],
@@ -90,6 +116,7 @@ const fn unopened(
 ) -> Played {
     Played {
         name,
+        form: "play",
         file,
         document,
         disk_faults: &[],
@@ -110,6 +137,7 @@ const fn stopped(
 ) -> Played {
     Played {
         name,
+        form: "play",
         file: WITH_A,
         document: SUBJECTS_B_AND_C,
         disk_faults,
@@ -196,6 +224,149 @@ pub fn played_rows() -> [Played; 16] {
             &[15],
             b"0 - disk fault\n0 - stopped\n",
             WITH_A_AND_B,
+        ),
+    ]
+}
+
+/// A checkpoint that is written.
+const fn pointed(
+    name: &'static str,
+    file: &'static [u8],
+    document: &'static [u8],
+    output: &'static [u8],
+    left: &'static [u8],
+) -> Played {
+    Played {
+        form: "point",
+        ..whole(name, file, document, output, left)
+    }
+}
+
+/// A checkpoint that isn't written, over a file that stays as it is.
+const fn unpointed(
+    name: &'static str,
+    file: &'static [u8],
+    document: &'static [u8],
+    status: u8,
+    told: &'static [u8],
+) -> Played {
+    Played {
+        form: "point",
+        ..unopened(name, file, document, status, told)
+    }
+}
+
+/// A checkpoint of a journal of one record, on a disk of which a call fails.
+const fn half_pointed(
+    name: &'static str,
+    disk_faults: &'static [u64],
+    left: &'static [u8],
+) -> Played {
+    Played {
+        form: "point",
+        document: NO_LINES,
+        ..stopped(name, disk_faults, b"", left)
+    }
+}
+
+/// A checkpoint stands behind all entries, changes no place and no reply, and has to be the one of the entries before it.
+pub fn pointed_rows() -> [Played; 18] {
+    [
+        pointed(
+            "a checkpoint behind one entry",
+            WITH_A,
+            NO_LINES,
+            b"point 1\n",
+            WITH_A_AND_POINT,
+        ),
+        pointed(
+            "lines that are not run",
+            WITH_A,
+            SUBJECT_B,
+            b"point 1\n",
+            WITH_A_AND_POINT,
+        ),
+        pointed(
+            "a second checkpoint",
+            WITH_A_AND_POINT,
+            NO_LINES,
+            b"point 1\n",
+            WITH_A_AND_TWO_POINTS,
+        ),
+        pointed("a first journal", b"", NO_LINES, b"point 0\n", POINTED),
+        unpointed(
+            "version 1",
+            OLD_WITH_A,
+            NO_LINES,
+            14,
+            b"ucon: old journal\n",
+        ),
+        unpointed("ten bytes", FOREIGN, NO_LINES, 8, b"ucon: not a journal\n"),
+        unpointed(
+            "another policy",
+            WITH_A,
+            OTHER_POLICY,
+            10,
+            b"ucon: other policy at 6\n",
+        ),
+        unpointed(
+            "a refused policy",
+            WITH_A,
+            b"right r {",
+            2,
+            b"ucon: policy: unexpected at 9\n",
+        ),
+        unpointed(
+            "a refused line",
+            WITH_A,
+            b"right r {}\n%%\nclient 0\nsubject\n",
+            3,
+            b"ucon: script: wrong count at line 4\n",
+        ),
+        Played {
+            sink_faults: &[2],
+            status: 5,
+            output: b"po",
+            told: b"ucon: sink fault\n",
+            ..pointed("a failing sink", WITH_A, NO_LINES, b"", WITH_A_AND_POINT)
+        },
+        half_pointed("a failing read at the opening", &[3], WITH_A),
+        half_pointed("a failing sync before the gate", &[13], WITH_A_THEN_POINT),
+        half_pointed("a failing sync behind the gate", &[15], WITH_A_AND_POINT),
+        whole(
+            "what is there, with a checkpoint",
+            WITH_A_AND_POINT,
+            SUBJECT_A,
+            b"0 1 already there\n",
+            WITH_A_AND_POINT,
+        ),
+        whole(
+            "a step behind a checkpoint",
+            WITH_A_AND_POINT,
+            SUBJECT_B,
+            b"0 2 ok\n",
+            WITH_A_AND_POINT_AND_B,
+        ),
+        whole(
+            "a checkpoint whose gate is closed",
+            WITH_A_THEN_POINT,
+            SUBJECT_A,
+            b"0 1 already there\n",
+            WITH_A,
+        ),
+        unopened(
+            "a checkpoint of another state",
+            WRONG_SUBJECT,
+            SUBJECT_A,
+            7,
+            b"ucon: damaged record 2 at 43\n",
+        ),
+        unopened(
+            "a checkpoint of another number of entries",
+            WRONG_NUMBER,
+            SUBJECT_A,
+            7,
+            b"ucon: damaged record 2 at 43\n",
         ),
     ]
 }

@@ -17,7 +17,9 @@ pub use clients::{Meeting, two_clients};
 pub use generated::{Words, generated_rows};
 pub use guide::guide_examples;
 pub use hostile::{Limit, Repeated, WITHOUT_ENTRIES, hostile_documents, hostile_journals};
-pub use journals::{LOOKING, Played, SUBJECTS_B_AND_C, WITH_A, played_rows};
+pub use journals::{
+    LOOKING, Played, SUBJECTS_B_AND_C, WITH_A, WITH_A_AND_POINT, played_rows, pointed_rows,
+};
 pub use language::language_examples;
 pub use timed::timed_rows;
 pub use typing::{typing_faults, well_typed_policies};

@@ -10,7 +10,7 @@ use std::test::Fail;
 use std::thread::Threads;
 use ucon_client::OpenGate;
 use ucon_disk::MemDisk;
-use ucon_vectors::{CAPPED, LOOKING, SUBJECTS_B_AND_C, WITH_A, played_rows};
+use ucon_vectors::{CAPPED, LOOKING, SUBJECTS_B_AND_C, WITH_A, WITH_A_AND_POINT, played_rows};
 
 /// A disk that holds this file, and stops after so many calls.
 fn stopping(alloc: Global, file: &[u8], calls: Option<u64>) -> Result<MemDisk, Fail> {
@@ -53,13 +53,14 @@ fn may_be_found(before: u64, output: &[u8]) -> Result<(u64, u64), Fail> {
 fn hold_images<R: Abort + Threads + Wait + Sync>(
     rt: &R,
     alloc: Global,
+    form: &str,
     file: &[u8],
     document: &[u8],
     calls: u64,
 ) -> Result<(), Fail> {
     let before = entries_found(rt, alloc, file)?;
     let disk = stopping(alloc, file, Some(calls))?;
-    let (_, output, disk) = over(rt, alloc, "play", document, disk, &OpenGate)?;
+    let (_, output, disk) = over(rt, alloc, form, document, disk, &OpenGate)?;
     let (least, most) = may_be_found(before, &output)?;
     for fill in [0u8, 1, 255] {
         let mut fills = Vec::new(alloc);
@@ -81,11 +82,22 @@ fn hold_images<R: Abort + Threads + Wait + Sync>(
 #[test]
 fn crashes_leave_what_was_answered(rt: HostRuntime) -> Result<(), Fail> {
     for calls in 0..32u64 {
-        hold_images(&rt, rt.alloc(), WITH_A, SUBJECTS_B_AND_C, calls)?;
+        hold_images(&rt, rt.alloc(), "play", WITH_A, SUBJECTS_B_AND_C, calls)?;
         for row in played_rows() {
             if row.status == 0 {
-                hold_images(&rt, rt.alloc(), row.file, row.document, calls)?;
+                hold_images(&rt, rt.alloc(), row.form, row.file, row.document, calls)?;
             }
+        }
+    }
+    Ok(())
+}
+
+/// A checkpoint under way changes nothing of what is found.
+#[test]
+fn crashes_of_a_checkpoint_leave_the_history(rt: HostRuntime) -> Result<(), Fail> {
+    for calls in 0..32u64 {
+        for file in [WITH_A, WITH_A_AND_POINT] {
+            hold_images(&rt, rt.alloc(), "point", file, LOOKING, calls)?;
         }
     }
     Ok(())

@@ -1,9 +1,9 @@
-//! The indexed monitor beside the plain one, a step that is undone and drafted again, and a run in which nobody is touched.
+//! The indexed monitor beside the plain one, a step that is undone and drafted again, and runs in which few are touched or nobody.
 
 use super::serving::over;
 use crate::document::output_of;
 use crate::{Form, Outcome};
-use std::alloc::Global;
+use std::alloc::{AllocError, Global};
 use std::test::Fail;
 use ucon_base::{NoMemory, Steps};
 use ucon_cascade::Monitor;
@@ -116,22 +116,22 @@ const READERS: &[u8] = b"attr s k : int 0..1 = 0;
 right w { on a t: s.k = 0; }
 ";
 
-/// 60,000 usages of one subject, and 100,000 writes to another's attribute: a step, what is answered, and what its record holds.
+/// Steps of one client: their document, what is answered, and the journal of them.
 #[derive(Drop)]
-struct Readers {
+struct Dialogue {
     document: Vec<u8>,
     output: Vec<u8>,
     file: Vec<u8>,
 }
 
-impl Readers {
-    /// None is written yet.
-    fn new(alloc: Global) -> Result<Readers, Fail> {
-        let mut document = Vec::from_slice(alloc, READERS)?;
+impl Dialogue {
+    /// No step yet.
+    fn new(alloc: Global, policy: &[u8]) -> Result<Dialogue, Fail> {
+        let mut document = Vec::from_slice(alloc, policy)?;
         document.extend_from_slice(b"%%\nclient 0\n")?;
         let mut file = Vec::from_slice(alloc, b"UCONJR02")?;
-        put_record(&mut file, READERS)?;
-        Ok(Readers {
+        put_record(&mut file, policy)?;
+        Ok(Dialogue {
             document,
             output: Vec::new(alloc),
             file,
@@ -158,8 +158,9 @@ fn put_record(file: &mut Vec<u8>, payload: &[u8]) -> Result<(), Fail> {
     Ok(())
 }
 
-fn many_readers(alloc: Global) -> Result<Readers, Fail> {
-    let mut readers = Readers::new(alloc)?;
+/// 60,000 usages of one subject, and 100,000 writes to another's attribute.
+fn many_readers(alloc: Global) -> Result<Dialogue, Fail> {
+    let mut readers = Dialogue::new(alloc, READERS)?;
     readers.put(alloc, "subject a", 1, "ok")?;
     readers.put(alloc, "subject b", 2, "ok")?;
     readers.put(alloc, "object x", 3, "ok")?;
@@ -190,5 +191,96 @@ fn who_is_not_touched_is_not_asked(rt: HostRuntime) -> Result<(), Fail> {
         assert_eq!(rt; outcome.status(), 0, "{form}");
         assert_eq!(rt; output.as_slice(), b"0 160004 ok\n".as_slice(), "{form}");
     }
+    Ok(())
+}
+
+/// Answers no step that asks more than one session: it is undone, as if there were no memory for it.
+#[derive(Drop)]
+struct Sparing<E: Engine> {
+    engine: E,
+}
+
+impl<E: Engine> Engine for Sparing<E> {
+    ghost follows = { λ e. E.follows e.engine };
+
+    ghost has_pending = { λ e. E.has_pending e.engine };
+
+    fn begin(alloc: Global, checked: Checked) -> Result<Sparing<E>, NoMemory> {
+        let engine = E::begin(alloc, checked)?;
+        Ok(Sparing { engine })
+    }
+
+    fn draft(
+        &mut self,
+        caller: Caller,
+        command: &Command,
+        _steps: &mut Steps,
+    ) -> Result<Drafted, NoMemory> {
+        let mut asked = Steps::new();
+        let drafted = self.engine.draft(caller, command, &mut asked)?;
+        if asked.count() <= 1 {
+            return Ok(drafted);
+        }
+        if drafted.changes {
+            self.engine.undo();
+        }
+        Err(NoMemory::from(AllocError))
+    }
+
+    fn keep(&mut self) {
+        self.engine.keep();
+    }
+
+    fn undo(&mut self) {
+        self.engine.undo();
+    }
+
+    fn status(&self, session: u32) -> Option<SessionState> {
+        self.engine.status(session)
+    }
+
+    fn state(&self) -> &State {
+        self.engine.state()
+    }
+
+    fn into_state(self) -> State {
+        self.engine.into_state()
+    }
+
+    fn restore(alloc: Global, state: State) -> Result<Sparing<E>, RestoreFault> {
+        let engine = E::restore(alloc, state)?;
+        Ok(Sparing { engine })
+    }
+}
+
+/// A usage may last 10 ticks.
+const TIMED: &[u8] = b"right w { on c t: lasts 10; }\n";
+
+/// 1,000 usages: one from tick 0 on, and 999 from tick 5 on.
+fn many_timed(alloc: Global) -> Result<Dialogue, Fail> {
+    let mut timed = Dialogue::new(alloc, TIMED)?;
+    timed.put(alloc, "subject a", 1, "ok")?;
+    timed.put(alloc, "object x", 2, "ok")?;
+    timed.put(alloc, "try a w x", 3, "permitted 1")?;
+    timed.put(alloc, "tick 5", 4, "ok")?;
+    for n in 2..1_001u32 {
+        let reply = format!(in alloc; "permitted {n}")?;
+        timed.put(alloc, "try a w x", n + 3, reply.as_str())?;
+    }
+    Ok(timed)
+}
+
+/// A tick asks those whose limit it passes, and nobody else.
+#[test]
+fn a_tick_asks_who_is_due(rt: HostRuntime) -> Result<(), Fail> {
+    let alloc = rt.alloc();
+    let mut timed = many_timed(alloc)?;
+    timed.put(alloc, "tick 11", 1_004, "ok revoked 1 t")?;
+    timed.put(alloc, "tick 15", 1_005, "ok")?;
+    // Here all the others are due, so this step asks more than one.
+    timed.document.extend_from_slice(b"tick 16\n")?;
+    timed.output.extend_from_slice(b"0 - no memory\n")?;
+    let found = printed_by::<Sparing<Monitor>>(alloc, &timed.document)?;
+    assert!(rt; found == timed.output);
     Ok(())
 }

@@ -1,11 +1,16 @@
-use Rattle.std.proofs.Common.{◌≡◌, ◌*◌, ◌≤◌, [], length, refl, sym, ◌∙◌, subst, arith}
-use Rattle.ucon_journal.specs.Journal.{disk_of, gate_of, payload_of}
+use Rattle.std.proofs.Common.{◌≡◌, ℕ, [], length, refl, sym, ap, ◌∙◌, subst, arith}
+use Rattle.std.specs.Prelude.{IfSome, Option}
+use Rattle.ucon_journal.specs.Journal.{disk_of, gate_of, payload_of, version_of}
 use Rattle.ucon_journal.specs.Opened.{shut_at}
 use Rattle.ucon_model.specs.History.{History}
+use Rattle.ucon_model.specs.Plain.{Bytes}
 use Rattle.ucon_store.proofs.Begun.{holds_found}
 use Rattle.ucon_store.proofs.Differences.{no_difference}
-use Rattle.ucon_store.proofs.Openings.{loads_first, holds_mended, holds_moved}
+use Rattle.ucon_store.specs.Points.{SameKind, SamePlaces, points_of}
+use Rattle.ucon_store.proofs.Versions.{closed_kind, ended_kind}
+use Rattle.ucon_store.proofs.Openings.{loads_first, holds_mended, holds_moved, IsOfKind}
 use Rattle.ucon_store.proofs.Runs.{read_opens, then_opens, mend_opens}
+use Rattle.ucon_store.proofs.SamePlaces.{same_kind, same_told}
 use Rattle.ucon_store.proofs.opening.go_on.Goals as goal
 
 pub take_all-requires-clause-loading : goal.take_all-requires-clause-loading
@@ -17,10 +22,12 @@ take_all-requires-clause-loading g c =
     let standing = c.in_ok-loaded.ensures.standing in
     let same : loaded.policy.items ≡ text = c.in_ok-loaded.ensures.policy ∙ c.payload.ensures in
     let none : loaded.entries.items ≡ [] = c.in_ok-loaded.ensures.entries in
+    let one : loaded.records ≡ 1 = c.in_ok-loaded.ensures.records in
     record {
       standing = standing;
-      few = subst (λ (l : History). 5 * length l ≤ gate) (sym none) (omega arith);
-      says = loads_first o text loaded.policy.items standing.P loaded.entries.items gate c.requires.says c.requires.short same standing.accepts c.requires.gate none;
+      entries = omega (arith, ap (λ (l : History). length l) none, one);
+      few = omega (arith, one, c.requires.gate);
+      says = loads_first o text loaded.policy.items standing.P loaded.entries.items loaded.records gate c.requires.says c.requires.short same standing.accepts c.requires.gate none one;
     }
 
 pub returns-in-Some-clause-images : goal.returns-in-Some-clause-images
@@ -77,5 +84,24 @@ returns-clause-loaded g c =
       standing = held.standing;
       few = omega (arith, held.few, c.mend.ensures.gate);
       holds = holds_mended c.take_all.new.self.policy.items held.standing.P c.take_all.new.self.entries.items (shut_at (gate_of c.take_all.new.journal))
-          (g.D.Disk.contents (disk_of c.take_all.new.journal)) (g.D.Disk.contents (disk_of c.mend.new.self)) c.in_ok-mend.ensures.bytes c.in_ok-mend.ensures.same held.holds;
+          (g.D.Disk.contents (disk_of c.take_all.new.journal)) (g.D.Disk.contents (disk_of c.mend.new.self)) (points_of (version_of c.take_all.new.journal))
+          c.in_ok-mend.ensures.bytes c.in_ok-mend.ensures.same (ended_kind g.D.Disk.contents c.take_all.new.journal c.in_ok-take_all.ensures.ended)
+          (subst (λ (v : ℕ). IfSome (g.D.Disk.contents (disk_of c.mend.new.self)) (IsOfKind (points_of v))) c.mend.ensures.version
+          (closed_kind g.D.Disk.contents c.mend.new.self c.in_ok-mend.ensures.closed)) held.holds;
     }
+
+pub returns-clause-places : goal.returns-clause-places
+returns-clause-places g c =
+    let contents = g.D.Disk.contents in
+    subst (λ (o : Option Bytes). SamePlaces o (contents (disk_of c.mend.new.self))) c.take_all.ensures.contents
+    (same_told (contents (disk_of c.take_all.new.journal)) (contents (disk_of c.mend.new.self)) (points_of (version_of c.take_all.new.journal)) c.in_ok-mend.ensures.same
+    (ended_kind contents c.take_all.new.journal c.in_ok-take_all.ensures.ended)
+    (subst (λ (v : ℕ). IfSome (contents (disk_of c.mend.new.self)) (IsOfKind (points_of v))) c.mend.ensures.version (closed_kind contents c.mend.new.self c.in_ok-mend.ensures.closed)))
+
+pub returns-clause-kind : goal.returns-clause-kind
+returns-clause-kind g c =
+    let contents = g.D.Disk.contents in
+    subst (λ (o : Option Bytes). SameKind o (contents (disk_of c.mend.new.self))) c.take_all.ensures.contents
+    (same_kind (contents (disk_of c.take_all.new.journal)) (contents (disk_of c.mend.new.self)) (points_of (version_of c.take_all.new.journal))
+    (ended_kind contents c.take_all.new.journal c.in_ok-take_all.ensures.ended)
+    (subst (λ (v : ℕ). IfSome (contents (disk_of c.mend.new.self)) (IsOfKind (points_of v))) c.mend.ensures.version (closed_kind contents c.mend.new.self c.in_ok-mend.ensures.closed)))

@@ -9,6 +9,7 @@ use Rattle.ucon_store.specs.Found.{found}
 use Rattle.ucon_journal.specs.declared.fault.TakeFault.TheVariants as taking
 use Rattle.ucon_store.specs.declared.fault.StoreFault.{StoreFault}
 use Rattle.ucon_store.specs.Opening.{HasReason}
+use Rattle.ucon_store.proofs.Finding.{takes_of}
 use Rattle.ucon_store.proofs.Openings.{says_all, says_long_policy, more_told}
 use Rattle.ucon_store.proofs.Runs.{then_opens}
 use Rattle.ucon_store.proofs.Taking.{taking_reason}
@@ -21,7 +22,7 @@ go_on-requires-clause-says g c =
     let next = gate_of c.next.new.self in
     let payload = payload_of c.next.new.self in
     let more = more_told o (λ file. payloads_from file gate ≡ payload ∷ payloads_from file next) (λ file. payloads_from file gate ≡ []) c.in-Ok-true.field-0 c.in-Ok-true.field-0-test c.in-Ok-true.ensures.taken in
-    subst (λ (x : Option Bytes). IfSome x (λ file. found file ≡ found_in accepted (payload ∷ payloads_from file next))) (sym c.in-Ok-true.ensures.contents)
+    subst (λ (x : Option Bytes). IfSome x (λ file. found file ≡ found_in accepted (takes_of file) (payload ∷ payloads_from file next))) (sym c.in-Ok-true.ensures.contents)
     (says_all o payload gate next c.requires.first c.requires.journal more)
 
 pub returns-in-Err-clause-reason : goal.returns-in-Err-clause-reason

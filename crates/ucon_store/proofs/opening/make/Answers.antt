@@ -1,12 +1,15 @@
-use Rattle.std.proofs.Common.{◌≡◌, ◌*◌, ◌≤◌, [], length, refl, sym, ap, ◌∙◌, subst, arith}
-use Rattle.std.specs.Prelude.{option_map}
+use Rattle.std.proofs.Common.{◌≡◌, ℕ, ◌*◌, ◌≤◌, [], length, refl, sym, ap, ◌∙◌, subst, arith}
+use Rattle.std.specs.Prelude.{option_map, IfSome}
 use Rattle.ucon_disk.specs.Run.{LeavesAfter}
-use Rattle.ucon_journal.specs.Journal.{disk_of, gate_of, told_payloads}
+use Rattle.ucon_journal.specs.Journal.{disk_of, gate_of, told_payloads, version_of}
 use Rattle.ucon_journal.specs.Opened.{shut_at, with_payload, SamePayloads}
 use Rattle.ucon_model.specs.History.{History}
 use Rattle.ucon_syntax.specs.Policies.{accepted}
-use Rattle.ucon_store.proofs.Openings.{holds_made, holds_moved, none_found}
+use Rattle.ucon_store.proofs.Openings.{IsOfKind, holds_made, holds_moved, none_found}
 use Rattle.ucon_store.proofs.Runs.{mend_fresh_opens, make_opens}
+use Rattle.ucon_store.proofs.SamePlaces.{made_places, same_kind}
+use Rattle.ucon_store.proofs.Versions.{closed_kind, ended_kind}
+use Rattle.ucon_store.specs.Points.{points_of}
 use Rattle.ucon_store.proofs.opening.make.Goals as goal
 
 pub returns-in_err-mend-clause-images : goal.returns-in_err-mend-clause-images
@@ -75,3 +78,21 @@ returns-clause-loaded g c =
           (holds_made text standing.P o m n shut (with_payload (gate_of c.mend.new.self) text) (omega (arith, c.in_ok-loaded.ensures.short)) accepts c.requires.fresh bytes same
           c.in_ok-append.ensures.bytes c.in_ok-append.ensures.added);
     }
+
+pub returns-clause-places : goal.returns-clause-places
+returns-clause-places g c =
+    let contents = g.D.Disk.contents in
+    let m = contents (disk_of c.mend.new.self) in
+    let shut = shut_at (gate_of c.reserve.new.self) in
+    let bytes = subst (λ (d : g.row.D.Denot). m ≡ option_map shut (contents d)) c.reserve.ensures.disk c.in_ok-mend.ensures.bytes in
+    let same = subst (λ (d : g.row.D.Denot). told_payloads m ≡ told_payloads (contents d)) c.reserve.ensures.disk c.in_ok-mend.ensures.same in
+    made_places (contents (disk_of c.args.journal.now)) m (contents (disk_of c.append.new.self)) c.args.policy.now shut c.requires.fresh bytes same c.in_ok-append.ensures.added
+
+pub returns-clause-kind : goal.returns-clause-kind
+returns-clause-kind g c =
+    let contents = g.D.Disk.contents in
+    let version : version_of c.append.new.self ≡ version_of c.args.journal.now =
+    c.append.ensures.version ∙ (c.mend.ensures.version ∙ c.reserve.ensures.version) in
+    same_kind (contents (disk_of c.args.journal.now)) (contents (disk_of c.append.new.self)) (points_of (version_of c.args.journal.now))
+    (ended_kind contents c.args.journal.now c.requires.ended)
+    (subst (λ (v : ℕ). IfSome (contents (disk_of c.append.new.self)) (IsOfKind (points_of v))) version (closed_kind contents c.append.new.self c.in_ok-append.ensures.closed))

@@ -8,3 +8,6 @@ returns-in-OtherPolicy g c = rw c.in-OtherPolicy.is c.put_at.ensures
 
 pub returns-in-TooLong : goal.returns-in-TooLong
 returns-in-TooLong g c = rw c.in-TooLong.is c.put-in-TooLong.ensures
+
+pub returns-in-FullPoint : goal.returns-in-FullPoint
+returns-in-FullPoint g c = rw c.in-FullPoint.is c.put_at-in-FullPoint.ensures

@@ -1,6 +1,6 @@
-use Rattle.std.proofs.Common.{◌≡◌, true, map}
+use Rattle.std.proofs.Common.{◌≡◌, ◌∙◌, true, map, sym}
 use Rattle.std.specs.Prelude.{Some, string_bytes}
-use Rattle.ucon_top.specs.declared.form.Form.TheVariants.{Serve}
+use Rattle.ucon_top.specs.declared.form.Form.TheVariants.{Point, Serve}
 use Rattle.ucon_top.specs.Form.{asks_for_threads, form_of}
 use Rattle.ucon_top.proofs.Forms.{threads_are_serve}
 use Rattle.ucon_top.proofs.top.run.Goals as goal
@@ -46,6 +46,12 @@ returns-then-asks_for_threads-clause-played g c =
     let asks : asks_for_threads (form_of (map (λ w. string_bytes w) c.args.words.now)) ≡ true = cc in
     rw (threads_are_serve (form_of (map (λ w. string_bytes w) c.args.words.now)) asks) (λ has_journal. c.serve_input.ensures.played)
 
+pub returns-then-asks_for_threads-clause-pointed : goal.returns-then-asks_for_threads-clause-pointed
+returns-then-asks_for_threads-clause-pointed g c = λ is_point.
+    let asks : asks_for_threads (form_of (map (λ w. string_bytes w) c.args.words.now)) ≡ true = cc in
+    let bad : Some Serve ≡ Some Point = sym (threads_are_serve (form_of (map (λ w. string_bytes w) c.args.words.now)) asks) ∙ is_point in
+    absurd (cc bad)
+
 pub returns-then-asks_for_threads-clause-alone : goal.returns-then-asks_for_threads-clause-alone
 returns-then-asks_for_threads-clause-alone g c =
     let asks : asks_for_threads (form_of (map (λ w. string_bytes w) c.args.words.now)) ≡ true = cc in
@@ -54,7 +60,7 @@ returns-then-asks_for_threads-clause-alone g c =
 pub returns-then-asks_for_threads-clause-form : goal.returns-then-asks_for_threads-clause-form
 returns-then-asks_for_threads-clause-form g c =
     let asks : asks_for_threads (form_of (map (λ w. string_bytes w) c.args.words.now)) ≡ true = cc in
-    rw (threads_are_serve (form_of (map (λ w. string_bytes w) c.args.words.now)) asks) tt
+    rw (threads_are_serve (form_of (map (λ w. string_bytes w) c.args.words.now)) asks) c.serve_input.ensures.form
 
 pub returns-then-asks_for_threads-clause-unaccepted : goal.returns-then-asks_for_threads-clause-unaccepted
 returns-then-asks_for_threads-clause-unaccepted g c =

@@ -2,12 +2,13 @@ use Rattle.std.proofs.Common.{◌≡◌, map, sym, subst}
 use Rattle.std.specs.Prelude.{Option, Some, None, IfSome, string_bytes}
 use Rattle.ucon_model.specs.Plain.{Bytes}
 use Rattle.ucon_top.specs.declared.form.Form.{Form}
-use Rattle.ucon_top.specs.declared.form.Form.TheVariants.{Play}
+use Rattle.ucon_top.specs.declared.form.Form.TheVariants.{Play, Point}
 use Rattle.ucon_top.specs.Form.{HasJournal, form_of}
 use Rattle.ucon_top.specs.Played.{HasPlayedInput}
 use Rattle.ucon_top.specs.Printed.{document_of}
-use Rattle.ucon_top.proofs.Completing.{over_document, played_complete, printed_complete}
+use Rattle.ucon_top.proofs.Completing.{over_document, played_complete, pointed_complete, printed_complete}
 use Rattle.ucon_top.proofs.Playing.{unread_played}
+use Rattle.ucon_top.proofs.Pointing.{unread_pointed}
 use Rattle.ucon_top.proofs.top.run_alone.Goals as goal
 
 -- whatever the form is
@@ -26,6 +27,32 @@ returns-in-Err-clause-played g c =
     ) in
     of_each _ (λ (form : Form). HasJournal form → HasPlayedInput g.D.Disk.contents g.D.Disk.images g.D.Disk.moment g.D.Disk.images_since g.D.Disk.faults g.K.Sink.contents form c.by-in-Err.result.outcome input c.args.disk c.by-in-Err.result.disk was was)
     (λ form has_journal. played form)
+
+pub returns-in-Err-clause-pointed : goal.returns-in-Err-clause-pointed
+returns-in-Err-clause-pointed g c = λ is_point.
+    rw (c.by-in-Err.ensures.outcome, c.by-in-Err.ensures.disk) (
+    unread_pointed g.D.Disk.contents g.D.Disk.images g.D.Disk.moment g.D.Disk.images_since g.D.Disk.faults g.K.Sink.contents c.in-Err.outcome (g.S.Source.left c.args.input.now)
+    (g.S.Source.faults c.args.input.now) (g.S.Source.faults c.document_bytes.new.input) c.args.disk c.args.out.now c.in-Err.ensures.ends
+    )
+
+pub returns-in-Point-clause-complete : goal.returns-in-Point-clause-complete
+returns-in-Point-clause-complete g c =
+    let input = g.S.Source.left c.args.input.now in
+    let bytes = c.deref-in-Point.result.now in
+    let outcome = c.point.result.outcome in
+    let source = g.S.Source.faults c.args.input.now in
+    let source' = g.S.Source.faults c.document_bytes.new.input in
+    let sink = g.K.Sink.faults c.args.out.now in
+    let sink' = g.K.Sink.faults c.point.new.out in
+    let is_point : c.in-Some.form ≡ Point = cc in
+    let told = subst (λ (f : Form). IfSome (document_of f input) (λ d. d ≡ c.in-Ok.bytes.items)) is_point c.in-Ok.ensures.bytes in
+    let is = subst (λ (b : Bytes). IfSome input (λ d. d ≡ b)) (sym c.deref-in-Point.ensures.value) told in
+    let known : form_of (map (λ w. string_bytes w) c.args.words.now) ≡ Some Point = cc in
+    rw known (over_document (g.D.Disk.contents c.args.disk) source source' sink sink' (g.D.Disk.faults c.args.disk) (g.D.Disk.faults c.point.result.disk) Point outcome input bytes is
+    (pointed_complete g.D.Disk.contents g.D.Disk.images g.D.Disk.moment g.D.Disk.images_since g.D.Disk.faults g.K.Sink.contents Point c.args.disk c.point.result.disk
+    c.args.out.now c.point.new.out source source' sink sink' bytes outcome
+    (c.accepted_documents_are_not_refused.ensures bytes outcome) c.point.ensures.refused c.point.ensures.of_document c.point.ensures.sink c.point.ensures.fault
+    c.point.ensures.pointed (λ u. u.journal)))
 
 pub returns-in-Play-clause-complete : goal.returns-in-Play-clause-complete
 returns-in-Play-clause-complete g c =

@@ -11,6 +11,7 @@ use Rattle.ucon_store.proofs.Openings.{holds_moved}
 use Rattle.ucon_store.proofs.Stepping.{one_policy}
 use Rattle.ucon_store.proofs.Recorded.{left_at_rest}
 use Rattle.ucon_store.proofs.Runs.{begin_opens, whole_opens}
+use Rattle.ucon_store.proofs.SamePlaces.{opened_old, opened_places}
 use Rattle.ucon_store.proofs.store.Store.open.Goals as goal
 
 pub returns-in-Err-clause-reason : goal.returns-in-Err-clause-reason
@@ -78,3 +79,11 @@ invariant_of-result g c =
       failed = λ e is. absurd (cc is);
       left = left_at_rest g.D.Disk.contents g.D.Disk.images journal text P H rest None;
     }
+
+pub returns-in-Ok-load-clause-places : goal.returns-in-Ok-load-clause-places
+returns-in-Ok-load-clause-places g c =
+    opened_places (g.D.Disk.contents c.args.disk) (g.D.Disk.contents (disk_of c.in-Ok.journal)) (g.D.Disk.contents (disk_of c.load.new.journal)) c.in-Ok.ensures.bytes c.in-Ok-load.ensures.places
+
+pub returns-in-Ok-load-clause-old : goal.returns-in-Ok-load-clause-old
+returns-in-Ok-load-clause-old g c =
+    opened_old (g.D.Disk.contents c.args.disk) (g.D.Disk.contents (disk_of c.in-Ok.journal)) (g.D.Disk.contents (disk_of c.load.new.journal)) c.in-Ok.ensures.bytes c.in-Ok-load.ensures.kind

@@ -49,7 +49,7 @@ invariant_of-self-in-Err-record g c =
     let takes = ap (taken accepted P H) c.deref.ensures.value ∙ c.in-Ok.ensures.taken P H said_is changing ∙ ap (λ (x : Entry). Some (H ++ x ∷ [])) is_entry in
     let rest = at_rest_moved contents images c.self.inside.journal c.prepare.new.journal text P H (kept.rests refl)
     (c.prepare.ensures.closed (kept.rests refl).closed) c.prepare.ensures.gate c.prepare.ensures.disk in
-    let one : OneByOne = λ front behind. c.payloads_are_found_one_by_one.ensures accepted front behind in
+    let one : OneByOne = λ takes front behind. c.payloads_are_found_one_by_one.ensures accepted takes front behind in
     let run = run_perhaps contents images c.prepare.new.journal text P H rest one e c.deref.result.now takes g.D.Disk.moment g.D.Disk.images_since
     (disk_of c.record.new.journal) c.record.ensures.images in
     let run_here = subst (λ (d : g.row.D.Denot). IsSome (contents d) → LeavesOnly g.D.Disk.moment g.D.Disk.images_since d (disk_of c.record.new.journal) (IsFoundWith text H (Some e)))
@@ -79,7 +79,7 @@ returns-in-Err-record-clause-inside g c =
     let takes = ap (taken accepted P H) c.deref.ensures.value ∙ c.in-Ok.ensures.taken P H said_is changing ∙ ap (λ (x : Entry). Some (H ++ x ∷ [])) c.in-Ok.ensures.entry in
     let rest = at_rest_moved contents images c.self.inside.journal c.prepare.new.journal text P H (inv.rests none)
     (c.prepare.ensures.closed (inv.rests none).closed) c.prepare.ensures.gate c.prepare.ensures.disk in
-    let one : OneByOne = λ front behind. c.payloads_are_found_one_by_one.ensures accepted front behind in
+    let one : OneByOne = λ takes front behind. c.payloads_are_found_one_by_one.ensures accepted takes front behind in
     let run = run_perhaps contents images c.prepare.new.journal text P H rest one e c.deref.result.now takes g.D.Disk.moment g.D.Disk.images_since
     (disk_of c.record.new.journal) c.record.ensures.images in
     let run_here = subst (λ (d : g.row.D.Denot). IsSome (contents d) → LeavesOnly g.D.Disk.moment g.D.Disk.images_since d (disk_of c.record.new.journal) (IsFoundWith text H (Some e)))
@@ -104,7 +104,7 @@ returns-in-Err-record-clause-stays g c =
     let takes = ap (taken accepted P H) c.deref.ensures.value ∙ c.in-Ok.ensures.taken P H said_is changing ∙ ap (λ (x : Entry). Some (H ++ x ∷ [])) is_entry in
     let rest = at_rest_moved contents images c.self.inside.journal c.prepare.new.journal text P H (inv.rests none)
     (c.prepare.ensures.closed (inv.rests none).closed) c.prepare.ensures.gate c.prepare.ensures.disk in
-    let one : OneByOne = λ front behind. c.payloads_are_found_one_by_one.ensures accepted front behind in
+    let one : OneByOne = λ takes front behind. c.payloads_are_found_one_by_one.ensures accepted takes front behind in
     let run = run_perhaps contents images c.prepare.new.journal text P H rest one e c.deref.result.now takes g.D.Disk.moment g.D.Disk.images_since
     (disk_of c.record.new.journal) c.record.ensures.images in
     let run_here = subst (λ (d : g.row.D.Denot). IsSome (contents d) → LeavesOnly g.D.Disk.moment g.D.Disk.images_since d (disk_of c.record.new.journal) (IsFoundWith text H (Some e)))
@@ -148,10 +148,10 @@ invariant_of-self-2 g c =
     let takes = ap (taken accepted P H) c.deref.ensures.value ∙ c.in-Ok.ensures.taken P H said_is changing ∙ ap (λ (x : Entry). Some (H ++ x ∷ [])) is_entry in
     let rest = at_rest_moved contents images c.self.inside.journal c.prepare.new.journal text P H (kept.rests refl)
     (c.prepare.ensures.closed (kept.rests refl).closed) c.prepare.ensures.gate c.prepare.ensures.disk in
-    let one : OneByOne = λ front behind. c.payloads_are_found_one_by_one.ensures accepted front behind in
+    let one : OneByOne = λ takes front behind. c.payloads_are_found_one_by_one.ensures accepted takes front behind in
     let added : c.record.new.entries.items ≡ H ++ e ∷ [] = c.in_default.ensures.added
     ∙ (ap (λ (l : List Entry). l ++ c.in-Ok.entry ∷ []) c.prepare.ensures.entries ∙ ap (λ (x : Entry). H ++ x ∷ []) c.in-Ok.ensures.entry) in
-    let next = at_rest_with contents images c.prepare.new.journal text P H rest one e c.deref.result.now takes c.record.new.journal
+    let next = at_rest_with contents images c.prepare.new.journal text P H rest one e c.deref.result.now takes c.record.new.journal c.record.ensures.version
     c.in_default.ensures.gate c.in_default.ensures.closed c.in_default.ensures.only c.record.ensures.tells c.in_default.ensures.payloads in
     let pends = c.in_ok-drafted.ensures.pending changed P (trace P H) kept.stands in
     let more = kept_more contents images g.E.Engine.follows c.self.inside.engine c.record.new.engine c.self.inside.journal c.record.new.journal text H e kept
@@ -175,7 +175,7 @@ returns-clause-inside g c =
     let takes = ap (taken accepted P H) c.deref.ensures.value ∙ c.in-Ok.ensures.taken P H said_is changing ∙ ap (λ (x : Entry). Some (H ++ x ∷ [])) is_entry in
     let rest = at_rest_moved contents images c.self.inside.journal c.prepare.new.journal text P H (kept.rests none)
     (c.prepare.ensures.closed (kept.rests none).closed) c.prepare.ensures.gate c.prepare.ensures.disk in
-    let one : OneByOne = λ front behind. c.payloads_are_found_one_by_one.ensures accepted front behind in
+    let one : OneByOne = λ takes front behind. c.payloads_are_found_one_by_one.ensures accepted takes front behind in
     let run = run_perhaps contents images c.prepare.new.journal text P H rest one e c.deref.result.now takes g.D.Disk.moment g.D.Disk.images_since
     (disk_of c.record.new.journal) c.record.ensures.images in
     let run_here = subst (λ (d : g.row.D.Denot). IsSome (contents d) → LeavesOnly g.D.Disk.moment g.D.Disk.images_since d (disk_of c.record.new.journal) (IsFoundWith text H (Some e)))
@@ -200,10 +200,10 @@ returns-clause-holds g c =
     let takes = ap (taken accepted P H) c.deref.ensures.value ∙ c.in-Ok.ensures.taken P H said_is changing ∙ ap (λ (x : Entry). Some (H ++ x ∷ [])) is_entry in
     let rest = at_rest_moved contents images c.self.inside.journal c.prepare.new.journal text P H (kept.rests none)
     (c.prepare.ensures.closed (kept.rests none).closed) c.prepare.ensures.gate c.prepare.ensures.disk in
-    let one : OneByOne = λ front behind. c.payloads_are_found_one_by_one.ensures accepted front behind in
+    let one : OneByOne = λ takes front behind. c.payloads_are_found_one_by_one.ensures accepted takes front behind in
     let added : c.record.new.entries.items ≡ H ++ e ∷ [] = c.in_default.ensures.added
     ∙ (ap (λ (l : List Entry). l ++ c.in-Ok.entry ∷ []) c.prepare.ensures.entries ∙ ap (λ (x : Entry). H ++ x ∷ []) c.in-Ok.ensures.entry) in
-    let next = at_rest_with contents images c.prepare.new.journal text P H rest one e c.deref.result.now takes c.record.new.journal
+    let next = at_rest_with contents images c.prepare.new.journal text P H rest one e c.deref.result.now takes c.record.new.journal c.record.ensures.version
     c.in_default.ensures.gate c.in_default.ensures.closed c.in_default.ensures.only c.record.ensures.tells c.in_default.ensures.payloads in
     subst (λ (l : List Entry). IfSome (contents (disk_of c.record.new.journal)) (λ file. IsFoundAs text file l)) (sym added)
     (found_at_rest contents images c.record.new.journal text P (H ++ e ∷ []) next)
@@ -238,7 +238,7 @@ returns-clause-stays g c =
     let takes = ap (taken accepted P H) c.deref.ensures.value ∙ c.in-Ok.ensures.taken P H said_is changing ∙ ap (λ (x : Entry). Some (H ++ x ∷ [])) is_entry in
     let rest = at_rest_moved contents images c.self.inside.journal c.prepare.new.journal text P H (kept.rests none)
     (c.prepare.ensures.closed (kept.rests none).closed) c.prepare.ensures.gate c.prepare.ensures.disk in
-    let one : OneByOne = λ front behind. c.payloads_are_found_one_by_one.ensures accepted front behind in
+    let one : OneByOne = λ takes front behind. c.payloads_are_found_one_by_one.ensures accepted takes front behind in
     let run = run_perhaps contents images c.prepare.new.journal text P H rest one e c.deref.result.now takes g.D.Disk.moment g.D.Disk.images_since
     (disk_of c.record.new.journal) c.record.ensures.images in
     let run_here = subst (λ (d : g.row.D.Denot). IsSome (contents d) → LeavesOnly g.D.Disk.moment g.D.Disk.images_since d (disk_of c.record.new.journal) (IsFoundWith text H (Some e)))

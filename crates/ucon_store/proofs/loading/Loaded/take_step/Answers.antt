@@ -7,7 +7,7 @@ use Rattle.ucon_model.specs.Views.{reply_of}
 use Rattle.ucon_syntax.specs.Policies.{accepted}
 use Rattle.ucon_store.proofs.Stepping.{one_policy, trace_longer}
 use Rattle.ucon_store.proofs.Taking.{drafted_taken, drafted_refused, refused_unless, unchanged_drafted}
-use Rattle.ucon_store.proofs.loading.Loaded.take.Goals as goal
+use Rattle.ucon_store.proofs.loading.Loaded.take_step.Goals as goal
 
 pub returns-then-not-drafted-clause-wrong : goal.returns-then-not-drafted-clause-wrong
 returns-then-not-drafted-clause-wrong g c = λ _ P accepts.

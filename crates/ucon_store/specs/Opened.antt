@@ -1,0 +1,123 @@
+-- What opening sees in a journal with checkpoints, of which it runs only what stands behind the last one.
+use Rattle.std.specs.Prelude.{◌≡◌, ◌⊎◌, ℕ, ◌+◌, nat_lt, Bool, true, false, ◌&&◌, List, [], ◌∷◌, ◌++◌, length, Option, Some, None, option_map, option_and_then, if◌then◌else◌}
+use Rattle.std.specs.Option.{option_or}
+use Rattle.std.specs.Result.{result_ok}
+use Rattle.std.specs.Str.{bytes_eq}
+use Rattle.ucon_model.specs.Action.{Trace}
+use Rattle.ucon_model.specs.Block.{reply}
+use Rattle.ucon_model.specs.Found as model
+use Rattle.ucon_model.specs.Found.{Finding, Takes, first_gate, found_behind, gate_behind, next_gate}
+use Rattle.ucon_model.specs.History.{History, changes, trace_from}
+use Rattle.ucon_model.specs.Payload.{Told, entry_told, most_payload, payload_read}
+use Rattle.ucon_model.specs.Plain.{Bytes, PlainPolicy}
+use Rattle.ucon_model.specs.Readings.{in_force}
+use Rattle.ucon_model.specs.Sound.{IsSound}
+use Rattle.ucon_model.specs.Spelling.{reply_spelling}
+use Rattle.ucon_model.specs.Work.{NobodyFails}
+use Rattle.ucon_point.specs.PointText.{point_text}
+use Rattle.ucon_state.specs.Held.{Held, held_after}
+use Rattle.ucon_syntax.specs.Policies.{accepted}
+use Rattle.ucon_store.specs.Found.{found}
+use Rattle.ucon_store.specs.Points.{has_points, is_point}
+use Rattle.ucon_journal.specs.Found.{counted}
+
+-- What opening sees: no record yet; no journal; a record that is wrong, by its number and the place of its gate; or the policy's text, how many
+-- entries there are, all that is there after them, and the place of the gate behind the last record.
+pub data Seen : Type 0 where
+  fresh : Seen
+  not_journal : Seen
+  damaged : (number place : ℕ) → Seen
+  holds : (text : Bytes) (entries : ℕ) (there : Held) (gate : ℕ) → Seen
+
+-- ---- the last checkpoint
+
+-- payloads around the last of them that begins as a checkpoint
+pub record Parted : Type 0 where
+  pub before : List Bytes
+  pub point : Bytes
+  pub behind : List Bytes
+
+-- with one payload more before them
+abbrev pub preceded_by : Bytes → Parted → Parted
+preceded_by payload p = record { before = payload ∷ p.before; point = p.point; behind = p.behind }
+
+abbrev pub parted_here : Bytes → List Bytes → Option Parted
+parted_here payload payloads = if is_point payload then Some (record { before = []; point = payload; behind = payloads }) else None
+
+-- the payloads around the last checkpoint; none where there is none
+abbrev pub parted : List Bytes → Option Parted
+parted [] = None
+parted (payload ∷ payloads) = option_or (option_map (preceded_by payload) (parted payloads)) (parted_here payload payloads)
+
+-- how many payloads don't begin as a checkpoint
+abbrev pub steps_among : List Bytes → ℕ
+steps_among [] = 0
+steps_among (payload ∷ payloads) = if is_point payload then steps_among payloads else steps_among payloads + 1
+
+-- ---- from a checkpoint on
+
+-- The payload is the checkpoint of what is there after a trace, after so many entries: the text in it spells the policy in force, the trace is
+-- one that actions can make, and no accessing session fails.
+pub record IsPointOf (entries : ℕ) (P : PlainPolicy) (T : Trace) (payload : Bytes) : Type 0 where
+  pub text : Bytes
+  pub accepts : accepted text ≡ Some (in_force P T)
+  pub is : payload ≡ point_text entries text (held_after P T)
+  pub sound : IsSound P T
+  pub settled : NobodyFails P T
+
+-- the step that is told is the next one after a trace and the entries behind it
+abbrev pub is_next_after : Trace → PlainPolicy → History → Told → Bool
+is_next_after T P H t = changes t.reply && bytes_eq (reply_spelling t.reply) (reply_spelling (reply P (trace_from P T H) t.caller t.command))
+
+abbrev pub with_next : Trace → PlainPolicy → History → Told → Option History
+with_next T P H t = if is_next_after T P H t then Some (H ++ entry_told t ∷ []) else None
+
+-- behind a trace each payload has to tell the next step
+unfoldable pub steps_after : Trace → Takes
+steps_after T text P H payload =
+    if nat_lt most_payload (length payload) then None else option_and_then (with_next T P H) (result_ok (payload_read accepted payload))
+
+-- what is seen where this is found behind a trace after so many entries
+abbrev pub seen_after : ℕ → Trace → Finding → Seen
+seen_after entries T model.fresh = fresh
+seen_after entries T model.not_journal = not_journal
+seen_after entries T (model.damaged number place) = damaged number place
+seen_after entries T (model.holds text P H gate) = holds text (entries + length H) (held_after P (trace_from P T H)) gate
+
+-- ---- the whole walk
+
+-- a record is too long: the first one, by its number and the place of its gate
+abbrev pub first_long : (number gate : ℕ) → List Bytes → Option (ℕ × ℕ)
+first_long number gate [] = None
+first_long number gate (payload ∷ payloads) =
+    if nat_lt most_payload (length payload) then Some (number, gate) else first_long (number + 1) (next_gate gate payload) payloads
+
+-- From the last checkpoint: either it is the one of no trace, and wrong; or some trace leads to it, and the records behind it are run after that.
+abbrev pub SeesFrom : Bytes → Parted → Seen → Type 0
+SeesFrom text p seen =
+    (((P : PlainPolicy) (T : Trace) → IsPointOf (steps_among p.before) P T p.point → ⊥)
+    × (seen ≡ damaged (length p.before + 1) (gate_behind (next_gate first_gate text) p.before)))
+    ⊎ ((P : PlainPolicy) × (T : Trace) × IsPointOf (steps_among p.before) P T p.point
+    × (seen ≡ seen_after (steps_among p.before) T (found_behind (steps_after T) text P [] (length p.before + 2)
+    (next_gate (gate_behind (next_gate first_gate text) p.before) p.point) p.behind)))
+
+-- by the first record that is too long, and by the last checkpoint; this is found from record 0 on
+abbrev pub SeesPast : Option (ℕ × ℕ) → Bytes → Option PlainPolicy → Option Parted → Finding → Seen → Type 0
+SeesPast (Some long) text policy p found seen = seen ≡ damaged long.0 long.1
+SeesPast None text None p found seen = seen ≡ damaged 0 first_gate
+SeesPast None text (Some P) None found seen = seen ≡ seen_after 0 [] found
+SeesPast None text (Some P) (Some p) found seen = SeesFrom text p seen
+
+abbrev pub SeesIn : List Bytes → Finding → Seen → Type 0
+SeesIn [] found seen = seen ≡ seen_after 0 [] found
+SeesIn (text ∷ payloads) found seen =
+    SeesPast (first_long 0 first_gate (text ∷ payloads)) text (accepted text) (parted payloads) found seen
+
+-- what opening sees in a file by whether it may have checkpoints: where it may not, what is found
+abbrev pub SeesWith : Bool → Bytes → Seen → Type 0
+SeesWith true file seen = SeesIn (counted file) (found file) seen
+SeesWith false file seen = seen ≡ seen_after 0 [] (found file)
+
+-- what opening sees in a file
+abbrev pub Sees : Bytes → Seen → Type 0
+Sees file seen = SeesWith (has_points file) file seen

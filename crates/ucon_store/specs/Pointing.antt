@@ -1,0 +1,39 @@
+-- What writing a checkpoint answers and does.
+use Rattle.std.specs.Prelude.{◌≡◌, ◌⊎◌, ℕ, ◌<◌, Bool, true, false, List, [], ◌∷◌, ◌++◌, length, Option, IsSome, IfSome, ⊤}
+use Rattle.ucon_model.specs.History.{History}
+use Rattle.ucon_model.specs.Payload.{most_payload}
+use Rattle.ucon_model.specs.Plain.{Bytes, PlainPolicy}
+use Rattle.ucon_store.specs.declared.fault.PointRefusal.{PointRefusal}
+use Rattle.ucon_store.specs.declared.fault.PointRefusal.TheVariants.{Stopped, OldJournal, TooLarge, NoMemory}
+use Rattle.ucon_store.specs.Found.{IsFoundAs}
+use Rattle.ucon_store.specs.Kept.{Kept}
+use Rattle.ucon_store.specs.Points.{checkpoint, has_points, point_places}
+
+-- Why a checkpoint isn't prepared: there may be none; or there may, and it has more bytes than a payload may have, and so many; or memory is
+-- wanting.
+abbrev pub IsUnprepared : Bool → Bytes → PointRefusal → Type 0
+IsUnprepared points text Stopped = ⊥
+IsUnprepared points text OldJournal = points ≡ false
+IsUnprepared points text (TooLarge size) = (points ≡ true) × (size ≡ length text) × (most_payload < size)
+IsUnprepared points text (NoMemory e) = ⊤
+
+-- Why a store of the policy P has no checkpoint more: a step had failed; the file may have none; it may, but this one is too long, and how
+-- long; or memory is wanting.
+abbrev pub IsUnpointed : {D : Type 0} → (D → Option Bytes) → PlainPolicy → Kept D → PointRefusal → Type 0
+IsUnpointed contents P store Stopped = IsSome store.mark
+IsUnpointed contents P store OldJournal = IfSome (contents store.disk) (λ file. has_points file ≡ false)
+IsUnpointed contents P store (TooLarge size) =
+    IfSome (contents store.disk) (λ file. has_points file ≡ true) × (size ≡ length (checkpoint store.policy P store.entries)) × (most_payload < size)
+IsUnpointed contents P store (NoMemory e) = ⊤
+
+-- it is found as the history, with checkpoints at these places, or with one more, behind all entries
+abbrev pub IsFoundPointed : Bytes → History → List ℕ → Bytes → Type 0
+IsFoundPointed text H places file =
+    IsFoundAs text file H × ((point_places file ≡ places) ⊎ (point_places file ≡ places ++ length H ∷ []))
+
+-- nothing but the disk is other
+pub record IsSameStore {D : Type 0} (old new : Kept D) : Type 0 where
+  pub policy : new.policy ≡ old.policy
+  pub opening : new.opening ≡ old.opening
+  pub entries : new.entries ≡ old.entries
+  pub mark : new.mark ≡ old.mark

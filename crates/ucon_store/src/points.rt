@@ -1,0 +1,100 @@
+//! Checkpoints of what is there.
+
+ghost use Rattle.std.specs.Prelude.{◌≡◌, ◌≤◌, ◌&&◌, length, true, IfOk, IfErr, OnOk};
+ghost use Rattle.ucon_journal.specs.Journal.{disk_of, gate_of, version_of, HasRoomFor, IsClosed};
+ghost use Rattle.ucon_model.specs.Plain.{PlainPolicy};
+ghost use Rattle.ucon_state.specs.Engine.{StandsFor};
+ghost use Rattle.ucon_store.specs.Pointing.{IsUnprepared};
+ghost use Rattle.ucon_store.specs.Points.{checkpoint, is_point, points_of, text_behind, text_in_force};
+
+use crate::fault::PointRefusal;
+use std::alloc::Global;
+use ucon_base::{NoMemory, Rows};
+use ucon_disk::Disk;
+use ucon_journal::{Journal, MAX_PAYLOAD};
+use ucon_model::{Command, Entry};
+use ucon_point::point_text;
+use ucon_state::Engine;
+
+/// Whether there may be checkpoints in the journal's file.
+#[tactic(auto, using(crate::proofs::Versions::of_version))]
+pub(crate) fn has_points<D: Disk>(journal: &Journal<D>) -> bool
+    ensures { result ≡ points_of (version_of journal.now) }
+{
+    journal.version() == 2
+}
+
+/// Whether a payload has to be a checkpoint: where there may be any, it begins as one does.
+pub(crate) fn is_point(points: bool, payload: &[u8]) -> bool
+    ensures { result ≡ (points && is_point payload.now) }
+{
+    points && payload.starts_with(b"point ")
+}
+
+/// The checkpoint of an engine, which is after these entries under the policy of this text.
+pub(crate) fn checkpoint<E: Engine>(
+    alloc: Global,
+    policy: &[u8],
+    entries: &Rows<Entry>,
+    engine: &E,
+) -> Result<Vec<u8>, NoMemory>
+    ensures { IfOk result (λ text. (P : PlainPolicy) → StandsFor E.follows engine.now P entries.now.items
+        → text.items ≡ checkpoint policy.now P entries.now.items) }
+{
+    let in_force = text_in_force(policy, entries);
+    point_text(alloc, entries.len() as u64, in_force, engine.state())
+}
+
+/// The text of the policy in force after these entries, where it was this one before them.
+fn text_in_force<'a>(text: &'a [u8], entries: &'a Rows<Entry>) -> &'a [u8]
+    ensures { result.now ≡ text_in_force text.now entries.now.items }
+{
+    let mut in_force = text;
+    'entries: for entry in entries.slice() {
+        in_force = text_behind(in_force, &entry.command);
+    }
+    in_force
+}
+
+/// The text of the policy in force behind a command that was done.
+fn text_behind<'a>(text: &'a [u8], command: &'a Command) -> &'a [u8]
+    ensures { result.now ≡ text_behind text.now command.now }
+{
+    match command {
+        Command::Amend(amend) => amend.text(),
+        _ => text,
+    }
+}
+
+/// The checkpoint of an engine, which is after these entries under the policy of this text, and room for it in the journal. All memory that
+/// writing it needs is taken here.
+pub(crate) fn prepare_point<E: Engine, D: Disk>(
+    alloc: Global,
+    journal: &mut Journal<D>,
+    policy: &[u8],
+    entries: &Rows<Entry>,
+    engine: &E,
+) -> Result<Vec<u8>, PointRefusal>
+    ensures disk { disk_of journal.new ≡ disk_of journal.old }
+    ensures closed { IsClosed D.contents journal.old → IsClosed D.contents journal.new }
+    ensures gate { gate_of journal.new ≡ gate_of journal.old }
+    ensures version { version_of journal.new ≡ version_of journal.old }
+    ensures second { OnOk result (points_of (version_of journal.old) ≡ true) }
+    ensures text { IfOk result (λ text. (P : PlainPolicy) → StandsFor E.follows engine.now P entries.now.items
+        → text.items ≡ checkpoint policy.now P entries.now.items) }
+    ensures short { IfOk result (λ text. length text.items ≤ MAX_PAYLOAD) }
+    ensures room { IfOk result (λ text. HasRoomFor journal.new (length text.items)) }
+    ensures refused { IfErr result (λ refusal. (P : PlainPolicy) → StandsFor E.follows engine.now P entries.now.items
+        → IsUnprepared (points_of (version_of journal.old)) (checkpoint policy.now P entries.now.items) refusal) }
+{
+    if !has_points(journal) {
+        return Err(PointRefusal::OldJournal);
+    }
+    let text = checkpoint(alloc, policy, entries, engine)?;
+    let size = text.len() as u64;
+    if size > MAX_PAYLOAD {
+        return Err(PointRefusal::TooLarge(size));
+    }
+    journal.reserve(text.len())?;
+    Ok(text)
+}

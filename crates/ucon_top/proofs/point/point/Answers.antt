@@ -1,0 +1,61 @@
+use Rattle.std.proofs.Common.{◌≡◌, refl, sym, ap, ◌∙◌, subst}
+use Rattle.std.specs.Prelude.{Some}
+use Rattle.ucon_model.specs.Document.{policy_part}
+use Rattle.ucon_syntax.specs.Policies.{accepted}
+use Rattle.ucon_top.specs.declared.outcome.Outcome.{Outcome}
+use Rattle.ucon_top.specs.PointEnding.{EndsPoint}
+use Rattle.ucon_top.proofs.Playing.{IsOpened}
+use Rattle.ucon_disk.specs.Causes.{raised}
+use Rattle.ucon_top.proofs.Pointing.{HasMoments, pointed}
+use Rattle.ucon_top.proofs.point.point.Goals as goal
+
+pub open-requires : goal.open-requires
+open-requires g c =
+    let some = c.in-Ok.ensures.policy in
+    let is : accepted (policy_part c.args.bytes.now) ≡ Some some.policy =
+    (c.accepted_texts_spell_typed_policies.ensures (policy_part c.args.bytes.now) some.policy).1 (some.has_policy.spelled, some.has_policy.typed) in
+    rw (c.policy_part.ensures, is) refl
+
+pub returns-in-Ok-open-clause-pointed : goal.returns-in-Ok-open-clause-pointed
+returns-in-Ok-open-clause-pointed g c =
+    let bytes = c.args.bytes.now in
+    let text = policy_part bytes in
+    let store = c.in-Ok-open.store in
+    let told = c.in-Ok-open.ensures in
+    let some = c.in-Ok.ensures.policy in
+    let P = some.policy in
+    let is_text = c.policy_part.ensures in
+    let contents = g.D.Disk.contents in
+    let images = g.D.Disk.images in
+    let moment = g.D.Disk.moment in
+    let images_since = g.D.Disk.images_since in
+    let faults = g.D.Disk.faults in
+    let opened : IsOpened contents images moment images_since faults text c.args.disk store = rw (sym is_text) (record {
+      policy = told.store.0;
+      unmarked = told.store.2;
+      found = told.found;
+      images_kept = told.images;
+      at_rest = told.at_rest;
+      holds = told.holds;
+      unfailed = told.unfailed;
+      tells = λ some. told.tells ∙ some;
+    }) in
+    let laws = g.met.D.Disk in
+    let moments : HasMoments images moment images_since = record { counts_now = laws.counts_now; only_now = laws.only_now } in
+    let reads : accepted store.policy ≡ Some P =
+    ap accepted (told.store.0 ∙ is_text) ∙ (c.accepted_texts_spell_typed_policies.ensures text P).1 (some.has_policy.spelled, some.has_policy.typed) in
+    pointed contents images moment images_since faults moments bytes P some.has_policy c.args.disk store opened told.places told.old g.K.Sink.contents c.args.out.now c.point_opened.new.out
+    c.point_opened.result.disk c.point_opened.result.outcome c.point_opened.ensures.failed (c.point_opened.ensures.ends P reads)
+
+pub returns-in-Ok-open-clause-fault : goal.returns-in-Ok-open-clause-fault
+returns-in-Ok-open-clause-fault g c = λ is.
+    let text = policy_part c.args.bytes.now in
+    let store = c.in-Ok-open.store in
+    let told = c.in-Ok-open.ensures in
+    let some = c.in-Ok.ensures.policy in
+    let P = some.policy in
+    let reads : accepted store.policy ≡ Some P =
+    ap accepted (told.store.0 ∙ c.policy_part.ensures) ∙ (c.accepted_texts_spell_typed_policies.ensures text P).1 (some.has_policy.spelled, some.has_policy.typed) in
+    let ends = subst (λ (o : Outcome). EndsPoint g.D.Disk.contents g.D.Disk.images g.D.Disk.moment g.D.Disk.images_since g.D.Disk.faults P store c.point_opened.result.disk
+    (g.K.Sink.contents c.args.out.now) (g.K.Sink.contents c.point_opened.new.out) o) is (c.point_opened.ensures.ends P reads) in
+    ends.1 ∙ ap raised told.unfailed

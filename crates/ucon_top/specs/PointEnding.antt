@@ -1,0 +1,55 @@
+-- How the writing of a checkpoint over an open store ends, and what it leaves on the disk.
+use Rattle.std.specs.Prelude.{◌≡◌, ℕ, false, List, length, Option, Some, IfSome}
+use Rattle.std.specs.Io.KnownBytes.{Appends}
+use Rattle.ucon_disk.specs.Causes.{raised}
+use Rattle.ucon_disk.specs.Run.{LeavesOnly}
+use Rattle.ucon_flow.specs.Writing.{AppendsPrefix}
+use Rattle.ucon_model.specs.Plain.{Bytes, PlainPolicy}
+use Rattle.ucon_store.specs.Found.{IsFoundAs}
+use Rattle.ucon_store.specs.Kept.{Kept}
+use Rattle.ucon_store.specs.Pointing.{IsFoundPointed}
+use Rattle.ucon_store.specs.Points.{has_points, point_places}
+use Rattle.ucon_top.specs.declared.outcome.Outcome.{Outcome}
+use Rattle.ucon_top.specs.declared.outcome.Outcome.TheVariants.{Done, SinkFault, DiskFault, NoMemory, FullPoint, OldJournal}
+use Rattle.ucon_top.specs.Pointed.{IsPointedAt, IsTooLarge, point_line}
+
+-- how it may end
+abbrev pub IsOfPoint : Outcome → Type 0
+IsOfPoint Done = Unit {0}
+IsOfPoint SinkFault = Unit {0}
+IsOfPoint DiskFault = Unit {0}
+IsOfPoint (NoMemory e) = Unit {0}
+IsOfPoint (FullPoint size) = Unit {0}
+IsOfPoint OldJournal = Unit {0}
+IsOfPoint outcome = ⊥
+
+module _ {D : Type 0} (contents : D → Option (List ℕ)) (images : D → List ℕ → Type 0) (moment : D → ℕ)
+    (images_since : D → ℕ → List ℕ → Type 0) (faults : D → ℕ) where
+  -- Where the disk told the store's file, a crash since leaves one that is found as its entries, with or without a checkpoint behind them.
+  abbrev pub LeavesPointed : Kept D → D → Type 0
+  LeavesPointed store disk = (file : Bytes) → contents store.disk ≡ Some file
+      → LeavesOnly moment images_since store.disk disk (IsFoundPointed store.policy store.entries (point_places file))
+
+  -- the checkpoint is written: each image now has it
+  pub record HasPut (store : Kept D) (disk : D) : Type 0 where
+    pub inside : LeavesPointed store disk
+    pub left : (file : Bytes) → contents store.disk ≡ Some file → (c : Bytes) → images disk c
+        → IsFoundAs store.policy c store.entries × IsPointedAt (length store.entries) file c
+    pub unfailed : faults disk ≡ faults store.disk
+
+  -- And so it ended, where the sink held this before and holds that now. But by a disk fault, where the checkpoint wasn't written nothing was.
+  module _ (P : PlainPolicy) (store : Kept D) (disk : D) (before now : Option Bytes) where
+    abbrev pub EndsPoint : Outcome → Type 0
+    EndsPoint Done = HasPut store disk × Appends before now (point_line (length store.entries))
+    EndsPoint SinkFault = HasPut store disk × AppendsPrefix before now (point_line (length store.entries))
+    EndsPoint DiskFault = LeavesPointed store disk × (faults disk ≡ raised (faults store.disk))
+    EndsPoint (NoMemory e) = disk ≡ store.disk
+    EndsPoint (FullPoint size) = (disk ≡ store.disk) × IsTooLarge store.policy P store.entries size
+    EndsPoint OldJournal = (disk ≡ store.disk) × IfSome (contents store.disk) (λ file. has_points file ≡ false)
+    EndsPoint outcome = ⊥
+
+-- how it may end where the checkpoint isn't written
+abbrev pub IsOfNoPoint : Outcome → Type 0
+IsOfNoPoint Done = ⊥
+IsOfNoPoint SinkFault = ⊥
+IsOfNoPoint outcome = IsOfPoint outcome

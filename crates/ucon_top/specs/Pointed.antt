@@ -1,0 +1,92 @@
+-- What writing a checkpoint over the disk of a journal leaves, and how it ends.
+use Rattle.std.specs.Prelude.{◌≡◌, ◌⊎◌, ◌<◌, ℕ, List, [], ◌∷◌, ◌++◌, codes, length, Option, IfSome}
+use Rattle.std.specs.Fmt.{decimal}
+use Rattle.std.specs.Io.KnownBytes.{Appends}
+use Rattle.ucon_disk.specs.Causes.{raised}
+use Rattle.ucon_disk.specs.Run.{IsAtRest, LeavesOnly}
+use Rattle.ucon_flow.specs.Writing.{AppendsPrefix}
+use Rattle.ucon_model.specs.Document.{policy_part}
+use Rattle.ucon_model.specs.History.{History}
+use Rattle.ucon_model.specs.Plain.{Bytes, PlainPolicy}
+use Rattle.ucon_store.specs.declared.fault.StoreFault.TheVariants as stores
+use Rattle.ucon_store.specs.Found.{IsFoundAs}
+use Rattle.ucon_store.specs.Points.{IsOld, checkpoint, point_places}
+use Rattle.ucon_top.specs.declared.outcome.Outcome.{Outcome}
+use Rattle.ucon_top.specs.declared.outcome.Outcome.TheVariants.{Done, SinkFault, DiskFault, Damaged, NotJournal, NoMemory, OtherPolicy, FullPoint, OldJournal}
+use Rattle.ucon_top.specs.Accepted.{HasPolicy}
+use Rattle.ucon_top.specs.Played.{IsUnopened}
+
+-- the line that tells how many entries stand before a checkpoint
+abbrev pub point_line : ℕ → Bytes
+point_line entries = codes "point " ++ decimal entries ++ 10 ∷ []
+
+-- an image has the checkpoints of the opening file, and then one behind so many entries
+abbrev pub IsPointedAt : (entries : ℕ) (opening image : Bytes) → Type 0
+IsPointedAt entries opening image = point_places image ≡ point_places opening ++ entries ∷ []
+
+-- the checkpoint of a history is longer than a record may be, and so long
+abbrev pub IsTooLarge : (text : Bytes) (P : PlainPolicy) (H : History) (size : ℕ) → Type 0
+IsTooLarge text P H size = (size ≡ length (checkpoint text P H)) × (16777215 < size)
+
+module _ {D : Type 0} (contents : D → Option (List ℕ)) (images : D → List ℕ → Type 0) (moment : D → ℕ)
+    (images_since : D → ℕ → List ℕ → Type 0) (faults : D → ℕ) where
+  -- The file was found as this history, where the disk told it. Where the disk was at rest, a crash at any moment since leaves a file that is
+  -- found as the same history. Where the disk told its file, at rest or not, a crash now leaves one that is found as it, and is of this kind.
+  pub record IsStillFound (text : Bytes) (opening : History) (old new : D) (leaves : (file image : Bytes) → Type 0) : Type 0 where
+    pub opens : IfSome (contents old) (λ file. IsFoundAs text file opening)
+    pub since : (file : Bytes) → IsAtRest (contents old) (images old) file → LeavesOnly moment images_since old new (λ c. IsFoundAs text c opening)
+    pub now : IfSome (contents old) (λ file. (c : Bytes) → images new c → IsFoundAs text c opening × leaves file c)
+
+  -- The bytes are an accepted document, whose policy is the journal's; the file was found as a history, and still is, and of the policy, the
+  -- history and the disk's counts of faults this is so.
+  pub record IsPointOver (bytes : Bytes) (old new : D) (leaves : History → (file image : Bytes) → Type 0)
+      (so : PlainPolicy → History → Type 0) : Type 0 where
+    pub policy : PlainPolicy
+    pub has_policy : HasPolicy bytes policy
+    pub history : History
+    pub still : IsStillFound (policy_part bytes) history old new (leaves history)
+    pub is_so : so policy history
+
+  -- every image has the one checkpoint more, and the disk didn't fail
+  abbrev pub HasPoint : Bytes → D → D → (Bytes → Type 0) → Type 0
+  HasPoint bytes old new went =
+      IsPointOver bytes old new (λ H. IsPointedAt (length H)) (λ P H. (faults new ≡ faults old) × went (point_line (length H)))
+
+  -- no image has one more, and the disk didn't fail
+  abbrev pub HasNoPoint : Bytes → D → D → (PlainPolicy → History → Type 0) → Type 0
+  HasNoPoint bytes old new so =
+      IsPointOver bytes old new (λ H file c. point_places c ≡ point_places file) (λ P H. (faults new ≡ faults old) × so P H)
+
+  -- each image may have one more
+  abbrev pub MayHavePoint : Bytes → D → D → Type 0
+  MayHavePoint bytes old new =
+      IsPointOver bytes old new
+      (λ H file c. (point_places c ≡ point_places file) ⊎ IsPointedAt (length H) file c)
+      (λ P H. faults new ≡ raised (faults old))
+
+  module _ {K : Type 0} (held : K → Option Bytes) where
+    -- What holds of the disk, and of the sink, by how the writing of a checkpoint ended. Otherwise than by the causes named here it made no
+    -- call of the disk.
+    abbrev pub HasPointed : Outcome → Bytes → D → D → K → K → Type 0
+    HasPointed Done bytes old new before now = HasPoint bytes old new (Appends (held before) (held now))
+    HasPointed SinkFault bytes old new before now = HasPoint bytes old new (AppendsPrefix (held before) (held now))
+    HasPointed (FullPoint size) bytes old new before now = HasNoPoint bytes old new (λ P H. IsTooLarge (policy_part bytes) P H size)
+    HasPointed OldJournal bytes old new before now = HasNoPoint bytes old new (λ P H. IfSome (contents old) IsOld)
+    HasPointed DiskFault bytes old new before now =
+        (MayHavePoint bytes old new ⊎ IsUnopened contents images moment images_since faults stores.DiskFault (policy_part bytes) old new)
+        × (now ≡ before)
+    HasPointed NotJournal bytes old new before now = IsUnopened contents images moment images_since faults stores.NotJournal (policy_part bytes) old new
+    HasPointed (Damaged number place) bytes old new before now =
+        IsUnopened contents images moment images_since faults (stores.Damaged number place) (policy_part bytes) old new
+    HasPointed (OtherPolicy place) bytes old new before now =
+        IsUnopened contents images moment images_since faults (stores.OtherPolicy place) (policy_part bytes) old new
+    HasPointed (NoMemory e) bytes old new before now =
+        (new ≡ old) ⊎ IsUnopened contents images moment images_since faults (stores.NoMemory e) (policy_part bytes) old new
+        ⊎ HasNoPoint bytes old new (λ P H. Unit {0})
+    HasPointed outcome bytes old new before now = new ≡ old
+
+    -- so it was done over some bytes, which are those of the input where the source tells them
+    pub record HasPointedInput (outcome : Outcome) (input : Option Bytes) (old new : D) (before now : K) : Type 0 where
+      pub bytes : Bytes
+      pub are : IfSome input (λ known. known ≡ bytes)
+      pub pointed : HasPointed outcome bytes old new before now

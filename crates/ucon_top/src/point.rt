@@ -1,0 +1,107 @@
+//! Writes a checkpoint of a journal.
+
+ghost use Rattle.std.specs.Prelude.{◌≡◌, ◌⊎◌, ◌≤◌, false, length, None, Some, IfOk, IfErr};
+ghost use Rattle.ucon_disk.specs.Causes.{raised};
+ghost use Rattle.ucon_flow.specs.Causes.{Rose};
+ghost use Rattle.ucon_model.specs.Plain.{PlainPolicy};
+ghost use Rattle.ucon_syntax.specs.Policies.{accepted};
+ghost use Rattle.ucon_top.specs.Accepted.{IsAccepted, IsRefusedBy};
+ghost use Rattle.ucon_top.specs.Closing.{IsWritten};
+ghost use Rattle.ucon_top.specs.Ending.{IsOfAccepted, IsOfDocument, IsUntouched, IsUnwritten, status_of};
+ghost use Rattle.ucon_top.specs.PointEnding.{EndsPoint, HasPut, IsOfNoPoint, IsOfPoint};
+ghost use Rattle.ucon_top.specs.Pointed.{HasPointed, point_line};
+
+use crate::document::read_accepted;
+use crate::outcome::{Ended, Outcome};
+use crate::printing::put_point_line;
+use std::alloc::Global;
+use ucon_disk::Disk;
+use ucon_flow::Sink;
+use ucon_script::policy_part;
+use ucon_state::Engine;
+use ucon_store::Store;
+use ucon_syntax::accepted_texts_spell_typed_policies;
+
+/// Writes a checkpoint of the journal on the disk, under the policy of the document that the bytes are, and then the line that tells of it. The
+/// document's lines are read and not run.
+pub fn point<E: Engine, K: Sink, D: Disk>(
+    alloc: Global,
+    bytes: &[u8],
+    out: &mut K,
+    disk: D,
+) -> Ended<D>
+    requires { length bytes.now ≤ 4194304 }
+    ensures status { result.status ≡ status_of result.outcome }
+    ensures of_document { IsOfDocument result.outcome }
+    ensures refused { IsRefusedBy result.outcome bytes.now }
+    ensures accepted { IsOfAccepted result.outcome → IsAccepted bytes.now }
+    ensures sink { result.outcome ≡ Outcome.SinkFault → Rose (K.faults out.old) (K.faults out.new) }
+    ensures pointed { HasPointed D.contents D.images D.moment D.images_since D.faults K.contents result.outcome bytes.now disk result.disk out.old out.new }
+    ensures fault { result.outcome ≡ Outcome.DiskFault → D.faults result.disk ≡ raised (D.faults disk) }
+    ensures untouched { IsUntouched result.outcome → result.disk ≡ disk }
+    ensures unaccepted { (result.disk ≡ disk) ⊎ IsAccepted bytes.now }
+    ensures unwritten { IsUnwritten result.outcome → out.new ≡ out.old }
+{
+    accepted_texts_spell_typed_policies();
+    let _script = match read_accepted(alloc, bytes) {
+        Ok(script) => script,
+        Err(refused) => return Ended::by(Outcome::from(refused), disk),
+    };
+    match Store::<E, D>::open(alloc, policy_part(bytes), disk) {
+        Ok(store) => point_opened(alloc, store, out),
+        Err((disk, fault)) => Ended::by(Outcome::from(fault), disk),
+    }
+}
+
+/// Writes the checkpoint, closes the store, and tells of it.
+fn point_opened<E: Engine, K: Sink, D: Disk>(
+    alloc: Global,
+    store: Store<E, D>,
+    out: &mut K,
+) -> Ended<D>
+    requires { store.mark ≡ None }
+    ensures status { result.status ≡ status_of result.outcome }
+    ensures of_point { IsOfPoint result.outcome }
+    ensures ends { (P : PlainPolicy) → accepted store.policy ≡ Some P
+        → EndsPoint D.contents D.images D.moment D.images_since D.faults P store result.disk (K.contents out.old) (K.contents out.new) result.outcome }
+    ensures sink { result.outcome ≡ Outcome.SinkFault → Rose (K.faults out.old) (K.faults out.new) }
+    ensures unwritten { IsUnwritten result.outcome → out.new ≡ out.old }
+    ensures failed { result.outcome ≡ Outcome.DiskFault → out.new ≡ out.old }
+{
+    match put_point(alloc, store) {
+        Ok((disk, entries)) => Ended::by(tell_point(out, entries), disk),
+        Err((disk, outcome)) => Ended::by(outcome, disk),
+    }
+}
+
+/// Writes the checkpoint, and gives the disk back with the number of entries before it, or with how the run ends without it.
+fn put_point<E: Engine, D: Disk>(
+    alloc: Global,
+    store: Store<E, D>,
+) -> Result<(D, u64), (D, Outcome)>
+    requires { store.mark ≡ None }
+    ensures entries { IfOk result (λ r. r.1 ≡ length store.entries) }
+    ensures put { IfOk result (λ r. HasPut D.contents D.images D.moment D.images_since D.faults store r.0) }
+    ensures of_none { IfErr result (λ e. IsOfNoPoint e.1) }
+    ensures ends { IfErr result (λ e. (P : PlainPolicy) → accepted store.policy ≡ Some P
+        → EndsPoint D.contents D.images D.moment D.images_since D.faults P store e.0 None None e.1) }
+{
+    let (store, pointed) = match store.point(alloc) {
+        Ok(answer) => answer,
+        Err(disk) => return Err((disk, Outcome::DiskFault)),
+    };
+    match pointed {
+        Ok(entries) => Ok((store.close(), entries)),
+        Err(refusal) => Err((store.close(), Outcome::from(refusal))),
+    }
+}
+
+/// Tells how many entries stand before the checkpoint that is written, and how the run ends.
+fn tell_point<K: Sink>(out: &mut K, entries: u64) -> Outcome
+    ensures { IsWritten result (point_line entries) false (K.contents out.old) (K.contents out.new) (K.faults out.old) (K.faults out.new) }
+{
+    match put_point_line(out, entries) {
+        Ok(()) => Outcome::Done,
+        Err(_) => Outcome::SinkFault,
+    }
+}
