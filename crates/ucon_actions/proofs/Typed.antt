@@ -1,6 +1,6 @@
 -- Under a policy that is well typed.
 use Rattle.std.proofs.Common.{◌≡◌, ℕ, true, sym, subst}
-use Rattle.ucon_eval.specs.Sums.{tests_make_no_set}
+use Rattle.ucon_asked.specs.Sums.{tests_make_no_set}
 use Rattle.ucon_model.specs.Plain.{PlainPolicy}
 use Rattle.ucon_model.specs.Action.{Trace}
 use Rattle.ucon_model.specs.Fitting.{ValuesFit}

@@ -22,7 +22,7 @@ use Rattle.ucon_base.specs.Elements.{Each}
 use Rattle.ucon_model.specs.Typing.{IsTyped}
 use Rattle.ucon_model.specs.Views.{update_of}
 use Rattle.ucon_model.specs.Sound.{IsGrounded}
-use Rattle.ucon_eval.specs.Asked as asked
+use Rattle.ucon_asked.specs.Asked as asked
 use Rattle.ucon_state.specs.Tables.{entity_number, session_in, readings_in}
 use Rattle.ucon_state.specs.Shown.{Shown}
 use Rattle.ucon_state.specs.Following.{Follows}

@@ -21,8 +21,9 @@ use crate::outcome::{ActionFault, Outcome, require};
 use crate::reading::{accessing, find_entity, find_right, session, sessions};
 use crate::update::run_updates;
 use std::alloc::Global;
+use ucon_asked::typed_tests_make_no_set;
 use ucon_base::{Name, NoMemory, Side};
-use ucon_eval::{typed_tests_make_no_set, verdict};
+use ucon_eval::verdict;
 use ucon_model::{
     Caller, Head, Refusal, SessionRow, SessionState, Verdict, When, actions_are_done_in_order,
     the_least_failing_is_found, updates_write_their_targets, writes_leave_sessions,
@@ -118,6 +119,7 @@ fn decide(alloc: Global, state: &mut State, n: u32) -> Result<Head, NoMemory>
 }
 
 /// Makes a session, by the numbers of its right and its entities, and decides on it.
+#[inline(always)]
 fn request(
     alloc: Global,
     state: &mut State,

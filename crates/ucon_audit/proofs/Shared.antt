@@ -86,7 +86,7 @@ undo_sync : IsSync Undo.the_row
 undo_sync = recorded_sync (Undo.the_field).row _ _ (Undo.the_type).to_one undo_field_sync
 
 state_field_sync : IsSync (State.the_field).row
-state_field_sync = struct_sync (structs.shape State.the_type) (global.the_field_sync, (checked_field_sync, (tables.the_field_sync, (vec.the_sync Name.the_row Global.the_row ghosts name.the_sync global.the_sync, (vec.the_sync Undo.the_row Global.the_row ghosts undo_sync global.the_sync, tt)))))
+state_field_sync = struct_sync (structs.shape State.the_type) (global.the_field_sync, (checked_field_sync, (tables.the_field_sync, (vec.the_sync Name.the_row Global.the_row ghosts name.the_sync global.the_sync, (search (crosses, sendable) depth 30 fits 4000, (vec.the_sync Undo.the_row Global.the_row ghosts undo_sync global.the_sync, tt))))))
 
 pub state_sync : IsSync State.the_row
 state_sync = recorded_sync (State.the_field).row _ _ (State.the_type).to_one state_field_sync

@@ -5,10 +5,6 @@ mod accessing;
 mod head;
 mod parallel;
 mod state_json;
-#[cfg(test)]
-mod state_tests;
-#[cfg(test)]
-mod tests;
 
 pub use accessing::{changed_sessions, changed_usages, usages};
 pub use head::{Kept, extends, first_head, head_after, head_text, next_head, read_head};

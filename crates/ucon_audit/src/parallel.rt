@@ -2,7 +2,7 @@
 
 ghost use Rattle.std.specs.Prelude.{◌≡◌, true, All, IfOk, IsSome};
 ghost use Rattle.ucon_model.specs.Decision.{no_right};
-ghost use Rattle.ucon_eval.specs.Sums.{tests_make_no_set};
+ghost use Rattle.ucon_asked.specs.Sums.{tests_make_no_set};
 ghost use Rattle.ucon_audit.specs.Recheck.{changed, unless_permitted, verdict_now};
 
 use rayon::prelude::*;

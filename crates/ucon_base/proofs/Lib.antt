@@ -3,8 +3,9 @@ pub mod Passing
 pub mod Products
 pub mod Rising
 pub mod Runs
-pub mod Saturated
 pub mod SameArrays
+pub mod SameLanes
+pub mod Saturated
 pub mod SetsFound
 pub mod SetsRead
 pub mod SetsSpelled

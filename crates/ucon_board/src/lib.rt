@@ -6,8 +6,6 @@ mod reader;
 mod rule;
 mod seen;
 mod shown;
-#[cfg(test)]
-mod tests;
 mod told;
 mod writer;
 

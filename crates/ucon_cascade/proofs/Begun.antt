@@ -1,19 +1,21 @@
 -- The readers are exact, and the sessions grouped, after a usage has begun.
-use Rattle.std.proofs.Common.{◌≡◌, ◌≢◌, ◌↔◌, ◌⊎◌, ◌∙◌, inl, inr, ℕ, Bool, true, false, List, refl, sym, ap, subst, arith}
+use Rattle.std.proofs.Common.{◌≡◌, ◌≢◌, ◌↔◌, ◌⊎◌, ◌∙◌, inl, inr, ℕ, Bool, true, false, List, [], refl, sym, ap, subst, arith}
 use Rattle.std.specs.Prelude.{Option, Some, None, IsSome, cond}
 use Rattle.std.specs.List.{Contains}
 use Rattle.std.proofs.lemmas.Bool.Decides.{eqb_tells}
 use Rattle.ucon_model.specs.declared.reply.Head.TheVariants as heads
 use Rattle.ucon_model.specs.declared.session.SessionRow.{SessionRow}
 use Rattle.ucon_model.specs.Groups.{JudgedAlike}
+use Rattle.ucon_model.specs.declared.formula.Ref.{Ref}
+use Rattle.ucon_model.specs.Reach.{places_of}
 use Rattle.ucon_model.specs.Readings.{is_accessing_state}
 use Rattle.ucon_model.specs.Usages.{going_on}
 use Rattle.ucon_state.specs.Shown.{Shown}
 use Rattle.ucon_state.specs.Tables.{session_in}
 use Rattle.ucon_cascade.specs.Cascading.{WereExact}
-use Rattle.ucon_cascade.specs.Grouping.{AreGrouped, AreGroupedAmong, GetsFirst, MayLead}
+use Rattle.ucon_cascade.specs.Grouping.{AreGrouped, AreGroupedAmong, GetsFirst, MayLead, StandsAlone}
 use Rattle.ucon_cascade.specs.Listing.{ComesTo, StandsNowhere, StandsSomewhere}
-use Rattle.ucon_cascade.specs.Numbering.{AreNumbered, IsExact, place_numbers}
+use Rattle.ucon_cascade.specs.Numbering.{AreNumbered, HaveNumbers, IsExact, numbers_of, place_numbers}
 use Rattle.ucon_cascade.specs.Putting.{GoesOn}
 use Rattle.ucon_cascade.specs.Readers.{StandAsTheyRead, first_of, readers_at}
 use Rattle.ucon_cascade.specs.declared.readers.Readers.{Readers}
@@ -103,6 +105,21 @@ module _ (s : Shown) (r : Readers) (k : ℕ) (were : WereExact s (readers_at r) 
       (begun_row (session_in s.tables k) row is ((were.told k).begun refl).1) numbered others_same
       (λ n place. (comes n place).0) (λ place reads. (comes k place).1 (inl (refl, reads))) (λ n place stood. (comes n place).1 (inr stood))
 
+  reads_nothing : (standing' : ℕ → List ℕ) (o : Option SessionRow) → session_in s.tables k ≡ o
+      → ((row : SessionRow) → session_in s.tables k ≡ Some row → places_of s.policy row ≡ []) → ComesTo (readers_at r) standing' k [] → IsExact s standing'
+  reads_nothing standing' None is none comes =
+      let some : IsSome {T = SessionRow} (going_on None) = subst (λ (o : Option SessionRow). IsSome (going_on o)) is ((were.told k).begun refl).1 in
+      absurd cc
+  reads_nothing standing' (Some row) is none comes =
+      let back = sym (none row is) in
+      exact_begun standing' row is (subst (HaveNumbers s row) back tt)
+      (subst (λ (places : List Ref). ComesTo (readers_at r) standing' k (numbers_of s row places)) back comes)
+
+  -- a session whose usage has begun, and that reads nothing
+  pub exact_reading_nothing : (standing' : ℕ → List ℕ) → ((row : SessionRow) → session_in s.tables k ≡ Some row → places_of s.policy row ≡ [])
+      → ComesTo (readers_at r) standing' k [] → IsExact s standing'
+  exact_reading_nothing standing' none comes = reads_nothing standing' (session_in s.tables k) refl none comes
+
   goes_not : (n : ℕ) → GoesOn were.before n → n ≢ k
   goes_not n goes same =
       let none : going_on (session_in were.before.tables n) ≡ None = ap (λ (m : ℕ). going_on (session_in were.before.tables m)) same ∙ ((were.told k).begun refl).0 in
@@ -125,8 +142,15 @@ module _ (s : Shown) (r : Readers) (k : ℕ) (were : WereExact s (readers_at r) 
       (grouped_more s (λ n. n ≢ k) (first_of r) first' k others_grouped (λ n apart goes. (apart, led_by_others n apart goes)) ((were.told k).begun refl).1 gets)
       (λ n goes. elim (eqb_tells n k) [ inl here ↦ inl here.1 | inr other ↦ inr other.1 ])
 
+  -- where it is its own first
+  pub grouped_itself : (first' : ℕ → ℕ) → StandsAlone (first_of r) first' k → AreGrouped s first'
+  grouped_itself first' alone = grouped_begun first' (record { first = k; joins = alone; may = inl refl })
+
   pub alone_begun : (first' : ℕ → ℕ) → GetsFirst s (first_of r) first' k → (n : ℕ) → GoesOn s n → first' n ≡ k → n ≡ k
   alone_begun first' gets n goes is = elim (eqb_tells n k) [
     | inl here ↦ here.1
     | inr other ↦ absurd (led_by_others n other.1 goes (sym (gets.joins.others n other.1) ∙ is))
   ]
+
+  pub alone_itself : (first' : ℕ → ℕ) → StandsAlone (first_of r) first' k → (n : ℕ) → GoesOn s n → first' n ≡ k → n ≡ k
+  alone_itself first' alone = alone_begun first' (record { first = k; joins = alone; may = inl refl })

@@ -38,3 +38,4 @@ pub mod Firsts
 pub mod Revoking
 pub mod Sharing
 pub mod Grouped
+pub mod Asking

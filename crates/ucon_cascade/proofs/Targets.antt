@@ -1,20 +1,24 @@
 -- Who is put into the work, target by target.
 use Rattle.std.proofs.Common.{◌≡◌, ◌↔◌, ◌⊎◌, ◌∙◌, ◌+◌, ◌<◌, ℕ, true, false, List, [], ◌∷◌, ◌++◌, length, get_or, take, map, ap, refl, sym, subst}
-use Rattle.std.specs.Prelude.{filter, Some, None}
+use Rattle.std.specs.Prelude.{filter, Option, Some, None, option_and_then}
+use Rattle.std.specs.Option.{option_map_or}
 use Rattle.std.specs.List.{Contains}
 use Rattle.std.proofs.lemmas.List.{map-append, map_more}
 use Rattle.std.proofs.lemmas.List.Elements.{filter-append}
 use Rattle.ucon_model.specs.declared.policy.Update.{Update}
 use Rattle.ucon_model.specs.declared.policy.When.{When}
 use Rattle.ucon_model.specs.declared.session.SessionRow.{SessionRow}
-use Rattle.ucon_model.specs.Plain.{PlainUpdate}
+use Rattle.ucon_model.specs.Decision.{right_named}
+use Rattle.ucon_model.specs.Lookup.{right_read}
+use Rattle.ucon_model.specs.Plain.{PlainPolicy, PlainRight, PlainUpdate}
 use Rattle.ucon_model.specs.Reach.{Location, target, targets}
 use Rattle.ucon_model.specs.Updates.{same_when, updates_of}
 use Rattle.ucon_model.specs.Views.{update_of}
 use Rattle.ucon_state.specs.Shown.{Shown}
-use Rattle.ucon_state.specs.Tables.{session_in}
+use Rattle.ucon_state.specs.Tables.{readings_in, session_in}
 use Rattle.ucon_cascade.specs.Numbering.{place_number}
 use Rattle.ucon_cascade.specs.Putting.{GainsFirsts, StandsAt, StandsAtOne, targets_in}
+use Rattle.ucon_cascade.proofs.Asking.{right_by_row}
 use Rattle.ucon_cascade.proofs.Putting.{gains_both, gains_like, stands_at_both, stands_at_only}
 
 -- ---- who stands at a location
@@ -78,3 +82,30 @@ pub gains_one : (s : Shown) (standing : ℕ → List ℕ) (first : ℕ → ℕ) 
     → GainsFirsts first old new (StandsAt s standing location) → GainsFirsts first old new (StandsAtOne s standing (location ∷ []))
 gains_one s standing first old new location gains =
     gains_like first old new (StandsAt s standing location) (StandsAtOne s standing (location ∷ [])) (λ n. stands_at_only s standing location n) gains
+
+-- ---- where nothing is written
+
+-- a session whose right isn't there writes nowhere
+no_right_writes : (P : PlainPolicy) (when : When) (o : Option SessionRow) → None ≡ option_and_then (λ row. right_named P.rights row.right) o
+    → option_map_or (λ row. targets row when (updates_of P row)) o [] ≡ []
+no_right_writes P when None none = refl
+no_right_writes P when (Some row) none = ap (λ (r : Option PlainRight). targets row when (option_map_or (λ (x : PlainRight). x.updates) r [])) (sym none)
+
+pub targets_without_right : (s : Shown) (n : ℕ) (when : When) → None ≡ right_read s.policy (readings_in s.policy s.tables) n → targets_in s n when ≡ []
+targets_without_right s n when none = no_right_writes s.policy when (session_in s.tables n) none
+
+-- a session whose right has no updates writes nowhere
+no_updates_write : (P : PlainPolicy) (when : When) (r : PlainRight) (o : Option SessionRow) → r.updates ≡ [] → Some r ≡ option_and_then (λ row. right_named P.rights row.right) o
+    → option_map_or (λ row. targets row when (updates_of P row)) o [] ≡ []
+no_updates_write P when r None none is = refl
+no_updates_write P when r (Some row) none is =
+    ap (λ (x : Option PlainRight). targets row when (option_map_or (λ (y : PlainRight). y.updates) x [])) (sym is) ∙ ap (targets row when) none
+
+pub targets_without_updates : (s : Shown) (n : ℕ) (when : When) (r : PlainRight) → r.updates ≡ [] → Some r ≡ right_read s.policy (readings_in s.policy s.tables) n
+    → targets_in s n when ≡ []
+targets_without_updates s n when r none is = no_updates_write s.policy when r (session_in s.tables n) none is
+
+-- a session's updates are those of its right
+pub updates_by_right : (s : Shown) (n : ℕ) (row : SessionRow) (r : PlainRight) → session_in s.tables n ≡ Some row → Some r ≡ right_read s.policy (readings_in s.policy s.tables) n
+    → r.updates ≡ updates_of s.policy row
+updates_by_right s n row r there is = ap (λ (x : Option PlainRight). option_map_or (λ (y : PlainRight). y.updates) x []) (sym (right_by_row s n row (Some r) there is))

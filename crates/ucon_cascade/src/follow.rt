@@ -14,7 +14,7 @@ ghost use Rattle.ucon_model.specs.Usages.{going_on};
 ghost use Rattle.ucon_state.specs.Shown.{shown};
 ghost use Rattle.ucon_state.specs.Tables.{session_in};
 
-use crate::kinds::{Kind, are_alike, is_timed, kind_of};
+use crate::kinds::{Kind, are_alike, asks_while_it_goes_on, is_timed, kind_of};
 use crate::places::place_numbers;
 use crate::readers::Readers;
 use std::alloc::Global;
@@ -91,6 +91,9 @@ fn begin_to_read(
     ensures alone { OnOk result ((m : ℕ) → GoesOn (shown state.now) m → first_of readers.new m ≡ n → m ≡ n) }
     ensures undo { UndoGives readers.new (readers_at readers.old) (first_of readers.old) }
 {
+    if !asks_while_it_goes_on(state, n) {
+        return readers.lead(n, &[]);
+    }
     let Some(row) = session(state, n) else {
         return Ok(());
     };
@@ -115,7 +118,7 @@ fn add_reader(
     ensures numbered { OnOk result (AreNumbered (shown state.now) row.now) }
     ensures undo { UndoGives readers.new (readers_at readers.old) (first_of readers.old) }
 {
-    let Some(right) = state.checked().policy().right(&row.right) else {
+    let Some(right) = state.right(n) else {
         return readers.lead(n, &[]);
     };
     let places = places_read(alloc, right)?;

@@ -1,16 +1,20 @@
 //! Which sessions may share a judgement.
 
-ghost use Rattle.std.specs.Prelude.{◌≡◌, ◌∷◌, [], true, IsFalse, IsTrue};
+ghost use Rattle.std.specs.Prelude.{◌≡◌, ◌∷◌, [], true, IsFalse, IsTrue, Some};
 ghost use Rattle.std.specs.List.{list_any};
 ghost use Rattle.ucon_model.specs.Groups.{is_of_side};
 ghost use Rattle.ucon_base.specs.declared.value.Side.{Side};
-ghost use Rattle.ucon_model.specs.Reach.{formula_timed, right_timed, test_timed};
+ghost use Rattle.ucon_model.specs.declared.session.SessionRow.{SessionRow};
+ghost use Rattle.ucon_model.specs.Decision.{ongoing};
+ghost use Rattle.ucon_model.specs.Reach.{formula_timed, places_of, right_timed, test_timed, timed_of};
 ghost use Rattle.ucon_model.specs.Updates.{entity_of};
 ghost use Rattle.ucon_model.specs.Views.{formula_of, predicate_of, right_of, test_of};
+ghost use Rattle.ucon_state.specs.Shown.{shown};
+ghost use Rattle.ucon_state.specs.Tables.{session_in};
 ghost use Rattle.ucon_cascade.specs.Timers.{timed_parts};
 
 use ucon_base::{Name, Side};
-use ucon_model::{Formula, Predicate, Ref, Right, SessionRow, Test};
+use ucon_model::{Formula, Predicate, Ref, Right, SessionRow, Test, View};
 use ucon_state::State;
 
 /// What sessions that share a judgement have in common, by number: their right and, on each side that it reads, their entity.
@@ -66,6 +70,24 @@ pub fn are_alike(row: &SessionRow, other: &SessionRow, places: &[Ref]) -> bool
     row.right == other.right
         && (!is_read(Side::Subject, places) || row.subject == other.subject)
         && (!is_read(Side::Object, places) || row.object == other.object)
+}
+
+/// Whether the right of session n has a predicate that is asked while the usage goes on.
+pub fn asks_while_it_goes_on(state: &State, n: u32) -> bool
+    ensures places { IsFalse result → (row : SessionRow) → session_in (shown state.now).tables n ≡ Some row → places_of (shown state.now).policy row ≡ [] }
+    ensures timed { IsFalse result → (row : SessionRow) → session_in (shown state.now).tables n ≡ Some row → timed_of (shown state.now).policy row ≡ [] }
+{
+    match state.right(n) {
+        Some(right) => has_ongoing(right.preds.slice()),
+        None => false,
+    }
+}
+
+/// Whether one of these predicates is asked while the usage goes on.
+fn has_ongoing(preds: &[Predicate]) -> bool
+    ensures { result ≡ list_any (λ p. ongoing (predicate_of p)) preds.now }
+{
+    preds.iter().any(|p| p.is_ongoing())
 }
 
 /// Whether time decides over a part of a right's ongoing predicates.

@@ -135,7 +135,7 @@ pub fn put_limits(
     ensures below { count_below timers.new.wheel (shown state.now).tables.tick ≡ count_below timers.old.wheel (shown state.now).tables.tick }
     ensures undo { (before : Deadlines) → UndoGives timers.old before → UndoGives timers.new before }
 {
-    let Some(right) = state.checked().policy().right(&row.right) else {
+    let Some(right) = state.right(n) else {
         return Ok(());
     };
     for p in right.preds.slice() {

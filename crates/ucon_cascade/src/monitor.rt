@@ -85,6 +85,7 @@ impl Engine for Monitor {
         self.draft_at_cost(caller, command, steps)
     }
 
+    #[inline(always)]
     fn keep(&mut self) {
         self.state.keep();
         self.readers.keep();

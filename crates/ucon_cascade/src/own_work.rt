@@ -10,7 +10,7 @@ ghost use Rattle.ucon_cascade.specs.Readers.{first_of, readers_at};
 
 use crate::places::{attribute_place, variable_place};
 use crate::readers::Readers;
-use ucon_actions::{entity_of, is_accessing, is_of, session, session_state, sessions, updates_of};
+use ucon_actions::{entity_of, is_accessing, is_of, session, session_state, sessions};
 use ucon_base::{Name, Side};
 use ucon_model::{Command, Head, SessionRow, Update, View, When};
 use ucon_pend::Pend;
@@ -83,10 +83,16 @@ pub fn put_targets(state: &State, readers: &Readers, n: u32, when: When, work: &
     ensures members { GainsFirsts (first_of readers.now) work.old.members work.new.members
         (StandsAtOne (shown state.now) (readers_at readers.now) (targets_in (shown state.now) n when)) }
 {
+    let Some(right) = state.right(n) else {
+        return;
+    };
+    let updates = right.updates.slice();
+    if updates.is_empty() {
+        return;
+    }
     let Some(row) = session(state, n) else {
         return;
     };
-    let updates = updates_of(state.checked().policy(), &row);
     for u in updates {
         put_target(state, readers, &row, u, when, work);
     }
@@ -108,6 +114,7 @@ fn put_permitted(state: &State, readers: &Readers, head: &Head, work: &mut Pend)
 }
 
 /// Puts session n into the work, if it is the first of its list.
+#[inline(always)]
 fn put_first(readers: &Readers, n: u32, work: &mut Pend)
     requires { n < work.old.limit }
     ensures limit { work.new.limit ≡ work.old.limit }

@@ -19,6 +19,7 @@ ghost use Rattle.ucon_cascade.specs.Timers.{AreTimedBelow, AreTimely, HasDeadlin
 ghost use Rattle.ucon_cascade.specs.Timers.{Gets, HiddenBelow, HidesNoMore, count_below};
 
 use crate::follow::going_on;
+use crate::kinds::asks_while_it_goes_on;
 use crate::limits::put_limits;
 use crate::timers::Timers;
 use std::alloc::Global;
@@ -82,6 +83,7 @@ fn follow_usage(state: &State, timers: &mut Timers, head: &Head) -> Result<(), N
 }
 
 /// Gives session n the deadlines of what holds of its right.
+#[inline(always)]
 fn put_session(state: &State, timers: &mut Timers, n: u32) -> Result<(), NoMemory>
     requires { HiddenBelow timers.old.wheel (shown state.now).tables.tick }
     ensures gets { OnOk result (Gets timers.old.wheel timers.new.wheel n (IsLimitOf (shown state.now) n)) }
@@ -89,6 +91,9 @@ fn put_session(state: &State, timers: &mut Timers, n: u32) -> Result<(), NoMemor
     ensures below { count_below timers.new.wheel (shown state.now).tables.tick ≡ count_below timers.old.wheel (shown state.now).tables.tick }
     ensures undo { (before : Deadlines) → UndoGives timers.old before → UndoGives timers.new before }
 {
+    if !asks_while_it_goes_on(state, n) {
+        return Ok(());
+    }
     let Some(row) = session(state, n) else {
         return Ok(());
     };

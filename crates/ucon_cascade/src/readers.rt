@@ -154,6 +154,7 @@ impl Readers {
     }
 
     /// From here on undoing gives what is there now.
+    #[inline(always)]
     pub fn keep(&mut self)
         ensures read { (n place : ℕ) → Contains (readers_at self.new place) n ↔ Contains (readers_at self.old place) n }
         ensures firsts { (n : ℕ) → first_of self.new n ≡ first_of self.old n }

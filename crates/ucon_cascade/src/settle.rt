@@ -27,8 +27,9 @@ use crate::readers::Readers;
 use crate::timers::Timers;
 use std::alloc::Global;
 use ucon_actions::{accessing, is_accessing, revoke, session_state};
+use ucon_asked::typed_tests_make_no_set;
 use ucon_base::{Name, NoMemory, Rows, Steps};
-use ucon_eval::{failing, typed_tests_make_no_set};
+use ucon_eval::failing;
 use ucon_model::{
     Revoked, When, actions_are_done_in_order, firsts_go_on_covering, firsts_have_the_least,
     heads_tell_whose_usage_begins_or_ends, judgements_are_paid_for, one_judgement_serves_all_alike,

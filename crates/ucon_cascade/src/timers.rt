@@ -190,6 +190,7 @@ impl Timers {
     }
 
     /// From here on undoing gives what is there now.
+    #[inline(always)]
     pub fn keep(&mut self)
         ensures wheel { (n : ℕ) (deadline : ℤ) → HasDeadline self.new.wheel n deadline ↔ HasDeadline self.old.wheel n deadline }
         ensures kept { IsKept self.new }

@@ -9,8 +9,6 @@ mod items;
 mod places;
 mod sorts;
 mod sought;
-#[cfg(test)]
-mod tests;
 mod typing;
 
 pub use cores::{core_models, core_models_of, core_name};

@@ -2,6 +2,7 @@
 
 ghost use Rattle.std.specs.Prelude.{◌≡◌, ◌+◌, [], map, option_map, None, Some, IfOk, IfErr};
 ghost use Rattle.ucon_model.specs.Checked.{checked_policy};
+ghost use Rattle.ucon_model.specs.Limits.{HasFewAttrs};
 ghost use Rattle.ucon_model.specs.Views.{predicate_of, update_of, right_of, policy_of};
 ghost use Rattle.ucon_model.specs.Typing.{undeclared, attr_fault, env_fault, predicate_fault, update_fault, first_fault_of, one_item, items_of, whole_fault, right_fault, type_fault, IsTyped};
 ghost use Rattle.ucon_check.specs.Counted.{AreDeclaredOnce};
@@ -135,8 +136,10 @@ fn check_policy(policy: &Policy) -> Result<(), CheckFault>
     check_rights(policy, first_right, policy.rights.slice())
 }
 
-/// The policy, if it is well typed, or its first fault. That is told whatever memory there is, since none is taken.
+/// The policy, if it is well typed, or its first fault. That is told whatever memory there is, since none is taken. A policy that was
+/// read has at most 16 attributes of each side; one that is built by hand is asked `Policy::has_few_attrs` first.
 pub fn check(policy: Policy) -> Result<Checked, CheckFault>
+    requires { HasFewAttrs (policy_of policy) }
     ensures ok { IfOk result (λ c. (checked_policy c ≡ policy_of policy) × IsTyped (policy_of policy)) }
     ensures err { IfErr result (λ fault. option_map told (type_fault (policy_of policy)) ≡ Some fault) }
 {

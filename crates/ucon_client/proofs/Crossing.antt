@@ -43,6 +43,7 @@ use Rattle.ucon_model.specs.contracts.policy.Test as Test
 use Rattle.ucon_model.specs.contracts.policy.Update as Update
 use Rattle.ucon_script.specs.contracts.document.Line as Line
 use Rattle.ucon_state.specs.declared.engine.Engine as engine
+use Rattle.ucon_store.proofs.beginning.Beginning.TheSendSync as beginning
 use Rattle.ucon_store.specs.contracts.event.Base as Base
 use Rattle.ucon_store.specs.contracts.event.Event as Event
 use Rattle.ucon_store.specs.contracts.store.Store as Store
@@ -154,8 +155,14 @@ module _ (E D : RattleType) (g : engine.Ghosts E.Denot) (d : disk.Ghosts D.Denot
           (
             search (crosses, sendable) depth 20,
             (
-              search (crosses, sendable) depth 20,
-              (rows.the_send Entry.the_row entry_send, (search (entry_send, crosses, sendable) depth 20, (search (crosses, sendable) depth 20, tt))),
+              search (beginning.the_send, crosses, sendable) depth 20,
+              (
+                search sendable,
+                (
+                  search sendable,
+                  (rows.the_send Entry.the_row entry_send, (search (entry_send, crosses, sendable) depth 20, (search (crosses, sendable) depth 20, tt))),
+                ),
+              ),
             ),
           ),
         ),

@@ -4,6 +4,7 @@ use Rattle.ucon_base.specs.Elements.{Each}
 use Rattle.ucon_turn.specs.Lists.{Continues, ByOthers}
 use Rattle.ucon_turn.specs.Turns.{Opening, Knowledge, IsSeatOf}
 use Rattle.ucon_model.specs.declared.command.Entry.{Entry}
+use Rattle.ucon_model.specs.History.{History, trace}
 use Rattle.ucon_model.specs.Plain.{PlainPolicy}
 use Rattle.ucon_model.specs.Spelling.{reply_spelling}
 use Rattle.ucon_model.specs.Views.{reply_of}
@@ -16,9 +17,14 @@ use Rattle.ucon_store.specs.declared.fault.StepFault.TheVariants as faults
 use Rattle.ucon_client.specs.declared.answer.Answer.{Answer}
 use Rattle.ucon_client.specs.declared.answer.Answer.TheVariants as answers
 use Rattle.ucon_client.specs.declared.part.Part.{Part}
+use Rattle.ucon_store.specs.declared.event.Base.{Base}
 use Rattle.ucon_store.specs.declared.event.Event.{Event}
+use Rattle.ucon_store.specs.declared.event.Event.TheVariants.{Done}
 use Rattle.ucon_store.specs.Events.{number_of}
 use Rattle.ucon_store.specs.Kept.{Kept}
+use Rattle.ucon_store.specs.Points.{text_in_force}
+use Rattle.ucon_store.specs.Starts.{IsStart, text_at_start}
+use Rattle.ucon_store.specs.Whole.{IsFront}
 use Rattle.ucon_client.specs.Clients.{Steps, AreRight, answered, Served, told_by}
 
 -- what a line asks, and by whom
@@ -77,16 +83,26 @@ pub record IsPart (p : Part) : Type 0 where
   pub first : length p.answers.items ≤ length p.lines.items
   pub room : length p.lines.items ≤ length p.answers.items + p.answers.spare
 
--- The seat is one of this turn, and has the client's number plus 1; what the client was answered is right for the list that its seat has
--- seen, behind the history of the store that was handed in and under its policy.
+-- the policy of this base is P, and this history leads to where a store of it begins
+pub record IsLedTo (P : PlainPolicy) (base : Base) (G : History) : Type 0 where
+  pub accepts : accepted base.policy ≡ Some P
+  pub starts : IsStart P base.point base.before (trace P G)
+  pub count : length G ≡ base.before
+  pub text : text_in_force base.policy G ≡ text_at_start base.policy base.point
+
+-- The seat is one of this turn and has the client's number plus 1. What the client was answered is right for the list that its seat has seen,
+-- behind the entries of the store that was handed in and under its policy, with each history that leads to where that store begins before
+-- both.
 pub record Serves {D : Type 0} (turn : Opening (Kept D)) (p : Part) (seat : Knowledge (Kept D) Event) : Type 0 where
   pub seated : IsSeatOf turn seat
   pub number : seat.number ≡ p.number + 1
   pub part : IsPart p
-  pub right : (P : PlainPolicy) → accepted turn.opened.policy ≡ Some P → AreRight P p.number turn.opened.entries seat.seen (told_of p)
+  pub right : (P : PlainPolicy) (G : History) → accepted turn.opened.policy ≡ Some P → IsFront P turn.opened G
+      → AreRight P p.number (G ++ turn.opened.entries) (map Done G ++ seat.seen) (told_of p)
 
 -- One more line is answered, the next one. Its step found a list that begins with all that the seat had seen, with nothing of its own
--- behind, and the seat has then seen the list that the step left.
+-- behind, and the seat has then seen the list that the step left. With each history that leads to where the store begins before both, it is a
+-- step from the one to the other.
 pub record AnswersOne {D : Type 0} (turn : Opening (Kept D)) (was now : Part) (seat : Knowledge (Kept D) Event) (seen : List Event) : Type 0 where
   pub line : Line
   pub answer : Answer
@@ -94,4 +110,5 @@ pub record AnswersOne {D : Type 0} (turn : Opening (Kept D)) (was now : Part) (s
   pub next : line ≡ slice_index_or was.lines.items (length was.answers.items) line
   pub answers : now.answers.items ≡ was.answers.items ++ answer ∷ []
   pub others : Continues (ByOthers number_of seat.number seat.taken) seat.seen before
-  pub step : (P : PlainPolicy) → accepted turn.opened.policy ≡ Some P → Steps P (entry_of line) before seen (answer_of answer)
+  pub step : (P : PlainPolicy) (G : History) → accepted turn.opened.policy ≡ Some P → IsFront P turn.opened G
+      → Steps P (entry_of line) (map Done G ++ before) (map Done G ++ seen) (answer_of answer)

@@ -1,17 +1,20 @@
 //! All clients, each in a thread of its own: seats are split for them, all are served, and all seats are taken back.
 
-ghost use Rattle.std.specs.Prelude.{◌≡◌, ℕ, ◌+◌, ◌<◌, ◌≤◌, All, List, [], None, Some, map, length, slice_index_or, IfOk, IfErr, vec_len, vec_capacity};
+ghost use Rattle.std.specs.Prelude.{◌≡◌, ℕ, ◌+◌, ◌<◌, ◌≤◌, ◌++◌, All, List, [], None, Some, map, length, slice_index_or, IfOk, IfErr, vec_len, vec_capacity};
 ghost use Rattle.std.specs.Option.{option_to_list};
 ghost use Rattle.ucon_base.specs.Elements.{Each};
 ghost use Rattle.ucon_turn.specs.Lists.{Has};
 ghost use Rattle.ucon_turn.specs.Turns.{IsSeatOf};
+ghost use Rattle.ucon_model.specs.History.{History};
 ghost use Rattle.ucon_model.specs.Plain.{PlainPolicy};
 ghost use Rattle.ucon_model.specs.LegalRun.{IsLegalRun, own_answers, history_made};
 ghost use Rattle.ucon_client.specs.Answers.{IsPart, IsAnswered, Serves, Keeps, asked, lines_in, number, served_of, told_in};
 ghost use Rattle.ucon_client.specs.Clients.{AreRising, AreJoined, faulted};
 ghost use Rattle.ucon_syntax.specs.Policies.{accepted};
+ghost use Rattle.ucon_store.specs.declared.event.Event.TheVariants.{Done};
 ghost use Rattle.ucon_store.specs.Events.{events_of};
 ghost use Rattle.ucon_store.specs.Stays.{Stays};
+ghost use Rattle.ucon_store.specs.Whole.{IsFront};
 
 use crate::client::Client;
 use crate::gate::Gate;
@@ -87,8 +90,8 @@ fn join_all<E: Engine, D: Disk>(
     ensures turn { IsSeatOf turn.now seat.new × (seat.new.number ≡ 0) × (seat.new.given ≡ seat.old.given) }
     ensures parts { parts.new.items ≡ map (λ c. c.part) clients.items }
     ensures back { Each (λ p. Has seat.new.taken (p.number + 1)) parts.new.items }
-    ensures joined { (P : PlainPolicy) → accepted turn.now.opened.policy ≡ Some P
-        → AreJoined P turn.now.opened.entries seat.new.seen seat.new.taken (map served_of parts.new.items) }
+    ensures joined { (P : PlainPolicy) (H : History) → accepted turn.now.opened.policy ≡ Some P → IsFront P turn.now.opened H
+        → AreJoined P (H ++ turn.now.opened.entries) (map Done H ++ seat.new.seen) seat.new.taken (map served_of parts.new.items) }
 {
     for client in clients {
         let Client { part, seat: token } = client;
@@ -98,7 +101,8 @@ fn join_all<E: Engine, D: Disk>(
 }
 
 /// Answers the lines of all parts through one store, each part in a thread of its own. All memory but that of the steps is taken before the
-/// first line, and where there is none for it the store and the parts come back as they were. The answers of all together are a legal run.
+/// first line, and where there is none for it the store and the parts come back as they were. The answers of all together are a legal run behind the
+/// store's entries, with each history before them that leads to where the store begins.
 pub fn serve<E: Engine + Send, D: Disk + Send, G: Gate + Sync, R: Threads + Wait + Sync>(
     rt: &R,
     alloc: Global,
@@ -116,11 +120,11 @@ pub fn serve<E: Engine + Send, D: Disk + Send, G: Gate + Sync, R: Threads + Wait
     ensures all { IfOk result (λ r. Each IsAnswered r.1.items) }
     ensures lines { IfOk result (λ r. map (λ t. t.line) (told_in r.1.items) ≡ lines_in parts.items) }
     ensures clients { IfOk result (λ r. Each (λ t. t.line.caller.0 < 64) (told_in r.1.items)) }
-    ensures legal { IfOk result (λ r. (P : PlainPolicy) → accepted store.policy ≡ Some P
-        → IsLegalRun P own_answers store.entries (told_in r.1.items)) }
-    ensures made { IfOk result (λ r. (P : PlainPolicy) → accepted store.policy ≡ Some P
-        → history_made store.entries (told_in r.1.items) ≡ r.0.entries) }
-    ensures fault { IfOk result (λ r. (P : PlainPolicy) → accepted store.policy ≡ Some P
+    ensures legal { IfOk result (λ r. (P : PlainPolicy) (H : History) → accepted store.policy ≡ Some P → IsFront P store H
+        → IsLegalRun P own_answers (H ++ store.entries) (told_in r.1.items)) }
+    ensures made { IfOk result (λ r. (P : PlainPolicy) (H : History) → accepted store.policy ≡ Some P → IsFront P store H
+        → history_made (H ++ store.entries) (told_in r.1.items) ≡ H ++ r.0.entries) }
+    ensures fault { IfOk result (λ r. (P : PlainPolicy) (H : History) → accepted store.policy ≡ Some P → IsFront P store H
         → faulted (told_in r.1.items) ≡ option_to_list r.0.mark) }
 {
     let (mut clients, mut answered) = match room_for(alloc, parts.len()) {

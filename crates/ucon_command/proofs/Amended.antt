@@ -1,22 +1,23 @@
 -- Lines that amend: their first word, their length, and their cuts.
-use Rattle.std.proofs.Common.{◌≡◌, ℕ, ◌≤◌, Bool, true, false, cond, List, [], ◌∷◌, ◌++◌, length, drop, Some, None, Ok, Err, subst, refl, sym, ap, ◌∙◌}
+use Rattle.std.proofs.Common.{◌≡◌, ℕ, ◌+◌, ◌≤◌, Bool, true, false, cond, List, [], ◌∷◌, ◌++◌, length, drop, map, Some, None, Ok, Err, subst, refl, sym, ap, ◌∙◌}
 use Rattle.std.specs.Prelude.{Option, Result, IfSome, IsOk, codes, nat_eq, option_map}
 use Rattle.std.specs.List.{starts_with}
 use Rattle.std.specs.Str.{bytes_eq}
 use Rattle.std.proofs.lemmas.Bool.{false≢true, le-leb}
+use Rattle.std.proofs.lemmas.List.Splits.{join_with_byte-slice_split}
 use Rattle.std.proofs.lemmas.Bool.Decides.{Decides-eqb}
 use Rattle.std.proofs.lemmas.Slice.Eq.{bytes_eq-Decides, starts_is}
 use Rattle.ucon_command.specs.declared.cuts.Cuts.TheVariants as cuts
 use Rattle.ucon_command.specs.declared.line_fault.LineFault.{LineFault}
 use Rattle.ucon_command.specs.declared.line_fault.LineFault.TheVariants as faults
-use Rattle.ucon_command.specs.Faults.{IsRefusal}
+use Rattle.ucon_command.specs.Faults.{IsRefusal, amends}
 use Rattle.ucon_model.specs.declared.command.Command.{Command}
 use Rattle.ucon_model.specs.declared.command.Command.TheVariants.{Amend}
 use Rattle.ucon_model.specs.CommandLine.{LineRefusal, Word, placed, words_of, wrong_count, bad_word, said, made, amendment_in, amend_words, command_read, most_bytes}
 use Rattle.ucon_model.specs.Plain.{Bytes, Amendment}
 use Rattle.ucon_syntax.specs.Policies.{accepted}
 use Rattle.ucon_command.specs.Cuts.{AreCuts, IsSecond, word_to, words_at, words_from}
-use Rattle.ucon_command.proofs.Joined.{split, split_first}
+use Rattle.ucon_command.proofs.Joined.{split, join, split_first, split_some}
 use Rattle.ucon_command.proofs.Judged.{cuts_give, first_at}
 use Rattle.ucon_command.proofs.SpelledLines.{said_is, same_bytes}
 
@@ -50,6 +51,31 @@ most_from true line is other =
 pub other_most : (line first : Bytes) (second : Option ℕ) → IsSecond second line → first ≡ (word_to 0 second line).text → bytes_eq first (codes "amend") ≡ false → most_bytes line ≡ 8192
 other_most line first second is same other =
     most_from _ line refl (ap (λ (ws : List Word). bytes_eq (first_text ws) (codes "amend")) is.words ∙ ap (λ (w : Bytes). bytes_eq w (codes "amend")) (sym same) ∙ other)
+
+-- ---- the word with another behind it
+
+texts-placed : (at : ℕ) (ws : List Bytes) → map (λ (w : Word). w.text) (placed at ws) ≡ ws
+texts-placed at [] = refl
+texts-placed at (w ∷ ws) = ap (λ (vs : List Bytes). w ∷ vs) (texts-placed (at + length w + 1) ws)
+
+-- such a line begins with the word and a space
+begins_so : (line : Bytes) (at : ℕ) → IsSecond (Some at) line → (word_to 0 (Some at) line).text ≡ codes "amend" → amends line ≡ true
+begins_so line at is same =
+    let rest = split (drop at line) in
+    let some = split_some (drop at line) in
+    let cut : split line ≡ codes "amend" ∷ some.0 ∷ some.1.0 =
+    sym (texts-placed 0 (split line)) ∙ ap (λ (ws : List Word). map (λ (w : Word). w.text) ws) is.words
+    ∙ ap (λ (ws : List Bytes). (word_to 0 (Some at) line).text ∷ ws) (texts-placed at rest) ∙ ap (λ (w : Bytes). w ∷ rest) same
+    ∙ ap (λ (ws : List Bytes). codes "amend" ∷ ws) some.1.1 in
+    let whole : line ≡ codes "amend" ++ 32 ∷ join (some.0 ∷ some.1.0) = sym (join_with_byte-slice_split 32 line) ∙ ap join cut in
+    ap amends whole
+
+-- where the line doesn't begin with the word and a space, the word stands alone
+pub amend_alone : (line first : Bytes) (second : Option ℕ) → IsSecond second line → first ≡ (word_to 0 second line).text → bytes_eq first (codes "amend") ≡ true
+    → amends line ≡ false → second ≡ None
+amend_alone line first None is same e other = refl
+amend_alone line first (Some at) is same e other =
+    absurd (false≢true (sym other ∙ begins_so line at is (sym same ∙ same_bytes first (codes "amend") e)))
 
 -- ---- cuts
 

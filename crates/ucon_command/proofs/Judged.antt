@@ -1,5 +1,5 @@
 -- The cuts of a line give what is read of it.
-use Rattle.std.proofs.Common.{◌≡◌, ℕ, ◌+◌, ◌<◌, ◌≤◌, List, [], ◌∷◌, length, drop, Some, Ok, refl, sym, ap, subst, rules, ◌∙◌}
+use Rattle.std.proofs.Common.{◌≡◌, ℕ, ◌+◌, ◌<◌, ◌≤◌, List, [], ◌∷◌, length, drop, Some, Ok, Err, refl, sym, ap, subst, rules, ◌∙◌}
 use Rattle.std.specs.Prelude.{ℤ, Option, Result, IsOk, IsTrue, option_map}
 use Rattle.std.specs.Result.{result_ok}
 use Rattle.ucon_base.specs.declared.value.Side.{Side}
@@ -9,8 +9,11 @@ use Rattle.ucon_command.specs.declared.cuts.Cuts.{Cuts}
 use Rattle.ucon_command.specs.declared.cuts.Cuts.TheVariants as cuts
 use Rattle.ucon_model.specs.declared.command.Command.{Command}
 use Rattle.ucon_model.specs.declared.command.Command.TheVariants.{Set, Env}
-use Rattle.ucon_model.specs.CommandLine.{LineRefusal, Word, placed, words_of, name_in, value_in, integer_in, said, bad_word, one_word, place_of, set_of, set_words, env_of, env_words}
+use Rattle.ucon_model.specs.CommandLine.{LineRefusal, made, ◌>>=◌, Word, placed, words_of, name_in, value_in, integer_in, said, bad_word, one_word, place_of, set_of, set_words, env_of, env_words}
 use Rattle.ucon_model.specs.Plain.{Bytes}
+use Rattle.ucon_command.specs.declared.line_fault.LineFault.{LineFault}
+use Rattle.ucon_command.specs.Faults.{IsSure}
+use Rattle.ucon_command.proofs.Refusals.{made_sure}
 use Rattle.ucon_command.specs.Cuts.{AreCuts, between, command_cut, has_name, has_words, words_at}
 use Rattle.ucon_command.proofs.Joined.{split_some}
 use Rattle.ucon_command.proofs.SpelledLines.{said_is}
@@ -57,6 +60,52 @@ pub set_cut : (line : Bytes) (w : Word) (behind : List Word) (a b c d : ℕ) (si
 set_cut line w behind a b c d side v is are place value words =
     cuts_give (cuts.Set side b c d) line _ (Set side (between b c line) (between c d line) v) (ap (set_words line) (is ∙ ap (λ ws. w ∷ ws) are) ∙ set_read line w a b c d side v place value)
     (ap (option_map (Set side (between b c line) (between c d line))) (said_is (value_in (drop d line)) (bad_word d) v value)) words
+
+-- ---- the same where the value is refused
+
+env_is : (line : Bytes) (w : Word) (a b : ℕ) → said name_in (record { at = a; text = between a b line }) ≡ Ok (between a b line)
+    → env_words line (w ∷ record { at = a; text = between a b line } ∷ words_at b line) ≡ made (Env (between a b line)) (said value_in (record { at = b; text = drop b line }))
+unfolding env_words env_of
+env_is line w a b name =
+    let f = first_at line b in
+    rw (f.1.1, name) (bound (said value_in (record { at = b; text = drop b line })))
+  where
+    bound : (r : Result Value LineRefusal) → (r >>= (λ v. Ok (Env (between a b line) v))) ≡ made (Env (between a b line)) r
+    bound (Ok v) = refl
+    bound (Err refusal) = refl
+
+set_is : (line : Bytes) (w : Word) (a b c d : ℕ) (side : Side)
+    → place_of (record { at = a; text = between a b line }) (record { at = b; text = between b c line }) (record { at = c; text = between c d line }) ≡ Ok (side, between b c line, between c d line)
+    → set_words line (w ∷ record { at = a; text = between a b line } ∷ record { at = b; text = between b c line } ∷ record { at = c; text = between c d line } ∷ words_at d line)
+    ≡ made (Set side (between b c line) (between c d line)) (said value_in (record { at = d; text = drop d line }))
+unfolding set_words set_of
+set_is line w a b c d side place =
+    let f = first_at line d in
+    rw (f.1.1, place) (bound (said value_in (record { at = d; text = drop d line })))
+  where
+    bound : (r : Result Value LineRefusal) → (r >>= (λ v. Ok (Set side (between b c line) (between c d line) v))) ≡ made (Set side (between b c line) (between c d line)) r
+    bound (Ok v) = refl
+    bound (Err refusal) = refl
+
+pub env_sure : (line : Bytes) (w : Word) (behind : List Word) (a b : ℕ) (f : LineFault) → words_of line ≡ w ∷ behind → behind ≡ record { at = a; text = between a b line } ∷ words_at b line
+    → said name_in (record { at = a; text = between a b line }) ≡ Ok (between a b line) → IsSure (said value_in (record { at = b; text = drop b line })) f
+    → IsSure (env_words line (words_of line)) f
+env_sure line w behind a b f is are name h =
+    let all = ap (env_words line) (is ∙ ap (λ ws. w ∷ ws) are) ∙ env_is line w a b name in
+    let Sure : Result Command LineRefusal → Type 0 = λ r. IsSure r f in
+    subst Sure (sym all) (made_sure (Env (between a b line)) _ f h)
+
+pub set_sure : (line : Bytes) (w : Word) (behind : List Word) (a b c d : ℕ) (side : Side) (f : LineFault) → words_of line ≡ w ∷ behind
+    → behind ≡ record { at = a; text = between a b line } ∷ record { at = b; text = between b c line } ∷ record { at = c; text = between c d line } ∷ words_at d line
+    → place_of (record { at = a; text = between a b line }) (record { at = b; text = between b c line }) (record { at = c; text = between c d line }) ≡ Ok (side, between b c line, between c d line)
+    → IsSure (said value_in (record { at = d; text = drop d line })) f → IsSure (set_words line (words_of line)) f
+set_sure line w behind a b c d side f is are place h =
+    let all = ap (set_words line) (is ∙ ap (λ ws. w ∷ ws) are) ∙ set_is line w a b c d side place in
+    let Sure : Result Command LineRefusal → Type 0 = λ r. IsSure r f in
+    subst Sure (sym all) (made_sure (Set side (between b c line) (between c d line)) _ f h)
+
+pub sure_said : (v w : Word) (f : LineFault) → v ≡ w → IsSure (said value_in v) f → IsSure (said value_in w) f
+sure_said v w f e h = let P : Word → Type 0 = λ y. IsSure (said value_in y) f in subst P e h
 
 integer_read : (line : Bytes) (w : Word) (t : ℕ) (n : ℤ) → said integer_in (record { at = t; text = drop t line }) ≡ Ok n
     → one_word integer_in (w ∷ record { at = t; text = drop t line } ∷ []) ≡ Ok n

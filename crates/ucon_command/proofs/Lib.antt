@@ -12,6 +12,8 @@ pub mod Placed
 pub mod Proper
 pub mod ReadLines
 pub mod ReadReplies
+pub mod Refusals
 pub mod Revoked
 pub mod SpelledLines
 pub mod SpelledReplies
+pub mod SureValues

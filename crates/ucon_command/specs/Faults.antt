@@ -1,5 +1,6 @@
 -- What the faults of lines and replies tell.
-use Rattle.std.specs.Prelude.{◌≡◌, Option, None, Result, Err, ⊤}
+use Rattle.std.specs.Prelude.{◌≡◌, Bool, Option, None, Result, Err, IsOk, codes, nat_eq, ⊤}
+use Rattle.std.specs.List.{starts_with}
 use Rattle.ucon_command.specs.declared.line_fault.LineFault.{LineFault}
 use Rattle.ucon_command.specs.declared.line_fault.LineFault.TheVariants.{TooLong, NoWord, UnknownWord, WrongCount, BadWord, NoMemory}
 use Rattle.ucon_command.specs.declared.reply_fault.ReplyFault.{ReplyFault}
@@ -8,14 +9,30 @@ use Rattle.ucon_model.specs.CommandLine.{LineRefusal, line_too_long, no_word, un
 use Rattle.ucon_model.specs.Plain.{Bytes}
 use Rattle.ucon_model.specs.ReplyText.{IsReplyText}
 
+-- what is said is this refusal, and want of memory is told only where this is so
+abbrev pub IsRefusalOr : {A : Type 0} → Type 0 → Result A LineRefusal → LineFault → Type 0
+IsRefusalOr wants said (TooLong n) = said ≡ Err (line_too_long n)
+IsRefusalOr wants said NoWord = said ≡ Err no_word
+IsRefusalOr wants said UnknownWord = said ≡ Err unknown_word
+IsRefusalOr wants said (WrongCount n) = said ≡ Err (wrong_count n)
+IsRefusalOr wants said (BadWord place) = said ≡ Err (bad_word place)
+IsRefusalOr wants said (NoMemory e) = wants
+
 -- what is said is this refusal, unless it is want of memory
 abbrev pub IsRefusal : {A : Type 0} → Result A LineRefusal → LineFault → Type 0
-IsRefusal said (TooLong n) = said ≡ Err (line_too_long n)
-IsRefusal said NoWord = said ≡ Err no_word
-IsRefusal said UnknownWord = said ≡ Err unknown_word
-IsRefusal said (WrongCount n) = said ≡ Err (wrong_count n)
-IsRefusal said (BadWord place) = said ≡ Err (bad_word place)
-IsRefusal said (NoMemory e) = ⊤
+IsRefusal said f = IsRefusalOr ⊤ said f
+
+-- what is said is this refusal; want of memory is told only where nothing is refused
+abbrev pub IsSure : {A : Type 0} → Result A LineRefusal → LineFault → Type 0
+IsSure said f = IsRefusalOr (IsOk said) said f
+
+-- what is said is this refusal, whatever memory there is
+abbrev pub IsTold : {A : Type 0} → Result A LineRefusal → LineFault → Type 0
+IsTold said f = IsRefusalOr ⊥ said f
+
+-- whether a line is one that amends
+abbrev pub amends : Bytes → Bool
+amends line = starts_with nat_eq line (codes "amend ")
 
 -- nothing is read, unless it is want of memory
 abbrev pub IsUnread : {A : Type 0} → Option A → ReplyFault → Type 0

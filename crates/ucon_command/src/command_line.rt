@@ -1,11 +1,11 @@
 //! A line that spells a command, judged once.
 
-ghost use Rattle.std.specs.Prelude.{◌≡◌, ◌<◌, length, Ok, Err, IfOk, IsOk, IsTrue, MatchResult};
+ghost use Rattle.std.specs.Prelude.{◌≡◌, ◌<◌, length, Ok, Err, IfErr, IfOk, IsFalse, IsOk, IsTrue, MatchResult};
 ghost use Rattle.std.specs.Result.{result_ok};
 ghost use Rattle.ucon_model.specs.CommandLine.{line_read, most_bytes};
 ghost use Rattle.ucon_syntax.specs.Policies.{accepted};
 ghost use Rattle.ucon_command.specs.Cuts.{command_cut, commands_are_a_set, has_words};
-ghost use Rattle.ucon_command.specs.Faults.{IsRefusal};
+ghost use Rattle.ucon_command.specs.Faults.{IsRefusal, IsSure, amends};
 
 use crate::cuts::Cuts;
 use crate::cutting::command_of;
@@ -28,9 +28,10 @@ pub struct CommandLine<'a> {
 
 impl<'a> CommandLine<'a> {
     /// The line, if it spells a command, or the first refusal. Only a value that is a set, and an amendment's
-    /// policy, take memory while it is judged.
+    /// policy, take memory while it is judged; so but for an amendment each refusal is told whatever memory there is.
     pub fn judge(alloc: Global, text: &'a [u8]) -> Result<CommandLine<'a>, LineFault>
         ensures judged { MatchResult result (λ l. (l.text.now ≡ text.now) × IsOk (line_read accepted text.now)) (IsRefusal (line_read accepted text.now)) }
+        ensures sure { IsFalse (amends text.now) → IfErr result (IsSure (line_read accepted text.now)) }
         ensures long { most_bytes text.now < length text.now → result ≡ Err (LineFault.TooLong (length text.now)) }
     {
         match cuts_of(alloc, text) {
@@ -39,7 +40,8 @@ impl<'a> CommandLine<'a> {
         }
     }
 
-    /// The command.
+    /// The command. It is built where it is used, and not copied there.
+    #[inline(always)]
     pub fn command(&self, alloc: Global) -> Result<Command, NoMemory>
         ensures { IfOk result (λ c. line_read accepted self.now.text.now ≡ Ok c) }
     {

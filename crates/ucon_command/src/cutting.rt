@@ -13,6 +13,7 @@ use ucon_base::{Int, Name, NoMemory, Side, Value, ValueFault};
 use ucon_model::{Amend, Command};
 
 /// The command that these cuts of a line give.
+#[inline(always)]
 #[tactic(auto, using(crate::proofs::KnownWords::both, crate::proofs::KnownWords::some_mapped))]
 pub fn command_of(alloc: Global, line: &[u8], cuts: Cuts) -> Result<Command, NoMemory>
     requires words { IsTrue (has_words cuts line.now) }

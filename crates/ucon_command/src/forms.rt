@@ -1,12 +1,12 @@
 //! What the words of a line say, by its form.
 
-ghost use Rattle.std.specs.Prelude.{◌≡◌, ◌≤◌, ◌<◌, [], ◌∷◌, length, drop, IfNone, IfOk, IfSome, IsOk, IsTrue, Ok, MatchOption, MatchResult};
+ghost use Rattle.std.specs.Prelude.{◌≡◌, ◌≤◌, ◌<◌, [], ◌∷◌, length, drop, None, IfErr, IfNone, IfOk, IfSome, IsOk, IsTrue, Ok, MatchOption, MatchResult};
 ghost use Rattle.std.specs.Result.{result_ok};
 ghost use Rattle.ucon_base.specs.NameBytes.{is_name};
 ghost use Rattle.ucon_model.specs.CommandLine.{name_in, integer_in, number_in, one_word, names_of, three_names, place_of, value_words, set_words, env_words, amend_words, words_of};
 ghost use Rattle.ucon_syntax.specs.Policies.{accepted};
 ghost use Rattle.ucon_command.specs.Cuts.{AreCuts, IsSecond, between, ends_in_name, has_name, words_at, words_from};
-ghost use Rattle.ucon_command.specs.Faults.{IsRefusal};
+ghost use Rattle.ucon_command.specs.Faults.{IsRefusal, IsSure, IsTold};
 ghost use Rattle.ucon_command.specs.Words.{word_of};
 
 use crate::cuts::Cuts;
@@ -77,7 +77,7 @@ fn set_places(line: &[u8], second: Option<usize>) -> Option<(usize, usize, usize
 pub fn one_name(line: &[u8], second: Option<usize>) -> Result<u16, LineFault>
     requires short { length line.now ≤ 8192 }
     requires second { IsSecond second line.now }
-    ensures { MatchResult result (λ n. (one_word name_in (words_of line.now) ≡ Ok (drop n line.now)) × IsTrue (ends_in_name n line.now)) (IsRefusal (one_word name_in (words_of line.now))) }
+    ensures { MatchResult result (λ n. (one_word name_in (words_of line.now) ≡ Ok (drop n line.now)) × IsTrue (ends_in_name n line.now)) (IsTold (one_word name_in (words_of line.now))) }
 {
     let Some(name) = one_word(line, second) else {
         return Err(LineFault::WrongCount(word_count(line)));
@@ -91,7 +91,7 @@ pub fn one_name(line: &[u8], second: Option<usize>) -> Result<u16, LineFault>
 pub fn one_integer(alloc: Global, line: &[u8], second: Option<usize>) -> Result<u16, LineFault>
     requires short { length line.now ≤ 8192 }
     requires second { IsSecond second line.now }
-    ensures { MatchResult result (λ t. IsOk (one_word integer_in (words_of line.now)) × (result_ok (one_word integer_in (words_of line.now)) ≡ integer_in (drop t line.now)) × (t ≤ length line.now)) (IsRefusal (one_word integer_in (words_of line.now))) }
+    ensures { MatchResult result (λ t. IsOk (one_word integer_in (words_of line.now)) × (result_ok (one_word integer_in (words_of line.now)) ≡ integer_in (drop t line.now)) × (t ≤ length line.now)) (IsTold (one_word integer_in (words_of line.now))) }
 {
     let Some(tick) = one_word(line, second) else {
         return Err(LineFault::WrongCount(word_count(line)));
@@ -105,7 +105,7 @@ pub fn one_integer(alloc: Global, line: &[u8], second: Option<usize>) -> Result<
 pub fn one_number(alloc: Global, line: &[u8], second: Option<usize>) -> Result<u32, LineFault>
     requires short { length line.now ≤ 8192 }
     requires second { IsSecond second line.now }
-    ensures { MatchResult result (λ n. one_word number_in (words_of line.now) ≡ Ok n) (IsRefusal (one_word number_in (words_of line.now))) }
+    ensures { MatchResult result (λ n. one_word number_in (words_of line.now) ≡ Ok n) (IsTold (one_word number_in (words_of line.now))) }
 {
     match one_word(line, second) {
         Some(session) => number_word(alloc, &last_word(line, session)),
@@ -115,7 +115,7 @@ pub fn one_number(alloc: Global, line: &[u8], second: Option<usize>) -> Result<u
 
 #[tactic(auto, unfolding(ucon_model::specs::CommandLine::names_of))]
 fn names_of(a: &Word<'_>, b: &Word<'_>, c: &Word<'_>) -> Result<(), LineFault>
-    ensures read { MatchResult result (λ _. names_of (word_of a.now) (word_of b.now) (word_of c.now) ≡ Ok (a.now.text.now, b.now.text.now, c.now.text.now)) (IsRefusal (names_of (word_of a.now) (word_of b.now) (word_of c.now))) }
+    ensures read { MatchResult result (λ _. names_of (word_of a.now) (word_of b.now) (word_of c.now) ≡ Ok (a.now.text.now, b.now.text.now, c.now.text.now)) (IsTold (names_of (word_of a.now) (word_of b.now) (word_of c.now))) }
     ensures names { IfOk result (λ _. IsTrue (is_name a.now.text.now) × IsTrue (is_name b.now.text.now) × IsTrue (is_name c.now.text.now)) }
 {
     name_word(a)?;
@@ -128,7 +128,7 @@ fn names_of(a: &Word<'_>, b: &Word<'_>, c: &Word<'_>) -> Result<(), LineFault>
 pub fn three_names(line: &[u8], second: Option<usize>) -> Result<(u16, u16, u16), LineFault>
     requires short { length line.now ≤ 8192 }
     requires second { IsSecond second line.now }
-    ensures read { MatchResult result (λ p. three_names (words_of line.now) ≡ Ok (between p.0 p.1 line.now, between p.1 p.2 line.now, drop p.2 line.now)) (IsRefusal (three_names (words_of line.now))) }
+    ensures read { MatchResult result (λ p. three_names (words_of line.now) ≡ Ok (between p.0 p.1 line.now, between p.1 p.2 line.now, drop p.2 line.now)) (IsTold (three_names (words_of line.now))) }
     ensures words { IfOk result (λ p. IsTrue (has_name p.0 p.1 line.now) × IsTrue (has_name p.1 p.2 line.now) × IsTrue (ends_in_name p.2 line.now)) }
 {
     let Some((a, b, c)) = three_words(line, second) else {
@@ -145,7 +145,7 @@ pub fn three_names(line: &[u8], second: Option<usize>) -> Result<(u16, u16, u16)
 /// The side that an entity and its attribute are of.
 #[tactic(auto, unfolding(ucon_model::specs::CommandLine::place_of))]
 fn place_of(side: &Word<'_>, name: &Word<'_>, attr: &Word<'_>) -> Result<Side, LineFault>
-    ensures read { MatchResult result (λ s. place_of (word_of side.now) (word_of name.now) (word_of attr.now) ≡ Ok (s, name.now.text.now, attr.now.text.now)) (IsRefusal (place_of (word_of side.now) (word_of name.now) (word_of attr.now))) }
+    ensures read { MatchResult result (λ s. place_of (word_of side.now) (word_of name.now) (word_of attr.now) ≡ Ok (s, name.now.text.now, attr.now.text.now)) (IsTold (place_of (word_of side.now) (word_of name.now) (word_of attr.now))) }
     ensures names { IfOk result (λ _. IsTrue (is_name name.now.text.now) × IsTrue (is_name attr.now.text.now)) }
 {
     let side = side_word(side)?;
@@ -159,7 +159,7 @@ fn place_of(side: &Word<'_>, name: &Word<'_>, attr: &Word<'_>) -> Result<Side, L
 pub fn value_words(line: &[u8], second: Option<usize>) -> Result<(Side, u16, u16), LineFault>
     requires short { length line.now ≤ 8192 }
     requires second { IsSecond second line.now }
-    ensures read { MatchResult result (λ p. value_words (words_of line.now) ≡ Ok (p.0, between p.1 p.2 line.now, drop p.2 line.now)) (IsRefusal (value_words (words_of line.now))) }
+    ensures read { MatchResult result (λ p. value_words (words_of line.now) ≡ Ok (p.0, between p.1 p.2 line.now, drop p.2 line.now)) (IsTold (value_words (words_of line.now))) }
     ensures words { IfOk result (λ p. IsTrue (has_name p.1 p.2 line.now) × IsTrue (ends_in_name p.2 line.now)) }
 {
     let Some((a, b, c)) = three_words(line, second) else {
@@ -178,7 +178,7 @@ pub fn value_words(line: &[u8], second: Option<usize>) -> Result<(Side, u16, u16
 pub fn set_words(alloc: Global, line: &[u8], second: Option<usize>) -> Result<Cuts, LineFault>
     requires short { length line.now ≤ 8192 }
     requires second { IsSecond second line.now }
-    ensures { MatchResult result (λ k. AreCuts k line.now (set_words line.now (words_of line.now))) (IsRefusal (set_words line.now (words_of line.now))) }
+    ensures { MatchResult result (λ k. AreCuts k line.now (set_words line.now (words_of line.now))) (IsSure (set_words line.now (words_of line.now))) }
 {
     let Some((a, b, c, d)) = set_places(line, second) else {
         return Err(LineFault::WrongCount(word_count(line)));
@@ -202,7 +202,7 @@ pub fn set_words(alloc: Global, line: &[u8], second: Option<usize>) -> Result<Cu
 pub fn env_words(alloc: Global, line: &[u8], second: Option<usize>) -> Result<Cuts, LineFault>
     requires short { length line.now ≤ 8192 }
     requires second { IsSecond second line.now }
-    ensures { MatchResult result (λ k. AreCuts k line.now (env_words line.now (words_of line.now))) (IsRefusal (env_words line.now (words_of line.now))) }
+    ensures { MatchResult result (λ k. AreCuts k line.now (env_words line.now (words_of line.now))) (IsSure (env_words line.now (words_of line.now))) }
 {
     let Some((a, b)) = env_places(line, second) else {
         return Err(LineFault::WrongCount(word_count(line)));
@@ -220,8 +220,9 @@ pub fn env_words(alloc: Global, line: &[u8], second: Option<usize>) -> Result<Cu
 pub fn amend_words(alloc: Global, line: &[u8], second: Option<usize>) -> Result<Cuts, LineFault>
     requires short { length line.now ≤ 65542 }
     requires second { IsSecond second line.now }
-    ensures { MatchResult result (λ k. AreCuts k line.now (amend_words accepted line.now (words_of line.now)))
+    ensures cuts { MatchResult result (λ k. AreCuts k line.now (amend_words accepted line.now (words_of line.now)))
         (IsRefusal (amend_words accepted line.now (words_of line.now))) }
+    ensures alone { second ≡ None → IfErr result (IsTold (amend_words accepted line.now (words_of line.now))) }
 {
     let Some(policy) = second else {
         return Err(LineFault::WrongCount(word_count(line)));

@@ -1,11 +1,11 @@
 //! Judges a line: by its form, where its words stand, or why it spells no command.
 
-ghost use Rattle.std.specs.Prelude.{◌≡◌, ◌<◌, ◌≤◌, ◌-◌, length, codes, Ok, Err, IsFalse, IsTrue, MatchResult};
+ghost use Rattle.std.specs.Prelude.{◌≡◌, ◌<◌, ◌≤◌, ◌-◌, length, codes, Ok, Err, IfErr, IsFalse, IsTrue, MatchResult};
 ghost use Rattle.std.specs.Str.{bytes_eq};
 ghost use Rattle.ucon_model.specs.CommandLine.{command_read, line_read, most_bytes, words_of};
 ghost use Rattle.ucon_syntax.specs.Policies.{accepted};
 ghost use Rattle.ucon_command.specs.Cuts.{AreCuts, IsSecond, word_to};
-ghost use Rattle.ucon_command.specs.Faults.{IsRefusal};
+ghost use Rattle.ucon_command.specs.Faults.{IsRefusal, IsSure, amends};
 
 use crate::cuts::Cuts;
 use crate::forms::{
@@ -15,11 +15,13 @@ use crate::line_fault::LineFault;
 use crate::words::next_word;
 use std::alloc::Global;
 
-/// Where the words of a line's command stand, or the first refusal. A line of too many bytes is refused before any memory is taken.
+/// Where the words of a line's command stand, or the first refusal. A line of too many bytes is refused before any memory is taken,
+/// and of another line than an amendment each refusal is told whatever memory there is.
 #[tactic(auto, unfolding(ucon_model::specs::CommandLine::line_read))]
 pub fn cuts_of(alloc: Global, line: &[u8]) -> Result<Cuts, LineFault>
     ensures long { most_bytes line.now < length line.now → result ≡ Err (LineFault.TooLong (length line.now)) }
     ensures cuts { MatchResult result (λ k. AreCuts k line.now (line_read accepted line.now)) (IsRefusal (line_read accepted line.now)) }
+    ensures sure { IsFalse (amends line.now) → IfErr result (IsSure (line_read accepted line.now)) }
 {
     if line.len() > most_bytes(line) {
         return Err(LineFault::TooLong(line.len()));
@@ -55,7 +57,7 @@ fn most_bytes(line: &[u8]) -> usize
 }
 
 /// The form that a line's first word begins. An amendment's line may be longer than the others.
-#[tactic(auto, using(crate::proofs::Amended::amend_form, crate::proofs::Amended::other_most, crate::proofs::Lengths::most))]
+#[tactic(auto, using(crate::proofs::Amended::amend_form, crate::proofs::Amended::amend_alone, crate::proofs::Amended::other_most, crate::proofs::Lengths::most, crate::proofs::Refusals::told_sure, crate::proofs::Refusals::sure_refused))]
 fn form_cuts(
     alloc: Global,
     line: &[u8],
@@ -65,7 +67,8 @@ fn form_cuts(
     requires short { length line.now ≤ most_bytes line.now }
     requires second { IsSecond second line.now }
     requires first { first.now ≡ (word_to 0 second line.now).text }
-    ensures { MatchResult result (λ k. AreCuts k line.now (command_read accepted line.now first.now (words_of line.now))) (IsRefusal (command_read accepted line.now first.now (words_of line.now))) }
+    ensures cuts { MatchResult result (λ k. AreCuts k line.now (command_read accepted line.now first.now (words_of line.now))) (IsRefusal (command_read accepted line.now first.now (words_of line.now))) }
+    ensures sure { IsFalse (amends line.now) → IfErr result (IsSure (command_read accepted line.now first.now (words_of line.now))) }
 {
     if first == b"amend".as_slice() {
         amend_words(alloc, line, second)
@@ -85,7 +88,7 @@ fn other_cuts(
     requires short { length line.now ≤ 8192 }
     requires second { IsSecond second line.now }
     requires other { IsFalse (bytes_eq first.now (codes "amend")) }
-    ensures { MatchResult result (λ k. AreCuts k line.now (command_read accepted line.now first.now (words_of line.now))) (IsRefusal (command_read accepted line.now first.now (words_of line.now))) }
+    ensures { MatchResult result (λ k. AreCuts k line.now (command_read accepted line.now first.now (words_of line.now))) (IsSure (command_read accepted line.now first.now (words_of line.now))) }
 {
     if first == b"subject".as_slice() {
         return one_name(line, second).map(|name| Cuts::Subject { name });

@@ -19,8 +19,6 @@ mod reading;
 mod replies;
 mod reply_fault;
 mod spelling;
-#[cfg(test)]
-mod tests;
 mod words;
 
 pub use amendment::read_accepted;

@@ -132,7 +132,7 @@ fn permitted(alloc: Global, words: &[Word<'_>]) -> Result<Reply, ReplyFault>
 {
     match words {
         [number, behind @ ..] => {
-            let n = number_in(alloc, number.text)?.ok_or(ReplyFault::BadReply)?;
+            let n = number_in(alloc, number.text).ok_or(ReplyFault::BadReply)?;
             made(alloc, Head::Permitted(n), behind)
         }
         [] => Err(ReplyFault::BadReply),
@@ -171,7 +171,7 @@ fn ended(alloc: Global, words: &[Word<'_>]) -> Result<Reply, ReplyFault>
 {
     match words {
         [number, behind @ ..] => {
-            let n = number_in(alloc, number.text)?.ok_or(ReplyFault::BadReply)?;
+            let n = number_in(alloc, number.text).ok_or(ReplyFault::BadReply)?;
             made(alloc, Head::Ended(n), behind)
         }
         [] => Err(ReplyFault::BadReply),
@@ -182,7 +182,7 @@ fn ended(alloc: Global, words: &[Word<'_>]) -> Result<Reply, ReplyFault>
 fn labelled(alloc: Global, number: &Word<'_>, label: &Word<'_>) -> Result<(u32, Name), ReplyFault>
     ensures { MatchResult result (λ p. labelled_read (word_of number.now) (word_of label.now) ≡ Some p) (IsUnread (labelled_read (word_of number.now) (word_of label.now))) }
 {
-    let n = number_in(alloc, number.text)?.ok_or(ReplyFault::BadReply)?;
+    let n = number_in(alloc, number.text).ok_or(ReplyFault::BadReply)?;
     let label = name_in(label.text).ok_or(ReplyFault::BadReply)?;
     Ok((n, label))
 }
@@ -241,7 +241,7 @@ fn value_reply<'a>(alloc: Global, bytes: &'a [u8], words: &[Word<'a>]) -> Result
 fn status_of(alloc: Global, number: &Word<'_>, state: &Word<'_>) -> Result<Reply, ReplyFault>
     ensures { MatchResult result (λ r. status_of (word_of number.now) (word_of state.now) ≡ Some (reply_of r)) (IsUnread (status_of (word_of number.now) (word_of state.now))) }
 {
-    let n = number_in(alloc, number.text)?.ok_or(ReplyFault::BadReply)?;
+    let n = number_in(alloc, number.text).ok_or(ReplyFault::BadReply)?;
     let state = state_in(state.text).ok_or(ReplyFault::BadReply)?;
     Ok(Reply::Status(n, state))
 }

@@ -13,5 +13,3 @@ pub use disk::{Disk, Failed};
 pub use file::FileDisk;
 pub use memory::MemDisk;
 
-#[cfg(test)]
-mod tests;

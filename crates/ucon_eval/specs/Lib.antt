@@ -1,4 +1,2 @@
 pub mod Worth
-pub mod Sums
-pub mod Asked
 pub mod Sort

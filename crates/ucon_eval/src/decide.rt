@@ -4,8 +4,8 @@ ghost use Rattle.std.specs.Prelude.{◌≡◌, ◌+◌, ◌-◌, ◌^◌, ◌&&�
 ghost use Rattle.ucon_model.specs.Truth.{truth};
 ghost use Rattle.ucon_model.specs.Decision.{first_false, failing, no_right, verdict};
 ghost use Rattle.ucon_model.specs.Views.{predicate_of, test_of};
-ghost use Rattle.ucon_eval.specs.Sums.{preds_make_no_set, tests_make_no_set};
-ghost use Rattle.ucon_eval.specs.Asked.{row_at, predicate_at, truth_at, makes_no_set_at};
+ghost use Rattle.ucon_asked.specs.Sums.{preds_make_no_set, tests_make_no_set};
+ghost use Rattle.ucon_asked.specs.Asked.{row_at, predicate_at, truth_at, makes_no_set_at};
 ghost use Rattle.ucon_eval.specs.Sort.{sort_of};
 
 use crate::test::is_true;
@@ -34,7 +34,8 @@ fn is_of(sort: Sort, p: &Predicate) -> bool
     }
 }
 
-/// The label of the first predicate of a sort that is false.
+/// The label of the first predicate of a sort that is false. It is inlined, so that each of its three callers asks for one sort alone.
+#[inline(always)]
 fn first_false<V: View>(view: &V, session: u32, sort: Sort, preds: &[Predicate]) -> Option<Name>
     requires there { IsSome ((V.readings view.now).row session) }
     requires no_set { preds_make_no_set (V.readings view.now) (row_at (V.readings view.now) session) (map predicate_of preds.now) ≡ true }

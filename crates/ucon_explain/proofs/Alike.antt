@@ -14,11 +14,11 @@ use Rattle.ucon_model.specs.Plain.{Bytes, PlainFormula, both, either, negation, 
 use Rattle.ucon_model.specs.Readings.{in_force, session, sessions}
 use Rattle.ucon_model.specs.Truth.{Readings, holds, place_of, readings, truth}
 use Rattle.ucon_state.specs.Applied.{tried}
-use Rattle.ucon_explain.specs.Checking.{verdict_told}
-use Rattle.ucon_explain.specs.Explanation.{PlainWhy, line, lines, lines_from}
-use Rattle.ucon_explain.specs.Trying.{admin, explanation, with_try}
-use Rattle.ucon_explain.proofs.Tried.{AgreeingAreOne}
-use Rattle.ucon_explain.proofs.Verdicts.{verdict_of_lines}
+use Rattle.ucon_accept.specs.Checking.{verdict_told}
+use Rattle.ucon_told.specs.Explanation.{PlainWhy, line, lines, lines_from}
+use Rattle.ucon_accept.specs.Trying.{admin, explanation, with_try}
+use Rattle.ucon_accept.proofs.Meeting.{AgreeingAreOne}
+use Rattle.ucon_accept.proofs.Verdicts.{verdict_of_lines}
 
 abbrev Rows : Type 0
 Rows = ℕ → Option SessionRow

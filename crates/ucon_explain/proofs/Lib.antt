@@ -1,15 +1,2 @@
-pub mod SameTexts
-pub mod Same
-pub mod SingleFacts
-pub mod Reading
-pub mod Agreeing
-pub mod Lookup
-pub mod Truths
-pub mod Verdicts
-pub mod Lines
-pub mod OneSession
-pub mod Tried
 pub mod Alike
 pub mod BuyTooYoung
-pub mod Answered
-pub mod Stepping

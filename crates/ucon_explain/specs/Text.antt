@@ -7,11 +7,11 @@ use Rattle.ucon_model.specs.declared.formula.Ref.TheVariants.{Subject, Object, E
 use Rattle.ucon_model.specs.declared.session.Verdict.{Verdict}
 use Rattle.ucon_model.specs.declared.session.Verdict.TheVariants.{Permit, Deny, Wait}
 use Rattle.ucon_model.specs.Plain.{Bytes}
-use Rattle.ucon_explain.specs.declared.explanation.Fact.{Fact}
-use Rattle.ucon_explain.specs.declared.explanation.Fact.TheVariants.{Value, Moment, Tick}
-use Rattle.ucon_explain.specs.declared.explanation.Factor.{Factor}
-use Rattle.ucon_explain.specs.declared.explanation.Factor.TheVariants.{Authorisation, Obligation, Condition}
-use Rattle.ucon_explain.specs.Explanation.{PlainExplanation, PlainWhy}
+use Rattle.ucon_told.specs.declared.explanation.Fact.{Fact}
+use Rattle.ucon_told.specs.declared.explanation.Fact.TheVariants.{Value, Moment, Tick}
+use Rattle.ucon_told.specs.declared.explanation.Factor.{Factor}
+use Rattle.ucon_told.specs.declared.explanation.Factor.TheVariants.{Authorisation, Obligation, Condition}
+use Rattle.ucon_told.specs.Explanation.{PlainExplanation, PlainWhy}
 
 -- ---- words
 

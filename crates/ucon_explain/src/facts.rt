@@ -1,44 +1,15 @@
 //! The facts that a test reads, with the values that stand there.
 
-ghost use Rattle.std.specs.Prelude.{◌≡◌, ◌++◌, ◌∷◌, IfOk, OnOk, Some, map, option_copied, unwrap_or};
+ghost use Rattle.std.specs.Prelude.{◌≡◌, ◌++◌, ◌∷◌, IfOk, OnOk, Some, map, option_copied};
 ghost use Rattle.ucon_model.specs.Truth.{read_or_zero};
 ghost use Rattle.ucon_model.specs.Views.{formula_of, test_of};
-ghost use Rattle.ucon_explain.specs.Facts.{act_fact, asks_tick, formula_facts, is_timed, test_facts, tick_fact, value_fact};
+ghost use Rattle.ucon_told.specs.Facts.{act_fact, formula_facts, is_timed, test_facts, tick_fact, value_fact};
 
-use crate::explanation::Fact;
 use crate::places::places_of;
 use std::alloc::Global;
-use ucon_base::{Int, Name, NoMemory, Rows, Value};
-use ucon_model::{Form, Formula, Obligation, Ref, SessionRow, Test, View};
-
-/// Whether an act may be too long ago.
-pub fn is_timed(form: Form) -> bool
-    ensures { result ≡ is_timed form }
-{
-    !matches!(form, Form::Done)
-}
-
-/// Whether a formula asks how long the usage has lasted.
-pub fn asks_tick(f: &Formula) -> bool
-    ensures { result ≡ asks_tick (formula_of f.now) }
-{
-    match f {
-        Formula::And(f, g) | Formula::Or(f, g) => asks_tick(f) || asks_tick(g),
-        Formula::Not(f) => asks_tick(f),
-        Formula::Compare(_, _, _) => false,
-        Formula::Lasts(_) => true,
-    }
-}
-
-/// The name that is given, or else this one.
-pub fn name_or<'a>(given: &'a Option<Name>, own: &'a Name) -> &'a Name
-    ensures { result.now ≡ unwrap_or given.now own.now }
-{
-    match given {
-        Some(name) => name,
-        None => own,
-    }
-}
+use ucon_base::{Int, NoMemory, Rows, Value};
+use ucon_model::{Formula, Obligation, Ref, SessionRow, Test, View};
+use ucon_told::{Fact, asks_tick, is_timed, name_or};
 
 /// A copy of a value that was read; a place that isn't there reads as 0.
 fn copy_or_zero(alloc: Global, value: Option<&Value>) -> Result<Value, NoMemory>

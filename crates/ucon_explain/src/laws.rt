@@ -6,7 +6,7 @@ ghost use Rattle.ucon_model.specs.History.{Agree};
 ghost use Rattle.ucon_model.specs.Plain.{Bytes, PlainPolicy};
 ghost use Rattle.ucon_model.specs.Readings.{in_force};
 ghost use Rattle.ucon_model.specs.Truth.{readings};
-ghost use Rattle.ucon_explain.specs.Trying.{explanation};
+ghost use Rattle.ucon_accept.specs.Trying.{explanation};
 
 use ucon_model::readings_that_agree_are_one;
 

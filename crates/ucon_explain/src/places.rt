@@ -8,18 +8,7 @@ ghost use Rattle.ucon_model.specs.Views.{expr_of, formula_of};
 use std::alloc::Global;
 use ucon_base::NoMemory;
 use ucon_model::{Expr, Formula, Ref};
-
-/// Whether two places are the same.
-pub fn is_same_place(a: &Ref, b: &Ref) -> bool
-    ensures { result ≡ same_place a.now b.now }
-{
-    match (a, b) {
-        (Ref::Subject(x), Ref::Subject(y)) => x == y,
-        (Ref::Object(x), Ref::Object(y)) => x == y,
-        (Ref::Env(x), Ref::Env(y)) => x == y,
-        _ => false,
-    }
-}
+use ucon_told::is_same_place;
 
 fn has_place(places: &[Ref], place: &Ref) -> bool
     ensures { result ≡ list_any (same_place place.now) places.now }

@@ -1,14 +1,14 @@
 //! Explanations as text.
 
 ghost use Rattle.std.specs.Prelude.{◌≡◌, ◌++◌, ◌∷◌, [], IfOk, OnOk, codes, map};
-ghost use Rattle.ucon_explain.specs.declared.explanation.Fact.TheVariants as facts;
-ghost use Rattle.ucon_explain.specs.Explanation.{explanation_of, why_of};
+ghost use Rattle.ucon_told.specs.declared.explanation.Fact.TheVariants as facts;
+ghost use Rattle.ucon_told.specs.Explanation.{explanation_of, why_of};
 ghost use Rattle.ucon_explain.specs.Text.{explanation_spelling, fact_spelling, factor_word, facts_spelling, moment_spelling, place_spelling, truth_word, verdict_spelling, why_spelling, whys_spelling};
 
-use crate::explanation::{Explanation, Fact, Factor, Why};
 use std::alloc::Global;
 use ucon_base::{Int, Name, NoMemory, Value, put, put_integer};
 use ucon_model::{Ref, Verdict};
+use ucon_told::{Explanation, Fact, Factor, Why};
 
 /// The letter of what a predicate decides by.
 fn factor_word(factor: Factor) -> &'static [u8]

@@ -5,8 +5,6 @@ mod ends;
 mod item;
 mod line_reader;
 mod rule;
-#[cfg(test)]
-mod tests;
 
 pub use ends::{Feeder, Taker, inbox, rejoin};
 pub use item::Item;

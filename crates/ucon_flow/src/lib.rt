@@ -6,8 +6,6 @@ mod memory;
 mod real;
 mod sink;
 mod source;
-#[cfg(test)]
-mod tests;
 
 pub use memory::{MemSink, MemSource};
 pub use real::{ReadSource, WriteSink};

@@ -1,6 +1,7 @@
 mod Added
 mod Files
 mod Openings
+mod Reading
 mod Records
 mod Steps
 mod Taking

@@ -3,6 +3,7 @@ use Rattle.std.specs.Prelude.{◌≡◌, ◌⊎◌, ℕ, ◌+◌, ◌≤◌, Lis
 use Rattle.ucon_journal.specs.declared.journal.Journal.{Journal}
 use Rattle.ucon_journal.specs.declared.phase.Phase.{Phase}
 use Rattle.ucon_journal.specs.declared.phase.Phase.TheVariants.{Reading, Ended, Closed, Broken}
+use Rattle.ucon_journal.specs.Ahead.{IsPartOf}
 use Rattle.ucon_journal.specs.Found.{counted, payloads_from, StandsAt}
 
 abbrev pub disk_of : {D : Type 0} → Journal D → D
@@ -33,11 +34,12 @@ told_payloads (Some file) = counted file
 abbrev pub IsUnmended : Phase → Type 0
 IsUnmended phase = (phase ≡ Reading) ⊎ (phase ≡ Ended)
 
--- it is being read, up to the gate
+-- it is being read, up to the gate, and the bytes that were read ahead are the file's
 pub record IsReading {D : Type 0} (contents : D → Option (List ℕ)) (j : Journal D) : Type 0 where
   pub phase : IsUnmended j.phase
   pub told : IfSome (contents j.disk) (λ file. (payloads : List (List ℕ)) × StandsAt file j.version j.gate payloads)
   pub len : IfSome (contents j.disk) (λ file. j.len ≡ length file)
+  pub ahead : IfSome (contents j.disk) (IsPartOf j.ahead)
 
 -- it was read to the first gate whose record doesn't count
 pub record HasEnded {D : Type 0} (contents : D → Option (List ℕ)) (j : Journal D) : Type 0 where

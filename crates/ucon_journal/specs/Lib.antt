@@ -1,3 +1,4 @@
+pub mod Ahead
 pub mod Found
 pub mod Journal
 pub mod JournalBytes

@@ -12,6 +12,7 @@ ghost use Rattle.ucon_journal.specs.Found.{found, version_told, counted, payload
 ghost use Rattle.ucon_journal.specs.Found as finding;
 ghost use Rattle.ucon_journal.specs.Opened.{opened, shut_at, with_payload, Untouched, SamePayloads, PerhapsAdded};
 
+use crate::ahead::Ahead;
 use crate::fault::{DiskFault, OpenFault, TakeFault};
 use crate::opening::begin;
 use crate::phase::Phase;
@@ -35,6 +36,7 @@ pub struct Journal<D> {
     version: u8,
     gate: u64,
     len: u64,
+    ahead: Ahead,
     buffer: Vec<u8>,
     phase: Phase,
     ghost version_known: { IsVersion version },
@@ -70,6 +72,7 @@ impl<D: Disk> Journal<D> {
                 version: opened.version,
                 gate: FIRST_GATE,
                 len: opened.len,
+                ahead: Ahead::new(alloc),
                 buffer: Vec::new(alloc),
                 phase: Phase::Reading,
             }),
@@ -107,7 +110,7 @@ impl<D: Disk> Journal<D> {
         ensures unfailed { result ≢ Err TakeFault.DiskFault → D.faults (disk_of self.new) ≡ D.faults (disk_of self.old) }
     {
         let mut header = [0; 5];
-        let got = self.disk.read_at(self.gate, &mut header)?;
+        let got = self.ahead.read_at(&mut self.disk, self.gate, &mut header)?;
         let left = self.len.saturating_sub(self.gate);
         let Some(len) = whole_len(&header[..got], left) else {
             self.phase = Phase::Ended;
@@ -117,7 +120,9 @@ impl<D: Disk> Journal<D> {
             return Err(TakeFault::TooLong(self.gate));
         }
         self.buffer.resize(len as usize, 0)?;
-        let got = self.disk.read_at(self.gate + HEADER, &mut self.buffer)?;
+        let got = self
+            .ahead
+            .read_at(&mut self.disk, self.gate + HEADER, &mut self.buffer)?;
         // A disk that tells its content reads whole here. A real file may have got shorter since its length was taken: then
         // the record doesn't lie within it, and doesn't count. No clause can say so, since no clause speaks of a real file.
         if got < self.buffer.len() {
@@ -233,6 +238,7 @@ impl<D: Disk> Journal<D> {
             version: _,
             gate: _,
             len: _,
+            ahead: _,
             buffer: _,
             phase: _,
         } = self;

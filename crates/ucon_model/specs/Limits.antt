@@ -20,9 +20,13 @@ pub record IsRightWithin (r : PlainRight) : Type 0 where
   pub preds : (phase : Phase) → count_by (λ p. same_phase phase p.phase) r.preds ≤ 16
   pub updates : (when : When) → count_by (λ u. same_when when u.when) r.updates ≤ 16
 
--- at most 16 attributes of each side, 32 variables and 64 rights
+-- at most 16 attributes of each side
+abbrev pub HasFewAttrs : PlainPolicy → Type 0
+HasFewAttrs p = (side : Side) → count_by (λ a. same_side side a.side) p.attrs ≤ 16
+
+-- that, 32 variables and 64 rights
 pub record IsWithin (p : PlainPolicy) : Type 0 where
-  pub attrs : (side : Side) → count_by (λ a. same_side side a.side) p.attrs ≤ 16
+  pub attrs : HasFewAttrs p
   pub envs : length p.envs ≤ 32
   pub rights : length p.rights ≤ 64
   pub each : Each IsRightWithin p.rights

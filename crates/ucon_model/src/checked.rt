@@ -2,24 +2,27 @@
 
 ghost use Rattle.std.specs.Prelude.{◌≡◌, IfOk};
 ghost use Rattle.ucon_model.specs.Views.{policy_of};
+ghost use Rattle.ucon_model.specs.Limits.{HasFewAttrs};
 ghost use Rattle.ucon_model.specs.Typing.{IsTyped};
 
 use crate::Policy;
 use std::alloc::Global;
 use ucon_base::NoMemory;
 
-/// A policy that is well typed.
+/// A policy that is well typed, with at most 16 attributes of each side.
 #[derive(Debug, Drop)]
 pub struct Checked {
     policy: Policy,
     ghost typed: { IsTyped (policy_of policy) },
+    ghost few: { HasFewAttrs (policy_of policy) },
 }
 
 impl Checked {
     ghost use Rattle.ucon_model.specs.Checked.{checked_policy};
 
     pub fn new(policy: Policy) -> Checked
-        requires { IsTyped (policy_of policy) }
+        requires typed { IsTyped (policy_of policy) }
+        requires few { HasFewAttrs (policy_of policy) }
         ensures { checked_policy result ≡ policy_of policy }
     {
         Checked { policy }
@@ -28,6 +31,7 @@ impl Checked {
     pub fn policy(&self) -> &Policy
         ensures policy { policy_of result.now ≡ checked_policy self.now }
         ensures typed { IsTyped (checked_policy self.now) }
+        ensures few { HasFewAttrs (checked_policy self.now) }
     {
         &self.policy
     }

@@ -69,6 +69,7 @@ impl Pend {
     }
 
     /// Takes out the least member.
+    #[inline(always)]
     pub fn pop_least(&mut self) -> Option<u32>
         ensures limit { self.new.limit ≡ self.old.limit }
         ensures least { IfSome result (λ n. self.old.members ≡ n ∷ self.new.members) }
@@ -89,48 +90,5 @@ impl Pend {
         ensures { self.new ≡ record self.old { members = [] } }
     {
         while self.pop_least().is_some() {}
-    }
-}
-
-#[cfg(test)]
-mod tests {
-    use super::*;
-    use std::test::Fail;
-
-    #[test]
-    fn least_first(rt: HostRuntime) -> Result<(), Fail> {
-        let mut set = Pend::new(rt.alloc(), 100)?;
-        set.put(70);
-        set.put(3);
-        assert_eq!(rt; set.pop_least(), Some(3));
-        assert_eq!(rt; set.pop_least(), Some(70));
-        assert_eq!(rt; set.pop_least(), None);
-        Ok(())
-    }
-
-    // The greatest first, so that each is a new least member.
-    fn put_all(set: &mut Pend, numbers: &[u32]) {
-        for n in numbers.iter().rev() {
-            if *n < set.limit() {
-                set.put(*n);
-            }
-        }
-    }
-
-    #[test]
-    fn borders_of_the_levels(rt: HostRuntime) -> Result<(), Fail> {
-        let borders = [0, 63, 64, 4095, 4096, 262143, 262144, 16777215];
-        let mut set = Pend::new(rt.alloc(), Pend::MAX_LIMIT)?;
-        put_all(&mut set, &borders);
-        for n in borders {
-            assert_eq!(rt; set.pop_least(), Some(n));
-        }
-        assert_eq!(rt; set.pop_least(), None);
-        put_all(&mut set, &borders);
-        set.clear();
-        put_all(&mut set, &[4096]);
-        assert_eq!(rt; set.pop_least(), Some(4096));
-        assert_eq!(rt; set.pop_least(), None);
-        Ok(())
     }
 }

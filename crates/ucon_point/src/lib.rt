@@ -11,8 +11,6 @@ mod putting;
 mod reading;
 mod row;
 mod rows;
-#[cfg(test)]
-mod tests;
 mod words;
 mod writing;
 

@@ -1,6 +1,6 @@
 //! Rows are put into a state, one after the other.
 
-ghost use Rattle.std.specs.Prelude.{◌≡◌, ◌<◌, length, IfOk, IsTrue, OnOk};
+ghost use Rattle.std.specs.Prelude.{◌≡◌, ◌≢◌, ◌<◌, length, true, IfOk, IsTrue, Ok, OnOk};
 ghost use Rattle.std.specs.Option.{option_map_or};
 ghost use Rattle.ucon_model.specs.Action as actions;
 ghost use Rattle.ucon_model.specs.Fitting.{AttributeAdmits, VariableAdmits};
@@ -19,12 +19,13 @@ use ucon_state::{ActRow, State};
 /// The most entities of a side.
 const MOST_ENTITIES: u32 = 16384;
 
-/// Puts a row that comes at a stage into a state, and says whether it may be put there.
+/// Puts a row that comes at a stage into a state, and says whether it may be put there. Unless it was put, the state is as it was.
 pub fn put_row(state: &mut State, stage: Stage, row: Row) -> Result<bool, NoMemory>
     requires { Fits (shown state.old).policy stage (shown state.old).tables row }
     ensures told { IfOk result (λ told. told ≡ may_put (shown state.old).tables row) }
     ensures put { IfOk result (λ told. IsTrue told
         → shown state.new ≡ changed_to (shown state.old) (with_put (shown state.old).policy stage (shown state.old).tables row)) }
+    ensures kept { result ≢ Ok true → shown state.new ≡ shown state.old }
 {
     match row {
         Row::Variable(name, value) => put_variable(state, &name, value),
@@ -49,6 +50,7 @@ fn put_variable(state: &mut State, name: &Name, value: Value) -> Result<bool, No
     requires { VariableAdmits (shown state.old).policy name.now value }
     ensures told { IfOk result (λ told. IsTrue told) }
     ensures put { OnOk result (shown state.new ≡ changed_to (shown state.old) (applied (shown state.old).policy (actions.env name.now value) (shown state.old).tables)) }
+    ensures kept { result ≢ Ok true → shown state.new ≡ shown state.old }
 {
     state.set_env(name, value)?;
     Ok(true)
@@ -58,6 +60,7 @@ fn put_entity(state: &mut State, side: Side, name: Name) -> Result<bool, NoMemor
     ensures told { IfOk result (λ told. told ≡ may_put_entity (shown state.old).tables side name) }
     ensures put { IfOk result (λ told. IsTrue told
         → shown state.new ≡ changed_to (shown state.old) (with_entity (shown state.old).policy (shown state.old).tables side name)) }
+    ensures kept { result ≢ Ok true → shown state.new ≡ shown state.old }
 {
     if state.find(side, &name).is_some() {
         return Ok(false);
@@ -86,6 +89,7 @@ fn put_attribute(state: &mut State, side: Side, attr: &Name, value: Value) -> Re
     ensures told { IfOk result (λ told. IsTrue told) }
     ensures put { OnOk result (shown state.new ≡ changed_to (shown state.old) (option_map_or (λ cell. with_cell (shown state.old).tables cell value)
         (last_cell (shown state.old).policy (shown state.old).tables side attr.now) (shown state.old).tables)) }
+    ensures kept { result ≢ Ok true → shown state.new ≡ shown state.old }
 {
     let last = count_of(state, side) - 1;
     let Some(cell) = state.cell(side, last, attr) else {
@@ -98,6 +102,7 @@ fn put_attribute(state: &mut State, side: Side, attr: &Name, value: Value) -> Re
 fn put_act(state: &mut State, row: ActRow) -> Result<bool, NoMemory>
     ensures told { IfOk result (λ told. told ≡ may_put_act (shown state.old).tables row) }
     ensures put { IfOk result (λ told. IsTrue told → shown state.new ≡ changed_to (shown state.old) (with_act_row (shown state.old).tables row)) }
+    ensures kept { result ≢ Ok true → shown state.new ≡ shown state.old }
 {
     if !state.may_put_act(&row) {
         return Ok(false);
@@ -109,6 +114,7 @@ fn put_act(state: &mut State, row: ActRow) -> Result<bool, NoMemory>
 fn put_session(state: &mut State, row: SessionRow) -> Result<bool, NoMemory>
     ensures told { IfOk result (λ told. told ≡ may_put_session (shown state.old).tables row) }
     ensures put { IfOk result (λ told. IsTrue told → shown state.new ≡ changed_to (shown state.old) (with_new_session (shown state.old).tables row)) }
+    ensures kept { result ≢ Ok true → shown state.new ≡ shown state.old }
 {
     if !state.may_put_session(&row) {
         return Ok(false);

@@ -6,8 +6,6 @@ mod formula;
 mod items;
 mod laws;
 mod policy;
-#[cfg(test)]
-mod tests;
 mod words;
 
 pub use laws::printed_policies_are_read_back;

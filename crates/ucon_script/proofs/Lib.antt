@@ -4,4 +4,5 @@ pub mod Divided
 pub mod Drawing
 pub mod FirstByte
 pub mod Generating
+pub mod Headings
 pub mod Scripts

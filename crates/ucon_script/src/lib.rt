@@ -11,8 +11,6 @@ mod number;
 mod part;
 mod read;
 mod script_reader;
-#[cfg(test)]
-mod tests;
 
 pub use doc_fault::DocFault;
 pub use document::{Document, Line};

@@ -1,8 +1,8 @@
 //! A script, read line by line.
 
-ghost use Rattle.std.specs.Prelude.{◌≡◌, ◌<◌, ◌+◌, Some, option_map, IfErr, OnOk};
+ghost use Rattle.std.specs.Prelude.{◌≡◌, ◌<◌, ◌+◌, Some, option_map, IfErr, IsFalse, IsTrue, MatchOption, OnErr, OnOk};
 ghost use Rattle.std.specs.Option.{ForSome};
-ghost use Rattle.ucon_model.specs.Document.{is_skipped, said_told, line_told};
+ghost use Rattle.ucon_model.specs.Document.{behind_first_word, is_heading, is_skipped, said_told, line_told};
 ghost use Rattle.ucon_script.specs.Document.{Gives, IsSure, spelled_line};
 ghost use Rattle.ucon_script.specs.Lines.{client_after, count_after};
 ghost use Rattle.ucon_syntax.specs.Policies.{accepted};
@@ -45,7 +45,7 @@ impl ScriptReader {
     }
 
     /// The command line that the next line is, given without its newline; None where it is a heading or says nothing, being empty or begun with `#`. A
-    /// line that is refused is counted as read. All but a command is told whatever memory there is.
+    /// line that is refused is counted as read, and changes nothing else. All but a command is told whatever memory there is.
     pub fn line<'a>(
         &mut self,
         alloc: Global,
@@ -57,15 +57,15 @@ impl ScriptReader {
         ensures number { self.new.number ≡ self.old.number + 1 }
         ensures client { OnOk result (self.new.client ≡ client_after self.old.client line.now) }
         ensures said { OnOk result (self.new.said ≡ count_after self.old.said line.now) }
+        ensures refused { OnErr result ((self.new.client ≡ self.old.client) × (self.new.said ≡ self.old.said)) }
     {
         let number = self.number;
         self.number += 1;
         if is_skipped(line) {
             return Ok(None);
         }
-        let (word, rest) = cut(line, b' ');
-        if word == b"client".as_slice() {
-            let client = heading(number, rest)?;
+        if let Some(spelling) = behind_client(line) {
+            let client = heading(number, spelling)?;
             self.client = Some(client);
             return Ok(None);
         }
@@ -101,6 +101,21 @@ fn command_line<'a>(
             command,
         }),
         Err(fault) => Err(fault_of(number, fault)),
+    }
+}
+
+/// What stands behind the word `client` and a space, where that is a line's first word. The first space of a line that begins otherwise isn't sought.
+fn behind_client(line: &[u8]) -> Option<&[u8]>
+    ensures { MatchOption result (IsFalse (is_heading line.now)) (λ rest. IsTrue (is_heading line.now) × (rest.now ≡ behind_first_word line.now)) }
+{
+    if !line.starts_with(b"client") {
+        return None;
+    }
+    let (word, rest) = cut(line, b' ');
+    if word == b"client".as_slice() {
+        Some(rest)
+    } else {
+        None
     }
 }
 

@@ -1,11 +1,15 @@
 -- The tables of a state under a policy that replaces another, and the names of its rights.
-use Rattle.std.proofs.Common.{◌≡◌, ◌∙◌, ◌≤◌, ◌<◌, ◌+◌, ◌^◌, ◌⊎◌, inl, inr, ℕ, zero, suc, refl, sym, ap, subst, List, [], ◌∷◌, ◌++◌, length, map, drop, position, slice_get, slice_index_or, Bool, true, false, is_some, Option, Some, None, unwrap_or, cond, arith}
+use Rattle.std.proofs.Common.{◌≡◌, ◌∙◌, ◌≤◌, ◌<◌, ◌+◌, ◌*◌, ◌^◌, ◌⊎◌, inl, inr, ℕ, zero, suc, refl, sym, ap, subst, List, [], ◌∷◌, ◌++◌, length, map, drop, position, slice_get, slice_index_or, Bool, true, false, is_some, Option, Some, None, unwrap_or, cond, arith}
 use Rattle.std.specs.Str.{bytes_eq}
 use Rattle.std.proofs.lemmas.List.{drop_all, length-append, length-map, length_push}
+use Rattle.std.proofs.lemmas.List.Sums.{length-filter}
+use Rattle.ucon_base.specs.declared.value.Side.{Side}
 use Rattle.ucon_base.specs.declared.value.Side.TheVariants as sides
 use Rattle.ucon_base.specs.declared.value.Value.{Value}
 use Rattle.ucon_model.specs.Plain.{Bytes, PlainPolicy, PlainRight}
 use Rattle.ucon_model.specs.declared.policy.Right.{Right}
+use Rattle.ucon_model.specs.Limits.{HasFewAttrs}
+use Rattle.ucon_model.specs.Readings.{same_side}
 use Rattle.ucon_model.specs.Views.{right_of}
 use Rattle.ucon_model.specs.Decision.{right_named}
 use Rattle.ucon_state.specs.declared.change.Undo.{Undo}
@@ -31,6 +35,15 @@ laid_at first w [] e k within is = absurd (omega (arith, within))
 laid_at first w (d ∷ es) e zero within is = let same : first ≡ e.1 = ap (λ (p : Bytes × ℕ). p.1) is in omega (arith, same)
 laid_at first w (d ∷ es) e (suc k) within is = let later = laid_at (first + w) w es e k (omega (arith, within)) is in omega (arith, later)
 
+-- ---- a side has at most 16 attributes, so each of its entities has at most 16 cells
+
+pub width_few : (Q : PlainPolicy) → HasFewAttrs Q → (side : Side) → width Q side ≤ 16
+width_few Q few side = subst (λ n. n ≤ 16) (sym (length-filter (λ d. same_side side d.side) Q.attrs)) (few side)
+
+room_few : (w : ℕ) (es : List (Bytes × ℕ)) → w ≤ 16 → room w es ≤ 16 * length es
+room_few w [] few = omega arith
+room_few w (e ∷ es) few = omega (arith, few, room_few w es few)
+
 module _ (P Q : PlainPolicy) (t : Stored) where
   abbrev subject_cells : List Value
   subject_cells = all_kept_cells P Q t.cells sides.Subject t.subjects
@@ -49,13 +62,24 @@ module _ (P Q : PlainPolicy) (t : Stored) where
   objects_there e there =
       omega (arith, laid_at (length subject_cells) (width Q sides.Object) t.objects e there.0 there.1 there.2, room_kept P Q (named [] t) sides.Object t.objects, all_cells)
 
-  pub sound_amended : IsSound P t → length (amended P Q t).cells < 2 ^ 32 → IsSound Q (amended P Q t)
-  sound_amended s small = record {
+  few_cells : HasFewAttrs Q → length (amended P Q t).cells ≤ 16 * (length t.subjects + length t.objects)
+  few_cells few =
+      omega (
+        arith,
+        all_cells,
+        room_kept P Q (named [] t) sides.Subject t.subjects,
+        room_few (width Q sides.Subject) t.subjects (width_few Q few sides.Subject),
+        room_kept P Q (named [] t) sides.Object t.objects,
+        room_few (width Q sides.Object) t.objects (width_few Q few sides.Object),
+      )
+
+  pub sound_amended : IsSound P t → HasFewAttrs Q → IsSound Q (amended P Q t)
+  sound_amended s few = record {
     subjects = omega (arith, s.subjects, length-laid 0 (width Q sides.Subject) t.subjects);
     objects = omega (arith, s.objects, length-laid (length subject_cells) (width Q sides.Object) t.objects);
     acts = s.acts;
     sessions = s.sessions;
-    cells = small;
+    cells = omega (arith, few_cells few, length-laid 0 (width Q sides.Subject) t.subjects, length-laid (length subject_cells) (width Q sides.Object) t.objects);
     variables = length-map Q.envs (kept_variable P t);
     subject_cells = subjects_there;
     object_cells = objects_there;
@@ -112,12 +136,12 @@ module _ (P Q : PlainPolicy) (R : List Bytes) (t : Stored) where
 -- ---- an amendment that was noted
 
 module _ (P Q : PlainPolicy) (R : List Bytes) (old new : List Undo) (u : Undo) (before after : Stored) where
-  pub amended_sound : new ≡ old ++ u ∷ [] → policy_before u Q ≡ P → tables_before u after ≡ before → after ≡ amended P Q before → length after.cells < 2 ^ 32
+  pub amended_sound : new ≡ old ++ u ∷ [] → policy_before u Q ≡ P → tables_before u after ≡ before → after ≡ amended P Q before → HasFewAttrs Q
       → AllSound P R old before → HasRights Q R → AllSound Q R new after
   amended_sound added policy back is few all rights =
       let kept = kept_now P R old before all in
       let now : IsKept Q R (amended P Q before) =
-      (sound_amended P Q before kept.0 (subst (λ (t : Stored). length t.cells < 2 ^ 32) is few), numbered_amended P Q R before kept.1) in
+      (sound_amended P Q before kept.0 few, numbered_amended P Q R before kept.1) in
       subst (λ cs. AllSound Q R cs after) (sym added)
       (sound_with_one R P Q old u before after policy back all (subst (IsKept Q R) (sym is) now, rights))
 

@@ -9,3 +9,4 @@ pub mod Numbered
 pub mod Following
 pub mod Amended
 pub mod Laying
+pub mod Rights

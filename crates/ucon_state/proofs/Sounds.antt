@@ -1,5 +1,5 @@
 -- Each change leaves the tables sound.
-use Rattle.std.proofs.Common.{◌≡◌, ◌∙◌, ◌≤◌, ◌<◌, ◌+◌, ◌^◌, ◌⊎◌, inl, inr, ℕ, ℤ, sym, ap, subst, List, [], ◌∷◌, ◌++◌, length, Contains, IsSome, zero, suc, slice_index_or, arith}
+use Rattle.std.proofs.Common.{◌≡◌, ◌∙◌, ◌≤◌, ◌<◌, ◌+◌, ◌*◌, ◌⊎◌, inl, inr, ℕ, ℤ, sym, ap, subst, List, [], ◌∷◌, ◌++◌, length, Contains, IsSome, zero, suc, slice_index_or, arith}
 use Rattle.std.proofs.lemmas.List.{length-append, length-set, length-map}
 use Rattle.std.proofs.lemmas.List.Elements.{Contains-append_cases}
 use Rattle.std.specs.Map.{lookup}
@@ -45,7 +45,7 @@ module _ {S : Type 0} (P : PlainPolicy) (t : TablesOf S) (s : IsSound P t) where
         objects = s.objects;
         acts = s.acts;
         sessions = s.sessions;
-        cells = subst (λ n. n < 2 ^ 32) same s.cells;
+        cells = subst (λ n. n ≤ 16 * (length t.subjects + length t.objects)) same s.cells;
         variables = s.variables;
         subject_cells = λ e there. subst (λ n. e.1 + length (attrs_of P sides.Subject) ≤ n) same (s.subject_cells e there);
         object_cells = λ e there. subst (λ n. e.1 + length (attrs_of P sides.Object) ≤ n) same (s.object_cells e there);
@@ -80,13 +80,13 @@ module _ {S : Type 0} (P : PlainPolicy) (t : TablesOf S) (s : IsSound P t) where
       by (inl old) = omega (arith, all e old, more)
       by (inr new) = subst (λ o. o.1 + length (attrs_of P side) ≤ length (t.cells ++ defaults_of P side)) (only (name, length t.cells) e new) (omega (arith, more))
 
-  pub entity_sound : (side : Side) (name : Bytes) → length (entities_of side t) < 16384 → length t.cells + length (defaults_of P side) < 2 ^ 32 → IsSound P (with_entity P t side name)
+  pub entity_sound : (side : Side) (name : Bytes) → length (entities_of side t) < 16384 → length (defaults_of P side) ≤ 16 → IsSound P (with_entity P t side name)
   entity_sound sides.Subject name few small = record {
     subjects = omega (arith, few, length-append t.subjects ((name, length t.cells) ∷ []));
     objects = s.objects;
     acts = s.acts;
     sessions = s.sessions;
-    cells = subst (λ n. n < 2 ^ 32) (sym (length-append t.cells (defaults_of P sides.Subject))) small;
+    cells = omega (arith, s.cells, small, length-append t.cells (defaults_of P sides.Subject), length-append t.subjects ((name, length t.cells) ∷ []));
     variables = s.variables;
     subject_cells = new_cells t.subjects sides.Subject name s.subject_cells;
     object_cells = more_cells sides.Object (defaults_of P sides.Subject) s.object_cells;
@@ -96,7 +96,7 @@ module _ {S : Type 0} (P : PlainPolicy) (t : TablesOf S) (s : IsSound P t) where
     objects = omega (arith, few, length-append t.objects ((name, length t.cells) ∷ []));
     acts = s.acts;
     sessions = s.sessions;
-    cells = subst (λ n. n < 2 ^ 32) (sym (length-append t.cells (defaults_of P sides.Object))) small;
+    cells = omega (arith, s.cells, small, length-append t.cells (defaults_of P sides.Object), length-append t.objects ((name, length t.cells) ∷ []));
     variables = s.variables;
     subject_cells = more_cells sides.Subject (defaults_of P sides.Object) s.subject_cells;
     object_cells = new_cells t.objects sides.Object name s.object_cells;

@@ -1,9 +1,9 @@
 -- What holds of the tables of every state.
-use Rattle.std.specs.Prelude.{◌≡◌, ◌≤◌, ◌<◌, ◌+◌, ◌^◌, ℕ, List, length, drop, Contains, position, is_some, true}
+use Rattle.std.specs.Prelude.{◌≡◌, ◌≤◌, ◌<◌, ◌+◌, ◌*◌, ◌^◌, ℕ, List, length, drop, Contains, position, is_some, true, Some, slice_get}
 use Rattle.std.specs.Str.{bytes_eq}
 use Rattle.ucon_base.specs.declared.value.Side.{Side}
 use Rattle.ucon_base.specs.declared.value.Side.TheVariants as sides
-use Rattle.ucon_model.specs.Plain.{Bytes, PlainPolicy}
+use Rattle.ucon_model.specs.Plain.{Bytes, PlainPolicy, PlainRight}
 use Rattle.ucon_model.specs.Decision.{right_named}
 use Rattle.ucon_state.specs.declared.change.Undo.{Undo}
 use Rattle.ucon_model.specs.Readings.{attrs_of}
@@ -15,13 +15,13 @@ use Rattle.ucon_state.specs.Undo.{all_undone, policy_undone}
 abbrev pub CellsAreThere : {S : Type 0} → PlainPolicy → TablesOf S → Side → Type 0
 CellsAreThere P t side = (e : Bytes × ℕ) → Contains (entities_of side t) e → e.1 + length (attrs_of P side) ≤ length t.cells
 
--- the limits hold, each declared variable has its place, and each entity its cells
+-- the limits hold, no entity has more than 16 cells, each declared variable has its place, and each entity its cells
 pub record IsSound {S : Type 0} (P : PlainPolicy) (t : TablesOf S) : Type 0 where
   pub subjects : length t.subjects ≤ 16384
   pub objects : length t.objects ≤ 16384
   pub acts : length t.acts ≤ 1048576
   pub sessions : length t.sessions ≤ 1048576
-  pub cells : length t.cells < 2 ^ 32
+  pub cells : length t.cells ≤ 16 * (length t.subjects + length t.objects)
   pub variables : length t.variables ≡ length P.envs
   pub subject_cells : CellsAreThere P t sides.Subject
   pub object_cells : CellsAreThere P t sides.Object
@@ -30,6 +30,10 @@ pub record IsSound {S : Type 0} (P : PlainPolicy) (t : TablesOf S) : Type 0 wher
 pub record HasRights (P : PlainPolicy) (rights : List Bytes) : Type 0 where
   pub few : length rights < 2 ^ 32
   pub all : (name : Bytes) → is_some (right_named P.rights name) ≡ true → is_some (position (bytes_eq name) rights) ≡ true
+
+-- the names of these rights stand first among the names, in their order
+abbrev pub StandFirst : List PlainRight → List Bytes → Type 0
+StandFirst rights names = (i : ℕ) (r : PlainRight) → slice_get rights i ≡ Some r → slice_get names i ≡ Some r.name
 
 -- sound tables, whose sessions' numbers have their names
 abbrev pub IsKept : PlainPolicy → List Bytes → Stored → Type 0

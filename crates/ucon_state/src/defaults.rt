@@ -1,6 +1,6 @@
 //! What the declarations of a policy give to begin with: defaults, and the names of rights.
 
-ghost use Rattle.std.specs.Prelude.{◌≡◌, IfOk, map};
+ghost use Rattle.std.specs.Prelude.{◌≡◌, ◌≤◌, length, IfOk, map};
 ghost use Rattle.ucon_model.specs.Checked.{checked_policy};
 ghost use Rattle.ucon_state.specs.Applied.{defaults_of};
 
@@ -10,7 +10,8 @@ use ucon_model::Checked;
 
 /// The defaults of the attributes of a side.
 pub fn attr_defaults(alloc: Global, checked: &Checked, side: Side) -> Result<Vec<Value>, NoMemory>
-    ensures { IfOk result (λ vs. vs.items ≡ defaults_of (checked_policy checked.now) side) }
+    ensures defaults { IfOk result (λ vs. vs.items ≡ defaults_of (checked_policy checked.now) side) }
+    ensures few { IfOk result (λ vs. length vs.items ≤ 16) }
 {
     let mut defaults = Vec::new(alloc);
     for decl in checked.policy().attrs.slice() {

@@ -1,6 +1,6 @@
 //! The state of a policy, and its changes.
 
-ghost use Rattle.std.specs.Prelude.{◌≡◌, true, [], ◌∷◌, ◌++◌, ◌≤ℤ◌, ◌<◌, ◌+◌, ◌⊎◌, length, position, slice_get, Some, None, OnOk, OnErr, IfOk, IfSome, IsSome, IsSomeAnd, IsTrue, is_some};
+ghost use Rattle.std.specs.Prelude.{◌≡◌, true, map, [], ◌∷◌, ◌++◌, ◌≤ℤ◌, ◌<◌, ◌+◌, ◌⊎◌, length, position, slice_get, Some, None, OnOk, OnErr, IfOk, IfSome, IsSome, IsSomeAnd, IsTrue, is_some};
 ghost use Rattle.std.specs.Str.{bytes_eq};
 ghost use Rattle.ucon_base.specs.Admits.{admits};
 ghost use Rattle.ucon_base.specs.declared.value.Side.TheVariants as sides;
@@ -9,8 +9,9 @@ ghost use Rattle.ucon_model.specs.Checked.{checked_policy};
 ghost use Rattle.ucon_model.specs.Decision.{right_named};
 ghost use Rattle.ucon_model.specs.Plain.{Bytes};
 ghost use Rattle.ucon_model.specs.Readings.{declared_attr, declared_env, env_position};
+ghost use Rattle.ucon_model.specs.Views.{policy_of, right_of};
 ghost use Rattle.ucon_state.specs.Applied.{amended, opening_tables, with_entity, with_cell, with_state, may_become};
-ghost use Rattle.ucon_state.specs.Sound.{AllSound, HasRights, IsSound};
+ghost use Rattle.ucon_state.specs.Sound.{AllSound, HasRights, IsSound, StandFirst};
 ghost use Rattle.ucon_state.specs.Stored.{name_at, start_in};
 ghost use Rattle.ucon_state.specs.Tables.{entities_of, entity_number, cell_at, CellAdmits, attribute_in, counts_in, moment_in, session_in};
 ghost use Rattle.ucon_state.specs.Views.{lists_of, with_layout};
@@ -25,7 +26,7 @@ use crate::session::Session;
 use crate::tables::Tables;
 use std::alloc::{AllocError, Global};
 use ucon_base::{Int, Name, NoMemory, Side, Value};
-use ucon_model::{Caller, Checked, SessionRow, SessionState};
+use ucon_model::{Caller, Checked, Policy, Right, SessionRow, SessionState};
 
 /// The number of a cell.
 pub type CellId = u32;
@@ -38,9 +39,12 @@ pub struct State {
     pub(crate) tables: Tables,
     /// The names of the rights that sessions may have, each at the place that is its number.
     pub(crate) rights: Vec<Name>,
+    /// Whether the rights of the policy in force stand first among them, in its order: then each is at its number there, too.
+    pub(crate) is_in_order: bool,
     changes: Vec<Undo>,
     ghost sound: { AllSound (checked_policy checked) rights.items changes.items (lists_of tables) },
     ghost has_rights: { HasRights (checked_policy checked) rights.items },
+    ghost in_order: { is_in_order ≡ true → StandFirst (checked_policy checked).rights rights.items },
 }
 
 impl State {
@@ -66,6 +70,7 @@ impl State {
             checked,
             tables: Tables::new(alloc, variables),
             rights,
+            is_in_order: true,
             changes: Vec::new(alloc),
         })
     }
@@ -76,8 +81,8 @@ impl State {
         ensures within { IfSome result (λ n. n < length (right_names self.now)) }
         ensures there { is_some result ≡ is_some (right_named (shown self.now).policy.rights name.now) }
     {
-        self.checked.policy().right(name)?;
         let number = number_of(&self.rights, name)?;
+        self.right_numbered(number as u32)?;
         Some(number as u32)
     }
 
@@ -122,9 +127,6 @@ impl State {
     {
         let number = self.tables.entities(side).len() as u32;
         let defaults = attr_defaults(self.alloc, &self.checked, side)?;
-        if self.tables.cells.len() + defaults.len() > u32::MAX as usize {
-            return Err(NoMemory::from(AllocError));
-        }
         self.changes.reserve(1)?;
         let change = self.tables.add_entity(side, name, defaults)?;
         self.changes.push_reserved(Undo::Changed(change));
@@ -327,34 +329,23 @@ impl State {
         ensures ok { OnOk result ((text : Bytes) → shown self.new ≡ changed_by (shown self.old) (actions.amend text (checked_policy checked))) }
         ensures err { OnErr result (shown self.new ≡ shown self.old) }
     {
-        self.add_rights(&checked)?;
-        let layout = self.layout_under(&checked)?;
+        self.add_rights(checked.policy())?;
+        let is_in_order = are_in_order(&checked, &self.rights);
+        let layout = Layout::amended(self.alloc, &self.tables, &self.checked, &checked)?;
         let mut before = Box::new(self.alloc, Before { checked, layout })?;
         self.changes.reserve(1)?;
         before.swap(&mut self.checked, &mut self.tables);
+        self.is_in_order = is_in_order;
         self.changes.push_reserved(Undo::Replaced(before));
         Ok(())
     }
 
-    /// The layout under a policy that replaces this one. More cells than a `u32` counts are answered as want of memory.
-    fn layout_under(&self, checked: &Checked) -> Result<Layout, NoMemory>
-        ensures amended { IfOk result (λ l. with_layout l (lists_of self.now.tables)
-            ≡ amended (checked_policy self.now.checked) (checked_policy checked.now) (lists_of self.now.tables)) }
-        ensures few { IfOk result (λ l. length l.cells.items < 4294967296) }
-    {
-        let layout = Layout::amended(self.alloc, &self.tables, &self.checked, checked)?;
-        if layout.cells.len() > u32::MAX as usize {
-            return Err(NoMemory::from(AllocError));
-        }
-        Ok(layout)
-    }
-
     /// Adds the names of the rights of a policy that sessions may have from now on.
-    fn add_rights(&mut self, checked: &Checked) -> Result<(), NoMemory>
+    fn add_rights(&mut self, policy: &Policy) -> Result<(), NoMemory>
         ensures shown { shown self.new ≡ shown self.old }
-        ensures rights { OnOk result (HasRights (checked_policy checked.now) (right_names self.new)) }
+        ensures rights { OnOk result (HasRights (policy_of policy.now) (right_names self.new)) }
     {
-        for right in checked.policy().rights.slice() {
+        for right in policy.rights.slice() {
             self.add_right(right.name)?;
         }
         Ok(())
@@ -395,9 +386,11 @@ impl State {
     pub fn undo_all(&mut self)
         ensures { shown self.new ≡ given_back (shown self.old) }
     {
+        self.is_in_order = false;
         while let Some(undo) = self.changes.pop() {
             undo.run(&mut self.checked, &mut self.tables);
         }
+        self.is_in_order = are_in_order(&self.checked, &self.rights);
     }
 
     /// From here on undoing gives what is there now.
@@ -413,6 +406,25 @@ fn number_of(names: &[Name], name: &Name) -> Option<usize>
     ensures { result ≡ position (bytes_eq name.now) names.now }
 {
     names.iter().position(|n| *name == *n)
+}
+
+/// Whether the rights of a policy stand first among the names, in their order.
+fn are_in_order(checked: &Checked, names: &[Name]) -> bool
+    ensures { result ≡ true → StandFirst (checked_policy checked.now).rights names.now }
+{
+    stand_first(checked.policy().rights.slice(), names)
+}
+
+/// Whether the names of these rights stand first among the names, in their order.
+fn stand_first(rights: &[Right], names: &[Name]) -> bool
+    ensures { result ≡ true → StandFirst (map right_of rights.now) names.now }
+{
+    for at in 0..rights.len() {
+        if at >= names.len() || names[at] != rights[at].name {
+            return false;
+        }
+    }
+    true
 }
 
 /// When a session starts that goes into a state: now where it becomes accessing, else as before.

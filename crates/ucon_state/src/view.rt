@@ -2,6 +2,8 @@
 
 ghost use Rattle.std.specs.Prelude.{◌≡◌, ◌<◌, length, option_and_then, option_copied, option_map, slice_get, unwrap_or};
 ghost use Rattle.ucon_model.specs.Checked.{checked_policy};
+ghost use Rattle.ucon_model.specs.Decision.{right_named};
+ghost use Rattle.ucon_model.specs.Views.{right_of};
 ghost use Rattle.ucon_state.specs.Views.{lists_of};
 ghost use Rattle.ucon_state.specs.Tables.{attribute_in, cell_at, readings_in, session_in, variable_in};
 ghost use Rattle.ucon_state.specs.Shown.{right_name, right_names, shown};
@@ -54,6 +56,21 @@ impl State {
         &self.rights[right as usize]
     }
 
+    /// The right with this number. None where the policy in force hasn't it.
+    pub(crate) fn right_numbered(&self, number: u32) -> Option<&Right>
+        requires { number < length (right_names self.now) }
+        ensures { option_map right_of (option_copied result)
+            ≡ right_named (shown self.now).policy.rights (right_name self.now number) }
+    {
+        let policy = self.checked.policy();
+        if self.is_in_order {
+            if let Some(right) = policy.rights.at(number as usize) {
+                return Some(right);
+            }
+        }
+        policy.right(self.right_name(number))
+    }
+
     /// A session with its names.
     fn row(&self, session: &Session) -> SessionRow
         requires { NumbersAreBelow (length (right_names self.now)) (length (shown self.now).tables.subjects)
@@ -87,8 +104,7 @@ impl View for State {
 
     fn right(&self, session: u32) -> Option<&Right> {
         let session = self.tables.session(session)?;
-        let name = self.right_name(session.right);
-        self.checked.policy().right(name)
+        self.right_numbered(session.right)
     }
 
     fn start(&self, session: u32) -> Option<Int> {

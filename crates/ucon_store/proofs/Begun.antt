@@ -13,9 +13,9 @@ use Rattle.ucon_journal.specs.Opened.{opened}
 use Rattle.ucon_store.specs.declared.fault.StoreFault.{StoreFault}
 use Rattle.ucon_store.specs.declared.fault.StoreFault.TheVariants.{NotJournal, Damaged, OtherPolicy, DiskFault, NoMemory}
 use Rattle.ucon_store.specs.Faults.{of_open}
-use Rattle.ucon_store.specs.Found.{finding_of, found, Holds, IsFoundAs}
+use Rattle.ucon_store.specs.Found.{finding_of, found, Holds, IsFoundAs, found_as}
 use Rattle.ucon_store.specs.Opening.{HasReason, HasOtherPolicy}
-use Rattle.ucon_store.proofs.Finding.{found_as, takes_of}
+use Rattle.ucon_store.proofs.Finding.{takes_of}
 use Rattle.ucon_store.proofs.Runs.{true_or_false, opened_short, opened_long, found_opened}
 
 pub found_none : (file : Bytes) → journal.found file ≡ journal.NotJournal → found file ≡ not_journal

@@ -6,7 +6,7 @@ use Rattle.ucon_model.specs.History.{History}
 use Rattle.ucon_model.specs.Found.{Finding, fresh, not_journal, holds, Takes, next_gate, found_behind, found_in, found_on}
 use Rattle.ucon_journal.specs.Found as journal
 use Rattle.ucon_syntax.specs.Policies.{accepted}
-use Rattle.ucon_store.specs.Found.{finding_of, found, Holds, Tells, IsFoundAs}
+use Rattle.ucon_store.specs.Found.{finding_of, found, Holds}
 use Rattle.ucon_store.specs.Points.{has_points, takes_with}
 
 -- a finding by records that count is that by their payloads, where a policy and a history are found
@@ -50,7 +50,3 @@ holds_more one_by_one text P H later payload file c takes h kind more =
     let last : found_behind all text P H n h.gate (payload ∷ []) ≡ holds text P later (next_gate h.gate payload) = ap (λ o. unwrap_or (option_map (λ later. holds text P later (next_gate h.gate payload)) o) (Rattle.ucon_model.specs.Found.damaged n h.gate)) takes in
     hold_counted text P later (next_gate h.gate payload) c
     (ap (λ (b : Bool). found_in accepted (takes_with b) (journal.counted c)) kind ∙ (ap (found_in accepted all) more ∙ (on ∙ (behind ∙ last))))
-
--- what a file holds it is found as
-pub found_as : (text : Bytes) (P : PlainPolicy) (H : History) (file : Bytes) → Holds text P H file → IsFoundAs text file H
-found_as text P H file h = subst (λ f. Tells f text H) (sym h.is) (refl, refl)

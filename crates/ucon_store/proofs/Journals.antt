@@ -22,14 +22,14 @@ gate_is gate [] = omega arith
 gate_is gate (p ∷ ps) = omega (arith, gate_is (next_gate gate p) ps, length-append (record_bytes p) (records ps), length-record p)
 
 -- and in the journal of the payloads it is the last byte
-last_is : (version : ℕ) (ps : List Bytes) → gate_behind first_gate ps ≡ length (journal_bytes version ps) - 1
+pub last_is : (version : ℕ) (ps : List Bytes) → gate_behind first_gate ps ≡ length (journal_bytes version ps) - 1
 last_is version ps = omega (arith, gate_is first_gate ps, length-append (records ps) (0 ∷ []))
 
-short : (ps : List Bytes) → Each (λ p. length p ≤ most_payload) ps → AreShort ps
+pub short : (ps : List Bytes) → Each (λ p. length p ≤ most_payload) ps → AreShort ps
 short [] h = tt
 short (p ∷ ps) h = (omega (arith, h.0), short ps h.1)
 
-found_as_read : (file : Bytes) (payloads : List Bytes) (gate : ℕ) → journal.found file ≡ journal.Holds payloads gate → found file ≡ found_in accepted (takes_of file) payloads
+pub found_as_read : (file : Bytes) (payloads : List Bytes) (gate : ℕ) → journal.found file ≡ journal.Holds payloads gate → found file ≡ found_in accepted (takes_of file) payloads
 unfolding found
 found_as_read file payloads gate is = ap (finding_of (takes_of file)) is
 

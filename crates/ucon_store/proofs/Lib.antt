@@ -3,12 +3,17 @@ pub mod Begun
 pub mod Differences
 pub mod Finding
 pub mod Journals
+pub mod Made
 pub mod Openings
 pub mod Places
+pub mod Placing
 pub mod Pointed
 pub mod Recorded
 pub mod Runs
 pub mod SamePlaces
+pub mod Seeing
+pub mod Spelled
+pub mod Stepped
 pub mod Stepping
 pub mod Taking
 pub mod Versions

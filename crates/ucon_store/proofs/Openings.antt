@@ -11,10 +11,10 @@ use Rattle.ucon_journal.specs.Journal.{told_payloads}
 use Rattle.ucon_journal.specs.JournalBytes.{magic}
 use Rattle.ucon_journal.specs.Opened.{StillHolds}
 use Rattle.ucon_syntax.specs.Policies.{accepted}
-use Rattle.ucon_store.specs.Found.{finding_of, found, Holds, Tells, IsFoundAs, IsForeign, Opens}
+use Rattle.ucon_store.specs.Found.{finding_of, found, Holds, Tells, IsFoundAs, IsForeign, Opens, found_as}
 use Rattle.ucon_store.specs.Opening.{SaysBehind}
 use Rattle.ucon_store.specs.Points.{has_points, takes_with}
-use Rattle.ucon_store.proofs.Finding.{holds_same, found_as, hold_counted, takes_of}
+use Rattle.ucon_store.proofs.Finding.{holds_same, hold_counted, takes_of}
 use Rattle.ucon_store.proofs.Versions.{long_refused}
 
 -- ---- records, one by one

@@ -13,8 +13,8 @@ use Rattle.ucon_journal.specs.JournalBytes.{journal_bytes, newest, records}
 use Rattle.ucon_journal.specs.Journal.{told_payloads}
 use Rattle.ucon_journal.specs.Opened.{opened, StillHolds, SamePayloads, PerhapsAdded, Untouched}
 use Rattle.ucon_syntax.specs.Policies.{accepted}
-use Rattle.ucon_store.specs.Found.{finding_of, found, Holds, IsFoundAs, IsForeign, Opens}
-use Rattle.ucon_store.proofs.Finding.{found_as, takes_of}
+use Rattle.ucon_store.specs.Found.{finding_of, found, Holds, IsFoundAs, IsForeign, Opens, found_as}
+use Rattle.ucon_store.proofs.Finding.{takes_of}
 use Rattle.ucon_store.proofs.Openings.{found_fresh, fresh_found, itself_opens, same_opens, mended_opens, made_opens, policy_holds}
 use Rattle.ucon_store.proofs.Recorded.{some_told}
 

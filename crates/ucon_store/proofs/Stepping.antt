@@ -1,77 +1,113 @@
 -- What holds of a store after a step.
-use Rattle.std.proofs.Common.{◌≡◌, ℕ, ◌<◌, ◌≤◌, ◌^◌, List, [], ◌∷◌, ◌++◌, Option, Some, None, refl, sym, ap, ◌∙◌, subst, false, true, arith}
-use Rattle.std.specs.Prelude.{is_some, IsSome, IfSome, if◌then◌else◌}
+use Rattle.std.proofs.Common.{◌≡◌, ℕ, ◌+◌, ◌*◌, ◌<◌, ◌≤◌, ◌^◌, List, [], ◌∷◌, ◌++◌, length, Option, Some, None, refl, sym, ap, ◌∙◌, subst, false, true, arith}
+use Rattle.std.specs.Prelude.{is_some, if◌then◌else◌}
+use Rattle.ucon_model.specs.declared.command.Caller.{Caller}
+use Rattle.ucon_model.specs.declared.command.Command.{Command}
 use Rattle.ucon_model.specs.declared.command.Entry.{Entry}
 use Rattle.ucon_model.specs.Action.{Trace}
-use Rattle.ucon_model.specs.Block.{after}
-use Rattle.ucon_model.specs.History.{History, trace, trace_from, said, changes, grown}
+use Rattle.ucon_model.specs.Block.{after, reply}
+use Rattle.ucon_model.specs.History.{History, trace, trace_from, said, changes}
 use Rattle.ucon_model.specs.Plain.{Bytes, PlainPolicy}
-use Rattle.ucon_disk.specs.Disk.{Only}
-use Rattle.ucon_disk.specs.Run.{LeavesOnly}
+use Rattle.ucon_model.specs.Work.{NobodyFails}
 use Rattle.ucon_journal.specs.declared.journal.Journal.{Journal}
-use Rattle.ucon_journal.specs.Journal.{disk_of, gate_of, IsClosed}
+use Rattle.ucon_journal.specs.Journal.{gate_of}
 use Rattle.ucon_syntax.specs.Policies.{accepted}
-use Rattle.ucon_store.specs.Found.{Holds, IsFoundWith}
-use Rattle.ucon_store.specs.Kept.{IsKept, IsAtRestWith}
-use Rattle.ucon_store.proofs.Recorded.{left_at_rest}
+use Rattle.ucon_store.specs.declared.beginning.Beginning.{Beginning}
+use Rattle.ucon_store.specs.Kept.{IsKept, IsAtRestWith, RevokesFew, payload_in}
+use Rattle.ucon_store.specs.Starts.{IsStart}
+use Rattle.ucon_store.specs.Steps.{grown_behind}
 
 pub unmarked : {A : Type 0} (o : Option A) → is_some o ≡ false → o ≡ None
 unmarked None e = refl
 unmarked (Some a) e = absurd (cc e)
 
--- the trace of a history with an entry more
+-- the trace of entries in two parts
+pub trace_append : (P : PlainPolicy) (T : Trace) (G H : History) → trace_from P T (G ++ H) ≡ trace_from P (trace_from P T G) H
+trace_append P T [] H = refl
+trace_append P T (e ∷ G) H = trace_append P (after P T e.caller e.command) G H
+
+-- and with an entry more
 pub trace_longer : (P : PlainPolicy) (T : Trace) (H : History) (e : Entry) → trace_from P T (H ++ e ∷ []) ≡ after P (trace_from P T H) e.caller e.command
-trace_longer P T [] e = refl
-trace_longer P T (x ∷ H) e = trace_longer P (after P T x.caller x.command) H e
-
-pub grown_more : (P : PlainPolicy) (H : History) (e : Entry) → changes (said P H e.caller e.command) ≡ true → grown P H e ≡ H ++ e ∷ []
-grown_more P H e does = ap (λ b. if b then H ++ e ∷ [] else H) does
-
-pub grown_same : (P : PlainPolicy) (H : History) (e : Entry) → changes (said P H e.caller e.command) ≡ false → grown P H e ≡ H
-grown_same P H e doesnt = ap (λ b. if b then H ++ e ∷ [] else H) doesnt
+trace_longer P T H e = trace_append P T H (e ∷ [])
 
 -- a text is accepted as one policy
 pub one_policy : (text : Bytes) (P Q : PlainPolicy) → accepted text ≡ Some P → accepted text ≡ Some Q → P ≡ Q
 one_policy text P Q p q = let e : Some P ≡ Some Q = sym p ∙ q in cc (e)
 
-module _ {D : Type 0} (contents : D → Option (List ℕ)) (images : D → List ℕ → Type 0) where
-  -- what is said of the disk passes to a journal over the same disk
-  pub at_rest_moved : (j k : Journal D) (text : Bytes) (P : PlainPolicy) (H : History) → IsAtRestWith contents images j text P H → IsClosed contents k → gate_of k ≡ gate_of j → disk_of k ≡ disk_of j → IsAtRestWith contents images k text P H
-  at_rest_moved j k text P H rest closed gate same = record {
-    closed = closed;
-    few = omega (arith, rest.few, gate);
-    only = subst (λ d. Only (contents d) (images d)) (sym same) rest.only;
-    holds = subst (λ d. IfSome (contents d) (Holds text P H)) (sym same) rest.holds;
-  }
+-- behind a trace, and entries behind that
+pub grown_behind_more : (P : PlainPolicy) (T : Trace) (H : History) (e : Entry) → changes (reply P (trace_from P T H) e.caller e.command) ≡ true → grown_behind P T H e ≡ H ++ e ∷ []
+grown_behind_more P T H e does = ap (λ b. if b then H ++ e ∷ [] else H) does
 
-  module _ {E : Type 0} (follows : E → PlainPolicy → Trace → Type 0) (engine next : E) (j k : Journal D) (text : Bytes) (H : History) (e : Entry) (kept : IsKept follows contents images engine j text H None) where
-    pub kept_marked : follows next kept.P (trace kept.P H) → changes (said kept.P H e.caller e.command) ≡ true
-        → (IsSome (contents (disk_of k)) → (c : Bytes) → images (disk_of k) c → IsFoundWith text H (Some e) c) → IsKept follows contents images next k text H (Some e)
-    kept_marked stands does left = record {
+pub grown_behind_same : (P : PlainPolicy) (T : Trace) (H : History) (e : Entry) → changes (reply P (trace_from P T H) e.caller e.command) ≡ false → grown_behind P T H e ≡ H
+grown_behind_same P T H e doesnt = ap (λ b. if b then H ++ e ∷ [] else H) doesnt
+
+-- the reply after a history in two parts is the one after the trace of the first part and the entries of the second
+pub said_behind : (P : PlainPolicy) (G H : History) (caller : Caller) (c : Command) → said P (G ++ H) caller c ≡ reply P (trace_from P (trace P G) H) caller c
+said_behind P G H caller c = ap (λ (T : Trace). reply P T caller c) (trace_append P [] G H)
+
+module _ {E D : Type 0} (follows : E → PlainPolicy → Trace → Type 0) (contents : D → Option (List ℕ)) (images : D → List ℕ → Type 0) (engine : E) (journal : Journal D) (text : Bytes)
+    (point : Option Beginning) (before : ℕ) (H : History) (mark : Option Entry) (kept : IsKept follows contents images engine journal text point before H mark) where
+  module _ (P : PlainPolicy) (accepts : accepted text ≡ Some P) where
+    one : kept.P ≡ P
+    one = one_policy text kept.P P kept.accepts accepts
+
+    -- behind each start the engine follows the entries
+    pub stands_as : (T : Trace) → IsStart P (payload_in point) before T → follows engine P (trace_from P T H)
+    stands_as = subst (λ (Q : PlainPolicy). (T : Trace) → IsStart Q (payload_in point) before T → follows engine Q (trace_from Q T H)) one kept.stands
+
+    -- no accessing session fails
+    pub settled_as : (T : Trace) → IsStart P (payload_in point) before T → NobodyFails P (trace_from P T H)
+    settled_as = subst (λ (Q : PlainPolicy). (T : Trace) → IsStart Q (payload_in point) before T → NobodyFails Q (trace_from Q T H)) one kept.settled
+
+  module _ (next : E) (k : Journal D) where
+    -- the entry of a step that met a disk fault is the mark
+    pub kept_marked : (e : Entry) → ((T : Trace) → IsStart kept.P (payload_in point) before T → follows next kept.P (trace_from kept.P T H))
+        → IsKept follows contents images next k text point before H (Some e)
+    kept_marked e stands = record {
       P = kept.P;
       accepts = kept.accepts;
+      begun = kept.begun;
+      starts = kept.starts;
       stands = stands;
+      settled = kept.settled;
+      revokes = kept.revokes;
+      in_force = kept.in_force;
       few = kept.few;
       rests = λ none. absurd (cc none);
-      failed = λ a is. subst (λ (x : Entry). changes (said kept.P H x.caller x.command) ≡ true) (let same : e ≡ a = cc (is) in same) does;
-      left = left;
     }
 
-    pub kept_more : gate_of k < 2 ^ 63 → follows next kept.P (after kept.P (trace kept.P H) e.caller e.command) → IsAtRestWith contents images k text kept.P (H ++ e ∷ [])
-        → IsKept follows contents images next k text (H ++ e ∷ []) None
-    kept_more small stands rest = record {
+    -- an entry more
+    pub kept_more : (e : Entry) → gate_of k < 2 ^ 63
+        → ((T : Trace) → IsStart kept.P (payload_in point) before T → follows next kept.P (after kept.P (trace_from kept.P T H) e.caller e.command))
+        → ((T : Trace) → IsStart kept.P (payload_in point) before T → NobodyFails kept.P (after kept.P (trace_from kept.P T H) e.caller e.command))
+        → IsAtRestWith contents images k (before + length (H ++ e ∷ [])) → IsKept follows contents images next k text point before (H ++ e ∷ []) None
+    kept_more e small stands settled rest = record {
       P = kept.P;
       accepts = kept.accepts;
-      stands = subst (follows next kept.P) (sym (trace_longer kept.P [] H e)) stands;
+      begun = kept.begun;
+      starts = kept.starts;
+      stands = λ T start. subst (follows next kept.P) (sym (trace_longer kept.P T H e)) (stands T start);
+      settled = λ T start. subst (NobodyFails kept.P) (sym (trace_longer kept.P T H e)) (settled T start);
+      revokes = kept.revokes;
+      in_force = kept.in_force;
       few = omega (arith, rest.few, small);
       rests = λ _. rest;
-      failed = λ a is. absurd (cc is);
-      left = left_at_rest contents images k text kept.P (H ++ e ∷ []) rest None;
     }
 
-    -- the images now are among those since the step began
-    pub left_since : (moment : D → ℕ) (images_since : D → ℕ → List ℕ → Type 0) → ((d : D) (t : ℕ) (c : List ℕ) → t ≤ moment d → images d c → images_since d t c)
-        → is_some (contents (disk_of k)) ≡ is_some (contents (disk_of j)) → (IsSome (contents (disk_of j)) → LeavesOnly moment images_since (disk_of j) (disk_of k) (IsFoundWith text H (Some e)))
-        → IsSome (contents (disk_of k)) → (c : Bytes) → images (disk_of k) c → IsFoundWith text H (Some e) c
-    left_since moment images_since counts tells run told c image =
-        let r = run (sym tells ∙ told) in r.each c (counts (disk_of k) (moment (disk_of j)) c r.later image)
+-- a store that begins before all entries
+pub begins_first : {E D : Type 0} (follows : E → PlainPolicy → Trace → Type 0) (contents : D → Option (List ℕ)) (images : D → List ℕ → Type 0) (engine : E) (journal : Journal D) (text : Bytes)
+    (P : PlainPolicy) (H : History) → accepted text ≡ Some P → follows engine P (trace P H) → NobodyFails P (trace P H) → RevokesFew P [] → 5 * length H < 2 ^ 63
+    → IsAtRestWith contents images journal (length H) → IsKept follows contents images engine journal text None 0 H None
+begins_first follows contents images engine journal text P H accepts stands settled revokes few rest =
+    let all : 0 + length H ≡ length H = omega arith in record {
+      P = P;
+      accepts = accepts;
+      begun = [];
+      starts = (refl, refl);
+      stands = λ T start. subst (λ (U : Trace). follows engine P (trace_from P U H)) (sym start.1) stands;
+      settled = λ T start. subst (λ (U : Trace). NobodyFails P (trace_from P U H)) (sym start.1) settled;
+      revokes = λ T start. subst (RevokesFew P) (sym start.1) revokes;
+      in_force = refl;
+      few = omega (arith, few, all);
+      rests = λ _. record { closed = rest.closed; few = omega (arith, rest.few, all); only = rest.only };
+    }

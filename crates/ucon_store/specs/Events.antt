@@ -1,10 +1,13 @@
 -- A store as the value of a turn: what stands in its list.
+use Rattle.std.proofs.Common.{◌≡◌, append_assoc, ap, ◌∙◌}
+use Rattle.std.proofs.lemmas.List.{map-append}
 use Rattle.std.specs.Prelude.{ℕ, ◌+◌, List, [], ◌∷◌, ◌++◌, map, Option, Some, None}
 use Rattle.ucon_model.specs.declared.command.Entry.{Entry}
 use Rattle.ucon_model.specs.History.{History}
 use Rattle.ucon_store.specs.declared.event.Event.{Event}
 use Rattle.ucon_store.specs.declared.event.Event.TheVariants.{Done, Failed}
 use Rattle.ucon_store.specs.Kept.{Kept}
+use Rattle.ucon_store.specs.Whole.{whole}
 
 -- the number of the caller, from 1; 0 is nobody's
 abbrev pub number_of : Event → ℕ
@@ -18,3 +21,11 @@ events H (Some e) = map Done H ++ Failed e ∷ []
 
 abbrev pub events_of : {D : Type 0} → Kept D → List Event
 events_of s = events s.entries s.mark
+
+-- with a history before a store's entries, its own events stand before theirs
+pub events_behind : (G H : History) (mark : Option Entry) → events (G ++ H) mark ≡ map Done G ++ events H mark
+events_behind G H None = map-append Done G H
+events_behind G H (Some e) = ap (λ l. l ++ Failed e ∷ []) (map-append Done G H) ∙ append_assoc (map Done G) (map Done H) (Failed e ∷ [])
+
+pub events_whole : {D : Type 0} (G : History) (s : Kept D) → events_of (whole G s) ≡ map Done G ++ events_of s
+events_whole G s = events_behind G s.entries s.mark

@@ -1,5 +1,6 @@
 -- What is found in a file: the payloads of its records that count, and what they say. Behind record 0 each payload of version 1 tells a step,
 -- and each of version 2 tells a step or is a checkpoint.
+use Rattle.std.proofs.Common.{refl, sym, subst}
 use Rattle.std.specs.Prelude.{◌≡◌, ◌⊎◌, ℕ, Option, Some, [], ◌∷◌, ◌++◌}
 use Rattle.ucon_model.specs.declared.command.Entry.{Entry}
 use Rattle.ucon_model.specs.Plain.{Bytes, PlainPolicy}
@@ -34,6 +35,10 @@ IsFoundAs text file H = Tells (found file) text H
 pub record Holds (text : Bytes) (P : PlainPolicy) (H : History) (file : Bytes) : Type 0 where
   pub gate : ℕ
   pub is : found file ≡ holds text P H gate
+
+-- what it holds it is found as
+pub found_as : (text : Bytes) (P : PlainPolicy) (H : History) (file : Bytes) → Holds text P H file → IsFoundAs text file H
+found_as text P H file h = subst (λ (f : Finding). Tells f text H) (sym h.is) (refl, refl)
 
 -- it is found as this history, or as the history with the entry of the step that failed, if there is one
 abbrev pub IsFoundWith : Bytes → History → Option Entry → Bytes → Type 0

@@ -2,9 +2,12 @@ pub mod Events
 pub mod Faults
 pub mod Found
 pub mod Kept
+pub mod Made
 pub mod Opened
 pub mod Opening
 pub mod Pointing
 pub mod Points
+pub mod Starts
 pub mod Stays
 pub mod Steps
+pub mod Whole

@@ -1,5 +1,5 @@
 -- What opening sees in a journal with checkpoints, of which it runs only what stands behind the last one.
-use Rattle.std.specs.Prelude.{◌≡◌, ◌⊎◌, ℕ, ◌+◌, nat_lt, Bool, true, false, ◌&&◌, List, [], ◌∷◌, ◌++◌, length, Option, Some, None, option_map, option_and_then, if◌then◌else◌}
+use Rattle.std.specs.Prelude.{◌≡◌, ◌⊎◌, ℕ, ◌+◌, nat_lt, Bool, ◌&&◌, List, [], ◌∷◌, ◌++◌, length, Option, Some, None, option_map, option_and_then, Ok, if◌then◌else◌}
 use Rattle.std.specs.Option.{option_or}
 use Rattle.std.specs.Result.{result_ok}
 use Rattle.std.specs.Str.{bytes_eq}
@@ -7,15 +7,16 @@ use Rattle.ucon_model.specs.Action.{Trace}
 use Rattle.ucon_model.specs.Block.{reply}
 use Rattle.ucon_model.specs.Found as model
 use Rattle.ucon_model.specs.Found.{Finding, Takes, first_gate, found_behind, gate_behind, next_gate}
-use Rattle.ucon_model.specs.History.{History, changes, trace_from}
+use Rattle.ucon_model.specs.History.{History, changes, trace, trace_from}
 use Rattle.ucon_model.specs.Payload.{Told, entry_told, most_payload, payload_read}
 use Rattle.ucon_model.specs.Plain.{Bytes, PlainPolicy}
-use Rattle.ucon_model.specs.Readings.{in_force}
-use Rattle.ucon_model.specs.Sound.{IsSound}
 use Rattle.ucon_model.specs.Spelling.{reply_spelling}
 use Rattle.ucon_model.specs.Work.{NobodyFails}
-use Rattle.ucon_point.specs.PointText.{point_text}
-use Rattle.ucon_state.specs.Held.{Held, held_after}
+use Rattle.ucon_point.specs.PointRead.{Said, point_read}
+use Rattle.ucon_point.specs.Standing.{Standing, put_all, start}
+use Rattle.ucon_state.specs.Held.{Held, ReadsAlike, held_after}
+use Rattle.ucon_state.specs.Shown.{Shown}
+use Rattle.ucon_state.specs.Tables.{Tables}
 use Rattle.ucon_syntax.specs.Policies.{accepted}
 use Rattle.ucon_store.specs.Found.{found}
 use Rattle.ucon_store.specs.Points.{has_points, is_point}
@@ -49,6 +50,10 @@ abbrev pub parted : List Bytes → Option Parted
 parted [] = None
 parted (payload ∷ payloads) = option_or (option_map (preceded_by payload) (parted payloads)) (parted_here payload payloads)
 
+-- the same where there may be checkpoints; where there may not, none is
+abbrev pub parted_with : Bool → List Bytes → Option Parted
+parted_with points payloads = if points then parted payloads else None
+
 -- how many payloads don't begin as a checkpoint
 abbrev pub steps_among : List Bytes → ℕ
 steps_among [] = 0
@@ -56,13 +61,19 @@ steps_among (payload ∷ payloads) = if is_point payload then steps_among payloa
 
 -- ---- from a checkpoint on
 
--- The payload is the checkpoint of what is there after a trace, after so many entries: the text in it spells the policy in force, the trace is
--- one that actions can make, and no accessing session fails.
+-- what a state shows that has these tables under this policy, and nothing to undo
+abbrev pub showing_only : PlainPolicy → Tables → Shown
+showing_only Q t = record { policy = Q; tables = t; opening_policy = Q; opening = t }
+
+-- The payload is read as a checkpoint after so many entries, the trace gives to read what the checkpoint's rows make, and no accessing session
+-- fails after it.
 pub record IsPointOf (entries : ℕ) (P : PlainPolicy) (T : Trace) (payload : Bytes) : Type 0 where
-  pub text : Bytes
-  pub accepts : accepted text ≡ Some (in_force P T)
-  pub is : payload ≡ point_text entries text (held_after P T)
-  pub sound : IsSound P T
+  pub said : Said
+  pub reads : point_read payload ≡ Ok said
+  pub count : said.entries ≡ entries
+  pub end : Standing
+  pub made : put_all said.policy (start said.policy said.tick) said.rows ≡ Some end
+  pub alike : ReadsAlike (showing_only said.policy end.tables) P T
   pub settled : NobodyFails P T
 
 -- the step that is told is the next one after a trace and the entries behind it
@@ -108,16 +119,25 @@ SeesPast None text None p found seen = seen ≡ damaged 0 first_gate
 SeesPast None text (Some P) None found seen = seen ≡ seen_after 0 [] found
 SeesPast None text (Some P) (Some p) found seen = SeesFrom text p seen
 
-abbrev pub SeesIn : List Bytes → Finding → Seen → Type 0
-SeesIn [] found seen = seen ≡ seen_after 0 [] found
-SeesIn (text ∷ payloads) found seen =
-    SeesPast (first_long 0 first_gate (text ∷ payloads)) text (accepted text) (parted payloads) found seen
-
--- what opening sees in a file by whether it may have checkpoints: where it may not, what is found
-abbrev pub SeesWith : Bool → Bytes → Seen → Type 0
-SeesWith true file seen = SeesIn (counted file) (found file) seen
-SeesWith false file seen = seen ≡ seen_after 0 [] (found file)
+-- by whether there may be checkpoints
+abbrev pub SeesIn : Bool → List Bytes → Finding → Seen → Type 0
+SeesIn points [] found seen = seen ≡ seen_after 0 [] found
+SeesIn points (text ∷ payloads) found seen =
+    SeesPast (first_long 0 first_gate (text ∷ payloads)) text (accepted text) (parted_with points payloads) found seen
 
 -- what opening sees in a file
 abbrev pub Sees : Bytes → Seen → Type 0
-Sees file seen = SeesWith (has_points file) file seen
+Sees file seen = SeesIn (has_points file) (counted file) (found file) seen
+
+-- ---- around the last checkpoint of what is found
+
+-- A history that is found, around the last checkpoint: the entries before it, after whose trace it is taken, and those behind it, which the
+-- records there tell after that trace.
+pub record StandsAround (text : Bytes) (P : PlainPolicy) (H : History) (gate : ℕ) (p : Parted) : Type 0 where
+  pub before : History
+  pub behind : History
+  pub all : H ≡ before ++ behind
+  pub count : length before ≡ steps_among p.before
+  pub point : IsPointOf (steps_among p.before) P (trace P before) p.point
+  pub told : found_behind (steps_after (trace P before)) text P [] (length p.before + 2)
+      (next_gate (gate_behind (next_gate first_gate text) p.before) p.point) p.behind ≡ model.holds text P behind gate

@@ -1,5 +1,6 @@
 -- What writing a checkpoint answers and does.
 use Rattle.std.specs.Prelude.{◌≡◌, ◌⊎◌, ℕ, ◌<◌, Bool, true, false, List, [], ◌∷◌, ◌++◌, length, Option, IsSome, IfSome, ⊤}
+use Rattle.ucon_model.specs.Action.{Trace}
 use Rattle.ucon_model.specs.History.{History}
 use Rattle.ucon_model.specs.Payload.{most_payload}
 use Rattle.ucon_model.specs.Plain.{Bytes, PlainPolicy}
@@ -7,7 +8,8 @@ use Rattle.ucon_store.specs.declared.fault.PointRefusal.{PointRefusal}
 use Rattle.ucon_store.specs.declared.fault.PointRefusal.TheVariants.{Stopped, OldJournal, TooLarge, NoMemory}
 use Rattle.ucon_store.specs.Found.{IsFoundAs}
 use Rattle.ucon_store.specs.Kept.{Kept}
-use Rattle.ucon_store.specs.Points.{checkpoint, has_points, point_places}
+use Rattle.ucon_store.specs.Points.{has_points, point_places}
+use Rattle.ucon_store.specs.Starts.{checkpoint_behind}
 
 -- Why a checkpoint isn't prepared: there may be none; or there may, and it has more bytes than a payload may have, and so many; or memory is
 -- wanting.
@@ -17,14 +19,15 @@ IsUnprepared points text OldJournal = points ≡ false
 IsUnprepared points text (TooLarge size) = (points ≡ true) × (size ≡ length text) × (most_payload < size)
 IsUnprepared points text (NoMemory e) = ⊤
 
--- Why a store of the policy P has no checkpoint more: a step had failed; the file may have none; it may, but this one is too long, and how
--- long; or memory is wanting.
-abbrev pub IsUnpointed : {D : Type 0} → (D → Option Bytes) → PlainPolicy → Kept D → PointRefusal → Type 0
-IsUnpointed contents P store Stopped = IsSome store.mark
-IsUnpointed contents P store OldJournal = IfSome (contents store.disk) (λ file. has_points file ≡ false)
-IsUnpointed contents P store (TooLarge size) =
-    IfSome (contents store.disk) (λ file. has_points file ≡ true) × (size ≡ length (checkpoint store.policy P store.entries)) × (most_payload < size)
-IsUnpointed contents P store (NoMemory e) = ⊤
+-- Why a store of the policy P, to whose beginning the trace T leads, has no checkpoint more: a step had failed; the file may have none; it may,
+-- but this one is too long, and how long; or memory is wanting.
+abbrev pub IsUnpointed : {D : Type 0} → (D → Option Bytes) → PlainPolicy → Trace → Kept D → PointRefusal → Type 0
+IsUnpointed contents P T store Stopped = IsSome store.mark
+IsUnpointed contents P T store OldJournal = IfSome (contents store.disk) (λ file. has_points file ≡ false)
+IsUnpointed contents P T store (TooLarge size) =
+    IfSome (contents store.disk) (λ file. has_points file ≡ true)
+    × (size ≡ length (checkpoint_behind store.policy store.point store.before P T store.entries)) × (most_payload < size)
+IsUnpointed contents P T store (NoMemory e) = ⊤
 
 -- it is found as the history, with checkpoints at these places, or with one more, behind all entries
 abbrev pub IsFoundPointed : Bytes → History → List ℕ → Bytes → Type 0
@@ -34,6 +37,8 @@ IsFoundPointed text H places file =
 -- nothing but the disk is other
 pub record IsSameStore {D : Type 0} (old new : Kept D) : Type 0 where
   pub policy : new.policy ≡ old.policy
+  pub point : new.point ≡ old.point
+  pub before : new.before ≡ old.before
   pub opening : new.opening ≡ old.opening
   pub entries : new.entries ≡ old.entries
   pub mark : new.mark ≡ old.mark

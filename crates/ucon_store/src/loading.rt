@@ -65,7 +65,8 @@ impl<E: Engine> Loaded<E> {
         ensures { IfOk result (λ here. (P : PlainPolicy) → accepted self.now.policy.items ≡ Some P
             → point_taken self.now.policy.items P self.now.entries.items payload.now ≡ (if here then Some self.now.entries.items else None)) }
     {
-        let text = checkpoint(alloc, &self.policy, &self.entries, &self.engine)?;
+        let count = self.entries.len() as u64;
+        let text = checkpoint(alloc, &self.policy, count, &self.entries, &self.engine)?;
         Ok(payload == text.as_slice())
     }
 

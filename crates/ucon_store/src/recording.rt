@@ -14,6 +14,7 @@ ghost use Rattle.ucon_model.specs.History.{History, said, changes};
 ghost use Rattle.ucon_model.specs.Payload.{revocations_in};
 ghost use Rattle.ucon_model.specs.Plain.{PlainPolicy};
 ghost use Rattle.ucon_model.specs.Views.{reply_of};
+ghost use Rattle.ucon_model.specs.Work.{NobodyFails};
 ghost use Rattle.ucon_state.specs.Engine.{IsPending};
 ghost use Rattle.ucon_syntax.specs.Policies.{accepted};
 
@@ -74,6 +75,8 @@ pub(crate) fn record<E: Engine, D: Disk>(
     requires spare { 1 ≤ entries.old.spare }
     ensures kept { OnOk result ((P : PlainPolicy) (T : Trace) (e : Entry) → E.has_pending engine.old P T e
         → E.follows engine.new P (after P T e.caller e.command)) }
+    ensures settled { OnOk result ((P : PlainPolicy) (T : Trace) (e : Entry) → E.has_pending engine.old P T e
+        → NobodyFails P (after P T e.caller e.command)) }
     ensures undone { OnErr result ((P : PlainPolicy) (T : Trace) (e : Entry) → E.has_pending engine.old P T e → E.follows engine.new P T) }
     ensures added { OnOk result (entries.new.items ≡ entries.old.items ++ entry ∷ []) }
     ensures same { OnErr result (entries.new.items ≡ entries.old.items) }

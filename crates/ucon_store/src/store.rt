@@ -5,10 +5,14 @@ ghost use Rattle.ucon_base.specs.Memory.{out_of_memory};
 ghost use Rattle.ucon_disk.specs.Causes.{raised};
 ghost use Rattle.ucon_disk.specs.Disk.{Only};
 ghost use Rattle.ucon_disk.specs.Run.{LeavesAfter, LeavesOnly};
-ghost use Rattle.ucon_model.specs.History.{trace, changes};
+ghost use Rattle.ucon_model.specs.Action.{Trace};
+ghost use Rattle.ucon_model.specs.History.{History, changes};
 ghost use Rattle.ucon_model.specs.Plain.{PlainPolicy};
 ghost use Rattle.ucon_model.specs.Views.{reply_of};
+ghost use Rattle.ucon_model.specs.Work.{NobodyFails};
 ghost use Rattle.ucon_state.specs.Engine.{state_of};
+ghost use Rattle.ucon_state.specs.Following.{Follows};
+ghost use Rattle.ucon_state.specs.Shown.{shown};
 ghost use Rattle.ucon_turn.specs.Lists.{Continues};
 ghost use Rattle.ucon_syntax.specs.Policies.{accepted};
 ghost use Rattle.ucon_store.specs.Events.{events_of, number_of};
@@ -16,15 +20,18 @@ ghost use Rattle.ucon_store.specs.Found.{Holds, IsFoundAs, IsFoundWith, Opens};
 ghost use Rattle.ucon_store.specs.Kept.{Kept};
 ghost use Rattle.ucon_store.specs.Opening.{HasReason};
 ghost use Rattle.ucon_store.specs.Pointing.{IsFoundPointed, IsSameStore, IsUnpointed};
-ghost use Rattle.ucon_store.specs.Points.{IsOld, SamePlaces, checkpoint, has_points, point_places};
+ghost use Rattle.ucon_store.specs.Points.{IsOld, SamePlaces, has_points, point_places};
+ghost use Rattle.ucon_store.specs.Starts.{IsBeforeAll, IsStart, checkpoint_behind};
 ghost use Rattle.ucon_store.specs.Stays.{Stays};
-ghost use Rattle.ucon_store.specs.Steps.{IsPlaced, HasFailed};
+ghost use Rattle.ucon_store.specs.Steps.{IsPlaced, IsPlacedBehind, HasFailed, HasFailedBehind};
+ghost use Rattle.ucon_store.specs.Whole.{IsFounded, IsFront, trace_behind, whole};
 
+use crate::beginning::Beginning;
 use crate::fault::{PointRefusal, StepFault, StoreFault};
 use crate::loading::Loaded;
 use crate::opening::load;
 use crate::placed::Placed;
-use crate::points::prepare_point;
+use crate::points::{prepare_point, text_at_start};
 use crate::recording::{prepare, record};
 use std::alloc::Global;
 use std::marker::Model;
@@ -32,9 +39,10 @@ use ucon_base::{Rows, Steps};
 use ucon_disk::Disk;
 use ucon_journal::{Journal, MAX_PAYLOAD};
 use ucon_model::{
-    Caller, Command, Entry, SessionState, payloads_are_found_one_by_one, revocations_are_few,
+    Caller, Command, Entry, SessionState, no_usage_goes_on_failing, payloads_are_found_one_by_one,
+    revocations_are_few,
 };
-use ucon_state::Engine;
+use ucon_state::{Engine, State};
 
 /// The history of a journal under its policy: in memory by the engine, on the disk by the journal.
 #[derive(Drop)]
@@ -42,7 +50,12 @@ pub struct Store<E: Engine, D: Disk> {
     engine: E,
     journal: Journal<D>,
     policy: Vec<u8>,
+    /// The checkpoint that opening used. None where it ran every record.
+    point: Option<Beginning>,
+    /// How many entries stand before that checkpoint. 0 where there is none.
+    before: u64,
     opening: u64,
+    /// The entries behind that checkpoint, or all.
     entries: Rows<Entry>,
     mark: Option<Entry>,
     /// The payload of the last record that was spelled. Its memory is kept for the next one.
@@ -51,7 +64,7 @@ pub struct Store<E: Engine, D: Disk> {
 
 impl<E: Engine, D: Disk> Model for Store<E, D> {
     ghost use Rattle.ucon_journal.specs.Journal.{disk_of};
-    ghost use Rattle.ucon_store.specs.Kept.{Kept, IsKept, kept_code};
+    ghost use Rattle.ucon_store.specs.Kept.{Kept, IsKept, kept_code, payload_in};
 
     ghost Value = { Kept D };
 
@@ -59,13 +72,16 @@ impl<E: Engine, D: Disk> Model for Store<E, D> {
 
     ghost view = { λ s. record {
       policy = s.policy.items;
+      point = payload_in s.point;
+      before = s.before;
       opening = s.opening;
       entries = s.entries.items;
       mark = s.mark;
       disk = disk_of s.journal;
     } };
 
-    ghost invariant = { λ s. IsKept E.follows D.contents D.images s.engine s.journal s.policy.items s.entries.items s.mark };
+    ghost invariant = { λ s. IsKept E.follows D.contents D.images s.engine s.journal s.policy.items s.point s.before s.entries.items
+        s.mark };
 }
 
 impl<E: Engine, D: Disk> Store<E, D> {
@@ -74,13 +90,15 @@ impl<E: Engine, D: Disk> Store<E, D> {
     /// rest a file that is no journal, is damaged or has another policy keeps its bytes. A fault hands the disk back.
     pub fn open(alloc: Global, policy: &[u8], disk: D) -> Result<Store<E, D>, (D, StoreFault)>
         requires { IsSome (accepted policy.now) }
-        ensures store { IfOk result (λ s. (s.policy ≡ policy.now) × (s.opening ≡ length s.entries) × (s.mark ≡ None)) }
+        ensures store { IfOk result (λ s. (s.policy ≡ policy.now) × (s.opening ≡ s.before + length s.entries) × (s.mark ≡ None)) }
+        ensures begins { IfOk result (λ s. IsBeforeAll s.point s.before) }
         ensures found { IfOk result (λ s. IfSome (D.contents disk) (λ file. IsFoundAs policy.now file s.entries)) }
         ensures images { IfOk result (λ s. LeavesAfter D.contents D.images D.moment D.images_since disk s.disk (Opens policy.now)) }
         ensures at_rest { IfOk result (λ s. Only (D.contents s.disk) (D.images s.disk)) }
         ensures holds { IfOk result (λ s. IfSome (D.contents s.disk) (λ file. IsFoundAs policy.now file s.entries)) }
         ensures recorded { IfOk result (λ s. (P : PlainPolicy) → accepted policy.now ≡ Some P
             → IfSome (D.contents s.disk) (Holds policy.now P s.entries)) }
+        ensures founded { IfOk result (λ s. (P : PlainPolicy) → accepted policy.now ≡ Some P → IsFounded D.contents D.images P s []) }
         ensures places { IfOk result (λ s. SamePlaces (D.contents disk) (D.contents s.disk)) }
         ensures old { IfOk result (λ s. (before now : List ℕ) → D.contents disk ≡ Some before → D.contents s.disk ≡ Some now
             → has_points now ≡ false → IsOld before) }
@@ -89,6 +107,8 @@ impl<E: Engine, D: Disk> Store<E, D> {
         ensures reason { IfErr result (λ e. HasReason e.1 policy.now (D.contents disk) (D.faults disk) (D.faults e.0)) }
         ensures images_err { IfErr result (λ e. LeavesAfter D.contents D.images D.moment D.images_since disk e.0 (Opens policy.now)) }
     {
+        no_usage_goes_on_failing();
+        revocations_are_few();
         let mut journal = match Journal::open(alloc, disk) {
             Ok(journal) => journal,
             Err((disk, fault)) => return Err((disk, fault.into())),
@@ -103,10 +123,13 @@ impl<E: Engine, D: Disk> Store<E, D> {
                     records: _,
                     payload,
                 } = loaded;
+                // Every record was run, so the store begins before all entries.
                 Ok(Store {
                     engine,
                     journal,
                     policy,
+                    point: None,
+                    before: 0,
                     opening: entries.len() as u64,
                     entries,
                     mark: None,
@@ -126,24 +149,31 @@ impl<E: Engine, D: Disk> Store<E, D> {
     ) -> Result<Placed, StepFault>
         requires { caller.0 < 64 }
         ensures stopped { IsErrOf result StepFault.Stopped ↔ IsSome self.old.mark }
-        ensures placed { IfOk result (λ p. (P : PlainPolicy) → accepted self.old.policy ≡ Some P
-            → IsPlaced P self.old self.new (record { caller = caller; command = command.now }) p) }
+        ensures placed_behind { IfOk result (λ p. (P : PlainPolicy) (T : Trace) → accepted self.old.policy ≡ Some P
+            → IsStart P self.old.point self.old.before T
+            → IsPlacedBehind P T self.old self.new (record { caller = caller; command = command.now }) p) }
+        ensures placed { IfOk result (λ p. (P : PlainPolicy) (G : History) → accepted self.old.policy ≡ Some P → IsFront P self.old G
+            → IsPlaced P (whole G self.old) (whole G self.new) (record { caller = caller; command = command.now }) p) }
         ensures told { IfOk result (λ p. changes (reply_of p.reply) ≡ false → self.new ≡ self.old) }
         ensures no_memory { IsErrOf result (StepFault.NoMemory out_of_memory) → self.new ≡ self.old }
         ensures still { IsErrOf result StepFault.Stopped → self.new ≡ self.old }
-        ensures failed { IsErrOf result StepFault.DiskFault → (P : PlainPolicy) → accepted self.old.policy ≡ Some P
-            → HasFailed D.faults P self.old self.new (record { caller = caller; command = command.now }) }
-        ensures inside { self.old.mark ≡ None → IsSome (D.contents self.old.disk)
+        ensures failed_behind { IsErrOf result StepFault.DiskFault → (P : PlainPolicy) (T : Trace) → accepted self.old.policy ≡ Some P
+            → IsStart P self.old.point self.old.before T
+            → HasFailedBehind D.faults P T self.old self.new (record { caller = caller; command = command.now }) }
+        ensures failed { IsErrOf result StepFault.DiskFault → (P : PlainPolicy) (G : History) → accepted self.old.policy ≡ Some P
+            → IsFront P self.old G
+            → HasFailed D.faults P (whole G self.old) (whole G self.new) (record { caller = caller; command = command.now }) }
+        ensures inside { (P : PlainPolicy) (G : History) → IsFounded D.contents D.images P self.old G → IsSome (D.contents self.old.disk)
             → LeavesOnly D.moment D.images_since self.old.disk self.new.disk
-            (IsFoundWith self.old.policy self.old.entries (Some (record { caller = caller; command = command.now }))) }
+            (IsFoundWith self.old.policy (G ++ self.old.entries) (Some (record { caller = caller; command = command.now }))) }
         ensures at_rest { OnOk result (Only (D.contents self.new.disk) (D.images self.new.disk)) }
-        ensures holds { OnOk result (IfSome (D.contents self.new.disk) (λ file. IsFoundAs self.new.policy file self.new.entries)) }
+        ensures founded { OnOk result ((P : PlainPolicy) (G : History) → IsFounded D.contents D.images P self.old G
+            → IsFounded D.contents D.images P self.new G) }
         ensures unfailed { OnOk result (D.faults self.new.disk ≡ D.faults self.old.disk) }
         ensures events { Continues (λ event. number_of event ≡ caller.0 + 1) (events_of self.old) (events_of self.new) }
         ensures stays { Stays D.contents D.images D.moment D.images_since D.faults self.old self.new }
     {
         payloads_are_found_one_by_one();
-        revocations_are_few();
         if self.mark.is_some() {
             return Err(StepFault::Stopped);
         }
@@ -151,7 +181,7 @@ impl<E: Engine, D: Disk> Store<E, D> {
         let drafted = self.engine.draft(caller, command, &mut steps)?;
         if !drafted.changes {
             return Ok(Placed {
-                place: self.entries.len() as u64,
+                place: self.before + self.entries.len() as u64,
                 reply: drafted.reply,
             });
         }
@@ -181,7 +211,7 @@ impl<E: Engine, D: Disk> Store<E, D> {
             return Err(StepFault::DiskFault);
         }
         Ok(Placed {
-            place: self.entries.len() as u64,
+            place: self.before + self.entries.len() as u64,
             reply: drafted.reply,
         })
     }
@@ -192,22 +222,27 @@ impl<E: Engine, D: Disk> Store<E, D> {
     pub fn point(self, alloc: Global) -> Result<(Store<E, D>, Result<u64, PointRefusal>), D>
         ensures stopped { IfOk result (λ r. IsErrOf r.1 PointRefusal.Stopped ↔ IsSome self.mark) }
         ensures same { IfOk result (λ r. IfErr r.1 (λ _. r.0 ≡ self)) }
-        ensures why { IfOk result (λ r. IfErr r.1 (λ refusal. (P : PlainPolicy) → accepted self.policy ≡ Some P
-            → IsUnpointed D.contents P self refusal)) }
-        ensures pointed { IfOk result (λ r. IfOk r.1 (λ entries. IsSameStore self r.0 × (entries ≡ length self.entries) × (self.mark ≡ None))) }
-        ensures added { IfOk result (λ r. OnOk r.1 ((before file : List ℕ) → D.contents self.disk ≡ Some before
-            → D.contents r.0.disk ≡ Some file
-            → (has_points before ≡ true) × (point_places file ≡ point_places before ++ length self.entries ∷ []))) }
-        ensures fits { IfOk result (λ r. OnOk r.1 ((P : PlainPolicy) → accepted self.policy ≡ Some P
-            → length (checkpoint self.policy P self.entries) ≤ MAX_PAYLOAD)) }
-        ensures inside { IfOk result (λ r. OnOk r.1 ((file : List ℕ) → D.contents self.disk ≡ Some file
-            → LeavesOnly D.moment D.images_since self.disk r.0.disk (IsFoundPointed self.policy self.entries (point_places file)))) }
+        ensures why { IfOk result (λ r. IfErr r.1 (λ refusal. (P : PlainPolicy) (T : Trace) → accepted self.policy ≡ Some P
+            → IsStart P self.point self.before T → IsUnpointed D.contents P T self refusal)) }
+        ensures pointed { IfOk result (λ r. IfOk r.1 (λ entries. IsSameStore self r.0 × (entries ≡ self.before + length self.entries)
+            × (self.mark ≡ None))) }
+        ensures second { IfOk result (λ r. OnOk r.1 (IfSome (D.contents self.disk) (λ file. has_points file ≡ true))) }
+        ensures added { IfOk result (λ r. OnOk r.1 ((P : PlainPolicy) (G : History) (before file : List ℕ)
+            → IsFounded D.contents D.images P self G → D.contents self.disk ≡ Some before → D.contents r.0.disk ≡ Some file
+            → point_places file ≡ point_places before ++ length (G ++ self.entries) ∷ [])) }
+        ensures fits { IfOk result (λ r. OnOk r.1 ((P : PlainPolicy) (T : Trace) → accepted self.policy ≡ Some P
+            → IsStart P self.point self.before T → length (checkpoint_behind self.policy self.point self.before P T self.entries) ≤ MAX_PAYLOAD)) }
+        ensures inside { IfOk result (λ r. OnOk r.1 ((P : PlainPolicy) (G : History) (file : List ℕ) → IsFounded D.contents D.images P self G
+            → D.contents self.disk ≡ Some file
+            → LeavesOnly D.moment D.images_since self.disk r.0.disk (IsFoundPointed self.policy (G ++ self.entries) (point_places file)))) }
         ensures at_rest { IfOk result (λ r. OnOk r.1 (Only (D.contents r.0.disk) (D.images r.0.disk))) }
-        ensures holds { IfOk result (λ r. OnOk r.1 (IfSome (D.contents r.0.disk) (λ file. IsFoundAs self.policy file self.entries))) }
+        ensures founded { IfOk result (λ r. OnOk r.1 ((P : PlainPolicy) (G : History) → IsFounded D.contents D.images P self G
+            → IsFounded D.contents D.images P r.0 G)) }
         ensures stays { IfOk result (λ r. OnOk r.1 (Stays D.contents D.images D.moment D.images_since D.faults self r.0)) }
         ensures failed { IfErr result (λ disk. (self.mark ≡ None) × (D.faults disk ≡ raised (D.faults self.disk))) }
-        ensures inside_err { IfErr result (λ disk. (file : List ℕ) → D.contents self.disk ≡ Some file
-            → LeavesOnly D.moment D.images_since self.disk disk (IsFoundPointed self.policy self.entries (point_places file))) }
+        ensures inside_err { IfErr result (λ disk. (P : PlainPolicy) (G : History) (file : List ℕ) → IsFounded D.contents D.images P self G
+            → D.contents self.disk ≡ Some file
+            → LeavesOnly D.moment D.images_since self.disk disk (IsFoundPointed self.policy (G ++ self.entries) (point_places file))) }
     {
         payloads_are_found_one_by_one();
         if self.mark.is_some() {
@@ -217,18 +252,23 @@ impl<E: Engine, D: Disk> Store<E, D> {
             engine,
             mut journal,
             policy,
+            point,
+            before,
             opening,
             entries,
             mark,
             payload,
         } = self;
-        let text = match prepare_point(alloc, &mut journal, &policy, &entries, &engine) {
+        let start = text_at_start(&policy, &point);
+        let text = match prepare_point(alloc, &mut journal, start, before, &entries, &engine) {
             Ok(text) => text,
             Err(refusal) => {
                 let same = Store {
                     engine,
                     journal,
                     policy,
+                    point,
+                    before,
                     opening,
                     entries,
                     mark,
@@ -240,11 +280,13 @@ impl<E: Engine, D: Disk> Store<E, D> {
         if journal.append(&text).is_err() {
             return Err(journal.close());
         }
-        let count = entries.len() as u64;
+        let count = before + entries.len() as u64;
         let store = Store {
             engine,
             journal,
             policy,
+            point,
+            before,
             opening,
             entries,
             mark,
@@ -260,17 +302,35 @@ impl<E: Engine, D: Disk> Store<E, D> {
         self.mark.as_ref()
     }
 
-    /// All entries, those that were found at the opening first.
+    /// The number of entries before the checkpoint that opening used. 0 where it ran every record.
+    pub fn before(&self) -> u64
+        ensures { result ≡ self.now.before }
+    {
+        self.before
+    }
+
+    /// The entries behind the checkpoint that opening used, or all; those that were found at the opening first.
     pub fn entries(&self) -> &Rows<Entry>
         ensures entries { result.now.items ≡ self.now.entries }
-        ensures few { length self.now.entries + 2 ≤ 2 ^ 64 }
+        ensures few { self.now.before + length self.now.entries + 2 ≤ 2 ^ 64 }
     {
         &self.entries
     }
 
+    /// What is there now. No accessing session fails.
+    pub fn state(&self) -> &State
+        ensures follows { (P : PlainPolicy) (T : Trace) → accepted self.now.policy ≡ Some P → IsStart P self.now.point self.now.before T
+            → Follows (shown result.now) P (trace_behind P T self.now) }
+        ensures settled { (P : PlainPolicy) (T : Trace) → accepted self.now.policy ≡ Some P → IsStart P self.now.point self.now.before T
+            → NobodyFails P (trace_behind P T self.now) }
+    {
+        self.engine.state()
+    }
+
     /// The state of a session. None where there is no such session.
     pub fn status(&self, session: u32) -> Option<SessionState>
-        ensures { (P : PlainPolicy) → accepted self.now.policy ≡ Some P → result ≡ state_of (trace P self.now.entries) session }
+        ensures { (P : PlainPolicy) (T : Trace) → accepted self.now.policy ≡ Some P → IsStart P self.now.point self.now.before T
+            → result ≡ state_of (trace_behind P T self.now) session }
     {
         self.engine.status(session)
     }
@@ -279,12 +339,13 @@ impl<E: Engine, D: Disk> Store<E, D> {
     pub fn close(self) -> D
         ensures disk { result ≡ self.disk }
         ensures at_rest { self.mark ≡ None → Only (D.contents result) (D.images result) }
-        ensures left { IsSome (D.contents result) → (c : List ℕ) → D.images result c → IsFoundWith self.policy self.entries self.mark c }
     {
         let Store {
             engine: _,
             journal,
             policy: _,
+            point: _,
+            before: _,
             opening: _,
             entries: _,
             mark: _,

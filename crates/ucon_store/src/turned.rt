@@ -1,5 +1,6 @@
 //! A store as the value of a turn.
 
+ghost use Rattle.std.specs.Prelude.{◌+◌};
 ghost use Rattle.ucon_store.specs.Events.{events_of, number_of};
 ghost use Rattle.ucon_store.specs.Stays.{Stays, stays_same, stays_again};
 
@@ -14,13 +15,13 @@ impl<E: Engine, D: Disk> Turned for Store<E, D> {
 
     type Entry = Event;
 
-    ghost base = { λ s. record { policy = s.policy; opening = s.opening } };
+    ghost base = { λ s. record { policy = s.policy; point = s.point; before = s.before; opening = s.opening } };
 
     ghost entries = { events_of };
 
     ghost stays = { Stays D.contents D.images D.moment D.images_since D.faults };
 
-    ghost first = { λ _. 1 };
+    ghost first = { λ b. b.before + 1 };
 
     ghost caller = { number_of };
 

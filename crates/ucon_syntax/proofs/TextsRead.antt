@@ -3,6 +3,7 @@ use Rattle.std.proofs.Common.{◌≡◌, ◌<◌, ◌≤◌, ℕ, true, false, �
 use Rattle.std.proofs.lemmas.Bool.Decides.{nat_tests}
 use Rattle.std.specs.Prelude.{IfOk, IfErr}
 use Rattle.ucon_model.specs.declared.policy.Policy.{Policy}
+use Rattle.ucon_model.specs.Limits.{IsWithin}
 use Rattle.ucon_model.specs.Plain.{Bytes, PlainPolicy}
 use Rattle.ucon_base.specs.Tokens.{Token, a_word, a_number, a_text, a_symbol, joined_word, flawed, the_end, Flaw, unknown, too_long, misplaced, tokens_of, place_of}
 use Rattle.ucon_model.specs.Spells.{Spells, TextFault, unknown_byte, overlong, too_many, too_deep, unexpected, flaw_in, IsTextFault}
@@ -15,6 +16,7 @@ use Rattle.ucon_syntax.specs.declared.read.SyntaxFault.{SyntaxFault}
 use Rattle.ucon_syntax.specs.declared.read.SyntaxFault.TheVariants as faults
 use Rattle.ucon_syntax.specs.Policies.{whole_at, fault_of, placed, reading_of, Reading}
 use Rattle.ucon_syntax.specs.Refusals.{IsSyntaxFault, ReadsAs, RefusedFor, IsReason}
+use Rattle.ucon_syntax.proofs.Counts.{spelled_within}
 use Rattle.ucon_syntax.proofs.Steps.{chosen}
 use Rattle.ucon_syntax.proofs.Exact.{fault_name, all_found, all_again, all_fault}
 use Rattle.ucon_syntax.proofs.Only.{fault_again}
@@ -207,6 +209,10 @@ each_text text = go (reading_of text) refl
 pub reading_found : (r : Result Policy SyntaxFault) (text : Bytes) → Reading r text → IfOk r (λ p. Spells text (policy_of p))
 reading_found (Ok p) text e = reading_spells text (policy_of p) e
 reading_found (Err f) text e = tt
+
+pub reading_within : (r : Result Policy SyntaxFault) (text : Bytes) → Reading r text → IfOk r (λ p. IsWithin (policy_of p))
+reading_within (Ok p) text e = spelled_within text (policy_of p) (reading_spells text (policy_of p) e)
+reading_within (Err f) text e = tt
 
 pub reading_only : (r : Result Policy SyntaxFault) (text : Bytes) → Reading r text → (q : PlainPolicy) → Spells text q → ReadsAs r q
 reading_only (Ok p) text e q s = one_policy text (policy_of p) q (reading_spells text (policy_of p) e) s

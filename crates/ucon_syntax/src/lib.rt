@@ -9,8 +9,6 @@ mod policy;
 mod read;
 mod room;
 mod starts;
-#[cfg(test)]
-mod tests;
 
 pub use laws::{
     accepted_texts_spell_typed_policies, each_text_spells_or_is_refused,

@@ -1,6 +1,7 @@
 //! Policies from texts.
 
 ghost use Rattle.std.specs.Prelude.{◌≡◌, ◌<◌, length, IfOk, IfErr};
+ghost use Rattle.ucon_model.specs.Limits.{IsWithin};
 ghost use Rattle.ucon_model.specs.Plain.{PlainPolicy};
 ghost use Rattle.ucon_model.specs.Spells.{Spells};
 ghost use Rattle.ucon_base.specs.Tokens.{place_of};
@@ -69,6 +70,7 @@ fn read(alloc: Global, text: &[u8]) -> Result<Policy, SyntaxFault>
 /// The policy that the text spells, or its first fault, from left to right.
 pub fn read_policy(alloc: Global, text: &[u8]) -> Result<Policy, SyntaxFault>
     ensures found { IfOk result (λ p. Spells text.now (policy_of p)) }
+    ensures within { IfOk result (λ p. IsWithin (policy_of p)) }
     ensures only { (q : PlainPolicy) → Spells text.now q → ReadsAs result q }
     ensures reason { IfErr result (λ f. IsReason text.now f) }
     ensures refuses { (f : SyntaxFault) → IsSyntaxFault text.now f → RefusedFor result f }

@@ -1,5 +1,5 @@
 -- How a run over a store ends, by how its output was written.
-use Rattle.std.proofs.Common.{◌≡◌, ℕ, Bool, false, List, refl, sym, subst, ◌∙◌}
+use Rattle.std.proofs.Common.{◌≡◌, ℕ, Bool, false, List, [], refl, sym, subst, ◌∙◌}
 use Rattle.std.specs.Prelude.{Option, Some, None, is_some}
 use Rattle.std.specs.Io.KnownBytes.{Appends}
 use Rattle.ucon_flow.specs.Writing.{AppendsPrefix}
@@ -7,9 +7,10 @@ use Rattle.ucon_model.specs.declared.command.Caller.{Caller}
 use Rattle.ucon_model.specs.declared.command.Entry.{Entry}
 use Rattle.ucon_model.specs.Plain.{Bytes, PlainPolicy}
 use Rattle.ucon_store.specs.Kept.{Kept}
-use Rattle.ucon_top.specs.declared.outcome.Outcome.{Outcome}
-use Rattle.ucon_top.specs.declared.outcome.Outcome.TheVariants as outcomes
+use Rattle.ucon_outcome.specs.declared.outcome.Outcome.{Outcome}
+use Rattle.ucon_outcome.specs.declared.outcome.Outcome.TheVariants as outcomes
 use Rattle.ucon_top.specs.Closing.{EndsRun, IsOfRun, IsWritten}
+use Rattle.ucon_top.specs.Ending.{IsCounted}
 use Rattle.ucon_top.specs.Stepping.{AreAnswered, HaveOutput}
 
 no_mark : (mark : Option Entry) → is_some mark ≡ false → mark ≡ None
@@ -33,14 +34,32 @@ of_run outcomes.TooLong text stopped before now failed fails w = w
 of_run (outcomes.FullPoint size) text stopped before now failed fails w = w
 of_run outcomes.OldJournal text stopped before now failed fails w = w
 
+-- and the sink's count tells whether it failed
+pub counted : (outcome : Outcome) (text : Bytes) (stopped : Bool) (before now : Option Bytes) (failed fails : ℕ) → IsWritten outcome text stopped before now failed fails
+    → IsCounted outcome outcomes.SinkFault failed fails
+counted outcomes.Done text stopped before now failed fails w = ((λ is. absurd (cc is)), (λ other. w.1.1))
+counted outcomes.DiskFault text stopped before now failed fails w = ((λ is. absurd (cc is)), (λ other. w.1.1))
+counted outcomes.SinkFault text stopped before now failed fails w = ((λ is. w.0), (λ other. absurd (other refl)))
+counted (outcomes.NoMemory e) text stopped before now failed fails w = absurd w
+counted outcomes.Usage text stopped before now failed fails w = absurd w
+counted (outcomes.Policy f) text stopped before now failed fails w = absurd w
+counted (outcomes.Script f) text stopped before now failed fails w = absurd w
+counted outcomes.SourceFault text stopped before now failed fails w = absurd w
+counted (outcomes.Damaged number place) text stopped before now failed fails w = absurd w
+counted outcomes.NotJournal text stopped before now failed fails w = absurd w
+counted (outcomes.OtherPolicy place) text stopped before now failed fails w = absurd w
+counted outcomes.TooLong text stopped before now failed fails w = absurd w
+counted (outcomes.FullPoint size) text stopped before now failed fails w = absurd w
+counted outcomes.OldJournal text stopped before now failed fails w = absurd w
+
 module _ {D : Type 0} (sees : Caller → Caller → Bool) (P : PlainPolicy) (store closed : Kept D) (lines : List Entry) (text : Bytes) (stopped : Bool) (before now : Option Bytes) (failed fails : ℕ)
     (answers : AreAnswered sees P store closed lines (HaveOutput (λ out. out ≡ text) lines)) (is_stopped : is_some closed.mark ≡ stopped) where
   went_out : (so : Bytes → Type 0) → so text → AreAnswered sees P store closed lines (HaveOutput so lines)
   went_out so holds = record { told = answers.told; lines_are = answers.lines_are; run = answers.run; is_so = (answers.is_so.0, subst so (sym answers.is_so.1) holds) }
 
   pub ends_so : (outcome : Outcome) → IsWritten outcome text stopped before now failed fails → EndsRun sees P store closed lines before now outcome
-  ends_so outcomes.Done w = (went_out (Appends before now) w.1, no_mark closed.mark (is_stopped ∙ w.0))
-  ends_so outcomes.DiskFault w = (went_out (Appends before now) w.1, is_stopped ∙ w.0)
+  ends_so outcomes.Done w = (went_out (Appends before now) w.1.0, no_mark closed.mark (is_stopped ∙ w.0))
+  ends_so outcomes.DiskFault w = (went_out (Appends before now) w.1.0, is_stopped ∙ w.0)
   ends_so outcomes.SinkFault w = went_out (AppendsPrefix before now) w.1
   ends_so (outcomes.NoMemory e) w = absurd w
   ends_so outcomes.Usage w = absurd w

@@ -11,11 +11,11 @@ use Rattle.ucon_store.specs.Found.{Tells, found}
 use Rattle.ucon_store.specs.Opening.{HasOtherPolicy, first_difference}
 use Rattle.ucon_top.specs.declared.form.Form.{Form}
 use Rattle.ucon_top.specs.declared.form.Form.TheVariants as forms
-use Rattle.ucon_top.specs.declared.outcome.Outcome.{Outcome}
-use Rattle.ucon_top.specs.declared.outcome.Outcome.TheVariants as outcomes
+use Rattle.ucon_outcome.specs.declared.outcome.Outcome.{Outcome}
+use Rattle.ucon_outcome.specs.declared.outcome.Outcome.TheVariants as outcomes
 use Rattle.ucon_top.specs.Accepted.{IsAccepted, IsRefusedBy}
 use Rattle.ucon_top.specs.Complete.{IsComplete, IsOwnJournal, IsUnhindered}
-use Rattle.ucon_top.specs.Ending.{IsOfDocument, IsOfPrinting, IsUnrefused, MayEnd}
+use Rattle.ucon_top.specs.Ending.{IsCounted, IsOfDocument, IsOfPrinting, IsUnrefused, MayEnd}
 use Rattle.ucon_top.specs.Played.{HasPlayed}
 use Rattle.ucon_top.specs.Pointed.{HasPointed}
 use Rattle.ucon_top.specs.Printed.{document_of}
@@ -75,8 +75,8 @@ module _ (contents : Option Bytes) (source source' sink sink' disk disk' : ℕ) 
   unread_complete form outcome input unread may = over (document_of form input) refl
     where
       by_outcome : (o : Outcome) (bytes : Bytes) → IsUnread input source source' o → MayEnd form o → document_of form input ≡ Some bytes → Completes form o bytes
-      by_outcome outcomes.SourceFault bytes h m is u = absurd (u.source_works h)
-      by_outcome outcomes.TooLong bytes h m is u = absurd (not_long form input bytes m is u.accepted h)
+      by_outcome outcomes.SourceFault bytes h m is u = absurd (u.source_works (rose _ _ h))
+      by_outcome outcomes.TooLong bytes h m is u = absurd (not_long form input bytes m is u.accepted h.0)
       by_outcome (outcomes.NoMemory e) bytes h m is u = tt
       by_outcome outcomes.Done bytes h m is u = tt
       by_outcome outcomes.Usage bytes h m is u = absurd h
@@ -102,12 +102,12 @@ module _ (contents : Option Bytes) (source source' sink sink' disk disk' : ℕ) 
 
   -- nothing but its document and the sink can end a run without a journal
   pub printed_complete : (form : Form) (outcome : Outcome) (bytes : Bytes) → (IsAccepted bytes → IsRefusedBy outcome bytes → IsUnrefused outcome)
-      → IsRefusedBy outcome bytes → IsOfPrinting outcome → (outcome ≡ outcomes.SinkFault → Rose sink sink') → Completes form outcome bytes
+      → IsRefusedBy outcome bytes → IsOfPrinting outcome → IsCounted outcome outcomes.SinkFault sink sink' → Completes form outcome bytes
   printed_complete form outcomes.Done bytes unrefused refused ends sink u = tt
   printed_complete form (outcomes.NoMemory e) bytes unrefused refused ends sink u = tt
   printed_complete form (outcomes.Policy f) bytes unrefused refused ends sink u = absurd (unrefused u.accepted refused)
   printed_complete form (outcomes.Script f) bytes unrefused refused ends sink u = absurd (unrefused u.accepted refused)
-  printed_complete form outcomes.SinkFault bytes unrefused refused ends sink u = absurd (u.sink_works (sink refl))
+  printed_complete form outcomes.SinkFault bytes unrefused refused ends sink u = absurd (u.sink_works (rose _ _ (sink.0 refl)))
   printed_complete form outcomes.Usage bytes unrefused refused ends sink u = absurd ends
   printed_complete form outcomes.SourceFault bytes unrefused refused ends sink u = absurd ends
   printed_complete form outcomes.DiskFault bytes unrefused refused ends sink u = absurd ends
@@ -122,7 +122,7 @@ module _ (contents : Option Bytes) (source source' sink sink' disk disk' : ℕ) 
 module _ {D : Type 0} (contents : D → Option (List ℕ)) (images : D → List ℕ → Type 0) (moment : D → ℕ) (images_since : D → ℕ → List ℕ → Type 0) (faults : D → ℕ)
     {K : Type 0} (held : K → Option Bytes) (form : Form) (old new : D) (was written : K) (source source' sink sink' : ℕ) (bytes : Bytes) where
   pub played_complete : (outcome : Outcome) → (IsAccepted bytes → IsRefusedBy outcome bytes → IsUnrefused outcome) → IsRefusedBy outcome bytes → IsOfDocument outcome
-      → (outcome ≡ outcomes.SinkFault → Rose sink sink') → (outcome ≡ outcomes.DiskFault → faults new ≡ raised (faults old))
+      → IsCounted outcome outcomes.SinkFault sink sink' → (outcome ≡ outcomes.DiskFault → faults new ≡ raised (faults old))
       → HasPlayed contents images moment images_since faults held form outcome bytes old new was written
       → (IsUnhindered form bytes (contents old) source source' sink sink' (faults old) (faults new) → IsOwnJournal (policy_part bytes) (contents old))
       → Completes (contents old) source source' sink sink' (faults old) (faults new) form outcome bytes
@@ -130,8 +130,8 @@ module _ {D : Type 0} (contents : D → Option (List ℕ)) (images : D → List 
   played_complete (outcomes.NoMemory e) unrefused refused ends sink disk played own u = tt
   played_complete (outcomes.Policy f) unrefused refused ends sink disk played own u = absurd (unrefused u.accepted refused)
   played_complete (outcomes.Script f) unrefused refused ends sink disk played own u = absurd (unrefused u.accepted refused)
-  played_complete outcomes.SinkFault unrefused refused ends sink disk played own u = absurd (u.sink_works (sink refl))
-  played_complete outcomes.DiskFault unrefused refused ends sink disk played own u = absurd (u.disk_works (rose (faults old) (faults new) (disk refl)))
+  played_complete outcomes.SinkFault unrefused refused ends sink disk played own u = absurd (u.sink_works (rose _ _ (sink.0 refl)))
+  played_complete outcomes.DiskFault unrefused refused ends sink disk played own u = absurd (u.disk_works (rose _ _ (disk refl)))
   played_complete (outcomes.Damaged number place) unrefused refused ends sink disk played own u =
       absurd (not_damaged (policy_part bytes) (contents old) (own u) number place played.reason.0)
   played_complete outcomes.NotJournal unrefused refused ends sink disk played own u = absurd (not_foreign (policy_part bytes) (contents old) (own u) played.reason.0)
@@ -145,7 +145,7 @@ module _ {D : Type 0} (contents : D → Option (List ℕ)) (images : D → List 
 
   -- the same of a checkpoint
   pub pointed_complete : (outcome : Outcome) → (IsAccepted bytes → IsRefusedBy outcome bytes → IsUnrefused outcome) → IsRefusedBy outcome bytes → IsOfDocument outcome
-      → (outcome ≡ outcomes.SinkFault → Rose sink sink') → (outcome ≡ outcomes.DiskFault → faults new ≡ raised (faults old))
+      → IsCounted outcome outcomes.SinkFault sink sink' → (outcome ≡ outcomes.DiskFault → faults new ≡ raised (faults old))
       → HasPointed contents images moment images_since faults held outcome bytes old new was written
       → (IsUnhindered form bytes (contents old) source source' sink sink' (faults old) (faults new) → IsOwnJournal (policy_part bytes) (contents old))
       → Completes (contents old) source source' sink sink' (faults old) (faults new) form outcome bytes
@@ -155,8 +155,8 @@ module _ {D : Type 0} (contents : D → Option (List ℕ)) (images : D → List 
   pointed_complete outcomes.OldJournal unrefused refused ends sink disk pointed own u = tt
   pointed_complete (outcomes.Policy f) unrefused refused ends sink disk pointed own u = absurd (unrefused u.accepted refused)
   pointed_complete (outcomes.Script f) unrefused refused ends sink disk pointed own u = absurd (unrefused u.accepted refused)
-  pointed_complete outcomes.SinkFault unrefused refused ends sink disk pointed own u = absurd (u.sink_works (sink refl))
-  pointed_complete outcomes.DiskFault unrefused refused ends sink disk pointed own u = absurd (u.disk_works (rose (faults old) (faults new) (disk refl)))
+  pointed_complete outcomes.SinkFault unrefused refused ends sink disk pointed own u = absurd (u.sink_works (rose _ _ (sink.0 refl)))
+  pointed_complete outcomes.DiskFault unrefused refused ends sink disk pointed own u = absurd (u.disk_works (rose _ _ (disk refl)))
   pointed_complete (outcomes.Damaged number place) unrefused refused ends sink disk pointed own u =
       absurd (not_damaged (policy_part bytes) (contents old) (own u) number place pointed.reason.0)
   pointed_complete outcomes.NotJournal unrefused refused ends sink disk pointed own u = absurd (not_foreign (policy_part bytes) (contents old) (own u) pointed.reason.0)

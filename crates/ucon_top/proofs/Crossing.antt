@@ -90,7 +90,7 @@ undo_send : IsSend Undo.the_row
 undo_send = recorded_send (Undo.the_field).row _ _ (Undo.the_type).to_one undo_field_send
 
 state_field_send : IsSend (State.the_field).row
-state_field_send = struct_send (structs.shape State.the_type) (global.the_field_send, (checked_field_send, (tables.the_field_send, (vec.the_send Name.the_row Global.the_row ghosts name.the_send global.the_send the_frees, (vec.the_send Undo.the_row Global.the_row ghosts undo_send global.the_send the_frees, tt)))))
+state_field_send = struct_send (structs.shape State.the_type) (global.the_field_send, (checked_field_send, (tables.the_field_send, (vec.the_send Name.the_row Global.the_row ghosts name.the_send global.the_send the_frees, (search (crosses, sendable) depth 30 fits 4000, (vec.the_send Undo.the_row Global.the_row ghosts undo_send global.the_send the_frees, tt))))))
 
 monitor_field_send : IsSend (Monitor.the_field).row
 monitor_field_send = struct_send (structs.shape Monitor.the_type) (global.the_field_send, (state_field_send, (readers.the_field_send, (timers.the_field_send, (search (crosses, sendable) depth 30 fits 4000, tt)))))

@@ -1,4 +1,5 @@
 pub mod Answering
+pub mod Behind
 pub mod Forms
 pub mod Closing
 pub mod Completing
@@ -9,6 +10,5 @@ pub mod Refusing
 pub mod Serving
 pub mod Stepwise
 pub mod Parted
-pub mod Out
 pub mod Playing
 pub mod Pointing

@@ -17,10 +17,10 @@ use Rattle.ucon_script.specs.Document.{IsLineCause}
 use Rattle.ucon_script.specs.declared.doc_fault.DocFault.{DocFault}
 use Rattle.ucon_script.specs.declared.doc_fault.DocFault.TheVariants as faults
 use Rattle.ucon_top.specs.Accepted.{IsAccepted, HasTypeFault, IsPolicyFault, IsScriptFault, IsRefusedBy}
-use Rattle.ucon_top.specs.declared.outcome.PolicyFault.{PolicyFault}
-use Rattle.ucon_top.specs.declared.outcome.PolicyFault.TheVariants.{Syntax, Typing}
-use Rattle.ucon_top.specs.declared.outcome.Outcome.{Outcome}
-use Rattle.ucon_top.specs.declared.outcome.Outcome.TheVariants as outcomes
+use Rattle.ucon_outcome.specs.declared.outcome.PolicyFault.{PolicyFault}
+use Rattle.ucon_outcome.specs.declared.outcome.PolicyFault.TheVariants.{Syntax, Typing}
+use Rattle.ucon_outcome.specs.declared.outcome.Outcome.{Outcome}
+use Rattle.ucon_outcome.specs.declared.outcome.Outcome.TheVariants as outcomes
 use Rattle.ucon_top.specs.Ending.{IsUnrefused}
 
 -- what the grammar's laws say

@@ -1,51 +1,51 @@
 -- A run of clients that were served at once, from the opened store to the closed one.
 use Rattle.std.proofs.Common.{◌≡◌, ℕ, Bool, List, map, refl}
-use Rattle.std.specs.Prelude.{◌<◌, Option, None, IsSome, is_some}
+use Rattle.std.specs.Prelude.{◌<◌, Option, None, is_some}
 use Rattle.ucon_base.specs.Elements.{Each}
 use Rattle.ucon_model.specs.declared.command.Caller.{Caller}
 use Rattle.ucon_model.specs.declared.command.Entry.{Entry}
+use Rattle.ucon_model.specs.History.{History}
 use Rattle.ucon_model.specs.Plain.{Bytes, PlainPolicy}
 use Rattle.ucon_model.specs.LegalRun.{Answered}
 use Rattle.ucon_model.specs.Output.{FitsLine, output}
-use Rattle.ucon_store.specs.Found.{IsFoundWith}
 use Rattle.ucon_store.specs.Kept.{Kept}
 use Rattle.ucon_store.specs.Stays.{Stays, stays_same}
-use Rattle.ucon_top.specs.declared.outcome.Outcome.{Outcome}
+use Rattle.ucon_store.specs.Whole.{whole}
+use Rattle.ucon_outcome.specs.declared.outcome.Outcome.{Outcome}
 use Rattle.ucon_top.specs.Closing.{EndsRun, IsClosedRun, IsWritten}
 use Rattle.ucon_top.specs.Stepping.{AreAnswered, IsRunBetween}
 use Rattle.ucon_top.proofs.Answering.{AreLegal, AreReadBack, text_read, unanswered, untold}
 use Rattle.ucon_top.proofs.Closing.{ends_so}
 
 module _ {D : Type 0} (contents : D → Option (List ℕ)) (images : D → List ℕ → Type 0) (moment : D → ℕ) (images_since : D → ℕ → List ℕ → Type 0) (faults : D → ℕ)
-    (sees : Caller → Caller → Bool) (P : PlainPolicy) (before now : Option Bytes) where
+    (sees : Caller → Caller → Bool) (P : PlainPolicy) (G : History) (before now : Option Bytes) where
   -- the store was closed without a line
   pub closed_at_once : ((d : D) (c : List ℕ) → images_since d (moment d) c → images d c) → AreLegal → (store : Kept D) (lines : List Entry) (disk : D) (outcome : Outcome)
-      → store.mark ≡ None → disk ≡ store.disk → (IsSome (contents disk) → (c : List ℕ) → images disk c → IsFoundWith store.policy store.entries store.mark c)
-      → (AreAnswered sees P store store lines (λ told. Unit {0}) → EndsRun sees P store store lines before now outcome)
-      → IsClosedRun contents images moment images_since faults sees P store lines outcome disk before now
-  closed_at_once only laws store lines disk outcome unmarked disk_is left ends = record {
+      → store.mark ≡ None → disk ≡ store.disk
+      → (AreAnswered sees P (whole G store) (whole G store) lines (λ told. Unit {0}) → EndsRun sees P (whole G store) (whole G store) lines before now outcome)
+      → IsClosedRun contents images moment images_since faults sees P G store lines outcome disk before now
+  closed_at_once only laws store lines disk outcome unmarked disk_is ends = record {
     closed = store;
-    closes = record { stays = stays_same contents images moment images_since faults only store; disk_is = disk_is; left = left };
-    ends = ends (unanswered laws P sees store lines unmarked);
+    closes = record { stays = stays_same contents images moment images_since faults only store; disk_is = disk_is };
+    ends = ends (unanswered laws P sees (whole G store) lines unmarked);
   }
 
   -- it was closed behind these answers, whose output was written so
   module _ (opened closed : Kept D) (told : List Answered) (disk : D) (stays : Stays contents images moment images_since faults opened closed)
-      (run : IsRunBetween sees P opened closed told) (disk_is : disk ≡ closed.disk)
-      (left : IsSome (contents disk) → (c : List ℕ) → images disk c → IsFoundWith closed.policy closed.entries closed.mark c) where
-    pub closed_behind : (outcome : Outcome) → EndsRun sees P opened closed (map (λ (t : Answered). t.line) told) before now outcome
-        → IsClosedRun contents images moment images_since faults sees P opened (map (λ (t : Answered). t.line) told) outcome disk before now
-    closed_behind outcome ends = record { closed = closed; closes = record { stays = stays; disk_is = disk_is; left = left }; ends = ends }
+      (run : IsRunBetween sees P (whole G opened) (whole G closed) told) (disk_is : disk ≡ closed.disk) where
+    pub closed_behind : (outcome : Outcome) → EndsRun sees P (whole G opened) (whole G closed) (map (λ (t : Answered). t.line) told) before now outcome
+        → IsClosedRun contents images moment images_since faults sees P G opened (map (λ (t : Answered). t.line) told) outcome disk before now
+    closed_behind outcome ends = record { closed = closed; closes = record { stays = stays; disk_is = disk_is }; ends = ends }
 
     pub closed_written : AreReadBack → (outcome : Outcome) (text : Bytes) (stopped : Bool) (failed fails : ℕ) → text ≡ output told
         → Each (λ t. FitsLine t.answer) told → Each (λ t. t.line.caller.0 < 256) told → is_some closed.mark ≡ stopped
         → IsWritten outcome text stopped before now failed fails
-        → IsClosedRun contents images moment images_since faults sees P opened (map (λ (t : Answered). t.line) told) outcome disk before now
+        → IsClosedRun contents images moment images_since faults sees P G opened (map (λ (t : Answered). t.line) told) outcome disk before now
     closed_written back outcome text stopped failed fails is fits clients is_stopped written = closed_behind outcome
-        (ends_so sees P opened closed (map (λ (t : Answered). t.line) told) text stopped before now failed fails
-        (text_read sees P opened closed (map (λ (t : Answered). t.line) told) told refl run back text is fits clients) is_stopped outcome written)
+        (ends_so sees P (whole G opened) (whole G closed) (map (λ (t : Answered). t.line) told) text stopped before now failed fails
+        (text_read sees P (whole G opened) (whole G closed) (map (λ (t : Answered). t.line) told) told refl run back text is fits clients) is_stopped outcome written)
 
-    pub closed_untold : (outcome : Outcome) → (AreAnswered sees P opened closed (map (λ (t : Answered). t.line) told) (λ told. Unit {0})
-        → EndsRun sees P opened closed (map (λ (t : Answered). t.line) told) before now outcome)
-        → IsClosedRun contents images moment images_since faults sees P opened (map (λ (t : Answered). t.line) told) outcome disk before now
-    closed_untold outcome ends = closed_behind outcome (ends (untold sees P opened closed (map (λ (t : Answered). t.line) told) told refl run))
+    pub closed_untold : (outcome : Outcome) → (AreAnswered sees P (whole G opened) (whole G closed) (map (λ (t : Answered). t.line) told) (λ told. Unit {0})
+        → EndsRun sees P (whole G opened) (whole G closed) (map (λ (t : Answered). t.line) told) before now outcome)
+        → IsClosedRun contents images moment images_since faults sees P G opened (map (λ (t : Answered). t.line) told) outcome disk before now
+    closed_untold outcome ends = closed_behind outcome (ends (untold sees P (whole G opened) (whole G closed) (map (λ (t : Answered). t.line) told) told refl run))

@@ -11,12 +11,12 @@ use Rattle.ucon_check.specs.declared.fault.CheckFault.{CheckFault}
 use Rattle.ucon_script.specs.Document.{IsCause}
 use Rattle.ucon_script.specs.declared.doc_fault.DocFault.{DocFault}
 use Rattle.ucon_script.specs.declared.doc_fault.DocFault.TheVariants as faults
-use Rattle.ucon_top.specs.declared.outcome.PolicyFault.{PolicyFault}
-use Rattle.ucon_top.specs.declared.outcome.PolicyFault.TheVariants.{Syntax, Typing}
-use Rattle.ucon_top.specs.declared.outcome.Outcome.{Outcome}
-use Rattle.ucon_top.specs.declared.outcome.Outcome.TheVariants as outcomes
-use Rattle.ucon_top.specs.declared.outcome.Refused.{Refused}
-use Rattle.ucon_top.specs.declared.outcome.Refused.TheVariants as refusals
+use Rattle.ucon_outcome.specs.declared.outcome.PolicyFault.{PolicyFault}
+use Rattle.ucon_outcome.specs.declared.outcome.PolicyFault.TheVariants.{Syntax, Typing}
+use Rattle.ucon_outcome.specs.declared.outcome.Outcome.{Outcome}
+use Rattle.ucon_outcome.specs.declared.outcome.Outcome.TheVariants as outcomes
+use Rattle.ucon_outcome.specs.declared.outcome.Refused.{Refused}
+use Rattle.ucon_outcome.specs.declared.outcome.Refused.TheVariants as refusals
 
 -- a document's policy part spells this policy, and it is well typed
 pub record HasPolicy (bytes : Bytes) (P : PlainPolicy) : Type 0 where

@@ -1,16 +1,17 @@
 -- How a run over a store ends, between the opening and the closing of its journal.
 use Rattle.std.specs.Prelude.{◌≡◌, ℕ, Bool, true, false, List, Option, None, IsSome}
 use Rattle.std.specs.Io.KnownBytes.{Appends}
-use Rattle.ucon_flow.specs.Causes.{Rose}
+use Rattle.ucon_flow.specs.Causes.{raised}
 use Rattle.ucon_flow.specs.Writing.{AppendsPrefix}
 use Rattle.ucon_model.specs.declared.command.Caller.{Caller}
 use Rattle.ucon_model.specs.declared.command.Entry.{Entry}
+use Rattle.ucon_model.specs.History.{History}
 use Rattle.ucon_model.specs.Plain.{Bytes, PlainPolicy}
-use Rattle.ucon_store.specs.Found.{IsFoundWith}
 use Rattle.ucon_store.specs.Kept.{Kept}
 use Rattle.ucon_store.specs.Stays.{Stays}
-use Rattle.ucon_top.specs.declared.outcome.Outcome.{Outcome}
-use Rattle.ucon_top.specs.declared.outcome.Outcome.TheVariants.{Done, SinkFault, DiskFault, NoMemory}
+use Rattle.ucon_store.specs.Whole.{whole}
+use Rattle.ucon_outcome.specs.declared.outcome.Outcome.{Outcome}
+use Rattle.ucon_outcome.specs.declared.outcome.Outcome.TheVariants.{Done, SinkFault, DiskFault, NoMemory}
 use Rattle.ucon_top.specs.Stepping.{AreAnswered, HaveOutput}
 
 -- how a run over a store may end
@@ -21,11 +22,11 @@ IsOfRun DiskFault = Unit {0}
 IsOfRun (NoMemory e) = Unit {0}
 IsOfRun outcome = ⊥
 
--- how the output was written, by how the run then ends
+-- How the output was written, by how the run then ends. The sink's count of faults, before and after, is one more only where it failed.
 abbrev pub IsWritten : Outcome → Bytes → Bool → Option Bytes → Option Bytes → ℕ → ℕ → Type 0
-IsWritten Done text stopped before now failed fails = (stopped ≡ false) × Appends before now text
-IsWritten DiskFault text stopped before now failed fails = (stopped ≡ true) × Appends before now text
-IsWritten SinkFault text stopped before now failed fails = Rose failed fails × AppendsPrefix before now text
+IsWritten Done text stopped before now failed fails = (stopped ≡ false) × (Appends before now text × (fails ≡ failed))
+IsWritten DiskFault text stopped before now failed fails = (stopped ≡ true) × (Appends before now text × (fails ≡ failed))
+IsWritten SinkFault text stopped before now failed fails = (fails ≡ raised failed) × AppendsPrefix before now text
 IsWritten outcome text stopped before now failed fails = ⊥
 
 -- how the run ended: the lines were answered, and where there was memory for it their output was written
@@ -43,11 +44,10 @@ module _ {D : Type 0} (contents : D → Option (List ℕ)) (images : D → List 
   pub record Closes (store closed : Kept D) (disk : D) : Type 0 where
     pub stays : Stays contents images moment images_since faults store closed
     pub disk_is : disk ≡ closed.disk
-    pub left : IsSome (contents disk) → (c : List ℕ) → images disk c → IsFoundWith closed.policy closed.entries closed.mark c
 
-  -- and the run over it ended so
-  pub record IsClosedRun (sees : Caller → Caller → Bool) (P : PlainPolicy) (store : Kept D) (lines : List Entry) (outcome : Outcome) (disk : D)
-      (before now : Option Bytes) : Type 0 where
+  -- and the run over it ended so, with this history before its entries
+  pub record IsClosedRun (sees : Caller → Caller → Bool) (P : PlainPolicy) (G : History) (store : Kept D) (lines : List Entry) (outcome : Outcome)
+      (disk : D) (before now : Option Bytes) : Type 0 where
     pub closed : Kept D
     pub closes : Closes store closed disk
-    pub ends : EndsRun sees P store closed lines before now outcome
+    pub ends : EndsRun sees P (whole G store) (whole G closed) lines before now outcome

@@ -7,8 +7,8 @@ use Rattle.ucon_model.specs.Plain.{Bytes}
 use Rattle.ucon_store.specs.Found.{IsFoundAs}
 use Rattle.ucon_top.specs.declared.form.Form.{Form}
 use Rattle.ucon_top.specs.declared.form.Form.TheVariants.{Play, Serve, Point}
-use Rattle.ucon_top.specs.declared.outcome.Outcome.{Outcome}
-use Rattle.ucon_top.specs.declared.outcome.Outcome.TheVariants.{Done, NoMemory, FullPoint, OldJournal}
+use Rattle.ucon_outcome.specs.declared.outcome.Outcome.{Outcome}
+use Rattle.ucon_outcome.specs.declared.outcome.Outcome.TheVariants.{Done, NoMemory, FullPoint, OldJournal}
 use Rattle.ucon_top.specs.Accepted.{IsAccepted}
 
 -- the disk tells its file, which is fresh or a journal under the policy of this text

@@ -2,9 +2,7 @@ pub mod Accepted
 pub mod Closing
 pub mod Complete
 pub mod Ending
-pub mod FaultWords
 pub mod Form
-pub mod Out
 pub mod Played
 pub mod Pointed
 pub mod PointEnding

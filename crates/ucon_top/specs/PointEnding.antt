@@ -9,8 +9,8 @@ use Rattle.ucon_store.specs.Found.{IsFoundAs}
 use Rattle.ucon_store.specs.Kept.{Kept}
 use Rattle.ucon_store.specs.Pointing.{IsFoundPointed}
 use Rattle.ucon_store.specs.Points.{has_points, point_places}
-use Rattle.ucon_top.specs.declared.outcome.Outcome.{Outcome}
-use Rattle.ucon_top.specs.declared.outcome.Outcome.TheVariants.{Done, SinkFault, DiskFault, NoMemory, FullPoint, OldJournal}
+use Rattle.ucon_outcome.specs.declared.outcome.Outcome.{Outcome}
+use Rattle.ucon_outcome.specs.declared.outcome.Outcome.TheVariants.{Done, SinkFault, DiskFault, NoMemory, FullPoint, OldJournal}
 use Rattle.ucon_top.specs.Pointed.{IsPointedAt, IsTooLarge, point_line}
 
 -- how it may end

@@ -1,6 +1,5 @@
 -- What writing a checkpoint over the disk of a journal leaves, and how it ends.
-use Rattle.std.specs.Prelude.{◌≡◌, ◌⊎◌, ◌<◌, ℕ, List, [], ◌∷◌, ◌++◌, codes, length, Option, IfSome}
-use Rattle.std.specs.Fmt.{decimal}
+use Rattle.std.specs.Prelude.{◌≡◌, ◌⊎◌, ◌<◌, ℕ, List, [], ◌∷◌, ◌++◌, length, Option, IfSome}
 use Rattle.std.specs.Io.KnownBytes.{Appends}
 use Rattle.ucon_disk.specs.Causes.{raised}
 use Rattle.ucon_disk.specs.Run.{IsAtRest, LeavesOnly}
@@ -11,14 +10,11 @@ use Rattle.ucon_model.specs.Plain.{Bytes, PlainPolicy}
 use Rattle.ucon_store.specs.declared.fault.StoreFault.TheVariants as stores
 use Rattle.ucon_store.specs.Found.{IsFoundAs}
 use Rattle.ucon_store.specs.Points.{IsOld, checkpoint, point_places}
-use Rattle.ucon_top.specs.declared.outcome.Outcome.{Outcome}
-use Rattle.ucon_top.specs.declared.outcome.Outcome.TheVariants.{Done, SinkFault, DiskFault, Damaged, NotJournal, NoMemory, OtherPolicy, FullPoint, OldJournal}
+pub use Rattle.ucon_outcome.specs.FaultWords.{point_line}
+use Rattle.ucon_outcome.specs.declared.outcome.Outcome.{Outcome}
+use Rattle.ucon_outcome.specs.declared.outcome.Outcome.TheVariants.{Done, SinkFault, DiskFault, Damaged, NotJournal, NoMemory, OtherPolicy, FullPoint, OldJournal}
 use Rattle.ucon_top.specs.Accepted.{HasPolicy}
 use Rattle.ucon_top.specs.Played.{IsUnopened}
-
--- the line that tells how many entries stand before a checkpoint
-abbrev pub point_line : ℕ → Bytes
-point_line entries = codes "point " ++ decimal entries ++ 10 ∷ []
 
 -- an image has the checkpoints of the opening file, and then one behind so many entries
 abbrev pub IsPointedAt : (entries : ℕ) (opening image : Bytes) → Type 0

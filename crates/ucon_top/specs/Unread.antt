@@ -1,13 +1,13 @@
 -- How a run ends whose document was not had.
-use Rattle.std.specs.Prelude.{◌<◌, ℕ, length, Option, IfSome}
-use Rattle.ucon_flow.specs.Causes.{Rose}
+use Rattle.std.specs.Prelude.{◌≡◌, ◌<◌, ℕ, length, Option, IfSome}
+use Rattle.ucon_flow.specs.Causes.{raised}
 use Rattle.ucon_model.specs.Plain.{Bytes}
-use Rattle.ucon_top.specs.declared.outcome.Outcome.{Outcome}
-use Rattle.ucon_top.specs.declared.outcome.Outcome.TheVariants.{SourceFault, NoMemory, TooLong}
+use Rattle.ucon_outcome.specs.declared.outcome.Outcome.{Outcome}
+use Rattle.ucon_outcome.specs.declared.outcome.Outcome.TheVariants.{SourceFault, NoMemory, TooLong}
 
--- the source failed, gave too much, or there was no memory
+-- the source failed, gave too much, or there was no memory; its count of faults, before and after, is one more only where it failed
 abbrev pub IsUnread : Option Bytes → ℕ → ℕ → Outcome → Type 0
-IsUnread input before now SourceFault = Rose before now
-IsUnread input before now TooLong = IfSome input (λ bytes. 4194304 < length bytes)
-IsUnread input before now (NoMemory e) = Unit {0}
+IsUnread input before now SourceFault = now ≡ raised before
+IsUnread input before now TooLong = IfSome input (λ bytes. 4194304 < length bytes) × (now ≡ before)
+IsUnread input before now (NoMemory e) = now ≡ before
 IsUnread input before now outcome = ⊥

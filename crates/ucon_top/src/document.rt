@@ -10,11 +10,11 @@ ghost use Rattle.ucon_top.specs.Printed.{IsFormOutput, IsOutputOf};
 ghost use Rattle.ucon_syntax.specs.Policies.{accepted};
 
 use crate::form::Form;
-use crate::outcome::Refused;
 use std::alloc::Global;
 use ucon_base::NoMemory;
 use ucon_check::check;
 use ucon_model::Checked;
+use ucon_outcome::Refused;
 use ucon_script::{Script, policy_part, read_script};
 use ucon_state::Engine;
 use ucon_syntax::read_policy;

@@ -8,7 +8,7 @@ ghost use Rattle.ucon_model.specs.LegalRun.{Answered};
 ghost use Rattle.ucon_model.specs.Plain.{Bytes, PlainPolicy};
 ghost use Rattle.ucon_model.specs.StoredRun.{LeadsTo};
 ghost use Rattle.ucon_store.specs.Found.{IsFoundAs};
-ghost use Rattle.ucon_top.specs.declared.outcome.Outcome.{Outcome};
+ghost use Rattle.ucon_outcome.specs.declared.outcome.Outcome.{Outcome};
 ghost use Rattle.ucon_top.specs.Accepted.{IsAccepted, IsRefusedBy};
 ghost use Rattle.ucon_top.specs.Ending.{IsUnrefused};
 

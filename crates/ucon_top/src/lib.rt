@@ -5,16 +5,11 @@ mod document;
 mod form;
 mod laws;
 mod line_answer;
-mod outcome;
 mod parts_text;
 mod play;
 mod point;
-mod printing;
-mod reporting;
 mod serve;
 mod stepping;
-#[cfg(test)]
-mod tests;
 mod top;
 
 pub use form::Form;
@@ -22,6 +17,5 @@ pub use laws::{
     accepted_documents_are_not_refused, files_are_found_as_one_history,
     generated_documents_are_accepted, runs_go_on_where_they_stopped,
 };
-pub use outcome::{Ended, Outcome, PolicyFault, Refused};
-pub use reporting::report;
 pub use top::{run, run_alone};
+pub use ucon_outcome::{Ended, Outcome, PolicyFault, Refused, report};

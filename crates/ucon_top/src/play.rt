@@ -2,23 +2,24 @@
 
 ghost use Rattle.std.specs.Prelude.{◌≡◌, ◌⊎◌, ◌≤◌, length, map, Some, None};
 ghost use Rattle.ucon_disk.specs.Causes.{raised};
-ghost use Rattle.ucon_flow.specs.Causes.{Rose};
+ghost use Rattle.ucon_model.specs.History.{History};
 ghost use Rattle.ucon_model.specs.LegalRun.{in_text_order};
 ghost use Rattle.ucon_model.specs.Plain.{PlainPolicy};
 ghost use Rattle.ucon_syntax.specs.Policies.{accepted};
+ghost use Rattle.ucon_store.specs.Whole.{IsFront};
 ghost use Rattle.ucon_top.specs.Accepted.{IsAccepted, IsRefusedBy};
 ghost use Rattle.ucon_top.specs.Closing.{IsClosedRun, IsOfRun, IsWritten};
-ghost use Rattle.ucon_top.specs.Ending.{IsOfAccepted, IsOfDocument, IsUntouched, IsUnwritten, MayEnd, status_of};
+ghost use Rattle.ucon_top.specs.Ending.{IsCounted, IsOfAccepted, IsOfDocument, IsUntouched, IsUnwritten, MayEnd, status_of};
 ghost use Rattle.ucon_trial.specs.OneAnswer.{entry_of};
 ghost use Rattle.ucon_top.specs.Played.{HasPlayed};
 
 use crate::document::read_accepted;
 use crate::form::Form;
-use crate::outcome::{Ended, Outcome};
 use crate::stepping::steps_text;
 use std::alloc::Global;
 use ucon_disk::Disk;
 use ucon_flow::{Sink, write_all};
+use ucon_outcome::{Ended, Outcome};
 use ucon_script::{LineText, policy_part};
 use ucon_state::Engine;
 use ucon_store::Store;
@@ -37,7 +38,7 @@ pub fn play<E: Engine, K: Sink, D: Disk>(
     ensures form { MayEnd Form.Play result.outcome }
     ensures refused { IsRefusedBy result.outcome bytes.now }
     ensures accepted { IsOfAccepted result.outcome → IsAccepted bytes.now }
-    ensures sink { result.outcome ≡ Outcome.SinkFault → Rose (K.faults out.old) (K.faults out.new) }
+    ensures sink { IsCounted result.outcome Outcome.SinkFault (K.faults out.old) (K.faults out.new) }
     ensures played { HasPlayed D.contents D.images D.moment D.images_since D.faults K.contents Form.Play result.outcome bytes.now disk result.disk
         out.old out.new }
     ensures fault { result.outcome ≡ Outcome.DiskFault → D.faults result.disk ≡ raised (D.faults disk) }
@@ -66,10 +67,10 @@ fn play_lines<E: Engine, K: Sink, D: Disk>(
     requires { store.mark ≡ None }
     ensures status { result.status ≡ status_of result.outcome }
     ensures of_run { IsOfRun result.outcome }
-    ensures run { (P : PlainPolicy) → accepted store.policy ≡ Some P
-        → IsClosedRun D.contents D.images D.moment D.images_since D.faults in_text_order P store (map entry_of lines.now) result.outcome result.disk
+    ensures run { (P : PlainPolicy) (G : History) → accepted store.policy ≡ Some P → IsFront P store G
+        → IsClosedRun D.contents D.images D.moment D.images_since D.faults in_text_order P G store (map entry_of lines.now) result.outcome result.disk
         (K.contents out.old) (K.contents out.new) }
-    ensures sink { result.outcome ≡ Outcome.SinkFault → Rose (K.faults out.old) (K.faults out.new) }
+    ensures sink { IsCounted result.outcome Outcome.SinkFault (K.faults out.old) (K.faults out.new) }
     ensures unwritten { IsUnwritten result.outcome → out.new ≡ out.old }
 {
     let text = steps_text(alloc, &mut store, lines);

@@ -1,22 +1,21 @@
 //! Writes a checkpoint of a journal.
 
-ghost use Rattle.std.specs.Prelude.{◌≡◌, ◌⊎◌, ◌≤◌, false, length, None, Some, IfOk, IfErr};
+ghost use Rattle.std.specs.Prelude.{◌≡◌, ◌⊎◌, ◌≤◌, ◌+◌, false, length, None, Some, IfOk, IfErr};
 ghost use Rattle.ucon_disk.specs.Causes.{raised};
-ghost use Rattle.ucon_flow.specs.Causes.{Rose};
+ghost use Rattle.ucon_model.specs.History.{History};
 ghost use Rattle.ucon_model.specs.Plain.{PlainPolicy};
-ghost use Rattle.ucon_syntax.specs.Policies.{accepted};
+ghost use Rattle.ucon_store.specs.Whole.{IsFounded, whole};
 ghost use Rattle.ucon_top.specs.Accepted.{IsAccepted, IsRefusedBy};
 ghost use Rattle.ucon_top.specs.Closing.{IsWritten};
-ghost use Rattle.ucon_top.specs.Ending.{IsOfAccepted, IsOfDocument, IsUntouched, IsUnwritten, status_of};
+ghost use Rattle.ucon_top.specs.Ending.{IsCounted, IsOfAccepted, IsOfDocument, IsUntouched, IsUnwritten, status_of};
 ghost use Rattle.ucon_top.specs.PointEnding.{EndsPoint, HasPut, IsOfNoPoint, IsOfPoint};
 ghost use Rattle.ucon_top.specs.Pointed.{HasPointed, point_line};
 
 use crate::document::read_accepted;
-use crate::outcome::{Ended, Outcome};
-use crate::printing::put_point_line;
 use std::alloc::Global;
 use ucon_disk::Disk;
 use ucon_flow::Sink;
+use ucon_outcome::{Ended, Outcome, put_point_line};
 use ucon_script::policy_part;
 use ucon_state::Engine;
 use ucon_store::Store;
@@ -35,7 +34,7 @@ pub fn point<E: Engine, K: Sink, D: Disk>(
     ensures of_document { IsOfDocument result.outcome }
     ensures refused { IsRefusedBy result.outcome bytes.now }
     ensures accepted { IsOfAccepted result.outcome → IsAccepted bytes.now }
-    ensures sink { result.outcome ≡ Outcome.SinkFault → Rose (K.faults out.old) (K.faults out.new) }
+    ensures sink { IsCounted result.outcome Outcome.SinkFault (K.faults out.old) (K.faults out.new) }
     ensures pointed { HasPointed D.contents D.images D.moment D.images_since D.faults K.contents result.outcome bytes.now disk result.disk out.old out.new }
     ensures fault { result.outcome ≡ Outcome.DiskFault → D.faults result.disk ≡ raised (D.faults disk) }
     ensures untouched { IsUntouched result.outcome → result.disk ≡ disk }
@@ -59,12 +58,12 @@ fn point_opened<E: Engine, K: Sink, D: Disk>(
     store: Store<E, D>,
     out: &mut K,
 ) -> Ended<D>
-    requires { store.mark ≡ None }
     ensures status { result.status ≡ status_of result.outcome }
     ensures of_point { IsOfPoint result.outcome }
-    ensures ends { (P : PlainPolicy) → accepted store.policy ≡ Some P
-        → EndsPoint D.contents D.images D.moment D.images_since D.faults P store result.disk (K.contents out.old) (K.contents out.new) result.outcome }
-    ensures sink { result.outcome ≡ Outcome.SinkFault → Rose (K.faults out.old) (K.faults out.new) }
+    ensures ends { (P : PlainPolicy) (G : History) → IsFounded D.contents D.images P store G
+        → EndsPoint D.contents D.images D.moment D.images_since D.faults P (whole G store) result.disk (K.contents out.old) (K.contents out.new)
+        result.outcome }
+    ensures sink { IsCounted result.outcome Outcome.SinkFault (K.faults out.old) (K.faults out.new) }
     ensures unwritten { IsUnwritten result.outcome → out.new ≡ out.old }
     ensures failed { result.outcome ≡ Outcome.DiskFault → out.new ≡ out.old }
 {
@@ -79,12 +78,12 @@ fn put_point<E: Engine, D: Disk>(
     alloc: Global,
     store: Store<E, D>,
 ) -> Result<(D, u64), (D, Outcome)>
-    requires { store.mark ≡ None }
-    ensures entries { IfOk result (λ r. r.1 ≡ length store.entries) }
-    ensures put { IfOk result (λ r. HasPut D.contents D.images D.moment D.images_since D.faults store r.0) }
+    ensures entries { IfOk result (λ r. r.1 ≡ store.before + length store.entries) }
+    ensures put { IfOk result (λ r. (P : PlainPolicy) (G : History) → IsFounded D.contents D.images P store G
+        → HasPut D.contents D.images D.moment D.images_since D.faults (whole G store) r.0) }
     ensures of_none { IfErr result (λ e. IsOfNoPoint e.1) }
-    ensures ends { IfErr result (λ e. (P : PlainPolicy) → accepted store.policy ≡ Some P
-        → EndsPoint D.contents D.images D.moment D.images_since D.faults P store e.0 None None e.1) }
+    ensures ends { IfErr result (λ e. (P : PlainPolicy) (G : History) → IsFounded D.contents D.images P store G
+        → EndsPoint D.contents D.images D.moment D.images_since D.faults P (whole G store) e.0 None None e.1) }
 {
     let (store, pointed) = match store.point(alloc) {
         Ok(answer) => answer,

@@ -3,24 +3,24 @@
 ghost use Rattle.std.specs.Prelude.{◌≡◌, ◌⊎◌, ◌<◌, ◌≤◌, length, map, Some, None};
 ghost use Rattle.ucon_base.specs.Elements.{Each};
 ghost use Rattle.ucon_disk.specs.Causes.{raised};
-ghost use Rattle.ucon_flow.specs.Causes.{Rose};
+ghost use Rattle.ucon_model.specs.History.{History};
 ghost use Rattle.ucon_model.specs.LegalRun.{own_answers};
 ghost use Rattle.ucon_model.specs.Plain.{PlainPolicy};
 ghost use Rattle.ucon_syntax.specs.Policies.{accepted};
 ghost use Rattle.ucon_store.specs.Kept.{Kept};
 ghost use Rattle.ucon_store.specs.Stays.{Stays};
+ghost use Rattle.ucon_store.specs.Whole.{IsFront, whole};
 ghost use Rattle.ucon_client.specs.Answers.{IsAnswered, told_in};
 ghost use Rattle.ucon_client.specs.Dividing.{by_client};
 ghost use Rattle.ucon_top.specs.Accepted.{IsAccepted, IsRefusedBy};
 ghost use Rattle.ucon_top.specs.Closing.{IsClosedRun, IsOfRun};
-ghost use Rattle.ucon_top.specs.Ending.{IsOfAccepted, IsOfDocument, IsUntouched, IsUnwritten, MayEnd, status_of};
+ghost use Rattle.ucon_top.specs.Ending.{IsCounted, IsOfAccepted, IsOfDocument, IsUntouched, IsUnwritten, MayEnd, status_of};
 ghost use Rattle.ucon_trial.specs.OneAnswer.{entry_of};
 ghost use Rattle.ucon_top.specs.Played.{HasPlayed};
 ghost use Rattle.ucon_top.specs.Stepping.{IsRunBetween};
 
 use crate::document::read_accepted;
 use crate::form::Form;
-use crate::outcome::{Ended, Outcome};
 use crate::parts_text::parts_text;
 use crate::play::write_output;
 use std::alloc::Global;
@@ -30,6 +30,7 @@ use ucon_client::{Gate, Part, divide};
 use ucon_disk::Disk;
 use ucon_flow::Sink;
 use ucon_model::{outputs_are_read_back, runs_over_a_store_are_legal};
+use ucon_outcome::{Ended, Outcome};
 use ucon_script::{LineText, policy_part};
 use ucon_state::Engine;
 use ucon_store::Store;
@@ -51,7 +52,7 @@ pub fn serve<E: Engine + Send, K: Sink, D: Disk + Send, G: Gate + Sync, R: Threa
     ensures form { MayEnd Form.Serve result.outcome }
     ensures refused { IsRefusedBy result.outcome bytes.now }
     ensures accepted { IsOfAccepted result.outcome → IsAccepted bytes.now }
-    ensures sink { result.outcome ≡ Outcome.SinkFault → Rose (K.faults out.old) (K.faults out.new) }
+    ensures sink { IsCounted result.outcome Outcome.SinkFault (K.faults out.old) (K.faults out.new) }
     ensures played { HasPlayed D.contents D.images D.moment D.images_since D.faults K.contents Form.Serve result.outcome bytes.now disk result.disk
         out.old out.new }
     ensures fault { result.outcome ≡ Outcome.DiskFault → D.faults result.disk ≡ raised (D.faults disk) }
@@ -82,10 +83,10 @@ fn serve_lines<E: Engine + Send, K: Sink, D: Disk + Send, G: Gate + Sync, R: Thr
     requires { store.mark ≡ None }
     ensures status { result.status ≡ status_of result.outcome }
     ensures of_run { IsOfRun result.outcome }
-    ensures run { (P : PlainPolicy) → accepted store.policy ≡ Some P
-        → IsClosedRun D.contents D.images D.moment D.images_since D.faults own_answers P store (by_client (map entry_of lines.now))
+    ensures run { (P : PlainPolicy) (H : History) → accepted store.policy ≡ Some P → IsFront P store H
+        → IsClosedRun D.contents D.images D.moment D.images_since D.faults own_answers P H store (by_client (map entry_of lines.now))
         result.outcome result.disk (K.contents out.old) (K.contents out.new) }
-    ensures sink { result.outcome ≡ Outcome.SinkFault → Rose (K.faults out.old) (K.faults out.new) }
+    ensures sink { IsCounted result.outcome Outcome.SinkFault (K.faults out.old) (K.faults out.new) }
     ensures unwritten { IsUnwritten result.outcome → out.new ≡ out.old }
 {
     runs_over_a_store_are_legal();
@@ -110,11 +111,11 @@ fn end_served<E: Engine, K: Sink, D: Disk>(
     requires clients { Each (λ t. t.line.caller.0 < 64) (told_in parts.now) }
     ensures status { result.status ≡ status_of result.outcome }
     ensures of_run { IsOfRun result.outcome }
-    ensures run { (P : PlainPolicy) (opened : Kept D) → Stays D.contents D.images D.moment D.images_since D.faults opened store
-        → IsRunBetween own_answers P opened store (told_in parts.now)
-        → IsClosedRun D.contents D.images D.moment D.images_since D.faults own_answers P opened (map (λ t. t.line) (told_in parts.now))
+    ensures run { (P : PlainPolicy) (H : History) (opened : Kept D) → Stays D.contents D.images D.moment D.images_since D.faults opened store
+        → IsRunBetween own_answers P (whole H opened) (whole H store) (told_in parts.now)
+        → IsClosedRun D.contents D.images D.moment D.images_since D.faults own_answers P H opened (map (λ t. t.line) (told_in parts.now))
         result.outcome result.disk (K.contents out.old) (K.contents out.new) }
-    ensures sink { result.outcome ≡ Outcome.SinkFault → Rose (K.faults out.old) (K.faults out.new) }
+    ensures sink { IsCounted result.outcome Outcome.SinkFault (K.faults out.old) (K.faults out.new) }
     ensures unwritten { IsUnwritten result.outcome → out.new ≡ out.old }
 {
     outputs_are_read_back();

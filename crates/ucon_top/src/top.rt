@@ -3,10 +3,9 @@
 ghost use Rattle.std.specs.Prelude.{◌≡◌, ◌≢◌, ◌↔◌, ◌⊎◌, ◌<◌, ◌≤◌, ◌+◌, false, None, Some, length, map, string_bytes, IfSome, IfOk, IfErr, OnOk};
 ghost use Rattle.std.specs.Io.KnownBytes.{IsAtEnd};
 ghost use Rattle.ucon_disk.specs.Causes.{raised};
-ghost use Rattle.ucon_flow.specs.Causes.{Rose};
 ghost use Rattle.ucon_top.specs.Accepted.{IsRefusedBy, IsAccepted};
 ghost use Rattle.ucon_top.specs.Complete.{IsComplete, IsUnhindered};
-ghost use Rattle.ucon_top.specs.Ending.{status_of, IsOfAccepted, IsOfPrinting, IsUntouched, IsUnwritten, MayEnd};
+ghost use Rattle.ucon_top.specs.Ending.{status_of, IsCounted, IsOfAccepted, IsOfPrinting, IsUntouched, IsUnwritten, MayEnd};
 ghost use Rattle.ucon_top.specs.Form.{form_of, HasSize, IsAlone, HasJournal, asks_for_threads};
 ghost use Rattle.ucon_top.specs.Unread.{IsUnread};
 ghost use Rattle.ucon_top.specs.Played.{HasPlayedInput};
@@ -16,7 +15,6 @@ ghost use Rattle.ucon_top.specs.Printed.{Adds, IsOutputOf, IsCutOutputOf, ReadsI
 use crate::document::output_of;
 use crate::form::{Form, asks_for_threads, read_form};
 use crate::laws::accepted_documents_are_not_refused;
-use crate::outcome::{Ended, Outcome};
 use crate::play::play;
 use crate::point::point;
 use crate::serve::serve;
@@ -27,6 +25,7 @@ use ucon_cascade::Monitor;
 use ucon_client::Gate;
 use ucon_disk::Disk;
 use ucon_flow::{Sink, Source, read_all, write_all};
+use ucon_outcome::{Ended, Outcome};
 use ucon_script::generate;
 
 /// The most bytes of input.
@@ -48,15 +47,15 @@ pub fn run<S: Source, K: Sink, D: Disk + Send, G: Gate + Sync, R: Threads + Wait
     // Status and outcome agree.
     ensures status { result.status ≡ status_of result.outcome }
 
-    // Each outcome has its cause. Want of memory alone may come at any moment.
+    // Each outcome has its cause, and no other one stands for a fault of the source or of the sink. Want of memory alone may come at any moment.
     ensures usage { (result.outcome ≡ Outcome.Usage) ↔ (form_of (map (λ w. string_bytes w) words.now) ≡ None) }
-    ensures source { result.outcome ≡ Outcome.SourceFault → Rose (S.faults input.old) (S.faults input.new) }
+    ensures source { IsCounted result.outcome Outcome.SourceFault (S.faults input.old) (S.faults input.new) }
     ensures too_long { result.outcome ≡ Outcome.TooLong → IfSome (S.left input.old) (λ bytes. 4194304 < length bytes) }
     ensures refused { IfSome (form_of (map (λ w. string_bytes w) words.now)) (λ form.
         IfSome (document_of form (S.left input.old)) (IsRefusedBy result.outcome)) }
     ensures accepted { IsOfAccepted result.outcome
         → IfSome (form_of (map (λ w. string_bytes w) words.now)) (λ form. IfSome (document_of form (S.left input.old)) IsAccepted) }
-    ensures sink { result.outcome ≡ Outcome.SinkFault → Rose (K.faults out.old) (K.faults out.new) }
+    ensures sink { IsCounted result.outcome Outcome.SinkFault (K.faults out.old) (K.faults out.new) }
     ensures read { IsOfAccepted result.outcome
         → IfSome (form_of (map (λ w. string_bytes w) words.now)) (λ form. ReadsInput form → IsAtEnd (S.left input.new)) }
     ensures form { IfSome (form_of (map (λ w. string_bytes w) words.now)) (λ form. MayEnd form result.outcome) }
@@ -133,15 +132,15 @@ pub fn run_alone<S: Source, K: Sink, D: Disk>(
     // Status and outcome agree.
     ensures status { result.status ≡ status_of result.outcome }
 
-    // Each outcome has its cause. Want of memory alone may come at any moment.
+    // Each outcome has its cause, and no other one stands for a fault of the source or of the sink. Want of memory alone may come at any moment.
     ensures usage { (result.outcome ≡ Outcome.Usage) ↔ (form_of (map (λ w. string_bytes w) words.now) ≡ None) }
-    ensures source { result.outcome ≡ Outcome.SourceFault → Rose (S.faults input.old) (S.faults input.new) }
+    ensures source { IsCounted result.outcome Outcome.SourceFault (S.faults input.old) (S.faults input.new) }
     ensures too_long { result.outcome ≡ Outcome.TooLong → IfSome (S.left input.old) (λ bytes. 4194304 < length bytes) }
     ensures refused { IfSome (form_of (map (λ w. string_bytes w) words.now)) (λ form.
         IfSome (document_of form (S.left input.old)) (IsRefusedBy result.outcome)) }
     ensures accepted { IsOfAccepted result.outcome
         → IfSome (form_of (map (λ w. string_bytes w) words.now)) (λ form. IfSome (document_of form (S.left input.old)) IsAccepted) }
-    ensures sink { result.outcome ≡ Outcome.SinkFault → Rose (K.faults out.old) (K.faults out.new) }
+    ensures sink { IsCounted result.outcome Outcome.SinkFault (K.faults out.old) (K.faults out.new) }
     ensures read { IsOfAccepted result.outcome
         → IfSome (form_of (map (λ w. string_bytes w) words.now)) (λ form. ReadsInput form → IsAtEnd (S.left input.new)) }
     ensures form { IfSome (form_of (map (λ w. string_bytes w) words.now)) (λ form. MayEnd form result.outcome) }
@@ -219,7 +218,7 @@ fn print_output<K: Sink>(alloc: Global, form: Form, bytes: &[u8], out: &mut K) -
     ensures form { MayEnd form result }
     ensures refused { IsRefusedBy result bytes.now }
     ensures accepted { IsOfAccepted result → IsAccepted bytes.now }
-    ensures sink { result ≡ Outcome.SinkFault → Rose (K.faults out.old) (K.faults out.new) }
+    ensures sink { IsCounted result Outcome.SinkFault (K.faults out.old) (K.faults out.new) }
     ensures done { result ≡ Outcome.Done → Adds (IsOutputOf form) (Some bytes.now) (K.contents out.old) (K.contents out.new) }
     ensures cut_short { result ≡ Outcome.SinkFault → Adds (IsCutOutputOf form) (Some bytes.now) (K.contents out.old) (K.contents out.new) }
     ensures unwritten { IsUnwritten result → out.new ≡ out.old }
@@ -245,11 +244,11 @@ fn serve_input<S: Source, K: Sink, D: Disk + Send, G: Gate + Sync, R: Threads + 
     ensures status { result.status ≡ status_of result.outcome }
     ensures usage { result.outcome ≢ Outcome.Usage }
     ensures form { MayEnd Form.Serve result.outcome }
-    ensures source { result.outcome ≡ Outcome.SourceFault → Rose (S.faults input.old) (S.faults input.new) }
+    ensures source { IsCounted result.outcome Outcome.SourceFault (S.faults input.old) (S.faults input.new) }
     ensures too_long { result.outcome ≡ Outcome.TooLong → IfSome (S.left input.old) (λ bytes. 4194304 < length bytes) }
     ensures refused { IfSome (S.left input.old) (IsRefusedBy result.outcome) }
     ensures accepted { IsOfAccepted result.outcome → IfSome (S.left input.old) IsAccepted }
-    ensures sink { result.outcome ≡ Outcome.SinkFault → Rose (K.faults out.old) (K.faults out.new) }
+    ensures sink { IsCounted result.outcome Outcome.SinkFault (K.faults out.old) (K.faults out.new) }
     ensures read { IsOfAccepted result.outcome → IsAtEnd (S.left input.new) }
     ensures reads { S.reads input.new ≤ S.reads input.old + 4194305 }
     ensures unwritten { IsUnwritten result.outcome → out.new ≡ out.old }
@@ -275,6 +274,7 @@ fn document_bytes<S: Source>(alloc: Global, form: Form, input: &mut S) -> Result
     ensures short { IfOk result (λ bytes. length bytes.items ≤ 4194304) }
     ensures bytes { IfOk result (λ bytes. IfSome (document_of form (S.left input.old)) (λ document. document ≡ bytes.items)) }
     ensures read { OnOk result (ReadsInput form → IsAtEnd (S.left input.new)) }
+    ensures unfailed { OnOk result (S.faults input.new ≡ S.faults input.old) }
     ensures ends { IfErr result (λ outcome. IsUnread (S.left input.old) (S.faults input.old) (S.faults input.new) outcome) }
     ensures form { IfErr result (λ outcome. MayEnd form outcome) }
     ensures reads { S.reads input.new ≤ S.reads input.old + 4194305 }

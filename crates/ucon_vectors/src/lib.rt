@@ -1,29 +1,34 @@
 //! Documents with what the program makes of them, as bytes for tests.
 #![tactic(auto)]
 
+ghost use Rattle.std.specs.Prelude.{◌≡◌, ◌++◌, IfOk, codes};
+
 mod amended;
-mod clients;
 mod generated;
 mod guide;
-mod hostile;
-mod journals;
 mod language;
 mod timed;
 mod typing;
 mod worked;
 
 pub use amended::amended_rows;
-pub use clients::{Meeting, two_clients};
 pub use generated::{Words, generated_rows};
 pub use guide::guide_examples;
-pub use hostile::{Limit, Repeated, WITHOUT_ENTRIES, hostile_documents, hostile_journals};
-pub use journals::{
-    LOOKING, Played, SUBJECTS_B_AND_C, WITH_A, WITH_A_AND_POINT, played_rows, pointed_rows,
-};
 pub use language::language_examples;
+use std::alloc::{AllocError, Global};
 pub use timed::timed_rows;
 pub use typing::{typing_faults, well_typed_policies};
 pub use worked::{CAPPED, PAY_PER_USE, worked_rows};
+
+/// A document of a policy and a script, with the divider between them.
+pub fn document(alloc: Global, policy: &[u8], script: &[u8]) -> Result<Vec<u8>, AllocError>
+    ensures { IfOk result (λ bytes. bytes.items ≡ policy.now ++ codes "%%\n" ++ script.now) }
+{
+    let mut bytes = Vec::from_slice(alloc, policy)?;
+    bytes.extend_from_slice(b"%%\n")?;
+    bytes.extend_from_slice(script)?;
+    Ok(bytes)
+}
 
 /// A document and what `trial` prints of it.
 #[derive(Clone, Copy, Debug)]

@@ -4,8 +4,6 @@
 mod laws;
 mod lines;
 mod marks;
-#[cfg(test)]
-mod tests;
 mod wheel;
 
 pub use laws::hides_are_undone_in_reverse;

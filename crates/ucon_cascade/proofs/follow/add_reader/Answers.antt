@@ -8,6 +8,7 @@ use Rattle.ucon_state.specs.Shown.{shown}
 use Rattle.ucon_cascade.specs.Listing.{ComesTo, Listing, readers_in}
 use Rattle.ucon_cascade.specs.Numbering.{numbers_of, place_numbers}
 use Rattle.ucon_cascade.specs.Readers.{first_of, readers_at}
+use Rattle.ucon_cascade.proofs.Asking.{right_by_row}
 use Rattle.ucon_cascade.proofs.Begun.{joined_comes}
 use Rattle.ucon_cascade.proofs.Outcomes.{ok_then, on_ok}
 use Rattle.ucon_cascade.proofs.Placed.{kept_gives, undo_still}
@@ -18,8 +19,7 @@ returns-in_default-clause-comes c =
     let s = shown c.args.state.now in
     let row = c.args.row.now in
     let told = rw c.in_default.is at c.right.ensures in
-    let is : right_named s.policy.rights row.right ≡ None =
-    ap (λ (Q : PlainPolicy). right_named Q.rights row.right) (sym (c.policy.ensures.policy ∙ c.checked.ensures)) ∙ sym told in
+    let is = right_by_row s c.args.n row None c.requires.row told in
     let none : place_numbers s row ≡ [] =
     ap (numbers_of s row) (ap (λ (r : Option PlainRight). option_map_or places_read r []) is) in
     ok_then c.lead.result (subst (λ (ns : List ℕ). ComesTo (readers_at c.args.readers.now) (readers_at c.lead.new.self) c.args.n ns) (sym none)) c.lead.ensures.comes

@@ -1,7 +1,7 @@
 use Rattle.std.proofs.Common.{◌∙◌, sym}
 use Rattle.ucon_state.specs.Shown.{shown}
 use Rattle.ucon_cascade.specs.Readers.{first_of, readers_at}
-use Rattle.ucon_cascade.proofs.Begun.{alone_begun, begins_from_nowhere, exact_begun, grouped_begun, others_stand}
+use Rattle.ucon_cascade.proofs.Begun.{alone_begun, alone_itself, begins_from_nowhere, exact_begun, exact_reading_nothing, grouped_begun, grouped_itself, others_stand}
 use Rattle.ucon_cascade.proofs.Outcomes.{ok_both, ok_then}
 use Rattle.ucon_cascade.proofs.follow.begin_to_read.Goals as goal
 
@@ -25,3 +25,21 @@ returns-clause-grouped c =
 pub returns-clause-alone : goal.returns-clause-alone
 returns-clause-alone c =
     ok_then c.add_reader.result (alone_begun (shown c.args.state.now) c.args.readers.now c.args.n c.requires.were (first_of c.add_reader.new.readers)) c.add_reader.ensures.first
+
+pub lead-requires-clause-nowhere : goal.lead-requires-clause-nowhere
+lead-requires-clause-nowhere c = begins_from_nowhere (shown c.args.state.now) c.args.readers.now c.args.n c.requires.were
+
+pub returns-then-not-asks_while_it_goes_on-clause-exact : goal.returns-then-not-asks_while_it_goes_on-clause-exact
+returns-then-not-asks_while_it_goes_on-clause-exact c =
+    ok_then c.lead.result
+    (exact_reading_nothing (shown c.args.state.now) c.args.readers.now c.args.n c.requires.were (readers_at c.lead.new.self)
+    (c.asks_while_it_goes_on.ensures.places c.if-not-asks_while_it_goes_on.true))
+    c.lead.ensures.comes
+
+pub returns-then-not-asks_while_it_goes_on-clause-grouped : goal.returns-then-not-asks_while_it_goes_on-clause-grouped
+returns-then-not-asks_while_it_goes_on-clause-grouped c =
+    ok_then c.lead.result (grouped_itself (shown c.args.state.now) c.args.readers.now c.args.n c.requires.were (first_of c.lead.new.self)) c.lead.ensures.alone
+
+pub returns-then-not-asks_while_it_goes_on-clause-alone : goal.returns-then-not-asks_while_it_goes_on-clause-alone
+returns-then-not-asks_while_it_goes_on-clause-alone c =
+    ok_then c.lead.result (alone_itself (shown c.args.state.now) c.args.readers.now c.args.n c.requires.were (first_of c.lead.new.self)) c.lead.ensures.alone

@@ -11,6 +11,7 @@ use Rattle.std.specs.Prelude.{Option}
 use Rattle.ucon_state.specs.Shown.{shown}
 use Rattle.ucon_state.specs.Tables.{readings_in}
 use Rattle.ucon_cascade.specs.Timers.{Gets, IsLimit, timed_parts}
+use Rattle.ucon_cascade.proofs.Asking.{right_by_row}
 use Rattle.ucon_cascade.proofs.Gaining.{gets_more, no_limits}
 use Rattle.ucon_cascade.proofs.limits.put_limits.Goals as goal
 
@@ -21,8 +22,7 @@ returns-in_default-clause-gets c =
     let v = c.args.timers.now.wheel in
     let row = c.args.row.now in
     let told = rw c.in_default.is at c.right.ensures in
-    let is : right_named s.policy.rights row.right ≡ None =
-    ap (λ (Q : PlainPolicy). right_named Q.rights row.right) (sym (c.policy.ensures.policy ∙ c.checked.ensures)) ∙ sym told in
+    let is = right_by_row s c.args.n row None c.requires.row told in
     subst (λ (parts : List Timed). Gets v v c.args.n (IsLimit R row parts)) (sym (ap (λ (r : Option PlainRight). option_map_or right_timed r []) is)) (no_limits v c.args.n R row)
 
 pub loop-p-init : goal.loop-p-init
@@ -61,8 +61,7 @@ returns-clause-gets c =
     let ps = c.slice-p-items.result.now in
     let i = c.loop-p.p-index in
     let r = right_of c.in-Some.right.now in
-    let is : right_named s.policy.rights row.right ≡ Some r =
-    ap (λ (Q : PlainPolicy). right_named Q.rights row.right) (sym (c.policy.ensures.policy ∙ c.checked.ensures)) ∙ sym c.in-Some.ensures in
+    let is = right_by_row s c.args.n row (Some r) c.requires.row c.in-Some.ensures in
     let whole : take i ps ≡ ps = take_all i ps c.loop-p-test.false in
     subst (λ (parts : List Timed). Gets c.args.timers.now.wheel c.loop-p.timers.wheel c.args.n (IsLimit R row parts))
     (ap (λ (qs : List Predicate). timed_parts (map predicate_of qs)) (whole ∙ c.slice-p-items.ensures) ∙ sym (ap (λ (r : Option PlainRight). option_map_or right_timed r []) is))

@@ -4,12 +4,12 @@ use Rattle.ucon_model.specs.declared.policy.Update.{Update}
 use Rattle.ucon_model.specs.Plain.{PlainPolicy, PlainUpdate}
 use Rattle.ucon_model.specs.Reach.{Location, targets}
 use Rattle.ucon_model.specs.Updates.{updates_of}
-use Rattle.ucon_model.specs.Views.{update_of}
+use Rattle.ucon_model.specs.Views.{right_of, update_of}
 use Rattle.ucon_state.specs.Shown.{shown}
 use Rattle.ucon_cascade.specs.Putting.{AllBelow, GainsFirsts, StandsAtOne}
 use Rattle.ucon_cascade.specs.Readers.{first_of, readers_at}
 use Rattle.ucon_cascade.proofs.Putting.{gains_none}
-use Rattle.ucon_cascade.proofs.Targets.{gains_more, targets_at, targets_more, targets_none}
+use Rattle.ucon_cascade.proofs.Targets.{gains_more, targets_at, targets_more, targets_none, targets_without_right, targets_without_updates, updates_by_right}
 use Rattle.ucon_cascade.proofs.own_work.put_targets.Goals as goal
 
 pub returns-in_default-clause-members : goal.returns-in_default-clause-members
@@ -18,7 +18,8 @@ returns-in_default-clause-members c =
     let standing = readers_at c.args.readers.now in
     let first = first_of c.args.readers.now in
     let m = c.args.work.now.members in
-    subst (λ (locations : List Location). GainsFirsts first m m (StandsAtOne s standing locations)) (sym (targets_none s c.args.n c.args.when (sym c.session.ensures.tables ∙ c.in_default.is)))
+    let told = rw c.in_default.is at c.right.ensures in
+    subst (λ (locations : List Location). GainsFirsts first m m (StandsAtOne s standing locations)) (sym (targets_without_right s c.args.n c.args.when told))
     (gains_none first m (StandsAtOne s standing []) (λ n none. none))
 
 pub loop-u-init : goal.loop-u-init
@@ -35,8 +36,8 @@ loop-u-preserved c =
     let s = shown c.args.state.now in
     let standing = readers_at c.args.readers.now in
     let first = first_of c.args.readers.now in
-    let row = c.in-Some.row in
-    let us = c.updates_of-updates.result.now in
+    let row = c.in-Some-session.row in
+    let us = c.slice-updates.result.now in
     let i = c.loop-u.u-index in
     let u = c.u-item.result in
     let last = λ (v : Update). GainsFirsts first c.loop-u.work.members c.put_target.new.work.members (StandsAtOne s standing (targets row c.args.when (update_of v ∷ []))) in
@@ -54,13 +55,15 @@ returns-clause-members c =
     let s = shown c.args.state.now in
     let standing = readers_at c.args.readers.now in
     let first = first_of c.args.readers.now in
-    let row = c.in-Some.row in
-    let us = c.updates_of-updates.result.now in
+    let row = c.in-Some-session.row in
+    let us = c.slice-updates.result.now in
     let i = c.loop-u.u-index in
-    let seen : map update_of us ≡ updates_of s.policy row = c.updates_of-updates.ensures ∙ ap (λ (Q : PlainPolicy). updates_of Q row) (c.policy.ensures.policy ∙ c.checked.ensures) in
+    let there = sym c.session.ensures.tables ∙ c.in-Some-session.is in
+    let seen : map update_of us ≡ updates_of s.policy row =
+    ap (map update_of) c.slice-updates.ensures ∙ updates_by_right s c.args.n row (right_of c.in-Some.right.now) there c.in-Some.ensures in
     let whole : take i us ≡ us = take_all i us c.loop-u-test.false in
     subst (λ (locations : List Location). GainsFirsts first c.args.work.now.members c.loop-u.work.members (StandsAtOne s standing locations))
     (ap (λ (xs : List Update). targets row c.args.when (map update_of xs)) whole
     ∙ ap (λ (xs : List PlainUpdate). targets row c.args.when xs) seen
-    ∙ sym (targets_at s c.args.n c.args.when row (sym c.session.ensures.tables ∙ c.in-Some.is)))
+    ∙ sym (targets_at s c.args.n c.args.when row there))
     c.loop-u.invariant.members

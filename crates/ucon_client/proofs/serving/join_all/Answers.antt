@@ -1,15 +1,17 @@
-use Rattle.std.proofs.Common.{rules, ◌≡◌, ℕ, ◌+◌, ◌<◌, List, [], ◌∷◌, ◌++◌, map, length, get_or, arith, ap, refl, sym, ◌∙◌, subst, inl, inr}
+use Rattle.std.proofs.Common.{rules, ◌≡◌, ℕ, ◌+◌, ◌<◌, List, [], ◌∷◌, ◌++◌, None, map, length, get_or, arith, ap, refl, sym, ◌∙◌, subst, inl, inr, ⊎_elim}
 use Rattle.std.proofs.lemmas.List.{append_assoc, get_or_at, length-append, length_push, map-append}
 use Rattle.ucon_turn.specs.Lists.{Has, Continues, ByOthers}
 use Rattle.ucon_client.specs.declared.client.Client.{Client}
 use Rattle.ucon_store.specs.declared.event.Event.{Event}
+use Rattle.ucon_store.specs.declared.event.Event.TheVariants.{Done}
 use Rattle.ucon_client.specs.declared.part.Part.{Part}
 use Rattle.ucon_client.specs.Answers.{Serves, number, served_of}
 use Rattle.ucon_client.specs.Clients.{AreJoined, AreRising, Served}
-use Rattle.ucon_store.specs.Events.{events, number_of}
+use Rattle.ucon_store.specs.Events.{events, events_behind, number_of}
 use Rattle.ucon_base.specs.Elements.{Each, each_append, each_map}
 use Rattle.ucon_client.proofs.Joining.{begins_joined, stays_joined}
 use Rattle.ucon_client.proofs.Parts.{rising_parts, below_served}
+use Rattle.ucon_client.proofs.Seats.{continues_behind}
 use Rattle.ucon_client.proofs.serving.join_all.Goals as goal
 
 pub loop-client-init : goal.loop-client-init
@@ -19,8 +21,11 @@ loop-client-init g c =
     let seen : events opened.entries opened.mark ≡ c.args.seat.now.seen = sym c.requires.seen.1 in
     record {
       turn = (c.requires.turn.0, c.requires.turn.1, refl);
-      joined = λ P is. subst (λ (z : List Event × List ℕ × List Part). AreJoined P opened.entries z.0 z.1 (map served_of z.2))
-          (λ j. ((ap (events opened.entries) (sym c.requires.seen.0) ∙ seen) j, sym c.requires.turn.2 j, sym none j)) (begins_joined P opened.entries);
+      joined = λ P H is front.
+          let list : map Done (H ++ opened.entries) ≡ map Done H ++ c.args.seat.now.seen =
+          events_behind H opened.entries None ∙ ap (λ (l : List Event). map Done H ++ l) (ap (events opened.entries) (sym c.requires.seen.0) ∙ seen) in
+          subst (λ (z : List Event × List ℕ × List Part). AreJoined P (H ++ opened.entries) z.0 z.1 (map served_of z.2))
+          (λ j. (list j, sym c.requires.turn.2 j, sym none j)) (begins_joined P (H ++ opened.entries));
       back = subst (Each (λ p. Has c.args.seat.now.taken (p.number + 1))) (sym none) tt;
       answered = none;
       clients = search rules;
@@ -43,7 +48,6 @@ loop-client-preserved g c =
     let i = c.loop-client.invariant in
     let j = c.join.ensures in
     let opened = c.args.turn.now.opened in
-    let G = opened.entries in
     let C : Type 0 = Client g.row.E.Denot g.row.D.Denot in
     let part_of : C → Part = λ d. d.part in
     let client : C = c.in-Some.client in
@@ -69,9 +73,16 @@ loop-client-preserved g c =
     ap (map served_of) items ∙ map-append served_of before (client.part ∷ []) in
     record {
       turn = (j.turn, j.kept.0, j.kept.1 ∙ i.turn.2);
-      joined = λ P is. subst (λ (z : List ℕ × List Served). AreJoined P G now.seen z.0 z.1) (λ k. (sym taken k, sym served k))
-          (stays_joined P G was.seen client.seat.seen now.seen was.taken (map served_of before) (served_of client.part) (i.joined P is) (s.right P is)
-          (below_served n before lower) j.longer j.ours (subst (λ k. Continues (ByOthers number_of k []) client.seat.seen now.seen) s.number j.theirs));
+      joined = λ P H is front.
+          let done : List Event = map Done H in
+          let theirs : Continues (ByOthers number_of (n + 1) []) client.seat.seen now.seen =
+          subst (λ k. Continues (ByOthers number_of k []) client.seat.seen now.seen) s.number j.theirs in
+          subst (λ (z : List ℕ × List Served). AreJoined P (H ++ opened.entries) (done ++ now.seen) z.0 z.1) (λ k. (sym taken k, sym served k))
+          (stays_joined P (H ++ opened.entries) (done ++ was.seen) (done ++ client.seat.seen) (done ++ now.seen) was.taken (map served_of before)
+          (served_of client.part) (i.joined P H is front) (s.right P H is front) (below_served n before lower)
+          (⊎_elim (λ e. inl (ap (λ (l : List Event). done ++ l) e)) (λ e. inr (ap (λ (l : List Event). done ++ l) e)) j.longer)
+          (continues_behind (ByOthers number_of 0 was.taken) done was.seen now.seen j.ours)
+          (continues_behind (ByOthers number_of (n + 1) []) done client.seat.seen now.seen theirs));
       back = subst (λ (z : List ℕ × List Part). Each (λ p. Has z.0 (p.number + 1)) z.1) (λ k. (sym taken k, sym items k))
           (each_append (λ p. Has ((n + 1) ∷ was.taken) (p.number + 1)) before (client.part ∷ [])
           (each_map (λ p. Has was.taken (p.number + 1)) (λ p. Has ((n + 1) ∷ was.taken) (p.number + 1)) (λ p h. inr h) before i.back)

@@ -8,6 +8,7 @@ use Rattle.ucon_client.specs.Answers.{IsAnswered, IsPart, asked, number, served_
 use Rattle.ucon_client.specs.Clients.{AreRising}
 use Rattle.ucon_syntax.specs.Policies.{accepted}
 use Rattle.ucon_store.specs.Kept.{Kept}
+use Rattle.ucon_store.specs.Whole.{IsFront}
 use Rattle.ucon_client.proofs.Ending.{asked_still, rising_still, back_still, each_part, closed_legal, lines_still, clients_told}
 use Rattle.ucon_client.proofs.serving.serve.Goals as goal
 
@@ -63,25 +64,28 @@ close-requires-clause-joined g c =
     (back_still c.join_all.new.parts.items c.args.parts.items c.seat_all.new.seat.given taken same c.seat_all.ensures.given c.join_all.ensures.back)
 
 pub returns-clause-legal : goal.returns-clause-legal
-returns-clause-legal g c = λ P is.
+returns-clause-legal g c = λ P H is front.
     let opened : Kept g.row.D.Denot = c.in-Ok-open.opened.0.opened in
     let same : opened ≡ c.args.store = c.in-Ok-open.ensures.turn.0 in
-    (closed_legal P opened c.args.store c.close.result c.join_all.new.seat.seen c.join_all.new.seat.taken (map served_of c.join_all.new.parts.items)
-    same c.requires.unmarked (c.join_all.ensures.joined P (ap (λ (s : Kept g.row.D.Denot). accepted s.policy) same ∙ is)) c.close.ensures.list c.close.ensures.callers).0
+    (closed_legal P H opened c.args.store c.close.result c.join_all.new.seat.seen c.join_all.new.seat.taken (map served_of c.join_all.new.parts.items)
+    same c.requires.unmarked (c.join_all.ensures.joined P H (ap (λ (s : Kept g.row.D.Denot). accepted s.policy) same ∙ is)
+    (subst (λ (s : Kept g.row.D.Denot). IsFront P s H) (sym same) front)) c.close.ensures.list c.close.ensures.callers).0
 
 pub returns-clause-made : goal.returns-clause-made
-returns-clause-made g c = λ P is.
+returns-clause-made g c = λ P H is front.
     let opened : Kept g.row.D.Denot = c.in-Ok-open.opened.0.opened in
     let same : opened ≡ c.args.store = c.in-Ok-open.ensures.turn.0 in
-    (closed_legal P opened c.args.store c.close.result c.join_all.new.seat.seen c.join_all.new.seat.taken (map served_of c.join_all.new.parts.items)
-    same c.requires.unmarked (c.join_all.ensures.joined P (ap (λ (s : Kept g.row.D.Denot). accepted s.policy) same ∙ is)) c.close.ensures.list c.close.ensures.callers).1
+    (closed_legal P H opened c.args.store c.close.result c.join_all.new.seat.seen c.join_all.new.seat.taken (map served_of c.join_all.new.parts.items)
+    same c.requires.unmarked (c.join_all.ensures.joined P H (ap (λ (s : Kept g.row.D.Denot). accepted s.policy) same ∙ is)
+    (subst (λ (s : Kept g.row.D.Denot). IsFront P s H) (sym same) front)) c.close.ensures.list c.close.ensures.callers).1
 
 pub returns-clause-fault : goal.returns-clause-fault
-returns-clause-fault g c = λ P is.
+returns-clause-fault g c = λ P H is front.
     let opened : Kept g.row.D.Denot = c.in-Ok-open.opened.0.opened in
     let same : opened ≡ c.args.store = c.in-Ok-open.ensures.turn.0 in
-    (closed_legal P opened c.args.store c.close.result c.join_all.new.seat.seen c.join_all.new.seat.taken (map served_of c.join_all.new.parts.items)
-    same c.requires.unmarked (c.join_all.ensures.joined P (ap (λ (s : Kept g.row.D.Denot). accepted s.policy) same ∙ is)) c.close.ensures.list c.close.ensures.callers).2
+    (closed_legal P H opened c.args.store c.close.result c.join_all.new.seat.seen c.join_all.new.seat.taken (map served_of c.join_all.new.parts.items)
+    same c.requires.unmarked (c.join_all.ensures.joined P H (ap (λ (s : Kept g.row.D.Denot). accepted s.policy) same ∙ is)
+    (subst (λ (s : Kept g.row.D.Denot). IsFront P s H) (sym same) front)) c.close.ensures.list c.close.ensures.callers).2
 
 pub returns-clause-lines : goal.returns-clause-lines
 returns-clause-lines g c =

@@ -1,10 +1,10 @@
 use Rattle.std.proofs.Common.{◌≡◌, ◌∙◌, sym, subst, rules}
 use Rattle.std.specs.Prelude.{None}
 use Rattle.ucon_state.specs.Shown.{shown}
-use Rattle.ucon_explain.specs.Explanation.{PlainExplanation}
-use Rattle.ucon_explain.specs.Trying.{IsRight, refusal_shown}
-use Rattle.ucon_explain.proofs.Answered.{explained_is_right}
-use Rattle.ucon_explain.proofs.Tried.{refusal_same, try_is_explained}
+use Rattle.ucon_told.specs.Explanation.{PlainExplanation}
+use Rattle.ucon_accept.specs.Trying.{IsRight, refusal_shown}
+use Rattle.ucon_accept.proofs.Answered.{explained_is_right}
+use Rattle.ucon_accept.proofs.Meeting.{refusal_same, try_is_explained}
 use Rattle.ucon_explain.proofs.trying.explain.Goals as goal
 
 pub returns-in-Some-clause-refused : goal.returns-in-Some-clause-refused

@@ -1,8 +1,8 @@
 use Rattle.std.proofs.Common.{◌≡◌, subst}
 use Rattle.ucon_state.specs.Shown.{shown}
 use Rattle.std.specs.Prelude.{IfOk}
-use Rattle.ucon_explain.specs.Explanation.{PlainExplanation, explanation_of}
-use Rattle.ucon_explain.proofs.Tried.{judged_by, explained_by}
+use Rattle.ucon_told.specs.Explanation.{PlainExplanation, explanation_of}
+use Rattle.ucon_accept.proofs.Meeting.{judged_by, explained_by}
 use Rattle.ucon_explain.proofs.trying.explain_try.Goals as goal
 
 pub explained-requires : goal.explained-requires

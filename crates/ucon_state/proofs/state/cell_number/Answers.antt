@@ -21,7 +21,7 @@ overflow_add-result c =
     let t = lists_of c.args.tables.now in
     let there = cell_is_there P t c.args.side c.args.entity c.args.attr.now c.in_ok-first.first c.in_ok-place.place c.requires
     (sym c.first_cell.ensures ∙ c.in_ok-first.was) (sym (c.attr_position.ensures ∙ ap (λ (Q : PlainPolicy). attr_position Q c.args.side c.args.attr.now) c.policy.ensures.policy) ∙ c.in_ok-place.was) in
-    omega (arith, there, c.requires.cells)
+    omega (arith, there, c.requires.subjects, c.requires.objects, c.requires.cells)
 
 pub returns-clause-there : goal.returns-clause-there
 returns-clause-there c =

@@ -11,7 +11,7 @@ use Rattle.ucon_store.specs.declared.fault.StoreFault.{StoreFault}
 use Rattle.ucon_store.specs.Opening.{HasReason}
 use Rattle.ucon_store.proofs.Finding.{takes_of}
 use Rattle.ucon_store.proofs.Openings.{says_all, says_long_policy, more_told}
-use Rattle.ucon_store.proofs.Runs.{then_opens}
+use Rattle.ucon_store.proofs.Runs.{then_opens, read_opens}
 use Rattle.ucon_store.proofs.Taking.{taking_reason}
 use Rattle.ucon_store.proofs.opening.load.Goals as goal
 
@@ -47,3 +47,7 @@ pub returns-in-Ok-false-clause-images : goal.returns-in-Ok-false-clause-images
 returns-in-Ok-false-clause-images g c =
     then_opens g.D.Disk.contents g.D.Disk.images g.D.Disk.moment g.D.Disk.images_since c.args.policy.now (disk_of c.args.journal.now) (disk_of c.next.new.self) (disk_of c.make.new.journal)
     c.next.ensures.contents c.next.ensures.images c.next.ensures.run c.make.ensures.images
+
+pub returns-in-Err-clause-images : goal.returns-in-Err-clause-images
+returns-in-Err-clause-images g c =
+    read_opens g.D.Disk.contents g.D.Disk.images g.D.Disk.moment g.D.Disk.images_since c.args.policy.now (disk_of c.args.journal.now) (disk_of c.next.new.self) c.next.ensures.run

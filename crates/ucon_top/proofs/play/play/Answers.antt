@@ -1,4 +1,4 @@
-use Rattle.std.proofs.Common.{◌≡◌, List, map, refl, sym, ap, subst, ◌∙◌}
+use Rattle.std.proofs.Common.{◌≡◌, List, [], map, refl, sym, ap, subst, ◌∙◌}
 use Rattle.std.specs.Prelude.{Some}
 use Rattle.std.proofs.lemmas.Simd.{map-map}
 use Rattle.ucon_model.specs.declared.command.Entry.{Entry}
@@ -7,7 +7,7 @@ use Rattle.ucon_model.specs.LegalRun.{in_text_order}
 use Rattle.ucon_script.specs.Document.{spelled_line, lines_spelled}
 use Rattle.ucon_syntax.specs.Policies.{accepted}
 use Rattle.ucon_top.specs.declared.form.Form.TheVariants.{Play}
-use Rattle.ucon_top.specs.declared.outcome.Outcome.{Outcome}
+use Rattle.ucon_outcome.specs.declared.outcome.Outcome.{Outcome}
 use Rattle.ucon_trial.specs.OneAnswer.{entry_of}
 use Rattle.ucon_top.specs.Closing.{IsClosedRun}
 use Rattle.ucon_top.proofs.Playing.{IsOpened, ends_run, run_raised}
@@ -29,7 +29,9 @@ returns-in-Ok-open-clause-played g c =
     let some = c.in-Ok.ensures.policy in
     let P = some.policy in
     let lines = lines_spelled c.in-Ok.script in
-    let opened : IsOpened g.D.Disk.contents g.D.Disk.images g.D.Disk.moment g.D.Disk.images_since g.D.Disk.faults text c.args.disk store = record {
+    let founded = told.founded P (ap accepted c.policy_part.ensures
+    ∙ (c.accepted_texts_spell_typed_policies.ensures (policy_part bytes) P).1 (some.has_policy.spelled, some.has_policy.typed)) in
+    let opened : IsOpened g.D.Disk.contents g.D.Disk.images g.D.Disk.moment g.D.Disk.images_since g.D.Disk.faults text c.args.disk [] store = record {
       policy = told.store.0;
       unmarked = told.store.2;
       found = told.found;
@@ -37,14 +39,16 @@ returns-in-Ok-open-clause-played g c =
       at_rest = told.at_rest;
       holds = told.holds;
       unfailed = told.unfailed;
+      P = P;
+      founded = founded;
       tells = λ some. told.tells ∙ some;
     } in
     let reads : accepted store.policy ≡ Some P =
     ap accepted (told.store.0 ∙ c.policy_part.ensures) ∙ (c.accepted_texts_spell_typed_policies.ensures (policy_part bytes) P).1 (some.has_policy.spelled, some.has_policy.typed) in
     let same : map entry_of c.slice.result.now ≡ entries_of lines = ap (map entry_of) c.slice.ensures ∙ sym (map-map said_entry spelled_line c.in-Ok.script.lines.items) in
-    let run = subst (λ (es : List Entry). IsClosedRun g.D.Disk.contents g.D.Disk.images g.D.Disk.moment g.D.Disk.images_since g.D.Disk.faults in_text_order P store es
-    c.play_lines.result.outcome c.play_lines.result.disk (g.K.Sink.contents c.args.out.now) (g.K.Sink.contents c.play_lines.new.out)) same (c.play_lines.ensures.run P reads) in
-    ends_run g.D.Disk.contents g.D.Disk.images g.D.Disk.moment g.D.Disk.images_since g.D.Disk.faults text c.args.disk store opened Play bytes P lines c.policy_part.ensures some.has_policy
+    let run = subst (λ (es : List Entry). IsClosedRun g.D.Disk.contents g.D.Disk.images g.D.Disk.moment g.D.Disk.images_since g.D.Disk.faults in_text_order P [] store es
+    c.play_lines.result.outcome c.play_lines.result.disk (g.K.Sink.contents c.args.out.now) (g.K.Sink.contents c.play_lines.new.out)) same (c.play_lines.ensures.run P [] reads founded.front) in
+    ends_run g.D.Disk.contents g.D.Disk.images g.D.Disk.moment g.D.Disk.images_since g.D.Disk.faults text c.args.disk [] store opened Play bytes P lines c.policy_part.ensures some.has_policy
     c.in-Ok.ensures.says c.play_lines.result.disk g.K.Sink.contents c.args.out.now c.play_lines.new.out c.play_lines.result.outcome run
 
 pub returns-in-Ok-open-clause-fault : goal.returns-in-Ok-open-clause-fault
@@ -58,7 +62,8 @@ returns-in-Ok-open-clause-fault g c = λ is.
     let lines = map entry_of c.slice.result.now in
     let reads : accepted store.policy ≡ Some P =
     ap accepted (told.store.0 ∙ c.policy_part.ensures) ∙ (c.accepted_texts_spell_typed_policies.ensures (policy_part bytes) P).1 (some.has_policy.spelled, some.has_policy.typed) in
-    let run = subst (λ (o : Outcome). IsClosedRun g.D.Disk.contents g.D.Disk.images g.D.Disk.moment g.D.Disk.images_since g.D.Disk.faults in_text_order P store lines
-    o c.play_lines.result.disk (g.K.Sink.contents c.args.out.now) (g.K.Sink.contents c.play_lines.new.out)) is (c.play_lines.ensures.run P reads) in
-    run_raised g.D.Disk.contents g.D.Disk.images g.D.Disk.moment g.D.Disk.images_since g.D.Disk.faults in_text_order P c.args.disk store told.store.2 told.unfailed lines
+    let front = (told.founded P (ap accepted (sym told.store.0) ∙ reads)).front in
+    let run = subst (λ (o : Outcome). IsClosedRun g.D.Disk.contents g.D.Disk.images g.D.Disk.moment g.D.Disk.images_since g.D.Disk.faults in_text_order P [] store lines
+    o c.play_lines.result.disk (g.K.Sink.contents c.args.out.now) (g.K.Sink.contents c.play_lines.new.out)) is (c.play_lines.ensures.run P [] reads front) in
+    run_raised g.D.Disk.contents g.D.Disk.images g.D.Disk.moment g.D.Disk.images_since g.D.Disk.faults in_text_order P [] c.args.disk store told.store.2 told.unfailed lines
     c.play_lines.result.disk (g.K.Sink.contents c.args.out.now) (g.K.Sink.contents c.play_lines.new.out) run

@@ -2,14 +2,17 @@ use Rattle.std.proofs.Common.{rules, ◌≡◌, map, sym, subst, ◌∙◌}
 use Rattle.std.specs.Prelude.{is_some}
 use Rattle.ucon_model.specs.LegalRun.{in_text_order}
 use Rattle.ucon_model.specs.Plain.{Bytes}
-use Rattle.ucon_top.specs.declared.outcome.Outcome.{Outcome}
+use Rattle.ucon_outcome.specs.declared.outcome.Outcome.{Outcome}
+use Rattle.ucon_outcome.specs.declared.outcome.Outcome.TheVariants.{SinkFault}
+use Rattle.ucon_top.specs.Ending.{IsCounted}
 use Rattle.ucon_top.specs.Closing.{EndsRun, IsWritten}
+use Rattle.ucon_store.specs.Whole.{whole}
 use Rattle.ucon_trial.specs.OneAnswer.{entry_of}
-use Rattle.ucon_top.proofs.Closing.{ends_so}
+use Rattle.ucon_top.proofs.Closing.{counted, ends_so}
 use Rattle.ucon_top.proofs.play.play_lines.Goals as goal
 
 pub returns-in-Ok-clause-run : goal.returns-in-Ok-clause-run
-returns-in-Ok-clause-run g c = λ P accepts.
+returns-in-Ok-clause-run g c = λ P G accepts front.
     let store = c.args.store in
     let closed = c.steps_text-text.new.store in
     let lines = map entry_of c.args.lines.now in
@@ -23,19 +26,30 @@ returns-in-Ok-clause-run g c = λ P accepts.
     subst (λ (t : Bytes). IsWritten c.write_output.result t stopped before now failed fails) c.deref.ensures.value c.write_output.ensures in
     record {
       closed = closed;
-      closes = record { stays = c.steps_text-text.ensures.stays; disk_is = c.by.ensures.disk ∙ c.close-disk.ensures.disk; left = rw c.by.ensures.disk c.close-disk.ensures.left };
-      ends = subst (λ (o : Outcome). EndsRun in_text_order P store closed lines before now o) (sym c.by.ensures.outcome)
-          (ends_so in_text_order P store closed lines c.in-Ok.text.items stopped before now failed fails (c.in-Ok.ensures.text P accepts) is_stopped c.write_output.result written);
+      closes = record {
+        stays = c.steps_text-text.ensures.stays;
+        disk_is = c.by.ensures.disk ∙ c.close-disk.ensures.disk;
+      };
+      ends = subst (λ (o : Outcome). EndsRun in_text_order P (whole G store) (whole G closed) lines before now o) (sym c.by.ensures.outcome)
+          (ends_so in_text_order P (whole G store) (whole G closed) lines c.in-Ok.text.items stopped before now failed fails (c.in-Ok.ensures.text P G accepts front) is_stopped c.write_output.result written);
     }
 
 pub returns-in-Err-clause-run : goal.returns-in-Err-clause-run
-returns-in-Err-clause-run g c = λ P accepts.
+returns-in-Err-clause-run g c = λ P G accepts front.
     let store = c.args.store in
     let closed = c.steps_text-text.new.store in
     let lines = map entry_of c.args.lines.now in
     let before = g.K.Sink.contents c.args.out.now in
     record {
       closed = closed;
-      closes = record { stays = c.steps_text-text.ensures.stays; disk_is = c.by-in-Err.ensures.disk ∙ c.close-disk.ensures.disk; left = rw c.by-in-Err.ensures.disk c.close-disk.ensures.left };
-      ends = subst (λ (o : Outcome). EndsRun in_text_order P store closed lines before before o) (sym c.by-in-Err.ensures.outcome) (c.in-Err.ensures.no_memory P accepts);
+      closes = record {
+        stays = c.steps_text-text.ensures.stays;
+        disk_is = c.by-in-Err.ensures.disk ∙ c.close-disk.ensures.disk;
+      };
+      ends = subst (λ (o : Outcome). EndsRun in_text_order P (whole G store) (whole G closed) lines before before o) (sym c.by-in-Err.ensures.outcome) (c.in-Err.ensures.no_memory P G accepts front);
     }
+
+pub returns-in-Ok-clause-sink : goal.returns-in-Ok-clause-sink
+returns-in-Ok-clause-sink g c =
+    subst (λ (o : Outcome). IsCounted o SinkFault (g.K.Sink.faults c.args.out.now) (g.K.Sink.faults c.write_output.new.out)) (sym c.by.ensures.outcome)
+    (counted c.write_output.result _ _ _ _ _ _ c.write_output.ensures)

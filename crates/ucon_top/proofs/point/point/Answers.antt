@@ -1,8 +1,9 @@
-use Rattle.std.proofs.Common.{◌≡◌, refl, sym, ap, ◌∙◌, subst}
+use Rattle.std.proofs.Common.{◌≡◌, [], refl, sym, ap, ◌∙◌, subst}
 use Rattle.std.specs.Prelude.{Some}
 use Rattle.ucon_model.specs.Document.{policy_part}
+use Rattle.ucon_store.specs.Whole.{whole}
 use Rattle.ucon_syntax.specs.Policies.{accepted}
-use Rattle.ucon_top.specs.declared.outcome.Outcome.{Outcome}
+use Rattle.ucon_outcome.specs.declared.outcome.Outcome.{Outcome}
 use Rattle.ucon_top.specs.PointEnding.{EndsPoint}
 use Rattle.ucon_top.proofs.Playing.{IsOpened}
 use Rattle.ucon_disk.specs.Causes.{raised}
@@ -30,7 +31,9 @@ returns-in-Ok-open-clause-pointed g c =
     let moment = g.D.Disk.moment in
     let images_since = g.D.Disk.images_since in
     let faults = g.D.Disk.faults in
-    let opened : IsOpened contents images moment images_since faults text c.args.disk store = rw (sym is_text) (record {
+    let founded = told.founded P (ap accepted is_text
+    ∙ (c.accepted_texts_spell_typed_policies.ensures text P).1 (some.has_policy.spelled, some.has_policy.typed)) in
+    let opened : IsOpened contents images moment images_since faults text c.args.disk [] store = rw (sym is_text) (record {
       policy = told.store.0;
       unmarked = told.store.2;
       found = told.found;
@@ -38,14 +41,14 @@ returns-in-Ok-open-clause-pointed g c =
       at_rest = told.at_rest;
       holds = told.holds;
       unfailed = told.unfailed;
+      P = P;
+      founded = founded;
       tells = λ some. told.tells ∙ some;
     }) in
     let laws = g.met.D.Disk in
     let moments : HasMoments images moment images_since = record { counts_now = laws.counts_now; only_now = laws.only_now } in
-    let reads : accepted store.policy ≡ Some P =
-    ap accepted (told.store.0 ∙ is_text) ∙ (c.accepted_texts_spell_typed_policies.ensures text P).1 (some.has_policy.spelled, some.has_policy.typed) in
-    pointed contents images moment images_since faults moments bytes P some.has_policy c.args.disk store opened told.places told.old g.K.Sink.contents c.args.out.now c.point_opened.new.out
-    c.point_opened.result.disk c.point_opened.result.outcome c.point_opened.ensures.failed (c.point_opened.ensures.ends P reads)
+    pointed contents images moment images_since faults moments bytes P some.has_policy c.args.disk [] store opened told.places told.old g.K.Sink.contents c.args.out.now c.point_opened.new.out
+    c.point_opened.result.disk c.point_opened.result.outcome c.point_opened.ensures.failed (c.point_opened.ensures.ends P [] founded)
 
 pub returns-in-Ok-open-clause-fault : goal.returns-in-Ok-open-clause-fault
 returns-in-Ok-open-clause-fault g c = λ is.
@@ -54,8 +57,8 @@ returns-in-Ok-open-clause-fault g c = λ is.
     let told = c.in-Ok-open.ensures in
     let some = c.in-Ok.ensures.policy in
     let P = some.policy in
-    let reads : accepted store.policy ≡ Some P =
-    ap accepted (told.store.0 ∙ c.policy_part.ensures) ∙ (c.accepted_texts_spell_typed_policies.ensures text P).1 (some.has_policy.spelled, some.has_policy.typed) in
-    let ends = subst (λ (o : Outcome). EndsPoint g.D.Disk.contents g.D.Disk.images g.D.Disk.moment g.D.Disk.images_since g.D.Disk.faults P store c.point_opened.result.disk
-    (g.K.Sink.contents c.args.out.now) (g.K.Sink.contents c.point_opened.new.out) o) is (c.point_opened.ensures.ends P reads) in
+    let founded = told.founded P (ap accepted c.policy_part.ensures
+    ∙ (c.accepted_texts_spell_typed_policies.ensures text P).1 (some.has_policy.spelled, some.has_policy.typed)) in
+    let ends = subst (λ (o : Outcome). EndsPoint g.D.Disk.contents g.D.Disk.images g.D.Disk.moment g.D.Disk.images_since g.D.Disk.faults P (whole [] store) c.point_opened.result.disk
+    (g.K.Sink.contents c.args.out.now) (g.K.Sink.contents c.point_opened.new.out) o) is (c.point_opened.ensures.ends P [] founded) in
     ends.1 ∙ ap raised told.unfailed

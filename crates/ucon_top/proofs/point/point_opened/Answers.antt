@@ -1,6 +1,10 @@
-use Rattle.std.proofs.Common.{sym, subst, ◌∙◌}
-use Rattle.ucon_top.specs.declared.outcome.Outcome.{Outcome}
+use Rattle.std.proofs.Common.{◌≡◌, ℕ, ◌+◌, ◌++◌, length, length-append, sym, ap, subst, ◌∙◌}
+use Rattle.ucon_store.specs.Whole.{whole}
+use Rattle.ucon_outcome.specs.declared.outcome.Outcome.{Outcome}
+use Rattle.ucon_outcome.specs.declared.outcome.Outcome.TheVariants.{SinkFault}
+use Rattle.ucon_top.specs.Ending.{IsCounted}
 use Rattle.ucon_top.specs.PointEnding.{IsOfPoint}
+use Rattle.ucon_top.proofs.Closing.{counted}
 use Rattle.ucon_top.proofs.Pointing.{of_told, same_end, told_end}
 use Rattle.ucon_top.proofs.point.point_opened.Goals as goal
 
@@ -13,17 +17,24 @@ returns-in-Ok-clause-failed g c = λ is.
     absurd ((of_told c.tell_point.result _ _ _ _ _ c.tell_point.ensures).1 (sym c.by.ensures.outcome ∙ is))
 
 pub returns-in-Ok-clause-ends : goal.returns-in-Ok-clause-ends
-returns-in-Ok-clause-ends g c = λ P accepts.
+returns-in-Ok-clause-ends g c = λ P G f.
+    let count : c.in-Ok.entries ≡ length (G ++ c.args.store.entries) =
+    c.in-Ok.ensures.entries ∙ sym (length-append G c.args.store.entries ∙ ap (λ (n : ℕ). n + length c.args.store.entries) f.front.count) in
     rw (c.by.ensures.outcome, c.by.ensures.disk) (
-    told_end g.D.Disk.contents g.D.Disk.images g.D.Disk.moment g.D.Disk.images_since g.D.Disk.faults P c.args.store c.in-Ok.disk (g.K.Sink.contents c.args.out.now)
-    (g.K.Sink.contents c.tell_point.new.out) (g.K.Sink.faults c.args.out.now) (g.K.Sink.faults c.tell_point.new.out) c.tell_point.result c.in-Ok.entries c.in-Ok.ensures.entries
-    c.in-Ok.ensures.put c.tell_point.ensures
+    told_end g.D.Disk.contents g.D.Disk.images g.D.Disk.moment g.D.Disk.images_since g.D.Disk.faults P (whole G c.args.store) c.in-Ok.disk (g.K.Sink.contents c.args.out.now)
+    (g.K.Sink.contents c.tell_point.new.out) (g.K.Sink.faults c.args.out.now) (g.K.Sink.faults c.tell_point.new.out) c.tell_point.result c.in-Ok.entries count
+    (c.in-Ok.ensures.put P G f) c.tell_point.ensures
     )
 
 pub returns-in-Err-clause-ends : goal.returns-in-Err-clause-ends
-returns-in-Err-clause-ends g c = λ P accepts.
+returns-in-Err-clause-ends g c = λ P G f.
     let was = g.K.Sink.contents c.args.out.now in
     rw (c.by-in-Err.ensures.outcome, c.by-in-Err.ensures.disk) (
-    same_end g.D.Disk.contents g.D.Disk.images g.D.Disk.moment g.D.Disk.images_since g.D.Disk.faults P c.args.store c.in-Err.disk was was c.in-Err.outcome c.in-Err.ensures.of_none
-    (c.in-Err.ensures.ends P accepts)
+    same_end g.D.Disk.contents g.D.Disk.images g.D.Disk.moment g.D.Disk.images_since g.D.Disk.faults P (whole G c.args.store) c.in-Err.disk was was c.in-Err.outcome c.in-Err.ensures.of_none
+    (c.in-Err.ensures.ends P G f)
     )
+
+pub returns-in-Ok-clause-sink : goal.returns-in-Ok-clause-sink
+returns-in-Ok-clause-sink g c =
+    subst (λ (o : Outcome). IsCounted o SinkFault (g.K.Sink.faults c.args.out.now) (g.K.Sink.faults c.tell_point.new.out)) (sym c.by.ensures.outcome)
+    (counted c.tell_point.result _ _ _ _ _ _ c.tell_point.ensures)

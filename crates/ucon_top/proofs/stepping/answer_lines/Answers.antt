@@ -3,9 +3,11 @@ use Rattle.std.proofs.lemmas.List.{length-map, map-append, take_all}
 use Rattle.std.proofs.Math.ListN.{get_or-map}
 use Rattle.ucon_model.specs.declared.command.Entry.{Entry}
 use Rattle.ucon_store.specs.Stays.{stays_again}
+use Rattle.ucon_store.specs.Whole.{whole}
 use Rattle.ucon_syntax.specs.Policies.{accepted}
 use Rattle.ucon_trial.specs.OneAnswer.{entry_of}
 use Rattle.ucon_top.specs.Stepping.{HaveSteps, told_line}
+use Rattle.ucon_top.proofs.Behind.{front_same}
 use Rattle.ucon_top.proofs.Stepwise.{one_line_more}
 use Rattle.ucon_top.proofs.stepping.answer_lines.Goals as goal
 
@@ -20,16 +22,17 @@ loop-line-preserved g c =
       stays = stays_again g.D.Disk.contents g.D.Disk.images g.D.Disk.moment g.D.Disk.images_since g.D.Disk.faults g.met.D.Disk.counts_now
           c.args.store.now c.loop-line.store c.answer_line-answer.new.store so_far.stays c.answer_line-answer.ensures.stays;
       room = omega (arith, so_far.room, c.in-Ok.ensures.spare);
-      steps = λ P accepts.
+      steps = λ P G accepts front.
           rw (c.in-Ok.ensures.ok, map-append told_line c.loop-line.answered.items) (
-          one_line_more P c.args.store.now c.loop-line.store c.answer_line-answer.new.store lines i (map told_line c.loop-line.answered.items) line _
-          (omega (arith, length-map c.args.lines.now entry_of, c.loop-line-test.true)) is (so_far.steps P accepts)
-          (c.answer_line-answer.ensures.steps P (ap accepted so_far.stays.policy ∙ accepts))
+          one_line_more P (whole G c.args.store.now) (whole G c.loop-line.store) (whole G c.answer_line-answer.new.store) lines i (map told_line c.loop-line.answered.items) line _
+          (omega (arith, length-map c.args.lines.now entry_of, c.loop-line-test.true)) is (so_far.steps P G accepts front)
+          (c.answer_line-answer.ensures.steps P G (ap accepted so_far.stays.policy ∙ accepts)
+          (front_same P c.args.store.now c.loop-line.store G so_far.stays.policy so_far.stays.point so_far.stays.before front))
           );
     }
 
 pub returns-clause-steps : goal.returns-clause-steps
-returns-clause-steps g c = λ P accepts.
-    subst (λ (es : List Entry). HaveSteps P c.args.store.now c.loop-line.store es (map told_line c.loop-line.answered.items))
+returns-clause-steps g c = λ P G accepts front.
+    subst (λ (es : List Entry). HaveSteps P (whole G c.args.store.now) (whole G c.loop-line.store) es (map told_line c.loop-line.answered.items))
     (take_all c.loop-line.line-index (map entry_of c.args.lines.now) (omega (arith, length-map c.args.lines.now entry_of, c.loop-line-test.false)))
-    (c.loop-line.invariant.steps P accepts)
+    (c.loop-line.invariant.steps P G accepts front)

@@ -2,21 +2,22 @@ use Rattle.std.proofs.Common.{map, sym, subst}
 use Rattle.std.specs.Prelude.{Result, Ok, Err, OnErr}
 use Rattle.ucon_model.specs.LegalRun.{in_text_order}
 use Rattle.ucon_store.specs.Kept.{Kept}
+use Rattle.ucon_store.specs.Whole.{whole}
 use Rattle.ucon_trial.specs.OneAnswer.{entry_of}
 use Rattle.ucon_top.specs.Stepping.{AreAnswered, told_line}
 use Rattle.ucon_top.proofs.Answering.{AreLegal, run_of_steps, text_read, unanswered, untold}
 use Rattle.ucon_top.proofs.stepping.steps_text.Goals as goal
 
 pub returns-clause-text : goal.returns-clause-text
-returns-clause-text g c = λ P accepts.
+returns-clause-text g c = λ P G accepts front.
     let answers = c.in_ok-text.ensures in
     let law = c.runs_over_a_store_are_legal.ensures in
     let laws : AreLegal = record { legal = law.legal; made = law.made; failed = law.failed } in
     let lines = map entry_of c.args.lines.now in
     let told = map told_line c.in_ok-answered.answered.items in
-    let steps = c.in_ok-answered.ensures.steps P accepts in
-    text_read in_text_order P c.args.store.now c.answer_lines.new.store lines told steps.lines_are
-    (run_of_steps laws P c.args.store.now c.answer_lines.new.store lines told steps) c.outputs_are_read_back.ensures _
+    let steps = c.in_ok-answered.ensures.steps P G accepts front in
+    text_read in_text_order P (whole G c.args.store.now) (whole G c.answer_lines.new.store) lines told steps.lines_are
+    (run_of_steps laws P (whole G c.args.store.now) (whole G c.answer_lines.new.store) lines told steps) c.outputs_are_read_back.ensures _
     (rw c.slice.ensures at answers.text) (rw c.slice.ensures at answers.fits) (rw c.slice.ensures at answers.clients)
 
 on_err : {T E : Type 0} (r : Result T E) (P : Type 0) → P → OnErr r P
@@ -29,9 +30,9 @@ returns-in_err-answered-clause-no_memory g c =
     let laws : AreLegal = record { legal = law.legal; made = law.made; failed = law.failed } in
     let lines = map entry_of c.args.lines.now in
     let old = c.args.store.now in
-    on_err c.from_residual.result _ (λ P accepts.
-    subst (λ (new : Kept g.row.D.Denot). AreAnswered in_text_order P old new lines (λ told. Unit {0})) (sym c.in_err-answered.ensures.err)
-    (unanswered laws P in_text_order old lines c.requires))
+    on_err c.from_residual.result _ (λ P G accepts front.
+    subst (λ (new : Kept g.row.D.Denot). AreAnswered in_text_order P (whole G old) (whole G new) lines (λ told. Unit {0})) (sym c.in_err-answered.ensures.err)
+    (unanswered laws P in_text_order (whole G old) lines c.requires))
 
 pub returns-in_err-text-clause-no_memory : goal.returns-in_err-text-clause-no_memory
 returns-in_err-text-clause-no_memory g c =
@@ -39,7 +40,7 @@ returns-in_err-text-clause-no_memory g c =
     let laws : AreLegal = record { legal = law.legal; made = law.made; failed = law.failed } in
     let lines = map entry_of c.args.lines.now in
     let told = map told_line c.in_ok-answered.answered.items in
-    on_err c.from_residual-in_err-text.result _ (λ P accepts.
-    let steps = c.in_ok-answered.ensures.steps P accepts in
-    untold in_text_order P c.args.store.now c.answer_lines.new.store lines told steps.lines_are
-    (run_of_steps laws P c.args.store.now c.answer_lines.new.store lines told steps))
+    on_err c.from_residual-in_err-text.result _ (λ P G accepts front.
+    let steps = c.in_ok-answered.ensures.steps P G accepts front in
+    untold in_text_order P (whole G c.args.store.now) (whole G c.answer_lines.new.store) lines told steps.lines_are
+    (run_of_steps laws P (whole G c.args.store.now) (whole G c.answer_lines.new.store) lines told steps))

@@ -7,7 +7,12 @@ use Rattle.ucon_client.specs.declared.answer.Answer.{Answer}
 use Rattle.ucon_client.specs.declared.part.Part.{Part}
 use Rattle.ucon_client.specs.Answers.{entry_of, answer_of, told_of}
 use Rattle.ucon_client.specs.Clients.{AreRight, answered}
+use Rattle.ucon_store.specs.declared.event.Event.{Event}
+use Rattle.ucon_store.specs.declared.event.Event.TheVariants.{Done}
+use Rattle.ucon_store.specs.Events.{number_of}
+use Rattle.ucon_turn.specs.Lists.{ByOthers}
 use Rattle.ucon_client.proofs.OneClient.{stays_right}
+use Rattle.ucon_client.proofs.Seats.{continues_behind}
 use Rattle.ucon_client.proofs.Counting.{answered_next, line_at}
 use Rattle.ucon_client.proofs.client.Client.answer_next.Goals as goal
 
@@ -37,7 +42,27 @@ returns-clause-serves g c =
         first = search rules;
         room = search rules;
       };
-      right = λ P is. subst (λ (z : ℕ × List Answered). AreRight P z.0 c.args.turn.now.opened.entries seen z.1) (λ i. (sym kept.0 i, sym told i))
-          (stays_right P was.number c.args.turn.now.opened.entries seat.seen d.0 seen (told_of was) (entry_of line) (answer_of a) seat.number seat.taken
-          (s.right P is) own (inl (sym s.number)) d.1 (d.3 P is));
+      right = λ P G is front.
+          let done : List Event = map Done G in
+          let step = d.3 P G (record { accepts = is; starts = front.starts; count = front.count; text = front.text }) in
+          subst (λ (z : ℕ × List Answered). AreRight P z.0 (G ++ c.args.turn.now.opened.entries) (done ++ seen) z.1) (λ i. (sym kept.0 i, sym told i))
+          (stays_right P was.number (G ++ c.args.turn.now.opened.entries) (done ++ seat.seen) (done ++ d.0) (done ++ seen) (told_of was) (entry_of line)
+          (answer_of a) seat.number seat.taken (s.right P G is front) own (inl (sym s.number))
+          (continues_behind (ByOthers number_of seat.number seat.taken) done seat.seen d.0 d.1) step);
+    }
+
+pub returns-clause-answers : goal.returns-clause-answers
+returns-clause-answers g c =
+    let was : Part = c.args.self.now.part in
+    let d = c.call-answer.ensures.did in
+    let line : Line = c.index-slice-len.result in
+    let at : line ≡ get_or was.lines.items (length was.answers.items) line = search rules in
+    record {
+      line = line;
+      answer = c.call-answer.result;
+      before = d.0;
+      next = at;
+      answers = c.add.ensures.answers;
+      others = d.1;
+      step = λ P G is front. d.3 P G (record { accepts = is; starts = front.starts; count = front.count; text = front.text });
     }

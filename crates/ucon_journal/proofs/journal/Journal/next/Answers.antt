@@ -18,7 +18,7 @@ returns-in_default-clause-taken g c = if_told (g.D.Disk.contents c.args.self.now
 pub returns-in_default-clause-ended : goal.returns-in_default-clause-ended
 returns-in_default-clause-ended g c = λ e. record {
   phase = refl;
-  told = if_told (g.D.Disk.contents c.read_at.new.self) _ (λ file now.
+  told = if_told (g.D.Disk.contents c.read_at.new.disk) _ (λ file now.
       let is = sym c.read_at.ensures.contents ∙ now in
       let gate = c.args.self.now.gate in
       let version = c.args.self.now.version in
@@ -56,7 +56,7 @@ returns-then-got-len-clause-taken g c = if_told (g.D.Disk.contents c.args.self.n
 pub returns-then-got-len-clause-ended : goal.returns-then-got-len-clause-ended
 returns-then-got-len-clause-ended g c = λ e. record {
   phase = refl;
-  told = if_told (g.D.Disk.contents c.read_at-2.new.self) _ (λ file now.
+  told = if_told (g.D.Disk.contents c.read_at-2.new.disk) _ (λ file now.
       let is = sym (c.read_at-2.ensures.contents ∙ c.read_at.ensures.contents) ∙ now in
       let gate = c.args.self.now.gate in
       let version = c.args.self.now.version in
@@ -72,7 +72,7 @@ returns-then-got-len-clause-ended g c = λ e. record {
 pub returns-clause-reading : goal.returns-clause-reading
 returns-clause-reading g c = record {
   phase = inl refl;
-  told = if_told (g.D.Disk.contents c.read_at-2.new.self) _ (λ file now.
+  told = if_told (g.D.Disk.contents c.read_at-2.new.disk) _ (λ file now.
       let is = sym (c.read_at-2.ensures.contents ∙ c.read_at.ensures.contents) ∙ now in
       let gate = c.args.self.now.gate in
       let version = c.args.self.now.version in
@@ -82,8 +82,9 @@ returns-clause-reading g c = record {
       let whole = c.in-Some.ensures.counts (drop gate file) header left in
       let stands = told_at (λ (l : List ℕ). (ps : List (List ℕ)) × StandsAt l c.args.self.now.version gate ps) file is c.requires.told in
       (stands.0 ++ payload_at (drop gate file) ∷ [], stands_more file gate c.in-Some.len whole.0 whole.1 c.args.self.now.version stands.0 stands.1));
-  len = if_told (g.D.Disk.contents c.read_at-2.new.self) _ (λ file now.
+  len = if_told (g.D.Disk.contents c.read_at-2.new.disk) _ (λ file now.
       told_at (λ (l : List ℕ). c.args.self.now.len ≡ length l) file (sym (c.read_at-2.ensures.contents ∙ c.read_at.ensures.contents) ∙ now) c.requires.len);
+  ahead = c.read_at-2.ensures.part;
 }
 
 pub returns-clause-taken : goal.returns-clause-taken

@@ -1,5 +1,5 @@
 use Rattle.std.proofs.Common.{inl, refl}
-use Rattle.ucon_journal.proofs.Told.{opened_told, all_read, opened_same}
+use Rattle.ucon_journal.proofs.Told.{if_told, opened_told, all_read, opened_same}
 use Rattle.ucon_journal.proofs.journal.Journal.open.Goals as goal
 
 pub returns-in-Ok-clause-reading : goal.returns-in-Ok-clause-reading
@@ -8,6 +8,7 @@ returns-in-Ok-clause-reading g c = (
     phase = inl refl;
     told = opened_told c.in-Ok.opened.version (g.D.Disk.contents c.args.disk) (g.D.Disk.contents c.begin.new.disk) c.in-Ok.ensures.bytes c.in-Ok.ensures.version;
     len = c.in-Ok.ensures.len;
+    ahead = if_told (g.D.Disk.contents c.begin.new.disk) _ (λ file is. c.new.ensures file);
   },
   refl,
 )

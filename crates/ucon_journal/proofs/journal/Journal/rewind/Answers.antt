@@ -7,6 +7,7 @@ returns-clause-reading g c = record {
   phase = inl refl;
   told = rewound c.args.self.now.version c.args.self.now.gate (g.D.Disk.contents c.args.self.now.disk) c.requires.told;
   len = c.requires.len;
+  ahead = c.requires.ahead;
 }
 
 pub returns-clause-all : goal.returns-clause-all

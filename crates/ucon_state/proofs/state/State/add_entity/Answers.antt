@@ -1,4 +1,4 @@
-use Rattle.std.proofs.Common.{◌∙◌, sym, ap, subst, ◌++◌, ◌∷◌, [], ◌+◌, ◌<◌, ◌^◌, length, arith}
+use Rattle.std.proofs.Common.{◌∙◌, sym, ap, subst, ◌++◌, ◌∷◌, [], ◌≤◌, length}
 use Rattle.ucon_model.specs.Checked.{checked_policy}
 use Rattle.ucon_state.specs.Shown.{right_names}
 use Rattle.ucon_state.specs.Sound.{IsKept}
@@ -18,12 +18,11 @@ invariant_of-self-2 c =
     let t = lists_of c.args.self.now.tables in
     let added = c.push_reserved.ensures.items ∙ ap (λ cs. cs ++ Changed c.in_ok-change.change ∷ []) c.reserve.ensures.items in
     let before = sound_now P R c.args.self.now.changes.items t c.args.self.now.sound in
-    let is = c.in_ok-change.ensures.ok ∙ ap (λ vs. with_new_entity t c.args.side c.args.name vs) c.in_ok-defaults.ensures in
-    let small : length t.cells + length (defaults_of P c.args.side) < 2 ^ 32 =
-    subst (λ vs. length t.cells + length vs < 2 ^ 32) c.in_ok-defaults.ensures (omega (arith, c.if-len.false, c.len.ensures, c.len-2.ensures)) in
+    let is = c.in_ok-change.ensures.ok ∙ ap (λ vs. with_new_entity t c.args.side c.args.name vs) c.in_ok-defaults.ensures.defaults in
+    let small : length (defaults_of P c.args.side) ≤ 16 = subst (λ vs. length vs ≤ 16) c.in_ok-defaults.ensures.defaults c.in_ok-defaults.ensures.few in
     let now = entity_sound P t before c.args.side c.args.name c.requires.room small in
     let numbered = numbered_now P R c.args.self.now.changes.items t c.args.self.now.sound in
-    record { sound = noted_sound P R _ _ c.in_ok-change.change t _ added c.in_ok-change.ensures.undone c.args.self.now.sound (subst (IsKept P R) (sym is) (now, numbered_entity R t numbered P c.args.side c.args.name c.requires.new)); has_rights = c.args.self.now.has_rights }
+    record { sound = noted_sound P R _ _ c.in_ok-change.change t _ added c.in_ok-change.ensures.undone c.args.self.now.sound (subst (IsKept P R) (sym is) (now, numbered_entity R t numbered P c.args.side c.args.name c.requires.new)); has_rights = c.args.self.now.has_rights; in_order = c.args.self.now.in_order }
 
 pub returns-clause-ok : goal.returns-clause-ok
 returns-clause-ok c =
@@ -31,6 +30,6 @@ returns-clause-ok c =
     let R = right_names c.args.self.now in
     let t = lists_of c.args.self.now.tables in
     let added = c.push_reserved.ensures.items ∙ ap (λ cs. cs ++ Changed c.in_ok-change.change ∷ []) c.reserve.ensures.items in
-    let is = c.in_ok-change.ensures.ok ∙ ap (λ vs. with_new_entity t c.args.side c.args.name vs) c.in_ok-defaults.ensures in
+    let is = c.in_ok-change.ensures.ok ∙ ap (λ vs. with_new_entity t c.args.side c.args.name vs) c.in_ok-defaults.ensures.defaults in
     let numbered = numbered_now P R c.args.self.now.changes.items t c.args.self.now.sound in
     noted_shown P R _ _ c.in_ok-change.change t _ _ added c.in_ok-change.ensures.undone (ap (named R) is ∙ named_entity R t numbered P c.args.side c.args.name)

@@ -4,9 +4,10 @@ use Rattle.std.specs.Str.{bytes_eq}
 use Rattle.ucon_model.specs.Checked.{checked_policy}
 use Rattle.ucon_model.specs.Plain.{Bytes}
 use Rattle.ucon_state.specs.Shown.{right_names, showing}
-use Rattle.ucon_state.specs.Sound.{AllSound, HasRights}
+use Rattle.ucon_state.specs.Sound.{AllSound, HasRights, StandFirst}
 use Rattle.ucon_state.specs.Views.{lists_of}
 use Rattle.ucon_state.proofs.Amended.{all_sound_more, has_rights_more, placed_last, placed_still, shown_more}
+use Rattle.ucon_state.proofs.Rights.{stand_first_more}
 use Rattle.ucon_state.proofs.state.State.add_right.Goals as goal
 
 pub invariant_of-self-2 : goal.invariant_of-self-2
@@ -20,6 +21,7 @@ invariant_of-self-2 c =
     record {
       sound = subst (λ (names : List Bytes). AllSound P names s.changes.items t) (sym added) (all_sound_more R c.args.name P s.changes.items t few s.sound);
       has_rights = subst (HasRights P) (sym added) (has_rights_more R c.args.name P few s.has_rights);
+      in_order = λ so. subst (StandFirst P.rights) (sym added) (stand_first_more P.rights R c.args.name (s.in_order so));
     }
 
 pub returns-clause-shown : goal.returns-clause-shown

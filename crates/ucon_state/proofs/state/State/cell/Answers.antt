@@ -22,7 +22,7 @@ overflow_cast-result c =
     let R = right_names c.args.self.now in
     let t = lists_of c.args.self.now.tables in
     let now = sound_now P R c.args.self.now.changes.items t c.args.self.now.sound in
-    omega (arith, now.cells, c.in_ok-cell.ensures.there)
+    omega (arith, now.subjects, now.objects, now.cells, c.in_ok-cell.ensures.there)
 
 pub returns-clause-declared : goal.returns-clause-declared
 returns-clause-declared c =

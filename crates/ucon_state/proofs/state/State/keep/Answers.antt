@@ -12,4 +12,4 @@ invariant_of-self c =
     let R = right_names c.args.self.now in
     let t = lists_of c.args.self.now.tables in
     let now = kept_now P R c.args.self.now.changes.items t c.args.self.now.sound in
-    record { sound = subst (λ cs. AllSound P R cs t) (sym c.clear.ensures.items) (sound_alone P R t now c.args.self.now.has_rights); has_rights = c.args.self.now.has_rights }
+    record { sound = subst (λ cs. AllSound P R cs t) (sym c.clear.ensures.items) (sound_alone P R t now c.args.self.now.has_rights); has_rights = c.args.self.now.has_rights; in_order = c.args.self.now.in_order }

@@ -4,10 +4,11 @@ use Rattle.ucon_base.specs.declared.value.Value.{Value}
 use Rattle.ucon_model.specs.Checked.{checked_policy}
 use Rattle.ucon_model.specs.Plain.{Bytes}
 use Rattle.ucon_state.specs.Applied.{opening_of}
-use Rattle.ucon_state.specs.Sound.{HasRights, IsKept, AllSound}
+use Rattle.ucon_state.specs.Sound.{HasRights, IsKept, AllSound, StandFirst}
 use Rattle.ucon_state.specs.Stored.{Stored}
 use Rattle.ucon_state.specs.Views.{lists_of}
 use Rattle.ucon_state.proofs.Numbered.{none_numbered, own_rights}
+use Rattle.ucon_state.proofs.Rights.{own_stand_first}
 use Rattle.ucon_state.proofs.Sounds.{opening_sound}
 use Rattle.ucon_state.proofs.Stages.{sound_alone}
 use Rattle.ucon_state.proofs.state.State.new.Goals as goal
@@ -25,4 +26,8 @@ invariant_of-result c =
       few = omega (arith, c.if-len.false, c.len.ensures);
       all = λ name has. ap (λ (names : List Bytes). is_some (position (bytes_eq name) names)) c.in_ok-rights.ensures ∙ own_rights P.rights name ∙ has;
     } in
-    record { sound = subst (λ cs. AllSound P R cs t) (sym c.new-2.ensures.items) (sound_alone P R t kept has_rights); has_rights = has_rights }
+    record {
+      sound = subst (λ cs. AllSound P R cs t) (sym c.new-2.ensures.items) (sound_alone P R t kept has_rights);
+      has_rights = has_rights;
+      in_order = λ so. subst (StandFirst P.rights) (sym c.in_ok-rights.ensures) (own_stand_first P.rights);
+    }

@@ -26,7 +26,7 @@ invariant_of-self-2 c =
     record { right = c.requires.there.right_below; subject = c.requires.there.subject_below; object = c.requires.there.object_below } in
     let few : length t.sessions < 1048576 = subst (λ n. n < 1048576) (length-map t.sessions (row_of R t.subjects t.objects)) c.requires.few in
     let now : IsKept P R (with_new_session t s) = (session_sound P t before s few, numbered_session R t numbered s below) in
-    record { sound = noted_sound P R _ _ c.in_ok-change.change t _ added c.in_ok-change.ensures.undone c.args.self.now.sound (subst (IsKept P R) (sym is) now); has_rights = c.args.self.now.has_rights }
+    record { sound = noted_sound P R _ _ c.in_ok-change.change t _ added c.in_ok-change.ensures.undone c.args.self.now.sound (subst (IsKept P R) (sym is) now); has_rights = c.args.self.now.has_rights; in_order = c.args.self.now.in_order }
 
 pub returns-clause-ok : goal.returns-clause-ok
 returns-clause-ok c =

@@ -19,7 +19,7 @@ invariant_of-self-2 c =
     let before = sound_now P R c.args.self.now.changes.items t c.args.self.now.sound in
     let now = new_act_sound P t before (act_in c.args.row) c.args.row.moment c.requires.room in
     let numbered = numbered_now P R c.args.self.now.changes.items t c.args.self.now.sound in
-    record { sound = noted_sound P R _ _ c.in_ok-change.change t _ added c.in_ok-change.ensures.undone c.args.self.now.sound (subst (IsKept P R) (sym c.in_ok-change.ensures.ok) (now, numbered)); has_rights = c.args.self.now.has_rights }
+    record { sound = noted_sound P R _ _ c.in_ok-change.change t _ added c.in_ok-change.ensures.undone c.args.self.now.sound (subst (IsKept P R) (sym c.in_ok-change.ensures.ok) (now, numbered)); has_rights = c.args.self.now.has_rights; in_order = c.args.self.now.in_order }
 
 pub returns-clause-ok : goal.returns-clause-ok
 returns-clause-ok c =

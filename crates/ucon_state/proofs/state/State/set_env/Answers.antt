@@ -37,7 +37,7 @@ invariant_of-self-2 c =
     let added = c.push_reserved.ensures.items ∙ ap (λ cs. cs ++ Changed c.set_variable-change.result ∷ []) c.reserve.ensures.items in
     let now = variable_sound P t (sound_now P R c.args.self.now.changes.items t c.args.self.now.sound) _ _ in
     let numbered = numbered_now P R c.args.self.now.changes.items t c.args.self.now.sound in
-    record { sound = noted_sound P R _ _ c.set_variable-change.result t _ added c.set_variable-change.ensures.undone c.args.self.now.sound (subst (IsKept P R) (sym c.set_variable-change.ensures.tables) (now, numbered)); has_rights = c.args.self.now.has_rights }
+    record { sound = noted_sound P R _ _ c.set_variable-change.result t _ added c.set_variable-change.ensures.undone c.args.self.now.sound (subst (IsKept P R) (sym c.set_variable-change.ensures.tables) (now, numbered)); has_rights = c.args.self.now.has_rights; in_order = c.args.self.now.in_order }
 
 pub returns-clause-ok : goal.returns-clause-ok
 returns-clause-ok c =

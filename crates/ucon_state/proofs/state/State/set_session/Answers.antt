@@ -19,7 +19,7 @@ invariant_of-self-3 c =
     let added = c.push_reserved.ensures.items ∙ ap (λ cs. cs ++ Changed c.move_session-change.result ∷ []) c.reserve.ensures.items in
     let numbered = numbered_now P R c.args.self.now.changes.items t c.args.self.now.sound in
     let now = sessions_sound P t (sound_now P R c.args.self.now.changes.items t c.args.self.now.sound) _ (moved_length t.sessions _ _ _) in
-    record { sound = noted_sound P R _ _ c.move_session-change.result t _ added c.move_session-change.ensures.undone c.args.self.now.sound (subst (IsKept P R) (sym c.move_session-change.ensures.tables) (now, numbered_moved R t numbered _ _ _)); has_rights = c.args.self.now.has_rights }
+    record { sound = noted_sound P R _ _ c.move_session-change.result t _ added c.move_session-change.ensures.undone c.args.self.now.sound (subst (IsKept P R) (sym c.move_session-change.ensures.tables) (now, numbered_moved R t numbered _ _ _)); has_rights = c.args.self.now.has_rights; in_order = c.args.self.now.in_order }
 
 pub returns-clause-ok : goal.returns-clause-ok
 returns-clause-ok c =

@@ -1,15 +1,14 @@
 use Rattle.std.proofs.Common.{◌∙◌, sym, ap, option_and_then}
 use Rattle.ucon_model.specs.Checked.{checked_policy}
 use Rattle.ucon_model.specs.Decision.{right_named}
-use Rattle.ucon_model.specs.Plain.{Bytes, PlainPolicy}
 use Rattle.ucon_state.specs.Shown.{right_names}
 use Rattle.ucon_state.specs.Views.{lists_of}
 use Rattle.ucon_state.proofs.Numbered.{numbers_are, row_is}
 use Rattle.ucon_state.proofs.Stages.{numbered_now}
 use Rattle.ucon_state.proofs.view.StateView.right.Goals as goal
 
-pub right_name-name-requires : goal.right_name-name-requires
-right_name-name-requires c =
+pub right_numbered-requires : goal.right_numbered-requires
+right_numbered-requires c =
     let P = checked_policy c.args.self.now.checked in
     let R = right_names c.args.self.now in
     let t = lists_of c.args.self.now.tables in
@@ -21,7 +20,5 @@ returns c =
     let P = checked_policy c.args.self.now.checked in
     let R = right_names c.args.self.now in
     let t = lists_of c.args.self.now.tables in
-    c.right.ensures
-    ∙ ap (λ (Q : PlainPolicy). right_named Q.rights c.right_name-name.result.now) c.policy.ensures.policy
-    ∙ ap (λ (name : Bytes). right_named P.rights name) c.right_name-name.ensures
+    c.right_numbered.ensures
     ∙ sym (ap (option_and_then (λ row. right_named P.rights row.right)) (row_is R t c.args.session c.in_ok-session.session.now (sym c.in_ok-session.ensures)))

@@ -6,10 +6,8 @@ use Rattle.ucon_store.specs.Found.{Tells, Opens}
 use Rattle.ucon_store.specs.declared.fault.StoreFault.{StoreFault}
 use Rattle.ucon_store.specs.Opening.{HasReason}
 use Rattle.ucon_store.proofs.Begun.{opening_reason, reason_before, found_before}
-use Rattle.ucon_store.specs.Kept.{IsAtRestWith}
 use Rattle.ucon_store.proofs.Openings.{holds_moved}
-use Rattle.ucon_store.proofs.Stepping.{one_policy}
-use Rattle.ucon_store.proofs.Recorded.{left_at_rest}
+use Rattle.ucon_store.proofs.Stepping.{begins_first, one_policy}
 use Rattle.ucon_store.proofs.Runs.{begin_opens, whole_opens}
 use Rattle.ucon_store.proofs.SamePlaces.{opened_old, opened_places}
 use Rattle.ucon_store.proofs.store.Store.open.Goals as goal
@@ -61,24 +59,32 @@ returns-in-Ok-load-clause-images g c =
     whole_opens g.D.Disk.contents g.D.Disk.images g.D.Disk.moment g.D.Disk.images_since c.args.policy.now c.args.disk (disk_of c.in-Ok.journal) (disk_of c.load.new.journal)
     c.in-Ok.ensures.images c.in-Ok.ensures.bytes c.in-Ok.ensures.only c.load.ensures.images
 
+pub returns-in-Ok-load-clause-founded : goal.returns-in-Ok-load-clause-founded
+returns-in-Ok-load-clause-founded g c = λ P accepts.
+    let text = c.in-Ok-load.loaded.policy.items in
+    let H = c.in-Ok-load.loaded.entries.items in
+    let held = c.in-Ok-load.ensures.loaded in
+    let o = g.D.Disk.contents (disk_of c.load.new.journal) in
+    let same : text ≡ c.args.policy.now = c.in-Ok-load.ensures.policy in
+    let here : accepted text ≡ Some P = ap accepted same ∙ accepts in
+    let one = one_policy text P held.standing.P here held.standing.accepts in
+    record {
+      accepts = here;
+      front = record { starts = (refl, refl); count = refl; text = refl };
+      unmarked = refl;
+      holds = holds_moved o o text text held.standing.P P H H refl refl one refl held.holds;
+      only = c.in-Ok-load.ensures.only;
+    }
+
 pub invariant_of-result : goal.invariant_of-result
 invariant_of-result g c =
     let journal = c.load.new.journal in
-    let text = c.in-Ok-load.loaded.policy.items in
     let H = c.in-Ok-load.loaded.entries.items in
     let loaded = c.in-Ok-load.ensures.loaded in
     let P = loaded.standing.P in
-    let rest : IsAtRestWith g.D.Disk.contents g.D.Disk.images journal text P H =
-    record { closed = c.in-Ok-load.ensures.closed; few = loaded.few; only = c.in-Ok-load.ensures.only; holds = loaded.holds } in
-    record {
-      P = P;
-      accepts = loaded.standing.accepts;
-      stands = loaded.standing.stands;
-      few = omega (arith, loaded.few, journal.gate_small);
-      rests = λ none. rest;
-      failed = λ e is. absurd (cc is);
-      left = left_at_rest g.D.Disk.contents g.D.Disk.images journal text P H rest None;
-    }
+    begins_first g.E.Engine.follows g.D.Disk.contents g.D.Disk.images c.in-Ok-load.loaded.engine journal c.in-Ok-load.loaded.policy.items P H loaded.standing.accepts
+    loaded.standing.stands (c.no_usage_goes_on_failing.ensures P H) (c.revocations_are_few.ensures P) (omega (arith, loaded.few, journal.gate_small))
+    (record { closed = c.in-Ok-load.ensures.closed; few = loaded.few; only = c.in-Ok-load.ensures.only })
 
 pub returns-in-Ok-load-clause-places : goal.returns-in-Ok-load-clause-places
 returns-in-Ok-load-clause-places g c =

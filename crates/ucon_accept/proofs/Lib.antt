@@ -1,0 +1,11 @@
+pub mod Same
+pub mod SingleFacts
+pub mod Reading
+pub mod Agreeing
+pub mod Lookup
+pub mod Truths
+pub mod Verdicts
+pub mod Lines
+pub mod OneSession
+pub mod Meeting
+pub mod Answered

@@ -1,5 +1,0 @@
-use Rattle.ucon_journal.specs.Journal.{IsReading}
-use Rattle.ucon_journal.proofs.tests.read_all.Given as goal
-
-abbrev pub invariant-records : goal.invariant-records
-invariant-records g l = IsReading g.D.Disk.contents l.journal

@@ -1,0 +1,132 @@
+//! What no clause says: the tables of images, and a real file.
+
+use std::alloc::Global;
+use std::process::Abort;
+use std::test::Fail;
+use std::{env, fs, process};
+use ucon_disk::{Disk, FileDisk, MemDisk};
+
+#[derive(Clone, Copy, Debug)]
+enum Op {
+    Write(u64, &'static str),
+    Cut(u64),
+    Sync,
+}
+
+use Op::{Cut, Sync, Write};
+
+fn apply(rt: &impl Abort, disk: &mut MemDisk, op: Op) {
+    let len = disk.contents().len() as u64;
+    let _ = match op {
+        Write(at, text) => {
+            assert!(rt; at <= len && text.len() <= 9);
+            disk.write_at(at, text.as_bytes())
+        }
+        Cut(to) => {
+            assert!(rt; to <= len);
+            disk.cut(to)
+        }
+        Sync => disk.sync(),
+    };
+}
+
+// All images of `abc` after these calls, by length, with `?` in each open place.
+fn images(alloc: Global, rt: &impl Abort, ops: &[Op], failing: &[u64]) -> Result<String, Fail> {
+    let mut disk = MemDisk::new(alloc, b"abc".to_vec(alloc)?, failing.to_vec(alloc)?, None);
+    for op in ops {
+        apply(rt, &mut disk, *op);
+    }
+    let mut all = String::new(alloc);
+    for len in 0..10u64 {
+        if let Some(image) = disk.image(len, b"?????????")? {
+            all.push('|')?;
+            for byte in image.as_slice() {
+                all.push(char::from(*byte))?;
+            }
+        }
+    }
+    assert_eq!(rt; disk.short(), 0);
+    Ok(all)
+}
+
+#[test]
+fn images_after_short_sequences(rt: HostRuntime) -> Result<(), Fail> {
+    let table: [(&[Op], &[u64], &str); 14] = [
+        (&[], &[], "|abc"),
+        (&[Write(3, "de")], &[], "|abc|abc?|abc??"),
+        (&[Write(1, "X")], &[], "|a?c"),
+        (&[Write(0, "")], &[], "|abc"),
+        (&[Cut(1)], &[], "|a|ab|abc"),
+        (&[Cut(1), Write(1, "XYZ")], &[], "|a|a?|a??|a???"),
+        (&[Cut(1), Sync], &[], "|a"),
+        (&[Cut(1), Sync, Write(1, "XY")], &[], "|a|a?|a??"),
+        (&[Write(3, "de"), Sync], &[], "|abcde"),
+        (
+            &[Write(3, "de"), Sync, Write(4, "fg")],
+            &[],
+            "|abcd?|abcd??",
+        ),
+        (&[Write(1, "X")], &[0], "|a?c"),
+        (&[Write(2, "XYZ")], &[0], "|ab?|ab??|ab???"),
+        (&[Cut(1)], &[0], "|a|ab|abc"),
+        (&[Write(3, "de"), Sync], &[1], "|abc|abc?|abc??"),
+    ];
+    for (ops, failing, want) in table {
+        let got = images(rt.alloc(), &rt, ops, failing)?;
+        assert_eq!(rt; got.as_str(), want, "after {ops:?}");
+    }
+    Ok(())
+}
+
+#[test]
+fn an_image_of_one_unsynced_byte(rt: HostRuntime) -> Result<(), Fail> {
+    let alloc = rt.alloc();
+    let mut disk = MemDisk::new(alloc, Vec::new(alloc), Vec::new(alloc), None);
+    assert!(rt; disk.write_at(0, b"x").is_ok());
+    let image = disk.image(1, &[7])?.ok_or("no image")?;
+    assert_eq!(rt; image.as_slice(), [7].as_slice());
+    assert!(rt; disk.image(2, &[])?.is_none());
+    Ok(())
+}
+
+#[test]
+fn calls_fail_as_planned(rt: HostRuntime) -> Result<(), Fail> {
+    let alloc = rt.alloc();
+    let mut disk = MemDisk::new(alloc, b"ab".to_vec(alloc)?, [1].to_vec(alloc)?, Some(4));
+    let mut buf = [0; 3];
+    assert_eq!(rt; disk.len().ok(), Some(2));
+    assert_eq!(rt; disk.read_at(0, &mut buf).ok(), None);
+    assert_eq!(rt; disk.read_at(1, &mut buf).ok(), Some(1));
+    assert_eq!(rt; buf[0], b'b');
+    assert_eq!(rt; disk.read_at(9, &mut buf).ok(), Some(0));
+    assert!(rt; disk.sync().is_err() && disk.len().is_err());
+    assert_eq!(rt; disk.short(), 0);
+    Ok(())
+}
+
+#[test]
+fn a_real_file_is_kept(rt: HostRuntime) -> Result<(), Fail> {
+    let alloc = rt.alloc();
+    let folder = env::temp_dir(&rt)?;
+    let path = format!(in alloc;
+        "{}/ucon_disk_{}",
+        folder.as_str(),
+        process::id(rt.process())
+    )?;
+    let mut disk = FileDisk::new(rt.clone()?, path.clone()?);
+    assert!(rt; disk.write_at(0, b"abcdef").is_ok() && disk.sync().is_ok());
+    assert!(rt; disk.cut(4).is_ok() && disk.sync().is_ok());
+    let mut again = FileDisk::new(rt.clone()?, path.clone()?);
+    let mut buf = [0; 9];
+    assert_eq!(rt; again.len().ok(), Some(4));
+    assert_eq!(rt; again.read_at(1, &mut buf).ok(), Some(3));
+    assert_eq!(rt; &buf[..3], b"bcd".as_slice());
+    assert!(rt; again.write_at(1 << 63, b"x").is_err());
+    fs::remove_file(&rt, path.as_str())?;
+    let mut nowhere = FileDisk::new(
+        rt.clone()?,
+        format!(in alloc; "{}/none/none", path.as_str())?,
+    );
+    assert!(rt; nowhere.len().is_err());
+    Ok(())
+}

@@ -1,0 +1,133 @@
+//! An inbox on one thread and between two; lines of small and large pieces.
+ghost use Rattle.std.specs.Prelude.{◌≡◌, ◌≤◌, false};
+
+use std::alloc::Global;
+use std::sync::Wait;
+use std::test::Fail;
+use std::thread::join;
+use ucon_feed::{Feeder, Item, LineReader, Taker, inbox, rejoin};
+use ucon_flow::{MemSource, ReadFault};
+
+#[test]
+fn an_inbox_gives_what_was_fed_and_then_the_end_word(rt: HostRuntime) -> Result<(), Fail> {
+    let (mut feeder, mut taker) = inbox(rt.alloc(), 2).map_err(|_| "no memory")?;
+    feeder.feed(&rt, 7u32);
+    feeder.end(&rt);
+    assert_eq!(rt; taker.take(&rt), Item::Line(7));
+    assert_eq!(rt; taker.take(&rt), Item::End);
+    rejoin(feeder, taker);
+    Ok(())
+}
+
+fn feed_rising<R: Wait>(rt: &R, mut feeder: Feeder<u32>, count: u32) -> Feeder<u32>
+    requires { feeder.fed.ended ≡ false }
+    ensures { result.inbox ≡ feeder.inbox }
+{
+    for line in 0..count {
+        feeder.feed(rt, line);
+    }
+    feeder.end(rt);
+    feeder
+}
+
+fn take_rising<R: Wait>(rt: &R, mut taker: Taker<u32>) -> (Taker<u32>, u32)
+    requires { taker.taken.ended ≡ false }
+    ensures { result.0.inbox ≡ taker.inbox }
+{
+    let mut next: u32 = 0;
+    for _ in rt.forever() {
+        match taker.take(rt) {
+            Item::Line(line) if line == next => next = next.saturating_add(1),
+            Item::Line(_) => {}
+            Item::End => break,
+        }
+    }
+    (taker, next)
+}
+
+#[test]
+fn lines_cross_in_order_between_two_threads(rt: HostRuntime) -> Result<(), Fail> {
+    let (feeder, taker) = inbox(rt.alloc(), 3).map_err(|_| "no memory")?;
+    let rt_of = &rt;
+    let (feeder, (taker, count)) = join(
+        &rt,
+        move || -> Feeder<u32>
+            requires { feeder.fed.ended ≡ false }
+            ensures { result.inbox ≡ feeder.inbox }
+        { feed_rising(rt_of, feeder, 10_000) },
+        move || -> (Taker<u32>, u32)
+            requires { taker.taken.ended ≡ false }
+            ensures { result.0.inbox ≡ taker.inbox }
+        { take_rising(rt_of, taker) },
+    );
+    assert_eq!(rt; count, 10_000);
+    rejoin(feeder, taker);
+    Ok(())
+}
+
+fn source(alloc: Global, bytes: &[u8], piece: usize, faults: &[u64]) -> Result<MemSource, Fail>
+    requires { 1 ≤ piece }
+{
+    let bytes = Vec::from_slice(alloc, bytes)?;
+    Ok(MemSource::new(bytes, piece, Vec::from_slice(alloc, faults)?))
+}
+
+#[test]
+fn lines_are_given_one_by_one(rt: HostRuntime) -> Result<(), Fail> {
+    let alloc = rt.alloc();
+    for piece in [1usize, 2, 4096] {
+        let mut source = source(alloc, b"a\nbc\n\nd", piece.max(1), &[])?;
+        let mut reader = LineReader::new(alloc, 7);
+        for wanted in [
+            b"a\n".as_slice(),
+            b"bc\n".as_slice(),
+            b"\n".as_slice(),
+            b"d".as_slice(),
+        ] {
+            let line = reader.next(alloc, &mut source)?.ok_or("a line")?;
+            assert_eq!(rt; line.as_slice(), wanted);
+        }
+        assert_eq!(rt; reader.next(alloc, &mut source)?, None);
+    }
+    Ok(())
+}
+
+#[test]
+fn a_line_is_given_before_the_next_piece_is_read(rt: HostRuntime) -> Result<(), Fail> {
+    let alloc = rt.alloc();
+    // The second read fails, and the third gives what comes next.
+    let mut source = source(alloc, b"a\nb\nc", 2, &[1])?;
+    let mut reader = LineReader::new(alloc, 4);
+    let line = reader.next(alloc, &mut source)?.ok_or("a line")?;
+    assert_eq!(rt; line.as_slice(), b"a\n".as_slice());
+    assert_eq!(rt;
+        reader.next(alloc, &mut source),
+        Err(ReadFault::SourceFault)
+    );
+    let line = reader.next(alloc, &mut source)?.ok_or("a line")?;
+    assert_eq!(rt; line.as_slice(), b"b\n".as_slice());
+    // One byte is too many, now and later.
+    assert_eq!(rt; reader.next(alloc, &mut source), Err(ReadFault::TooLong));
+    assert_eq!(rt; reader.next(alloc, &mut source), Err(ReadFault::TooLong));
+    Ok(())
+}
+
+#[test]
+fn a_line_may_be_as_long_as_the_limit(rt: HostRuntime) -> Result<(), Fail> {
+    let alloc = rt.alloc();
+    let limit = 4_194_304usize;
+    let cases = [
+        (limit, (Some(limit), None)),
+        (limit + 1, (None, Some(ReadFault::TooLong))),
+    ];
+    for (len, wanted) in cases {
+        let bytes = vec![in alloc; b'a'; len]?;
+        let mut source = MemSource::new(bytes, 4096, Vec::new(alloc));
+        let read = match LineReader::new(alloc, limit).next(alloc, &mut source) {
+            Ok(line) => (line.map(|l| l.len()), None),
+            Err(fault) => (None, Some(fault)),
+        };
+        assert_eq!(rt; read, wanted);
+    }
+    Ok(())
+}

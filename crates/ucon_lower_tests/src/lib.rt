@@ -1,0 +1,20 @@
+//! Tests of the lower crates, a module for each. They stand here since a crate with tests of its own is proved twice, with and without
+//! them.
+#![tactic(auto)]
+
+#[cfg(test)]
+mod base;
+#[cfg(test)]
+mod board;
+#[cfg(test)]
+mod disk;
+#[cfg(test)]
+mod feed;
+#[cfg(test)]
+mod flow;
+#[cfg(test)]
+mod journal;
+#[cfg(test)]
+mod pend;
+#[cfg(test)]
+mod wheel;

@@ -1,0 +1,23 @@
+//! What the program tells of an ending, besides its output.
+
+ghost use Rattle.std.specs.Prelude.{◌≡◌, ◌⊎◌};
+ghost use Rattle.std.specs.Io.KnownBytes.{Appends};
+ghost use Rattle.ucon_flow.specs.Causes.{raised};
+ghost use Rattle.ucon_flow.specs.Writing.{AppendsPrefix};
+ghost use Rattle.ucon_outcome.specs.Ending.{status_of};
+ghost use Rattle.ucon_outcome.specs.FaultWords.{fault_words};
+
+use crate::outcome::Outcome;
+use crate::printing::put_fault;
+use ucon_flow::Sink;
+
+/// Writes the line of an outcome, nothing where all is done, or a front of it where the sink fails, and gives the status with which the
+/// program ends.
+pub fn report<W: Sink>(outcome: &Outcome, err: &mut W) -> u8
+    ensures status { result ≡ status_of outcome.now }
+    ensures told { (Appends (W.contents err.old) (W.contents err.new) (fault_words outcome.now) × (W.faults err.new ≡ W.faults err.old))
+        ⊎ (AppendsPrefix (W.contents err.old) (W.contents err.new) (fault_words outcome.now) × (W.faults err.new ≡ raised (W.faults err.old))) }
+{
+    let _ = put_fault(err, outcome);
+    outcome.status()
+}

@@ -1,0 +1,224 @@
+//! Digests and heads against values that were worked out elsewhere, and sessions rechecked by several threads beside a plain loop.
+ghost use Rattle.std.specs.Prelude.{◌<◌, All, IfOk, IsSome};
+ghost use Rattle.ucon_actions.specs.Leads.{IsFollowing};
+ghost use Rattle.ucon_state.specs.Shown.{shown};
+ghost use Rattle.ucon_state.specs.Tables.{session_in};
+
+use crate::lines::{opening, steps};
+use sha2::{Digest, Sha256};
+use std::alloc::Global;
+use std::test::Fail;
+use std::thread::Threads;
+use ucon_asked::typed_tests_make_no_set;
+use ucon_audit::{
+    Changed, Kept, changed_sessions, changed_usages, extends, head_after, head_text, read_head,
+    usages,
+};
+use ucon_base::{Name, Rows};
+use ucon_eval::verdict;
+use ucon_model::{Verdict, View};
+use ucon_state::{State, tables_keep_what_is_followed};
+
+fn rows(alloc: Global, bytes: &[u8]) -> Result<Rows<u8>, Fail> {
+    Ok(Rows::from(Vec::from_slice(alloc, bytes)?))
+}
+
+/// The example of FIPS 180-4.
+#[test]
+fn the_digest_is_the_standards(rt: HostRuntime) -> Result<(), Fail> {
+    let digest = Sha256::digest(b"abc".as_slice());
+    assert_eq!(rt;
+        head_text(&digest).as_slice(),
+        b"ba7816bf8f01cfea414140de5dae2223b00361a396177a9cb410ff61f20015ad".as_slice()
+    );
+    Ok(())
+}
+
+/// Python's hashlib: h = sha256(b"UCONJR02"); then h = sha256(h + p), digest by digest, for p of b"right r {}\n", b"0 subject a\nok".
+#[test]
+fn the_head_of_a_small_journal(rt: HostRuntime) -> Result<(), Fail> {
+    let alloc = rt.alloc();
+    let mut payloads = Vec::new(alloc);
+    payloads.push(rows(alloc, b"right r {}\n")?)?;
+    payloads.push(rows(alloc, b"0 subject a\nok")?)?;
+    let wanted: [(usize, &[u8]); 3] = [
+        (
+            0,
+            b"663036308aa65cf86873b0e5df3e462335cc43ee6157575411030542e2ecfb52",
+        ),
+        (
+            1,
+            b"5ab67da621ecb0946395d494638e9658d0b526586b49f271a23fb3d530f089ad",
+        ),
+        (
+            2,
+            b"2f2ade13745aed79bf0433cc068791a267842ecd9a84a6cd1972c62f45adcebd",
+        ),
+    ];
+    for (records, text) in wanted {
+        let head = head_after(b"UCONJR02", &payloads[..records.min(payloads.len())]);
+        assert_eq!(rt; head_text(&head).as_slice(), text);
+        assert_eq!(rt; read_head(text), Some(head));
+        let kept = Kept {
+            records: records as u64,
+            head,
+        };
+        assert!(rt; extends(&kept, b"UCONJR02", &payloads));
+        assert!(rt; !extends(&kept, b"UCONJR01", &payloads));
+        let later = Kept { records: 3, head };
+        assert!(rt; !extends(&later, b"UCONJR02", &payloads));
+    }
+    Ok(())
+}
+
+#[test]
+fn a_head_has_one_text(rt: HostRuntime) -> Result<(), Fail> {
+    let lower = [b'a'; 64];
+    assert_eq!(rt; read_head(&lower), Some([0xaa; 32]));
+    assert_eq!(rt; read_head(&[b'A'; 64]), None);
+    assert_eq!(rt; read_head(&[b'g'; 64]), None);
+    assert_eq!(rt; read_head(&lower[..63]), None);
+    assert_eq!(rt; read_head(&lower[..62]), None);
+    assert_eq!(rt; read_head(&[b'a'; 66]), None);
+    Ok(())
+}
+
+/// Credit and an act decide whether a try is permitted.
+const PLAYING: &[u8] = b"attr s credit : int 0..100 = 9;
+right play { pre a funds: s.credit >= 5; pre b terms: done accept; }
+";
+
+/// A song and ten subjects, of which those with an even number accept the terms.
+const MADE: [&[u8]; 16] = [
+    b"object song",
+    b"subject s0",
+    b"act s0 accept song",
+    b"subject s1",
+    b"subject s2",
+    b"act s2 accept song",
+    b"subject s3",
+    b"subject s4",
+    b"act s4 accept song",
+    b"subject s5",
+    b"subject s6",
+    b"act s6 accept song",
+    b"subject s7",
+    b"subject s8",
+    b"act s8 accept song",
+    b"subject s9",
+];
+
+/// Each subject tries the song.
+const TRIES: [&[u8]; 10] = [
+    b"try s0 play song",
+    b"try s1 play song",
+    b"try s2 play song",
+    b"try s3 play song",
+    b"try s4 play song",
+    b"try s5 play song",
+    b"try s6 play song",
+    b"try s7 play song",
+    b"try s8 play song",
+    b"try s9 play song",
+];
+
+/// Two subjects are left with a credit of 1.
+const SPENT: [&[u8]; 2] = [b"set s s0 credit 1", b"set s s5 credit 1"];
+
+/// The subjects try the song in turn, so many times each. Then the credit of two is spent.
+fn played(alloc: Global, times: u32) -> Result<State, Fail>
+    ensures { IfOk result (λ s. IsFollowing (shown s)) }
+{
+    let mut state = opening(alloc, PLAYING)?;
+    steps(alloc, &mut state, &MADE)?;
+    'turns: for _ in 0..times {
+        steps(alloc, &mut state, &TRIES)?;
+    }
+    steps(alloc, &mut state, &SPENT)?;
+    Ok(state)
+}
+
+/// Those of the sessions 1 to this one that are there.
+fn sessions_there(alloc: Global, state: &State, last: u32) -> Result<Vec<u32>, Fail>
+    requires { last < 4294967295 }
+    ensures { IfOk result (λ v. All (λ n. IsSome (session_in (shown state.now).tables n)) v.items) }
+{
+    let mut sessions = Vec::new(alloc);
+    for n in 1..last + 1 {
+        if state.session(n).is_some() {
+            sessions.push(n)?;
+        }
+    }
+    Ok(sessions)
+}
+
+/// What a plain loop finds.
+fn found_in_turn(alloc: Global, state: &State, sessions: &[u32]) -> Result<Vec<Changed>, Fail>
+    requires { IsFollowing (shown state.now) }
+{
+    tables_keep_what_is_followed();
+    typed_tests_make_no_set();
+    let mut found = Vec::new(alloc);
+    for n in sessions {
+        let session = *n;
+        if state.session(session).is_none() {
+            return Err("no session".into());
+        }
+        let verdict = verdict(state, session);
+        if verdict != Verdict::Permit {
+            found.push(Changed { session, verdict })?;
+        }
+    }
+    Ok(found)
+}
+
+/// How many sessions, how many of them changed, and the first and the last of these.
+type Found = (usize, usize, Option<Changed>, Option<Changed>);
+
+/// What the threads found, where the plain loop found the same.
+fn found_alike(sessions: usize, changed: &[Changed], plain: &[Changed]) -> Result<Found, Fail> {
+    if changed != plain {
+        return Err("a plain loop finds others".into());
+    }
+    let first = changed.first().copied();
+    let last = changed.last().copied();
+    Ok((sessions, changed.len(), first, last))
+}
+
+fn found_of_all<R: Threads + Sync>(rt: &R, alloc: Global, state: &State) -> Result<Found, Fail>
+    requires { IsFollowing (shown state.now) }
+{
+    let sessions = sessions_there(alloc, state, 10_000)?;
+    let changed = changed_sessions(rt, alloc, state, &sessions)?;
+    let plain = found_in_turn(alloc, state, &sessions)?;
+    found_alike(sessions.len(), changed.slice(), plain.as_slice())
+}
+
+fn found_of_usages<R: Threads + Sync>(rt: &R, alloc: Global, state: &State) -> Result<Found, Fail>
+    requires { IsFollowing (shown state.now) }
+{
+    let sessions = usages(alloc, state)?;
+    let changed = changed_usages(rt, alloc, state)?;
+    let plain = found_in_turn(alloc, state, sessions.slice())?;
+    found_alike(sessions.len(), changed.slice(), plain.as_slice())
+}
+
+/// Of all sessions, and of the uses that go on.
+fn found<R: Threads + Sync>(rt: &R, alloc: Global) -> Result<(Found, Found), Fail> {
+    let state = played(alloc, 1_000)?;
+    let all = found_of_all(rt, alloc, &state)?;
+    let going_on = found_of_usages(rt, alloc, &state)?;
+    Ok((all, going_on))
+}
+
+/// Of each ten sessions the first and the sixth are denied, four of the others wait, and four are permitted. Who waits has no use that goes on.
+#[test]
+fn ten_thousand_sessions_are_rechecked_as_in_a_plain_loop(rt: HostRuntime) -> Result<(), Fail> {
+    let (all, going_on) = found(&rt, rt.alloc())?;
+    let deny = Verdict::Deny(Name::read(b"funds")?);
+    let wait = Verdict::Wait(Name::read(b"terms")?);
+    let at = |session: u32, verdict: Verdict| Some(Changed { session, verdict });
+    assert_eq!(rt; all, (10_000, 6_000, at(1, deny), at(10_000, wait)));
+    assert_eq!(rt; going_on, (5_000, 1_000, at(1, deny), at(9_991, deny)));
+    Ok(())
+}

@@ -1,0 +1,215 @@
+//! Explanations of worked rows: the state is made by lines, the text is the one that was worked out by hand.
+ghost use Rattle.std.specs.Prelude.{OnOk};
+ghost use Rattle.ucon_actions.specs.Leads.{IsFollowing};
+ghost use Rattle.ucon_state.specs.Shown.{shown};
+
+use crate::lines::{opening, steps};
+use std::alloc::Global;
+use std::test::Fail;
+use ucon_accept::{Wrong, accept};
+use ucon_base::{Name, Rows};
+use ucon_explain::{ExplainFault, explain, explanation_text};
+use ucon_model::{Refusal, Verdict};
+use ucon_state::State;
+use ucon_told::Explanation;
+
+/// The explanation of a try by this subject on `x`.
+fn explained(
+    alloc: Global,
+    state: &State,
+    subject: &[u8],
+    right: &[u8],
+) -> Result<Result<Explanation, ExplainFault>, Fail>
+    requires { IsFollowing (shown state.now) }
+{
+    let (subject, right) = (Name::read(subject)?, Name::read(right)?);
+    Ok(explain(alloc, state, &subject, &right, &Name::read(b"x")?))
+}
+
+/// The text of the explanation of a try by `a` on `x`, which the checker accepts.
+fn told(alloc: Global, state: &State, right: &[u8]) -> Result<Vec<u8>, Fail>
+    requires { IsFollowing (shown state.now) }
+{
+    let e = explained(alloc, state, b"a", right)??;
+    accept(state, &e)?;
+    Ok(explanation_text(alloc, &e)?)
+}
+
+/// Lines, and the text of the explanation after them.
+type Row = (&'static [&'static [u8]], &'static [u8]);
+
+/// Each row's text is told after its lines, which follow those of the rows before.
+fn tell_each(alloc: Global, state: &mut State, right: &[u8], rows: &[Row]) -> Result<(), Fail>
+    requires { IsFollowing (shown state.old) }
+    ensures { OnOk result (IsFollowing (shown state.new)) }
+{
+    for row in rows {
+        let (lines, text) = *row;
+        steps(alloc, state, lines)?;
+        if told(alloc, state, right)?.as_slice() != text {
+            return Err("another explanation is told".into());
+        }
+    }
+    Ok(())
+}
+
+const PURCHASE: &[u8] = b"attr s age : int 0..150 = 0;
+env hour : int 0..23 = 9;
+right buy { pre b sign: done sign_up; pre c late: env.hour >= 10; pre a adult: s.age >= 18; }
+";
+
+const DENIED_BY_THE_HOUR: [Row; 1] = [(
+    &[b"subject a", b"object x"],
+    b"pre sign b false
+  act a sign_up x never
+pre late c false
+  read env.hour 9
+pre adult a false
+  read s.age 0
+verdict deny late
+",
+)];
+
+/// The explanation with another second truth.
+fn turned(e: Explanation) -> Explanation {
+    let mut whys = e.whys.into_vec();
+    for (i, why) in whys.iter_mut().enumerate() {
+        if i == 1 {
+            why.truth = !why.truth;
+        }
+    }
+    Explanation {
+        subject: e.subject,
+        right: e.right,
+        object: e.object,
+        whys: Rows::from(whys),
+        verdict: e.verdict,
+    }
+}
+
+/// What the checker says of the explanation with another second truth.
+fn with_turned_truth(alloc: Global, state: &State) -> Result<Result<(), Wrong>, Fail>
+    requires { IsFollowing (shown state.now) }
+{
+    let e = explained(alloc, state, b"a", b"buy")??;
+    Ok(accept(state, &turned(e)))
+}
+
+/// What the checker says of the explanation with the verdict to wait.
+fn with_waiting_verdict(alloc: Global, state: &State) -> Result<Result<(), Wrong>, Fail>
+    requires { IsFollowing (shown state.now) }
+{
+    let mut e = explained(alloc, state, b"a", b"buy")??;
+    e.verdict = Verdict::Wait(Name::read(b"sign")?);
+    Ok(accept(state, &e))
+}
+
+/// Whether a try by `b` is explained as refused, since there is no such subject.
+fn is_no_subject(alloc: Global, state: &State) -> Result<bool, Fail>
+    requires { IsFollowing (shown state.now) }
+{
+    let refused = explained(alloc, state, b"b", b"buy")?;
+    Ok(matches!(&refused, Err(ExplainFault::Refused(Refusal::NoSubject))))
+}
+
+#[test]
+fn a_purchase_is_denied_by_the_hour(rt: HostRuntime) -> Result<(), Fail> {
+    let alloc = rt.alloc();
+    let mut state = opening(alloc, PURCHASE)?;
+    tell_each(alloc, &mut state, b"buy", &DENIED_BY_THE_HOUR)?;
+    assert!(rt; is_no_subject(alloc, &state)?);
+    assert_eq!(rt; with_turned_truth(alloc, &state)?, Err(Wrong::Line(1)));
+    assert_eq!(rt; with_waiting_verdict(alloc, &state)?, Err(Wrong::Verdict));
+    Ok(())
+}
+
+const LOAN: &[u8] = b"attr s credit : int 0..100 = 7;
+attr s name : text = \"ann b\";
+attr s tags : set = {\"a\", \"b\"};
+attr o price : int 0..100 = 5;
+env zone : text = \"eu\";
+right lend {
+  pre a funds: s.credit >= o.price + o.price and size(s.tags) = 2 or s.credit = o.price;
+  pre b once: done agree by \"boss\" on \"desk\";
+  on a left: s.credit > 0;
+  pre b soon: within 10 agree;
+  pre c home: env.zone = \"eu\" and not env.zone = \"us\";
+  pre a named: s.name = \"ann b\" and \"a\" in s.tags;
+}
+";
+
+/// An act by and on others, and one that was never done, in time, and too late.
+const LENDING: [Row; 3] = [
+    (
+        &[
+            b"subject a",
+            b"subject boss",
+            b"object x",
+            b"object desk",
+            b"act boss agree desk",
+            b"tick 5",
+        ],
+        b"pre funds a false
+  read s.credit 7
+  read o.price 5
+  read s.tags {\"a\",\"b\"}
+pre once b true
+  act boss agree desk 0
+pre soon b false
+  act a agree x never
+  tick 5
+pre home c true
+  read env.zone \"eu\"
+pre named a true
+  read s.name \"ann b\"
+  read s.tags {\"a\",\"b\"}
+verdict deny funds
+",
+    ),
+    (
+        &[b"set s a credit 10", b"act a agree x", b"tick 15"],
+        b"pre funds a true
+  read s.credit 10
+  read o.price 5
+  read s.tags {\"a\",\"b\"}
+pre once b true
+  act boss agree desk 0
+pre soon b true
+  act a agree x 5
+  tick 15
+pre home c true
+  read env.zone \"eu\"
+pre named a true
+  read s.name \"ann b\"
+  read s.tags {\"a\",\"b\"}
+verdict permit
+",
+    ),
+    (
+        &[b"tick 16"],
+        b"pre funds a true
+  read s.credit 10
+  read o.price 5
+  read s.tags {\"a\",\"b\"}
+pre once b true
+  act boss agree desk 0
+pre soon b false
+  act a agree x 5
+  tick 16
+pre home c true
+  read env.zone \"eu\"
+pre named a true
+  read s.name \"ann b\"
+  read s.tags {\"a\",\"b\"}
+verdict wait soon
+",
+    ),
+];
+
+/// All three kinds, over integers, texts and sets.
+#[test]
+fn each_kind_is_explained(rt: HostRuntime) -> Result<(), Fail> {
+    let alloc = rt.alloc();
+    let mut state = opening(alloc, LOAN)?;
+    tell_each(alloc, &mut state, b"lend", &LENDING)
+}

@@ -1,0 +1,16 @@
+//! Tests of what is judged and told of policies and states: typing, checkpoints, explanations and audits. They stand here since a crate with
+//! tests of its own is proved twice, with and without them.
+#![tactic(auto)]
+
+#[cfg(test)]
+mod audit;
+#[cfg(test)]
+mod check;
+#[cfg(test)]
+mod explain;
+#[cfg(test)]
+mod lines;
+#[cfg(test)]
+mod point;
+#[cfg(test)]
+mod state_json;

@@ -1,0 +1,274 @@
+//! Texts of checkpoints, worked out by hand.
+
+use crate::lines::{opening, steps};
+use std::alloc::Global;
+use std::test::Fail;
+use ucon_base::{Name, Side};
+use ucon_model::{SessionState, View};
+use ucon_point::{Point, PointFault, point_text, read_point};
+
+/// Where the bytes are refused.
+fn place(alloc: Global, bytes: &[u8]) -> Result<Option<usize>, Fail> {
+    match read_point(alloc, bytes) {
+        Ok(_) => Ok(None),
+        Err(PointFault::BadPlace(place)) => Ok(Some(place)),
+        Err(PointFault::NoMemory(refused)) => Err(refused)?,
+    }
+}
+
+const SMALL: &[u8] = b"point 1\npolicy 11\nright r {}\n\ntick 0\nsubject a\n";
+
+/// Lines that are no point's, at their places.
+const LINES: [(&[u8], Option<usize>); 30] = [
+    (SMALL, None),
+    (
+        b"point 2\npolicy 11\nright r {}\n\ntick 0\nsubject a\n",
+        None,
+    ),
+    (
+        b"point 1\npolicy 11\nright r {}\n\ntick 0\nsubject A\n",
+        Some(37),
+    ),
+    (
+        b"point 1\npolicy 11\nright r {}\n\ntick 0\nsubject a",
+        Some(46),
+    ),
+    (
+        b"point 1\npolicy 11\nright r {}\n\ntick 0\n\nsubject a\n",
+        Some(37),
+    ),
+    (b"point 1\npolicy 11\nright r {}\n\ntick 0\n", None),
+    (b"point 1\npolicy 11\nright r {}\n\ntick 0", Some(36)),
+    (b"point 1\npolicy 11\nright r {}\n\ntick -1\n", Some(30)),
+    (b"point 1\npolicy 11\nright r {}\n\ntick 00\n", Some(30)),
+    (b"point 1\npolicy 11\nright r {}\n\n", Some(30)),
+    (b"point 1\npolicy 11\nright r {}\n", Some(29)),
+    (b"point 1\npolicy 11\nright r [}\n\ntick 0\n", Some(8)),
+    (b"point 1\npolicy 10\nright r {}\n\ntick 0\n", Some(29)),
+    (b"point 1\npolicy 12\nright r {}\n\ntick 0\n", Some(8)),
+    (b"point 1\npolicy 011\nright r {}\n\ntick 0\n", Some(8)),
+    (b"point 1\npolicy 65537\n", Some(8)),
+    (b"point 1\npolicy 65536\n", Some(21)),
+    (b"point 18446744073709551615\npolicy 0\n\ntick 0\n", None),
+    (b"point 18446744073709551616\npolicy 0\n\ntick 0\n", Some(0)),
+    (b"point\n", Some(0)),
+    (b"point", Some(5)),
+    (b"", Some(0)),
+    (
+        b"point 0\npolicy 0\n\ntick 0\nobject a\nsubject b\n",
+        Some(34),
+    ),
+    (b"point 0\npolicy 0\n\ntick 0\nvalue a 1\n", Some(25)),
+    (
+        b"point 0\npolicy 25\nattr s n : int 0..9 = 3;\n\ntick 0\nsubject a\nvalue n 9\n",
+        None,
+    ),
+    (
+        b"point 0\npolicy 25\nattr s n : int 0..9 = 3;\n\ntick 0\nsubject a\nvalue n 10\n",
+        Some(61),
+    ),
+    (
+        b"point 0\npolicy 25\nattr s n : int 0..9 = 3;\n\ntick 0\nsubject a\nvalue m 9\n",
+        Some(61),
+    ),
+    (
+        b"point 0\npolicy 25\nattr s n : int 0..9 = 3;\n\ntick 0\nsubject a\n",
+        Some(61),
+    ),
+    (b"point 0\npolicy 0\n\ntick 0\nact a b c 0\n", Some(25)),
+    (
+        b"point 0\npolicy 0\n\ntick 0\nsession 64 r a b ended 0\n",
+        Some(25),
+    ),
+];
+
+/// Rows that can't be put.
+const PUT: [(&[u8], Option<usize>); 7] = [
+    (
+        b"point 0\npolicy 0\n\ntick 5\nsubject a\nobject c\nact a b c 5\nsession 63 r a c ended 5\n",
+        None,
+    ),
+    (
+        b"point 0\npolicy 0\n\ntick 5\nsubject a\nsubject a\nsubject A\n",
+        Some(35),
+    ),
+    (
+        b"point 0\npolicy 0\n\ntick 5\nsubject a\nobject c\nact a b c 6\n",
+        Some(44),
+    ),
+    (
+        b"point 0\npolicy 0\n\ntick 5\nsubject a\nobject c\nact a b c 5\nact a b c 5\n",
+        Some(56),
+    ),
+    (
+        b"point 0\npolicy 0\n\ntick 5\nsubject a\nobject c\nact c b a 5\n",
+        Some(44),
+    ),
+    (
+        b"point 0\npolicy 0\n\ntick 5\nsubject a\nobject c\nsession 0 r a c requesting 1\n",
+        Some(44),
+    ),
+    (
+        b"point 0\npolicy 0\n\ntick 5\nsubject a\nobject c\nsession 0 r a c accessing 6\n",
+        Some(44),
+    ),
+];
+
+#[test]
+fn what_is_no_point_is_refused_at_its_place(rt: HostRuntime) -> Result<(), Fail> {
+    for (bytes, wanted) in LINES {
+        assert!(rt; place(rt.alloc(), bytes)? == wanted, "{bytes:?}");
+    }
+    for (bytes, wanted) in PUT {
+        assert!(rt; place(rt.alloc(), bytes)? == wanted, "{bytes:?}");
+    }
+    Ok(())
+}
+
+/// A point that is read has this policy and so many entries, and is written as it was.
+fn is_kept(alloc: Global, bytes: &[u8], entries: u64, policy: &[u8]) -> Result<bool, Fail> {
+    let point = read_point(alloc, bytes)?;
+    if point.entries != entries || point.policy.slice() != policy {
+        return Ok(false);
+    }
+    Ok(point_text(alloc, entries, policy, &point.state)?.as_slice() == bytes)
+}
+
+#[test]
+fn one_subject_is_written_and_read(rt: HostRuntime) -> Result<(), Fail> {
+    let alloc = rt.alloc();
+    let policy = b"right r {}\n".as_slice();
+    let mut state = opening(alloc, policy)?;
+    steps(alloc, &mut state, &[b"subject a"])?;
+    assert!(rt; point_text(alloc, 1, policy, &state)?.as_slice() == SMALL);
+    assert!(rt; is_kept(alloc, SMALL, 1, policy)?);
+    let read = read_point(alloc, SMALL)?.state;
+    assert!(rt; read.find(Side::Subject, &Name::read(b"a")?) == Some(0));
+    Ok(())
+}
+
+const POLICY: &[u8] = b"attr s n : int 0..9 = 3;
+attr s t : text = \"x\";
+attr o g : set = {\"a\", \"b\"};
+env on : int 0..1 = 1;
+right r {}
+";
+
+const FULL: &[u8] = b"point 7
+policy 111
+attr s n : int 0..9 = 3;
+attr s t : text = \"x\";
+attr o g : set = {\"a\", \"b\"};
+env on : int 0..1 = 1;
+right r {}
+
+tick 5
+env on 1
+subject a
+value n 3
+value t \"x\"
+object b
+value g {\"a\",\"b\"}
+act a read b 2
+session 0 r a b requesting 0
+session 1 r a b denied 0
+session 2 r a b accessing 5
+session 3 r a b revoked 3
+session 63 r a b ended 2
+";
+
+/// Number, caller, state and start of each of its sessions.
+const SESSIONS: [(u32, u8, SessionState, i64); 5] = [
+    (1, 0, SessionState::Requesting, 0),
+    (2, 1, SessionState::Denied, 0),
+    (3, 2, SessionState::Accessing, 5),
+    (4, 3, SessionState::Revoked, 3),
+    (5, 63, SessionState::Ended, 2),
+];
+
+/// What is known of a session of the right `r` by `a` on `b`.
+fn seen(point: &Point, number: u32) -> Option<(u32, u8, SessionState, i64)> {
+    let found = point.state.session(number)?;
+    let names = [
+        found.right.bytes(),
+        found.subject.bytes(),
+        found.object.bytes(),
+    ];
+    if names != [b"r".as_slice(), b"a".as_slice(), b"b".as_slice()] {
+        return None;
+    }
+    Some((number, found.caller.0, found.state, found.start.get()))
+}
+
+/// The tick and the moment of the first act.
+fn times_of(point: &Point) -> Option<(i64, i64)> {
+    let act = point.state.act(0)?;
+    Some((point.state.tick().get(), act.moment.get()))
+}
+
+#[test]
+fn all_sorts_of_rows_are_read(rt: HostRuntime) -> Result<(), Fail> {
+    assert!(rt; is_kept(rt.alloc(), FULL, 7, POLICY)?);
+    let point = read_point(rt.alloc(), FULL)?;
+    assert_eq!(rt; times_of(&point), Some((5, 2)));
+    for session in SESSIONS {
+        assert_eq!(rt; seen(&point, session.0), Some(session));
+    }
+    Ok(())
+}
+
+/// As before, with a right that denies and one that waits.
+const STRICT: &[u8] = b"attr s n : int 0..9 = 3;
+attr s t : text = \"x\";
+attr o g : set = {\"a\", \"b\"};
+env on : int 0..1 = 1;
+right r {}
+right q { pre a no: s.n = 0; }
+right w { pre b d: done go; }
+";
+
+const TRIES: [&[u8]; 10] = [
+    b"subject a",
+    b"object b",
+    b"try a q b",
+    b"try a w b",
+    b"tick 2",
+    b"act a go b",
+    b"try a r b",
+    b"end 3",
+    b"tick 5",
+    b"try a r b",
+];
+
+const TRIED: &[u8] = b"point 10
+policy 172
+attr s n : int 0..9 = 3;
+attr s t : text = \"x\";
+attr o g : set = {\"a\", \"b\"};
+env on : int 0..1 = 1;
+right r {}
+right q { pre a no: s.n = 0; }
+right w { pre b d: done go; }
+
+tick 5
+env on 1
+subject a
+value n 3
+value t \"x\"
+object b
+value g {\"a\",\"b\"}
+act a go b 2
+session 0 q a b denied 0
+session 0 w a b requesting 0
+session 0 r a b ended 2
+session 0 r a b accessing 5
+";
+
+#[test]
+fn what_lines_made_is_written(rt: HostRuntime) -> Result<(), Fail> {
+    let alloc = rt.alloc();
+    let mut state = opening(alloc, STRICT)?;
+    steps(alloc, &mut state, &TRIES)?;
+    assert!(rt; point_text(alloc, 10, STRICT, &state)?.as_slice() == TRIED);
+    Ok(())
+}

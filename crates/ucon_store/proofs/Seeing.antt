@@ -1,0 +1,15 @@
+-- What opening sees from the last checkpoint on.
+pub mod InForce
+pub mod SameReadings
+pub mod SameReplies
+pub mod SameRows
+pub mod Listed
+pub mod SameHeld
+pub mod SpelledRows
+pub mod Histories
+pub mod Walk
+pub mod Points
+pub mod Found
+pub mod Nothing
+pub mod OneThing
+pub mod Always

@@ -1,0 +1,133 @@
+-- The checkpoint of a history that is found is read, and what its rows make is what is there after the history.
+use Rattle.std.proofs.Common.{◌≡◌, ◌∙◌, ℕ, ◌<◌, ◌^◌, [], ◌∷◌, length, Option, Some, None, Ok, refl, sym, ap}
+use Rattle.std.specs.Prelude.{◌↔◌, IsSomeAnd}
+use Rattle.ucon_base.specs.Elements.{Each, each_map}
+use Rattle.ucon_base.specs.Reading.{value_read}
+use Rattle.ucon_base.specs.Spelling.{IsValue, value_spelling}
+use Rattle.ucon_base.specs.declared.value.Side.{Side}
+use Rattle.ucon_base.specs.declared.value.Value.{Value}
+use Rattle.ucon_base.specs.declared.value.Value.TheVariants.{Int}
+use Rattle.ucon_model.specs.Action.{Action, Trace}
+use Rattle.ucon_model.specs.CommandLine.{IsCommand}
+use Rattle.ucon_model.specs.History.{AreCommands, History, trace}
+use Rattle.ucon_model.specs.Legal.{IsLegal}
+use Rattle.ucon_model.specs.Plain.{Bytes, PlainPolicy}
+use Rattle.ucon_model.specs.Readings.{entities, entity_names, in_force, tick_of}
+use Rattle.ucon_model.specs.Typing.{IsTyped}
+use Rattle.ucon_model.specs.Work.{NobodyFails}
+use Rattle.ucon_state.specs.Applied.{opening_tables}
+use Rattle.ucon_state.specs.Following.{Follows, IsFollowing, IsLegalTrace, Keeps}
+use Rattle.ucon_state.specs.Held.{Held, ReadsAlike, held_after, held_in}
+use Rattle.ucon_state.specs.Shown.{Shown, changed_by}
+use Rattle.ucon_point.specs.HeldRows.{point_held, rows_held}
+use Rattle.ucon_point.specs.Order.{awaited}
+use Rattle.ucon_point.specs.PointRead.{IsPoint, Said, point_read}
+use Rattle.ucon_point.specs.PointText.{point_text}
+use Rattle.ucon_point.specs.RowText.{IsRow, IsSpelled}
+use Rattle.ucon_point.specs.Standing.{Standing, put_all, start}
+use Rattle.ucon_syntax.specs.Policies.{accepted}
+use Rattle.ucon_store.specs.Opened.{IsPointOf, showing_only}
+use Rattle.ucon_store.specs.Points.{checkpoint, text_in_force}
+use Rattle.ucon_store.proofs.Seeing.Histories.{IsGood, PayloadLaws}
+use Rattle.ucon_store.proofs.Seeing.Listed.{listed_all}
+use Rattle.ucon_store.proofs.Seeing.SameHeld.{held_same}
+use Rattle.ucon_store.proofs.Seeing.SpelledRows.{rows_spelled}
+use Rattle.ucon_store.proofs.Spelled.Blocks.{trace_spelled}
+use Rattle.ucon_store.proofs.Spelled.Policies.{IsOfNames, spelled_names}
+use Rattle.ucon_store.proofs.Spelled.Traces.{AreSpelled, tick_spelled}
+
+-- the laws on states and checkpoints that are built on
+pub record PointLaws : Type 0 where
+  pub written : (v : Value) → IsValue v → value_read (value_spelling v) ≡ Ok v
+  pub settled : (P : PlainPolicy) (H : History) → NobodyFails P (trace P H)
+  pub opening : (s : Shown) (P : PlainPolicy) → IsTyped (in_force P []) → s.policy ≡ in_force P [] → s.tables ≡ opening_tables s.policy → Follows s P []
+  pub after : (s : Shown) (P : PlainPolicy) (T : Trace) (a : Action) → Follows s P T → IsLegal P T a → Follows (changed_by s a) P (a ∷ T)
+  pub legal : (P : PlainPolicy) → IsTyped P → (H : History) → AreCommands H → IsLegalTrace P (trace P H)
+  pub keeps : (s : Shown) (P : PlainPolicy) (T : Trace) → Follows s P T → Keeps s.policy s.tables P T
+  pub alike : (s : Shown) (P : PlainPolicy) (T : Trace) → IsFollowing s → Follows s P T ↔ ReadsAlike s P T
+  pub point : (entries : ℕ) (text : Bytes) (P : PlainPolicy) (H : History) → IsTyped P → AreCommands H → entries < 2 ^ 64
+      → accepted text ≡ Some (in_force P (trace P H)) → IsSpelled (Int (tick_of (trace P H))) → Each IsRow (rows_held (held_after P (trace P H)))
+      → IsPoint (point_held entries text (held_after P (trace P H)))
+  pub read : (entries : ℕ) (text : Bytes) (h : Held) → IsPoint (point_held entries text h) → point_read (point_text entries text h) ≡ Ok (point_held entries text h)
+  pub held : (p : Said) (end : Standing) → IsPoint p → put_all p.policy (start p.policy p.tick) p.rows ≡ Some end → point_held p.entries p.text (held_in p.policy end.tables) ≡ p
+  pub followed : (p : Said) (end : Standing) → IsPoint p → put_all p.policy (start p.policy p.tick) p.rows ≡ Some end
+      → (s : Shown) → s.policy ≡ p.policy → s.tables ≡ end.tables → IsFollowing s
+
+pub the_end : (o : Option Standing) (Q : Standing → Type 0) → IsSomeAnd o Q → (end : Standing) × (o ≡ Some end)
+the_end None Q h = absurd h
+the_end (Some end) Q h = (end, refl)
+
+module _ (laws : PointLaws) (payloads : PayloadLaws) where
+  -- a state that follows a legal trace
+  followed_trace : (P : PlainPolicy) (T : Trace) → IsTyped P → IsLegalTrace P T → (s : Shown) × Follows s P T
+  followed_trace P [] typed legal = (showing_only P (opening_tables P), laws.opening (showing_only P (opening_tables P)) P typed refl refl)
+  followed_trace P (a ∷ T) typed legal =
+      let f = followed_trace P T typed legal.0 in
+      (changed_by f.0 a, laws.after f.0 P T a f.1 legal.1)
+
+  module _ (text : Bytes) (P : PlainPolicy) (accepts : accepted text ≡ Some P) (H : History) (good : IsGood text P H) (few : length H < 2 ^ 64) where
+    abbrev T : Trace
+    T = trace P H
+
+    abbrev told : Said
+    told = point_held (length H) (text_in_force text H) (held_after P T)
+
+    typed : IsTyped P
+    typed = ((payloads.accepts text P).0 accepts).1
+
+    names : IsOfNames P
+    names = spelled_names text P ((payloads.accepts text P).0 accepts).0
+
+    commands : AreCommands H
+    commands = each_map (λ e. (e.caller.0 < 64) × IsCommand e.command) (λ e. IsCommand e.command) (λ e both. both.1) H good.clients
+
+    spelled : AreSpelled T
+    spelled = trace_spelled P names [] tt H good.clients
+
+    is_point : IsPoint told
+    is_point =
+        laws.point (length H) (text_in_force text H) P H typed commands few good.accepts (laws.written (Int (tick_of T)) (tick_spelled T spelled)) (rows_spelled laws.written P names T spelled)
+
+    end : (e : Standing) × (put_all (in_force P T) (start (in_force P T) (tick_of T)) (rows_held (held_after P T)) ≡ Some e)
+    end = the_end _ (λ s. awaited (in_force P T) s.reached ≡ None) is_point.order
+
+    -- some state follows the trace of the history
+    history : (s : Shown) × Follows s P T
+    history = followed_trace P T typed (laws.legal P typed H commands)
+
+    -- and the state that the rows make follows some trace
+    abbrev made : Shown
+    made = showing_only (in_force P T) end.0.tables
+
+    following : IsFollowing made
+    following = laws.followed told end.0 is_point end.1 made refl refl
+
+    made_alike : ReadsAlike made following.policy following.trace
+    made_alike = (laws.alike made following.policy following.trace following).0 following.follows
+
+    told_again : point_held (length H) (text_in_force text H) (held_in (in_force P T) end.0.tables) ≡ told
+    told_again = laws.held told end.0 is_point end.1
+
+    told_by : point_held (length H) (text_in_force text H) (held_after following.policy following.trace) ≡ told
+    told_by = ap (λ (h : Held). point_held (length H) (text_in_force text H) h) (sym made_alike.held_alike) ∙ told_again
+
+    same_held : held_after following.policy following.trace ≡ held_after P T
+    same_held =
+        held_same following.policy following.trace P T (listed_all laws.keeps made following.policy following.trace following.follows) (listed_all laws.keeps history.0 P T history.1)
+        (ap (λ (p : Said). p.policy) told_by) (ap (λ (p : Said). p.tick) told_by) (ap (λ (p : Said). p.rows) told_by)
+
+    pub made_once : (side : Side) → entities side T ≡ length (entity_names side T)
+    made_once =
+        ((laws.alike history.0 P T (record { policy = P; trace = T; follows = history.1 })).0 history.1).made_once
+
+    -- so the checkpoint is the one of the history's trace
+    pub point_of_history : (payload : Bytes) → payload ≡ checkpoint text P H → IsPointOf (length H) P T payload
+    point_of_history payload is = record {
+      said = told;
+      reads = ap point_read is ∙ laws.read (length H) (text_in_force text H) (held_after P T) is_point;
+      count = refl;
+      end = end.0;
+      made = end.1;
+      alike = record { held_alike = made_alike.held_alike ∙ same_held; made_once = made_once };
+      settled = laws.settled P H;
+    }

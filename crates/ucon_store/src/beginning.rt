@@ -1,0 +1,9 @@
+//! Where a store begins that was opened at a checkpoint.
+
+/// The checkpoint that opening used.
+#[derive(Drop)]
+pub(crate) struct Beginning {
+    pub payload: Vec<u8>,
+    /// The text of the policy in force there, as the payload has it.
+    pub text: Vec<u8>,
+}

@@ -1,0 +1,209 @@
+//! A disk that stops after each of its calls, and what is found in the files that a crash may leave then.
+
+use crate::runs::{End, over, stopping};
+use std::alloc::Global;
+use std::process::Abort;
+use std::str;
+use std::sync::Wait;
+use std::test::Fail;
+use std::thread::Threads;
+use ucon_cases::{LOOKING, SUBJECTS_B_AND_C, WITH_A, WITH_A_AND_POINT, played_rows};
+use ucon_client::OpenGate;
+use ucon_disk::MemDisk;
+use ucon_top::Outcome;
+use ucon_vectors::{CAPPED, document};
+
+/// The number of entries that are found in a file: the place of a reply that changes nothing.
+fn entries_found<R: Threads + Wait + Sync>(
+    rt: &R,
+    alloc: Global,
+    file: &[u8],
+) -> Result<u64, Fail> {
+    let disk = stopping(alloc, file, None)?;
+    let end = over(rt, alloc, "play", LOOKING, disk, &OpenGate)?;
+    let text = str::from_utf8(&end.output).map_err(|_| "text")?;
+    let place = text.strip_prefix("0 ").ok_or("client")?;
+    let place = place.strip_suffix(" no session\n").ok_or("reply")?;
+    Ok(place.parse::<u64>().map_err(|_| "place")?)
+}
+
+/// How many entries may be found behind so many and the steps that were answered: all of these, and where a step met a disk fault perhaps
+/// that one, too.
+fn may_be_found(before: u64, output: &[u8]) -> Result<(u64, u64), Fail> {
+    let text = str::from_utf8(output).map_err(|_| "text")?;
+    let steps = text.lines().filter(|line| line.ends_with(" ok")).count();
+    let least = before.saturating_add(steps as u64);
+    let one_more = text.lines().any(|line| line.ends_with("- disk fault"));
+    Ok((
+        least,
+        if one_more {
+            least.saturating_add(1)
+        } else {
+            least
+        },
+    ))
+}
+
+/// A run over a file on a disk that stops after so many calls: whatever a crash leaves then, each step that was answered is found.
+fn hold_images<R: Abort + Threads + Wait + Sync>(
+    rt: &R,
+    alloc: Global,
+    form: &str,
+    file: &[u8],
+    document: &[u8],
+    calls: u64,
+) -> Result<(), Fail> {
+    let before = entries_found(rt, alloc, file)?;
+    let disk = stopping(alloc, file, Some(calls))?;
+    let end = over(rt, alloc, form, document, disk, &OpenGate)?;
+    let (least, most) = may_be_found(before, &end.output)?;
+    for fill in [0u8, 1, 255] {
+        let mut fills = Vec::new(alloc);
+        fills.resize(100, fill)?;
+        for len in 0..100u64 {
+            if let Some(image) = end.disk.image(len, &fills)? {
+                let found = entries_found(rt, alloc, &image)?;
+                assert!(rt;
+                    found == least || found == most,
+                    "stopped after {calls} calls, {len} bytes, filled with {fill}"
+                );
+            }
+        }
+    }
+    Ok(())
+}
+
+/// A journal that is made, one whose torn end is mended, and steps over one that is whole.
+#[test]
+fn crashes_leave_what_was_answered(rt: HostRuntime) -> Result<(), Fail> {
+    for calls in 0..32u64 {
+        hold_images(&rt, rt.alloc(), "play", WITH_A, SUBJECTS_B_AND_C, calls)?;
+        for row in played_rows() {
+            if row.status == 0 {
+                hold_images(&rt, rt.alloc(), row.form, row.file, row.document, calls)?;
+            }
+        }
+    }
+    Ok(())
+}
+
+/// A checkpoint under way changes nothing of what is found.
+#[test]
+fn crashes_of_a_checkpoint_leave_the_history(rt: HostRuntime) -> Result<(), Fail> {
+    for calls in 0..32u64 {
+        for file in [WITH_A, WITH_A_AND_POINT] {
+            hold_images(&rt, rt.alloc(), "point", file, LOOKING, calls)?;
+        }
+    }
+    Ok(())
+}
+
+/// A journal in which 1,000 uses of one object go on.
+fn thousand_uses<R: Threads + Wait + Sync>(rt: &R, alloc: Global) -> Result<Vec<u8>, Fail> {
+    let mut script = String::from_str(alloc, "client 0\nsubject a\nobject x\nset o x most 1000\n")?;
+    for _ in 0..1000u32 {
+        script.push_str("try a use x\n")?;
+    }
+    let uses = document(alloc, CAPPED, script.as_bytes())?;
+    let disk = stopping(alloc, b"", None)?;
+    let end = over(rt, alloc, "play", &uses, disk, &OpenGate)?;
+    Ok(Vec::from_slice(alloc, end.disk.contents())?)
+}
+
+/// With how many calls of its disk a file is opened, which are fewer than 16,384: with one less there is a disk fault.
+fn calls_of_opening<R: Threads + Wait + Sync>(
+    rt: &R,
+    alloc: Global,
+    file: &[u8],
+    document: &[u8],
+) -> Result<u64, Fail> {
+    let (mut low, mut high) = (0u64, 16_384u64);
+    for _ in 0..14u32 {
+        let calls = low.saturating_add(high) / 2;
+        let disk = stopping(alloc, file, Some(calls))?;
+        match over(rt, alloc, "play", document, disk, &OpenGate)?.outcome {
+            Outcome::Done => high = calls,
+            _ => low = calls,
+        }
+    }
+    Ok(high)
+}
+
+/// The number of entries that are found in a file of many uses, behind which the first use goes on or is revoked.
+fn uses_found<R: Threads + Wait + Sync>(
+    rt: &R,
+    alloc: Global,
+    file: Vec<u8>,
+    document: &[u8],
+) -> Result<u64, Fail> {
+    let disk = MemDisk::new(alloc, file, Vec::new(alloc), None);
+    let end = over(rt, alloc, "play", document, disk, &OpenGate)?;
+    if end.output.as_slice() == b"0 1003 status 1 accessing\n".as_slice() {
+        Ok(1003)
+    } else if end.output.as_slice() == b"0 1004 status 1 revoked\n".as_slice() {
+        Ok(1004)
+    } else {
+        Err("another history".into())
+    }
+}
+
+const REVOKING: &[u8] = b"client 0\nset o x most 0\n";
+
+const ASKING: &[u8] = b"client 0\nlook 1\n";
+
+/// What a crash leaves of the step that revokes 1,000 uses, on a disk that stops after so many calls: all of it or nothing, and all of it once
+/// it was answered.
+fn hold_cascade<R: Abort + Threads + Wait + Sync>(
+    rt: &R,
+    alloc: Global,
+    before: &[u8],
+    whole: &End,
+    calls: u64,
+) -> Result<(), Fail> {
+    let step = document(alloc, CAPPED, REVOKING)?;
+    let asking = document(alloc, CAPPED, ASKING)?;
+    let end = over(
+        rt,
+        alloc,
+        "play",
+        &step,
+        stopping(alloc, before, Some(calls))?,
+        &OpenGate,
+    )?;
+    let (least, greatest) = (before.len() as u64, whole.disk.contents().len() as u64);
+    let is_answered = end.output == whole.output;
+    for fill in [0u8, 1, 255] {
+        let mut fills = Vec::new(alloc);
+        fills.resize(greatest as usize, fill)?;
+        for len in [least, least.saturating_add(greatest) / 2, greatest] {
+            if let Some(image) = end.disk.image(len, &fills)? {
+                let found = uses_found(rt, alloc, image, &asking)?;
+                assert!(rt;
+                    found == 1004 || !is_answered,
+                    "stopped after {calls} calls, {len} bytes, filled with {fill}"
+                );
+            }
+        }
+    }
+    Ok(())
+}
+
+/// On a disk that stops after each of the step's calls.
+#[test]
+fn a_large_cascade_is_found_whole_or_not_at_all(rt: HostRuntime) -> Result<(), Fail> {
+    let alloc = rt.alloc();
+    let before = thousand_uses(&rt, alloc)?;
+    let step = document(alloc, CAPPED, REVOKING)?;
+    let disk = stopping(alloc, &before, None)?;
+    let whole = over(&rt, alloc, "play", &step, disk, &OpenGate)?;
+    assert!(rt;
+        whole
+            .output
+            .starts_with(b"0 1004 ok revoked 1 cap revoked 2 cap ".as_slice())
+    );
+    let opening = calls_of_opening(&rt, alloc, &before, &document(alloc, CAPPED, ASKING)?)?;
+    for calls in opening..opening.saturating_add(6) {
+        hold_cascade(&rt, alloc, &before, &whole, calls)?;
+    }
+    Ok(())
+}

@@ -1,0 +1,74 @@
+//! Policies, as they are written and as they are printed.
+
+use std::alloc::Global;
+use std::test::Fail;
+use ucon_print::policy_text;
+use ucon_syntax::read_policy;
+
+fn printed(alloc: Global, written: &[u8]) -> Result<Vec<u8>, Fail> {
+    Ok(policy_text(alloc, &read_policy(alloc, written)?)?)
+}
+
+/// A right without items has two lines, and a difference on the right has brackets.
+#[test]
+fn rights_are_printed(rt: HostRuntime) -> Result<(), Fail> {
+    let rights: [(&[u8], &[u8]); 2] = [
+        (b"right r {}", b"right r {\n}\n"),
+        (
+            b"right r { before s.credit = s.credit - (2 - -3); }",
+            b"right r {\n  before s.credit = s.credit - (2 - -3);\n}\n",
+        ),
+    ];
+    for (written, wanted) in rights {
+        assert!(rt;
+            printed(rt.alloc(), written)?.as_slice() == wanted,
+            "{wanted:?}"
+        );
+    }
+    Ok(())
+}
+
+/// A condition, as it is written and as it is printed.
+const CONDITIONS: [(&str, &str); 16] = [
+    ("1 - 2 - 3 = 0", "1 - 2 - 3 = 0"),
+    ("1 - (2 - 3) = 0", "1 - (2 - 3) = 0"),
+    ("(1 - 2) - 3 = 0", "1 - 2 - 3 = 0"),
+    ("1 - (2 + 3) = 0", "1 - (2 + 3) = 0"),
+    ("2 * (3 * 4) = 0", "2 * (3 * 4) = 0"),
+    ("(2 * 3) * 4 = 0", "2 * 3 * 4 = 0"),
+    ("(1 + 2) * 3 = 0", "(1 + 2) * 3 = 0"),
+    ("1 + (2 * 3) = 0", "1 + 2 * 3 = 0"),
+    ("size((({}))) <= - 3", "size({}) <= -3"),
+    ("not [ 1 = 1 ]", "not 1 = 1"),
+    ("not not 1 = 1", "not not 1 = 1"),
+    ("not [ 1 = 1 and 2 = 2 ]", "not [ 1 = 1 and 2 = 2 ]"),
+    ("[ 1 = 1 and 2 = 2 ] or 3 = 3", "1 = 1 and 2 = 2 or 3 = 3"),
+    (
+        "1 = 1 and [ 2 = 2 or lasts 3 ]",
+        "1 = 1 and [ 2 = 2 or lasts 3 ]",
+    ),
+    ("1 = 1 or [ 2 = 2 or 3 = 3 ]", "1 = 1 or [ 2 = 2 or 3 = 3 ]"),
+    ("\"a\" in { \"a\" , \"b\" }", "\"a\" in {\"a\", \"b\"}"),
+];
+
+fn right_with(alloc: Global, condition: &str) -> Result<Vec<u8>, Fail> {
+    let mut text = Vec::from_slice(alloc, b"right r {\n  on c p: ")?;
+    text.extend_from_slice(condition.as_bytes())?;
+    text.extend_from_slice(b";\n}\n")?;
+    Ok(text)
+}
+
+/// Whether a condition is printed so, and what is printed is printed again as it is.
+fn is_printed(alloc: Global, written: &str, wanted: &str) -> Result<bool, Fail> {
+    let wanted = right_with(alloc, wanted)?;
+    let first = printed(alloc, &right_with(alloc, written)?)?;
+    Ok(first == wanted && printed(alloc, &first)? == wanted)
+}
+
+#[test]
+fn printings_are_read_and_printed_again(rt: HostRuntime) -> Result<(), Fail> {
+    for (written, wanted) in CONDITIONS {
+        assert!(rt; is_printed(rt.alloc(), written, wanted)?, "{written}");
+    }
+    Ok(())
+}

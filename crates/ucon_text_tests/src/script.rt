@@ -1,0 +1,223 @@
+use std::alloc::Global;
+use std::process::Abort;
+use std::test::Fail;
+use ucon_command::LineFault;
+use ucon_model::{Caller, Command};
+use ucon_script::{DocFault, Document, Line, Script, policy_part, read_document, read_script};
+
+/// What a document may have.
+const MOST_BYTES: usize = 4_194_304;
+
+#[test]
+fn policy_parts(rt: HostRuntime) {
+    let cases: [(&[u8], &[u8]); 13] = [
+        (b"", b""),
+        (b"%%", b""),
+        (b"%%\n", b""),
+        (b"a", b"a"),
+        (b"a\n", b"a\n"),
+        (b"a\n%%", b"a\n"),
+        (b"a\n%%\nb\n", b"a\n"),
+        (b"\n\n%%\n", b"\n\n"),
+        (b"a\n%%\n%%\n", b"a\n"),
+        (b"a\n%%\r\nb\n", b"a\n%%\r\nb\n"),
+        (b"a\n%% \nb", b"a\n%% \nb"),
+        (b"a%%\n%\n", b"a%%\n%\n"),
+        (b"a\n%%%\n%%\nb", b"a\n%%%\n"),
+    ];
+    for (text, part) in cases {
+        assert!(rt; policy_part(text) == part, "{text:?}");
+    }
+}
+
+/// A line's number, its client, and the session that it looks at; 0 for another command.
+fn seen(line: &Line) -> (u32, u8, u32) {
+    match line.command {
+        Command::Look(session) => (line.number, line.caller.0, session),
+        _ => (line.number, line.caller.0, 0),
+    }
+}
+
+fn all_seen(alloc: Global, document: &Document) -> Result<Vec<(u32, u8, u32)>, Fail> {
+    let mut all = Vec::new(alloc);
+    for line in document.lines.slice() {
+        all.push(seen(line))?;
+    }
+    Ok(all)
+}
+
+fn all_seen_in_place(alloc: Global, script: &Script<'_>) -> Result<Vec<(u32, u8, u32)>, Fail> {
+    let mut all = Vec::new(alloc);
+    for text in script.lines.slice() {
+        all.push(seen(&text.line(alloc)?))?;
+    }
+    Ok(all)
+}
+
+#[test]
+fn lines_stand_where_they_are(rt: HostRuntime) -> Result<(), Fail> {
+    let text = b"right r {}\n%%\n\nclient 3\nlook 7\n# look 8\nend 1".as_slice();
+    match read_script(rt.alloc(), text) {
+        Ok(script) => match script.lines.slice() {
+            [first, second] => {
+                assert!(rt; first.command.text == b"look 7".as_slice());
+                assert!(rt; second.command.text == b"end 1".as_slice());
+                assert_eq!(rt; (first.number, second.number), (5, 7));
+                assert_eq!(rt; (first.caller, second.caller), (Caller(3), Caller(3)));
+            }
+            lines => assert!(rt; false, "{lines:?}"),
+        },
+        Err(fault) => assert!(rt; false, "{fault:?}"),
+    }
+    Ok(())
+}
+
+#[test]
+fn lines_have_their_numbers_and_clients(rt: HostRuntime) -> Result<(), Fail> {
+    let alloc = rt.alloc();
+    let cases: [(&[u8], &[(u32, u8, u32)]); 13] = [
+        (b"", &[]),
+        (b"right r {}\nclient 1\nlook 1\n", &[]),
+        (b"a\n%%", &[]),
+        (b"%%\nclient 1", &[]),
+        (b"%%\nclient 1\nlook 1", &[(3, 1, 1)]),
+        (b"%%\nclient 63\nlook 1\n", &[(3, 63, 1)]),
+        (b"a\n\n%%\nclient 5\nlook 1\n", &[(5, 5, 1)]),
+        (b"%%\r\n%%\nclient 1\nlook 1\n", &[(4, 1, 1)]),
+        (b"%%\n\n#\nclient 1\n\n# look 9\nlook 1\n", &[(7, 1, 1)]),
+        (b"%%\nclient 0\nclient 2\nlook 1\n", &[(4, 2, 1)]),
+        (
+            b"%%\nclient 1\nlook 1\nclient 0\nlook 2\nclient 1\nlook 3",
+            &[(3, 1, 1), (5, 0, 2), (7, 1, 3)],
+        ),
+        (
+            b"%%\nclient 10\nlook 1\nlook 2\n#client 2\nlook 3",
+            &[(3, 10, 1), (4, 10, 2), (6, 10, 3)],
+        ),
+        (b"%%\nclient 0\nsubject ann\n", &[(3, 0, 0)]),
+    ];
+    for (text, lines) in cases {
+        assert!(rt; text.len() <= MOST_BYTES);
+        match read_document(alloc, text) {
+            Ok(document) => {
+                assert!(rt; all_seen(alloc, &document)?.as_slice() == lines, "{text:?}");
+            }
+            Err(fault) => assert!(rt; false, "{text:?} {fault:?}"),
+        }
+        match read_script(alloc, text) {
+            Ok(script) => {
+                assert!(rt;
+                    all_seen_in_place(alloc, &script)?.as_slice() == lines,
+                    "{text:?}"
+                );
+            }
+            Err(fault) => assert!(rt; false, "{text:?} {fault:?}"),
+        }
+    }
+    Ok(())
+}
+
+fn fault(alloc: Global, rt: &impl Abort, text: &[u8]) -> Option<DocFault> {
+    assert!(rt; text.len() <= MOST_BYTES);
+    read_document(alloc, text).err()
+}
+
+#[test]
+fn the_first_refusal_decides(rt: HostRuntime) {
+    let cases: [(&[u8], DocFault); 31] = [
+        (b"%%\nclient 64", DocFault::TooManyClients(2)),
+        (b"%%\nclient 100\n", DocFault::TooManyClients(2)),
+        (b"%%\nclient 640", DocFault::TooManyClients(2)),
+        (
+            b"%%\n\nclient 123456789012345678901234567890\n",
+            DocFault::TooManyClients(3),
+        ),
+        (b"%%\nclient 064", DocFault::BadHeading(2)),
+        (b"%%\nclient 01", DocFault::BadHeading(2)),
+        (b"%%\nclient 00", DocFault::BadHeading(2)),
+        (
+            b"%%\nclient 012345678901234567890123456789",
+            DocFault::BadHeading(2),
+        ),
+        (b"%%\nclient", DocFault::BadHeading(2)),
+        (b"%%\nclient ", DocFault::BadHeading(2)),
+        (b"%%\nclient  1", DocFault::BadHeading(2)),
+        (b"%%\nclient 1 ", DocFault::BadHeading(2)),
+        (b"%%\nclient 64 ", DocFault::BadHeading(2)),
+        (b"%%\nclient 64 x", DocFault::BadHeading(2)),
+        (b"%%\nclient -1", DocFault::BadHeading(2)),
+        (b"%%\nclient +1", DocFault::BadHeading(2)),
+        (b"%%\nclient x", DocFault::BadHeading(2)),
+        (b"%%\nclient 1\r\nlook 1\n", DocFault::BadHeading(2)),
+        (b"%%\ntick 1", DocFault::BadHeading(2)),
+        (b"%%\n \n", DocFault::BadHeading(2)),
+        (b"%%\nclients 3", DocFault::BadHeading(2)),
+        (
+            b"%%\nclient 0\nclients 3",
+            DocFault::BadLine(3, LineFault::UnknownWord),
+        ),
+        (
+            b"%%\nclient 0\nfly a",
+            DocFault::BadLine(3, LineFault::UnknownWord),
+        ),
+        (
+            b"%%\nclient 0\n%%\nclient 0\n",
+            DocFault::BadLine(3, LineFault::UnknownWord),
+        ),
+        (
+            b"%%\nclient 0\n \n",
+            DocFault::BadLine(3, LineFault::NoWord),
+        ),
+        (
+            b"%%\nclient 0\n client 1\n",
+            DocFault::BadLine(3, LineFault::NoWord),
+        ),
+        (
+            b"%%\nclient 0\nend",
+            DocFault::BadLine(3, LineFault::WrongCount(1)),
+        ),
+        (
+            b"%%\nclient 0\nlook 1\r\n",
+            DocFault::BadLine(3, LineFault::BadWord(5)),
+        ),
+        (
+            b"%%\nclient 0\n\n#\nend x\nclient 64\n",
+            DocFault::BadLine(5, LineFault::BadWord(4)),
+        ),
+        (
+            b"%%\nclient 64\nclient 0\nfly a",
+            DocFault::TooManyClients(2),
+        ),
+        (b"%%\nlook 1\nclient 64", DocFault::BadHeading(2)),
+    ];
+    for (text, first) in cases {
+        assert_eq!(rt; fault(rt.alloc(), &rt, text), Some(first), "{text:?}");
+    }
+}
+
+#[test]
+fn as_many_lines_and_bytes_as_there_may_be(rt: HostRuntime) -> Result<(), Fail> {
+    let alloc = rt.alloc();
+    let mut text = Vec::from_slice(alloc, b"%%\nclient 1\n")?;
+    for _ in 0..262_144 {
+        text.extend_from_slice(b"look 1\n")?;
+    }
+    assert_eq!(rt; fault(alloc, &rt, &text), None);
+    text.extend_from_slice(b"#\nclient 2\n\nfly\nclient 64\n")?;
+    assert_eq!(rt;
+        fault(alloc, &rt, &text),
+        Some(DocFault::TooManyLines(262_150))
+    );
+
+    let mut text = Vec::from_slice(alloc, b"%%\n")?;
+    for _ in 0..4_194_292 {
+        text.push(b'\n')?;
+    }
+    text.extend_from_slice(b"client 64")?;
+    assert_eq!(rt; text.len(), MOST_BYTES);
+    assert_eq!(rt;
+        fault(alloc, &rt, &text),
+        Some(DocFault::TooManyClients(4_194_294))
+    );
+    Ok(())
+}

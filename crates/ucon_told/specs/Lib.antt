@@ -1,0 +1,4 @@
+pub mod Facts
+pub mod Explanation
+pub mod Told
+pub mod Worth

@@ -1,0 +1,163 @@
+//! What expressions are worth to the checker, which has an evaluation of its own. No memory is taken: texts and sets are lent.
+
+ghost use Rattle.std.specs.Prelude.{◌≡◌, pos, length, true, false, option_copied};
+ghost use Rattle.ucon_base.specs.declared.value.Value.TheVariants.{Int as IntValue};
+ghost use Rattle.ucon_base.specs.Arithmetic.{sum_of, difference_of, product_of, size_of, same_value, same_texts};
+ghost use Rattle.ucon_model.specs.Comparison.{compares};
+ghost use Rattle.ucon_told.specs.Worth.{worth_value};
+ghost use Rattle.ucon_asked.specs.Sums.{is_set_and_text, is_order, is_same_text};
+
+use ucon_base::{Int, Text, TextSet, Value};
+use ucon_model::Op;
+
+/// A value that is read where it lies.
+#[derive(Debug, Drop)]
+pub enum Worth<'a> {
+    Int(Int),
+    Text(&'a Text),
+    Set(&'a TextSet),
+}
+
+impl<'a> Worth<'a> {
+    pub fn of(value: &'a Value) -> Worth<'a>
+        ensures { worth_value result ≡ value.now }
+    {
+        match value {
+            Value::Int(n) => Worth::Int(*n),
+            Value::Text(t) => Worth::Text(t),
+            Value::Set(s) => Worth::Set(s),
+        }
+    }
+
+    /// The same worth once more.
+    fn again(&self) -> Worth<'a>
+        ensures { worth_value result ≡ worth_value self.now }
+    {
+        match self {
+            Worth::Int(n) => Worth::Int(*n),
+            Worth::Text(t) => Worth::Text(t),
+            Worth::Set(s) => Worth::Set(s),
+        }
+    }
+
+    /// The sum. No set grows.
+    pub fn plus(&self, other: &Worth<'a>) -> Worth<'a>
+        requires { is_set_and_text (worth_value self.now) (worth_value other.now) ≡ false }
+        ensures { worth_value result ≡ sum_of (worth_value self.now) (worth_value other.now) }
+    {
+        match (self, other) {
+            (Worth::Int(a), Worth::Int(b)) => Worth::Int(a.add(*b)),
+            _ => self.again(),
+        }
+    }
+
+    /// The difference. No set shrinks.
+    pub fn minus(&self, other: &Worth<'a>) -> Worth<'a>
+        requires { is_set_and_text (worth_value self.now) (worth_value other.now) ≡ false }
+        ensures { worth_value result ≡ difference_of (worth_value self.now) (worth_value other.now) }
+    {
+        match (self, other) {
+            (Worth::Int(a), Worth::Int(b)) => Worth::Int(a.sub(*b)),
+            _ => self.again(),
+        }
+    }
+
+    /// The product.
+    pub fn times(&self, other: &Worth<'a>) -> Worth<'a>
+        ensures { worth_value result ≡ product_of (worth_value self.now) (worth_value other.now) }
+    {
+        match (self, other) {
+            (Worth::Int(a), Worth::Int(b)) => Worth::Int(a.mul(*b)),
+            _ => self.again(),
+        }
+    }
+
+    /// How many texts a set has.
+    pub fn size(&self) -> Worth<'a>
+        ensures { worth_value result ≡ size_of (worth_value self.now) }
+    {
+        match self {
+            Worth::Set(s) => Worth::Int(size_of_set(s)),
+            _ => self.again(),
+        }
+    }
+
+    pub fn equals(&self, other: &Worth<'a>) -> bool
+        ensures { result ≡ same_value (worth_value self.now) (worth_value other.now) }
+    {
+        match (self, other) {
+            (Worth::Int(a), Worth::Int(b)) => a == b,
+            (Worth::Text(a), Worth::Text(b)) => *a == *b,
+            (Worth::Set(a), Worth::Set(b)) => are_same_texts(a, b),
+            _ => false,
+        }
+    }
+
+    /// Whether the two compare so.
+    pub fn compares(&self, op: Op, other: &Worth<'a>) -> bool
+        ensures { result ≡ compares op (worth_value self.now) (worth_value other.now) }
+    {
+        match op {
+            Op::Eq => self.equals(other),
+            Op::Ne => !self.equals(other),
+            Op::Member => self.is_in(other),
+            _ => self.is_ordered(op, other),
+        }
+    }
+
+    /// Whether it is a text of the set.
+    fn is_in(&self, set: &Worth<'a>) -> bool
+        ensures { result ≡ compares Op.Member (worth_value self.now) (worth_value set.now) }
+    {
+        match (self, set) {
+            (Worth::Text(t), Worth::Set(s)) => s.has(t),
+            _ => false,
+        }
+    }
+
+    /// Whether two integers stand in this order.
+    fn is_ordered(&self, op: Op, other: &Worth<'a>) -> bool
+        requires { is_order op ≡ true }
+        ensures { result ≡ compares op (worth_value self.now) (worth_value other.now) }
+    {
+        match (self, other) {
+            (Worth::Int(a), Worth::Int(b)) => match op {
+                Op::Lt => a.is_below(*b),
+                Op::Le => a.is_at_most(*b),
+                Op::Gt => b.is_below(*a),
+                _ => b.is_at_most(*a),
+            },
+            _ => false,
+        }
+    }
+}
+
+pub fn size_of_set(s: &TextSet) -> Int
+    ensures { result ≡ pos (length s.now) }
+{
+    Int::new(s.slice().len() as i64).unwrap_or(Int::zero())
+}
+
+/// Whether two sets have the same texts.
+fn are_same_texts(a: &TextSet, b: &TextSet) -> bool
+    ensures { result ≡ same_texts a.now b.now }
+{
+    if a.size() != b.size() {
+        return false;
+    }
+    for i in 0..a.size() {
+        if !are_same_text(a.at(i), b.at(i)) {
+            return false;
+        }
+    }
+    true
+}
+
+fn are_same_text(a: Option<&Text>, b: Option<&Text>) -> bool
+    ensures { result ≡ is_same_text (option_copied a.entry) (option_copied b.entry) }
+{
+    match (a, b) {
+        (Some(t), Some(u)) => t == u,
+        _ => false,
+    }
+}

@@ -1,5 +1,0 @@
-use Rattle.ucon_top.proofs.Out.{goes_behind}
-use Rattle.ucon_top.proofs.printing.put_name.Goals as goal
-
-pub returns : goal.returns
-returns g c = rw (← c.bytes.ensures.bytes) (goes_behind _ _ _ _ _ _ _ _ _ _ c.in_ok-put.ensures c.put-2.ensures)

@@ -1,0 +1,101 @@
+//! Checkpoints in the midst of a history: the replies behind them are as without them.
+
+use crate::runs::{disk_of, ran};
+use std::alloc::Global;
+use std::str;
+use std::sync::Wait;
+use std::test::Fail;
+use std::thread::Threads;
+use ucon_cases::{FILLED, WAITED, WAITED_OUTPUT, WAITING, ticks_around_a_checkpoint};
+use ucon_flow::{MemSink, MemSource};
+use ucon_vectors::{CAPPED, document};
+
+/// What a form writes over a document and a file, and the file that it leaves. It has to end well.
+fn over<R: Threads + Wait + Sync>(
+    rt: &R,
+    alloc: Global,
+    form: &str,
+    document: &[u8],
+    file: &[u8],
+) -> Result<(Vec<u8>, Vec<u8>), Fail> {
+    let source = MemSource::new(Vec::from_slice(alloc, document)?, 4096, Vec::new(alloc));
+    let sink = MemSink::new(alloc, 4096, Vec::new(alloc));
+    let end = ran(
+        rt,
+        alloc,
+        &[form, "j"],
+        source,
+        sink,
+        disk_of(alloc, file, &[])?,
+    )?;
+    if end.status != 0 {
+        return Err("status".into());
+    }
+    let left = Vec::from_slice(alloc, end.disk.contents())?;
+    Ok((end.output, left))
+}
+
+#[test]
+fn ticks_are_counted_over_a_checkpoint(rt: HostRuntime) -> Result<(), Fail> {
+    let mut file = Vec::new(rt.alloc());
+    for part in ticks_around_a_checkpoint() {
+        let (output, left) = over(&rt, rt.alloc(), part.form, part.document, &file)?;
+        assert_eq!(rt; output.as_slice(), part.output);
+        file = left;
+    }
+    Ok(())
+}
+
+/// The file that is left where one use is tried so many times, behind these lines, over a file.
+fn repeated<R: Threads + Wait + Sync>(
+    rt: &R,
+    alloc: Global,
+    file: &[u8],
+    first: &str,
+    times: u32,
+) -> Result<Vec<u8>, Fail> {
+    let mut script = String::from_str(alloc, first)?;
+    for _ in 0..times {
+        script.push_str("try a use x\n")?;
+    }
+    let uses = document(alloc, CAPPED, script.as_bytes())?;
+    Ok(over(rt, alloc, "play", &uses, file)?.1)
+}
+
+const THREE: &str = "client 0\nsubject a\nobject x\nset o x most 1000\n";
+
+/// A thousand uses are revoked by one step, whether a checkpoint stands behind the first 500 entries or not.
+#[test]
+fn a_cascade_goes_back_over_a_checkpoint(rt: HostRuntime) -> Result<(), Fail> {
+    let alloc = rt.alloc();
+    let first = repeated(&rt, alloc, b"", THREE, 497)?;
+    let (told, pointed) = over(&rt, alloc, "point", CAPPED, &first)?;
+    let revoking = document(alloc, CAPPED, b"client 0\nset o x most 0\n")?;
+    let with = repeated(&rt, alloc, &pointed, "client 0\n", 503)?;
+    let without = repeated(&rt, alloc, &first, "client 0\n", 503)?;
+    let one = over(&rt, alloc, "play", &revoking, &with)?.0;
+    let other = over(&rt, alloc, "play", &revoking, &without)?.0;
+    assert_eq!(rt; told.as_slice(), b"point 500\n".as_slice());
+    assert!(rt; one.starts_with(b"0 1004 ok revoked 1 cap revoked 2 cap ".as_slice()));
+    assert_eq!(rt; one, other);
+    Ok(())
+}
+
+/// As many uses go on as may, and one with a higher number waits.
+#[test]
+fn a_full_state_is_checkpointed(rt: HostRuntime) -> Result<(), Fail> {
+    let alloc = rt.alloc();
+    let mut script = String::from_str(alloc, "client 0\nsubject a\nobject x\ntry a wait x\n")?;
+    for _ in 0..65_535u32 {
+        script.push_str("try a use x\n")?;
+    }
+    script.push_str(str::from_utf8(FILLED).map_err(|_| "text")?)?;
+    let full = document(alloc, WAITING, script.as_bytes())?;
+    let file = over(&rt, alloc, "play", &full, b"")?.1;
+    let (told, pointed) = over(&rt, alloc, "point", WAITING, &file)?;
+    let waited = document(alloc, WAITING, WAITED)?;
+    let output = over(&rt, alloc, "play", &waited, &pointed)?.0;
+    assert_eq!(rt; told.as_slice(), b"point 65541\n".as_slice());
+    assert_eq!(rt; output.as_slice(), WAITED_OUTPUT);
+    Ok(())
+}

@@ -1,0 +1,156 @@
+//! Hostile input, and calls that fail: each is answered, and nothing that stands in a journal is lost.
+
+use crate::journals::first_wrong;
+use crate::runs::{End, disk_of, no_disk, ran, same};
+use std::alloc::Global;
+use std::sync::Wait;
+use std::test::Fail;
+use std::thread::Threads;
+use ucon_cases::{Limit, Repeated, WITH_A, WITHOUT_ENTRIES, hostile_documents, hostile_journals};
+use ucon_flow::{MemSink, MemSource};
+use ucon_vectors::{Row, document, worked_rows};
+
+fn bytes_of(alloc: Global, document: &Repeated) -> Result<Vec<u8>, Fail> {
+    let mut bytes = Vec::from_slice(alloc, document.front)?;
+    for _ in 0..document.times {
+        bytes.extend_from_slice(document.part)?;
+    }
+    bytes.extend_from_slice(document.back)?;
+    Ok(bytes)
+}
+
+/// A line so often.
+fn lines_of(alloc: Global, line: &[u8], times: u32) -> Result<Vec<u8>, Fail> {
+    let mut bytes = Vec::new(alloc);
+    for _ in 0..times {
+        bytes.extend_from_slice(line)?;
+    }
+    Ok(bytes)
+}
+
+/// What doesn't come out as a row says.
+fn wrong_part<R: Threads + Wait + Sync>(
+    rt: &R,
+    alloc: Global,
+    row: &Limit,
+) -> Result<Option<&'static str>, Fail> {
+    let source = MemSource::new(bytes_of(alloc, &row.document)?, 4096, Vec::new(alloc));
+    let sink = MemSink::new(alloc, 4096, Vec::new(alloc));
+    let end = ran(rt, alloc, &[row.form], source, sink, no_disk(alloc))?;
+    let told = if row.status == 0 {
+        b"".as_slice()
+    } else {
+        row.line
+    };
+    if end.status != row.status {
+        return Ok(Some("status"));
+    }
+    if end.output != lines_of(alloc, row.line, row.lines)? {
+        return Ok(Some("output"));
+    }
+    if !same(&end.told, told) || !end.disk.contents().is_empty() {
+        return Ok(Some("told or left"));
+    }
+    Ok(None)
+}
+
+/// What is at a limit is accepted, and one more is refused at its place. The longest documents want minutes where each step is checked, as by
+/// `rt try`.
+#[test]
+fn limits_are_met_exactly(rt: HostRuntime) -> Result<(), Fail> {
+    for row in hostile_documents() {
+        let wrong = wrong_part(&rt, rt.alloc(), &row)?;
+        assert_eq!(rt; wrong, None, "{}", row.name);
+    }
+    Ok(())
+}
+
+/// How `play` ends over a file, on a disk that doesn't fail.
+fn played<R: Threads + Wait + Sync>(
+    rt: &R,
+    alloc: Global,
+    document: &[u8],
+    file: &[u8],
+    sink: MemSink,
+) -> Result<End, Fail> {
+    let source = MemSource::new(Vec::from_slice(alloc, document)?, 4096, Vec::new(alloc));
+    let disk = disk_of(alloc, file, &[])?;
+    ran(rt, alloc, &["play", "j"], source, sink, disk)
+}
+
+/// Whether a small journal that is cut to a length is opened as one without entries.
+fn is_emptied<R: Threads + Wait + Sync>(rt: &R, alloc: Global, len: usize) -> Result<bool, Fail> {
+    let mut file = Vec::from_slice(alloc, WITH_A)?;
+    file.truncate(len);
+    let sink = MemSink::new(alloc, 1, Vec::new(alloc));
+    let end = played(rt, alloc, b"right r {}\n", &file, sink)?;
+    Ok(end.status == 0 && same(end.disk.contents(), WITHOUT_ENTRIES))
+}
+
+/// What is damaged or another's is left as it was; what is no whole record is cut off.
+#[test]
+fn files_are_judged_by_what_they_hold(rt: HostRuntime) -> Result<(), Fail> {
+    let alloc = rt.alloc();
+    let wrong = first_wrong(&rt, alloc, &hostile_journals())?;
+    assert_eq!(rt; wrong, None);
+    for len in 0..44usize {
+        assert!(rt; is_emptied(&rt, alloc, len)?, "cut to {len} bytes");
+    }
+    Ok(())
+}
+
+/// Whether `play` does nothing where this call of the source fails, and every call of the disk would. The source gives a byte a call.
+fn is_unread<R: Threads + Wait + Sync>(
+    rt: &R,
+    alloc: Global,
+    document: &[u8],
+    call: u64,
+) -> Result<bool, Fail> {
+    let bytes = Vec::from_slice(alloc, document)?;
+    let source = MemSource::new(bytes, 1, Vec::from_slice(alloc, &[call])?);
+    let sink = MemSink::new(alloc, 1, Vec::new(alloc));
+    let end = ran(rt, alloc, &["play", "j"], source, sink, no_disk(alloc))?;
+    Ok(end.status == 4 && end.output.is_empty())
+}
+
+/// Whether all is done where this call of the sink fails, and the front of the output went out. The sink takes a byte a call.
+fn is_unwritten<R: Threads + Wait + Sync>(
+    rt: &R,
+    alloc: Global,
+    row: &Row,
+    left: &[u8],
+    call: usize,
+) -> Result<bool, Fail> {
+    let sink = MemSink::new(alloc, 1, Vec::from_slice(alloc, &[call as u64])?);
+    let end = played(
+        rt,
+        alloc,
+        &document(alloc, row.policy, row.script)?,
+        b"",
+        sink,
+    )?;
+    let is_front = end.output.len() == call && row.output.starts_with(end.output.as_slice());
+    Ok(end.status == 5 && is_front && same(end.disk.contents(), left))
+}
+
+/// Where a read fails nothing is done; where a write fails all is, and the front of the output went out.
+#[test]
+fn each_call_may_fail(rt: HostRuntime) -> Result<(), Fail> {
+    let alloc = rt.alloc();
+    let music = worked_rows()[0];
+    let whole = document(alloc, music.policy, music.script)?;
+    for call in 0..=whole.len() {
+        assert!(rt; is_unread(&rt, alloc, &whole, call as u64)?, "read {call}");
+    }
+    let sink = MemSink::new(alloc, 1, Vec::new(alloc));
+    let end = played(&rt, alloc, &whole, b"", sink)?;
+    assert!(rt; same(&end.output, music.output));
+    let left = end.disk.contents();
+    for call in 0..music.output.len() {
+        assert!(rt;
+            is_unwritten(&rt, alloc, &music, left, call)?,
+            "write {call}"
+        );
+    }
+    Ok(())
+}

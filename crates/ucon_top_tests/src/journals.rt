@@ -1,0 +1,96 @@
+//! Documents over journals, and what the files hold behind them.
+
+use crate::runs::{End, disk_of, ran, same};
+use std::alloc::Global;
+use std::sync::Wait;
+use std::test::Fail;
+use std::thread::Threads;
+use ucon_cases::{Played, played_rows, pointed_rows};
+use ucon_flow::{MemSink, MemSource};
+use ucon_vectors::{Row, amended_rows, document};
+
+/// How a row's form ends over its document and its file.
+fn played<R: Threads + Wait + Sync>(rt: &R, alloc: Global, row: &Played) -> Result<End, Fail> {
+    let bytes = Vec::from_slice(alloc, row.document)?;
+    let source = MemSource::new(bytes, 7, Vec::new(alloc));
+    let sink = MemSink::new(alloc, 1, Vec::from_slice(alloc, row.sink_faults)?);
+    let disk = disk_of(alloc, row.file, row.disk_faults)?;
+    ran(rt, alloc, &[row.form, "j"], source, sink, disk)
+}
+
+/// What doesn't come out as the first wrong row says, and this row.
+pub fn first_wrong<R: Threads + Wait + Sync>(
+    rt: &R,
+    alloc: Global,
+    rows: &[Played],
+) -> Result<Option<(&'static str, &'static str)>, Fail> {
+    for row in rows {
+        let end = played(rt, alloc, row)?;
+        if end.status != row.status {
+            return Ok(Some(("status", row.name)));
+        }
+        if !same(&end.output, row.output) {
+            return Ok(Some(("output", row.name)));
+        }
+        if !same(&end.told, row.told) {
+            return Ok(Some(("told", row.name)));
+        }
+        if !same(end.disk.contents(), row.left) {
+            return Ok(Some(("left", row.name)));
+        }
+    }
+    Ok(None)
+}
+
+#[test]
+fn journals_hold_what_was_acknowledged(rt: HostRuntime) -> Result<(), Fail> {
+    let wrong = first_wrong(&rt, rt.alloc(), &played_rows())?;
+    assert_eq!(rt; wrong, None);
+    Ok(())
+}
+
+/// Checkpoints that are written to a journal, and documents that are played over a journal that has some.
+#[test]
+fn journals_hold_their_checkpoints(rt: HostRuntime) -> Result<(), Fail> {
+    let wrong = first_wrong(&rt, rt.alloc(), &pointed_rows())?;
+    assert_eq!(rt; wrong, None);
+    Ok(())
+}
+
+/// The status of `play` over a document and a file, what it writes, and the file that it leaves.
+fn kept<R: Threads + Wait + Sync>(
+    rt: &R,
+    alloc: Global,
+    document: &[u8],
+    file: &[u8],
+) -> Result<(u8, Vec<u8>, Vec<u8>), Fail> {
+    let source = MemSource::new(Vec::from_slice(alloc, document)?, 7, Vec::new(alloc));
+    let sink = MemSink::new(alloc, 3, Vec::new(alloc));
+    let disk = disk_of(alloc, file, &[])?;
+    let end = ran(rt, alloc, &["play", "j"], source, sink, disk)?;
+    let left = Vec::from_slice(alloc, end.disk.contents())?;
+    Ok((end.status, end.output, left))
+}
+
+/// Whether a row's output is written over a new journal, which opens again as it is, with no lines.
+fn is_found_again<R: Threads + Wait + Sync>(
+    rt: &R,
+    alloc: Global,
+    row: &Row,
+) -> Result<bool, Fail> {
+    let whole = document(alloc, row.policy, row.script)?;
+    let (status, output, file) = kept(rt, alloc, &whole, b"")?;
+    let silent = document(alloc, row.policy, b"")?;
+    let (again, nothing, left) = kept(rt, alloc, &silent, &file)?;
+    let is_played = status == 0 && same(&output, row.output);
+    Ok(is_played && again == 0 && nothing.is_empty() && left == file)
+}
+
+/// Over a new journal policies are replaced as in `trial`.
+#[test]
+fn amended_rows_are_found_again(rt: HostRuntime) -> Result<(), Fail> {
+    for row in amended_rows() {
+        assert!(rt; is_found_again(&rt, rt.alloc(), &row)?, "{}", row.name);
+    }
+    Ok(())
+}

@@ -1,0 +1,297 @@
+//! What the forms without a journal print.
+
+use crate::runs::{alone, no_disk, ran, same};
+use std::alloc::Global;
+use std::sync::Wait;
+use std::test::Fail;
+use std::thread::Threads;
+use ucon_flow::{MemSink, MemSource};
+use ucon_script::{generate, read_script};
+use ucon_vectors::{
+    CAPPED, Example, Row, amended_rows, document, generated_rows, guide_examples,
+    language_examples, timed_rows, typing_faults, well_typed_policies, worked_rows,
+};
+
+/// Whether a form ends with this status over a document and prints this: the output, or with another status than 0 the line of the fault.
+fn prints<R: Threads + Wait + Sync>(
+    rt: &R,
+    alloc: Global,
+    form: &str,
+    document: &[u8],
+    status: u8,
+    text: &[u8],
+) -> Result<bool, Fail> {
+    let end = alone(rt, alloc, form, document)?;
+    let is_printed = if status == 0 {
+        same(&end.output, text)
+    } else {
+        same(&end.told, text)
+    };
+    Ok(end.status == status && is_printed)
+}
+
+/// The first row of which `trial` prints something else.
+fn first_wrong_row<R: Threads + Wait + Sync>(
+    rt: &R,
+    alloc: Global,
+    rows: &[Row],
+) -> Result<Option<&'static str>, Fail> {
+    for row in rows {
+        let document = document(alloc, row.policy, row.script)?;
+        if !prints(rt, alloc, "trial", &document, 0, row.output)? {
+            return Ok(Some(row.name));
+        }
+    }
+    Ok(None)
+}
+
+/// With ample memory. The first run is what refuses a program that answers `no memory` to every line: no clause can.
+#[test]
+fn worked_rows_print_what_they_say(rt: HostRuntime) -> Result<(), Fail> {
+    let wrong = first_wrong_row(&rt, rt.alloc(), &worked_rows())?;
+    assert_eq!(rt; wrong, None);
+    Ok(())
+}
+
+/// Uses that time ends.
+#[test]
+fn timed_rows_print_what_they_say(rt: HostRuntime) -> Result<(), Fail> {
+    let wrong = first_wrong_row(&rt, rt.alloc(), &timed_rows())?;
+    assert_eq!(rt; wrong, None);
+    Ok(())
+}
+
+/// Policies that are replaced while uses go on.
+#[test]
+fn amended_rows_print_what_they_say(rt: HostRuntime) -> Result<(), Fail> {
+    let wrong = first_wrong_row(&rt, rt.alloc(), &amended_rows())?;
+    assert_eq!(rt; wrong, None);
+    Ok(())
+}
+
+/// The first example of which its form prints something else.
+fn first_wrong_example<R: Threads + Wait + Sync>(
+    rt: &R,
+    alloc: Global,
+    examples: &[Example],
+) -> Result<Option<&'static str>, Fail> {
+    for one in examples {
+        if !prints(rt, alloc, one.form, one.document, one.status, one.text)? {
+            return Ok(Some(one.name));
+        }
+    }
+    Ok(None)
+}
+
+/// The user's page of the policy language tells the truth.
+#[test]
+fn the_language_page_tells_what_is_printed(rt: HostRuntime) -> Result<(), Fail> {
+    let wrong = first_wrong_example(&rt, rt.alloc(), &language_examples())?;
+    assert_eq!(rt; wrong, None);
+    Ok(())
+}
+
+/// So do the pages of commands and errors, and the examples to begin with.
+#[test]
+fn the_other_pages_tell_what_is_printed(rt: HostRuntime) -> Result<(), Fail> {
+    let wrong = first_wrong_example(&rt, rt.alloc(), &guide_examples())?;
+    assert_eq!(rt; wrong, None);
+    Ok(())
+}
+
+/// The first policy of which `check` prints something else than the text beside it, or ends with another status.
+fn first_misjudged<R: Threads + Wait + Sync>(
+    rt: &R,
+    alloc: Global,
+    status: u8,
+    policies: &[(&'static str, &'static str)],
+) -> Result<Option<&'static str>, Fail> {
+    for row in policies {
+        let (policy, text) = *row;
+        if !prints(
+            rt,
+            alloc,
+            "check",
+            policy.as_bytes(),
+            status,
+            text.as_bytes(),
+        )? {
+            return Ok(Some(policy));
+        }
+    }
+    Ok(None)
+}
+
+#[test]
+fn typing_faults_come_in_order(rt: HostRuntime) -> Result<(), Fail> {
+    let wrong = first_misjudged(&rt, rt.alloc(), 2, &typing_faults())?;
+    assert_eq!(rt; wrong, None);
+    Ok(())
+}
+
+#[test]
+fn core_models_are_told(rt: HostRuntime) -> Result<(), Fail> {
+    let wrong = first_misjudged(&rt, rt.alloc(), 0, &well_typed_policies())?;
+    assert_eq!(rt; wrong, None);
+    Ok(())
+}
+
+/// A right whose ongoing predicates read all sixteen attributes of each side, and more predicates.
+fn reading_all(alloc: Global, more: &str) -> Result<Vec<u8>, Fail> {
+    let mut text = String::new(alloc);
+    for side in ["s", "o"] {
+        for i in 0..16u32 {
+            text.push_str(format!(in alloc; "attr {side} a{i} : int 0..9 = 0; ")?.as_str())?;
+        }
+    }
+    text.push_str("env e : int 0..9 = 0; right r { ")?;
+    for side in ["s", "o"] {
+        text.push_str(format!(in alloc; "on a {side}: {side}.a0 = {side}.a1")?.as_str())?;
+        for i in 2..16u32 {
+            text.push_str(format!(in alloc; " and {side}.a{i} = {side}.a0")?.as_str())?;
+        }
+        text.push_str("; ")?;
+    }
+    text.push_str(more)?;
+    text.push_str(" }")?;
+    Ok(Vec::from_slice(alloc, text.as_bytes())?)
+}
+
+const TOO_MANY: &[u8] = b"ucon: policy: too many cells r 33\n";
+
+/// 32 places, and one more.
+const PLACES: [(&str, u8, &[u8]); 4] = [
+    ("", 0, b"right r onA0\n"),
+    ("pre c e: env.e = 1;", 0, b"right r onA0 preC0\n"),
+    ("on c e: env.e = 1;", 2, TOO_MANY),
+    ("on c e: env.e = env.e;", 2, TOO_MANY),
+];
+
+#[test]
+fn places_are_counted(rt: HostRuntime) -> Result<(), Fail> {
+    for (more, status, line) in PLACES {
+        let policy = reading_all(rt.alloc(), more)?;
+        assert!(rt;
+            prints(&rt, rt.alloc(), "check", &policy, status, line)?,
+            "{more}"
+        );
+    }
+    Ok(())
+}
+
+/// Core models, and a second refusal of each sort.
+#[test]
+fn other_documents(rt: HostRuntime) -> Result<(), Fail> {
+    let cases: [(&[u8], u8, &[u8]); 3] = [
+        (CAPPED, 0, b"right use onA1 onA3\n"),
+        (b"right r {", 2, b"ucon: policy: unexpected at 9\n"),
+        (
+            b"%%\nclient 1\nlook\n",
+            3,
+            b"ucon: script: wrong count at line 3\n",
+        ),
+    ];
+    for (document, status, text) in cases {
+        assert!(rt;
+            prints(&rt, rt.alloc(), "check", document, status, text)?,
+            "{text:?}"
+        );
+    }
+    Ok(())
+}
+
+/// Words, the calls of the source and of the sink that fail, and the status, the output and the line of the outcome then.
+type Case = (
+    &'static [&'static str],
+    &'static [u64],
+    &'static [u64],
+    u8,
+    &'static [u8],
+    &'static [u8],
+);
+
+/// Faults outside the document.
+const CASES: [Case; 5] = [
+    (&["trial"], &[], &[], 0, b"0 1 ok\n", b""),
+    (&["trial"], &[1], &[], 4, b"", b"ucon: source fault\n"),
+    (&["trial"], &[], &[2], 5, b"0 ", b"ucon: sink fault\n"),
+    (&[], &[], &[], 1, b"", b"ucon: usage\n"),
+    (&["trial", "j"], &[], &[], 1, b"", b"ucon: usage\n"),
+];
+
+/// Whether one subject is answered so.
+fn ends_so<R: Threads + Wait + Sync>(rt: &R, alloc: Global, case: &Case) -> Result<bool, Fail> {
+    let (words, source_faults, sink_faults, status, output, told) = *case;
+    let bytes = Vec::from_slice(alloc, b"%%\nclient 0\nsubject a\n")?;
+    let source = MemSource::new(bytes, 4, Vec::from_slice(alloc, source_faults)?);
+    let sink = MemSink::new(alloc, 1, Vec::from_slice(alloc, sink_faults)?);
+    let end = ran(rt, alloc, words, source, sink, no_disk(alloc))?;
+    Ok(end.status == status && same(&end.output, output) && same(&end.told, told))
+}
+
+#[test]
+fn other_ends(rt: HostRuntime) -> Result<(), Fail> {
+    for case in CASES {
+        assert!(rt; ends_so(&rt, rt.alloc(), &case)?, "{:?}", case.5);
+    }
+    Ok(())
+}
+
+/// An input of one byte too many.
+#[test]
+fn long_input(rt: HostRuntime) -> Result<(), Fail> {
+    let alloc = rt.alloc();
+    let mut bytes = Vec::new(alloc);
+    bytes.resize(4_194_305, b'\n')?;
+    let source = MemSource::new(bytes, 4096, Vec::new(alloc));
+    let sink = MemSink::new(alloc, 1, Vec::new(alloc));
+    let end = ran(&rt, alloc, &["trial"], source, sink, no_disk(alloc))?;
+    assert!(rt; end.status == 11 && end.output.is_empty());
+    Ok(())
+}
+
+/// The status of `gen` over these words, and what it writes. The source would fail if it were read.
+fn generated<R: Threads + Wait + Sync>(
+    rt: &R,
+    alloc: Global,
+    words: &[&str],
+) -> Result<(u8, Vec<u8>), Fail> {
+    let source = MemSource::new(Vec::new(alloc), 7, Vec::from_slice(alloc, &[0])?);
+    let sink = MemSink::new(alloc, 3, Vec::new(alloc));
+    let end = ran(rt, alloc, words, source, sink, no_disk(alloc))?;
+    Ok((end.status, end.output))
+}
+
+#[test]
+fn generated_documents_are_summed(rt: HostRuntime) -> Result<(), Fail> {
+    for row in generated_rows() {
+        let (status, output) = generated(&rt, rt.alloc(), row.words)?;
+        assert!(rt;
+            status == row.status && same(&output, row.output),
+            "{:?}",
+            row.output
+        );
+    }
+    Ok(())
+}
+
+/// The same words make the same document and the same run.
+#[test]
+fn generated_twice(rt: HostRuntime) -> Result<(), Fail> {
+    let (status, first) = generated(&rt, rt.alloc(), &["gen", "7", "20000"])?;
+    let (_, second) = generated(&rt, rt.alloc(), &["gen", "7", "20000"])?;
+    assert!(rt; status == 0 && first.starts_with(b"lines 20025\n".as_slice()));
+    assert!(rt; first == second);
+    Ok(())
+}
+
+/// A small generated document: the opening lines and one more.
+#[test]
+fn a_generated_document(rt: HostRuntime) -> Result<(), Fail> {
+    let text = generate(rt.alloc(), 0, 1)?;
+    match read_script(rt.alloc(), &text) {
+        Ok(script) => assert_eq!(rt; script.lines.len(), 26),
+        Err(fault) => assert!(rt; false, "{fault:?}"),
+    }
+    Ok(())
+}
