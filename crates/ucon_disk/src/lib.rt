@@ -12,4 +12,3 @@ mod replay;
 pub use disk::{Disk, Failed};
 pub use file::FileDisk;
 pub use memory::MemDisk;
-

@@ -11,4 +11,3 @@ mod synced;
 pub use fault::{DiskFault, OpenFault, TakeFault};
 pub use journal::{Journal, MAX_PAYLOAD, reads_back};
 pub use phase::Phase;
-
