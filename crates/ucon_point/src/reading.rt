@@ -36,6 +36,7 @@ pub fn read_point(alloc: Global, bytes: &[u8]) -> Result<Point, PointFault>
     ensures refused { IfErr result (IsNoText bytes.now) }
     ensures held { IfErr result (IsTextOfNothing bytes.now) }
     ensures place { IfErr result (IsRefusedAt bytes.now) }
+    ensures read { MatchResult result (IsRead (point_read bytes.now)) (IsBadAt (point_read bytes.now)) }
 {
     points_are_read_back();
     texts_are_of_rows();
