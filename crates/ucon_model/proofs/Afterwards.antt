@@ -1,6 +1,6 @@
 -- The work that a command's own actions begin, read off the trace after them.
-use Rattle.std.proofs.Common.{◌≡◌, ◌∙◌, ◌⊎◌, inl, inr, ℕ, ◌+◌, Bool, true, false, cond, List, [], ◌∷◌, ◌++◌, refl, sym, ap, subst}
-use Rattle.std.specs.Prelude.{◌≢◌, ◌&&◌, ◌||◌, not, nat_eq, nat_le, int_lt, map, filter, ℤ, Option, Some, None, is_none}
+use Rattle.std.proofs.Common.{◌≡◌, ◌∙◌, ◌⊎◌, inl, inr, ℕ, ◌+◌, Bool, true, false, cond, List, [], ◌∷◌, refl, sym, ap, subst}
+use Rattle.std.specs.Prelude.{◌≢◌, ◌||◌, not, nat_eq, nat_le, int_lt, map, filter, ℤ, Option, Some, None, is_none}
 use Rattle.std.specs.List.{list_any}
 use Rattle.std.specs.Option.{option_map_or}
 use Rattle.std.proofs.lemmas.Bool.Decides.{eqb_tells}
@@ -19,7 +19,6 @@ use Rattle.ucon_model.specs.declared.policy.When.TheVariants.{Before, During, Af
 use Rattle.ucon_model.specs.declared.reply.Head.{Head}
 use Rattle.ucon_model.specs.declared.reply.Head.TheVariants as heads
 use Rattle.ucon_model.specs.declared.session.SessionRow.{SessionRow}
-use Rattle.ucon_model.specs.declared.session.SessionState.TheVariants.{Accessing, Denied, Ended, Revoked}
 use Rattle.ucon_model.specs.declared.session.Verdict.{Verdict}
 use Rattle.ucon_model.specs.declared.session.Verdict.TheVariants.{Permit, Deny, Wait}
 use Rattle.ucon_model.specs.Plain.{Bytes, PlainPolicy, PlainUpdate}
@@ -28,12 +27,12 @@ use Rattle.ucon_model.specs.Readings.{in_force, declared_attr, declared_env, tic
 use Rattle.ucon_model.specs.Truth.{Readings, readings}
 use Rattle.ucon_model.specs.Decision.{right_named, verdict}
 use Rattle.ucon_model.specs.Updates.{session_writes, updates_of, same_when, entity_of}
-use Rattle.ucon_model.specs.OwnActions.{Own, is_admin, refuse, tell, make, by_verdict, decide, end_usage, is_requesting, lacks_right, own}
+use Rattle.ucon_model.specs.OwnActions.{Own, is_admin, make, by_verdict, decide, end_usage, is_requesting, lacks_right, own}
 use Rattle.ucon_model.specs.Settle.{fails_at, revocation}
 use Rattle.ucon_model.specs.Sound.{IsGrounded, IsNumbered, IsTimely}
-use Rattle.ucon_model.specs.Reach.{Location, Timed, attribute_of, variable_of, lasting, owed, is_by_tick, is_ticking, reads_at, readers, replaces, session_targets, target, targets, timed_of}
+use Rattle.ucon_model.specs.Reach.{Location, Timed, attribute_of, variable_of, lasting, owed, is_by_tick, is_ticking, readers, replaces, session_targets, target, targets, timed_of}
 use Rattle.ucon_model.specs.Deadlines.{form_limit, is_due, limit_of, passes}
-use Rattle.ucon_model.specs.Work.{Work, Covers, everybody, joined, nobody, only, own_work, work_after}
+use Rattle.ucon_model.specs.Work.{Work, Covers, joined, only, own_work, work_after}
 use Rattle.ucon_model.specs.Usages.{IsUsageTold, going_on}
 use Rattle.ucon_model.specs.Afterwards.{command_locations, concerned_by, is_timed, permit_locations, permitted_by, work_afterwards}
 use Rattle.ucon_model.proofs.Frames.{in_force-step}

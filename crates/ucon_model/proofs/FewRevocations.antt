@@ -15,13 +15,14 @@ use Rattle.ucon_model.specs.Readings.{in_force, session, sessions, changed_if, i
 use Rattle.ucon_model.specs.Updates.{same_when, write_of, writes, updates_of}
 use Rattle.ucon_model.specs.OwnActions.{Own, refuse, tell, make, own}
 use Rattle.ucon_model.specs.Settle.{least_failing, revocation, settle_within, revoked_in}
-use Rattle.ucon_model.specs.Block.{own_reply, after, block}
+use Rattle.ucon_model.specs.Block.{own_reply, reply, after, block}
 use Rattle.ucon_model.specs.History.{History, trace_from, trace, said}
 use Rattle.ucon_model.specs.Payload.{revocations_in}
+use Rattle.ucon_model.specs.Sound.{IsSound}
 use Rattle.ucon_model.proofs.OwnCases.{OwnHas, tells, makes}
 use Rattle.ucon_model.proofs.Allowed.{IsAllowed, AreAllowed, IsSoundIf, sound-empty, sound-extended}
 use Rattle.ucon_model.proofs.AllowedOwn.{same_below, accessing-tries, allowed-own}
-use Rattle.ucon_model.proofs.Histories.{allowed-block, sound_anyway}
+use Rattle.ucon_model.proofs.Histories.{allowed-block}
 
 -- ---- settling revokes no more than are accessing
 
@@ -118,8 +119,11 @@ few_from P T (e ∷ H) sound few =
     let allowed : AreAllowed ⊥ P T actions = allowed-block ⊥ P T e.caller e.command (λ no. absurd no) sound in
     few_from P (after P T e.caller e.command) H (sound-extended ⊥ P T actions sound allowed) (few-extended ⊥ P T actions allowed few)
 
-pub few_accessing : (P : PlainPolicy) (H : History) → accessing (trace P H) ≤ 65536
-few_accessing P H = few_from P [] H (sound-empty ⊥ P (λ no. absurd no)) (omega arith)
+sound_from : (P : PlainPolicy) (T : Trace) (H : History) → IsSoundIf ⊥ P T → IsSoundIf ⊥ P (trace_from P T H)
+sound_from P T [] sound = sound
+sound_from P T (e ∷ H) sound =
+    let actions : List Action = block P T e.caller e.command in
+    sound_from P (after P T e.caller e.command) H (sound-extended ⊥ P T actions sound (allowed-block ⊥ P T e.caller e.command (λ no. absurd no) sound))
 
 few_revoked : (S : Type 0) (P : PlainPolicy) (T : Trace) (o : Own) → OwnHas (AreAllowed S P T) o → accessing T ≤ 65536 → length (revocations_in (own_reply P T o)) ≤ 65536
 few_revoked S P T (refuse r) allowed few = omega arith
@@ -128,7 +132,31 @@ few_revoked S P T (make head actions) (makes allowed) few =
     let U : Trace = extended T actions in
     omega (arith, one_a_turn (accessing U) P U, few-extended S P T actions allowed few)
 
+few_revoked_from : (P : PlainPolicy) (T : Trace) (H : History) (caller : Caller) (c : Command) → IsSoundIf ⊥ P T → accessing T ≤ 65536
+    → length (revocations_in (reply P (trace_from P T H) caller c)) ≤ 65536
+few_revoked_from P T H caller c sound few =
+    let U : Trace = trace_from P T H in
+    few_revoked ⊥ P U (own P U caller c) (allowed-own ⊥ P U caller c (λ no. absurd no) (sound_from P T H sound)) (few_from P T H sound few)
+
+-- ---- behind a sound trace
+
+sound_if_sound : (P : PlainPolicy) (T : Trace) → IsSound P T → IsSoundIf ⊥ P T
+sound_if_sound P T sound = record { numbered = sound.numbered; grounded = sound.grounded; timely = sound.timely; typed = λ no. absurd no; fit = λ no. absurd no }
+
+pub few_accessing_behind : (P : PlainPolicy) (T : Trace) → IsSound P T → accessing T ≤ 65536 → (H : History) → accessing (trace_from P T H) ≤ 65536
+few_accessing_behind P T sound few H = few_from P T H (sound_if_sound P T sound) few
+
+pub few_revocations_behind : (P : PlainPolicy) (T : Trace) → IsSound P T → accessing T ≤ 65536 → (H : History) (caller : Caller) (c : Command)
+    → length (revocations_in (reply P (trace_from P T H) caller c)) ≤ 65536
+few_revocations_behind P T sound few H caller c = few_revoked_from P T H caller c (sound_if_sound P T sound) few
+
+-- ---- from the beginning
+
+sound_at_first : (P : PlainPolicy) → IsSoundIf ⊥ P []
+sound_at_first P = sound-empty ⊥ P (λ no. absurd no)
+
+pub few_accessing : (P : PlainPolicy) (H : History) → accessing (trace P H) ≤ 65536
+few_accessing P H = few_from P [] H (sound_at_first P) (omega arith)
+
 pub few_revocations : (P : PlainPolicy) (H : History) (caller : Caller) (c : Command) → length (revocations_in (said P H caller c)) ≤ 65536
-few_revocations P H caller c =
-    let T : Trace = trace P H in
-    few_revoked ⊥ P T (own P T caller c) (allowed-own ⊥ P T caller c (λ no. absurd no) (sound_anyway P H)) (few_accessing P H)
+few_revocations P H caller c = few_revoked_from P [] H caller c (sound_at_first P) (omega arith)

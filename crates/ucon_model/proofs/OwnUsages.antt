@@ -1,6 +1,6 @@
 -- Whose usage a command's own actions begin or end.
-use Rattle.std.proofs.Common.{◌≡◌, ◌∙◌, ◌⊎◌, inl, inr, ℕ, ◌+◌, ◌<◌, Bool, true, false, cond, List, [], ◌∷◌, ◌++◌, refl, sym, ap, subst, arith}
-use Rattle.std.specs.Prelude.{◌≢◌, ◌&&◌, ◌||◌, not, nat_eq, nat_le, int_lt, pos, Option, Some, None, is_none, is_some, IsSome}
+use Rattle.std.proofs.Common.{◌≡◌, ◌∙◌, ◌⊎◌, inl, inr, ℕ, ◌+◌, Bool, true, false, cond, List, [], ◌∷◌, refl, sym, ap, subst, arith}
+use Rattle.std.specs.Prelude.{◌≢◌, ◌&&◌, not, nat_eq, nat_le, int_lt, pos, Option, Some, None, is_none, is_some, IsSome}
 use Rattle.std.specs.Option.{option_map_or}
 use Rattle.std.proofs.lemmas.Bool.{eq-eqb}
 use Rattle.std.proofs.lemmas.Bool.Decides.{eqb_tells}
@@ -10,7 +10,6 @@ use Rattle.ucon_base.specs.Admits.{admits}
 use Rattle.ucon_model.specs.declared.command.Caller.{Caller}
 use Rattle.ucon_model.specs.declared.command.Command.{Command}
 use Rattle.ucon_model.specs.declared.command.Command.TheVariants.{Subject, Object, Set, Env, Tick, Act, Try, Again, Beat, End, Look, Value as Value', Amend}
-use Rattle.ucon_model.specs.declared.policy.When.{When}
 use Rattle.ucon_model.specs.declared.policy.When.TheVariants.{Before, During, AfterEnd, AfterRevoke}
 use Rattle.ucon_model.specs.declared.reply.Head.{Head}
 use Rattle.ucon_model.specs.declared.reply.Head.TheVariants as heads
@@ -21,7 +20,7 @@ use Rattle.ucon_model.specs.declared.session.SessionState.TheVariants.{Requestin
 use Rattle.ucon_model.specs.declared.session.Verdict.{Verdict}
 use Rattle.ucon_model.specs.declared.session.Verdict.TheVariants.{Permit, Deny, Wait}
 use Rattle.ucon_model.specs.Plain.{Bytes, PlainPolicy}
-use Rattle.ucon_model.specs.Action.{Action, Trace, subject, object, write, env, tick, act, tries, wait, permit, deny, ends, revoke, amend, extended}
+use Rattle.ucon_model.specs.Action.{Action, Trace, write, env, tick, act, tries, wait, permit, deny, ends, revoke, amend, extended}
 use Rattle.ucon_model.specs.Readings.{in_force, session, sessions, has_entity, entities, attribute, declared_attr, declared_env, moment, acts, accessing, tick_of, is_accessing, is_accessing_state, changed_if}
 use Rattle.ucon_model.specs.Decision.{right_named}
 use Rattle.ucon_model.specs.Updates.{session_writes}

@@ -1,5 +1,5 @@
 -- The work after a command's own actions, read off the trace after them.
-use Rattle.std.specs.Prelude.{ℕ, List, [], ◌∷◌, false}
+use Rattle.std.specs.Prelude.{List, [], ◌∷◌, false}
 use Rattle.std.specs.List.{list_any}
 use Rattle.std.specs.Option.{option_map_or}
 use Rattle.ucon_model.specs.declared.command.Command.{Command}

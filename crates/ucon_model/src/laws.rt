@@ -8,11 +8,11 @@ ghost use Rattle.ucon_model.specs.declared.reply.Head.{Head};
 ghost use Rattle.ucon_model.specs.declared.session.SessionRow.{SessionRow};
 ghost use Rattle.ucon_model.specs.Plain.{Bytes, PlainPolicy, PlainRight};
 ghost use Rattle.ucon_model.specs.Action.{Action, Trace, extended, revoke};
-ghost use Rattle.ucon_model.specs.Block.{after, block};
+ghost use Rattle.ucon_model.specs.Block.{after, block, reply};
 ghost use Rattle.ucon_model.specs.Decision.{right_named};
 ghost use Rattle.ucon_model.specs.Fitting.{PlacesFit, UpdatesFit, ValuesFit};
 ghost use Rattle.ucon_model.specs.CommandLine.{IsCommand};
-ghost use Rattle.ucon_model.specs.History.{History, AreCommands, changes, grown, said, trace};
+ghost use Rattle.ucon_model.specs.History.{History, AreCommands, changes, grown, said, trace, trace_from};
 ghost use Rattle.ucon_model.specs.Legal.{AreLegal, IsCascade, IsLegal, RevocationsAreLegal};
 ghost use Rattle.ucon_base.specs.Elements.{Each};
 ghost use Rattle.ucon_model.specs.LegalRun.{Answered, IsLegalRun, IsSerialRun, history_made, in_text_order};
@@ -54,6 +54,14 @@ pub fn usages_are_few()
 /// just permitted among them, and each is revoked at most once.
 pub fn revocations_are_few()
     ensures { (P : PlainPolicy) (H : History) (caller : Caller) (c : Command) → length (revocations_in (said P H caller c)) ≤ 65536 }
+{}
+
+/// Behind a sound trace after which at most 65,536 sessions are accessing, as few are after every history, and a reply has at most 65,536
+/// revocations. So where a state is taken up, nothing need be known of how it came about.
+pub fn usages_stay_few()
+    ensures usages { (P : PlainPolicy) (T : Trace) → IsSound P T → accessing T ≤ 65536 → (H : History) → accessing (trace_from P T H) ≤ 65536 }
+    ensures revocations { (P : PlainPolicy) (T : Trace) → IsSound P T → accessing T ≤ 65536 → (H : History) (caller : Caller) (c : Command)
+        → length (revocations_in (reply P (trace_from P T H) caller c)) ≤ 65536 }
 {}
 
 /// Under a well typed policy that a text spells, after every history of commands, a reply that changes something can be spelled: it is of

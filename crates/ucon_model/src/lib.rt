@@ -40,7 +40,7 @@ pub use laws::{
     predicates_and_updates_mean_something, revocations_are_few, revocations_are_legal,
     runs_over_a_store_are_legal, serial_runs_are_legal, settling_ends,
     settling_is_the_only_cascade, tests_are_typed, the_least_failing_is_found, updates_fit,
-    usages_are_few, values_fit,
+    usages_are_few, usages_stay_few, values_fit,
 };
 pub use policy::{AttrDecl, EnvDecl, Phase, Policy, Predicate, Right, Test, Update, When};
 pub use reply::{Head, Refusal, Reply, Revoked};

@@ -1,4 +1,4 @@
-use Rattle.std.proofs.Common.{IsTrue, ◌≡◌, ◌≤◌, ◌<◌, ℕ, sym, subst, arith}
+use Rattle.std.proofs.Common.{◌≤◌, ◌<◌, ℕ, sym, subst, arith}
 use Rattle.std.proofs.lemmas.Bool.{leb-true, le-leb}
 use Rattle.std.specs.List.{count_by}
 use Rattle.ucon_base.specs.declared.value.Side.{Side}
