@@ -9,7 +9,6 @@ ghost use Rattle.ucon_model.specs.Typing.{name_if, has_lasts, is_recurring, coun
 ghost use Rattle.ucon_check.specs.Told.{Answers};
 
 use crate::CheckFault;
-use crate::places::is_ongoing;
 use crate::sorts::{declared_attr, declared_env, is_typed_start, is_typed_test, is_typed_update};
 use crate::sought::{
     Sought, formula_reads, undeclared_in_test, undeclared_in_update, update_reads,
@@ -61,7 +60,7 @@ fn reads_wrongly(test: &Test) -> bool
 fn is_wrong_reader(p: &Predicate) -> bool
     ensures { result ≡ is_wrong_reader (predicate_of p.now) }
 {
-    reads_wrongly(&p.test) || (!is_ongoing(p) && counts_from_start(&p.test))
+    reads_wrongly(&p.test) || (!p.is_ongoing() && counts_from_start(&p.test))
 }
 
 fn name_if(stood: bool, name: &Name) -> Option<Name>

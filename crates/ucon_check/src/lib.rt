@@ -1,4 +1,4 @@
-//! Whether a policy is well typed, the core models of its rights, and the places that they read.
+//! Whether a policy is well typed and may follow another, and the places that its rights read.
 #![tactic(auto)]
 
 mod cores;
@@ -11,9 +11,8 @@ mod sorts;
 mod sought;
 mod typing;
 
-pub use cores::{core_models, core_models_of, core_name};
+pub use cores::{has_update, is_condition};
 pub use fault::CheckFault;
 pub use follow::{AmendFault, may_follow};
 pub use places::{places_read, reads};
 pub use typing::check;
-pub use ucon_model::{Core, CoreKind};

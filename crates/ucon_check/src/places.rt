@@ -3,13 +3,12 @@
 ghost use Rattle.std.specs.Prelude.{◌≡◌, [], ◌++◌, ◌<◌, length, map, fold, filter, slice_get, option_map, Some, IfOk, OnOk};
 ghost use Rattle.std.specs.List.{list_any, flat_map};
 ghost use Rattle.ucon_model.specs.Checked.{checked_policy};
-ghost use Rattle.ucon_model.specs.Decision.{ongoing};
-ghost use Rattle.ucon_model.specs.Views.{expr_of, formula_of, test_of, predicate_of, right_of};
+ghost use Rattle.ucon_model.specs.Views.{expr_of, formula_of, test_of, right_of};
 ghost use Rattle.ucon_model.specs.Places.{expr_places, formula_places, test_places, attr_place, same_place, with_place, places_read};
 
 use std::alloc::Global;
 use ucon_base::{Name, NoMemory, Rows, Side};
-use ucon_model::{Checked, Expr, Formula, Phase, Predicate, Ref, Right, Test};
+use ucon_model::{Checked, Expr, Formula, Ref, Right, Test};
 
 /// Adds the places that an expression reads.
 fn put_expr(e: &Expr, places: &mut Vec<Ref>) -> Result<(), NoMemory>
@@ -111,22 +110,13 @@ fn put_new(found: &[Ref], places: &mut Vec<Ref>) -> Result<(), NoMemory>
     Ok(())
 }
 
-pub fn is_ongoing(p: &Predicate) -> bool
-    ensures { result ≡ ongoing (predicate_of p.now) }
-{
-    match p.phase {
-        Phase::Ongoing => true,
-        Phase::Pre => false,
-    }
-}
-
 /// The distinct places that a right's ongoing predicates read, in the order of their first reading.
 pub fn places_read(alloc: Global, right: &Right) -> Result<Rows<Ref>, NoMemory>
     ensures { IfOk result (λ rows. rows.items ≡ places_read (right_of right.now)) }
 {
     let mut places = Vec::new(alloc);
     for p in right.preds.slice() {
-        if is_ongoing(p) {
+        if p.is_ongoing() {
             put_new(&test_places(alloc, &p.test)?, &mut places)?;
         }
     }

@@ -7,7 +7,7 @@ ghost use Rattle.ucon_model.specs.Typing.{name_of, is_declared, undeclared, is_v
 ghost use Rattle.ucon_model.specs.Views.{expr_of, formula_of, test_of, update_of, right_of, policy_of};
 ghost use Rattle.ucon_check.specs.Sought.{fits, is_read};
 
-use crate::places::{attr_place, is_ongoing, same_place};
+use crate::places::{attr_place, same_place};
 use crate::sorts::place_sort;
 use ucon_base::Name;
 use ucon_model::{Expr, Formula, Policy, Ref, Right, Test, Update};
@@ -168,7 +168,7 @@ pub fn is_read(right: &Right, place: &Ref) -> bool
     ensures { result ≡ is_read (right_of right.now) place.now }
 {
     for p in right.preds.slice() {
-        if is_ongoing(p) && test_reads(&Sought::This(*place), &p.test) {
+        if p.is_ongoing() && test_reads(&Sought::This(*place), &p.test) {
             return true;
         }
     }

@@ -17,9 +17,8 @@ ghost use Rattle.ucon_syntax.specs.Policies.{accepted};
 ghost use Rattle.ucon_command.specs.Payloads.{AreOfClients, AreSteps, IsStep, most_told};
 
 use ucon_base::values_are_read_back;
-use ucon_model::{
-    changing_replies_can_be_spelled, revocations_are_few, texts_lack_bytes, texts_tell_changes,
-};
+use ucon_model::{changing_replies_can_be_spelled, revocations_are_few};
+use ucon_runs::{texts_lack_bytes, texts_tell_changes};
 use ucon_syntax::accepted_texts_spell_typed_policies;
 
 /// Each command's text is read as the command, and a line that is read is the text of the command read. No text of a command has a

@@ -24,7 +24,8 @@ use crate::spelling::put_session;
 use itoa::Buffer;
 use std::alloc::Global;
 use ucon_base::{NoMemory, put};
-use ucon_model::{Caller, Command, Entry, Reply, texts_lack_bytes};
+use ucon_model::{Caller, Command, Entry, Reply};
+use ucon_runs::texts_lack_bytes;
 
 /// Of each step of one of the 64 clients the payload is read back, and no payload is longer than its reply lets it be.
 #[tactic(auto, using(crate::proofs::Payloads::text_short))]

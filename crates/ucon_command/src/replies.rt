@@ -13,7 +13,8 @@ use crate::laws::replies_are_read_back;
 use crate::spelling::{put_name, put_session, put_value};
 use std::alloc::Global;
 use ucon_base::{Name, NoMemory, put};
-use ucon_model::{Head, Refusal, Reply, Revoked, SessionState, texts_lack_bytes};
+use ucon_model::{Head, Refusal, Reply, Revoked, SessionState};
+use ucon_runs::texts_lack_bytes;
 
 /// The one text of a reply, which has no newline in it: at most 4306 bytes, and 52 for each revocation.
 pub fn reply_text(alloc: Global, reply: &Reply) -> Result<Vec<u8>, NoMemory>

@@ -1,13 +1,7 @@
 pub mod Extending
 pub mod Settling
-pub mod SerialRuns
-mod StoredRuns
-mod GoingOn
 mod SpelledLabels
 mod SpelledReplies
-pub mod Lacking
-pub mod ReadBack
-pub mod TellsChange
 pub mod Scenes
 pub mod FirstRun
 pub mod HigherPullsLower
@@ -35,7 +29,6 @@ pub mod Cascades
 pub mod WithinAndLasts
 pub mod Lines
 pub mod Payloads
-pub mod FoundOn
 pub mod Documents
 mod GeneratedDocument
 pub mod FirstFaults

@@ -7,13 +7,11 @@ mod checked;
 mod command;
 mod copy;
 mod core_model;
-mod finding;
 mod formula;
 mod laws;
 mod policy;
 mod reply;
 mod session;
-mod texts;
 mod traces;
 mod usages;
 mod view;
@@ -31,21 +29,17 @@ pub use cascade::{
 pub use checked::Checked;
 pub use command::{Caller, Command, Entry};
 pub use core_model::{Core, CoreKind};
-pub use finding::{payloads_are_found_one_by_one, texts_tell_changes};
 pub use formula::{Expr, Form, Formula, Obligation, Op, Ref, Sort};
 pub use laws::{
     blocks_are_legal, changing_replies_can_be_spelled, faults_name_items, grown_histories_go_on,
-    legal_actions_keep_traces_sound, legal_runs_go_on, no_usage_goes_on_failing,
-    outputs_are_read_back, places_hold_their_sorts, policies_in_force_are_typed,
-    predicates_and_updates_mean_something, revocations_are_few, revocations_are_legal,
-    runs_over_a_store_are_legal, serial_runs_are_legal, settling_ends,
-    settling_is_the_only_cascade, tests_are_typed, the_least_failing_is_found, updates_fit,
-    usages_are_few, usages_stay_few, values_fit,
+    legal_actions_keep_traces_sound, no_usage_goes_on_failing, places_hold_their_sorts,
+    policies_in_force_are_typed, predicates_and_updates_mean_something, revocations_are_few,
+    revocations_are_legal, settling_ends, settling_is_the_only_cascade, tests_are_typed,
+    the_least_failing_is_found, updates_fit, usages_are_few, usages_stay_few, values_fit,
 };
 pub use policy::{AttrDecl, EnvDecl, Phase, Policy, Predicate, Right, Test, Update, When};
 pub use reply::{Head, Refusal, Reply, Revoked};
 pub use session::{SessionRow, SessionState, Verdict};
-pub use texts::texts_lack_bytes;
 pub use traces::{
     actions_are_done_in_order, readings_that_agree_are_one, turns_follow_each_other,
     writes_leave_sessions,

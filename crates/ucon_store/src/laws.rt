@@ -29,12 +29,11 @@ use ucon_command::{
     payloads_are_read_back, proper_histories_are_found, steps_are_taken_as_spelled,
 };
 use ucon_journal::{MAX_PAYLOAD, reads_back};
-use ucon_model::{
-    no_usage_goes_on_failing, payloads_are_found_one_by_one, the_least_failing_is_found,
-};
+use ucon_model::{no_usage_goes_on_failing, the_least_failing_is_found};
 use ucon_point::{
     histories_are_in_order, points_are_read_back, rows_make_what_they_say, texts_are_of_rows,
 };
+use ucon_runs::payloads_are_found_one_by_one;
 use ucon_state::{
     each_action_is_followed, states_follow_what_reads_alike, tables_keep_what_is_followed,
     traces_of_histories_are_legal,

@@ -39,9 +39,9 @@ use ucon_base::{Rows, Steps};
 use ucon_disk::Disk;
 use ucon_journal::{Journal, MAX_PAYLOAD};
 use ucon_model::{
-    Caller, Command, Entry, SessionState, no_usage_goes_on_failing, payloads_are_found_one_by_one,
-    revocations_are_few,
+    Caller, Command, Entry, SessionState, no_usage_goes_on_failing, revocations_are_few,
 };
+use ucon_runs::payloads_are_found_one_by_one;
 use ucon_state::{Engine, State};
 
 /// The history of a journal under its policy: in memory by the engine, on the disk by the journal.

@@ -16,7 +16,7 @@ use std::alloc::Global;
 use ucon_base::{NoMemory, Rows};
 use ucon_client::Answer;
 use ucon_disk::Disk;
-use ucon_model::{outputs_are_read_back, runs_over_a_store_are_legal, texts_tell_changes};
+use ucon_runs::{outputs_are_read_back, runs_over_a_store_are_legal, texts_tell_changes};
 use ucon_script::LineText;
 use ucon_state::Engine;
 use ucon_store::Store;

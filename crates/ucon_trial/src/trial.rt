@@ -11,7 +11,8 @@ use crate::summary::Tally;
 use crate::transcript::Transcript;
 use std::alloc::Global;
 use ucon_base::NoMemory;
-use ucon_model::{Checked, outputs_are_read_back, serial_runs_are_legal, texts_tell_changes};
+use ucon_model::Checked;
+use ucon_runs::{outputs_are_read_back, serial_runs_are_legal, texts_tell_changes};
 use ucon_script::Script;
 use ucon_state::Engine;
 

@@ -9,7 +9,7 @@ use Rattle.std.proofs.lemmas.Slice.Eq.{bytes_eq-Decides}
 use Rattle.ucon_model.specs.Plain.{Bytes}
 use Rattle.ucon_base.specs.Elements.{Each}
 use Rattle.ucon_model.specs.LegalRun.{Answer, no_memory, disk_fault, stopped, placed, Answered}
-use Rattle.ucon_model.proofs.Lacking.{lacks-append, lacks-decimal, lacks-tested}
+use Rattle.ucon_runs.proofs.Lacking.{lacks-append, lacks-decimal, lacks-tested}
 use Rattle.ucon_model.specs.Output.{Lacks, answer_spelling, answer_line, output, FitsLine, cut_at, number_read, answer_read, line_read, answers_read}
 
 -- ---- cutting

@@ -13,7 +13,7 @@ use Rattle.ucon_model.specs.Spelling.{reply_spelling}
 use Rattle.ucon_model.specs.History.{History, said, changes}
 use Rattle.ucon_model.specs.LegalRun.{Answer, no_memory, disk_fault, stopped, placed, Answered, tells_change, with_record, recorded, put_by_place, by_place, history_made, AreNumberedFrom, stands_on, IsSaid, Saw, StaysStopped, AreInOrder, is_disk_fault, is_stopped, HaveCauses, IsLegalRun}
 use Rattle.ucon_model.specs.StoredRun.{failed_line}
-use Rattle.ucon_model.proofs.SerialRuns.{IsSound, no_faults}
+use Rattle.ucon_runs.proofs.SerialRuns.{IsSound, no_faults}
 
 -- ---- the places
 

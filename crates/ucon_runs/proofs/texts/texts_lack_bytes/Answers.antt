@@ -1,5 +1,5 @@
-use Rattle.ucon_model.proofs.Lacking.{lacks-append, lacks-tested, lacks-decimal, lacks-name}
-use Rattle.ucon_model.proofs.texts.texts_lack_bytes.Goals as goal
+use Rattle.ucon_runs.proofs.Lacking.{lacks-append, lacks-tested, lacks-decimal, lacks-name}
+use Rattle.ucon_runs.proofs.texts.texts_lack_bytes.Goals as goal
 
 pub returns-clause-joined : goal.returns-clause-joined
 returns-clause-joined c = lacks-append

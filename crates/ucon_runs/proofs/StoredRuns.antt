@@ -9,7 +9,7 @@ use Rattle.ucon_model.specs.Plain.{PlainPolicy}
 use Rattle.ucon_model.specs.History.{History, said, changes}
 use Rattle.ucon_model.specs.LegalRun.{Answer, no_memory, disk_fault, stopped, placed, Answered, with_record, recorded, by_place, history_made, AreNumberedFrom, IsSaid, Saw, StaysStopped, AreInOrder, is_disk_fault, is_stopped, IsLegalRun, in_text_order, history_after}
 use Rattle.ucon_model.specs.StoredRun.{failed_line, BreaksOff, LeadsTo}
-use Rattle.ucon_model.proofs.SerialRuns.{Has, by_place-numbered, grown_after, has_next, has_still, led_next, led_to, numbered_next, said_next, saw_next, sound_next}
+use Rattle.ucon_runs.proofs.SerialRuns.{Has, by_place-numbered, grown_after, has_next, has_still, led_next, led_to, numbered_next, said_next, saw_next, sound_next}
 
 -- ---- lines that are stopped
 

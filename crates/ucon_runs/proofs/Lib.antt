@@ -1,0 +1,7 @@
+mod SerialRuns
+mod StoredRuns
+mod GoingOn
+mod Lacking
+mod ReadBack
+mod TellsChange
+mod FoundOn
