@@ -18,9 +18,12 @@ pub fn serial_runs_are_legal()
 /// A run in text order over a store is a legal run. The history that is made is the one that it leads to, and the line that met a disk fault
 /// is the one with which it broke off.
 pub fn runs_over_a_store_are_legal()
-    ensures legal { (P : PlainPolicy) (G : History) (told : List Answered) (H : History) (failed : Option Entry) → LeadsTo P G told H failed → IsLegalRun P in_text_order G told }
-    ensures made { (P : PlainPolicy) (G : History) (told : List Answered) (H : History) (failed : Option Entry) → LeadsTo P G told H failed → history_made G told ≡ H }
-    ensures failed { (P : PlainPolicy) (G : History) (told : List Answered) (H : History) (failed : Option Entry) → LeadsTo P G told H failed → failed_line told ≡ failed }
+    ensures legal { (P : PlainPolicy) (G : History) (told : List Answered) (H : History) (failed : Option Entry) → LeadsTo P G told H failed
+        → IsLegalRun P in_text_order G told }
+    ensures made { (P : PlainPolicy) (G : History) (told : List Answered) (H : History) (failed : Option Entry) → LeadsTo P G told H failed
+        → history_made G told ≡ H }
+    ensures failed { (P : PlainPolicy) (G : History) (told : List Answered) (H : History) (failed : Option Entry) → LeadsTo P G told H failed
+        → failed_line told ≡ failed }
 {}
 
 /// A legal run in which no line met a disk fault, and a legal run behind the history that it made, are one legal run, whoever saw whose

@@ -164,7 +164,8 @@ impl Generator {
 
     /// A session that was tried. Where none was, none is drawn.
     fn session(&mut self) -> Option<u32>
-        ensures some { IfSome result (λ n. (0 < self.old.tries) × (n ≡ 1 + below self.old.tries (next_x self.old.x)) × (self.new ≡ record self.old { x = next_x self.old.x })) }
+        ensures some { IfSome result (λ n. (0 < self.old.tries) × (n ≡ 1 + below self.old.tries (next_x self.old.x))
+            × (self.new ≡ record self.old { x = next_x self.old.x })) }
         ensures none { IfNone result ((self.old.tries ≡ 0) × (self.new ≡ self.old)) }
     {
         if self.tries == 0 {

@@ -26,7 +26,8 @@ pub fn run_lines<E: Engine, R: Hearer>(
 ) -> Result<R, NoMemory>
     requires idle { IsIdle E.follows engine }
     requires nothing_heard { R.hears hearer [] }
-    ensures heard { IfOk result (λ hearer. (P : PlainPolicy) → StandsFor E.follows engine P [] → HasHeard P (R.hears hearer) (map entry_of lines.now)) }
+    ensures heard { IfOk result (λ hearer. (P : PlainPolicy) → StandsFor E.follows engine P []
+        → HasHeard P (R.hears hearer) (map entry_of lines.now)) }
     ensures few { length lines.now < 2 ^ 64 }
 {
     let mut steps = Steps::new();

@@ -61,7 +61,8 @@ pub fn put_reply(
     place: u64,
     reply: &Reply,
 ) -> Result<(), NoMemory>
-    ensures text { OnOk result (out.new.items ≡ out.old.items ++ (decimal caller.0 ++ 32 ∷ answer_spelling (placed place (reply_spelling (reply_of reply.now))) ++ 10 ∷ [])) }
+    ensures text { OnOk result (out.new.items ≡ out.old.items
+        ++ (decimal caller.0 ++ 32 ∷ answer_spelling (placed place (reply_spelling (reply_of reply.now))) ++ 10 ∷ [])) }
     ensures one_line { OnOk result (Lacks 10 (reply_spelling (reply_of reply.now))) }
     ensures client { OnOk result (caller.0 < 256) }
 {

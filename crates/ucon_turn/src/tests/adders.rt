@@ -175,7 +175,8 @@ fn add_beside<R: Threads + Wait + Clock + Sync>(
             ensures { IsSeatOf turn.entry.now result × (result.number ≡ first) }
         { add_all(rt, turn, mine, first, times) },
         move || -> Seat<Counter>
-            requires { IsSync R.row × IsSeatOf turn.now seat × (seat.number ≡ 0) × (0 < count) × (first + count < 2 ^ 32) × Each (λ k. k < first + 1) seat.given }
+            requires { IsSync R.row × IsSeatOf turn.now seat × (seat.number ≡ 0) × (0 < count) × (first + count < 2 ^ 32)
+                × Each (λ k. k < first + 1) seat.given }
             ensures { IsSeatOf turn.entry.now result × (result.number ≡ 0) × ((k : ℕ) → Has result.given k → Has seat.given k ⊎ Has result.taken k) }
         { add_beside(rt, turn, seat, first + 1, count - 1, times) },
     );
