@@ -8,6 +8,7 @@ use crate::{Int, NoMemory, Text};
 use itoa::Buffer;
 
 /// Adds bytes, or nothing where there is no memory.
+#[inline(always)]
 pub fn put(out: &mut Vec<u8>, bytes: &[u8]) -> Result<(), NoMemory>
     ensures { MatchResult result (λ _. out.new.items ≡ out.old.items ++ bytes.now) (λ _. out.new.items ≡ out.old.items) }
 {
@@ -16,6 +17,7 @@ pub fn put(out: &mut Vec<u8>, bytes: &[u8]) -> Result<(), NoMemory>
 }
 
 /// Adds a number in decimal, or nothing where there is no memory.
+#[inline(always)]
 pub fn put_number(out: &mut Vec<u8>, n: u64) -> Result<(), NoMemory>
     ensures { MatchResult result (λ _. out.new.items ≡ out.old.items ++ decimal n) (λ _. out.new.items ≡ out.old.items) }
 {
