@@ -11,3 +11,4 @@ pub mod SetsRead
 pub mod SetsSpelled
 pub mod TextFront
 pub mod Values
+pub mod WordBytes
