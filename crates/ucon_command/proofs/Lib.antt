@@ -7,6 +7,7 @@ pub mod Judged
 pub mod KnownWords
 pub mod Lengths
 pub mod LowerLaws
+pub mod Named
 pub mod Payloads
 pub mod Placed
 pub mod Proper

@@ -3,16 +3,18 @@
 ghost use Rattle.std.specs.Prelude.{◌≡◌, ◌≤◌, ◌<◌, [], ◌∷◌, length, drop, None, IfErr, IfNone, IfOk, IfSome, IsOk, IsTrue, Ok, MatchOption, MatchResult};
 ghost use Rattle.std.specs.Result.{result_ok};
 ghost use Rattle.ucon_base.specs.NameBytes.{is_name};
-ghost use Rattle.ucon_model.specs.CommandLine.{name_in, integer_in, number_in, one_word, names_of, three_names, place_of, value_words, set_words, env_words, amend_words, words_of};
+ghost use Rattle.ucon_model.specs.CommandLine.{name_in, integer_in, number_in, one_word, three_names, place_of, value_words, set_words, env_words, amend_words, words_of};
 ghost use Rattle.ucon_syntax.specs.Policies.{accepted};
 ghost use Rattle.ucon_command.specs.Cuts.{AreCuts, IsSecond, between, ends_in_name, has_name, words_at, words_from};
 ghost use Rattle.ucon_command.specs.Faults.{IsRefusal, IsSure, IsTold};
 ghost use Rattle.ucon_command.specs.Words.{word_of};
 
 use crate::cuts::Cuts;
-use crate::kinds::{amendment_word, integer_word, name_word, number_word, side_word, value_word};
+use crate::kinds::{
+    amendment_word, integer_word, name_word, number_word, seen_name, side_word, value_word,
+};
 use crate::line_fault::LineFault;
-use crate::words::{Word, last_word, next_word, word_between, word_count};
+use crate::words::{Word, last_word, name_then, next_word, word_between, word_count};
 use std::alloc::Global;
 use ucon_base::Side;
 
@@ -28,21 +30,45 @@ fn one_word(line: &[u8], second: Option<usize>) -> Option<usize>
     }
 }
 
-/// Where the three words behind a line's first begin, if there are no more.
-fn three_words(line: &[u8], second: Option<usize>) -> Option<(usize, usize, usize)>
+/// Where the three words behind a line's first begin, if there are no more, and whether each is a name.
+#[inline(always)]
+fn three_words(line: &[u8], second: Option<usize>) -> Option<ThreeWords>
     requires { IfSome second (λ at. at ≤ length line.now) }
     ensures none { IfNone result (length (words_from second line.now) ≡ 3 → ⊥) }
-    ensures words { IfSome result (λ p. words_from second line.now
-        ≡ record { at = p.0; text = between p.0 p.1 line.now } ∷ record { at = p.1; text = between p.1 p.2 line.now } ∷ record { at = p.2; text = drop p.2 line.now } ∷ []) }
-    ensures within { IfSome result (λ p. (p.0 < p.1) × (p.1 < p.2) × (p.2 ≤ length line.now)) }
+    ensures words { IfSome result (λ w. words_from second line.now
+        ≡ record { at = w.a; text = between w.a w.b line.now } ∷ record { at = w.b; text = between w.b w.c line.now } ∷ record { at = w.c; text = drop w.c line.now } ∷ []) }
+    ensures a_named { IfSome result (λ w. w.a_named ≡ is_name (between w.a w.b line.now)) }
+    ensures b_named { IfSome result (λ w. w.b_named ≡ is_name (between w.b w.c line.now)) }
+    ensures c_named { IfSome result (λ w. w.c_named ≡ is_name (drop w.c line.now)) }
+    ensures within { IfSome result (λ w. (w.a < w.b) × (w.b < w.c) × (w.c ≤ length line.now)) }
 {
     let a = second?;
-    let b = next_word(line, a)?;
-    let c = next_word(line, b)?;
-    match next_word(line, c) {
-        None => Some((a, b, c)),
-        Some(_) => None,
+    let (b, a_named) = name_then(line, a);
+    let b = b?;
+    let (c, b_named) = name_then(line, b);
+    let c = c?;
+    match name_then(line, c) {
+        (None, c_named) => Some(ThreeWords {
+            a,
+            a_named,
+            b,
+            b_named,
+            c,
+            c_named,
+        }),
+        (Some(_), _) => None,
     }
+}
+
+/// Where three words begin, and whether each is a name.
+#[derive(Clone, Copy)]
+struct ThreeWords {
+    a: usize,
+    a_named: bool,
+    b: usize,
+    b_named: bool,
+    c: usize,
+    c_named: bool,
 }
 
 /// Where a variable's name and its value begin, which takes the rest of the line.
@@ -113,33 +139,21 @@ pub fn one_number(alloc: Global, line: &[u8], second: Option<usize>) -> Result<u
     }
 }
 
-#[tactic(auto, unfolding(ucon_model::specs::CommandLine::names_of))]
-fn names_of(a: &Word<'_>, b: &Word<'_>, c: &Word<'_>) -> Result<(), LineFault>
-    ensures read { MatchResult result (λ _. names_of (word_of a.now) (word_of b.now) (word_of c.now) ≡ Ok (a.now.text.now, b.now.text.now, c.now.text.now)) (IsTold (names_of (word_of a.now) (word_of b.now) (word_of c.now))) }
-    ensures names { IfOk result (λ _. IsTrue (is_name a.now.text.now) × IsTrue (is_name b.now.text.now) × IsTrue (is_name c.now.text.now)) }
-{
-    name_word(a)?;
-    name_word(b)?;
-    name_word(c)
-}
-
 /// `act S ACT O` and `try S RIGHT O`: where the names begin.
-#[tactic(auto, unfolding(ucon_model::specs::CommandLine::three_names), using(crate::proofs::Placed::three_miscounted))]
+#[tactic(auto, unfolding(ucon_model::specs::CommandLine::three_names, ucon_model::specs::CommandLine::names_of), using(crate::proofs::Placed::three_miscounted))]
 pub fn three_names(line: &[u8], second: Option<usize>) -> Result<(u16, u16, u16), LineFault>
     requires short { length line.now ≤ 8192 }
     requires second { IsSecond second line.now }
     ensures read { MatchResult result (λ p. three_names (words_of line.now) ≡ Ok (between p.0 p.1 line.now, between p.1 p.2 line.now, drop p.2 line.now)) (IsTold (three_names (words_of line.now))) }
     ensures words { IfOk result (λ p. IsTrue (has_name p.0 p.1 line.now) × IsTrue (has_name p.1 p.2 line.now) × IsTrue (ends_in_name p.2 line.now)) }
 {
-    let Some((a, b, c)) = three_words(line, second) else {
+    let Some(w) = three_words(line, second) else {
         return Err(LineFault::WrongCount(word_count(line)));
     };
-    names_of(
-        &word_between(line, a, b),
-        &word_between(line, b, c),
-        &last_word(line, c),
-    )?;
-    Ok((a as u16, b as u16, c as u16))
+    seen_name(&word_between(line, w.a, w.b), w.a_named)?;
+    seen_name(&word_between(line, w.b, w.c), w.b_named)?;
+    seen_name(&last_word(line, w.c), w.c_named)?;
+    Ok((w.a as u16, w.b as u16, w.c as u16))
 }
 
 /// The side that an entity and its attribute are of.
@@ -162,15 +176,15 @@ pub fn value_words(line: &[u8], second: Option<usize>) -> Result<(Side, u16, u16
     ensures read { MatchResult result (λ p. value_words (words_of line.now) ≡ Ok (p.0, between p.1 p.2 line.now, drop p.2 line.now)) (IsTold (value_words (words_of line.now))) }
     ensures words { IfOk result (λ p. IsTrue (has_name p.1 p.2 line.now) × IsTrue (ends_in_name p.2 line.now)) }
 {
-    let Some((a, b, c)) = three_words(line, second) else {
+    let Some(w) = three_words(line, second) else {
         return Err(LineFault::WrongCount(word_count(line)));
     };
     let side = place_of(
-        &word_between(line, a, b),
-        &word_between(line, b, c),
-        &last_word(line, c),
+        &word_between(line, w.a, w.b),
+        &word_between(line, w.b, w.c),
+        &last_word(line, w.c),
     )?;
-    Ok((side, b as u16, c as u16))
+    Ok((side, w.b as u16, w.c as u16))
 }
 
 /// `set s|o N ATTR VALUE`.

@@ -1,6 +1,6 @@
 //! Judges a line: by its form, where its words stand, or why it spells no command.
 
-ghost use Rattle.std.specs.Prelude.{◌≡◌, ◌<◌, ◌≤◌, ◌-◌, length, codes, Ok, Err, IfErr, IsFalse, IsTrue, MatchResult};
+ghost use Rattle.std.specs.Prelude.{◌≡◌, ◌<◌, ◌≤◌, ◌-◌, length, nat_lt, codes, Ok, Err, IfErr, IsFalse, IsTrue, MatchResult};
 ghost use Rattle.std.specs.Str.{bytes_eq};
 ghost use Rattle.ucon_model.specs.CommandLine.{command_read, line_read, most_bytes, words_of};
 ghost use Rattle.ucon_syntax.specs.Policies.{accepted};
@@ -23,7 +23,7 @@ pub fn cuts_of(alloc: Global, line: &[u8]) -> Result<Cuts, LineFault>
     ensures cuts { MatchResult result (λ k. AreCuts k line.now (line_read accepted line.now)) (IsRefusal (line_read accepted line.now)) }
     ensures sure { IsFalse (amends line.now) → IfErr result (IsSure (line_read accepted line.now)) }
 {
-    if line.len() > most_bytes(line) {
+    if is_too_long(line) {
         return Err(LineFault::TooLong(line.len()));
     }
     let second = next_word(line, 0);
@@ -43,6 +43,13 @@ fn first_word(line: &[u8], second: Option<usize>) -> &[u8]
         Some(next) => &line[..next - 1],
         None => line,
     }
+}
+
+/// Whether a line has more bytes than it may have. One that is shorter than any may be isn't looked at.
+fn is_too_long(line: &[u8]) -> bool
+    ensures { result ≡ nat_lt (most_bytes line.now) (length line.now) }
+{
+    line.len() > 8192 && line.len() > most_bytes(line)
 }
 
 /// How many bytes a line may have.

@@ -32,7 +32,8 @@ pub fn name_in(bytes: &[u8]) -> Option<Name>
     Name::read(bytes).ok()
 }
 
-fn is_name(bytes: &[u8]) -> bool
+/// Whether the bytes are a name.
+pub fn is_name(bytes: &[u8]) -> bool
     ensures { result ≡ is_name bytes.now }
 {
     Name::read(bytes).is_ok()
@@ -98,7 +99,16 @@ pub fn name_word(w: &Word<'_>) -> Result<(), LineFault>
     ensures said { MatchResult result (λ _. said name_in (word_of w.now) ≡ Ok w.now.text.now) (IsTold (said name_in (word_of w.now))) }
     ensures name { IfOk result (λ _. IsTrue (is_name w.now.text.now)) }
 {
-    if is_name(w.text) {
+    seen_name(w, is_name(w.text))
+}
+
+/// The same of a word of which it is known whether it is a name.
+pub fn seen_name(w: &Word<'_>, seen: bool) -> Result<(), LineFault>
+    requires { seen ≡ is_name w.now.text.now }
+    ensures said { MatchResult result (λ _. said name_in (word_of w.now) ≡ Ok w.now.text.now) (IsTold (said name_in (word_of w.now))) }
+    ensures name { IfOk result (λ _. IsTrue (is_name w.now.text.now)) }
+{
+    if seen {
         Ok(())
     } else {
         Err(LineFault::BadWord(w.at))

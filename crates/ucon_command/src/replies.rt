@@ -108,6 +108,7 @@ pub fn state_word(state: SessionState) -> &'static [u8]
 }
 
 /// Adds a word, a session's number, a space and a label.
+#[inline(always)]
 fn put_labelled(out: &mut Vec<u8>, word: &[u8], n: u32, label: &Name) -> Result<(), NoMemory>
     ensures { OnOk result (out.new.items ≡ out.old.items ++ (word.now ++ decimal n ++ 32 ∷ label.now)) }
 {
@@ -115,6 +116,7 @@ fn put_labelled(out: &mut Vec<u8>, word: &[u8], n: u32, label: &Name) -> Result<
     put_name(out, label)
 }
 
+#[inline(always)]
 fn put_head(out: &mut Vec<u8>, head: &Head) -> Result<(), NoMemory>
     ensures { OnOk result (out.new.items ≡ out.old.items ++ head_spelling head.now) }
 {
@@ -127,6 +129,7 @@ fn put_head(out: &mut Vec<u8>, head: &Head) -> Result<(), NoMemory>
     }
 }
 
+#[inline(always)]
 fn put_revoked(out: &mut Vec<u8>, revoked: &[Revoked]) -> Result<(), NoMemory>
     ensures { OnOk result (out.new.items ≡ out.old.items ++ revoked_spelling revoked.now) }
 {
