@@ -1,6 +1,6 @@
 //! A line that spells a command, judged once.
 
-ghost use Rattle.std.specs.Prelude.{◌≡◌, ◌<◌, length, Ok, Err, IfErr, IfOk, IsFalse, IsOk, IsTrue, MatchResult};
+ghost use Rattle.std.specs.Prelude.{◌≡◌, ◌<◌, length, Ok, Err, IfErr, IfOk, IsFalse, IsOk, IsTrue, MatchResult, OnErr, OnOk};
 ghost use Rattle.std.specs.Result.{result_ok};
 ghost use Rattle.ucon_model.specs.CommandLine.{line_read, most_bytes};
 ghost use Rattle.ucon_syntax.specs.Policies.{accepted};
@@ -8,7 +8,7 @@ ghost use Rattle.ucon_command.specs.Cuts.{command_cut, commands_are_a_set, has_w
 ghost use Rattle.ucon_command.specs.Faults.{IsRefusal, IsSure, amends};
 
 use crate::cuts::Cuts;
-use crate::cutting::command_of;
+use crate::cutting::command_into;
 use crate::judging::cuts_of;
 use crate::line_fault::LineFault;
 use std::alloc::Global;
@@ -45,6 +45,17 @@ impl<'a> CommandLine<'a> {
     pub fn command(&self, alloc: Global) -> Result<Command, NoMemory>
         ensures { IfOk result (λ c. line_read accepted self.now.text.now ≡ Ok c) }
     {
-        command_of(alloc, self.text, self.cuts)
+        let mut command = Command::Look(0);
+        self.command_into(alloc, &mut command)?;
+        Ok(command)
+    }
+
+    /// Writes the command over another one, which costs less than a new one. Want of memory leaves the other.
+    #[inline(always)]
+    pub fn command_into(&self, alloc: Global, out: &mut Command) -> Result<(), NoMemory>
+        ensures ok { OnOk result (line_read accepted self.now.text.now ≡ Ok out.new) }
+        ensures err { OnErr result (out.new ≡ out.old) }
+    {
+        command_into(alloc, self.text, self.cuts, out)
     }
 }

@@ -1,6 +1,6 @@
 //! Builds a command from its line, whose words are known.
 
-ghost use Rattle.std.specs.Prelude.{◌≡◌, ◌<◌, ◌≤◌, drop, length, IfOk, IsSome, IsTrue, Some};
+ghost use Rattle.std.specs.Prelude.{◌≡◌, ◌<◌, ◌≤◌, drop, length, IfOk, OnErr, OnOk, IsSome, IsTrue, Some};
 ghost use Rattle.ucon_base.specs.Reading.{value_read};
 ghost use Rattle.ucon_model.specs.CommandLine.{amendment_in, integer_in, value_in};
 ghost use Rattle.ucon_syntax.specs.Policies.{accepted};
@@ -12,151 +12,174 @@ use std::alloc::Global;
 use ucon_base::{Int, Name, NoMemory, Side, Value, ValueFault};
 use ucon_model::{Amend, Command};
 
-/// The command that these cuts of a line give.
+/// Writes the command that these cuts of a line give over another one. A command is large, and isn't moved so.
 #[inline(always)]
 #[tactic(auto, using(crate::proofs::KnownWords::both, crate::proofs::KnownWords::some_mapped))]
-pub fn command_of(alloc: Global, line: &[u8], cuts: Cuts) -> Result<Command, NoMemory>
+pub fn command_into(
+    alloc: Global,
+    line: &[u8],
+    cuts: Cuts,
+    out: &mut Command,
+) -> Result<(), NoMemory>
     requires words { IsTrue (has_words cuts line.now) }
     requires some { IsSome (command_cut cuts line.now) }
-    ensures { IfOk result (λ c. command_cut cuts line.now ≡ Some c) }
+    ensures ok { OnOk result (command_cut cuts line.now ≡ Some out.new) }
+    ensures err { OnErr result (out.new ≡ out.old) }
 {
     match cuts {
-        Cuts::Subject { name } => subject_command(line, name),
-        Cuts::Object { name } => object_command(line, name),
+        Cuts::Subject { name } => subject_into(line, name, out),
+        Cuts::Object { name } => object_into(line, name, out),
         Cuts::Set {
             side,
             name,
             attr,
             value,
-        } => set_command(alloc, line, side, name, attr, value),
-        Cuts::Env { name, value } => env_command(alloc, line, name, value),
-        Cuts::Tick { tick } => tick_command(alloc, line, tick),
+        } => set_into(alloc, line, side, name, attr, value, out)?,
+        Cuts::Env { name, value } => env_into(alloc, line, name, value, out)?,
+        Cuts::Tick { tick } => tick_into(alloc, line, tick, out)?,
         Cuts::Act {
             subject,
             action,
             object,
-        } => act_command(line, subject, action, object),
+        } => act_into(line, subject, action, object, out),
         Cuts::Try {
             subject,
             right,
             object,
-        } => try_command(line, subject, right, object),
-        Cuts::Again(n) => Ok(Command::Again(n)),
-        Cuts::Beat(n) => Ok(Command::Beat(n)),
-        Cuts::End(n) => Ok(Command::End(n)),
-        Cuts::Look(n) => Ok(Command::Look(n)),
-        Cuts::Value { side, name, attr } => value_command(line, side, name, attr),
-        Cuts::Amend { policy } => amend_command(alloc, line, policy),
+        } => try_into(line, subject, right, object, out),
+        Cuts::Again(n) => *out = Command::Again(n),
+        Cuts::Beat(n) => *out = Command::Beat(n),
+        Cuts::End(n) => *out = Command::End(n),
+        Cuts::Look(n) => *out = Command::Look(n),
+        Cuts::Value { side, name, attr } => value_into(line, side, name, attr, out),
+        Cuts::Amend { policy } => amend_into(alloc, line, policy, out)?,
     }
+    Ok(())
 }
 
 /// `subject`, by where its name begins.
-fn subject_command(line: &[u8], name: u16) -> Result<Command, NoMemory>
+fn subject_into(line: &[u8], name: u16, out: &mut Command)
     requires { IsTrue (ends_in_name name line.now) }
-    ensures { IfOk result (λ c. command_cut (Cuts.Subject name) line.now ≡ Some c) }
+    ensures { command_cut (Cuts.Subject name) line.now ≡ Some out.new }
 {
-    Ok(Command::Subject(last_name(line, name)))
+    *out = Command::Subject(last_name(line, name));
 }
 
 /// `object`, by where its name begins.
-fn object_command(line: &[u8], name: u16) -> Result<Command, NoMemory>
+fn object_into(line: &[u8], name: u16, out: &mut Command)
     requires { IsTrue (ends_in_name name line.now) }
-    ensures { IfOk result (λ c. command_cut (Cuts.Object name) line.now ≡ Some c) }
+    ensures { command_cut (Cuts.Object name) line.now ≡ Some out.new }
 {
-    Ok(Command::Object(last_name(line, name)))
+    *out = Command::Object(last_name(line, name));
 }
 
 /// `set`, by where its names and its value begin.
-fn set_command(
+fn set_into(
     alloc: Global,
     line: &[u8],
     side: Side,
     name: u16,
     attr: u16,
     value: u16,
-) -> Result<Command, NoMemory>
+    out: &mut Command,
+) -> Result<(), NoMemory>
     requires name { IsTrue (has_name name attr line.now) }
     requires attr { IsTrue (has_name attr value line.now) }
     requires value { IsSome (value_in (drop value line.now)) }
-    ensures { IfOk result (λ c. command_cut (Cuts.Set side name attr value) line.now ≡ Some c) }
+    ensures ok { OnOk result (command_cut (Cuts.Set side name attr value) line.now ≡ Some out.new) }
+    ensures err { OnErr result (out.new ≡ out.old) }
 {
-    Ok(Command::Set {
+    *out = Command::Set {
         side,
         name: name_between(line, name, attr),
         attr: name_between(line, attr, value),
         value: last_value(alloc, line, value)?,
-    })
+    };
+    Ok(())
 }
 
 /// `env`, by where its name and its value begin.
-fn env_command(alloc: Global, line: &[u8], name: u16, value: u16) -> Result<Command, NoMemory>
+fn env_into(
+    alloc: Global,
+    line: &[u8],
+    name: u16,
+    value: u16,
+    out: &mut Command,
+) -> Result<(), NoMemory>
     requires name { IsTrue (has_name name value line.now) }
     requires value { IsSome (value_in (drop value line.now)) }
-    ensures { IfOk result (λ c. command_cut (Cuts.Env name value) line.now ≡ Some c) }
+    ensures ok { OnOk result (command_cut (Cuts.Env name value) line.now ≡ Some out.new) }
+    ensures err { OnErr result (out.new ≡ out.old) }
 {
-    Ok(Command::Env {
+    *out = Command::Env {
         name: name_between(line, name, value),
         value: last_value(alloc, line, value)?,
-    })
+    };
+    Ok(())
 }
 
 /// `tick`, by where its integer begins.
-fn tick_command(alloc: Global, line: &[u8], tick: u16) -> Result<Command, NoMemory>
+fn tick_into(alloc: Global, line: &[u8], tick: u16, out: &mut Command) -> Result<(), NoMemory>
     requires within { tick ≤ length line.now }
     requires integer { IsSome (integer_in (drop tick line.now)) }
-    ensures { IfOk result (λ c. command_cut (Cuts.Tick tick) line.now ≡ Some c) }
+    ensures ok { OnOk result (command_cut (Cuts.Tick tick) line.now ≡ Some out.new) }
+    ensures err { OnErr result (out.new ≡ out.old) }
 {
-    Ok(Command::Tick(last_integer(alloc, line, tick)?))
+    *out = Command::Tick(last_integer(alloc, line, tick)?);
+    Ok(())
 }
 
 /// `act`, by where its names begin.
-fn act_command(line: &[u8], subject: u16, action: u16, object: u16) -> Result<Command, NoMemory>
+fn act_into(line: &[u8], subject: u16, action: u16, object: u16, out: &mut Command)
     requires subject { IsTrue (has_name subject action line.now) }
     requires action { IsTrue (has_name action object line.now) }
     requires object { IsTrue (ends_in_name object line.now) }
-    ensures { IfOk result (λ c. command_cut (Cuts.Act subject action object) line.now ≡ Some c) }
+    ensures { command_cut (Cuts.Act subject action object) line.now ≡ Some out.new }
 {
-    Ok(Command::Act {
+    *out = Command::Act {
         subject: name_between(line, subject, action),
         action: name_between(line, action, object),
         object: last_name(line, object),
-    })
+    };
 }
 
 /// `try`, by where its names begin.
-fn try_command(line: &[u8], subject: u16, right: u16, object: u16) -> Result<Command, NoMemory>
+#[inline(always)]
+fn try_into(line: &[u8], subject: u16, right: u16, object: u16, out: &mut Command)
     requires subject { IsTrue (has_name subject right line.now) }
     requires right { IsTrue (has_name right object line.now) }
     requires object { IsTrue (ends_in_name object line.now) }
-    ensures { IfOk result (λ c. command_cut (Cuts.Try subject right object) line.now ≡ Some c) }
+    ensures { command_cut (Cuts.Try subject right object) line.now ≡ Some out.new }
 {
-    Ok(Command::Try {
+    *out = Command::Try {
         subject: name_between(line, subject, right),
         right: name_between(line, right, object),
         object: last_name(line, object),
-    })
+    };
 }
 
 /// `value`, by where its names begin.
-fn value_command(line: &[u8], side: Side, name: u16, attr: u16) -> Result<Command, NoMemory>
+fn value_into(line: &[u8], side: Side, name: u16, attr: u16, out: &mut Command)
     requires name { IsTrue (has_name name attr line.now) }
     requires attr { IsTrue (ends_in_name attr line.now) }
-    ensures { IfOk result (λ c. command_cut (Cuts.Value side name attr) line.now ≡ Some c) }
+    ensures { command_cut (Cuts.Value side name attr) line.now ≡ Some out.new }
 {
-    Ok(Command::Value {
+    *out = Command::Value {
         side,
         name: name_between(line, name, attr),
         attr: last_name(line, attr),
-    })
+    };
 }
 
 /// `amend`, by where its policy begins.
-fn amend_command(alloc: Global, line: &[u8], policy: u32) -> Result<Command, NoMemory>
+fn amend_into(alloc: Global, line: &[u8], policy: u32, out: &mut Command) -> Result<(), NoMemory>
     requires within { policy ≤ length line.now }
     requires amendment { IsSome (amendment_in accepted (drop policy line.now)) }
-    ensures { IfOk result (λ c. command_cut (Cuts.Amend policy) line.now ≡ Some c) }
+    ensures ok { OnOk result (command_cut (Cuts.Amend policy) line.now ≡ Some out.new) }
+    ensures err { OnErr result (out.new ≡ out.old) }
 {
-    Ok(Command::Amend(last_amendment(alloc, line, policy)?))
+    *out = Command::Amend(last_amendment(alloc, line, policy)?);
+    Ok(())
 }
 
 /// The name from one place up to the space before another.

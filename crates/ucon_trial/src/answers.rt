@@ -31,19 +31,30 @@ pub fn run_lines<E: Engine, R: Hearer>(
     ensures few { length lines.now < 2 ^ 64 }
 {
     let mut steps = Steps::new();
+    let mut command = Command::Look(0);
     let mut place = 0u64;
     for line in lines {
-        place = answer_one(alloc, &mut engine, &mut hearer, &mut steps, place, line)?;
+        place = answer_one(
+            alloc,
+            &mut engine,
+            &mut hearer,
+            &mut steps,
+            &mut command,
+            place,
+            line,
+        )?;
     }
     Ok(hearer)
 }
 
-/// Answers one line, and tells the hearer the answer. The number of records after it comes back.
+/// Answers one line, and tells the hearer the answer. The line's command is written over another one. The number of records after it
+/// comes back.
 fn answer_one<E: Engine, R: Hearer>(
     alloc: Global,
     engine: &mut E,
     hearer: &mut R,
     steps: &mut Steps,
+    command: &mut Command,
     place: u64,
     line: &LineText<'_>,
 ) -> Result<u64, NoMemory>
@@ -52,8 +63,8 @@ fn answer_one<E: Engine, R: Hearer>(
     ensures answers { IfOk result (λ next. (P : PlainPolicy) (H : History) → StandsFor E.follows engine.old P H
         → Answers P (StandsFor E.follows engine.new P) (λ reply. HearsMore R.hears hearer.old hearer.new (replied (entry_of line.now) reply)) H place next (entry_of line.now)) }
 {
-    match line.command.command(alloc) {
-        Ok(command) => answer(alloc, engine, hearer, steps, place, line, &command),
+    match line.command.command_into(alloc, command) {
+        Ok(()) => answer(alloc, engine, hearer, steps, place, line, command),
         Err(_) => {
             hearer.no_memory(line)?;
             Ok(place)
@@ -92,6 +103,7 @@ fn answer<E: Engine, R: Hearer>(
 }
 
 /// Keeps the change that is pending, where there is one.
+#[inline(always)]
 fn keep_change<E: Engine>(engine: &mut E, changes: bool)
     requires pending { IsTrue changes → IsPending E.has_pending engine.old }
     requires idle { IsFalse changes → IsIdle E.follows engine.old }

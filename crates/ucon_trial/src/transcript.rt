@@ -86,6 +86,7 @@ pub fn put_unplaced(out: &mut Vec<u8>, caller: Caller, answer: &[u8]) -> Result<
 }
 
 /// Adds the client's number and a space.
+#[inline(always)]
 fn put_client(out: &mut Vec<u8>, caller: Caller) -> Result<(), NoMemory>
     ensures text { OnOk result (out.new.items ≡ out.old.items ++ (decimal caller.0 ++ 32 ∷ [])) }
     ensures client { OnOk result (caller.0 < 256) }
@@ -96,6 +97,7 @@ fn put_client(out: &mut Vec<u8>, caller: Caller) -> Result<(), NoMemory>
 }
 
 /// Adds the client's number, which mostly has one digit.
+#[inline(always)]
 #[tactic(auto, using(std::proofs::lemmas::Fmt::decimal_digit))]
 fn put_caller(out: &mut Vec<u8>, caller: Caller) -> Result<(), NoMemory>
     ensures text { OnOk result (out.new.items ≡ out.old.items ++ decimal caller.0) }
