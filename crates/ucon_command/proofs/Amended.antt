@@ -16,8 +16,9 @@ use Rattle.ucon_model.specs.declared.command.Command.TheVariants.{Amend}
 use Rattle.ucon_model.specs.CommandLine.{LineRefusal, Word, placed, words_of, wrong_count, bad_word, said, made, amendment_in, amend_words, command_read, most_bytes}
 use Rattle.ucon_model.specs.Plain.{Bytes, Amendment}
 use Rattle.ucon_syntax.specs.Policies.{accepted}
-use Rattle.ucon_command.specs.Cuts.{AreCuts, IsSecond, word_to, words_at, words_from}
-use Rattle.ucon_command.proofs.Joined.{split, join, split_first, split_some}
+use Rattle.ucon_command.specs.Cuts.{AreCuts, IsSecond}
+use Rattle.ucon_reply.specs.Words.{word_to, words_at, words_from}
+use Rattle.ucon_reply.specs.Joined.{split, join, split_first, split_some}
 use Rattle.ucon_command.proofs.Judged.{cuts_give, first_at}
 use Rattle.ucon_command.proofs.SpelledLines.{said_is, same_bytes}
 

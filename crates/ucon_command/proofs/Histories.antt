@@ -16,15 +16,21 @@ use Rattle.ucon_model.specs.Payload.{Told, entry_told, most_payload, payload_rea
 use Rattle.ucon_model.specs.Plain.{Bytes, PlainPolicy, PlainReply}
 use Rattle.ucon_model.specs.Spelling.{reply_spelling}
 use Rattle.ucon_command.specs.Payloads.{AreSteps, IsStep, most_told}
+use Rattle.ucon_command.proofs.Lengths.{CommandsAreShort}
+use Rattle.ucon_command.proofs.LowerLaws.{RepliesAreShort}
 use Rattle.ucon_command.proofs.Payloads.{StepsAreSpelled, payload_short}
 
 -- ---- the texts of steps
 
-pub step_short : (t : Told) → IsStep t → length (payload_spelling t) ≤ most_told t.reply
-step_short t is = payload_short t (omega (arith, is.client)) is.command is.reply
+pub step_short : CommandsAreShort → RepliesAreShort → (t : Told) → IsStep t → length (payload_spelling t) ≤ most_told t.reply
+step_short commands replies t is = payload_short commands replies t (omega (arith, is.client)) is.command is.reply
 
-pub step_fits : (t : Told) → IsStep t → length (payload_spelling t) ≤ most_payload
-step_fits t is = omega (arith, step_short t is, is.few)
+-- each step's payload fits its record
+abbrev pub StepsFit : Type 0
+StepsFit = (t : Told) → IsStep t → length (payload_spelling t) ≤ most_payload
+
+pub step_fits : CommandsAreShort → RepliesAreShort → StepsFit
+step_fits commands replies t is = omega (arith, step_short commands replies t is, is.few)
 
 -- what stands before a step's reply
 abbrev front_of : Entry → Bytes
@@ -105,33 +111,33 @@ module _ (reads : Bytes → Option PlainPolicy) (tells : TextsTell) (as_read : S
       ∙ ap (λ r. option_and_then (with_step P H) (result_ok r)) read
       ∙ ap (λ b. cond b (Some (H ++ entry_told t ∷ [])) None) tests
 
-  pub taken_next : StepsAreRead reads → (P : PlainPolicy) (H : History) (e : Entry) → IsStep (told e (said P H e.caller e.command)) → IsTrue (changes (said P H e.caller e.command))
+  pub taken_next : StepsFit → StepsAreRead reads → (P : PlainPolicy) (H : History) (e : Entry) → IsStep (told e (said P H e.caller e.command)) → IsTrue (changes (said P H e.caller e.command))
       → taken reads P H (payload_spelling (told e (said P H e.caller e.command))) ≡ Some (H ++ e ∷ [])
-  taken_next back P H e is changing =
+  taken_next fits back P H e is changing =
       let t : Told = told e (said P H e.caller e.command) in
-      taken_as_spelled P H (payload_spelling t) t (step_fits t is) (back t is)
+      taken_as_spelled P H (payload_spelling t) t (fits t is) (back t is)
       ∙ ap (λ b. cond (b && bytes_eq (payload_spelling t) (payload_spelling t)) (Some (H ++ e ∷ [])) None) changing
       ∙ ap (λ b. cond b (Some (H ++ e ∷ [])) None) (same_bytes (payload_spelling t))
 
   -- ---- what is written is found
 
-  found-behind : StepsAreRead reads → (takes : Takes) → TakesSteps reads takes → (text : Bytes) (P : PlainPolicy) (rest front : History) (number gate : ℕ) → IsProperFrom P front rest → AreSteps P front rest
+  found-behind : StepsFit → StepsAreRead reads → (takes : Takes) → TakesSteps reads takes → (text : Bytes) (P : PlainPolicy) (rest front : History) (number gate : ℕ) → IsProperFrom P front rest → AreSteps P front rest
       → found_behind takes text P front number gate (payloads_behind P front rest) ≡ holds text P (front ++ rest) (gate_behind gate (payloads_behind P front rest))
-  found-behind back takes each text P [] front number gate proper steps = ap (λ H. holds text P H gate) (sym (append-nil front))
-  found-behind back takes each text P (e ∷ rest) front number gate proper steps =
+  found-behind fits back takes each text P [] front number gate proper steps = ap (λ H. holds text P H gate) (sym (append-nil front))
+  found-behind fits back takes each text P (e ∷ rest) front number gate proper steps =
       let payload : Bytes = payload_spelling (told e (said P front e.caller e.command)) in
       ap (λ o. unwrap_or (option_map (λ later. found_behind takes text P later (number + 1) (next_gate gate payload) (payloads_behind P (front ++ e ∷ []) rest)) o) (damaged number gate))
-      (each text P front (front ++ e ∷ []) payload (taken_next back P front e steps.0 proper.0))
-      ∙ found-behind back takes each text P rest (front ++ e ∷ []) (number + 1) (next_gate gate payload) proper.1 steps.1
+      (each text P front (front ++ e ∷ []) payload (taken_next fits back P front e steps.0 proper.0))
+      ∙ found-behind fits back takes each text P rest (front ++ e ∷ []) (number + 1) (next_gate gate payload) proper.1 steps.1
       ∙ ap (λ H. holds text P H (gate_behind (next_gate gate payload) (payloads_behind P (front ++ e ∷ []) rest))) (append_assoc front (e ∷ []) rest)
 
-  pub history_found : StepsAreRead reads → (takes : Takes) (text : Bytes) (P : PlainPolicy) (H : History) → TakesSteps reads takes
+  pub history_found : StepsFit → StepsAreRead reads → (takes : Takes) (text : Bytes) (P : PlainPolicy) (H : History) → TakesSteps reads takes
       → reads text ≡ Some P → length text ≤ most_payload → IsProper P H → AreSteps P [] H
       → found_in reads takes (payloads_of text P H) ≡ holds text P H (gate_behind first_gate (payloads_of text P H))
-  history_found back takes text P H each read short proper steps =
+  history_found fits back takes text P H each read short proper steps =
       ap (λ o. unwrap_or (option_map (λ Q. found_behind takes text Q [] 1 (next_gate first_gate text) (payloads_behind P [] H)) o) (damaged 0 first_gate))
       (ap (λ b. cond b None (reads text)) (le-ltb most_payload (length text) short) ∙ read)
-      ∙ found-behind back takes each text P H [] 1 (next_gate first_gate text) proper steps
+      ∙ found-behind fits back takes each text P H [] 1 (next_gate first_gate text) proper steps
 
   -- ---- what is found was written
 

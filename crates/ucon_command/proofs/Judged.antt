@@ -14,8 +14,9 @@ use Rattle.ucon_model.specs.Plain.{Bytes}
 use Rattle.ucon_command.specs.declared.line_fault.LineFault.{LineFault}
 use Rattle.ucon_command.specs.Faults.{IsSure}
 use Rattle.ucon_command.proofs.Refusals.{made_sure}
-use Rattle.ucon_command.specs.Cuts.{AreCuts, between, command_cut, has_name, has_words, words_at}
-use Rattle.ucon_command.proofs.Joined.{split_some}
+use Rattle.ucon_command.specs.Cuts.{AreCuts, command_cut, has_name, has_words}
+use Rattle.ucon_reply.specs.Words.{between, words_at}
+use Rattle.ucon_reply.specs.Joined.{split_some}
 use Rattle.ucon_command.proofs.SpelledLines.{said_is}
 
 pub cuts_give : (k : Cuts) (line : Bytes) (read : Result Command LineRefusal) (c : Command) → read ≡ Ok c → command_cut k line ≡ Some c → IsTrue (has_words k line) → AreCuts k line read

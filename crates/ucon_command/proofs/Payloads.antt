@@ -25,9 +25,8 @@ use Rattle.ucon_model.specs.Views.{reply_of}
 use Rattle.ucon_command.specs.declared.payload_fault.PayloadFault.{PayloadFault}
 use Rattle.ucon_command.specs.declared.payload_fault.PayloadFault.TheVariants.{BadPlace}
 use Rattle.ucon_command.specs.Payloads.{IsBadAt, entry_read, most_told, told_of}
-use Rattle.ucon_command.proofs.Lengths.{short_all, reply_short}
-use Rattle.ucon_command.proofs.LowerLaws.{NumbersLack}
-use Rattle.ucon_command.proofs.ReadReplies.{RepliesAreRead}
+use Rattle.ucon_command.proofs.Lengths.{CommandsAreShort, most}
+use Rattle.ucon_command.proofs.LowerLaws.{NumbersLack, RepliesAreRead, RepliesAreShort}
 use Rattle.ucon_command.proofs.SpelledLines.{same_bytes}
 
 -- ---- what is written is read
@@ -62,21 +61,22 @@ module _ (numbers : NumbersLack) (reads : Bytes → Option PlainPolicy) (command
         step_back (length (decimal t.caller.0) + 1) t is_command is_reply,
       ) refl
 
-pub payload_short : (t : Told) → t.caller.0 < 2 ^ 8 → IsCommand t.command → IsReply t.reply → length (payload_spelling t) ≤ most_told t.reply
-payload_short t lt is_command is_reply =
+pub payload_short : CommandsAreShort → RepliesAreShort → (t : Told) → t.caller.0 < 2 ^ 8 → IsCommand t.command → IsReply t.reply → length (payload_spelling t) ≤ most_told t.reply
+payload_short commands replies t lt is_command is_reply =
     omega (
       arith,
       length-decimal-le 3 t.caller.0 (omega arith) (omega (arith, lt)) (omega (arith, lt)),
-      short_all t.command is_command,
-      reply_short t.reply is_reply,
+      commands t.command is_command,
+      most (command_spelling t.command),
+      replies t.reply is_reply,
       length-append (decimal t.caller.0) (32 ∷ (command_spelling t.command ++ 10 ∷ reply_spelling t.reply)),
       length-append (command_spelling t.command) (10 ∷ reply_spelling t.reply),
     )
 
 -- the same, of what the code holds
-pub text_short : (caller : Caller) (command : Command) (reply : Reply) → caller.0 < 2 ^ 8 → IsCommand command → IsReply (reply_of reply)
+pub text_short : CommandsAreShort → RepliesAreShort → (caller : Caller) (command : Command) (reply : Reply) → caller.0 < 2 ^ 8 → IsCommand command → IsReply (reply_of reply)
     → length (payload_spelling (told_of caller command reply)) ≤ most_told (reply_of reply)
-text_short caller command reply lt is_command is_reply = payload_short (told_of caller command reply) lt is_command is_reply
+text_short commands replies caller command reply lt is_command is_reply = payload_short commands replies (told_of caller command reply) lt is_command is_reply
 
 -- ---- what is read is what is written
 

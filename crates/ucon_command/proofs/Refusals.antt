@@ -1,6 +1,6 @@
 -- Refusals that are told whatever memory there is are told where there is some.
 use Rattle.std.proofs.Common.{Result, Ok, Err, refl, ap}
-use Rattle.std.specs.Prelude.{IsOk}
+use Rattle.std.specs.Prelude.{Option, Some, None, IsOk, IsSome, ok_or}
 use Rattle.std.proofs.lemmas.Bool.{false≢true}
 use Rattle.ucon_command.specs.declared.line_fault.LineFault.{LineFault}
 use Rattle.ucon_command.specs.declared.line_fault.LineFault.TheVariants as faults
@@ -23,6 +23,10 @@ sure_refused said faults.UnknownWord h = h
 sure_refused said (faults.WrongCount n) h = h
 sure_refused said (faults.BadWord place) h = h
 sure_refused said (faults.NoMemory e) h = tt
+
+pub some_said : {A : Type 0} (o : Option A) (refusal : LineRefusal) → IsSome o → IsOk (ok_or o refusal)
+some_said (Some x) refusal h = refl
+some_said None refusal h = absurd (false≢true h)
 
 made_ok : {A : Type 0} (command : A → Command) (said : Result A LineRefusal) → IsOk said → IsOk (made command said)
 made_ok command (Ok x) h = refl

@@ -1,6 +1,6 @@
 -- A line that is read as a command is the command's text.
-use Rattle.std.proofs.Common.{◌≡◌, ℕ, ◌^◌, Bool, true, false, cond, List, [], ◌∷◌, ◌++◌, length, drop, Some, None, Ok, Err, is_ok, is_some, refl, sym, ap, ◌∙◌}
-use Rattle.std.specs.Prelude.{ℤ, pos, negsuc, Result, Option, codes, nat_lt, ok_or, option_map, unwrap_or, option_and_then, ◌==◌}
+use Rattle.std.proofs.Common.{◌≡◌, Bool, true, false, cond, List, [], ◌∷◌, ◌++◌, length, drop, Some, None, Ok, Err, is_ok, is_some, refl, sym, ap, ◌∙◌}
+use Rattle.std.specs.Prelude.{Result, Option, codes, nat_lt, ok_or, option_map, unwrap_or, ◌==◌}
 use Rattle.std.specs.Fmt.{decimal, signed_decimal}
 use Rattle.std.specs.Result.{result_ok, result_unwrap_or}
 use Rattle.std.specs.Str.{bytes_eq}
@@ -10,18 +10,15 @@ use Rattle.std.proofs.lemmas.Slice.Eq.{bytes_eq-Decides}
 use Rattle.ucon_base.specs.declared.value.Side.{Side}
 use Rattle.ucon_base.specs.declared.value.Side.TheVariants as sides
 use Rattle.ucon_base.specs.declared.value.Value.{Value}
-use Rattle.ucon_base.specs.declared.value.Value.TheVariants as values
-use Rattle.ucon_base.specs.declared.value_fault.ValueFault.{ValueFault}
 use Rattle.ucon_base.specs.NameBytes.{is_name}
-use Rattle.ucon_base.specs.Reading.{value_read}
 use Rattle.ucon_base.specs.Spelling.{value_spelling, side_word}
 use Rattle.ucon_model.specs.declared.command.Command.{Command}
 use Rattle.ucon_model.specs.declared.command.Command.TheVariants.{Subject, Object, Set, Env, Tick, Act, Try, Again, Beat, End, Look, Value as Value', Amend}
 use Rattle.ucon_model.specs.Amending.{has_newline}
-use Rattle.ucon_model.specs.CommandLine.{command_words, command_spelling, LineRefusal, no_word, line_too_long, Word, placed, ◌>>=◌, side_in, name_in, value_in, integer_of, integer_in, number_of, number_in, one_word, names_of, three_names, place_of, value_words, set_of, set_words, env_of, env_words, amendment_in, amend_words, made, command_read, words_read, most_bytes, line_read}
+use Rattle.ucon_model.specs.CommandLine.{command_words, command_spelling, LineRefusal, no_word, line_too_long, Word, placed, ◌>>=◌, side_in, name_in, value_in, integer_in, number_in, one_word, names_of, three_names, place_of, value_words, set_of, set_words, env_of, env_words, amendment_in, amend_words, made, command_read, words_read, most_bytes, line_read}
 use Rattle.ucon_model.specs.Plain.{Bytes, PlainPolicy, Amendment}
-use Rattle.ucon_command.proofs.Joined.{split, join, behind, drop-join}
-use Rattle.ucon_command.proofs.LowerLaws.{ValuesAreSpelled}
+use Rattle.ucon_reply.specs.Joined.{split, join, behind, drop-join}
+use Rattle.ucon_command.proofs.LowerLaws.{WordsAreSpelled}
 
 refused : {A : Type 0} {f : LineRefusal} {v : A} → Err f ≡ Ok v → ⊥
 refused h = false≢true (ap is_ok h)
@@ -48,21 +45,6 @@ side_from bs false false side is_s is_o h = absurd (nothing h)
 
 side_is : (bs : Bytes) (side : Side) → side_in bs ≡ Some side → side_word side ≡ bs
 side_is bs side h = side_from bs (bytes_eq bs (codes "s")) (bytes_eq bs (codes "o")) side refl refl h
-
-read_ok : (r : Result Value ValueFault) (v : Value) → result_ok r ≡ Some v → r ≡ Ok v
-read_ok (Ok w) v h = ap (λ o. Ok (unwrap_or o w)) h
-read_ok (Err f) v h = absurd (nothing h)
-
-integer_from : (o : Option Value) (z : ℤ) → option_and_then integer_of o ≡ Some z → o ≡ Some (values.Int z)
-integer_from None z h = absurd (nothing h)
-integer_from (Some (values.Int n)) z h = ap (λ x. Some (values.Int (unwrap_or x n))) h
-integer_from (Some (values.Text t)) z h = absurd (nothing h)
-integer_from (Some (values.Set ts)) z h = absurd (nothing h)
-
-number_from : (o : Option ℤ) (n : ℕ) → option_and_then number_of o ≡ Some n → o ≡ Some (pos n)
-number_from None n h = absurd (nothing h)
-number_from (Some (pos m)) n h = ap (λ x. Some (pos x)) (kept (nat_lt m (2 ^ 32)) m n h)
-number_from (Some (negsuc m)) n h = absurd (nothing h)
 
 pub said_is : {A : Type 0} (o : Option A) (r : LineRefusal) (x : A) → ok_or o r ≡ Ok x → o ≡ Some x
 said_is None r x h = absurd (refused h)
@@ -137,19 +119,10 @@ either false x y c h f g = g h
 
 -- ---- values
 
-module _ (written : ValuesAreSpelled) where
-  pub spelled_is : (bs : Bytes) (v : Value) → value_in bs ≡ Some v → value_spelling v ≡ bs
-  spelled_is bs v h = written bs v (read_ok (value_read bs) v h)
-
-  pub integer_is : (bs : Bytes) (z : ℤ) → integer_in bs ≡ Some z → signed_decimal z ≡ bs
-  integer_is bs z h = spelled_is bs (values.Int z) (integer_from (value_in bs) z h)
-
-  pub number_is : (bs : Bytes) (n : ℕ) → number_in bs ≡ Some n → decimal n ≡ bs
-  number_is bs n h = integer_is bs (pos n) (number_from (integer_in bs) n h)
-
+module _ (words : WordsAreSpelled) where
   -- a value that takes the rest of a line
-  pub rest_is : (front : List Bytes) (line rest : Bytes) (v : Value) → line ≡ join (front ++ rest ∷ []) → value_in (drop (behind 0 front) line) ≡ Some v → value_spelling v ≡ rest
-  rest_is front line rest v is h = spelled_is _ v h ∙ ap (drop (behind 0 front)) is ∙ drop-join front rest
+  rest_is : (front : List Bytes) (line rest : Bytes) (v : Value) → line ≡ join (front ++ rest ∷ []) → value_in (drop (behind 0 front) line) ≡ Some v → value_spelling v ≡ rest
+  rest_is front line rest v is h = words.values _ v h ∙ ap (drop (behind 0 front)) is ∙ drop-join front rest
 
   set_is : (line first : Bytes) (ws : List Bytes) (c : Command) → codes "set" ≡ first → line ≡ join (first ∷ ws) → set_words line (placed 0 (first ∷ ws)) ≡ Ok c → join (command_words c) ≡ join (first ∷ ws)
   unfolding set_words set_of
@@ -186,7 +159,7 @@ module _ (written : ValuesAreSpelled) where
 -- ---- lines
 
 -- however the texts of policies are read
-module _ (written : ValuesAreSpelled) (reads : Bytes → Option PlainPolicy) where
+module _ (words : WordsAreSpelled) (reads : Bytes → Option PlainPolicy) where
   -- what a text is read as keeps the text
   amendment_from : (text : Bytes) (policy : Option PlainPolicy) (a : Amendment) → option_map (λ p. record { text = text; policy = p }) policy ≡ Some a → a.text ≡ text
   amendment_from text None a h = absurd (nothing h)
@@ -213,15 +186,15 @@ module _ (written : ValuesAreSpelled) (reads : Bytes → Option PlainPolicy) whe
       let word : (w : Bytes) → bytes_eq first w ≡ true → w ≡ first = λ w e. sym (same_bytes first w e) in
       either _ _ _ c h (λ e r. from Subject (λ x. x ∷ []) (codes "subject") first ws _ c (λ x. refl) (word _ e) (one_is name_in (λ x. x) name_is first ws) r) (λ h1.
       either _ _ _ c h1 (λ e r. from Object (λ x. x ∷ []) (codes "object") first ws _ c (λ x. refl) (word _ e) (one_is name_in (λ x. x) name_is first ws) r) (λ h2.
-      either _ _ _ c h2 (λ e r. set_is written line first ws c (word _ e) is r) (λ h3.
-      either _ _ _ c h3 (λ e r. env_is written line first ws c (word _ e) is r) (λ h4.
-      either _ _ _ c h4 (λ e r. from Tick (λ x. signed_decimal x ∷ []) (codes "tick") first ws _ c (λ x. refl) (word _ e) (one_is integer_in signed_decimal (integer_is written) first ws) r) (λ h5.
+      either _ _ _ c h2 (λ e r. set_is words line first ws c (word _ e) is r) (λ h3.
+      either _ _ _ c h3 (λ e r. env_is words line first ws c (word _ e) is r) (λ h4.
+      either _ _ _ c h4 (λ e r. from Tick (λ x. signed_decimal x ∷ []) (codes "tick") first ws _ c (λ x. refl) (word _ e) (one_is integer_in signed_decimal words.integers first ws) r) (λ h5.
       either _ _ _ c h5 (λ e r. from (λ t. Act t.0 t.1 t.2) (λ t. t.0 ∷ t.1 ∷ t.2 ∷ []) (codes "act") first ws _ c (λ x. refl) (word _ e) (three_is first ws) r) (λ h6.
       either _ _ _ c h6 (λ e r. from (λ t. Try t.0 t.1 t.2) (λ t. t.0 ∷ t.1 ∷ t.2 ∷ []) (codes "try") first ws _ c (λ x. refl) (word _ e) (three_is first ws) r) (λ h7.
-      either _ _ _ c h7 (λ e r. from Again (λ x. decimal x ∷ []) (codes "again") first ws _ c (λ x. refl) (word _ e) (one_is number_in decimal (number_is written) first ws) r) (λ h8.
-      either _ _ _ c h8 (λ e r. from Beat (λ x. decimal x ∷ []) (codes "beat") first ws _ c (λ x. refl) (word _ e) (one_is number_in decimal (number_is written) first ws) r) (λ h9.
-      either _ _ _ c h9 (λ e r. from End (λ x. decimal x ∷ []) (codes "end") first ws _ c (λ x. refl) (word _ e) (one_is number_in decimal (number_is written) first ws) r) (λ h10.
-      either _ _ _ c h10 (λ e r. from Look (λ x. decimal x ∷ []) (codes "look") first ws _ c (λ x. refl) (word _ e) (one_is number_in decimal (number_is written) first ws) r) (λ h11.
+      either _ _ _ c h7 (λ e r. from Again (λ x. decimal x ∷ []) (codes "again") first ws _ c (λ x. refl) (word _ e) (one_is number_in decimal words.numbers first ws) r) (λ h8.
+      either _ _ _ c h8 (λ e r. from Beat (λ x. decimal x ∷ []) (codes "beat") first ws _ c (λ x. refl) (word _ e) (one_is number_in decimal words.numbers first ws) r) (λ h9.
+      either _ _ _ c h9 (λ e r. from End (λ x. decimal x ∷ []) (codes "end") first ws _ c (λ x. refl) (word _ e) (one_is number_in decimal words.numbers first ws) r) (λ h10.
+      either _ _ _ c h10 (λ e r. from Look (λ x. decimal x ∷ []) (codes "look") first ws _ c (λ x. refl) (word _ e) (one_is number_in decimal words.numbers first ws) r) (λ h11.
       either _ _ _ c h11 (λ e r. from (λ p. Value' p.0 p.1 p.2) (λ p. side_word p.0 ∷ p.1 ∷ p.2 ∷ []) (codes "value") first ws _ c (λ x. refl) (word _ e) (value_words_is first ws) r) (λ h12.
       either _ _ _ c h12 (λ e r. amend_is line first ws c (word _ e) is r) (λ h13.
       absurd (refused h13))))))))))))))

@@ -1,7 +1,6 @@
 -- Where the words of a line stand, and the command that they give.
-use Rattle.std.specs.Prelude.{◌≡◌, ℕ, ◌-◌, ◌≤◌, ◌<◌, Bool, ◌&&◌, true, ◌==◌, nat_lt, nat_le, IsTrue, IsOk, List, [], ◌∷◌, drop, length, slice_range, Option, Some, None, option_map, IfSome, Result}
+use Rattle.std.specs.Prelude.{◌≡◌, ℕ, ◌≤◌, ◌<◌, Bool, ◌&&◌, true, nat_lt, nat_le, IsTrue, IsOk, ◌∷◌, drop, length, Option, Some, option_map, IfSome, Result}
 use Rattle.std.specs.Coded.{Coded-set, coded_option}
-use Rattle.std.specs.List.{slice_split}
 use Rattle.std.specs.Result.{result_ok}
 use Rattle.ucon_base.specs.NameBytes.{is_name}
 use Rattle.ucon_command.specs.declared.cuts.Cuts.{Cuts}
@@ -9,29 +8,10 @@ use Rattle.ucon_command.specs.declared.cuts.Cuts.TheVariants as cuts
 use Rattle.ucon_model.specs.contracts.command.Command as the_command
 use Rattle.ucon_model.specs.declared.command.Command.{Command}
 use Rattle.ucon_model.specs.declared.command.Command.TheVariants.{Subject, Object, Set, Env, Tick, Act, Try, Again, Beat, End, Look, Value as Value', Amend}
-use Rattle.ucon_model.specs.CommandLine.{LineRefusal, Word, placed, words_of, value_in, integer_in, amendment_in}
+use Rattle.ucon_model.specs.CommandLine.{LineRefusal, words_of, value_in, integer_in, amendment_in}
 use Rattle.ucon_model.specs.Plain.{Bytes}
+use Rattle.ucon_reply.specs.Words.{between, word_to, words_from}
 use Rattle.ucon_syntax.specs.Policies.{accepted}
-
--- ---- the words of a line
-
--- the words from a place on
-abbrev pub words_at : ℕ → Bytes → List Word
-words_at at line = placed at (slice_split (λ b. b == 32) (drop at line))
-
--- those from a place on, if there is one
-abbrev pub words_from : Option ℕ → Bytes → List Word
-words_from None line = []
-words_from (Some at) line = words_at at line
-
--- the bytes of a line from one place up to the space before another
-abbrev pub between : ℕ → ℕ → Bytes → Bytes
-between at next line = slice_range line at (next - 1)
-
--- the word that begins at a place, and behind which the next one begins at another, if there is one
-abbrev pub word_to : ℕ → Option ℕ → Bytes → Word
-word_to at None line = record { at = at; text = drop at line }
-word_to at (Some next) line = record { at = at; text = between at next line }
 
 -- a line's words are the first and those from this place on
 pub record IsSecond (second : Option ℕ) (line : Bytes) : Type 0 where

@@ -1,13 +1,10 @@
--- What the faults of lines and replies tell.
-use Rattle.std.specs.Prelude.{◌≡◌, Bool, Option, None, Result, Err, IsOk, codes, nat_eq, ⊤}
+-- What the faults of lines tell.
+use Rattle.std.specs.Prelude.{◌≡◌, Bool, Result, Err, IsOk, codes, nat_eq, ⊤}
 use Rattle.std.specs.List.{starts_with}
 use Rattle.ucon_command.specs.declared.line_fault.LineFault.{LineFault}
 use Rattle.ucon_command.specs.declared.line_fault.LineFault.TheVariants.{TooLong, NoWord, UnknownWord, WrongCount, BadWord, NoMemory}
-use Rattle.ucon_command.specs.declared.reply_fault.ReplyFault.{ReplyFault}
-use Rattle.ucon_command.specs.declared.reply_fault.ReplyFault.TheVariants as replies
 use Rattle.ucon_model.specs.CommandLine.{LineRefusal, line_too_long, no_word, unknown_word, wrong_count, bad_word}
 use Rattle.ucon_model.specs.Plain.{Bytes}
-use Rattle.ucon_model.specs.ReplyText.{IsReplyText}
 
 -- what is said is this refusal, and want of memory is told only where this is so
 abbrev pub IsRefusalOr : {A : Type 0} → Type 0 → Result A LineRefusal → LineFault → Type 0
@@ -33,13 +30,3 @@ IsTold said f = IsRefusalOr ⊥ said f
 -- whether a line is one that amends
 abbrev pub amends : Bytes → Bool
 amends line = starts_with nat_eq line (codes "amend ")
-
--- nothing is read, unless it is want of memory
-abbrev pub IsUnread : {A : Type 0} → Option A → ReplyFault → Type 0
-IsUnread read replies.BadReply = read ≡ None
-IsUnread read (replies.NoMemory e) = ⊤
-
--- the bytes are no reply's text, unless it is want of memory
-abbrev pub IsNoReply : Bytes → ReplyFault → Type 0
-IsNoReply bytes replies.BadReply = IsReplyText bytes → ⊥
-IsNoReply bytes (replies.NoMemory e) = ⊤

@@ -1,4 +1,3 @@
-pub mod Words
 pub mod Cuts
 pub mod Faults
 pub mod Payloads

@@ -1,5 +1,5 @@
 -- What the calls of payloads give and refuse.
-use Rattle.std.specs.Prelude.{◌≡◌, ◌+◌, ◌*◌, ◌<◌, ◌≤◌, ℕ, [], ◌∷◌, ◌++◌, length, Option, Result, Ok, Err, ok_or, ⊤}
+use Rattle.std.specs.Prelude.{◌≡◌, ◌+◌, ◌<◌, ◌≤◌, ℕ, [], ◌∷◌, ◌++◌, length, Option, Result, Ok, Err, ok_or, ⊤}
 use Rattle.std.specs.Result.{result_ok}
 use Rattle.ucon_base.specs.Elements.{Each}
 use Rattle.ucon_command.specs.declared.payload_fault.PayloadFault.{PayloadFault}
@@ -15,6 +15,7 @@ use Rattle.ucon_model.specs.Payload.{Told, told, caller_read, revocations_in, �
 use Rattle.ucon_model.specs.Plain.{Bytes, PlainPolicy, PlainReply}
 use Rattle.ucon_model.specs.ReplyText.{IsReply}
 use Rattle.ucon_model.specs.Views.{reply_of}
+use Rattle.ucon_reply.specs.Replies.{most_reply}
 
 -- a caller's command and the reply to it, as they stand in definitions
 abbrev pub told_of : Caller → Command → Reply → Told
@@ -35,11 +36,7 @@ abbrev pub IsBadAt : {A : Type 0} → Result A ℕ → PayloadFault → Type 0
 IsBadAt read (BadPlace place) = read ≡ Err place
 IsBadAt read (NoMemory e) = ⊤
 
--- no reply's text is longer, by the number of its revocations
-abbrev pub most_reply : PlainReply → ℕ
-most_reply reply = 4306 + 52 * length (revocations_in reply)
-
--- nor is a payload, of which a command's text has at most 65,542 bytes
+-- no payload is longer, of which a command's text has at most 65,542 bytes
 abbrev pub most_told : PlainReply → ℕ
 most_told reply = 65547 + most_reply reply
 

@@ -8,10 +8,10 @@ ghost use Rattle.ucon_syntax.specs.Policies.{accepted};
 
 use crate::in_form::command_in_form;
 use crate::laws::commands_are_read_back;
-use crate::spelling::{put_name, put_session, put_value};
 use std::alloc::Global;
 use ucon_base::{Name, NoMemory, Side, put, put_integer};
 use ucon_model::{Amend, Command};
+use ucon_reply::{put_name, put_session, put_value};
 
 /// The one line that reads as the command, without a newline: at most 65,542 bytes for an amendment, and 8192 for any other.
 pub fn command_text(alloc: Global, command: &Command) -> Result<Vec<u8>, NoMemory>

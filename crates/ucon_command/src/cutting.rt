@@ -4,7 +4,8 @@ ghost use Rattle.std.specs.Prelude.{◌≡◌, ◌<◌, ◌≤◌, drop, length,
 ghost use Rattle.ucon_base.specs.Reading.{value_read};
 ghost use Rattle.ucon_model.specs.CommandLine.{amendment_in, integer_in, value_in};
 ghost use Rattle.ucon_syntax.specs.Policies.{accepted};
-ghost use Rattle.ucon_command.specs.Cuts.{between, command_cut, ends_in_name, has_name, has_words};
+ghost use Rattle.ucon_command.specs.Cuts.{command_cut, ends_in_name, has_name, has_words};
+ghost use Rattle.ucon_reply.specs.Words.{between};
 
 use crate::amendment::amendment_in;
 use crate::cuts::Cuts;

@@ -5,18 +5,18 @@ ghost use Rattle.std.specs.Result.{result_ok};
 ghost use Rattle.ucon_base.specs.NameBytes.{is_name};
 ghost use Rattle.ucon_model.specs.CommandLine.{name_in, integer_in, number_in, one_word, three_names, place_of, value_words, set_words, env_words, amend_words, words_of};
 ghost use Rattle.ucon_syntax.specs.Policies.{accepted};
-ghost use Rattle.ucon_command.specs.Cuts.{AreCuts, IsSecond, between, ends_in_name, has_name, words_at, words_from};
+ghost use Rattle.ucon_command.specs.Cuts.{AreCuts, IsSecond, ends_in_name, has_name};
 ghost use Rattle.ucon_command.specs.Faults.{IsRefusal, IsSure, IsTold};
-ghost use Rattle.ucon_command.specs.Words.{word_of};
+ghost use Rattle.ucon_reply.specs.Words.{between, word_of, words_at, words_from};
 
 use crate::cuts::Cuts;
 use crate::kinds::{
     amendment_word, integer_word, name_word, number_word, seen_name, side_word, value_word,
 };
 use crate::line_fault::LineFault;
-use crate::words::{Word, last_word, name_then, next_word, word_between, word_count};
 use std::alloc::Global;
 use ucon_base::Side;
+use ucon_reply::{Word, last_word, name_then, next_word, word_between, word_count};
 
 /// Where a line's second word begins, if it has no third.
 fn one_word(line: &[u8], second: Option<usize>) -> Option<usize>

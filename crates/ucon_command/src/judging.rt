@@ -4,16 +4,17 @@ ghost use Rattle.std.specs.Prelude.{◌≡◌, ◌<◌, ◌≤◌, ◌-◌, leng
 ghost use Rattle.std.specs.Str.{bytes_eq};
 ghost use Rattle.ucon_model.specs.CommandLine.{command_read, line_read, most_bytes, words_of};
 ghost use Rattle.ucon_syntax.specs.Policies.{accepted};
-ghost use Rattle.ucon_command.specs.Cuts.{AreCuts, IsSecond, word_to};
+ghost use Rattle.ucon_command.specs.Cuts.{AreCuts, IsSecond};
 ghost use Rattle.ucon_command.specs.Faults.{IsRefusal, IsSure, amends};
+ghost use Rattle.ucon_reply.specs.Words.{word_to};
 
 use crate::cuts::Cuts;
 use crate::forms::{
     amend_words, env_words, one_integer, one_name, one_number, set_words, three_names, value_words,
 };
 use crate::line_fault::LineFault;
-use crate::words::next_word;
 use std::alloc::Global;
+use ucon_reply::next_word;
 
 /// Where the words of a line's command stand, or the first refusal. A line of too many bytes is refused before any memory is taken,
 /// and of another line than an amendment each refusal is told whatever memory there is.

@@ -1,17 +1,17 @@
-//! What a word says, by its kind.
+//! What a word of a command says, by its kind.
 
-ghost use Rattle.std.specs.Prelude.{◌≡◌, IfErr, IfOk, IsOk, IsSome, IsTrue, MatchResult};
+ghost use Rattle.std.specs.Prelude.{◌≡◌, IfOk, IsOk, IsTrue, MatchResult};
 ghost use Rattle.ucon_base.specs.NameBytes.{is_name};
-ghost use Rattle.ucon_model.specs.CommandLine.{side_in, name_in, value_in, integer_of, integer_in, number_of, number_in, amendment_in, said};
+ghost use Rattle.ucon_model.specs.CommandLine.{side_in, name_in, value_in, integer_in, number_in, amendment_in, said};
 ghost use Rattle.ucon_syntax.specs.Policies.{accepted};
-ghost use Rattle.ucon_command.specs.Words.{word_of};
 ghost use Rattle.ucon_command.specs.Faults.{IsRefusal, IsSure, IsTold};
+ghost use Rattle.ucon_reply.specs.Words.{word_of};
 
 use crate::amendment::amendment_in;
 use crate::line_fault::LineFault;
-use crate::words::Word;
 use std::alloc::Global;
-use ucon_base::{Int, Name, NoMemory, Side, Value, ValueFault};
+use ucon_base::{Int, Side, Value};
+use ucon_reply::{Word, integer_in, is_name, number_in, value_in};
 
 fn side_in(bytes: &[u8]) -> Option<Side>
     ensures { result ≡ side_in bytes.now }
@@ -23,68 +23,6 @@ fn side_in(bytes: &[u8]) -> Option<Side>
     } else {
         None
     }
-}
-
-/// The name that the bytes are.
-pub fn name_in(bytes: &[u8]) -> Option<Name>
-    ensures { result ≡ name_in bytes.now }
-{
-    Name::read(bytes).ok()
-}
-
-/// Whether the bytes are a name.
-pub fn is_name(bytes: &[u8]) -> bool
-    ensures { result ≡ is_name bytes.now }
-{
-    Name::read(bytes).is_ok()
-}
-
-/// The value that the bytes spell. Only a set takes memory.
-pub fn value_in(alloc: Global, bytes: &[u8]) -> Result<Option<Value>, NoMemory>
-    ensures read { IfOk result (λ v. v ≡ value_in bytes.now) }
-    ensures sure { IfErr result (λ _. IsSome (value_in bytes.now)) }
-{
-    match Value::read(alloc, bytes) {
-        Ok(v) => Ok(Some(v)),
-        Err(ValueFault::NoMemory(refused)) => Err(refused),
-        Err(_) => Ok(None),
-    }
-}
-
-fn integer_of(v: &Value) -> Option<Int>
-    ensures { result ≡ integer_of v.now }
-{
-    match v {
-        Value::Int(n) => Some(*n),
-        _ => None,
-    }
-}
-
-/// The integer that the bytes spell. What begins a set is none, so no memory is taken.
-#[tactic(auto, using(crate::proofs::SureValues::no_integer))]
-fn integer_in(alloc: Global, bytes: &[u8]) -> Option<Int>
-    ensures { result ≡ integer_in bytes.now }
-{
-    if bytes.starts_with(b"{") {
-        return None;
-    }
-    match Value::read(alloc, bytes) {
-        Ok(v) => integer_of(&v),
-        Err(_) => None,
-    }
-}
-
-fn number_of(n: Int) -> Option<u32>
-    ensures { result ≡ number_of n }
-{
-    u32::try_from(n.get()).ok()
-}
-
-/// The session's number that the bytes spell. No memory is taken.
-pub fn number_in(alloc: Global, bytes: &[u8]) -> Option<u32>
-    ensures { result ≡ number_in bytes.now }
-{
-    number_of(integer_in(alloc, bytes)?)
 }
 
 /// The side that a word names.

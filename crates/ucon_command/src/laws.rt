@@ -10,15 +10,13 @@ ghost use Rattle.ucon_model.specs.Found.{Takes, TakesSteps, found_in, first_gate
 ghost use Rattle.ucon_model.specs.History.{History, IsProper, changes, said};
 ghost use Rattle.ucon_model.specs.Output.{Lacks};
 ghost use Rattle.ucon_model.specs.Payload.{Told, entry_told, most_payload, payload_read, payload_spelling, told};
-ghost use Rattle.ucon_model.specs.Plain.{Bytes, PlainPolicy, PlainReply};
-ghost use Rattle.ucon_model.specs.ReplyText.{IsReply, reply_read};
-ghost use Rattle.ucon_model.specs.Spelling.{reply_spelling};
+ghost use Rattle.ucon_model.specs.Plain.{Bytes, PlainPolicy};
 ghost use Rattle.ucon_syntax.specs.Policies.{accepted};
 ghost use Rattle.ucon_command.specs.Payloads.{AreOfClients, AreSteps, IsStep, most_told};
 
-use ucon_base::values_are_read_back;
-use ucon_model::{changing_replies_can_be_spelled, revocations_are_few};
-use ucon_runs::{texts_lack_bytes, texts_tell_changes};
+use ucon_model::{changing_replies_can_be_spelled, revocations_are_few, texts_lack_bytes};
+use ucon_reply::{replies_are_read_back, values_fit_lines, words_are_read_back};
+use ucon_runs::texts_tell_changes;
 use ucon_syntax::accepted_texts_spell_typed_policies;
 
 /// Each command's text is read as the command, and a line that is read is the text of the command read. No text of a command has a
@@ -30,16 +28,8 @@ pub fn commands_are_read_back()
     ensures one_line { (c : Command) → IsCommand c → Lacks 10 (command_spelling c) }
 {
     accepted_texts_spell_typed_policies();
-    values_are_read_back();
-    texts_lack_bytes();
-}
-
-/// Each reply's text is read as the reply, and bytes that are read are the text of the reply read.
-pub fn replies_are_read_back()
-    ensures written { (r : PlainReply) → IsReply r → reply_read (reply_spelling r) ≡ Some r }
-    ensures read { (bytes : List ℕ) (r : PlainReply) → reply_read bytes ≡ Some r → reply_spelling r ≡ bytes }
-{
-    values_are_read_back();
+    words_are_read_back();
+    values_fit_lines();
     texts_lack_bytes();
 }
 

@@ -12,20 +12,18 @@ ghost use Rattle.ucon_syntax.specs.Policies.{accepted};
 ghost use Rattle.ucon_command.specs.Payloads.{IsBadAt, entry_read, most_told, told_of};
 
 use crate::commands::put_command;
-use crate::in_form::{command_in_form, reply_in_form};
-use crate::laws::{commands_are_read_back, payloads_are_read_back, replies_are_read_back};
+use crate::in_form::command_in_form;
+use crate::laws::{commands_are_read_back, payloads_are_read_back};
 use crate::line_fault::LineFault;
 use crate::lines::read_command;
 use crate::payload_fault::PayloadFault;
-use crate::reading::read_reply;
-use crate::replies::put_spelling;
-use crate::reply_fault::ReplyFault;
-use crate::spelling::put_session;
 use itoa::Buffer;
 use std::alloc::Global;
 use ucon_base::{NoMemory, put};
-use ucon_model::{Caller, Command, Entry, Reply};
-use ucon_runs::texts_lack_bytes;
+use ucon_model::{Caller, Command, Entry, Reply, texts_lack_bytes};
+use ucon_reply::{
+    ReplyFault, put_session, put_spelling, read_reply, replies_are_read_back, reply_in_form,
+};
 
 /// Of each step of one of the 64 clients the payload is read back, and no payload is longer than its reply lets it be.
 #[tactic(auto, using(crate::proofs::Payloads::text_short))]

@@ -2,6 +2,7 @@ pub mod Extending
 pub mod Settling
 mod SpelledLabels
 mod SpelledReplies
+mod Lacking
 pub mod Scenes
 pub mod FirstRun
 pub mod HigherPullsLower

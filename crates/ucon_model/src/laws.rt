@@ -1,6 +1,8 @@
 //! Laws of the definitions. A law is a function without parameters that does nothing: its contract is what is proved.
 
-ghost use Rattle.std.specs.Prelude.{◌≡◌, ◌+◌, ◌<◌, ◌≤◌, ◌↔◌, ℕ, List, [], ◌∷◌, length, true, Some, None, IsTrue};
+ghost use Rattle.std.specs.Fmt.{decimal};
+ghost use Rattle.std.specs.List.{list_all};
+ghost use Rattle.std.specs.Prelude.{◌≡◌, ◌+◌, ◌<◌, ◌≤◌, ◌^◌, ◌==◌, ◌↔◌, ℕ, List, [], ◌∷◌, ◌++◌, length, false, not, true, Some, None, IsTrue};
 ghost use Rattle.ucon_model.specs.declared.command.Caller.{Caller};
 ghost use Rattle.ucon_model.specs.declared.command.Command.{Command};
 ghost use Rattle.ucon_model.specs.declared.command.Entry.{Entry};
@@ -15,7 +17,9 @@ ghost use Rattle.ucon_model.specs.CommandLine.{IsCommand};
 ghost use Rattle.ucon_model.specs.History.{History, AreCommands, changes, grown, said, trace, trace_from};
 ghost use Rattle.ucon_model.specs.Legal.{AreLegal, IsCascade, IsLegal, RevocationsAreLegal};
 ghost use Rattle.ucon_base.specs.Elements.{Each};
+ghost use Rattle.ucon_base.specs.NameBytes.{is_name, is_word_byte};
 ghost use Rattle.ucon_model.specs.Meaning.{expr_means, test_means};
+ghost use Rattle.ucon_model.specs.Output.{Lacks};
 ghost use Rattle.ucon_model.specs.OwnActions.{make, own};
 ghost use Rattle.ucon_model.specs.Payload.{revocations_in};
 ghost use Rattle.ucon_model.specs.Readings.{accessing, in_force, session};
@@ -143,4 +147,13 @@ pub fn settling_is_the_only_cascade()
     ensures { (P : PlainPolicy) (H : History) (caller : Caller) (c : Command) (head : Head) (actions cascade : List Action)
         → own P (trace P H) caller c ≡ make head actions
         → IsCascade P (extended (trace P H) actions) cascade ↔ (cascade ≡ settle P (extended (trace P H) actions)) }
+{}
+
+/// Two texts that lack a byte lack it as one; a text lacks a byte that is none of its own; a number in decimal lacks each byte below its
+/// digits; and a name lacks each byte that no name may have.
+pub fn texts_lack_bytes()
+    ensures joined { (byte : ℕ) (xs ys : Bytes) → Lacks byte xs → Lacks byte ys → Lacks byte (xs ++ ys) }
+    ensures tested { (byte : ℕ) (text : Bytes) → list_all (λ b. not (b == byte)) text ≡ true → Lacks byte text }
+    ensures numbers { (byte n : ℕ) → byte < 48 → n < 2 ^ 64 → Lacks byte (decimal n) }
+    ensures names { (byte : ℕ) (name : Bytes) → is_word_byte byte ≡ false → is_name name ≡ true → Lacks byte name }
 {}

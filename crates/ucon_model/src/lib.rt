@@ -35,7 +35,8 @@ pub use laws::{
     legal_actions_keep_traces_sound, no_usage_goes_on_failing, places_hold_their_sorts,
     policies_in_force_are_typed, predicates_and_updates_mean_something, revocations_are_few,
     revocations_are_legal, settling_ends, settling_is_the_only_cascade, tests_are_typed,
-    the_least_failing_is_found, updates_fit, usages_are_few, usages_stay_few, values_fit,
+    texts_lack_bytes, the_least_failing_is_found, updates_fit, usages_are_few, usages_stay_few,
+    values_fit,
 };
 pub use policy::{AttrDecl, EnvDecl, Phase, Policy, Predicate, Right, Test, Update, When};
 pub use reply::{Head, Refusal, Reply, Revoked};

@@ -19,8 +19,7 @@ ghost use Rattle.ucon_state.specs.Shown.{Shown};
 ghost use Rattle.ucon_point.specs.PointRead.{IsPoint, Said, is_whole, point_read, point_spelling};
 
 use ucon_base::values_are_read_back;
-use ucon_model::usages_are_few;
-use ucon_runs::texts_lack_bytes;
+use ucon_model::{texts_lack_bytes, usages_are_few};
 use ucon_state::{
     each_action_is_followed, states_hold_what_they_follow, tables_keep_the_trace,
     tables_keep_what_is_followed, traces_of_histories_are_legal, what_is_put_is_followed,

@@ -1,7 +1,6 @@
 mod SerialRuns
 mod StoredRuns
 mod GoingOn
-mod Lacking
 mod ReadBack
 mod TellsChange
 mod FoundOn

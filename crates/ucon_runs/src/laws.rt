@@ -10,6 +10,8 @@ ghost use Rattle.ucon_model.specs.Output.{FitsLine, answers_read, output};
 ghost use Rattle.ucon_model.specs.Plain.{PlainPolicy};
 ghost use Rattle.ucon_model.specs.StoredRun.{LeadsTo, failed_line};
 
+use ucon_model::texts_lack_bytes;
+
 /// A serial run after a history is a legal run after it, in the order of its text.
 pub fn serial_runs_are_legal()
     ensures { (P : PlainPolicy) (G : History) (told : List Answered) → IsSerialRun P G told → IsLegalRun P in_text_order G told }
@@ -42,4 +44,6 @@ pub fn legal_runs_go_on()
 pub fn outputs_are_read_back()
     ensures { (told : List Answered) → Each (λ t. FitsLine t.answer) told → Each (λ t. t.line.caller.0 < 256) told
         → answers_read (map (λ t. t.line) told) (output told) ≡ Some told }
-{}
+{
+    texts_lack_bytes();
+}

@@ -4,10 +4,8 @@
 
 mod finding;
 mod laws;
-mod texts;
 
 pub use finding::{payloads_are_found_one_by_one, texts_tell_changes};
 pub use laws::{
     legal_runs_go_on, outputs_are_read_back, runs_over_a_store_are_legal, serial_runs_are_legal,
 };
-pub use texts::texts_lack_bytes;

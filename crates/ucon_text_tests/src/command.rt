@@ -4,10 +4,10 @@ use std::alloc::Global;
 use std::test::Fail;
 use ucon_base::{Name, Rows, Side, Text, Value};
 use ucon_command::{
-    LineFault, PayloadFault, ReplyFault, command_text, put_payload, read_command, read_entry,
-    read_payload, read_reply, reply_text,
+    LineFault, PayloadFault, command_text, put_payload, read_command, read_entry, read_payload,
 };
 use ucon_model::{Caller, Command, Head, Refusal, Reply, Revoked, SessionState};
+use ucon_reply::{ReplyFault, read_reply, reply_text};
 
 const LINES: [&[u8]; 23] = [
     b"subject ann",

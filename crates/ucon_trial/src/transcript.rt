@@ -13,8 +13,8 @@ ghost use Rattle.ucon_trial.specs.Transcript.{IsTranscript};
 use crate::hearer::Hearer;
 use std::alloc::Global;
 use ucon_base::{NoMemory, put_number};
-use ucon_command::put_reply as put_reply_text;
 use ucon_model::{Caller, Reply};
+use ucon_reply::put_reply as put_reply_text;
 use ucon_script::LineText;
 
 /// The lines of the answers so far.

@@ -1,5 +1,5 @@
 use Rattle.std.proofs.lemmas.Result.{err_from_is_err_and}
-use Rattle.ucon_command.proofs.SureValues.{some_said}
+use Rattle.ucon_command.proofs.Refusals.{some_said}
 use Rattle.ucon_command.proofs.kinds.value_word.Goals as goal
 
 pub returns-in_err-value_in : goal.returns-in_err-value_in

@@ -6,4 +6,4 @@ pub returns : goal.returns
 returns c =
     let tells = c.texts_tell_changes.ensures in
     let payloads = c.payloads_are_read_back.ensures in
-    record { written = history_found accepted tells payloads.read payloads.written; read = found_history accepted tells payloads.read }
+    record { written = history_found accepted tells payloads.read payloads.fits payloads.written; read = found_history accepted tells payloads.read }

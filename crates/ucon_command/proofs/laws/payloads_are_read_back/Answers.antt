@@ -10,6 +10,6 @@ returns c =
     record {
       written = λ t is. back t is.client is.command is.reply;
       read = payload_from accepted c.commands_are_read_back.ensures.read c.replies_are_read_back.ensures.read;
-      short = step_short;
-      fits = step_fits;
+      short = step_short c.commands_are_read_back.ensures.short c.replies_are_read_back.ensures.short;
+      fits = step_fits c.commands_are_read_back.ensures.short c.replies_are_read_back.ensures.short;
     }

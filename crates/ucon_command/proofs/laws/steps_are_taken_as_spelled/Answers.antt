@@ -10,5 +10,5 @@ returns c =
       taken = taken_as_spelled accepted tells payloads.read;
       unread = untaken accepted;
       long = untaken_long accepted;
-      next = taken_next accepted tells payloads.read payloads.written;
+      next = taken_next accepted tells payloads.read payloads.fits payloads.written;
     }

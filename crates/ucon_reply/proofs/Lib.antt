@@ -1,0 +1,11 @@
+pub mod Growing
+pub mod InLine
+pub mod Lengths
+pub mod Named
+pub mod LowerLaws
+pub mod Placed
+pub mod ReadReplies
+pub mod ReadWords
+pub mod Revoked
+pub mod SpelledReplies
+pub mod SureValues

@@ -1,0 +1,70 @@
+//! What a word says, by its kind.
+
+ghost use Rattle.std.specs.Prelude.{◌≡◌, IfErr, IfOk, IsSome};
+ghost use Rattle.ucon_base.specs.NameBytes.{is_name};
+ghost use Rattle.ucon_model.specs.CommandLine.{name_in, value_in, integer_of, integer_in, number_of, number_in};
+
+use std::alloc::Global;
+use ucon_base::{Int, Name, NoMemory, Value, ValueFault};
+
+/// The name that the bytes are.
+pub fn name_in(bytes: &[u8]) -> Option<Name>
+    ensures { result ≡ name_in bytes.now }
+{
+    Name::read(bytes).ok()
+}
+
+/// Whether the bytes are a name.
+pub fn is_name(bytes: &[u8]) -> bool
+    ensures { result ≡ is_name bytes.now }
+{
+    Name::read(bytes).is_ok()
+}
+
+/// The value that the bytes spell. Only a set takes memory.
+pub fn value_in(alloc: Global, bytes: &[u8]) -> Result<Option<Value>, NoMemory>
+    ensures read { IfOk result (λ v. v ≡ value_in bytes.now) }
+    ensures sure { IfErr result (λ _. IsSome (value_in bytes.now)) }
+{
+    match Value::read(alloc, bytes) {
+        Ok(v) => Ok(Some(v)),
+        Err(ValueFault::NoMemory(refused)) => Err(refused),
+        Err(_) => Ok(None),
+    }
+}
+
+fn integer_of(v: &Value) -> Option<Int>
+    ensures { result ≡ integer_of v.now }
+{
+    match v {
+        Value::Int(n) => Some(*n),
+        _ => None,
+    }
+}
+
+/// The integer that the bytes spell. What begins a set is none, so no memory is taken.
+#[tactic(auto, using(crate::proofs::SureValues::no_integer))]
+pub fn integer_in(alloc: Global, bytes: &[u8]) -> Option<Int>
+    ensures { result ≡ integer_in bytes.now }
+{
+    if bytes.starts_with(b"{") {
+        return None;
+    }
+    match Value::read(alloc, bytes) {
+        Ok(v) => integer_of(&v),
+        Err(_) => None,
+    }
+}
+
+fn number_of(n: Int) -> Option<u32>
+    ensures { result ≡ number_of n }
+{
+    u32::try_from(n.get()).ok()
+}
+
+/// The session's number that the bytes spell. No memory is taken.
+pub fn number_in(alloc: Global, bytes: &[u8]) -> Option<u32>
+    ensures { result ≡ number_in bytes.now }
+{
+    number_of(integer_in(alloc, bytes)?)
+}
