@@ -1,4 +1,5 @@
 pub mod Accepted
+pub mod After
 pub mod Begun
 pub mod Differences
 pub mod Finding
@@ -17,3 +18,4 @@ pub mod Stepped
 pub mod Stepping
 pub mod Taking
 pub mod Versions
+pub mod Walked

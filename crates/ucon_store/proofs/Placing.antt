@@ -1,16 +1,16 @@
 -- What a step answers behind a trace, and so behind a history.
-use Rattle.std.proofs.Common.{◌≡◌, ◌+◌, Bool, true, false, [], ◌∷◌, ◌++◌, append_assoc, length, length-append, Option, Some, None, refl, sym, ap, ◌∙◌, ℕ}
+use Rattle.std.proofs.Common.{◌≡◌, ◌+◌, Bool, true, false, [], ◌∷◌, ◌++◌, append_assoc, length, length-append, None, refl, sym, ap, ◌∙◌, ℕ}
 use Rattle.std.specs.Prelude.{if◌then◌else◌}
 use Rattle.ucon_model.specs.declared.command.Entry.{Entry}
 use Rattle.ucon_model.specs.Action.{Trace}
 use Rattle.ucon_model.specs.Block.{reply as reply_to}
-use Rattle.ucon_model.specs.History.{History, said, changes, grown, trace, trace_from}
+use Rattle.ucon_model.specs.History.{History, said, changes, trace, trace_from}
 use Rattle.ucon_model.specs.Plain.{PlainPolicy}
 use Rattle.ucon_model.specs.Views.{reply_of}
 use Rattle.ucon_store.specs.declared.placed.Placed.{Placed}
 use Rattle.ucon_store.specs.Kept.{Kept}
 use Rattle.ucon_store.specs.Steps.{IsPlaced, IsPlacedBehind, HasFailed, HasFailedBehind}
-use Rattle.ucon_store.specs.Whole.{IsFront, whole}
+use Rattle.ucon_store.specs.Whole.{whole}
 use Rattle.ucon_store.proofs.Stepping.{grown_behind_more, grown_behind_same, said_behind}
 
 module _ {D : Type 0} (P : PlainPolicy) (T : Trace) (old new : Kept D) (e : Entry) (p : Placed) (is : reply_of p.reply ≡ reply_to P (trace_from P T old.entries) e.caller e.command) where

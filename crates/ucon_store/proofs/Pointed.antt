@@ -23,14 +23,14 @@ use Rattle.ucon_turn.specs.Lists.{Begins, begins_refl}
 use Rattle.ucon_syntax.specs.Policies.{accepted}
 use Rattle.ucon_store.specs.Found.{Holds, IsFoundAs, found_as}
 use Rattle.ucon_store.specs.declared.beginning.Beginning.{Beginning}
-use Rattle.ucon_store.specs.Kept.{Kept, IsKept, payload_in, text_in}
+use Rattle.ucon_store.specs.Kept.{Kept, IsKept, text_in}
 use Rattle.ucon_store.specs.declared.fault.PointRefusal.{PointRefusal}
 use Rattle.ucon_store.specs.declared.fault.PointRefusal.TheVariants.{Stopped, OldJournal, TooLarge, NoMemory}
 use Rattle.ucon_store.specs.Pointing.{IsFoundPointed, IsUnpointed, IsUnprepared}
 use Rattle.ucon_store.specs.Points.{checkpoint, has_points, is_point, places_in, point_places, point_taken, points_of, steps_and_points, takes_with, text_behind, text_in_force}
-use Rattle.ucon_store.specs.Starts.{IsStart, checkpoint_behind, point_behind}
+use Rattle.ucon_store.specs.Starts.{checkpoint_behind, point_behind}
 use Rattle.ucon_store.specs.Stays.{Stays}
-use Rattle.ucon_store.specs.Whole.{IsFounded, left_founded, whole}
+use Rattle.ucon_store.specs.Whole.{IsFounded, left_founded}
 use Rattle.ucon_store.proofs.Finding.{counted_hold, holds_more, holds_same, takes_of}
 use Rattle.ucon_store.proofs.Versions.{closed_kind, takes_as}
 use Rattle.ucon_store.proofs.Places.{place_added}

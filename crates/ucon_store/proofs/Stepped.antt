@@ -1,8 +1,6 @@
 -- What a step that changes something puts on the disk of a founded store.
-use Rattle.std.proofs.Common.{◌≡◌, ℕ, List, [], ◌∷◌, ◌++◌, append_assoc, Option, Some, None, true, refl, sym, ap, ◌∙◌, subst}
+use Rattle.std.proofs.Common.{◌≡◌, ℕ, List, [], ◌∷◌, ◌++◌, append_assoc, Option, Some, true, sym, ◌∙◌, subst}
 use Rattle.std.specs.Prelude.{is_some, IsSome, IfSome}
-use Rattle.ucon_model.specs.declared.command.Caller.{Caller}
-use Rattle.ucon_model.specs.declared.command.Command.{Command}
 use Rattle.ucon_model.specs.declared.command.Entry.{Entry}
 use Rattle.ucon_model.specs.Action.{Trace}
 use Rattle.ucon_model.specs.Block.{reply as reply_to}
@@ -18,7 +16,7 @@ use Rattle.ucon_syntax.specs.Policies.{accepted}
 use Rattle.ucon_store.specs.declared.beginning.Beginning.{Beginning}
 use Rattle.ucon_store.specs.Found.{Holds, IsFoundWith}
 use Rattle.ucon_store.specs.Kept.{Kept, IsKept, payload_in}
-use Rattle.ucon_store.specs.Whole.{IsFounded, IsFront}
+use Rattle.ucon_store.specs.Whole.{IsFounded}
 use Rattle.ucon_store.proofs.Recorded.{HoldsAtRest, OneByOne, run_perhaps, at_rest_with}
 use Rattle.ucon_store.proofs.Stepping.{said_behind, stands_as}
 

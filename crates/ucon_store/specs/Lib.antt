@@ -10,4 +10,5 @@ pub mod Points
 pub mod Starts
 pub mod Stays
 pub mod Steps
+pub mod Walking
 pub mod Whole

@@ -1,5 +1,5 @@
 -- What opening sees in a journal with checkpoints, of which it runs only what stands behind the last one.
-use Rattle.std.specs.Prelude.{◌≡◌, ◌⊎◌, ℕ, ◌+◌, nat_lt, Bool, ◌&&◌, List, [], ◌∷◌, ◌++◌, length, Option, Some, None, option_map, option_and_then, Ok, if◌then◌else◌}
+use Rattle.std.specs.Prelude.{◌≡◌, ◌⊎◌, ℕ, ◌+◌, nat_lt, Bool, ◌&&◌, List, [], ◌∷◌, ◌++◌, length, Option, Some, None, option_map, option_and_then, Result, Ok, Err, if◌then◌else◌}
 use Rattle.std.specs.Option.{option_or}
 use Rattle.std.specs.Result.{result_ok}
 use Rattle.std.specs.Str.{bytes_eq}
@@ -19,7 +19,7 @@ use Rattle.ucon_state.specs.Shown.{Shown}
 use Rattle.ucon_state.specs.Tables.{Tables}
 use Rattle.ucon_syntax.specs.Policies.{accepted}
 use Rattle.ucon_store.specs.Found.{found}
-use Rattle.ucon_store.specs.Points.{has_points, is_point}
+use Rattle.ucon_store.specs.Points.{checkpoint, has_points, is_point, text_in_force}
 use Rattle.ucon_journal.specs.Found.{counted}
 
 -- What opening sees: no record yet; no journal; a record that is wrong, by its number and the place of its gate; or the policy's text, how many
@@ -53,6 +53,15 @@ parted (payload ∷ payloads) = option_or (option_map (preceded_by payload) (par
 -- the same where there may be checkpoints; where there may not, none is
 abbrev pub parted_with : Bool → List Bytes → Option Parted
 parted_with points payloads = if points then parted payloads else None
+
+-- those of a journal around its last checkpoint, of which the first is record 0's
+abbrev pub parted_behind : Bool → List Bytes → Option Parted
+parted_behind points [] = None
+parted_behind points (text ∷ payloads) = parted_with points payloads
+
+-- a file's payloads around its last checkpoint
+abbrev pub last_point : Bytes → Option Parted
+last_point file = parted_behind (has_points file) (counted file)
 
 -- how many payloads don't begin as a checkpoint
 abbrev pub steps_among : List Bytes → ℕ
@@ -131,13 +140,20 @@ Sees file seen = SeesIn (has_points file) (counted file) (found file) seen
 
 -- ---- around the last checkpoint of what is found
 
--- A history that is found, around the last checkpoint: the entries before it, after whose trace it is taken, and those behind it, which the
--- records there tell after that trace.
+-- the text of the policy in force that a checkpoint says, or where it says none this one
+abbrev pub text_said : Bytes → Result Said ℕ → Bytes
+text_said text (Ok said) = said.text
+text_said text (Err place) = text
+
+-- A history that is found, around the last checkpoint: the entries before it, whose checkpoint it is, and those behind it, which the records there
+-- tell after the trace of those before.
 pub record StandsAround (text : Bytes) (P : PlainPolicy) (H : History) (gate : ℕ) (p : Parted) : Type 0 where
   pub before : History
   pub behind : History
   pub all : H ≡ before ++ behind
   pub count : length before ≡ steps_among p.before
+  pub is : p.point ≡ checkpoint text P before
+  pub in_force : text_said text (point_read p.point) ≡ text_in_force text before
   pub point : IsPointOf (steps_among p.before) P (trace P before) p.point
   pub told : found_behind (steps_after (trace P before)) text P [] (length p.before + 2)
       (next_gate (gate_behind (next_gate first_gate text) p.before) p.point) p.behind ≡ model.holds text P behind gate

@@ -10,6 +10,7 @@ use Rattle.ucon_state.specs.Held.{held_after}
 use Rattle.ucon_syntax.specs.Policies.{accepted}
 use Rattle.ucon_store.specs.Found.{Holds, IsFoundAs, IsFoundWith, found_as}
 use Rattle.ucon_store.specs.Kept.{Kept}
+use Rattle.ucon_store.specs.Opened.{Parted, StandsAround, steps_among}
 use Rattle.ucon_store.specs.Points.{checkpoint, text_in_force}
 use Rattle.ucon_store.specs.Starts.{IsBeforeAll, IsStart, checkpoint_behind, text_at_start}
 
@@ -36,6 +37,12 @@ pub record IsFounded {D : Type 0} (contents : D → Option (List ℕ)) (images :
   pub unmarked : s.mark ≡ None
   pub holds : IfSome (contents s.disk) (Holds s.policy P (G ++ s.entries))
   pub only : Only (contents s.disk) (images s.disk)
+
+-- The store goes on from a history: the first entries of it lead to where the store begins, which is founded on them, and the others are its own.
+pub record GoesOnFrom {D : Type 0} (contents : D → Option (List ℕ)) (images : D → List ℕ → Type 0) (P : PlainPolicy) (s : Kept D) (H : History) : Type 0 where
+  pub before : History
+  pub all : H ≡ before ++ s.entries
+  pub founded : IsFounded contents images P s before
 
 -- a crash leaves what a store is founded on, with its entries behind that
 pub found_founded : {D : Type 0} (contents : D → Option (List ℕ)) (images : D → List ℕ → Type 0) (P : PlainPolicy) (s : Kept D) (G : History)
@@ -80,4 +87,14 @@ whole_before_all s first = λ i. record {
   entries = s.entries;
   mark = s.mark;
   disk = s.disk;
+}
+
+-- ---- a store that begins behind the last checkpoint of what is found: the entries before that lead there
+
+pub front_standing : {D : Type 0} (P : PlainPolicy) (H : History) (gate : ℕ) (p : Parted) (s : Kept D) (a : StandsAround s.policy P H gate p)
+    → s.point ≡ Some p.point → s.before ≡ steps_among p.before → IsFront P s a.before
+front_standing P H gate p s a point before = record {
+  starts = subst (λ (z : Option Bytes × ℕ). IsStart P z.0 z.1 (trace P a.before)) (λ i. (sym point i, sym before i)) a.point;
+  count = a.count ∙ sym before;
+  text = sym a.in_force ∙ ap (text_at_start s.policy) (sym point);
 }

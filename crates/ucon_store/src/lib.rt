@@ -13,6 +13,7 @@ mod points;
 mod recording;
 mod store;
 mod turned;
+mod walking;
 
 pub use event::{Base, Event};
 pub use fault::{PointRefusal, StepFault, StoreFault};

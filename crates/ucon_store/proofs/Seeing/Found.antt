@@ -17,7 +17,7 @@ use Rattle.ucon_store.specs.Points.{has_points, takes_with}
 use Rattle.ucon_store.proofs.Finding.{counted_hold}
 use Rattle.ucon_store.proofs.Seeing.Histories.{IsGood, PayloadLaws, nothing}
 use Rattle.ucon_store.proofs.Stepping.{trace_append}
-use Rattle.ucon_store.proofs.Seeing.Points.{PointLaws, point_of_history}
+use Rattle.ucon_store.proofs.Seeing.Points.{PointLaws, point_of_history, text_of_history}
 use Rattle.ucon_store.proofs.Seeing.Walk.{at_point, found_after, none_long, same_told}
 
 -- record 0 is taken
@@ -70,6 +70,8 @@ module _ (laws : PointLaws) (payload_laws : PayloadLaws) where
           behind = rest.more;
           all = rest.all;
           count = count_before;
+          is = at.point;
+          in_force = text_of_history laws payload_laws text P accepts G at.good few_before p.point at.point;
           point = subst (λ (n : ℕ). IsPointOf n P (trace P G) p.point) count_before (point_of_history laws payload_laws text P accepts G at.good few_before p.point at.point);
           told = rest.found;
         }

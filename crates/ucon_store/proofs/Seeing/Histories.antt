@@ -14,7 +14,7 @@ use Rattle.ucon_model.specs.Action.{Trace}
 use Rattle.ucon_model.specs.Block.{after, reply}
 use Rattle.ucon_model.specs.CommandLine.{IsCommand}
 use Rattle.ucon_model.specs.Found.{taken, with_step, is_next_step}
-use Rattle.ucon_model.specs.History.{History, changes, said, trace, trace_from}
+use Rattle.ucon_model.specs.History.{History, changes, said, trace}
 use Rattle.ucon_model.specs.Payload.{Told, entry_told, most_payload, payload_read, payload_spelling}
 use Rattle.ucon_model.specs.Plain.{Bytes, PlainPolicy}
 use Rattle.ucon_model.specs.Readings.{in_force}

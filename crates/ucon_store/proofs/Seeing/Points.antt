@@ -26,7 +26,7 @@ use Rattle.ucon_point.specs.PointText.{point_text}
 use Rattle.ucon_point.specs.RowText.{IsRow, IsSpelled}
 use Rattle.ucon_point.specs.Standing.{Standing, put_all, start}
 use Rattle.ucon_syntax.specs.Policies.{accepted}
-use Rattle.ucon_store.specs.Opened.{IsPointOf, showing_only}
+use Rattle.ucon_store.specs.Opened.{IsPointOf, showing_only, text_said}
 use Rattle.ucon_store.specs.Points.{checkpoint, text_in_force}
 use Rattle.ucon_store.proofs.Seeing.Histories.{IsGood, PayloadLaws}
 use Rattle.ucon_store.proofs.Seeing.Listed.{listed_all}
@@ -119,6 +119,10 @@ module _ (laws : PointLaws) (payloads : PayloadLaws) where
     pub made_once : (side : Side) → entities side T ≡ length (entity_names side T)
     made_once =
         ((laws.alike history.0 P T (record { policy = P; trace = T; follows = history.1 })).0 history.1).made_once
+
+    -- the checkpoint has the text of the policy in force
+    pub text_of_history : (payload : Bytes) → payload ≡ checkpoint text P H → text_said text (point_read payload) ≡ text_in_force text H
+    text_of_history payload is = ap (text_said text) (ap point_read is ∙ laws.read (length H) (text_in_force text H) (held_after P T) is_point)
 
     -- so the checkpoint is the one of the history's trace
     pub point_of_history : (payload : Bytes) → payload ≡ checkpoint text P H → IsPointOf (length H) P T payload

@@ -1,4 +1,4 @@
-use Rattle.std.proofs.Common.{◌≡◌, Some, None, refl, sym, ap, ◌∙◌, subst, arith}
+use Rattle.std.proofs.Common.{◌≡◌, Some, refl, sym, ap, ◌∙◌, subst, arith}
 use Rattle.ucon_disk.specs.Run.{LeavesAfter}
 use Rattle.ucon_journal.specs.Journal.{disk_of}
 use Rattle.ucon_syntax.specs.Policies.{accepted}

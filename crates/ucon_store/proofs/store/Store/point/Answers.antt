@@ -1,14 +1,14 @@
-use Rattle.std.proofs.Common.{rules, ◌≡◌, ◌+◌, ◌*◌, ◌++◌, ◌∷◌, [], ◌≤◌, length, true, false, Some, None, refl, sym, ap, ◌∙◌, subst, arith}
+use Rattle.std.proofs.Common.{rules, ◌≡◌, ◌++◌, ◌∷◌, [], ◌≤◌, length, true, false, Some, None, refl, sym, ap, ◌∙◌, subst, arith}
 use Rattle.std.specs.Prelude.{is_some, IfSome}
 use Rattle.std.specs.Result.{is_err}
 use Rattle.ucon_disk.specs.Run.{LeavesOnly}
-use Rattle.ucon_journal.specs.Journal.{disk_of, gate_of, version_of}
+use Rattle.ucon_journal.specs.Journal.{disk_of, version_of}
 use Rattle.ucon_model.specs.Action.{Trace}
 use Rattle.ucon_model.specs.History.{History, trace_from}
 use Rattle.ucon_model.specs.Payload.{most_payload}
 use Rattle.ucon_model.specs.Plain.{Bytes, PlainPolicy}
 use Rattle.ucon_syntax.specs.Policies.{accepted}
-use Rattle.ucon_store.specs.Kept.{Kept, payload_in, text_in}
+use Rattle.ucon_store.specs.Kept.{Kept, text_in}
 use Rattle.ucon_store.specs.Pointing.{IsFoundPointed, IsUnpointed}
 use Rattle.ucon_store.specs.Points.{has_points, point_places, points_of}
 use Rattle.ucon_store.specs.Starts.{IsStart, checkpoint_behind, point_behind}

@@ -1,5 +1,5 @@
-use Rattle.std.proofs.Common.{rules, ◌≡◌, ◌∷◌, [], ◌++◌, ◌+◌, ◌*◌, ◌≤◌, List, length, length-append, true, Option, None, Some, refl, sym, ap, ◌∙◌, subst, arith}
-use Rattle.std.specs.Prelude.{is_some, IsSome, IfSome}
+use Rattle.std.proofs.Common.{rules, ◌≡◌, ◌∷◌, [], ◌++◌, ◌+◌, ◌≤◌, List, length, length-append, true, Option, None, Some, refl, sym, ap, ◌∙◌, subst, arith}
+use Rattle.std.specs.Prelude.{is_some, IsSome}
 use Rattle.ucon_disk.specs.Causes.{raised}
 use Rattle.ucon_disk.specs.Run.{LeavesOnly}
 use Rattle.ucon_journal.specs.Journal.{disk_of}
@@ -12,8 +12,8 @@ use Rattle.ucon_model.specs.Views.{reply_of}
 use Rattle.ucon_syntax.specs.Policies.{accepted}
 use Rattle.ucon_turn.specs.Lists.{Continues}
 use Rattle.ucon_store.specs.Events.{events, events_of, number_of}
-use Rattle.ucon_store.specs.Found.{IsFoundAs, IsFoundWith}
-use Rattle.ucon_store.specs.Kept.{Kept, IsKept, payload_in}
+use Rattle.ucon_store.specs.Found.{IsFoundWith}
+use Rattle.ucon_store.specs.Kept.{Kept, IsKept}
 use Rattle.ucon_store.specs.Stays.{Stays, stays_same}
 use Rattle.ucon_store.specs.Whole.{IsFounded}
 use Rattle.ucon_store.proofs.Placing.{failed_whole, placed_whole}

@@ -1,0 +1,138 @@
+//! How opening finds the last checkpoint: a walk over the records that count, of which none is interpreted.
+
+ghost use Rattle.std.specs.Prelude.{◌≡◌, ◌≤◌, ◌<◌, ◌^◌, true, false, Ok, None, IfSome, IfOk, IfErr, OnOk};
+ghost use Rattle.ucon_disk.specs.Disk.{SameImages};
+ghost use Rattle.ucon_disk.specs.Run.{LeavesOnly};
+ghost use Rattle.ucon_journal.specs.Found.{counted, payloads_from};
+ghost use Rattle.ucon_journal.specs.Journal.{disk_of, gate_of, version_of, IsReading};
+ghost use Rattle.ucon_store.specs.Points.{has_points, points_of};
+ghost use Rattle.ucon_store.specs.Walking.{HasLong, IsPlacedBelow, IsWalked, IsWalking, finds};
+
+use crate::fault::{StoreFault, at_record};
+use crate::points::{has_points, is_point};
+use ucon_disk::Disk;
+use ucon_journal::Journal;
+
+/// A record that begins as a checkpoint, where there may be any.
+#[derive(Clone, Copy)]
+pub(crate) struct LastPoint {
+    /// Its number, from 0.
+    pub number: u64,
+    /// The place of its gate.
+    pub place: u64,
+    /// How many records behind record 0 and before it are no checkpoints.
+    pub entries: u64,
+}
+
+/// The last checkpoint in the journal, of which no record was taken yet. None where there is none. Each record is read, and none may be too long.
+pub(crate) fn last_point<D: Disk>(journal: &mut Journal<D>) -> Result<Option<LastPoint>, StoreFault>
+    requires reading { IsReading D.contents journal.old }
+    requires all { IfSome (D.contents (disk_of journal.old)) (λ file. payloads_from file 8 ≡ counted file) }
+    requires first { gate_of journal.old ≡ 8 }
+    ensures walked { IfOk result (λ last. IfSome (D.contents (disk_of journal.old)) (λ file. IsWalked (has_points file) (counted file) last)) }
+    ensures below { IfOk result (λ last. IfSome last (IsPlacedBelow (2 ^ 63))) }
+    ensures long { IfErr result (λ fault. HasLong fault (D.contents (disk_of journal.old)) 0 8
+        (D.faults (disk_of journal.old)) (D.faults (disk_of journal.new))) }
+    ensures reading { IsReading D.contents journal.new }
+    ensures version { version_of journal.new ≡ version_of journal.old }
+    ensures contents { D.contents (disk_of journal.new) ≡ D.contents (disk_of journal.old) }
+    ensures images { SameImages (D.images (disk_of journal.old)) (D.images (disk_of journal.new)) }
+    ensures run { LeavesOnly D.moment D.images_since (disk_of journal.old) (disk_of journal.new) (D.images (disk_of journal.old)) }
+    ensures unfailed { OnOk result (D.faults (disk_of journal.new) ≡ D.faults (disk_of journal.old)) }
+{
+    match journal.next() {
+        Err(fault) => Err(at_record(0, fault)),
+        Ok(false) => Ok(None),
+        Ok(true) => {
+            let mut walk = Walk::new();
+            walk.pass_all(journal)?;
+            Ok(walk.last)
+        }
+    }
+}
+
+/// Where a walk stands: how many records it has passed, how many of them behind record 0 are no checkpoints, and the last that is one.
+#[derive(Drop)]
+struct Walk {
+    number: u64,
+    entries: u64,
+    last: Option<LastPoint>,
+}
+
+impl Walk {
+    /// Behind record 0.
+    fn new() -> Walk
+        ensures number { result.number ≡ 1 }
+        ensures entries { result.entries ≡ 0 }
+        ensures last { result.last ≡ None }
+    {
+        Walk {
+            number: 1,
+            entries: 0,
+            last: None,
+        }
+    }
+
+    /// Passes the next record. False where there is none.
+    fn pass_next<D: Disk>(&mut self, journal: &mut Journal<D>) -> Result<bool, StoreFault>
+        requires reading { IsReading D.contents journal.old }
+        requires walking { IsWalking self.old (gate_of journal.old) }
+        ensures passed { result ≡ Ok true → IfSome (D.contents (disk_of journal.old)) (λ file.
+            finds (points_of (version_of journal.old)) self.new (gate_of journal.new) file
+            ≡ finds (points_of (version_of journal.old)) self.old (gate_of journal.old) file) }
+        ensures ended { result ≡ Ok false → IfSome (D.contents (disk_of journal.old)) (λ file.
+            finds (points_of (version_of journal.old)) self.old (gate_of journal.old) file ≡ (self.new.last, None)) }
+        ensures stays { result ≡ Ok false → self.new ≡ self.old }
+        ensures long { IfErr result (λ fault. HasLong fault (D.contents (disk_of journal.old)) self.old.number (gate_of journal.old)
+            (D.faults (disk_of journal.old)) (D.faults (disk_of journal.new))) }
+        ensures advance { result ≡ Ok true → gate_of journal.old < gate_of journal.new }
+        ensures walking { result ≡ Ok true → IsWalking self.new (gate_of journal.new) }
+        ensures below { gate_of journal.new < 2 ^ 63 }
+        ensures reading { IsReading D.contents journal.new }
+        ensures version { version_of journal.new ≡ version_of journal.old }
+        ensures contents { D.contents (disk_of journal.new) ≡ D.contents (disk_of journal.old) }
+        ensures images { SameImages (D.images (disk_of journal.old)) (D.images (disk_of journal.new)) }
+        ensures run { LeavesOnly D.moment D.images_since (disk_of journal.old) (disk_of journal.new) (D.images (disk_of journal.old)) }
+        ensures unfailed { OnOk result (D.faults (disk_of journal.new) ≡ D.faults (disk_of journal.old)) }
+    {
+        let place = journal.gate();
+        let points = has_points(journal);
+        match journal.next() {
+            Err(fault) => Err(at_record(self.number, fault)),
+            Ok(false) => Ok(false),
+            Ok(true) => {
+                if is_point(points, journal.payload()) {
+                    self.last = Some(LastPoint {
+                        number: self.number,
+                        place,
+                        entries: self.entries,
+                    });
+                } else {
+                    self.entries += 1;
+                }
+                self.number += 1;
+                Ok(true)
+            }
+        }
+    }
+
+    /// Passes all records that are left.
+    fn pass_all<D: Disk>(&mut self, journal: &mut Journal<D>) -> Result<(), StoreFault>
+        requires reading { IsReading D.contents journal.old }
+        requires walking { IsWalking self.old (gate_of journal.old) }
+        ensures found { OnOk result (IfSome (D.contents (disk_of journal.old)) (λ file.
+            finds (points_of (version_of journal.old)) self.old (gate_of journal.old) file ≡ (self.new.last, None))) }
+        ensures below { OnOk result (IfSome self.new.last (IsPlacedBelow (2 ^ 63))) }
+        ensures long { IfErr result (λ fault. HasLong fault (D.contents (disk_of journal.old)) self.old.number (gate_of journal.old)
+            (D.faults (disk_of journal.old)) (D.faults (disk_of journal.new))) }
+        ensures reading { IsReading D.contents journal.new }
+        ensures version { version_of journal.new ≡ version_of journal.old }
+        ensures contents { D.contents (disk_of journal.new) ≡ D.contents (disk_of journal.old) }
+        ensures images { SameImages (D.images (disk_of journal.old)) (D.images (disk_of journal.new)) }
+        ensures run { LeavesOnly D.moment D.images_since (disk_of journal.old) (disk_of journal.new) (D.images (disk_of journal.old)) }
+        ensures unfailed { OnOk result (D.faults (disk_of journal.new) ≡ D.faults (disk_of journal.old)) }
+    {
+        'records: while self.pass_next(journal)? {}
+        Ok(())
+    }
+}
