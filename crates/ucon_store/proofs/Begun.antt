@@ -1,28 +1,30 @@
 -- From the bytes as they were found to those that opening the journal made.
-use Rattle.std.proofs.Common.{◌≡◌, ◌≢◌, ⊎_elim, ℕ, length, Option, Some, None, refl, sym, ap, ◌∙◌, subst, false, true}
+use Rattle.std.proofs.Common.{◌≡◌, ◌≢◌, ⊎_elim, ℕ, List, [], length, Option, Some, None, refl, sym, ap, ◌∙◌, subst, false, true}
 use Rattle.std.specs.Prelude.{nat_le, IfSome}
 use Rattle.std.specs.Option.{option_map}
-use Rattle.ucon_model.specs.Plain.{Bytes, PlainPolicy}
-use Rattle.ucon_model.specs.History.{History}
-use Rattle.ucon_model.specs.Found.{Finding, not_journal, damaged}
+use Rattle.ucon_model.specs.Plain.{Bytes}
+use Rattle.ucon_model.specs.Found.{Finding, not_journal}
 use Rattle.ucon_disk.specs.Causes.{raised}
 use Rattle.ucon_journal.specs.declared.fault.OpenFault.{OpenFault}
 use Rattle.ucon_journal.specs.declared.fault.OpenFault.TheVariants as opening
 use Rattle.ucon_journal.specs.Found as journal
-use Rattle.ucon_journal.specs.Opened.{opened}
+use Rattle.ucon_journal.specs.Opened.{opened as opened_as}
 use Rattle.ucon_store.specs.declared.fault.StoreFault.{StoreFault}
 use Rattle.ucon_store.specs.declared.fault.StoreFault.TheVariants.{NotJournal, Damaged, OtherPolicy, DiskFault, NoMemory}
 use Rattle.ucon_store.specs.Faults.{of_open}
-use Rattle.ucon_store.specs.Found.{finding_of, found, Holds, IsFoundAs, found_as}
+use Rattle.ucon_store.specs.Found.{finding_of, found}
+use Rattle.ucon_store.specs.Opened.{Seen, Sees, SeesIn, last_point, parted_behind, seen_after}
+use Rattle.ucon_store.specs.Opened as opened
 use Rattle.ucon_store.specs.Opening.{HasReason, HasOtherPolicy}
 use Rattle.ucon_store.proofs.Finding.{takes_of}
-use Rattle.ucon_store.proofs.Runs.{true_or_false, opened_short, opened_long, found_opened}
+use Rattle.ucon_store.specs.Points.{has_points}
+use Rattle.ucon_store.proofs.Runs.{true_or_false, opened_short, opened_long, short_counted, found_opened}
 
 pub found_none : (file : Bytes) → journal.found file ≡ journal.NotJournal → found file ≡ not_journal
 unfolding found
 found_none file is = ap (finding_of (takes_of file)) is
 
-opened_is_journal : (file : Bytes) → journal.found file ≢ journal.NotJournal → journal.found (opened file) ≢ journal.NotJournal
+opened_is_journal : (file : Bytes) → journal.found file ≢ journal.NotJournal → journal.found (opened_as file) ≢ journal.NotJournal
 opened_is_journal file is bad = ⊎_elim
     (λ (short : nat_le (length file) 9 ≡ true).
     let fresh : journal.Fresh ≡ journal.NotJournal = sym (ap journal.found (opened_short file short)) ∙ bad in absurd (cc (fresh)))
@@ -30,45 +32,74 @@ opened_is_journal file is bad = ⊎_elim
     (true_or_false (nat_le (length file) 9))
 
 -- in a journal that was opened its payloads count
-pub journal_opened : (o n : Option Bytes) → n ≡ option_map opened o → IfSome o (λ file. journal.found file ≢ journal.NotJournal)
+pub journal_opened : (o n : Option Bytes) → n ≡ option_map opened_as o → IfSome o (λ file. journal.found file ≢ journal.NotJournal)
     → IfSome n (λ file. journal.payloads_from file 8 ≡ journal.counted file)
     → IfSome n (λ file. (journal.payloads_from file 8 ≡ journal.counted file) × (journal.found file ≢ journal.NotJournal))
 journal_opened o None is told all = tt
 journal_opened None (Some c) is told all = absurd (cc is)
 journal_opened (Some file) (Some c) is told all =
-    let same : opened file ≡ c = cc (is) in
+    let same : opened_as file ≡ c = cc (is) in
     (all, subst (λ (x : Bytes). journal.found x ≢ journal.NotJournal) same (opened_is_journal file told))
+
+-- ---- what is seen in the bytes that opening made is seen in those before
+
+pub seen_before : (file : Bytes) (seen : Seen) → Sees (opened_as file) seen → Sees file seen
+seen_before file seen sees = ⊎_elim
+    (λ (short : nat_le (length file) 9 ≡ true).
+    let here : seen ≡ seen_after 0 [] (found (opened_as file)) =
+    subst (λ (l : List Bytes). SeesIn (has_points (opened_as file)) l (found (opened_as file)) seen) (ap journal.counted (opened_short file short)) sees in
+    subst (λ (l : List Bytes). SeesIn (has_points file) l (found file) seen) (sym (short_counted file short)) (here ∙ ap (seen_after 0 []) (found_opened file)))
+    (λ (long : nat_le (length file) 9 ≡ false). subst (λ (f : Bytes). Sees f seen) (opened_long file long) sees)
+    (true_or_false (nat_le (length file) 9))
+
+pub last_before : (file : Bytes) → last_point (opened_as file) ≡ last_point file
+last_before file = ⊎_elim
+    (λ (short : nat_le (length file) 9 ≡ true). ap last_point (opened_short file short) ∙ sym (ap (parted_behind (has_points file)) (short_counted file short)))
+    (λ (long : nat_le (length file) 9 ≡ false). ap last_point (opened_long file long))
+    (true_or_false (nat_le (length file) 9))
+
+-- what holds of the bytes that opening made where it holds of those before
+module _ (A B : Bytes → Type 0) (back : (file : Bytes) → A (opened_as file) → B file) where
+  pub told_before : (o n : Option Bytes) → n ≡ option_map opened_as o → IfSome n A → IfSome o B
+  told_before None n is h = tt
+  told_before (Some file) None is h = absurd (cc is)
+  told_before (Some file) (Some c) is h =
+      let same : c ≡ opened_as file = cc is in
+      back file (subst A same h)
 
 -- what is said of what is found passes back
 module _ (Q : Finding → Type 0) where
-  pub found_before : (o n : Option Bytes) → n ≡ option_map opened o → IfSome n (λ file. Q (found file)) → IfSome o (λ file. Q (found file))
-  found_before None n is h = tt
-  found_before (Some file) None is h = absurd (cc is)
-  found_before (Some file) (Some c) is h =
-      let same : c ≡ opened file = cc (is) in
-      subst Q (ap found same ∙ found_opened file) h
+  pub found_before : (o n : Option Bytes) → n ≡ option_map opened_as o → IfSome n (λ file. Q (found file)) → IfSome o (λ file. Q (found file))
+  found_before o n is h = told_before (λ file. Q (found file)) (λ file. Q (found file)) (λ file. subst Q (found_opened file)) o n is h
 
-other_before : (text : Bytes) (place : ℕ) (o n : Option Bytes) → n ≡ option_map opened o → IfSome n (HasOtherPolicy text place) → IfSome o (HasOtherPolicy text place)
-other_before text place None n is h = tt
-other_before text place (Some file) None is h = absurd (cc is)
-other_before text place (Some file) (Some c) is h =
-    let same : c ≡ opened file = cc (is) in
-    record { other = h.other; P = h.P; history = h.history; gate = h.gate; is = sym (ap found same ∙ found_opened file) ∙ h.is; differs = h.differs }
+other_before : (text : Bytes) (place : ℕ) (file : Bytes) → HasOtherPolicy text place (opened_as file) → HasOtherPolicy text place file
+other_before text place file h = record {
+  other = h.other;
+  entries = h.entries;
+  there = h.there;
+  gate = h.gate;
+  is = seen_before file (opened.holds h.other h.entries h.there h.gate) h.is;
+  differs = h.differs;
+}
 
-pub reason_before : (fault : StoreFault) (text : Bytes) (o n : Option Bytes) (before mid now : ℕ) → n ≡ option_map opened o → mid ≡ before → HasReason fault text n mid now → HasReason fault text o before now
-reason_before NotJournal text o n before mid now is same h = (found_before (λ f. f ≡ not_journal) o n is h.0, h.1 ∙ same)
-reason_before (Damaged number place) text o n before mid now is same h = (found_before (λ f. f ≡ damaged number place) o n is h.0, h.1 ∙ same)
-reason_before (OtherPolicy place) text o n before mid now is same h = (other_before text place o n is h.0, h.1 ∙ same)
-reason_before DiskFault text o n before mid now is same h = h ∙ ap Rattle.ucon_disk.specs.Causes.raised same
+pub reason_before : (fault : StoreFault) (text : Bytes) (o n : Option Bytes) (before mid now : ℕ) → n ≡ option_map opened_as o → mid ≡ before → HasReason fault text n mid now → HasReason fault text o before now
+reason_before NotJournal text o n before mid now is same h =
+    (told_before (λ file. Sees file opened.not_journal) (λ file. Sees file opened.not_journal) (λ file. seen_before file opened.not_journal) o n is h.0, h.1 ∙ same)
+reason_before (Damaged number place) text o n before mid now is same h =
+    (told_before (λ file. Sees file (opened.damaged number place)) (λ file. Sees file (opened.damaged number place)) (λ file. seen_before file (opened.damaged number place)) o n is h.0, h.1 ∙ same)
+reason_before (OtherPolicy place) text o n before mid now is same h = (told_before (HasOtherPolicy text place) (HasOtherPolicy text place) (other_before text place) o n is h.0, h.1 ∙ same)
+reason_before DiskFault text o n before mid now is same h = h ∙ ap raised same
 reason_before (NoMemory e) text o n before mid now is same h = h ∙ same
 
-pub holds_found : (text : Bytes) (P : PlainPolicy) (H : History) (o : Option Bytes) → IfSome o (Holds text P H) → IfSome o (λ file. IsFoundAs text file H)
-holds_found text P H None h = tt
-holds_found text P H (Some file) h = found_as text P H file h
+-- ---- no journal
 
-no_journal_told : (A : Bytes → Type 0) (o : Option Bytes) → IfSome o (λ file. (journal.found file ≡ journal.NotJournal) × A file) → IfSome o (λ file. found file ≡ not_journal)
+not_journal_counted : (f : journal.Found) → f ≡ journal.NotJournal → journal.payloads_found f ≡ []
+not_journal_counted f is = ap journal.payloads_found is
+
+no_journal_told : (A : Bytes → Type 0) (o : Option Bytes) → IfSome o (λ file. (journal.found file ≡ journal.NotJournal) × A file) → IfSome o (λ file. Sees file opened.not_journal)
 no_journal_told A None h = tt
-no_journal_told A (Some file) h = found_none file h.0
+no_journal_told A (Some file) h =
+    subst (λ (l : List Bytes). SeesIn (has_points file) l (found file) opened.not_journal) (sym (not_journal_counted (journal.found file) h.0)) (ap (seen_after 0 []) (sym (found_none file h.0)))
 
 -- why a journal wasn't opened
 pub opening_reason : (A : Bytes → Type 0) (fault : OpenFault) (text : Bytes) (o : Option Bytes) (before now : ℕ)

@@ -3,7 +3,6 @@ use Rattle.std.proofs.Common.{◌≡◌, ◌≢◌, ◌⊎◌, inl, inr, ⊎_eli
 use Rattle.std.specs.Prelude.{nat_le, is_some, if◌then◌else◌, IfSome}
 use Rattle.std.specs.Option.{option_map}
 use Rattle.ucon_model.specs.Plain.{Bytes, PlainPolicy}
-use Rattle.ucon_model.specs.History.{History}
 use Rattle.ucon_model.specs.Payload.{most_payload}
 use Rattle.ucon_model.specs.Found.{Finding, fresh}
 use Rattle.ucon_disk.specs.Disk.{Only, SameImages}
@@ -13,9 +12,11 @@ use Rattle.ucon_journal.specs.JournalBytes.{journal_bytes, newest, records}
 use Rattle.ucon_journal.specs.Journal.{told_payloads}
 use Rattle.ucon_journal.specs.Opened.{opened, StillHolds, SamePayloads, PerhapsAdded, Untouched}
 use Rattle.ucon_syntax.specs.Policies.{accepted}
-use Rattle.ucon_store.specs.Found.{finding_of, found, Holds, IsFoundAs, IsForeign, Opens, found_as}
+use Rattle.ucon_store.specs.Found.{finding_of, found, IsFoundAs, Tells, found_as}
+use Rattle.ucon_store.specs.Opened.{Seen, Sees}
+use Rattle.ucon_store.specs.Opening.{IsForeign, Opens}
 use Rattle.ucon_store.proofs.Finding.{takes_of}
-use Rattle.ucon_store.proofs.Openings.{found_fresh, fresh_found, itself_opens, same_opens, mended_opens, made_opens, policy_holds}
+use Rattle.ucon_store.proofs.Openings.{found_fresh, fresh_found, itself_opens, same_opens, mended_opens, made_opens, not_foreign, policy_holds}
 use Rattle.ucon_store.proofs.Recorded.{some_told}
 
 -- ---- a file of at most nine bytes
@@ -31,15 +32,17 @@ short_fresh : (file : Bytes) → nat_le (length file) 9 ≡ true → found file 
 unfolding found
 short_fresh file short = ap (λ b. finding_of (takes_of file) (if b then journal.Fresh else if is_some (journal.version_told file) then journal.Holds (journal.payloads_from file 8) (8 + length (records (journal.payloads_from file 8))) else journal.NotJournal)) short
 
-not_foreign : (text file : Bytes) → found file ≡ fresh → IsForeign (found file) text → ⊥
-not_foreign text file is foreign = let no : IsForeign fresh text = subst (λ (f : Finding). IsForeign f text) is foreign in no
+pub short_counted : (file : Bytes) → nat_le (length file) 9 ≡ true → journal.counted file ≡ []
+short_counted file short =
+    ap (λ b. journal.payloads_found (if b then journal.Fresh else if is_some (journal.version_told file) then journal.Holds (journal.payloads_from file 8) (8 + length (records (journal.payloads_from file 8))) else journal.NotJournal)) short
 
 untouched_opens : (text file c : Bytes) → Untouched file c → Opens text file c
 untouched_opens text file c h = ⊎_elim
     (itself_opens text file c)
     (λ (short : (length file ≤ 9) × (length c ≤ 9)).
-    let is = short_fresh file (at_most (length file) short.0) in
-    same_opens text file c (short_fresh c (at_most (length c) short.1) ∙ sym is) (λ foreign. absurd (not_foreign text file is foreign)))
+    let few = at_most (length file) short.0 in
+    let is = short_fresh file few in
+    same_opens text file c (short_fresh c (at_most (length c) short.1) ∙ sym is) (λ seen sees foreign. absurd (not_foreign text file (short_counted file few) is seen sees foreign)))
     h
 
 -- what opening the journal makes of the bytes
@@ -57,12 +60,17 @@ found_opened file = ⊎_elim
 
 opened_opens : (text file c : Bytes) → Opens text (opened file) c → Opens text file c
 opened_opens text file c h = record {
-  same = λ H is. h.same H (subst (λ (f : Finding). Rattle.ucon_store.specs.Found.Tells f text H) (sym (found_opened file)) is);
-  untouched = λ foreign. ⊎_elim
-      (λ (short : nat_le (length file) 9 ≡ true). absurd (not_foreign text file (short_fresh file short) foreign))
-      (λ (long : nat_le (length file) 9 ≡ false). h.untouched (subst (λ (f : Finding). IsForeign f text) (sym (found_opened file)) foreign) ∙ opened_long file long)
+  same = λ H is. h.same H (subst (λ (f : Finding). Tells f text H) (sym (found_opened file)) is);
+  untouched = λ seen sees foreign. ⊎_elim
+      (λ (short : nat_le (length file) 9 ≡ true). absurd (not_foreign text file (short_counted file short) (short_fresh file short) seen sees foreign))
+      (λ (long : nat_le (length file) 9 ≡ false).
+      h.untouched seen (subst (λ (f : Bytes). Sees f seen) (sym (opened_long file long)) sees) foreign ∙ opened_long file long)
       (true_or_false (nat_le (length file) 9));
 }
+
+-- a journal in which nothing foreign is seen
+abbrev pub IsAtHome : Bytes → Bytes → Type 0
+IsAtHome text file = (journal.found file ≢ journal.NotJournal) × ((seen : Seen) → Sees file seen → IsForeign seen text → ⊥)
 
 module _ {D : Type 0} (contents : D → Option (List ℕ)) (images : D → List ℕ → Type 0) (moment : D → ℕ) (images_since : D → ℕ → List ℕ → Type 0) (text : Bytes) where
   rest_only : (d : D) (file : Bytes) → contents d ≡ Some file → Only (contents d) (images d) → IsAtRest (contents d) (images d) file
@@ -84,9 +92,11 @@ module _ {D : Type 0} (contents : D → Option (List ℕ)) (images : D → List 
 
   -- ---- mending a journal of this policy
 
-  pub mend_opens : (P : PlainPolicy) (H : History) (old new : D) → IfSome (contents old) (Holds text P H) → LeavesAfter contents images moment images_since old new SamePayloads → LeavesAfter contents images moment images_since old new (Opens text)
-  mend_opens P H old new held run = record {
-    each = λ file rest. weaker moment images_since old new (SamePayloads file) (Opens text file) (λ c. mended_opens text P H file c (some_told (Holds text P H) (contents old) file rest.told held)) (run.each file rest);
+  pub mend_opens : (old new : D) → IfSome (contents old) (IsAtHome text) → LeavesAfter contents images moment images_since old new SamePayloads → LeavesAfter contents images moment images_since old new (Opens text)
+  mend_opens old new home run = record {
+    each = λ file rest.
+        let h = some_told (IsAtHome text) (contents old) file rest.told home in
+        weaker moment images_since old new (SamePayloads file) (Opens text file) (λ c. mended_opens text file c h.0 h.1) (run.each file rest);
   }
 
   -- ---- making a journal of this policy
@@ -103,7 +113,7 @@ module _ {D : Type 0} (contents : D → Option (List ℕ)) (images : D → List 
     each = λ file rest.
         let none = some_told (λ file. (journal.counted file ≡ []) × (journal.found file ≢ journal.NotJournal)) (contents old) file rest.told empty in
         weaker moment images_since old new (SamePayloads file) (Opens text file)
-        (λ c (still : StillHolds file (journal.counted file) c). made_opens text file c (found_fresh file none.1 none.0) (empty_found c (still.payloads ∙ none.0) still.journal)) (run.each file rest);
+        (λ c (still : StillHolds file (journal.counted file) c). made_opens text file c none.0 (found_fresh file none.1 none.0) (empty_found c (still.payloads ∙ none.0) still.journal)) (run.each file rest);
   }
 
   pub make_opens : (P : PlainPolicy) (old mid new : D) → length text ≤ most_payload → accepted text ≡ Some P
@@ -118,9 +128,9 @@ module _ {D : Type 0} (contents : D → Option (List ℕ)) (images : D → List 
         let told : contents mid ≡ Some (shut file) = bytes ∙ ap (option_map shut) rest.told in
         let nothing : journal.counted (shut file) ≡ [] = sym (ap told_payloads told) ∙ (same ∙ (ap told_payloads rest.told ∙ none.0)) in
         let opens : (c : Bytes) → PerhapsAdded text (shut file) c → Opens text file c = λ c h. ⊎_elim
-        (λ (still : StillHolds (shut file) (journal.counted (shut file)) c). made_opens text file c is (empty_found c (still.payloads ∙ nothing) still.journal))
+        (λ (still : StillHolds (shut file) (journal.counted (shut file)) c). made_opens text file c none.0 is (empty_found c (still.payloads ∙ nothing) still.journal))
         (λ (more : StillHolds (shut file) (journal.counted (shut file) ++ text ∷ []) c).
-        made_opens text file c is (found_as text P [] c (policy_holds text P c short accepts (more.payloads ∙ ap (λ l. l ++ text ∷ []) nothing))))
+        made_opens text file c none.0 is (found_as text P [] c (policy_holds text P c short accepts (more.payloads ∙ ap (λ l. l ++ text ∷ []) nothing))))
         h in
         joined moment images_since old mid new (Opens text file) ((mend_fresh_opens old mid empty mended).each file rest)
         (weaker moment images_since mid new (PerhapsAdded text (shut file)) (Opens text file) opens (appended.each (shut file) (rest_only mid (shut file) told only)));

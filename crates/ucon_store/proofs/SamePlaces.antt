@@ -1,6 +1,6 @@
 -- What leaves the checkpoints of a file where they stood.
 use Rattle.std.proofs.Common.{◌≡◌, ◌≢◌, ⊎_elim, ℕ, ◌+◌, ◌<◌, Bool, true, false, List, [], ◌∷◌, ◌++◌, length, Option, Some, None, refl, sym, ap, ◌∙◌, arith}
-use Rattle.std.specs.Prelude.{is_some, nat_le, if◌then◌else◌, IfSome}
+use Rattle.std.specs.Prelude.{◌↔◌, is_some, nat_le, if◌then◌else◌, IfSome}
 use Rattle.std.specs.Option.{option_map}
 use Rattle.ucon_model.specs.Plain.{Bytes}
 use Rattle.ucon_journal.specs.Found as journal
@@ -68,9 +68,22 @@ old_opened file none = ⊎_elim
     above_nine : (n : ℕ) → nat_le n 9 ≡ false → 9 < n
     above_nine n long = grind arith
 
-pub opened_old : (o m n : Option Bytes) → m ≡ option_map opened o → SameKind m n → (before now : Bytes) → o ≡ Some before → n ≡ Some now → has_points now ≡ false → IsOld before
-opened_old o m n is h before now was told none =
-    old_opened before (sym (kept m n h (is ∙ ap (option_map opened) was) told) ∙ none)
+-- and one of version 1 stays
+old_stays : (file : Bytes) → IsOld file → has_points (opened file) ≡ false
+old_stays file old = ⊎_elim
+    (λ (short : nat_le (length file) 9 ≡ true). absurd (not_both (length file) old.0 short))
+    (λ (long : nat_le (length file) 9 ≡ false). ap has_points (opened_long file long) ∙ old.1)
+    (true_or_false (nat_le (length file) 9))
+  where
+    not_both : (n : ℕ) → 9 < n → nat_le n 9 ≡ true → ⊥
+    not_both n above below = grind arith
+
+pub opened_old : (o m n : Option Bytes) → m ≡ option_map opened o → SameKind m n → (before now : Bytes) → o ≡ Some before → n ≡ Some now → (has_points now ≡ false) ↔ IsOld before
+opened_old o m n is h before now was told =
+    let same = kept m n h (is ∙ ap (option_map opened) was) told in (
+      λ none. old_opened before (sym same ∙ none),
+      λ old. same ∙ old_stays before old,
+    )
   where
     kept : (m n : Option Bytes) → SameKind m n → m ≡ Some (opened before) → n ≡ Some now → has_points now ≡ has_points (opened before)
     kept None n h begun told = absurd (cc begun)

@@ -65,7 +65,7 @@ module _ (points : Bool) (w : Walk) (gate next : ℕ) (payload : Bytes) (on : ne
   passed_step is = past (behind_step w) false is refl (λ rest. refl)
 
 -- a record that is too long is the first such
-long_here : (number gate : ℕ) (file : Bytes) (p : Bytes) (ps : List Bytes) → payloads_from file gate ≡ p ∷ ps → most_payload < length p → first_long number gate (payloads_from file gate) ≡ Some (number, gate)
+pub long_here : (number gate : ℕ) (file : Bytes) (p : Bytes) (ps : List Bytes) → payloads_from file gate ≡ p ∷ ps → most_payload < length p → first_long number gate (payloads_from file gate) ≡ Some (number, gate)
 long_here number gate file p ps is long =
     ap (first_long number gate) is ∙ ap (λ (b : Bool). cond b (Some (number, gate)) (first_long (number + 1) (next_gate gate p) ps)) (long_yes most_payload (length p) long)
 

@@ -43,15 +43,3 @@ found_as text P H file h = subst (λ (f : Finding). Tells f text H) (sym h.is) (
 -- it is found as this history, or as the history with the entry of the step that failed, if there is one
 abbrev pub IsFoundWith : Bytes → History → Option Entry → Bytes → Type 0
 IsFoundWith text H mark file = IsFoundAs text file H ⊎ ((e : Entry) × (mark ≡ Some e) × IsFoundAs text file (H ++ e ∷ []))
-
--- no journal, a damaged one, or one of another policy than that of this text
-abbrev pub IsForeign : Finding → Bytes → Type 0
-IsForeign fresh text = ⊥
-IsForeign not_journal text = Unit {0}
-IsForeign (damaged number place) text = Unit {0}
-IsForeign (holds other P H gate) text = ¬ (other ≡ text)
-
--- what opening under the policy of this text may make of a file: what was found is still found, and a foreign file is as it was
-pub record Opens (text file c : Bytes) : Type 0 where
-  pub same : (H : History) → IsFoundAs text file H → IsFoundAs text c H
-  pub untouched : IsForeign (found file) text → c ≡ file

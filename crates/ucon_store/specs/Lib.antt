@@ -2,6 +2,7 @@ pub mod Events
 pub mod Faults
 pub mod Found
 pub mod Kept
+pub mod Loading
 pub mod Made
 pub mod Opened
 pub mod Opening

@@ -5,87 +5,65 @@ ghost use Rattle.ucon_base.specs.Memory.{out_of_memory};
 ghost use Rattle.ucon_disk.specs.Disk.{SameImages};
 ghost use Rattle.ucon_disk.specs.Run.{LeavesOnly};
 ghost use Rattle.ucon_journal.specs.Journal.{disk_of, gate_of, version_of, HasEnded, IsReading};
-ghost use Rattle.ucon_model.specs.Found.{taken};
+ghost use Rattle.ucon_model.specs.Action.{Trace};
 ghost use Rattle.ucon_model.specs.Plain.{PlainPolicy};
 ghost use Rattle.ucon_syntax.specs.Policies.{accepted};
-ghost use Rattle.ucon_store.specs.Opening.{HasReason, HasLoaded, IsLoading, IsStanding};
-ghost use Rattle.ucon_store.specs.Points.{point_taken, takes_with};
+ghost use Rattle.ucon_store.specs.Kept.{payload_in};
+ghost use Rattle.ucon_store.specs.Loading.{HasLoaded, IsLoading, IsStanding};
+ghost use Rattle.ucon_store.specs.Opened.{steps_after};
+ghost use Rattle.ucon_store.specs.Opening.{HasReason};
+ghost use Rattle.ucon_store.specs.Starts.{IsStart};
 
+use crate::beginning::Beginning;
 use crate::fault::{StoreFault, at_record};
-use crate::points::{checkpoint, has_points, is_point};
 use crate::recording::add;
 use std::alloc::Global;
-use ucon_base::{NoMemory, Rows, Steps};
-use ucon_command::{PayloadFault, put_payload, read_entry, steps_are_taken_as_spelled};
+use ucon_base::{Rows, Steps};
+use ucon_command::{PayloadFault, payloads_are_read_back, put_payload, read_entry};
 use ucon_disk::Disk;
 use ucon_journal::{Journal, MAX_PAYLOAD};
 use ucon_model::Entry;
+use ucon_runs::texts_tell_changes;
 use ucon_state::Engine;
 
-/// The text of a journal's policy, an engine under it, and the entries so far, for which the engine stands.
+/// The text of a journal's policy, an engine under it, and the entries so far, for which the engine stands, from the last checkpoint on.
 #[derive(Drop)]
 pub(crate) struct Loaded<E> {
     pub policy: Vec<u8>,
+    /// The checkpoint that the entries begin behind. None where they begin before all.
+    pub point: Option<Beginning>,
+    /// How many entries stand before it.
+    pub before: u64,
     pub engine: E,
     pub entries: Rows<Entry>,
-    /// How many records were taken in, record 0 and the checkpoints among them.
+    /// How many records were taken in, those before the checkpoint among them.
     pub records: u64,
     /// The payload of the last entry, as the engine's reply spells it. Its memory is kept for the next one.
     pub payload: Vec<u8>,
 }
 
 impl<E: Engine> Loaded<E> {
-    /// Takes the payload of a later record in, if it is the checkpoint of what is there, where there may be checkpoints, or tells the next step.
-    /// False where it isn't; the engine is then of no more use.
-    fn take(&mut self, alloc: Global, points: bool, payload: &[u8]) -> Result<bool, StoreFault>
-        requires standing { IsStanding E.follows self.old }
-        requires short { length payload.now ≤ MAX_PAYLOAD }
-        ensures taken { IfOk result (λ more. more ≡ true → IsStanding E.follows self.new
-            × ((P : PlainPolicy) → accepted self.old.policy.items ≡ Some P
-            → takes_with points self.old.policy.items P self.old.entries.items payload.now ≡ Some self.new.entries.items)) }
-        ensures one { IfOk result (λ more. more ≡ true → length self.new.entries.items ≤ length self.old.entries.items + 1) }
-        ensures wrong { IfOk result (λ more. more ≡ false → (P : PlainPolicy) → accepted self.old.policy.items ≡ Some P
-            → takes_with points self.old.policy.items P self.old.entries.items payload.now ≡ None) }
-        ensures err { IfErr result (λ fault. fault ≡ StoreFault.NoMemory out_of_memory) }
-        ensures policy { self.new.policy.items ≡ self.old.policy.items }
-        ensures records { self.new.records ≡ self.old.records }
-    {
-        if is_point(points, payload) {
-            let here = self.is_here(alloc, payload)?;
-            Ok(here)
-        } else {
-            self.take_step(alloc, payload)
-        }
-    }
-
-    /// Whether a payload is the checkpoint of what is there.
-    fn is_here(&self, alloc: Global, payload: &[u8]) -> Result<bool, NoMemory>
-        requires standing { IsStanding E.follows self.now }
-        requires short { length payload.now ≤ MAX_PAYLOAD }
-        ensures { IfOk result (λ here. (P : PlainPolicy) → accepted self.now.policy.items ≡ Some P
-            → point_taken self.now.policy.items P self.now.entries.items payload.now ≡ (if here then Some self.now.entries.items else None)) }
-    {
-        let count = self.entries.len() as u64;
-        let text = checkpoint(alloc, &self.policy, count, &self.entries, &self.engine)?;
-        Ok(payload == text.as_slice())
-    }
-
     /// Takes the step of a payload in, if it is the next one: the engine's reply changes something, and with it the step is spelled as the payload,
     /// whose own reply isn't read. False where it isn't; the engine is then of no more use.
     fn take_step(&mut self, alloc: Global, payload: &[u8]) -> Result<bool, StoreFault>
         requires standing { IsStanding E.follows self.old }
         requires short { length payload.now ≤ MAX_PAYLOAD }
-        ensures taken { IfOk result (λ more. more ≡ true → IsStanding E.follows self.new
-            × ((P : PlainPolicy) → accepted self.old.policy.items ≡ Some P
-            → taken accepted P self.old.entries.items payload.now ≡ Some self.new.entries.items)) }
+        ensures standing { IfOk result (λ more. more ≡ true → IsStanding E.follows self.new) }
+        ensures taken { IfOk result (λ more. more ≡ true → (P : PlainPolicy) (T : Trace) → accepted self.old.policy.items ≡ Some P
+            → IsStart P (payload_in self.old.point) self.old.before T
+            → steps_after T self.old.policy.items P self.old.entries.items payload.now ≡ Some self.new.entries.items) }
         ensures one { IfOk result (λ more. more ≡ true → length self.new.entries.items ≡ length self.old.entries.items + 1) }
-        ensures wrong { IfOk result (λ more. more ≡ false → (P : PlainPolicy) → accepted self.old.policy.items ≡ Some P
-            → taken accepted P self.old.entries.items payload.now ≡ None) }
+        ensures wrong { IfOk result (λ more. more ≡ false → (P : PlainPolicy) (T : Trace) → accepted self.old.policy.items ≡ Some P
+            → IsStart P (payload_in self.old.point) self.old.before T
+            → steps_after T self.old.policy.items P self.old.entries.items payload.now ≡ None) }
         ensures err { IfErr result (λ fault. fault ≡ StoreFault.NoMemory out_of_memory) }
         ensures policy { self.new.policy.items ≡ self.old.policy.items }
+        ensures point { self.new.point ≡ self.old.point }
+        ensures before { self.new.before ≡ self.old.before }
         ensures records { self.new.records ≡ self.old.records }
     {
-        steps_are_taken_as_spelled();
+        payloads_are_read_back();
+        texts_tell_changes();
         let entry = match read_entry(alloc, payload) {
             Ok(entry) => entry,
             Err(PayloadFault::BadPlace(_)) => return Ok(false),
@@ -129,7 +107,6 @@ impl<E: Engine> Loaded<E> {
         ensures ended { result ≡ Ok false → HasEnded D.contents journal.new }
         ensures reason { IfErr result (λ fault. (text : List ℕ)
             → HasReason fault text (D.contents (disk_of journal.old)) (D.faults (disk_of journal.old)) (D.faults (disk_of journal.new))) }
-        ensures policy { self.new.policy.items ≡ self.old.policy.items }
         ensures contents { D.contents (disk_of journal.new) ≡ D.contents (disk_of journal.old) }
         ensures images { SameImages (D.images (disk_of journal.old)) (D.images (disk_of journal.new)) }
         ensures run { LeavesOnly D.moment D.images_since (disk_of journal.old) (disk_of journal.new) (D.images (disk_of journal.old)) }
@@ -137,12 +114,11 @@ impl<E: Engine> Loaded<E> {
     {
         let place = journal.gate();
         let number = self.records;
-        let points = has_points(journal);
         match journal.next() {
             Err(fault) => Err(at_record(number, fault)),
             Ok(false) => Ok(false),
             Ok(true) => {
-                let taken = self.take(alloc, points, journal.payload())?;
+                let taken = self.take_step(alloc, journal.payload())?;
                 if !taken {
                     return Err(StoreFault::Damaged { number, place });
                 }
@@ -164,7 +140,6 @@ impl<E: Engine> Loaded<E> {
         ensures ended { OnOk result (HasEnded D.contents journal.new) }
         ensures reason { IfErr result (λ fault. (text : List ℕ)
             → HasReason fault text (D.contents (disk_of journal.old)) (D.faults (disk_of journal.old)) (D.faults (disk_of journal.new))) }
-        ensures policy { self.new.policy.items ≡ self.old.policy.items }
         ensures contents { D.contents (disk_of journal.new) ≡ D.contents (disk_of journal.old) }
         ensures images { SameImages (D.images (disk_of journal.old)) (D.images (disk_of journal.new)) }
         ensures run { LeavesOnly D.moment D.images_since (disk_of journal.old) (disk_of journal.new) (D.images (disk_of journal.old)) }

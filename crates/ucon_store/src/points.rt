@@ -7,10 +7,9 @@ ghost use Rattle.ucon_model.specs.History.{trace_from};
 ghost use Rattle.ucon_model.specs.Plain.{PlainPolicy};
 ghost use Rattle.ucon_store.specs.Pointing.{IsUnprepared};
 ghost use Rattle.ucon_point.specs.PointText.{point_text};
-ghost use Rattle.ucon_state.specs.Engine.{StandsFor};
 ghost use Rattle.ucon_state.specs.Held.{held_after};
 ghost use Rattle.ucon_store.specs.Kept.{text_in};
-ghost use Rattle.ucon_store.specs.Points.{checkpoint, is_point, points_of, text_behind, text_in_force};
+ghost use Rattle.ucon_store.specs.Points.{is_point, points_of, text_behind, text_in_force};
 ghost use Rattle.ucon_store.specs.Starts.{point_behind};
 
 use crate::beginning::Beginning;
@@ -47,10 +46,8 @@ pub(crate) fn checkpoint<E: Engine>(
     entries: &Rows<Entry>,
     engine: &E,
 ) -> Result<Vec<u8>, NoMemory>
-    ensures after_trace { IfOk result (λ text. (P : PlainPolicy) (T : Trace) → E.follows engine.now P (trace_from P T entries.now.items)
+    ensures { IfOk result (λ text. (P : PlainPolicy) (T : Trace) → E.follows engine.now P (trace_from P T entries.now.items)
         → text.items ≡ point_text count (text_in_force policy.now entries.now.items) (held_after P (trace_from P T entries.now.items))) }
-    ensures after_history { IfOk result (λ text. (P : PlainPolicy) → StandsFor E.follows engine.now P entries.now.items
-        → count ≡ length entries.now.items → text.items ≡ checkpoint policy.now P entries.now.items) }
 {
     let in_force = text_in_force(policy, entries);
     point_text(alloc, count, in_force, engine.state())
@@ -61,7 +58,7 @@ pub(crate) fn text_at_start<'a>(policy: &'a [u8], point: &'a Option<Beginning>) 
     ensures { result.now ≡ text_in policy.now point.now }
 {
     match point {
-        Some(beginning) => &beginning.text,
+        Some(beginning) => beginning.text.slice(),
         None => policy,
     }
 }

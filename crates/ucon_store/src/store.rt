@@ -16,18 +16,20 @@ ghost use Rattle.ucon_state.specs.Shown.{shown};
 ghost use Rattle.ucon_turn.specs.Lists.{Continues};
 ghost use Rattle.ucon_syntax.specs.Policies.{accepted};
 ghost use Rattle.ucon_store.specs.Events.{events_of, number_of};
-ghost use Rattle.ucon_store.specs.Found.{Holds, IsFoundAs, IsFoundWith, Opens};
+ghost use Rattle.ucon_store.specs.Found.{IsFoundAs, IsFoundWith};
 ghost use Rattle.ucon_store.specs.Kept.{Kept};
-ghost use Rattle.ucon_store.specs.Opening.{HasReason};
+ghost use Rattle.ucon_store.specs.Opened.{last_point};
+ghost use Rattle.ucon_store.specs.Opening.{HasReason, IsSeenAs, Opens};
 ghost use Rattle.ucon_store.specs.Pointing.{IsFoundPointed, IsSameStore, IsUnpointed};
 ghost use Rattle.ucon_store.specs.Points.{IsOld, SamePlaces, has_points, point_places};
-ghost use Rattle.ucon_store.specs.Starts.{IsBeforeAll, IsStart, checkpoint_behind};
+ghost use Rattle.ucon_store.specs.Starts.{BeginsAt, IsBeforeAll, IsStart, checkpoint_behind};
 ghost use Rattle.ucon_store.specs.Stays.{Stays};
 ghost use Rattle.ucon_store.specs.Steps.{IsPlaced, IsPlacedBehind, HasFailed, HasFailedBehind};
-ghost use Rattle.ucon_store.specs.Whole.{IsFounded, IsFront, trace_behind, whole};
+ghost use Rattle.ucon_store.specs.Whole.{GoesOnFrom, IsFounded, IsFront, trace_behind, whole};
 
 use crate::beginning::Beginning;
 use crate::fault::{PointRefusal, StepFault, StoreFault};
+use crate::laws::found_histories_stand_around_their_last_checkpoint;
 use crate::loading::Loaded;
 use crate::opening::load;
 use crate::placed::Placed;
@@ -38,9 +40,7 @@ use std::marker::Model;
 use ucon_base::{Rows, Steps};
 use ucon_disk::Disk;
 use ucon_journal::{Journal, MAX_PAYLOAD};
-use ucon_model::{
-    Caller, Command, Entry, SessionState, no_usage_goes_on_failing, revocations_are_few,
-};
+use ucon_model::{Caller, Command, Entry, SessionState};
 use ucon_runs::payloads_are_found_one_by_one;
 use ucon_state::{Engine, State};
 
@@ -87,28 +87,31 @@ impl<E: Engine, D: Disk> Model for Store<E, D> {
 impl<E: Engine, D: Disk> Store<E, D> {
     /// Opens the store of the journal in a file, under the policy of this text, which has to be an accepted one. A file of at most nine bytes
     /// becomes a journal, and one without a record gets the policy as record 0, so the file of an open store holds its policy. On a disk at
-    /// rest a file that is no journal, is damaged or has another policy keeps its bytes. A fault hands the disk back.
+    /// rest a file that is no journal, is damaged or has another policy keeps its bytes. A fault hands the disk back. The store begins behind the
+    /// last checkpoint, before which no record is run; so a file of which only what stands behind it is right is opened, too.
     pub fn open(alloc: Global, policy: &[u8], disk: D) -> Result<Store<E, D>, (D, StoreFault)>
         requires { IsSome (accepted policy.now) }
         ensures store { IfOk result (λ s. (s.policy ≡ policy.now) × (s.opening ≡ s.before + length s.entries) × (s.mark ≡ None)) }
-        ensures begins { IfOk result (λ s. IsBeforeAll s.point s.before) }
-        ensures found { IfOk result (λ s. IfSome (D.contents disk) (λ file. IsFoundAs policy.now file s.entries)) }
+        ensures begins { IfOk result (λ s. IfSome (D.contents disk) (λ file. BeginsAt (last_point file) s.point s.before)) }
+        ensures leads { IfOk result (λ s. (P : PlainPolicy) → accepted policy.now ≡ Some P → (T : Trace) × IsStart P s.point s.before T) }
+        ensures seen { IfOk result (λ s. (P : PlainPolicy) → accepted policy.now ≡ Some P
+            → IfSome (D.contents disk) (IsSeenAs P s.policy s.point s.before s.entries)) }
+        ensures founded { IfOk result (λ s. (P : PlainPolicy) (file : List ℕ) (H : History) → accepted policy.now ≡ Some P
+            → D.contents disk ≡ Some file → IsFoundAs policy.now file H → GoesOnFrom D.contents D.images P s H) }
+        ensures first { IfOk result (λ s. IsBeforeAll s.point s.before → (P : PlainPolicy) → accepted policy.now ≡ Some P
+            → IsFounded D.contents D.images P s []) }
+        ensures found { IfOk result (λ s. IsBeforeAll s.point s.before → IfSome (D.contents disk) (λ file. IsFoundAs policy.now file s.entries)) }
         ensures images { IfOk result (λ s. LeavesAfter D.contents D.images D.moment D.images_since disk s.disk (Opens policy.now)) }
         ensures at_rest { IfOk result (λ s. Only (D.contents s.disk) (D.images s.disk)) }
-        ensures holds { IfOk result (λ s. IfSome (D.contents s.disk) (λ file. IsFoundAs policy.now file s.entries)) }
-        ensures recorded { IfOk result (λ s. (P : PlainPolicy) → accepted policy.now ≡ Some P
-            → IfSome (D.contents s.disk) (Holds policy.now P s.entries)) }
-        ensures founded { IfOk result (λ s. (P : PlainPolicy) → accepted policy.now ≡ Some P → IsFounded D.contents D.images P s []) }
         ensures places { IfOk result (λ s. SamePlaces (D.contents disk) (D.contents s.disk)) }
         ensures old { IfOk result (λ s. (before now : List ℕ) → D.contents disk ≡ Some before → D.contents s.disk ≡ Some now
-            → has_points now ≡ false → IsOld before) }
+            → (has_points now ≡ false) ↔ IsOld before) }
         ensures tells { IfOk result (λ s. is_some (D.contents s.disk) ≡ is_some (D.contents disk)) }
         ensures unfailed { IfOk result (λ s. D.faults s.disk ≡ D.faults disk) }
         ensures reason { IfErr result (λ e. HasReason e.1 policy.now (D.contents disk) (D.faults disk) (D.faults e.0)) }
         ensures images_err { IfErr result (λ e. LeavesAfter D.contents D.images D.moment D.images_since disk e.0 (Opens policy.now)) }
     {
-        no_usage_goes_on_failing();
-        revocations_are_few();
+        found_histories_stand_around_their_last_checkpoint();
         let mut journal = match Journal::open(alloc, disk) {
             Ok(journal) => journal,
             Err((disk, fault)) => return Err((disk, fault.into())),
@@ -118,19 +121,21 @@ impl<E: Engine, D: Disk> Store<E, D> {
             Ok(loaded) => {
                 let Loaded {
                     policy,
+                    point,
+                    before,
                     engine,
                     entries,
                     records: _,
                     payload,
                 } = loaded;
-                // Every record was run, so the store begins before all entries.
+                let opening = before + entries.len() as u64;
                 Ok(Store {
                     engine,
                     journal,
                     policy,
-                    point: None,
-                    before: 0,
-                    opening: entries.len() as u64,
+                    point,
+                    before,
+                    opening,
                     entries,
                     mark: None,
                     payload,

@@ -30,7 +30,7 @@ use Rattle.ucon_store.proofs.Seeing.Points.{the_end}
 use Rattle.ucon_store.proofs.Seeing.SameReplies.{least_failing_same}
 
 -- where nobody fails, no least one does
-least_none : (P : PlainPolicy) (T : Trace) → NobodyFails P T → (n left : ℕ) → least_from P T n left ≡ None
+pub least_none : (P : PlainPolicy) (T : Trace) → NobodyFails P T → (n left : ℕ) → least_from P T n left ≡ None
 least_none P T nobody n zero = refl
 least_none P T nobody n (suc left) = ap (λ (o : Option Bytes). option_map_or (λ label. Some (n, label)) o (least_from P T (n + 1) left)) (nobody n) ∙ least_none P T nobody (n + 1) left
 

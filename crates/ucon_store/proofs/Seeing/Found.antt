@@ -21,13 +21,13 @@ use Rattle.ucon_store.proofs.Seeing.Points.{PointLaws, point_of_history, text_of
 use Rattle.ucon_store.proofs.Seeing.Walk.{at_point, found_after, none_long, same_told}
 
 -- record 0 is taken
-record FromFirst (takes : Takes) (text : Bytes) (payloads : List Bytes) (found : Finding) : Type 0 where
-  P : PlainPolicy
-  short : nat_lt most_payload (length text) ≡ false
-  accepts : accepted text ≡ Some P
-  behind : found_behind takes text P [] 1 (next_gate first_gate text) payloads ≡ found
+pub record FromFirst (takes : Takes) (text : Bytes) (payloads : List Bytes) (found : Finding) : Type 0 where
+  pub P : PlainPolicy
+  pub short : nat_lt most_payload (length text) ≡ false
+  pub accepts : accepted text ≡ Some P
+  pub behind : found_behind takes text P [] 1 (next_gate first_gate text) payloads ≡ found
 
-from_first : (takes : Takes) (text : Bytes) (payloads : List Bytes) (t : Bytes) (Q : PlainPolicy) (F : History) (end : ℕ) → found_in accepted takes (text ∷ payloads) ≡ model.holds t Q F end
+pub from_first : (takes : Takes) (text : Bytes) (payloads : List Bytes) (t : Bytes) (Q : PlainPolicy) (F : History) (end : ℕ) → found_in accepted takes (text ∷ payloads) ≡ model.holds t Q F end
     → FromFirst takes text payloads (model.holds t Q F end)
 from_first takes text payloads t Q F end h = by (nat_lt most_payload (length text)) refl (accepted text) refl h
   where

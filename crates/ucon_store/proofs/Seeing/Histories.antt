@@ -26,7 +26,8 @@ use Rattle.ucon_syntax.specs.Policies.{accepted}
 use Rattle.ucon_store.specs.Opened.{is_next_after, steps_after, with_next}
 use Rattle.ucon_store.specs.Points.{text_behind, text_in_force}
 use Rattle.ucon_store.proofs.Stepping.{trace_append}
-use Rattle.ucon_store.proofs.Taking.{TakenAsSpelled, tested}
+use Rattle.ucon_store.proofs.After.{tested}
+use Rattle.ucon_store.proofs.Taking.{TakenAsSpelled}
 use Rattle.ucon_store.proofs.Seeing.InForce.{amended_after, left_after}
 use Rattle.ucon_store.proofs.Spelled.ReadCommands.{payload_gives}
 

@@ -15,7 +15,7 @@ use Rattle.ucon_store.specs.Opened.{Parted, Seen, Sees, SeesFrom, SeesIn, SeesPa
 use Rattle.ucon_store.specs.Points.{has_points, takes_with}
 
 -- a record is told of
-abbrev is_told : Finding → Bool
+abbrev pub is_told : Finding → Bool
 is_told (model.holds text P H gate) = true
 is_told (model.damaged number place) = true
 is_told f = false
@@ -44,7 +44,7 @@ untold takes journal.NotJournal h = refl
 untold takes (journal.Holds [] gate) h = refl
 untold takes (journal.Holds (text ∷ payloads) gate) h = absurd (false≢true (sym h ∙ told_in takes text payloads))
 
-found_untold : (file : Bytes) → is_told (found file) ≡ false → journal.counted file ≡ []
+pub found_untold : (file : Bytes) → is_told (found file) ≡ false → journal.counted file ≡ []
 unfolding found
 found_untold file h = untold (takes_with (has_points file)) (journal.found file) h
 

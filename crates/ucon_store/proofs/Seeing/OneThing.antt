@@ -57,7 +57,7 @@ module _ (keeps : (s : Shown) (P : PlainPolicy) (T : Trace) → Follows s P T �
         sessions_count = ap (λ (c : Counts). c.sessions) (sym k.counts_agree ∙ l.counts_agree);
       }
 
-  held_too : (P : PlainPolicy) (T : Trace) (Q : PlainPolicy) (U : Trace) → ReadTheSame P T Q U → held_after P T ≡ held_after Q U
+  pub held_too : (P : PlainPolicy) (T : Trace) (Q : PlainPolicy) (U : Trace) → ReadTheSame P T Q U → held_after P T ≡ held_after Q U
   held_too P T Q U h = λ t. record {
     policy = h.policy t;
     names = λ side. h.names side t;

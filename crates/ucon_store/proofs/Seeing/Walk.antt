@@ -149,7 +149,7 @@ module _ (laws : PayloadLaws) (text : Bytes) (P : PlainPolicy) (F : History) (en
 -- ---- behind it
 
 -- no payload is a checkpoint
-none_parts : (payload : Bytes) (payloads : List Bytes) → parted (payload ∷ payloads) ≡ None → (is_point payload ≡ false) × (parted payloads ≡ None)
+pub none_parts : (payload : Bytes) (payloads : List Bytes) → parted (payload ∷ payloads) ≡ None → (is_point payload ≡ false) × (parted payloads ≡ None)
 none_parts payload payloads h = by (parted payloads) refl (is_point payload) refl h
   where
     by : (o : Option Parted) → parted payloads ≡ o → (b : Bool) → is_point payload ≡ b

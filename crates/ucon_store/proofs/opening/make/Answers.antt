@@ -1,11 +1,13 @@
-use Rattle.std.proofs.Common.{◌≡◌, ℕ, ◌*◌, ◌≤◌, [], length, refl, sym, ap, ◌∙◌, subst, arith}
+use Rattle.std.proofs.Common.{◌≡◌, ℕ, length, sym, ap, ◌∙◌, subst, arith}
 use Rattle.std.specs.Prelude.{option_map, IfSome}
 use Rattle.ucon_disk.specs.Run.{LeavesAfter}
 use Rattle.ucon_journal.specs.Journal.{disk_of, gate_of, told_payloads, version_of}
 use Rattle.ucon_journal.specs.Opened.{shut_at, with_payload, SamePayloads}
 use Rattle.ucon_model.specs.History.{History}
 use Rattle.ucon_syntax.specs.Policies.{accepted}
-use Rattle.ucon_store.proofs.Openings.{IsOfKind, holds_made, holds_moved, none_found}
+use Rattle.ucon_store.specs.Kept.{payload_in}
+use Rattle.ucon_store.proofs.Openings.{holds_made}
+use Rattle.ucon_store.proofs.Loadings.{IsOfKind, fresh_kept, fresh_payloads, fresh_read}
 use Rattle.ucon_store.proofs.Runs.{mend_fresh_opens, make_opens}
 use Rattle.ucon_store.proofs.SamePlaces.{made_places, same_kind}
 use Rattle.ucon_store.proofs.Versions.{closed_kind, ended_kind}
@@ -53,31 +55,36 @@ returns-clause-images g c =
     make_opens contents images moment since text standing.P (disk_of c.args.journal.now) (disk_of c.mend.new.self) (disk_of c.append.new.self) (omega (arith, c.in_ok-loaded.ensures.short)) accepts
     c.requires.fresh shut bytes same c.in_ok-mend.ensures.only mended c.append.ensures.images
 
-pub returns-clause-found : goal.returns-clause-found
-returns-clause-found g c =
-    none_found (g.D.Disk.contents (disk_of c.args.journal.now)) c.args.policy.now c.in_ok-loaded.loaded.entries.items c.requires.fresh c.in_ok-loaded.ensures.entries
+pub returns-clause-read : goal.returns-clause-read
+returns-clause-read g c = λ P accepts.
+    let loaded = c.in_ok-loaded.loaded in
+    fresh_read c.args.policy.now P (payload_in loaded.point) loaded.before loaded.entries.items (g.D.Disk.contents (disk_of c.args.journal.now)) c.requires.fresh
+    c.in_ok-loaded.ensures.begins c.in_ok-loaded.ensures.entries
 
-pub returns-clause-loaded : goal.returns-clause-loaded
-returns-clause-loaded g c =
+pub returns-clause-kept : goal.returns-clause-kept
+returns-clause-kept g c =
     let contents = g.D.Disk.contents in
     let text = c.args.policy.now in
     let o = contents (disk_of c.args.journal.now) in
     let m = contents (disk_of c.mend.new.self) in
     let n = contents (disk_of c.append.new.self) in
-    let loaded = c.in_ok-loaded.loaded in
     let standing = c.in_ok-loaded.ensures.standing in
     let accepts = sym (ap accepted c.in_ok-loaded.ensures.policy) ∙ standing.accepts in
     let shut = shut_at (gate_of c.reserve.new.self) in
     let bytes = subst (λ (d : g.row.D.Denot). m ≡ option_map shut (contents d)) c.reserve.ensures.disk c.in_ok-mend.ensures.bytes in
     let same = subst (λ (d : g.row.D.Denot). told_payloads m ≡ told_payloads (contents d)) c.reserve.ensures.disk c.in_ok-mend.ensures.same in
-    let none : loaded.entries.items ≡ [] = c.in_ok-loaded.ensures.entries in
-    record {
-      standing = standing;
-      few = subst (λ (l : History). 5 * length l ≤ gate_of c.append.new.self) (sym none) (omega arith);
-      holds = holds_moved n n text loaded.policy.items standing.P standing.P [] loaded.entries.items refl c.in_ok-loaded.ensures.policy refl none
-          (holds_made text standing.P o m n shut (with_payload (gate_of c.mend.new.self) text) (omega (arith, c.in_ok-loaded.ensures.short)) accepts c.requires.fresh bytes same
-          c.in_ok-append.ensures.bytes c.in_ok-append.ensures.added);
-    }
+    fresh_kept text standing.P o n c.requires.fresh accepts
+    (holds_made text standing.P o m n shut (with_payload (gate_of c.mend.new.self) text) (omega (arith, c.in_ok-loaded.ensures.short)) accepts c.requires.fresh bytes same
+    c.in_ok-append.ensures.bytes c.in_ok-append.ensures.added)
+
+pub returns-clause-few : goal.returns-clause-few
+returns-clause-few g c =
+    let loaded = c.in_ok-loaded.loaded in
+    let none = ap (λ (l : History). length l) c.in_ok-loaded.ensures.entries in
+    omega (arith, none, c.in_ok-loaded.ensures.begins.1)
+
+pub returns-clause-payloads : goal.returns-clause-payloads
+returns-clause-payloads g c = fresh_payloads (g.D.Disk.contents (disk_of c.args.journal.now)) c.requires.fresh
 
 pub returns-clause-places : goal.returns-clause-places
 returns-clause-places g c =

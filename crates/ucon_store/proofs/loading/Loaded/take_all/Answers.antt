@@ -14,7 +14,6 @@ records-preserved g c =
     record {
       loading = c.in_ok-take_next.ensures.loading (ap Ok more);
       reading = c.take_next.ensures.reading;
-      policy = c.take_next.ensures.policy ∙ inv.policy;
       contents = c.take_next.ensures.contents ∙ inv.contents;
       images = record { no_more = λ d i. inv.images.no_more d (c.take_next.ensures.images.no_more d i); no_fewer = λ d i. c.take_next.ensures.images.no_fewer d (inv.images.no_fewer d i) };
       run = joined g.D.Disk.moment g.D.Disk.images_since first mid new (images first) inv.run (weaker g.D.Disk.moment g.D.Disk.images_since mid new (images mid) (images first) inv.images.no_more c.take_next.ensures.run);

@@ -1,17 +1,19 @@
-use Rattle.std.proofs.Common.{rules, ◌≡◌, ◌+◌, ◌<◌, ℕ, ◌∷◌, [], length, Bool, false, true, Ok, Err, Some, List, refl, sym, ap, ◌∙◌, subst, arith}
+use Rattle.std.proofs.Common.{◌≡◌, ◌+◌, ◌<◌, ℕ, ◌∷◌, [], length, false, true, Ok, Err, Option, Some, None, List, sym, ap, ◌∙◌, subst, arith}
 use Rattle.std.specs.Prelude.{IfSome}
 use Rattle.ucon_journal.specs.declared.fault.TakeFault.TheVariants as taking
 use Rattle.ucon_journal.specs.Journal.{disk_of, gate_of, payload_of}
 use Rattle.ucon_journal.specs.Found.{payloads_from}
-use Rattle.ucon_model.specs.Found.{damaged}
+use Rattle.ucon_model.specs.Action.{Trace}
 use Rattle.ucon_model.specs.Plain.{Bytes}
-use Rattle.ucon_syntax.specs.Policies.{accepted}
 use Rattle.ucon_store.specs.declared.fault.StoreFault.{StoreFault}
-use Rattle.ucon_store.specs.Found.{found}
+use Rattle.ucon_store.specs.Kept.{payload_in}
+use Rattle.ucon_syntax.specs.Policies.{accepted}
+use Rattle.ucon_store.specs.Loading.{IsReadWhole}
+use Rattle.ucon_store.specs.Opened.{Sees, damaged, steps_after}
 use Rattle.ucon_store.specs.Opening.{HasReason}
-use Rattle.ucon_store.specs.Points.{takes_with}
-use Rattle.ucon_store.proofs.Versions.{reading_kind}
-use Rattle.ucon_store.proofs.Openings.{IsOfKind, says_next, says_long, says_ended, says_moved, holds_moved, more_told, none_told}
+use Rattle.ucon_store.specs.Starts.{IsStart}
+use Rattle.ucon_store.proofs.Openings.{more_told, none_told}
+use Rattle.ucon_store.proofs.Reading.{read_ended, read_long, read_moved, read_next, read_wrong}
 use Rattle.ucon_store.proofs.Stepping.{one_policy}
 use Rattle.ucon_store.proofs.Taking.{taking_reason}
 use Rattle.ucon_store.proofs.loading.Loaded.take_next.Goals as goal
@@ -22,64 +24,81 @@ returns-in-Err-clause-reason g c = λ text.
     let before = g.D.Disk.faults (disk_of c.args.journal.now) in
     let now = g.D.Disk.faults (disk_of c.next.new.self) in
     let loading = c.requires.loading in
-    let H = c.args.self.now.entries.items in
+    let standing = loading.standing in
+    let old = c.args.self.now in
     let gate = gate_of c.args.journal.now in
-    let number = c.args.self.now.records in
-    let long : (place : ℕ) → c.in-Err.fault ≡ taking.TooLong place → (place ≡ gate) × IfSome o (λ file. found file ≡ damaged number gate) = λ place is.
+    let long : (place : ℕ) → c.in-Err.fault ≡ taking.TooLong place → (place ≡ gate) × IfSome o (λ file. Sees file (damaged old.records gate)) = λ place is.
     let l = c.in-Err.ensures.too_long place is in (
       l.0,
-      says_long o c.args.self.now.policy.items loading.standing.P H number gate loading.says
-          (subst (λ (at : ℕ). IfSome o (λ file. (p : Bytes) × (ps : List Bytes) × (payloads_from file at ≡ p ∷ ps) × (16777215 < length p))) l.0 l.1),
+      read_long old.policy.items standing.P standing.accepts (payload_in old.point) old.before old.entries.items old.records gate o loading.says
+          (subst (λ (at : ℕ). IfSome o (λ file. (p : Bytes) × (ps : List Bytes) × (payloads_from file at ≡ p ∷ ps) × (16777215 < length p))) l.0 l.1) standing.begun standing.starts,
     ) in
     subst (λ (f : StoreFault). HasReason f text o before now) (sym c.at_record.ensures)
-    (taking_reason c.in-Err.fault text o number gate before now long
-    (λ is. c.in-Err.ensures.failed (ap Err is)) (λ isnt. c.in-Err.ensures.unfailed (λ e. isnt (cc e))))
+    (taking_reason c.in-Err.fault text o old.records gate before now long (λ is. c.in-Err.ensures.failed (ap Err is)) (λ isnt. c.in-Err.ensures.unfailed (λ e. isnt (cc e))))
 
 pub returns-else-not-taken-clause-loading : goal.returns-else-not-taken-clause-loading
 returns-else-not-taken-clause-loading g c = λ _.
     let o = g.D.Disk.contents (disk_of c.args.journal.now) in
     let n = g.D.Disk.contents (disk_of c.next.new.self) in
     let loading = c.requires.loading in
-    let text = c.args.self.now.policy.items in
-    let H = c.args.self.now.entries.items in
-    let later = c.take.new.self.entries.items in
-    let P = loading.standing.P in
+    let standing = loading.standing in
+    let old = c.args.self.now in
+    let new = c.take_step.new.self in
+    let text = old.policy.items in
+    let H = old.entries.items in
+    let later = new.entries.items in
+    let P = standing.P in
     let gate = gate_of c.args.journal.now in
     let next = gate_of c.next.new.self in
     let payload = payload_of c.next.new.self in
-    let was_taken : c.in_ok-taken-in-Ok-true.taken ≡ true = search rules in
-    let t = c.in_ok-taken-in-Ok-true.ensures.taken was_taken in
-    let one = c.in_ok-taken-in-Ok-true.ensures.one was_taken in
+    let was_taken = c.if-not-taken.false in
+    let step = c.in_ok-taken-in-Ok-true.ensures in
+    let t = step.standing was_taken in
+    let one = step.one was_taken in
     let more = more_told o (λ file. payloads_from file gate ≡ payload ∷ payloads_from file next) (λ file. payloads_from file gate ≡ []) c.in-Ok-true.field-0 c.in-Ok-true.field-0-test c.in-Ok-true.ensures.taken in
     let on : next ≡ gate + 5 + length payload = c.in-Ok-true.ensures.advance (ap Ok c.in-Ok-true.field-0-test) in
-    let number = c.args.self.now.records in
-    let points = c.has_points-points.result in
-    let takes = subst (λ (x : Bytes). takes_with points text P H x ≡ Some later) c.payload.ensures (t.1 P loading.standing.accepts) in
-    let kind : IfSome o (IsOfKind points) = subst (λ (b : Bool). IfSome o (IsOfKind b)) (sym c.has_points-points.ensures) (reading_kind g.D.Disk.contents c.args.journal.now c.requires.reading) in
-    let same_text : c.take.new.self.policy.items ≡ text = c.in_ok-taken-in-Ok-true.ensures.policy in
-    let same_policy : t.0.P ≡ P = one_policy text t.0.P P (sym (ap accepted same_text) ∙ t.0.accepts) loading.standing.accepts in
+    let takes : (T : Trace) → IsStart P (payload_in old.point) old.before T → steps_after T text P H payload ≡ Some later = λ T start.
+    subst (λ (x : Bytes). steps_after T text P H x ≡ Some later) c.payload.ensures (step.taken was_taken P T standing.accepts start) in
+    let same_policy : t.P ≡ P = one_policy text t.P P (sym (ap accepted step.policy) ∙ t.accepts) standing.accepts in
     record {
-      standing = record { P = t.0.P; accepts = t.0.accepts; stands = t.0.stands };
-      entries = omega (arith, loading.entries, one);
+      standing = record { P = t.P; accepts = t.accepts; begun = t.begun; starts = t.starts; stands = t.stands; settled = t.settled; revokes = t.revokes; in_force = t.in_force };
+      entries = omega (arith, loading.entries, one, step.before);
       few = omega (arith, loading.few, on);
-      says = says_moved o n text c.take.new.self.policy.items P t.0.P later (number + 1) (number + 1) next
-          c.in-Ok-true.ensures.contents same_text same_policy refl
-          (says_next o points text P H later number gate next payload kind loading.says more on takes);
+      says = read_moved o n text new.policy.items P t.P (payload_in old.point) (payload_in new.point) old.before new.before later (old.records + 1) next
+          c.in-Ok-true.ensures.contents step.policy same_policy (ap payload_in step.point) step.before
+          (read_next text P standing.accepts (payload_in old.point) old.before H old.records gate o later next payload loading.says more on takes);
     }
+
+pub returns-then-not-taken-clause-reason : goal.returns-then-not-taken-clause-reason
+returns-then-not-taken-clause-reason g c = λ _.
+    let o = g.D.Disk.contents (disk_of c.args.journal.now) in
+    let standing = c.requires.loading.standing in
+    let old = c.args.self.now in
+    let text = old.policy.items in
+    let H = old.entries.items in
+    let gate = gate_of c.args.journal.now in
+    let next = gate_of c.next.new.self in
+    let payload = payload_of c.next.new.self in
+    let more = more_told o (λ file. payloads_from file gate ≡ payload ∷ payloads_from file next) (λ file. payloads_from file gate ≡ []) c.in-Ok-true.field-0 c.in-Ok-true.field-0-test c.in-Ok-true.ensures.taken in
+    let wrong : steps_after standing.begun text standing.P H payload ≡ None =
+    subst (λ (x : Bytes). steps_after standing.begun text standing.P H x ≡ None) c.payload.ensures
+    (c.in_ok-taken-in-Ok-true.ensures.wrong c.if-not-taken.true standing.P standing.begun standing.accepts standing.starts) in
+    let seen : IfSome o (λ file. Sees file (damaged old.records gate)) =
+    read_wrong text standing.P standing.accepts (payload_in old.point) old.before H old.records gate o next payload c.requires.loading.says more standing.begun standing.starts wrong in
+    (subst (λ (place : ℕ). IfSome o (λ file. Sees file (damaged old.records place))) (sym c.gate-place.ensures.value) seen, c.in-Ok-true.ensures.unfailed (λ e. absurd (cc e)))
 
 pub returns-in-Ok-false-clause-loaded : goal.returns-in-Ok-false-clause-loaded
 returns-in-Ok-false-clause-loaded g c = λ _.
     let o = g.D.Disk.contents (disk_of c.args.journal.now) in
-    let n = g.D.Disk.contents (disk_of c.next.new.self) in
     let loading = c.requires.loading in
-    let text = c.args.self.now.policy.items in
-    let H = c.args.self.now.entries.items in
-    let P = loading.standing.P in
+    let standing = loading.standing in
+    let old = c.args.self.now in
     let gate = gate_of c.args.journal.now in
     let none = none_told o (λ file. payloads_from file gate ≡ payload_of c.next.new.self ∷ payloads_from file (gate_of c.next.new.self)) (λ file. payloads_from file gate ≡ []) c.in-Ok-false.field-0 c.in-Ok-false.field-0-test c.in-Ok-false.ensures.taken in
     let stays : gate_of c.next.new.self ≡ gate = c.in-Ok-false.ensures.stays (λ e. let was : c.in-Ok-false.field-0 ≡ true = cc e in let bad : true ≡ false = sym was ∙ c.in-Ok-false.field-0-test in absurd (cc bad)) in
     record {
-      standing = loading.standing;
+      standing = standing;
       few = omega (arith, loading.few, loading.entries, stays);
-      holds = holds_moved o n text text P P H H c.in-Ok-false.ensures.contents refl refl refl (says_ended o text P H c.args.self.now.records gate loading.says none);
+      says = subst (λ (x : Option Bytes). IfSome x (IsReadWhole old.policy.items standing.P (payload_in old.point) old.before old.entries.items)) (sym c.in-Ok-false.ensures.contents)
+          (read_ended old.policy.items standing.P standing.accepts (payload_in old.point) old.before old.entries.items old.records gate o loading.says none);
     }

@@ -1,15 +1,23 @@
-use Rattle.std.proofs.Common.{◌≡◌, Some, refl, sym, ap, ◌∙◌, subst, arith}
+use Rattle.std.proofs.Common.{◌≡◌, Some, sym, ap, ◌∙◌, subst, arith}
+use Rattle.std.specs.Prelude.{IfSome}
+use Rattle.std.specs.Option.{option_map}
 use Rattle.ucon_disk.specs.Run.{LeavesAfter}
 use Rattle.ucon_journal.specs.Journal.{disk_of}
+use Rattle.ucon_journal.specs.Opened.{opened}
+use Rattle.ucon_model.specs.Plain.{Bytes, PlainPolicy}
 use Rattle.ucon_syntax.specs.Policies.{accepted}
-use Rattle.ucon_store.specs.Found.{Tells, Opens}
 use Rattle.ucon_store.specs.declared.fault.StoreFault.{StoreFault}
-use Rattle.ucon_store.specs.Opening.{HasReason}
-use Rattle.ucon_store.proofs.Begun.{opening_reason, reason_before, found_before}
-use Rattle.ucon_store.proofs.Openings.{holds_moved}
-use Rattle.ucon_store.proofs.Stepping.{begins_first, one_policy}
+use Rattle.ucon_store.specs.Found.{IsFoundAs}
+use Rattle.ucon_store.specs.Kept.{payload_in}
+use Rattle.ucon_store.specs.Loading.{IsRead}
+use Rattle.ucon_store.specs.Opened.{last_point}
+use Rattle.ucon_store.specs.Opening.{HasReason, IsSeenAs, KeepsFound, Opens}
+use Rattle.ucon_store.specs.Starts.{BeginsAt, IsStart}
+use Rattle.ucon_store.proofs.Begun.{opening_reason, reason_before, told_before}
+use Rattle.ucon_store.proofs.Fronts.{begins_opened, found_first_opened, founded_first, goes_on_opened, seen_opened}
 use Rattle.ucon_store.proofs.Runs.{begin_opens, whole_opens}
 use Rattle.ucon_store.proofs.SamePlaces.{opened_old, opened_places}
+use Rattle.ucon_store.proofs.Stepping.{one_policy}
 use Rattle.ucon_store.proofs.store.Store.open.Goals as goal
 
 pub returns-in-Err-clause-reason : goal.returns-in-Err-clause-reason
@@ -40,51 +48,97 @@ returns-in-Err-load-clause-images_err g c =
     (whole_opens g.D.Disk.contents g.D.Disk.images g.D.Disk.moment g.D.Disk.images_since c.args.policy.now c.args.disk (disk_of begun) (disk_of c.load.new.journal)
     c.in-Ok.ensures.images c.in-Ok.ensures.bytes c.in-Ok.ensures.only c.load.ensures.images)
 
-pub returns-in-Ok-load-clause-found : goal.returns-in-Ok-load-clause-found
-returns-in-Ok-load-clause-found g c =
-    found_before (λ f. Tells f c.args.policy.now c.in-Ok-load.loaded.entries.items) (g.D.Disk.contents c.args.disk) (g.D.Disk.contents (disk_of c.in-Ok.journal)) c.in-Ok.ensures.bytes c.in-Ok-load.ensures.found
+pub returns-in-Ok-load-clause-begins : goal.returns-in-Ok-load-clause-begins
+returns-in-Ok-load-clause-begins g c =
+    let l = c.in-Ok-load.loaded in
+    let standing = c.in-Ok-load.ensures.standing in
+    let text = c.args.policy.now in
+    let accepts : accepted text ≡ Some standing.P = sym (ap accepted c.in-Ok-load.ensures.policy) ∙ standing.accepts in
+    let point = payload_in l.point in
+    told_before (IsRead text standing.P point l.before l.entries.items) (λ file. BeginsAt (last_point file) point l.before)
+    (begins_opened text standing.P accepts point l.before l.entries.items) (g.D.Disk.contents c.args.disk) (g.D.Disk.contents (disk_of c.in-Ok.journal)) c.in-Ok.ensures.bytes
+    (c.in-Ok-load.ensures.read standing.P accepts)
 
-pub returns-in-Ok-load-clause-recorded : goal.returns-in-Ok-load-clause-recorded
-returns-in-Ok-load-clause-recorded g c = λ P accepts.
-    let text = c.in-Ok-load.loaded.policy.items in
-    let H = c.in-Ok-load.loaded.entries.items in
-    let held = c.in-Ok-load.ensures.loaded in
-    let o = g.D.Disk.contents (disk_of c.load.new.journal) in
+pub returns-in-Ok-load-clause-leads : goal.returns-in-Ok-load-clause-leads
+returns-in-Ok-load-clause-leads g c = λ P accepts.
+    let l = c.in-Ok-load.loaded in
+    let standing = c.in-Ok-load.ensures.standing in
+    let one = one_policy l.policy.items standing.P P standing.accepts (ap accepted c.in-Ok-load.ensures.policy ∙ accepts) in
+    (standing.begun, subst (λ (Q : PlainPolicy). IsStart Q (payload_in l.point) l.before standing.begun) one standing.starts)
+
+pub returns-in-Ok-load-clause-seen : goal.returns-in-Ok-load-clause-seen
+returns-in-Ok-load-clause-seen g c = λ P accepts.
+    let l = c.in-Ok-load.loaded in
+    let point = payload_in l.point in
+    let text = l.policy.items in
     let same : text ≡ c.args.policy.now = c.in-Ok-load.ensures.policy in
-    let one = one_policy text P held.standing.P (ap accepted same ∙ accepts) held.standing.accepts in
-    holds_moved o o text c.args.policy.now held.standing.P P H H refl (sym same) one refl held.holds
+    let here : accepted text ≡ Some P = ap accepted same ∙ accepts in
+    let o = g.D.Disk.contents (disk_of c.in-Ok.journal) in
+    told_before (IsRead text P point l.before l.entries.items) (IsSeenAs P text point l.before l.entries.items) (seen_opened text P here point l.before l.entries.items)
+    (g.D.Disk.contents c.args.disk) o c.in-Ok.ensures.bytes (subst (λ (t : Bytes). IfSome o (IsRead t P point l.before l.entries.items)) (sym same) (c.in-Ok-load.ensures.read P accepts))
+
+pub returns-in-Ok-load-clause-founded : goal.returns-in-Ok-load-clause-founded
+returns-in-Ok-load-clause-founded g c = λ P file H accepts told found_so.
+    let l = c.in-Ok-load.loaded in
+    let point = payload_in l.point in
+    let text = l.policy.items in
+    let contents = g.D.Disk.contents in
+    let disk = disk_of c.load.new.journal in
+    let same : text ≡ c.args.policy.now = c.in-Ok-load.ensures.policy in
+    let here : accepted text ≡ Some P = ap accepted same ∙ accepts in
+    let m = contents (disk_of c.in-Ok.journal) in
+    goes_on_opened text P here point l.before l.entries.items c.found_histories_stand_around_their_last_checkpoint.ensures contents g.D.Disk.images _ disk m file H
+    (c.in-Ok.ensures.bytes ∙ ap (option_map opened) told) (subst (λ (t : Bytes). IfSome m (IsRead t P point l.before l.entries.items)) (sym same) (c.in-Ok-load.ensures.read P accepts))
+    c.in-Ok-load.ensures.payloads (subst (λ (t : Bytes). KeepsFound t m (contents disk)) (sym same) c.in-Ok-load.ensures.kept) c.in-Ok-load.ensures.only
+    (subst (λ (t : Bytes). IsFoundAs t file H) (sym same) found_so)
+
+pub returns-in-Ok-load-clause-first : goal.returns-in-Ok-load-clause-first
+returns-in-Ok-load-clause-first g c = λ first P accepts.
+    let l = c.in-Ok-load.loaded in
+    let point = payload_in l.point in
+    let text = l.policy.items in
+    let contents = g.D.Disk.contents in
+    let disk = disk_of c.load.new.journal in
+    let same : text ≡ c.args.policy.now = c.in-Ok-load.ensures.policy in
+    let here : accepted text ≡ Some P = ap accepted same ∙ accepts in
+    let m = contents (disk_of c.in-Ok.journal) in
+    founded_first text P here point l.before l.entries.items c.found_histories_stand_around_their_last_checkpoint.ensures contents g.D.Disk.images _ disk first m
+    (subst (λ (t : Bytes). IfSome m (IsRead t P point l.before l.entries.items)) (sym same) (c.in-Ok-load.ensures.read P accepts))
+    (subst (λ (t : Bytes). KeepsFound t m (contents disk)) (sym same) c.in-Ok-load.ensures.kept) c.in-Ok-load.ensures.tells c.in-Ok-load.ensures.only
+
+pub returns-in-Ok-load-clause-found : goal.returns-in-Ok-load-clause-found
+returns-in-Ok-load-clause-found g c = λ first.
+    let l = c.in-Ok-load.loaded in
+    let standing = c.in-Ok-load.ensures.standing in
+    let text = c.args.policy.now in
+    let accepts : accepted text ≡ Some standing.P = sym (ap accepted c.in-Ok-load.ensures.policy) ∙ standing.accepts in
+    let point = payload_in l.point in
+    told_before (IsRead text standing.P point l.before l.entries.items) (λ file. IsFoundAs text file l.entries.items)
+    (found_first_opened text standing.P accepts point l.before l.entries.items first) (g.D.Disk.contents c.args.disk) (g.D.Disk.contents (disk_of c.in-Ok.journal)) c.in-Ok.ensures.bytes
+    (c.in-Ok-load.ensures.read standing.P accepts)
 
 pub returns-in-Ok-load-clause-images : goal.returns-in-Ok-load-clause-images
 returns-in-Ok-load-clause-images g c =
     whole_opens g.D.Disk.contents g.D.Disk.images g.D.Disk.moment g.D.Disk.images_since c.args.policy.now c.args.disk (disk_of c.in-Ok.journal) (disk_of c.load.new.journal)
     c.in-Ok.ensures.images c.in-Ok.ensures.bytes c.in-Ok.ensures.only c.load.ensures.images
 
-pub returns-in-Ok-load-clause-founded : goal.returns-in-Ok-load-clause-founded
-returns-in-Ok-load-clause-founded g c = λ P accepts.
-    let text = c.in-Ok-load.loaded.policy.items in
-    let H = c.in-Ok-load.loaded.entries.items in
-    let held = c.in-Ok-load.ensures.loaded in
-    let o = g.D.Disk.contents (disk_of c.load.new.journal) in
-    let same : text ≡ c.args.policy.now = c.in-Ok-load.ensures.policy in
-    let here : accepted text ≡ Some P = ap accepted same ∙ accepts in
-    let one = one_policy text P held.standing.P here held.standing.accepts in
-    record {
-      accepts = here;
-      front = record { starts = (refl, refl); count = refl; text = refl };
-      unmarked = refl;
-      holds = holds_moved o o text text held.standing.P P H H refl refl one refl held.holds;
-      only = c.in-Ok-load.ensures.only;
-    }
-
 pub invariant_of-result : goal.invariant_of-result
 invariant_of-result g c =
     let journal = c.load.new.journal in
-    let H = c.in-Ok-load.loaded.entries.items in
-    let loaded = c.in-Ok-load.ensures.loaded in
-    let P = loaded.standing.P in
-    begins_first g.E.Engine.follows g.D.Disk.contents g.D.Disk.images c.in-Ok-load.loaded.engine journal c.in-Ok-load.loaded.policy.items P H loaded.standing.accepts
-    loaded.standing.stands (c.no_usage_goes_on_failing.ensures P H) (c.revocations_are_few.ensures P) (omega (arith, loaded.few, journal.gate_small))
-    (record { closed = c.in-Ok-load.ensures.closed; few = loaded.few; only = c.in-Ok-load.ensures.only })
+    let l = c.in-Ok-load.loaded in
+    let standing = c.in-Ok-load.ensures.standing in
+    record {
+      P = standing.P;
+      accepts = standing.accepts;
+      begun = standing.begun;
+      starts = standing.starts;
+      stands = standing.stands;
+      settled = standing.settled;
+      revokes = standing.revokes;
+      in_force = standing.in_force;
+      few = omega (arith, c.in-Ok-load.ensures.few, journal.gate_small);
+      rests = λ _. record { closed = c.in-Ok-load.ensures.closed; few = c.in-Ok-load.ensures.few; only = c.in-Ok-load.ensures.only };
+    }
 
 pub returns-in-Ok-load-clause-places : goal.returns-in-Ok-load-clause-places
 returns-in-Ok-load-clause-places g c =
