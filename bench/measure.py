@@ -7,6 +7,7 @@ import signal
 import subprocess
 from typing import List, NamedTuple, Optional
 
+import workloads
 from workloads import Case
 
 
@@ -27,6 +28,8 @@ class Taken(NamedTuple):
 
 
 class Ended(NamedTuple):
+    """How a run ended. The journal stands without its checkpoints."""
+
     status: int
     output: bytes
     journal: Optional[bytes]
@@ -60,12 +63,12 @@ class Bench:
         return Program("baseline" if strategy == "index" else strategy, self.built / "ucon_baseline", [strategy])
 
     def run(self, program: Program, form: List[str], case: Case) -> Ended:
-        """Runs the program over the case; `play` gets a journal of its own, as the case says."""
+        """Runs the program over the case; `play` gets a journal of its own, as the case says, and the baseline one without checkpoints."""
         journal = self.folder / "journal"
         if form == ["play"]:
             journal.unlink(missing_ok=True)
             if case.journal is not None:
-                journal.write_bytes(case.journal)
+                journal.write_bytes(workloads.without_points(case.journal) if program.words else case.journal)
                 os.sync()
             form = ["play", str(journal)]
         document, output = self.folder / "document", self.folder / "output"
@@ -73,7 +76,7 @@ class Bench:
         words = [str(program.path), *program.words, *form]
         with open(document, "rb") as source, open(output, "wb") as sink:
             status, taken = self.counted(words, source, sink) if self.counts else self.timed(words, source, sink)
-        kept = journal.read_bytes() if form[0] == "play" and journal.exists() else None
+        kept = workloads.without_points(journal.read_bytes()) if form[0] == "play" and journal.exists() else None
         return Ended(status, output.read_bytes(), kept, taken)
 
     def wait(self, words: List[str], source, sink) -> "subprocess.CompletedProcess[bytes]":

@@ -11,7 +11,7 @@ MAGIC = b"UCONJR02"
 
 
 class Case(NamedTuple):
-    """A document, and for `play` the journal that it is run over."""
+    """A document, and for `play` the journal that it is run over. The baseline knows no checkpoints: it gets the journal without them."""
 
     document: bytes
     journal: Optional[bytes] = None
@@ -211,14 +211,62 @@ def durable(size: int) -> Case:
     return case_of(MUSIC, lines[: size + 1])
 
 
+def watched_steps(size: int) -> List[str]:
+    """The payloads of the steps of `untouched`."""
+    payloads = [f"0 {step}\nok" for step in ("subject a", "subject b", "object x")]
+    payloads += [f"0 try a watch x\npermitted {session}" for session in range(1, size + 1)]
+    return payloads + ["0 set s b blocked 1\nok"] * others(size)
+
+
+def journal_of(payloads: List[str]) -> bytes:
+    records = b"".join(b"\1" + len(payload).to_bytes(4, "big") + payload.encode() for payload in payloads)
+    return MAGIC + records + b"\0"
+
+
+def without_points(journal: bytes) -> bytes:
+    """The journal without its checkpoints."""
+    kept, at = [journal[:8]], 8
+    while journal[at : at + 1] == b"\1":
+        end = at + 5 + int.from_bytes(journal[at + 1 : at + 5], "big")
+        if not journal.startswith(b"point ", at + 5):
+            kept.append(journal[at:end])
+        at = end
+    return b"".join(kept) + journal[at:]
+
+
 def opening(size: int) -> Case:
     """One step over a journal that holds the steps of `untouched`."""
-    steps = ["subject a", "subject b", "object x"]
-    payloads = [WATCHED] + [f"0 {step}\nok" for step in steps]
-    payloads += [f"0 try a watch x\npermitted {session}" for session in range(1, size + 1)]
-    payloads += ["0 set s b blocked 1\nok"] * others(size)
-    records = b"".join(b"\1" + len(payload).to_bytes(4, "big") + payload.encode() for payload in payloads)
-    return Case(document_of(WATCHED, ["client 0", "subject c"]), MAGIC + records + b"\0")
+    return Case(document_of(WATCHED, ["client 0", "subject c"]), journal_of([WATCHED] + watched_steps(size)))
+
+
+def pointed(size: int) -> Case:
+    """The same step over that journal with a checkpoint behind it, which has as many uses that go on."""
+    steps = watched_steps(size)
+    return Case(document_of(WATCHED, ["client 0", "subject c"]), journal_of([WATCHED] + steps + [point_of(steps, size)]))
+
+
+def point_of(steps: List[str], uses: int) -> str:
+    """The checkpoint behind steps of `watched_steps`."""
+    lines = [f"point {len(steps)}", f"policy {len(WATCHED)}", WATCHED, "tick 0"]
+    lines += ["subject a", "value blocked 0", "subject b", "value blocked 1", "object x"]
+    lines += ["session 0 watch a x accessing 0"] * uses
+    return "".join(line + "\n" for line in lines)
+
+
+def written_steps(size: int) -> List[str]:
+    """The payloads of as many steps, of which all but a few write one attribute."""
+    return watched_steps(1)[:4] + ["0 set s b blocked 1\nok"] * (size - 1)
+
+
+def written(size: int) -> Case:
+    """One step over a journal of writes, behind which little is there."""
+    return Case(document_of(WATCHED, ["client 0", "subject c"]), journal_of([WATCHED] + written_steps(size)))
+
+
+def written_pointed(size: int) -> Case:
+    """The same step over that journal with a checkpoint behind it."""
+    steps = written_steps(size)
+    return Case(document_of(WATCHED, ["client 0", "subject c"]), journal_of([WATCHED] + steps + [point_of(steps, 1)]))
 
 
 def nothing(_size: int) -> Case:
@@ -240,6 +288,9 @@ WORKLOADS = [
     Workload("rights", "check", 60, 6, rights, "reading a large policy and checking its types"),
     Workload("durable", "play", 2_000, 50, durable, "steps that are on the disk before they are answered"),
     Workload("opening", "play", 60_000, 200, opening, "reading a journal and running its steps again"),
+    Workload("pointed", "play", 60_000, 200, pointed, "reading that journal with a checkpoint behind its steps; the baseline runs them"),
+    Workload("written", "play", 160_000, 1_000, written, "reading a journal of as many steps, which leave little, and running them again"),
+    Workload("written_pointed", "play", 160_000, 1_000, written_pointed, "reading that one with a checkpoint; the baseline runs the steps"),
 ]
 
 
