@@ -1,5 +1,5 @@
 -- How a run over a store ends, by how its output was written.
-use Rattle.std.proofs.Common.{◌≡◌, ℕ, Bool, false, List, [], refl, sym, subst, ◌∙◌}
+use Rattle.std.proofs.Common.{◌≡◌, ℕ, Bool, false, List, refl, sym, subst, ◌∙◌}
 use Rattle.std.specs.Prelude.{Option, Some, None, is_some}
 use Rattle.std.specs.Io.KnownBytes.{Appends}
 use Rattle.ucon_flow.specs.Writing.{AppendsPrefix}
@@ -9,7 +9,7 @@ use Rattle.ucon_model.specs.Plain.{Bytes, PlainPolicy}
 use Rattle.ucon_store.specs.Kept.{Kept}
 use Rattle.ucon_outcome.specs.declared.outcome.Outcome.{Outcome}
 use Rattle.ucon_outcome.specs.declared.outcome.Outcome.TheVariants as outcomes
-use Rattle.ucon_top.specs.Closing.{EndsRun, IsOfRun, IsWritten}
+use Rattle.ucon_top.specs.Closing.{EndsRun, IsMarkedBy, IsOfRun, IsWritten}
 use Rattle.ucon_top.specs.Ending.{IsCounted}
 use Rattle.ucon_top.specs.Stepping.{AreAnswered, HaveOutput}
 
@@ -52,14 +52,32 @@ counted outcomes.TooLong text stopped before now failed fails w = absurd w
 counted (outcomes.FullPoint size) text stopped before now failed fails w = absurd w
 counted outcomes.OldJournal text stopped before now failed fails w = absurd w
 
+-- and it tells of the store's mark
+pub marked_so : (outcome : Outcome) (mark : Option Entry) (text : Bytes) (stopped : Bool) (before now : Option Bytes) (failed fails : ℕ)
+    → is_some mark ≡ stopped → IsWritten outcome text stopped before now failed fails → IsMarkedBy outcome mark
+marked_so outcomes.Done mark text stopped before now failed fails is w = no_mark mark (is ∙ w.0)
+marked_so outcomes.DiskFault mark text stopped before now failed fails is w = is ∙ w.0
+marked_so outcomes.SinkFault mark text stopped before now failed fails is w = tt
+marked_so (outcomes.NoMemory e) mark text stopped before now failed fails is w = tt
+marked_so outcomes.Usage mark text stopped before now failed fails is w = tt
+marked_so (outcomes.Policy f) mark text stopped before now failed fails is w = tt
+marked_so (outcomes.Script f) mark text stopped before now failed fails is w = tt
+marked_so outcomes.SourceFault mark text stopped before now failed fails is w = tt
+marked_so (outcomes.Damaged number place) mark text stopped before now failed fails is w = tt
+marked_so outcomes.NotJournal mark text stopped before now failed fails is w = tt
+marked_so (outcomes.OtherPolicy place) mark text stopped before now failed fails is w = tt
+marked_so outcomes.TooLong mark text stopped before now failed fails is w = tt
+marked_so (outcomes.FullPoint size) mark text stopped before now failed fails is w = tt
+marked_so outcomes.OldJournal mark text stopped before now failed fails is w = tt
+
 module _ {D : Type 0} (sees : Caller → Caller → Bool) (P : PlainPolicy) (store closed : Kept D) (lines : List Entry) (text : Bytes) (stopped : Bool) (before now : Option Bytes) (failed fails : ℕ)
     (answers : AreAnswered sees P store closed lines (HaveOutput (λ out. out ≡ text) lines)) (is_stopped : is_some closed.mark ≡ stopped) where
   went_out : (so : Bytes → Type 0) → so text → AreAnswered sees P store closed lines (HaveOutput so lines)
   went_out so holds = record { told = answers.told; lines_are = answers.lines_are; run = answers.run; is_so = (answers.is_so.0, subst so (sym answers.is_so.1) holds) }
 
   pub ends_so : (outcome : Outcome) → IsWritten outcome text stopped before now failed fails → EndsRun sees P store closed lines before now outcome
-  ends_so outcomes.Done w = (went_out (Appends before now) w.1.0, no_mark closed.mark (is_stopped ∙ w.0))
-  ends_so outcomes.DiskFault w = (went_out (Appends before now) w.1.0, is_stopped ∙ w.0)
+  ends_so outcomes.Done w = went_out (Appends before now) w.1.0
+  ends_so outcomes.DiskFault w = went_out (Appends before now) w.1.0
   ends_so outcomes.SinkFault w = went_out (AppendsPrefix before now) w.1
   ends_so (outcomes.NoMemory e) w = absurd w
   ends_so outcomes.Usage w = absurd w

@@ -5,9 +5,8 @@ use Rattle.std.proofs.lemmas.Bool.{eq-eqb}
 use Rattle.ucon_flow.specs.Causes.{Rose}
 use Rattle.ucon_disk.specs.Causes.{raised}
 use Rattle.ucon_model.specs.Document.{policy_part}
-use Rattle.ucon_model.specs.Found.{Finding, not_journal, damaged}
 use Rattle.ucon_model.specs.Plain.{Bytes}
-use Rattle.ucon_store.specs.Found.{Tells, found}
+use Rattle.ucon_store.specs.Opened.{Seen, not_journal, damaged, holds, Sees}
 use Rattle.ucon_store.specs.Opening.{HasOtherPolicy, first_difference}
 use Rattle.ucon_top.specs.declared.form.Form.{Form}
 use Rattle.ucon_top.specs.declared.form.Form.TheVariants as forms
@@ -16,6 +15,7 @@ use Rattle.ucon_outcome.specs.declared.outcome.Outcome.TheVariants as outcomes
 use Rattle.ucon_top.specs.Accepted.{IsAccepted, IsRefusedBy}
 use Rattle.ucon_top.specs.Complete.{IsComplete, IsOwnJournal, IsUnhindered}
 use Rattle.ucon_top.specs.Ending.{IsCounted, IsOfDocument, IsOfPrinting, IsUnrefused, MayEnd}
+use Rattle.ucon_top.specs.Own.{HasEntries}
 use Rattle.ucon_top.specs.Played.{HasPlayed}
 use Rattle.ucon_top.specs.Pointed.{HasPointed}
 use Rattle.ucon_top.specs.Printed.{document_of}
@@ -29,20 +29,27 @@ no_difference (b ∷ one) =
     ap (λ t. if t then option_map (λ place. place + 1) (first_difference one one) else Some 0) (eq-eqb b b refl)
     ∙ ap (option_map (λ place. place + 1)) (no_difference one)
 
-module _ (text : Bytes) (contents : Option Bytes) (own : IsOwnJournal text contents) where
+-- opening sees one thing in a file
+abbrev pub SeesOneThing : Type 0
+SeesOneThing = (file : Bytes) (one other : Seen) → Sees file one → Sees file other → one ≡ other
+
+module _ (sees_one : SeesOneThing) (text : Bytes) (contents : Option Bytes) (own : IsOwnJournal text contents) where
   told_of : (so : Bytes → Type 0) → IfSome contents so → so own.file
   told_of so h = subst (λ (o : Option Bytes). IfSome o so) own.told h
 
-  not_foreign : IfSome contents (λ file. found file ≡ not_journal) → ⊥
-  not_foreign h = subst (λ (f : Finding). Tells f text own.history) (told_of (λ file. found file ≡ not_journal) h) own.found
+  has_entries : (seen : Seen) → Sees own.file seen → HasEntries seen text own.entries
+  has_entries seen sees = subst (λ (s : Seen). HasEntries s text own.entries) (sees_one own.file own.own.seen seen own.own.sees sees) own.own.has
 
-  not_damaged : (number place : ℕ) → IfSome contents (λ file. found file ≡ damaged number place) → ⊥
-  not_damaged number place h = subst (λ (f : Finding). Tells f text own.history) (told_of (λ file. found file ≡ damaged number place) h) own.found
+  not_foreign : IfSome contents (λ file. Sees file not_journal) → ⊥
+  not_foreign h = has_entries not_journal (told_of (λ file. Sees file not_journal) h)
+
+  not_damaged : (number place : ℕ) → IfSome contents (λ file. Sees file (damaged number place)) → ⊥
+  not_damaged number place h = has_entries (damaged number place) (told_of (λ file. Sees file (damaged number place)) h)
 
   not_others : (place : ℕ) → IfSome contents (HasOtherPolicy text place) → ⊥
   not_others place h =
       let other = told_of (HasOtherPolicy text place) h in
-      let same = subst (λ (f : Finding). Tells f text own.history) other.is own.found in
+      let same = has_entries (holds other.other other.entries other.there other.gate) other.is in
       let none : first_difference other.other text ≡ None = subst (λ (t : Bytes). first_difference other.other t ≡ None) same.0 (no_difference other.other) in
       let bad : None ≡ Some place = sym none ∙ other.differs in absurd (cc bad)
 
@@ -120,7 +127,7 @@ module _ (contents : Option Bytes) (source source' sink sink' disk disk' : ℕ) 
 
 -- nor anything but these and its journal one over a journal
 module _ {D : Type 0} (contents : D → Option (List ℕ)) (images : D → List ℕ → Type 0) (moment : D → ℕ) (images_since : D → ℕ → List ℕ → Type 0) (faults : D → ℕ)
-    {K : Type 0} (held : K → Option Bytes) (form : Form) (old new : D) (was written : K) (source source' sink sink' : ℕ) (bytes : Bytes) where
+    {K : Type 0} (held : K → Option Bytes) (form : Form) (old new : D) (was written : K) (source source' sink sink' : ℕ) (bytes : Bytes) (sees_one : SeesOneThing) where
   pub played_complete : (outcome : Outcome) → (IsAccepted bytes → IsRefusedBy outcome bytes → IsUnrefused outcome) → IsRefusedBy outcome bytes → IsOfDocument outcome
       → IsCounted outcome outcomes.SinkFault sink sink' → (outcome ≡ outcomes.DiskFault → faults new ≡ raised (faults old))
       → HasPlayed contents images moment images_since faults held form outcome bytes old new was written
@@ -133,10 +140,10 @@ module _ {D : Type 0} (contents : D → Option (List ℕ)) (images : D → List 
   played_complete outcomes.SinkFault unrefused refused ends sink disk played own u = absurd (u.sink_works (rose _ _ (sink.0 refl)))
   played_complete outcomes.DiskFault unrefused refused ends sink disk played own u = absurd (u.disk_works (rose _ _ (disk refl)))
   played_complete (outcomes.Damaged number place) unrefused refused ends sink disk played own u =
-      absurd (not_damaged (policy_part bytes) (contents old) (own u) number place played.reason.0)
-  played_complete outcomes.NotJournal unrefused refused ends sink disk played own u = absurd (not_foreign (policy_part bytes) (contents old) (own u) played.reason.0)
+      absurd (not_damaged sees_one (policy_part bytes) (contents old) (own u) number place played.reason.0)
+  played_complete outcomes.NotJournal unrefused refused ends sink disk played own u = absurd (not_foreign sees_one (policy_part bytes) (contents old) (own u) played.reason.0)
   played_complete (outcomes.OtherPolicy place) unrefused refused ends sink disk played own u =
-      absurd (not_others (policy_part bytes) (contents old) (own u) place played.reason.0)
+      absurd (not_others sees_one (policy_part bytes) (contents old) (own u) place played.reason.0)
   played_complete outcomes.Usage unrefused refused ends sink disk played own u = absurd ends
   played_complete outcomes.SourceFault unrefused refused ends sink disk played own u = absurd ends
   played_complete outcomes.TooLong unrefused refused ends sink disk played own u = absurd ends
@@ -158,10 +165,10 @@ module _ {D : Type 0} (contents : D → Option (List ℕ)) (images : D → List 
   pointed_complete outcomes.SinkFault unrefused refused ends sink disk pointed own u = absurd (u.sink_works (rose _ _ (sink.0 refl)))
   pointed_complete outcomes.DiskFault unrefused refused ends sink disk pointed own u = absurd (u.disk_works (rose _ _ (disk refl)))
   pointed_complete (outcomes.Damaged number place) unrefused refused ends sink disk pointed own u =
-      absurd (not_damaged (policy_part bytes) (contents old) (own u) number place pointed.reason.0)
-  pointed_complete outcomes.NotJournal unrefused refused ends sink disk pointed own u = absurd (not_foreign (policy_part bytes) (contents old) (own u) pointed.reason.0)
+      absurd (not_damaged sees_one (policy_part bytes) (contents old) (own u) number place pointed.reason.0)
+  pointed_complete outcomes.NotJournal unrefused refused ends sink disk pointed own u = absurd (not_foreign sees_one (policy_part bytes) (contents old) (own u) pointed.reason.0)
   pointed_complete (outcomes.OtherPolicy place) unrefused refused ends sink disk pointed own u =
-      absurd (not_others (policy_part bytes) (contents old) (own u) place pointed.reason.0)
+      absurd (not_others sees_one (policy_part bytes) (contents old) (own u) place pointed.reason.0)
   pointed_complete outcomes.Usage unrefused refused ends sink disk pointed own u = absurd ends
   pointed_complete outcomes.SourceFault unrefused refused ends sink disk pointed own u = absurd ends
   pointed_complete outcomes.TooLong unrefused refused ends sink disk pointed own u = absurd ends

@@ -1,31 +1,35 @@
 -- From the opening of a journal to its closing: what was played over it.
-use Rattle.std.proofs.Common.{Bool, ⊎_elim, ◌≡◌, ◌⊎◌, ℕ, true, false, List, [], ◌++◌, refl, sym, ap, subst, ◌∙◌, inl, inr}
+use Rattle.std.proofs.Common.{Bool, ⊎_elim, ◌≡◌, ◌⊎◌, ℕ, ◌+◌, true, false, List, [], ◌++◌, length, refl, sym, ap, subst, ◌∙◌, inl, inr, arith}
 use Rattle.std.specs.Prelude.{Option, Some, None, Ok, is_some, IsSome, IfSome}
 use Rattle.std.specs.Io.KnownBytes.{Appends}
 use Rattle.ucon_flow.specs.Writing.{AppendsPrefix}
 use Rattle.ucon_disk.specs.Causes.{raised}
-use Rattle.ucon_disk.specs.Disk.{Only}
 use Rattle.ucon_disk.specs.Run.{IsAtRest, LeavesAfter, LeavesOnly, joined, weaker}
 use Rattle.ucon_turn.specs.Lists.{begins_refl}
 use Rattle.ucon_model.specs.declared.command.Caller.{Caller}
 use Rattle.ucon_model.specs.declared.command.Entry.{Entry}
 use Rattle.ucon_model.specs.Document.{ScriptLine, document_read, entries_of, policy_part}
+use Rattle.ucon_model.specs.Action.{Trace}
 use Rattle.ucon_model.specs.History.{History}
 use Rattle.ucon_model.specs.Plain.{Bytes, PlainPolicy}
 use Rattle.ucon_model.specs.LegalRun.{Answered, history_made}
 use Rattle.ucon_model.specs.StoredRun.{failed_line}
 use Rattle.ucon_syntax.specs.Policies.{accepted}
-use Rattle.ucon_store.specs.Found.{IsFoundAs, IsFoundWith, Opens}
+use Rattle.ucon_store.specs.Found.{IsFoundAs, IsFoundWith}
 use Rattle.ucon_store.specs.Kept.{Kept}
+use Rattle.ucon_store.specs.Opened as seens
+use Rattle.ucon_store.specs.Opening.{IsSeenAs, Opens}
+use Rattle.ucon_store.specs.Starts.{IsStart}
 use Rattle.ucon_store.specs.Stays.{IsFoundBetween}
-use Rattle.ucon_store.specs.Whole.{IsFounded, whole}
+use Rattle.ucon_store.specs.Whole.{GoesOnFrom, IsFounded, IsFront, found_founded, whole}
 use Rattle.ucon_top.specs.declared.form.Form.{Form}
 use Rattle.ucon_outcome.specs.declared.outcome.Outcome.{Outcome}
 use Rattle.ucon_outcome.specs.declared.outcome.Outcome.TheVariants as outcomes
 use Rattle.ucon_top.specs.Accepted.{HasPolicy}
-use Rattle.ucon_top.specs.Closing.{Closes, EndsRun, IsClosedRun}
+use Rattle.ucon_top.specs.Closing.{Closes, EndsRun, IsClosedRun, IsMarkedBy, IsOfRun}
 use Rattle.ucon_top.specs.Form.{output_order, sees_by}
-use Rattle.ucon_top.specs.Played.{HasPlayed, HasPlayedInput, IsFoundSince, IsPlayed, IsRunOver}
+use Rattle.ucon_top.specs.Own.{IsOwnFile}
+use Rattle.ucon_top.specs.Played.{HasPlayed, HasPlayedInput, HasRun, IsFoundSince, IsPlayed, IsRunOver}
 use Rattle.ucon_trial.specs.Runs.{IsUnfaulted}
 use Rattle.ucon_top.specs.Stepping.{AreAnswered, HaveOutput, IsRunBetween}
 use Rattle.ucon_top.specs.Unread.{IsUnread}
@@ -33,146 +37,213 @@ use Rattle.ucon_top.proofs.Answering.{none_faulted}
 use Rattle.ucon_top.proofs.Behind.{begins_behind}
 
 module _ {D : Type 0} (contents : D → Option (List ℕ)) (images : D → List ℕ → Type 0) (moment : D → ℕ) (images_since : D → ℕ → List ℕ → Type 0) (faults : D → ℕ) where
-  -- what the opening of a store told, with a history before its entries
-  pub record IsOpened (text : Bytes) (disk : D) (G : History) (store : Kept D) : Type 0 where
+  -- what the opening of a store under a policy told
+  pub record IsOpened (P : PlainPolicy) (text : Bytes) (disk : D) (store : Kept D) : Type 0 where
     pub policy : store.policy ≡ text
     pub unmarked : store.mark ≡ None
-    pub found : IfSome (contents disk) (λ file. IsFoundAs text file (G ++ store.entries))
     pub images_kept : LeavesAfter contents images moment images_since disk store.disk (Opens text)
-    pub at_rest : Only (contents store.disk) (images store.disk)
-    pub holds : IfSome (contents store.disk) (λ file. IsFoundAs text file (G ++ store.entries))
     pub unfailed : faults store.disk ≡ faults disk
     pub tells : IsSome (contents disk) → IsSome (contents store.disk)
-    pub P : PlainPolicy
-    pub founded : IsFounded contents images P store G
+    pub own : IfSome (contents disk) (IsOwnFile text (store.before + length store.entries))
+    pub founded : (file : Bytes) (H : History) → contents disk ≡ Some file → IsFoundAs text file H → GoesOnFrom contents images P store H
 
-  -- ---- images
+  module _ (P : PlainPolicy) (text : Bytes) (disk : D) (store closed : Kept D) (now : D) (opened : IsOpened P text disk store)
+      (closes : Closes contents images moment images_since faults store closed now) where
+    -- ---- images, behind a history on which the store is founded and as which with its entries the file was found
 
-  module _ (text : Bytes) (disk : D) (G : History) (store closed : Kept D) (now : D) (opened : IsOpened text disk G store) (closes : Closes contents images moment images_since faults store closed now) where
-    abbrev Since : Bytes → Type 0
-    Since c = IsFoundSince text (G ++ store.entries) (G ++ closed.entries) closed.mark c
+    module _ (file : Bytes) (told : contents disk ≡ Some file) (G : History) (f : IsFounded contents images P store G) (found : IsFoundAs text file (G ++ store.entries)) where
+      abbrev Since : Bytes → Type 0
+      Since c = IsFoundSince text (G ++ store.entries) (G ++ closed.entries) closed.mark c
 
-    found_at_first : (c : Bytes) → IsFoundAs text c (G ++ store.entries) → Since c
-    found_at_first c found = record {
-      history = G ++ store.entries;
-      found = found;
-      begun = begins_refl (G ++ store.entries);
-      within = inl (begins_behind G store.entries closed.entries closes.stays.entries);
-    }
+      told_opened : IsSome (contents store.disk)
+      told_opened = opened.tells (rw told refl)
 
-    found_between : (c : Bytes) → IsFoundBetween (whole G store) (whole G closed) c → Since c
-    found_between c f = record {
-      history = f.history;
-      found = subst (λ (t : Bytes). IsFoundAs t c f.history) (closes.stays.policy ∙ opened.policy) f.found;
-      begun = f.begun;
-      within = f.within;
-    }
+      found_at_first : (c : Bytes) → IsFoundAs text c (G ++ store.entries) → Since c
+      found_at_first c found = record {
+        history = G ++ store.entries;
+        found = found;
+        begun = begins_refl (G ++ store.entries);
+        within = inl (begins_behind G store.entries closed.entries closes.stays.entries);
+      }
 
-    -- what a crash leaves where the store was opened
-    found_resting : (o : Option Bytes) → IfSome o (λ (f : Bytes). IsFoundAs text f (G ++ store.entries)) → Only o (images store.disk) → IsSome o
-        → (c : Bytes) → images store.disk c → IsFoundAs text c (G ++ store.entries)
-    found_resting None holds only some c image = absurd (let no : false ≡ true = some in (cc))
-    found_resting (Some file) holds only some c image = subst (λ (f : Bytes). IsFoundAs text f (G ++ store.entries)) (sym (only c image)) holds
+      found_between : (c : Bytes) → IsFoundBetween (whole G store) (whole G closed) c → Since c
+      found_between c b = record {
+        history = b.history;
+        found = subst (λ (t : Bytes). IsFoundAs t c b.history) (closes.stays.policy ∙ opened.policy) b.found;
+        begun = b.begun;
+        within = b.within;
+      }
 
-    since_opened : (file : Bytes) → IsAtRest (contents disk) (images disk) file → LeavesOnly moment images_since disk closed.disk Since
-    since_opened file rest =
-        let found : IsFoundAs text file (G ++ store.entries) = (rw rest.told at opened.found) in
-        let some : IsSome (contents store.disk) = opened.tells (rw rest.told refl) in
-        joined moment images_since disk store.disk closed.disk Since
-        (weaker moment images_since disk store.disk (Opens text file) Since (λ c o. found_at_first c (o.same (G ++ store.entries) found)) (opened.images_kept.each file rest))
-        (weaker moment images_since store.disk closed.disk (λ c. images store.disk c ⊎ IsFoundBetween (whole G store) (whole G closed) c) Since
-        (λ c. ⊎_elim (λ image. found_at_first c (found_resting (contents store.disk) opened.holds opened.at_rest some c image)) (found_between c)) (closes.stays.left opened.P G opened.founded some))
+      -- what a crash leaves where the store was opened
+      found_resting : (c : Bytes) → images store.disk c → IsFoundAs text c (G ++ store.entries)
+      found_resting c image =
+          subst (λ (t : Bytes). IsFoundAs t c (G ++ store.entries)) opened.policy (found_founded contents images P store G f told_opened c image)
 
-    since_now : (file : Bytes) → IsAtRest (contents disk) (images disk) file → LeavesOnly moment images_since disk now Since
-    since_now file rest = subst (λ (d : D). LeavesOnly moment images_since disk d Since) (sym closes.disk_is) (since_opened file rest)
+      since_opened : IsAtRest (contents disk) (images disk) file → LeavesOnly moment images_since disk closed.disk Since
+      since_opened rest =
+          joined moment images_since disk store.disk closed.disk Since
+          (weaker moment images_since disk store.disk (Opens text file) Since (λ c o. found_at_first c (o.same (G ++ store.entries) found)) (opened.images_kept.each file rest))
+          (weaker moment images_since store.disk closed.disk (λ c. images store.disk c ⊎ IsFoundBetween (whole G store) (whole G closed) c) Since
+          (λ c. ⊎_elim (λ image. found_at_first c (found_resting c image)) (found_between c)) (closes.stays.left P G f told_opened))
 
-    -- what a crash leaves behind the closing
-    left_now : IsSome (contents disk) → (c : Bytes) → images now c → IsFoundWith text (G ++ closed.entries) closed.mark c
-    left_now told c image =
-        let some : IsSome (contents closed.disk) = closes.stays.tells (opened.tells told) in
-        subst (λ (t : Bytes). IsFoundWith t (G ++ closed.entries) closed.mark c) (closes.stays.policy ∙ opened.policy)
-        (closes.stays.left_now opened.P G opened.founded some c (subst (λ (d : D). images d c) closes.disk_is image))
+      since_now : IsAtRest (contents disk) (images disk) file → LeavesOnly moment images_since disk now Since
+      since_now rest = subst (λ (d : D). LeavesOnly moment images_since disk d Since) (sym closes.disk_is) (since_opened rest)
 
-    -- ---- the run
+      -- what a crash leaves behind the closing
+      left_now : (c : Bytes) → images now c → IsFoundWith text (G ++ closed.entries) closed.mark c
+      left_now c image =
+          subst (λ (t : Bytes). IsFoundWith t (G ++ closed.entries) closed.mark c) (closes.stays.policy ∙ opened.policy)
+          (closes.stays.left_now P G f (closes.stays.tells told_opened) c (subst (λ (d : D). images d c) closes.disk_is image))
 
-    played : (sees : Caller → Caller → Bool) (P : PlainPolicy) (told : List Answered) → IsRunBetween sees P (whole G store) (whole G closed) told
-        → IsPlayed contents images moment images_since faults sees text P disk now told
-    played sees P told run =
-        let made : history_made (G ++ store.entries) told ≡ G ++ closed.entries = run.made in
-        let marked : failed_line told ≡ closed.mark = run.failed in record {
-          opening = G ++ store.entries;
-          opens = opened.found;
-          legal = run.legal;
-          unfailed = λ none. ap faults closes.disk_is ∙ closes.stays.unfailed (ap is_some (sym marked ∙ none) ∙ sym (ap is_some opened.unmarked)) ∙ opened.unfailed;
-          failed = λ e is. ap faults closes.disk_is ∙ closes.stays.failed opened.unmarked e (sym marked ∙ is) ∙ ap raised opened.unfailed;
-          since = λ file rest. rw (made, marked) (since_now file rest);
-          now = λ told. rw (made, marked) (left_now told);
-        }
+      -- ---- the run
 
-    module _ (form : Form) (bytes : Bytes) (P : PlainPolicy) (lines : List ScriptLine) (is_text : text ≡ policy_part bytes) (has_policy : HasPolicy bytes P)
+      played : (sees : Caller → Caller → Bool) (told : List Answered) → IsRunBetween sees P (whole G store) (whole G closed) told
+          → IsPlayed contents images moment images_since faults sees text P file (G ++ store.entries) disk now told
+      played sees told run =
+          let made : history_made (G ++ store.entries) told ≡ G ++ closed.entries = run.made in
+          let marked : failed_line told ≡ closed.mark = run.failed in record {
+            legal = run.legal;
+            unfailed = λ none. ap faults closes.disk_is ∙ closes.stays.unfailed (ap is_some (sym marked ∙ none) ∙ sym (ap is_some opened.unmarked)) ∙ opened.unfailed;
+            failed = λ e is. ap faults closes.disk_is ∙ closes.stays.failed opened.unmarked e (sym marked ∙ is) ∙ ap raised opened.unfailed;
+            since = λ rest. rw (made, marked) (since_now rest);
+            now = λ c image. rw (made, marked) (left_now c image);
+          }
+
+      has_run : (sees : Caller → Caller → Bool) (lines : List Entry) (so : List Entry → List Answered → Type 0) (given : List Answered → Type 0)
+          → AreAnswered sees P (whole G store) (whole G closed) lines given
+          → ((told : List Answered) → IsRunBetween sees P (whole G store) (whole G closed) told → given told → so lines told)
+          → HasRun contents images moment images_since faults sees text P lines file (G ++ store.entries) disk now so
+      has_run sees lines so given run makes = record {
+        told = run.told;
+        lines_are = run.lines_are;
+        played = played sees run.told run.run;
+        is_so = makes run.told run.run run.is_so;
+      }
+
+    module _ (form : Form) (bytes : Bytes) (lines : List ScriptLine) (is_text : text ≡ policy_part bytes) (has_policy : HasPolicy bytes P)
         (says : document_read accepted bytes ≡ Ok lines) (so : List Entry → List Answered → Type 0) (given : List Answered → Type 0) where
-      pub run_over : AreAnswered (sees_by form) P (whole G store) (whole G closed) (output_order form (entries_of lines)) given
-          → ((told : List Answered) → IsRunBetween (sees_by form) P (whole G store) (whole G closed) told → given told → so (output_order form (entries_of lines)) told)
+      abbrev Lines : List Entry
+      Lines = output_order form (entries_of lines)
+
+      behind : (file : Bytes) (opening : History) → contents disk ≡ Some file → IsFoundAs text file opening
+          → ((G : History) → IsFront P store G → AreAnswered (sees_by form) P (whole G store) (whole G closed) Lines given)
+          → ((G : History) (told : List Answered) → IsRunBetween (sees_by form) P (whole G store) (whole G closed) told → given told → so Lines told)
+          → HasRun contents images moment images_since faults (sees_by form) text P Lines file opening disk now so
+      behind file opening is found run makes =
+          let goes = opened.founded file opening is found in
+          let G = goes.before in
+          let found_so = subst (λ (H : History). IsFoundAs text file H) goes.all found in
+          subst (λ (H : History). HasRun contents images moment images_since faults (sees_by form) text P Lines file H disk now so) (sym goes.all)
+          (has_run file is G goes.founded found_so (sees_by form) Lines so given (run G goes.founded.front) (makes G))
+
+      pub run_over : ((G : History) → IsFront P store G → AreAnswered (sees_by form) P (whole G store) (whole G closed) Lines given)
+          → ((G : History) (told : List Answered) → IsRunBetween (sees_by form) P (whole G store) (whole G closed) told → given told → so Lines told)
           → IsRunOver contents images moment images_since faults form bytes disk now so
       run_over run makes = record {
         policy = P;
         lines = lines;
         has_policy = has_policy;
         says = says;
-        told = run.told;
-        lines_are = run.lines_are;
-        played = subst (λ (t : Bytes). IsPlayed contents images moment images_since faults (sees_by form) t P disk now run.told) is_text
-            (played (sees_by form) P run.told run.run);
-        is_so = makes run.told run.run run.is_so;
+        entries = store.before + length store.entries;
+        own = subst (λ (t : Bytes). IfSome (contents disk) (IsOwnFile t (store.before + length store.entries))) is_text opened.own;
+        run = subst (λ (t : Bytes). (file : Bytes) (opening : History) → contents disk ≡ Some file → IsFoundAs t file opening
+            → HasRun contents images moment images_since faults (sees_by form) t P Lines file opening disk now so) is_text
+            (λ file opening is found. behind file opening is found run makes);
       }
 
   -- how playing ends, by how the run over the store does
-  module _ (text : Bytes) (disk : D) (G : History) (store : Kept D) (opened : IsOpened text disk G store) (form : Form) (bytes : Bytes) (P : PlainPolicy) (lines : List ScriptLine)
+  module _ (P : PlainPolicy) (text : Bytes) (disk : D) (store : Kept D) (opened : IsOpened P text disk store) (form : Form) (bytes : Bytes) (lines : List ScriptLine)
       (is_text : text ≡ policy_part bytes) (has_policy : HasPolicy bytes P) (says : document_read accepted bytes ≡ Ok lines) (now : D) {K : Type 0} (held : K → Option Bytes) (was written : K) where
-    over : (closed : Kept D) → Closes contents images moment images_since faults store closed now → (so : List Entry → List Answered → Type 0) (given : List Answered → Type 0)
-        → AreAnswered (sees_by form) P (whole G store) (whole G closed) (output_order form (entries_of lines)) given
-        → ((told : List Answered) → IsRunBetween (sees_by form) P (whole G store) (whole G closed) told → given told → so (output_order form (entries_of lines)) told)
-        → IsRunOver contents images moment images_since faults form bytes disk now so
-    over closed closes = run_over text disk G store closed now opened closes form bytes P lines is_text has_policy says
+    abbrev Entries : List Entry
+    Entries = output_order form (entries_of lines)
 
-    ends : (closed : Kept D) → Closes contents images moment images_since faults store closed now → (outcome : Outcome)
-        → EndsRun (sees_by form) P (whole G store) (whole G closed) (output_order form (entries_of lines)) (held was) (held written) outcome
-        → HasPlayed contents images moment images_since faults held form outcome bytes disk now was written
-    ends closed closes outcomes.Done e =
-        over closed closes (λ (es : List Entry) (told : List Answered). (failed_line told ≡ None) × IsUnfaulted told × HaveOutput (Appends (held was) (held written)) es told)
-        (HaveOutput (Appends (held was) (held written)) (output_order form (entries_of lines))) e.0
-        (λ told run output. let none = run.failed ∙ e.1 in (none, none_faulted P (sees_by form) (G ++ store.entries) told run.legal none, output))
-    ends closed closes outcomes.SinkFault e =
-        over closed closes (HaveOutput (AppendsPrefix (held was) (held written))) (HaveOutput (AppendsPrefix (held was) (held written)) (output_order form (entries_of lines))) e (λ told run output. output)
-    ends closed closes outcomes.DiskFault e = inl (
-        over closed closes (λ (es : List Entry) (told : List Answered). IsSome (failed_line told) × HaveOutput (Appends (held was) (held written)) es told)
-        (HaveOutput (Appends (held was) (held written)) (output_order form (entries_of lines))) e.0 (λ told run output. (subst (λ (o : Option Entry). IsSome o) (sym run.failed) e.1, output))
-        )
-    ends closed closes (outcomes.NoMemory m) e =
-        inr (inr (over closed closes (λ (es : List Entry) (told : List Answered). Unit {0}) (λ (told : List Answered). Unit {0}) e (λ told run nothing. tt)))
-    ends closed closes outcomes.Usage e = absurd e
-    ends closed closes (outcomes.Policy f) e = absurd e
-    ends closed closes (outcomes.Script f) e = absurd e
-    ends closed closes outcomes.SourceFault e = absurd e
-    ends closed closes (outcomes.Damaged number place) e = absurd e
-    ends closed closes outcomes.NotJournal e = absurd e
-    ends closed closes (outcomes.OtherPolicy place) e = absurd e
-    ends closed closes outcomes.TooLong e = absurd e
-    ends closed closes (outcomes.FullPoint size) e = absurd e
-    ends closed closes outcomes.OldJournal e = absurd e
+    abbrev EndsSo : Kept D → Outcome → Type 0
+    EndsSo closed outcome = (G : History) → IsFront P store G → EndsRun (sees_by form) P (whole G store) (whole G closed) Entries (held was) (held written) outcome
 
-    pub ends_run : (outcome : Outcome) → IsClosedRun contents images moment images_since faults (sees_by form) P G store (output_order form (entries_of lines)) outcome now (held was) (held written)
+    module _ (closed : Kept D) (closes : Closes contents images moment images_since faults store closed now) where
+      over : (so : List Entry → List Answered → Type 0) (given : List Answered → Type 0)
+          → ((G : History) → IsFront P store G → AreAnswered (sees_by form) P (whole G store) (whole G closed) Entries given)
+          → ((G : History) (told : List Answered) → IsRunBetween (sees_by form) P (whole G store) (whole G closed) told → given told → so Entries told)
+          → IsRunOver contents images moment images_since faults form bytes disk now so
+      over = run_over P text disk store closed now opened closes form bytes lines is_text has_policy says
+
+      unfailed : closed.mark ≡ None → faults now ≡ faults disk
+      unfailed none = ap faults closes.disk_is ∙ closes.stays.unfailed (ap is_some (none ∙ sym opened.unmarked)) ∙ opened.unfailed
+
+      ends : (outcome : Outcome) → IsOfRun outcome → IsMarkedBy outcome closed.mark → EndsSo closed outcome
+          → HasPlayed contents images moment images_since faults held form outcome bytes disk now was written
+      ends outcomes.Done of marked e = (
+        over (λ (es : List Entry) (told : List Answered). (failed_line told ≡ None) × IsUnfaulted told × HaveOutput (Appends (held was) (held written)) es told)
+            (HaveOutput (Appends (held was) (held written)) Entries) e
+            (λ G told run output. let none = run.failed ∙ marked in (none, none_faulted P (sees_by form) (G ++ store.entries) told run.legal none, output)),
+        unfailed marked,
+      )
+      ends outcomes.SinkFault of marked e =
+          over (HaveOutput (AppendsPrefix (held was) (held written))) (HaveOutput (AppendsPrefix (held was) (held written)) Entries) e (λ G told run output. output)
+      ends outcomes.DiskFault of marked e = inl (
+          over (λ (es : List Entry) (told : List Answered). IsSome (failed_line told) × HaveOutput (Appends (held was) (held written)) es told)
+          (HaveOutput (Appends (held was) (held written)) Entries) e (λ G told run output. (subst (λ (o : Option Entry). IsSome o) (sym run.failed) marked, output))
+          )
+      ends (outcomes.NoMemory m) of marked e =
+          inr (inr (over (λ (es : List Entry) (told : List Answered). Unit {0}) (λ (told : List Answered). Unit {0}) e (λ G told run nothing. tt)))
+      ends outcomes.Usage of marked e = absurd of
+      ends (outcomes.Policy f) of marked e = absurd of
+      ends (outcomes.Script f) of marked e = absurd of
+      ends outcomes.SourceFault of marked e = absurd of
+      ends (outcomes.Damaged number place) of marked e = absurd of
+      ends outcomes.NotJournal of marked e = absurd of
+      ends (outcomes.OtherPolicy place) of marked e = absurd of
+      ends outcomes.TooLong of marked e = absurd of
+      ends (outcomes.FullPoint size) of marked e = absurd of
+      ends outcomes.OldJournal of marked e = absurd of
+
+    pub ends_run : (outcome : Outcome) → IsOfRun outcome
+        → IsClosedRun contents images moment images_since faults (sees_by form) P store Entries outcome now (held was) (held written)
         → HasPlayed contents images moment images_since faults held form outcome bytes disk now was written
-    ends_run outcome run = ends run.closed run.closes outcome run.ends
+    ends_run outcome of run = ends run.closed run.closes outcome of run.marked run.ends
 
   -- a run that met a disk fault raised the disk's count
-  pub run_raised : (sees : Caller → Caller → Bool) (P : PlainPolicy) (G : History) (disk : D) (store : Kept D) → store.mark ≡ None → faults store.disk ≡ faults disk → (lines : List Entry) (now : D) (was written : Option Bytes)
-      → IsClosedRun contents images moment images_since faults sees P G store lines outcomes.DiskFault now was written → faults now ≡ raised (faults disk)
-  run_raised sees P G disk store unmarked unfailed lines now was written run = by_mark run.closed.mark refl run.ends.1
+  pub run_raised : (sees : Caller → Caller → Bool) (P : PlainPolicy) (disk : D) (store : Kept D) → store.mark ≡ None → faults store.disk ≡ faults disk → (lines : List Entry) (now : D) (was written : Option Bytes)
+      → IsClosedRun contents images moment images_since faults sees P store lines outcomes.DiskFault now was written → faults now ≡ raised (faults disk)
+  run_raised sees P disk store unmarked unfailed lines now was written run = by_mark run.closed.mark refl run.marked
     where
       by_mark : (mark : Option Entry) → run.closed.mark ≡ mark → IsSome mark → faults now ≡ raised (faults disk)
       by_mark None is some = absurd (let no : false ≡ true = some in (cc))
       by_mark (Some e) is some = ap faults run.closes.disk_is ∙ run.closes.stays.failed unmarked e is ∙ ap raised unfailed
+
+  -- what opening saw is the document's own file
+  pub own_seen : (P : PlainPolicy) (text : Bytes) (store : Kept D) → store.policy ≡ text → (T : Trace) → IsStart P store.point store.before T
+      → (file : Bytes) → IsSeenAs P store.policy store.point store.before store.entries file → IsOwnFile text (store.before + length store.entries) file
+  own_seen P text store policy T starts file (inl fresh) = record {
+    seen = seens.fresh;
+    sees = fresh.0;
+    has = let none : length store.entries ≡ 0 = ap (λ (es : History). length es) fresh.2 in omega (arith, fresh.1.1, none);
+  }
+  own_seen P text store policy T starts file (inr holds) = record { seen = _; sees = holds.1 T starts; has = (policy, refl) }
+
+  -- all that is told where a store is opened
+  pub opened_so : (P : PlainPolicy) (text : Bytes) (disk : D) (store : Kept D) → accepted text ≡ Some P
+      → (store.policy ≡ text) × (store.opening ≡ store.before + length store.entries) × (store.mark ≡ None)
+      → LeavesAfter contents images moment images_since disk store.disk (Opens text) → faults store.disk ≡ faults disk
+      → is_some (contents store.disk) ≡ is_some (contents disk)
+      → ((P : PlainPolicy) → accepted text ≡ Some P → (T : Trace) × IsStart P store.point store.before T)
+      → ((P : PlainPolicy) → accepted text ≡ Some P → IfSome (contents disk) (IsSeenAs P store.policy store.point store.before store.entries))
+      → ((P : PlainPolicy) (file : Bytes) (H : History) → accepted text ≡ Some P → contents disk ≡ Some file → IsFoundAs text file H
+      → GoesOnFrom contents images P store H)
+      → IsOpened P text disk store
+  opened_so P text disk store accepts is images_kept unfailed tells leads seen founded = record {
+    policy = is.0;
+    unmarked = is.2;
+    images_kept = images_kept;
+    unfailed = unfailed;
+    tells = λ some. tells ∙ some;
+    own = let start = leads P accepts in if_so (contents disk) (own_seen P text store is.0 start.0 start.1) (seen P accepts);
+    founded = λ file H told found. founded P file H accepts told found;
+  }
+    where
+      if_so : (o : Option Bytes) {so then : Bytes → Type 0} → ((file : Bytes) → so file → then file) → IfSome o so → IfSome o then
+      if_so None each h = tt
+      if_so (Some file) each h = each file h
 
 -- how playing ends that comes to no run
 module _ {D : Type 0} (contents : D → Option (List ℕ)) (images : D → List ℕ → Type 0) (moment : D → ℕ) (images_since : D → ℕ → List ℕ → Type 0) (faults : D → ℕ) {K : Type 0} (held : K → Option Bytes) (form : Form) where

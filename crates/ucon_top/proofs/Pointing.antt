@@ -1,29 +1,32 @@
 -- From the opening of a journal to its closing: the checkpoint that was written over it.
-use Rattle.std.proofs.Common.{◌≡◌, ◌⊎◌, ⊎_elim, ℕ, ◌≤◌, false, true, List, [], ◌∷◌, ◌++◌, length, refl, sym, ap, subst, ◌∙◌, inl, inr}
-use Rattle.std.specs.Prelude.{Option, Some, None, is_some, IsSome, IfSome, Result, Ok, Err, IfOk, IfErr, OnOk}
+use Rattle.std.proofs.Common.{◌≡◌, ◌⊎◌, ⊎_elim, ℕ, ◌+◌, ◌<◌, ◌≤◌, false, true, List, [], ◌∷◌, ◌++◌, length, length-append, refl, sym, ap, subst, ◌∙◌, inl, inr}
+use Rattle.std.specs.Prelude.{Option, Some, None, IsSome, IfSome, Result, Ok, Err, IfOk, IfErr, OnOk}
 use Rattle.std.specs.Io.KnownBytes.{Appends}
 use Rattle.ucon_flow.specs.Writing.{AppendsPrefix}
 use Rattle.ucon_disk.specs.Causes.{raised}
 use Rattle.ucon_disk.specs.Disk.{Only}
 use Rattle.ucon_disk.specs.Run.{IsAtRest, LeavesOnly, joined, weaker}
 use Rattle.ucon_model.specs.Document.{policy_part}
+use Rattle.ucon_model.specs.Action.{Trace}
 use Rattle.ucon_model.specs.History.{History, trace}
 use Rattle.ucon_model.specs.Plain.{Bytes, PlainPolicy}
-use Rattle.ucon_store.specs.Found.{Holds, IsFoundAs, Opens, found_as}
+use Rattle.ucon_store.specs.Found.{Holds, IsFoundAs, found_as}
 use Rattle.ucon_store.specs.Kept.{Kept}
+use Rattle.ucon_store.specs.Opening.{Opens}
 use Rattle.ucon_store.specs.Pointing.{IsFoundPointed, IsSameStore, IsUnpointed}
 use Rattle.ucon_store.specs.declared.fault.PointRefusal.{PointRefusal}
 use Rattle.ucon_store.specs.declared.fault.PointRefusal.TheVariants as refusals
 use Rattle.ucon_store.specs.Points.{IsOld, SamePlaces, has_points, point_places}
+use Rattle.ucon_store.specs.Starts.{IsStart}
 use Rattle.ucon_store.specs.Stays.{Stays}
-use Rattle.ucon_store.specs.Whole.{IsFounded, IsFront, whole}
+use Rattle.ucon_store.specs.Whole.{IsFounded, whole}
 use Rattle.ucon_outcome.specs.declared.outcome.Outcome.{Outcome}
 use Rattle.ucon_outcome.specs.declared.outcome.Outcome.TheVariants as outcomes
 use Rattle.ucon_top.specs.Accepted.{HasPolicy}
 use Rattle.ucon_top.specs.Closing.{IsWritten}
 use Rattle.ucon_outcome.specs.Ending.{by_refusal}
-use Rattle.ucon_top.specs.Pointed.{HasPointed, HasPointedInput, IsPointOver, IsPointedAt, IsStillFound, IsTooLarge, point_line}
-use Rattle.ucon_top.specs.PointEnding.{EndsPoint, HasPut, IsOfNoPoint, IsOfPoint, LeavesPointed}
+use Rattle.ucon_top.specs.Pointed.{HasNoPoint, HasPoint, HasPointed, HasPointedInput, IsCheckpointSize, IsPointOver, IsPointedAt, IsStillFound, MayHavePoint, point_line}
+use Rattle.ucon_top.specs.PointEnding.{BehindEach, EndsPoint, HasPut, IsOfNoPoint, IsOfPoint, IsPut, LeavesPointed}
 use Rattle.ucon_top.specs.Unread.{IsUnread}
 use Rattle.ucon_top.proofs.Behind.{checkpoint_whole}
 use Rattle.ucon_top.proofs.Playing.{IsOpened}
@@ -49,138 +52,157 @@ pub record HasMoments {D : Type 0} (images : D → List ℕ → Type 0) (moment 
   pub only_now : (disk : D) (c : List ℕ) → images_since disk (moment disk) c → images disk c
 
 module _ {D : Type 0} (contents : D → Option (List ℕ)) (images : D → List ℕ → Type 0) (moment : D → ℕ) (images_since : D → ℕ → List ℕ → Type 0) (faults : D → ℕ)
-    (moments : HasMoments images moment images_since) (bytes : Bytes) (P : PlainPolicy) (has_policy : HasPolicy bytes P) (disk : D) (G : History) (store : Kept D)
-    (opened : IsOpened contents images moment images_since faults (policy_part bytes) disk G store)
+    (moments : HasMoments images moment images_since) (bytes : Bytes) (P : PlainPolicy) (has_policy : HasPolicy bytes P) (disk : D) (store : Kept D)
+    (opened : IsOpened contents images moment images_since faults P (policy_part bytes) disk store)
     (same_places : SamePlaces (contents disk) (contents store.disk))
     (old : (before now : Bytes) → contents disk ≡ Some before → contents store.disk ≡ Some now → has_points now ≡ false → IsOld before) where
   abbrev text : Bytes
   text = policy_part bytes
 
-  abbrev IsAsBefore : Bytes → Type 0
-  IsAsBefore c = IsFoundAs text c (G ++ store.entries)
+  abbrev count : ℕ
+  count = store.before + length store.entries
 
   -- the file of the open store
   abbrev file_of : (before : Bytes) → contents disk ≡ Some before → (file : Bytes) × (contents store.disk ≡ Some file)
   file_of before told = told_file (contents store.disk) (opened.tells (subst (λ (o : Option Bytes). IsSome o) (sym told) refl))
 
-  pointed_found : (file c : Bytes) → IsFoundPointed store.policy (G ++ store.entries) (point_places file) c → IsAsBefore c
-  pointed_found file c h = subst (λ (t : Bytes). IsFoundAs t c (G ++ store.entries)) opened.policy h.0
+  -- ---- behind a history on which the store is founded, and as which with its entries the file was found
 
-  -- ---- at the opening
+  module _ (before : Bytes) (told : contents disk ≡ Some before) (G : History) (f : IsFounded contents images P store G)
+      (found : IsFoundAs text before (G ++ store.entries)) where
+    abbrev IsAsBefore : Bytes → Type 0
+    IsAsBefore c = IsFoundAs text c (G ++ store.entries)
 
-  module _ (before : Bytes) (told : contents disk ≡ Some before) where
     abbrev opened_file : Bytes
     opened_file = (file_of before told).0
 
     opened_told : contents store.disk ≡ Some opened_file
     opened_told = (file_of before told).1
 
+    as_many : length (G ++ store.entries) ≡ count
+    as_many = length-append G store.entries ∙ ap (λ (n : ℕ). n + length store.entries) f.front.count
+
     opened_found : IsAsBefore opened_file
-    opened_found = so_told (contents store.disk) IsAsBefore opened_file opened_told opened.holds
+    opened_found = subst (λ (t : Bytes). IsFoundAs t opened_file (G ++ store.entries)) opened.policy
+        (found_as store.policy P (G ++ store.entries) opened_file (so_told (contents store.disk) (Holds store.policy P (G ++ store.entries)) opened_file opened_told f.holds))
 
     opened_only : (c : Bytes) → images store.disk c → c ≡ opened_file
-    opened_only = subst (λ (o : Option Bytes). Only o (images store.disk)) opened_told opened.at_rest
+    opened_only = subst (λ (o : Option Bytes). Only o (images store.disk)) opened_told f.only
 
     opened_places : point_places opened_file ≡ point_places before
     opened_places = places_told (contents disk) (contents store.disk) before opened_file told opened_told same_places
 
-    -- no image of the open store has a checkpoint more
-    resting : (c : Bytes) → images store.disk c → IsAsBefore c × (point_places c ≡ point_places before)
-    resting c image =
-        let is = opened_only c image in
-        (subst IsAsBefore (sym is) opened_found, ap point_places is ∙ opened_places)
+    pointed_found : (c : Bytes) → IsFoundPointed store.policy (G ++ store.entries) (point_places opened_file) c → IsAsBefore c
+    pointed_found c h = subst (λ (t : Bytes). IsFoundAs t c (G ++ store.entries)) opened.policy h.0
 
-  since_opened : (before : Bytes) → IsAtRest (contents disk) (images disk) before → LeavesOnly moment images_since disk store.disk IsAsBefore
-  since_opened before rest =
-      let found : IsAsBefore before = so_told (contents disk) IsAsBefore before rest.told opened.found in
-      weaker moment images_since disk store.disk (Opens text before) IsAsBefore (λ c o. o.same (G ++ store.entries) found) (opened.images_kept.each before rest)
+    since_opened : IsAtRest (contents disk) (images disk) before → LeavesOnly moment images_since disk store.disk IsAsBefore
+    since_opened rest =
+        weaker moment images_since disk store.disk (Opens text before) IsAsBefore (λ c o. o.same (G ++ store.entries) found) (opened.images_kept.each before rest)
 
-  -- ---- no call of the disk behind the opening
-
-  module _ (now : D) (same : now ≡ store.disk) where
-    still_unpointed : IsStillFound contents images moment images_since faults text (G ++ store.entries) disk now (λ before c. point_places c ≡ point_places before)
-    still_unpointed = record {
-      opens = opened.found;
-      since = λ before rest. subst (λ (d : D). LeavesOnly moment images_since disk d IsAsBefore) (sym same) (since_opened before rest);
-      now = if_told (contents disk) _ (λ before told c image. resting before told c (subst (λ (d : D). images d c) same image));
+    -- no call of the disk behind the opening: no image has a checkpoint more
+    still_unpointed : (now : D) → now ≡ store.disk
+        → IsStillFound contents images moment images_since faults text before (G ++ store.entries) disk now (λ file c. point_places c ≡ point_places file)
+    still_unpointed now same = record {
+      since = λ rest. subst (λ (d : D). LeavesOnly moment images_since disk d IsAsBefore) (sym same) (since_opened rest);
+      now = λ c image.
+          let is = opened_only c (subst (λ (d : D). images d c) same image) in
+          (subst IsAsBefore (sym is) opened_found, ap point_places is ∙ opened_places);
     }
 
-    unpointed : (so : PlainPolicy → History → Type 0) → so P (G ++ store.entries)
-        → IsPointOver contents images moment images_since faults bytes disk now (λ H before c. point_places c ≡ point_places before) (λ Q H. (faults now ≡ faults disk) × so Q H)
-    unpointed so holds = record {
+    -- a checkpoint behind the opening
+    module _ (now : D) (inside : LeavesPointed contents images moment images_since faults (whole G store) now) where
+      since_pointed : IsAtRest (contents disk) (images disk) before → LeavesOnly moment images_since disk now IsAsBefore
+      since_pointed rest =
+          joined moment images_since disk store.disk now IsAsBefore (since_opened rest)
+          (weaker moment images_since store.disk now (IsFoundPointed store.policy (G ++ store.entries) (point_places opened_file)) IsAsBefore pointed_found (inside opened_file opened_told))
+
+      still_pointed : (leaves : Bytes → Bytes → Type 0) → ((c : Bytes) → images now c → IsAsBefore c × leaves before c)
+          → IsStillFound contents images moment images_since faults text before (G ++ store.entries) disk now leaves
+      still_pointed leaves left = record { since = since_pointed; now = left }
+
+      -- each image now may have it
+      perhaps_pointed : (c : Bytes) → images now c → IsAsBefore c × ((point_places c ≡ point_places before) ⊎ IsPointedAt count before c)
+      perhaps_pointed c image =
+          let run = inside opened_file opened_told in
+          let here = run.each c (moments.counts_now now (moment store.disk) c run.later image) in (
+            pointed_found c here,
+            ⊎_elim (λ same. inl (same ∙ opened_places))
+                (λ more. inr (more ∙ (λ i. opened_places i ++ as_many i ∷ [])))
+                here.1,
+          )
+
+    written_there : (now : D) → HasPut contents images moment images_since faults (whole G store) now
+        → (c : Bytes) → images now c → IsAsBefore c × IsPointedAt count before c
+    written_there now put c image =
+        let left = put.left opened_file opened_told c image in
+        (subst (λ (t : Bytes). IsFoundAs t c (G ++ store.entries)) opened.policy left.0, left.1 ∙ (λ i. opened_places i ++ as_many i ∷ []))
+
+  -- ---- all of it
+
+  module _ (now : D) (went : ℕ → Type 0) (leaves : ℕ → Bytes → Bytes → Type 0) (so : PlainPolicy → History → Type 0) (goes : went count) where
+    point_over : ((before : Bytes) (told : contents disk ≡ Some before) (G : History) → IsFounded contents images P store G → IsFoundAs text before (G ++ store.entries)
+        → IsStillFound contents images moment images_since faults text before (G ++ store.entries) disk now (leaves count) × so P (G ++ store.entries))
+        → IsPointOver contents images moment images_since faults bytes disk now went leaves so
+    point_over still = record {
       policy = P;
       has_policy = has_policy;
-      history = G ++ store.entries;
-      still = still_unpointed;
-      is_so = (ap faults same ∙ opened.unfailed, holds);
+      entries = count;
+      own = opened.own;
+      goes = goes;
+      still = λ before opening told found.
+          let from = opened.founded before opening told found in
+          let G = from.before in
+          let here = subst (λ (H : History). IsFoundAs text before H) from.all found in
+          let is = still before told G from.founded here in
+          subst (λ (H : History). (length H ≡ count) × IsStillFound contents images moment images_since faults text before H disk now (leaves count) × so P H) (sym from.all)
+          (as_many before told G from.founded here, is.0, is.1);
     }
 
-  -- ---- a checkpoint behind the opening
+  unpointed : (now : D) → now ≡ store.disk → (why : Type 0) → why → (so : PlainPolicy → History → Type 0)
+      → ((G : History) → IsFounded contents images P store G → so P (G ++ store.entries))
+      → HasNoPoint contents images moment images_since faults bytes disk now why so
+  unpointed now same why holds so is = point_over now (λ entries. (faults now ≡ faults disk) × why) (λ entries file c. point_places c ≡ point_places file) so
+      (ap faults same ∙ opened.unfailed, holds)
+      (λ before told G f found. (still_unpointed before told G f found now same, is G f))
 
-  module _ (now : D) (inside : LeavesPointed contents images moment images_since faults (whole G store) now) where
-    since_pointed : (before : Bytes) → IsAtRest (contents disk) (images disk) before → LeavesOnly moment images_since disk now IsAsBefore
-    since_pointed before rest =
-        let file = opened_file before rest.told in
-        joined moment images_since disk store.disk now IsAsBefore (since_opened before rest)
-        (weaker moment images_since store.disk now (IsFoundPointed store.policy (G ++ store.entries) (point_places file)) IsAsBefore (pointed_found file) (inside file (opened_told before rest.told)))
+  written : (now : D) → IsPut contents images moment images_since faults P store now → (went : Bytes → Type 0) → went (point_line count)
+      → HasPoint contents images moment images_since faults bytes disk now went
+  written now put went told = point_over now (λ entries. (faults now ≡ faults disk) × went (point_line entries)) IsPointedAt (λ Q H. Unit {0})
+      (put.1 ∙ opened.unfailed, told)
+      (λ before is G f found. let has = put.0 G f in
+      (still_pointed before is G f found now has.inside (IsPointedAt count) (written_there before is G f found now has), tt))
 
-    pointed_over : (leaves : History → Bytes → Bytes → Type 0) (so : PlainPolicy → History → Type 0)
-        → ((before : Bytes) → contents disk ≡ Some before → (c : Bytes) → images now c → IsAsBefore c × leaves (G ++ store.entries) before c) → so P (G ++ store.entries)
-        → IsPointOver contents images moment images_since faults bytes disk now leaves so
-    pointed_over leaves so left holds = record {
-      policy = P;
-      has_policy = has_policy;
-      history = G ++ store.entries;
-      still = record { opens = opened.found; since = since_pointed; now = if_told (contents disk) _ left };
-      is_so = holds;
-    }
+  failed : (now : D) → BehindEach contents images moment images_since faults P store (λ s. LeavesPointed contents images moment images_since faults s now)
+      → faults now ≡ raised (faults store.disk) → MayHavePoint contents images moment images_since faults bytes disk now
+  failed now inside fails = point_over now (λ entries. faults now ≡ raised (faults disk))
+      (λ entries file c. (point_places c ≡ point_places file) ⊎ IsPointedAt entries file c) (λ Q H. Unit {0})
+      (fails ∙ ap raised opened.unfailed)
+      (λ before is G f found. (
+        still_pointed before is G f found now (inside G f) (λ file c. (point_places c ≡ point_places file) ⊎ IsPointedAt count file c)
+            (perhaps_pointed before is G f found now (inside G f)),
+        tt,
+      ))
 
-    -- each image now may have the checkpoint
-    perhaps_pointed : (before : Bytes) → contents disk ≡ Some before → (c : Bytes) → images now c
-        → IsAsBefore c × ((point_places c ≡ point_places before) ⊎ IsPointedAt (length (G ++ store.entries)) before c)
-    perhaps_pointed before told c image =
-        let file = opened_file before told in
-        let run = inside file (opened_told before told) in
-        let here = run.each c (moments.counts_now now (moment store.disk) c run.later image) in
-        let places = opened_places before told in
-        (pointed_found file c here, ⊎_elim (λ same. inl (same ∙ places)) (λ more. inr (more ∙ ap (λ (l : List ℕ). l ++ length (G ++ store.entries) ∷ []) places)) here.1)
-
-  -- it is written, and what was told of it
-  written : (now : D) (put : HasPut contents images moment images_since faults (whole G store) now) (went : Bytes → Type 0) → went (point_line (length (G ++ store.entries)))
-      → IsPointOver contents images moment images_since faults bytes disk now (λ H. IsPointedAt (length H)) (λ Q H. (faults now ≡ faults disk) × went (point_line (length H)))
-  written now put went told = pointed_over now put.inside (λ H. IsPointedAt (length H)) (λ Q H. (faults now ≡ faults disk) × went (point_line (length H)))
-      (λ before is c image.
-      let file = opened_file before is in
-      let left = put.left file (opened_told before is) c image in
-      (subst (λ (t : Bytes). IsFoundAs t c (G ++ store.entries)) opened.policy left.0, left.1 ∙ ap (λ (l : List ℕ). l ++ length (G ++ store.entries) ∷ []) (opened_places before is)))
-      (put.unfailed ∙ opened.unfailed, told)
-
-  failed : (now : D) → LeavesPointed contents images moment images_since faults (whole G store) now → faults now ≡ raised (faults store.disk)
-      → IsPointOver contents images moment images_since faults bytes disk now
-      (λ H file c. (point_places c ≡ point_places file) ⊎ IsPointedAt (length H) file c) (λ Q H. faults now ≡ raised (faults disk))
-  failed now inside fails = pointed_over now inside (λ H file c. (point_places c ≡ point_places file) ⊎ IsPointedAt (length H) file c)
-      (λ Q H. faults now ≡ raised (faults disk)) (perhaps_pointed now inside) (fails ∙ ap raised opened.unfailed)
-
-  too_large : (size : ℕ) → IsTooLarge store.policy P (G ++ store.entries) size → IsTooLarge text P (G ++ store.entries) size
-  too_large size is = subst (λ (t : Bytes). IsTooLarge t P (G ++ store.entries) size) opened.policy is
+  size_so : (G : History) (size : ℕ) → IsCheckpointSize store.policy P (G ++ store.entries) size → IsCheckpointSize text P (G ++ store.entries) size
+  size_so G size is = subst (λ (t : Bytes). IsCheckpointSize t P (G ++ store.entries) size) opened.policy is
 
   old_file : IfSome (contents store.disk) (λ file. has_points file ≡ false) → IfSome (contents disk) IsOld
   old_file none = if_told (contents disk) IsOld (λ before told.
-      let file = opened_file before told in
-      old before file told (opened_told before told) (so_told (contents store.disk) (λ f. has_points f ≡ false) file (opened_told before told) none))
+      let file = file_of before told in
+      old before file.0 told file.1 (so_told (contents store.disk) (λ f. has_points f ≡ false) file.0 file.1 none))
 
   -- how it ends, by how it ends over the open store
   module _ {K : Type 0} (held : K → Option Bytes) (was got : K) (now : D) where
     pub pointed : (outcome : Outcome) → (outcome ≡ outcomes.DiskFault → got ≡ was)
-        → EndsPoint contents images moment images_since faults P (whole G store) now (held was) (held got) outcome
+        → EndsPoint contents images moment images_since faults P store now (held was) (held got) outcome
         → HasPointed contents images moment images_since faults held outcome bytes disk now was got
     pointed outcomes.Done silent e = written now e.0 (Appends (held was) (held got)) e.1
     pointed outcomes.SinkFault silent e = written now e.0 (AppendsPrefix (held was) (held got)) e.1
     pointed outcomes.DiskFault silent e = (inl (failed now e.0 e.1), silent refl)
-    pointed (outcomes.NoMemory m) silent e = inr (inr (unpointed now e (λ Q H. Unit {0}) tt))
+    pointed (outcomes.NoMemory m) silent e = inr (inr (unpointed now e (Unit {0}) tt (λ Q H. Unit {0}) (λ G f. tt)))
     pointed (outcomes.FullPoint size) silent e =
-        unpointed now e.0 (λ Q H. IsTooLarge text Q H size) (too_large size e.1)
-    pointed outcomes.OldJournal silent e = unpointed now e.0 (λ Q H. IfSome (contents disk) IsOld) (old_file e.1)
+        unpointed now e.0 (16777215 < size) e.1 (λ Q H. IsCheckpointSize text Q H size) (λ G f. size_so G size (e.2 G f))
+    pointed outcomes.OldJournal silent e = unpointed now e.0 (IfSome (contents disk) IsOld) (old_file e.1) (λ Q H. Unit {0}) (λ G f. tt)
     pointed outcomes.Usage silent e = absurd e
     pointed (outcomes.Policy f) silent e = absurd e
     pointed (outcomes.Script f) silent e = absurd e
@@ -236,21 +258,25 @@ same_end contents images moment images_since faults P store disk before now outc
 same_end contents images moment images_since faults P store disk before now (outcomes.OtherPolicy place) none e = absurd e
 same_end contents images moment images_since faults P store disk before now outcomes.TooLong none e = absurd e
 
--- and by why the store had no checkpoint more
+-- and by why the store had no checkpoint more, which is told by each trace that leads to where it begins, of which there is one
 pub refused_end : {D : Type 0} (contents : D → Option (List ℕ)) (images : D → List ℕ → Type 0) (moment : D → ℕ) (images_since : D → ℕ → List ℕ → Type 0) (faults : D → ℕ)
-    (P : PlainPolicy) (G : History) (store : Kept D) (disk : D) (refusal : PointRefusal) → disk ≡ store.disk → store.mark ≡ None → IsFront P store G
-    → IsUnpointed contents P (trace P G) store refusal → EndsPoint contents images moment images_since faults P (whole G store) disk None None (by_refusal refusal)
-refused_end contents images moment images_since faults P G store disk refusals.Stopped same none front h =
-    absurd (let no : false ≡ true = subst (λ m. IsSome m) none h in (cc))
-refused_end contents images moment images_since faults P G store disk refusals.OldJournal same none front h = (same, h)
-refused_end contents images moment images_since faults P G store disk (refusals.TooLarge size) same none front h =
-    (same, (h.1 ∙ ap (λ (l : Bytes). length l) (checkpoint_whole P store G front), h.2))
-refused_end contents images moment images_since faults P G store disk (refusals.NoMemory e) same none front h = same
+    (P : PlainPolicy) (store : Kept D) (disk : D) (refusal : PointRefusal) → disk ≡ store.disk → store.mark ≡ None → (T : Trace) → IsStart P store.point store.before T
+    → ((T : Trace) → IsStart P store.point store.before T → IsUnpointed contents P T store refusal)
+    → EndsPoint contents images moment images_since faults P store disk None None (by_refusal refusal)
+refused_end contents images moment images_since faults P store disk refusals.Stopped same none T starts why =
+    absurd (let no : false ≡ true = subst (λ m. IsSome m) none (why T starts) in (cc))
+refused_end contents images moment images_since faults P store disk refusals.OldJournal same none T starts why = (same, why T starts)
+refused_end contents images moment images_since faults P store disk (refusals.TooLarge size) same none T starts why = (
+  same,
+  (why T starts).2,
+  λ G f. (why (trace P G) f.front.starts).1 ∙ ap (λ (l : Bytes). length l) (checkpoint_whole P store G f.front),
+)
+refused_end contents images moment images_since faults P store disk (refusals.NoMemory e) same none T starts why = same
 
 -- how it ended with it, by how the line was written
 module _ {D : Type 0} (contents : D → Option (List ℕ)) (images : D → List ℕ → Type 0) (moment : D → ℕ) (images_since : D → ℕ → List ℕ → Type 0) (faults : D → ℕ)
     (P : PlainPolicy) (store : Kept D) (disk : D) (before now : Option Bytes) (failed fails : ℕ) where
-  pub told_end : (outcome : Outcome) (entries : ℕ) → entries ≡ length store.entries → HasPut contents images moment images_since faults store disk
+  pub told_end : (outcome : Outcome) (entries : ℕ) → entries ≡ store.before + length store.entries → IsPut contents images moment images_since faults P store disk
       → IsWritten outcome (point_line entries) false before now failed fails → EndsPoint contents images moment images_since faults P store disk before now outcome
   told_end outcomes.Done entries is put w = (put, subst (λ (n : ℕ). Appends before now (point_line n)) is w.1.0)
   told_end outcomes.SinkFault entries is put w = (put, subst (λ (n : ℕ). AppendsPrefix before now (point_line n)) is w.1)
@@ -311,5 +337,4 @@ put_so contents images moment images_since faults G store next disk is same stay
       let holds = so_told (contents next.disk) (Holds next.policy P (G ++ next.entries)) here.0 here.1 founded.holds in
       let found = subst (λ (z : Bytes × History). IsFoundAs z.0 here.0 z.1) (λ i. (same.policy i, G ++ same.entries i)) (found_as next.policy P (G ++ next.entries) here.0 holds) in
       (subst (λ (f : Bytes). IsFoundAs store.policy f (G ++ store.entries)) (sym same_file) found, ap point_places same_file ∙ added file here.0 told here.1);
-  unfailed = ap faults is ∙ stays.unfailed (ap is_some same.mark);
 }

@@ -9,7 +9,7 @@ use Rattle.ucon_model.specs.History.{History}
 use Rattle.ucon_model.specs.Plain.{Bytes, PlainPolicy}
 use Rattle.ucon_store.specs.Kept.{Kept}
 use Rattle.ucon_store.specs.Stays.{Stays}
-use Rattle.ucon_store.specs.Whole.{whole}
+use Rattle.ucon_store.specs.Whole.{IsFront, whole}
 use Rattle.ucon_outcome.specs.declared.outcome.Outcome.{Outcome}
 use Rattle.ucon_outcome.specs.declared.outcome.Outcome.TheVariants.{Done, SinkFault, DiskFault, NoMemory}
 use Rattle.ucon_top.specs.Stepping.{AreAnswered, HaveOutput}
@@ -29,11 +29,17 @@ IsWritten DiskFault text stopped before now failed fails = (stopped ≡ true) ×
 IsWritten SinkFault text stopped before now failed fails = (fails ≡ raised failed) × AppendsPrefix before now text
 IsWritten outcome text stopped before now failed fails = ⊥
 
+-- the store's mark, by how the run over it ended
+abbrev pub IsMarkedBy : Outcome → Option Entry → Type 0
+IsMarkedBy Done mark = mark ≡ None
+IsMarkedBy DiskFault mark = IsSome mark
+IsMarkedBy outcome mark = Unit {0}
+
 -- how the run ended: the lines were answered, and where there was memory for it their output was written
 module _ {D : Type 0} (sees : Caller → Caller → Bool) (P : PlainPolicy) (store closed : Kept D) (lines : List Entry) (before now : Option Bytes) where
   abbrev pub EndsRun : Outcome → Type 0
-  EndsRun Done = AreAnswered sees P store closed lines (HaveOutput (Appends before now) lines) × (closed.mark ≡ None)
-  EndsRun DiskFault = AreAnswered sees P store closed lines (HaveOutput (Appends before now) lines) × IsSome closed.mark
+  EndsRun Done = AreAnswered sees P store closed lines (HaveOutput (Appends before now) lines)
+  EndsRun DiskFault = AreAnswered sees P store closed lines (HaveOutput (Appends before now) lines)
   EndsRun SinkFault = AreAnswered sees P store closed lines (HaveOutput (AppendsPrefix before now) lines)
   EndsRun (NoMemory e) = AreAnswered sees P store closed lines (λ told. Unit {0})
   EndsRun outcome = ⊥
@@ -45,9 +51,10 @@ module _ {D : Type 0} (contents : D → Option (List ℕ)) (images : D → List 
     pub stays : Stays contents images moment images_since faults store closed
     pub disk_is : disk ≡ closed.disk
 
-  -- and the run over it ended so, with this history before its entries
-  pub record IsClosedRun (sees : Caller → Caller → Bool) (P : PlainPolicy) (G : History) (store : Kept D) (lines : List Entry) (outcome : Outcome)
+  -- and the run over it ended so, behind each history that leads to where the store begins
+  pub record IsClosedRun (sees : Caller → Caller → Bool) (P : PlainPolicy) (store : Kept D) (lines : List Entry) (outcome : Outcome)
       (disk : D) (before now : Option Bytes) : Type 0 where
     pub closed : Kept D
     pub closes : Closes store closed disk
-    pub ends : EndsRun sees P (whole G store) (whole G closed) lines before now outcome
+    pub marked : IsMarkedBy outcome closed.mark
+    pub ends : (G : History) → IsFront P store G → EndsRun sees P (whole G store) (whole G closed) lines before now outcome

@@ -2,21 +2,20 @@
 use Rattle.std.specs.Prelude.{◌≡◌, ℕ, Option, Some}
 use Rattle.ucon_flow.specs.Causes.{Rose}
 use Rattle.ucon_model.specs.Document.{policy_part}
-use Rattle.ucon_model.specs.History.{History}
 use Rattle.ucon_model.specs.Plain.{Bytes}
-use Rattle.ucon_store.specs.Found.{IsFoundAs}
 use Rattle.ucon_top.specs.declared.form.Form.{Form}
 use Rattle.ucon_top.specs.declared.form.Form.TheVariants.{Play, Serve, Point}
 use Rattle.ucon_outcome.specs.declared.outcome.Outcome.{Outcome}
 use Rattle.ucon_outcome.specs.declared.outcome.Outcome.TheVariants.{Done, NoMemory, FullPoint, OldJournal}
 use Rattle.ucon_top.specs.Accepted.{IsAccepted}
+use Rattle.ucon_top.specs.Own.{IsOwnFile}
 
--- the disk tells its file, which is fresh or a journal under the policy of this text
+-- the disk tells its file, which opening sees as a fresh one or a journal under the policy of this text
 pub record IsOwnJournal (text : Bytes) (contents : Option Bytes) : Type 0 where
   pub file : Bytes
   pub told : contents ≡ Some file
-  pub history : History
-  pub found : IsFoundAs text file history
+  pub entries : ℕ
+  pub own : IsOwnFile text entries file
 
 -- a form with a journal finds one that is the document's own
 abbrev pub FindsItsJournal : Form → Bytes → Option Bytes → Type 0
@@ -25,8 +24,8 @@ FindsItsJournal Serve bytes contents = IsOwnJournal (policy_part bytes) contents
 FindsItsJournal Point bytes contents = IsOwnJournal (policy_part bytes) contents
 FindsItsJournal form bytes contents = Unit {0}
 
--- Nothing hinders a run of a form over these bytes: they are an accepted document, the journal, as the disk tells it, is fresh or the
--- document's own, and no count of faults rose, of which each stands here before the call and after it.
+-- Nothing hinders a run of a form over these bytes: they are an accepted document, the journal, as the disk tells it and opening sees it, is
+-- fresh or the document's own, and no count of faults rose, of which each stands here before the call and after it.
 pub record IsUnhindered (form : Form) (bytes : Bytes) (contents : Option Bytes) (source source' sink sink' disk disk' : ℕ) : Type 0 where
   pub accepted : IsAccepted bytes
   pub journal : FindsItsJournal form bytes contents

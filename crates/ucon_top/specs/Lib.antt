@@ -3,6 +3,7 @@ pub mod Closing
 pub mod Complete
 pub mod Ending
 pub mod Form
+pub mod Own
 pub mod Played
 pub mod Pointed
 pub mod PointEnding

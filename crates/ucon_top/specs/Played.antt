@@ -15,13 +15,14 @@ use Rattle.ucon_model.specs.StoredRun.{failed_line}
 use Rattle.ucon_syntax.specs.Policies.{accepted}
 use Rattle.ucon_store.specs.declared.fault.StoreFault.{StoreFault}
 use Rattle.ucon_store.specs.declared.fault.StoreFault.TheVariants as stores
-use Rattle.ucon_store.specs.Found.{IsFoundAs, IsFoundWith, Opens}
-use Rattle.ucon_store.specs.Opening.{HasReason}
+use Rattle.ucon_store.specs.Found.{IsFoundAs, IsFoundWith}
+use Rattle.ucon_store.specs.Opening.{HasReason, Opens}
 use Rattle.ucon_top.specs.declared.form.Form.{Form}
 use Rattle.ucon_outcome.specs.declared.outcome.Outcome.{Outcome}
 use Rattle.ucon_outcome.specs.declared.outcome.Outcome.TheVariants.{Done, SinkFault, DiskFault, Damaged, NotJournal, NoMemory, OtherPolicy}
 use Rattle.ucon_top.specs.Accepted.{HasPolicy}
 use Rattle.ucon_top.specs.Form.{output_order, sees_by}
+use Rattle.ucon_top.specs.Own.{IsOwnFile}
 use Rattle.ucon_trial.specs.Runs.{IsUnfaulted}
 use Rattle.ucon_top.specs.Stepping.{HaveOutput}
 
@@ -34,30 +35,39 @@ pub record IsFoundSince (text : Bytes) (opening H : History) (failed : Option En
 
 module _ {D : Type 0} (contents : D → Option (List ℕ)) (images : D → List ℕ → Type 0) (moment : D → ℕ)
     (images_since : D → ℕ → List ℕ → Type 0) (faults : D → ℕ) where
-  -- The answers are a legal run behind the history as which the file was found, where the disk tells it. Where a line met a disk fault the
-  -- disk's count rose by one, and otherwise it didn't. Where the disk was at rest, a crash at any moment since leaves a file that is found as
-  -- a beginning of the history that is made, which has the opening one, or as it with the line that met a disk fault. Where the disk told its
-  -- file, at rest or not, a crash now leaves one that is found as the whole, or as it with that line.
-  pub record IsPlayed (sees : Caller → Caller → Bool) (text : Bytes) (P : PlainPolicy) (old new : D) (told : List Answered) : Type 0 where
-    pub opening : History
-    pub opens : IfSome (contents old) (λ file. IsFoundAs text file opening)
+  -- The answers are a legal run behind the history as which the file was found. Where a line met a disk fault the disk's count rose by one,
+  -- and otherwise it didn't. Where the disk was at rest, a crash at any moment since leaves a file that is found as a beginning of the history
+  -- that is made, which has the opening one, or as it with the line that met a disk fault. At rest or not, a crash now leaves one that is found
+  -- as the whole, or as it with that line.
+  pub record IsPlayed (sees : Caller → Caller → Bool) (text : Bytes) (P : PlainPolicy) (file : Bytes) (opening : History) (old new : D)
+      (told : List Answered) : Type 0 where
     pub legal : IsLegalRun P sees opening told
     pub unfailed : failed_line told ≡ None → faults new ≡ faults old
     pub failed : (e : Entry) → failed_line told ≡ Some e → faults new ≡ raised (faults old)
-    pub since : (file : Bytes) → IsAtRest (contents old) (images old) file
+    pub since : IsAtRest (contents old) (images old) file
         → LeavesOnly moment images_since old new (IsFoundSince text opening (history_made opening told) (failed_line told))
-    pub now : IsSome (contents old) → (c : Bytes) → images new c → IsFoundWith text (history_made opening told) (failed_line told) c
+    pub now : (c : Bytes) → images new c → IsFoundWith text (history_made opening told) (failed_line told) c
 
-  -- the bytes are an accepted document, whose lines were played, and of the lines and their answers this is so
+  -- these lines were played behind a history, as which this file was found, and of the lines and their answers this is so
+  pub record HasRun (sees : Caller → Caller → Bool) (text : Bytes) (P : PlainPolicy) (lines : List Entry) (file : Bytes) (opening : History)
+      (old new : D) (so : List Entry → List Answered → Type 0) : Type 0 where
+    pub told : List Answered
+    pub lines_are : map (λ t. t.line) told ≡ lines
+    pub played : IsPlayed sees text P file opening old new told
+    pub is_so : so lines told
+
+  -- The bytes are an accepted document, and opening saw a fresh file, or a journal under the document's policy, where the disk told its file. Where
+  -- the file is found as a history, the document's lines were played behind that. A file that opening alone accepts has none, and nothing is said
+  -- of the answers.
   pub record IsRunOver (form : Form) (bytes : Bytes) (old new : D) (so : List Entry → List Answered → Type 0) : Type 0 where
     pub policy : PlainPolicy
     pub lines : List ScriptLine
     pub has_policy : HasPolicy bytes policy
     pub says : document_read accepted bytes ≡ Ok lines
-    pub told : List Answered
-    pub lines_are : map (λ t. t.line) told ≡ output_order form (entries_of lines)
-    pub played : IsPlayed (sees_by form) (policy_part bytes) policy old new told
-    pub is_so : so (output_order form (entries_of lines)) told
+    pub entries : ℕ
+    pub own : IfSome (contents old) (IsOwnFile (policy_part bytes) entries)
+    pub run : (file : Bytes) (opening : History) → contents old ≡ Some file → IsFoundAs (policy_part bytes) file opening
+        → HasRun (sees_by form) (policy_part bytes) policy (output_order form (entries_of lines)) file opening old new so
 
   -- the journal wasn't opened for this reason, and what was found in its file is still found there; a foreign file is as it was
   pub record IsUnopened (fault : StoreFault) (text : Bytes) (old new : D) : Type 0 where
@@ -69,6 +79,7 @@ module _ {D : Type 0} (contents : D → Option (List ℕ)) (images : D → List 
     abbrev pub HasPlayed : Form → Outcome → Bytes → D → D → K → K → Type 0
     HasPlayed form Done bytes old new before now = IsRunOver form bytes old new
         (λ lines told. (failed_line told ≡ None) × IsUnfaulted told × HaveOutput (Appends (held before) (held now)) lines told)
+        × (faults new ≡ faults old)
     HasPlayed form SinkFault bytes old new before now = IsRunOver form bytes old new (HaveOutput (AppendsPrefix (held before) (held now)))
     HasPlayed form DiskFault bytes old new before now =
         IsRunOver form bytes old new (λ lines told. IsSome (failed_line told) × HaveOutput (Appends (held before) (held now)) lines told)

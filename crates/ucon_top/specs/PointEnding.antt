@@ -1,17 +1,19 @@
 -- How the writing of a checkpoint over an open store ends, and what it leaves on the disk.
-use Rattle.std.specs.Prelude.{◌≡◌, ℕ, false, List, length, Option, Some, IfSome}
+use Rattle.std.specs.Prelude.{◌≡◌, ◌<◌, ◌+◌, ℕ, false, List, length, Option, Some, IfSome}
 use Rattle.std.specs.Io.KnownBytes.{Appends}
 use Rattle.ucon_disk.specs.Causes.{raised}
 use Rattle.ucon_disk.specs.Run.{LeavesOnly}
 use Rattle.ucon_flow.specs.Writing.{AppendsPrefix}
+use Rattle.ucon_model.specs.History.{History}
 use Rattle.ucon_model.specs.Plain.{Bytes, PlainPolicy}
 use Rattle.ucon_store.specs.Found.{IsFoundAs}
 use Rattle.ucon_store.specs.Kept.{Kept}
+use Rattle.ucon_store.specs.Whole.{IsFounded, whole}
 use Rattle.ucon_store.specs.Pointing.{IsFoundPointed}
 use Rattle.ucon_store.specs.Points.{has_points, point_places}
 use Rattle.ucon_outcome.specs.declared.outcome.Outcome.{Outcome}
 use Rattle.ucon_outcome.specs.declared.outcome.Outcome.TheVariants.{Done, SinkFault, DiskFault, NoMemory, FullPoint, OldJournal}
-use Rattle.ucon_top.specs.Pointed.{IsPointedAt, IsTooLarge, point_line}
+use Rattle.ucon_top.specs.Pointed.{IsCheckpointSize, IsPointedAt, point_line}
 
 -- how it may end
 abbrev pub IsOfPoint : Outcome → Type 0
@@ -35,16 +37,23 @@ module _ {D : Type 0} (contents : D → Option (List ℕ)) (images : D → List 
     pub inside : LeavesPointed store disk
     pub left : (file : Bytes) → contents store.disk ≡ Some file → (c : Bytes) → images disk c
         → IsFoundAs store.policy c store.entries × IsPointedAt (length store.entries) file c
-    pub unfailed : faults disk ≡ faults store.disk
+
+  -- it is so behind each history that the store is founded on
+  abbrev pub BehindEach : PlainPolicy → Kept D → (Kept D → Type 0) → Type 0
+  BehindEach P store so = (G : History) → IsFounded contents images P store G → so (whole G store)
+
+  -- the checkpoint is written, and the disk didn't fail
+  abbrev pub IsPut : PlainPolicy → Kept D → D → Type 0
+  IsPut P store disk = BehindEach P store (λ s. HasPut s disk) × (faults disk ≡ faults store.disk)
 
   -- And so it ended, where the sink held this before and holds that now. But by a disk fault, where the checkpoint wasn't written nothing was.
   module _ (P : PlainPolicy) (store : Kept D) (disk : D) (before now : Option Bytes) where
     abbrev pub EndsPoint : Outcome → Type 0
-    EndsPoint Done = HasPut store disk × Appends before now (point_line (length store.entries))
-    EndsPoint SinkFault = HasPut store disk × AppendsPrefix before now (point_line (length store.entries))
-    EndsPoint DiskFault = LeavesPointed store disk × (faults disk ≡ raised (faults store.disk))
+    EndsPoint Done = IsPut P store disk × Appends before now (point_line (store.before + length store.entries))
+    EndsPoint SinkFault = IsPut P store disk × AppendsPrefix before now (point_line (store.before + length store.entries))
+    EndsPoint DiskFault = BehindEach P store (λ s. LeavesPointed s disk) × (faults disk ≡ raised (faults store.disk))
     EndsPoint (NoMemory e) = disk ≡ store.disk
-    EndsPoint (FullPoint size) = (disk ≡ store.disk) × IsTooLarge store.policy P store.entries size
+    EndsPoint (FullPoint size) = (disk ≡ store.disk) × (16777215 < size) × BehindEach P store (λ s. IsCheckpointSize s.policy P s.entries size)
     EndsPoint OldJournal = (disk ≡ store.disk) × IfSome (contents store.disk) (λ file. has_points file ≡ false)
     EndsPoint outcome = ⊥
 

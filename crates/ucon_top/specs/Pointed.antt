@@ -1,5 +1,5 @@
 -- What writing a checkpoint over the disk of a journal leaves, and how it ends.
-use Rattle.std.specs.Prelude.{◌≡◌, ◌⊎◌, ◌<◌, ℕ, List, [], ◌∷◌, ◌++◌, length, Option, IfSome}
+use Rattle.std.specs.Prelude.{◌≡◌, ◌⊎◌, ◌<◌, ℕ, List, [], ◌∷◌, ◌++◌, length, Option, Some, IfSome}
 use Rattle.std.specs.Io.KnownBytes.{Appends}
 use Rattle.ucon_disk.specs.Causes.{raised}
 use Rattle.ucon_disk.specs.Run.{IsAtRest, LeavesOnly}
@@ -14,51 +14,53 @@ pub use Rattle.ucon_outcome.specs.FaultWords.{point_line}
 use Rattle.ucon_outcome.specs.declared.outcome.Outcome.{Outcome}
 use Rattle.ucon_outcome.specs.declared.outcome.Outcome.TheVariants.{Done, SinkFault, DiskFault, Damaged, NotJournal, NoMemory, OtherPolicy, FullPoint, OldJournal}
 use Rattle.ucon_top.specs.Accepted.{HasPolicy}
+use Rattle.ucon_top.specs.Own.{IsOwnFile}
 use Rattle.ucon_top.specs.Played.{IsUnopened}
 
 -- an image has the checkpoints of the opening file, and then one behind so many entries
 abbrev pub IsPointedAt : (entries : ℕ) (opening image : Bytes) → Type 0
 IsPointedAt entries opening image = point_places image ≡ point_places opening ++ entries ∷ []
 
--- the checkpoint of a history is longer than a record may be, and so long
-abbrev pub IsTooLarge : (text : Bytes) (P : PlainPolicy) (H : History) (size : ℕ) → Type 0
-IsTooLarge text P H size = (size ≡ length (checkpoint text P H)) × (16777215 < size)
+-- the checkpoint of a history is so long
+abbrev pub IsCheckpointSize : (text : Bytes) (P : PlainPolicy) (H : History) (size : ℕ) → Type 0
+IsCheckpointSize text P H size = size ≡ length (checkpoint text P H)
 
 module _ {D : Type 0} (contents : D → Option (List ℕ)) (images : D → List ℕ → Type 0) (moment : D → ℕ)
     (images_since : D → ℕ → List ℕ → Type 0) (faults : D → ℕ) where
-  -- The file was found as this history, where the disk told it. Where the disk was at rest, a crash at any moment since leaves a file that is
-  -- found as the same history. Where the disk told its file, at rest or not, a crash now leaves one that is found as it, and is of this kind.
-  pub record IsStillFound (text : Bytes) (opening : History) (old new : D) (leaves : (file image : Bytes) → Type 0) : Type 0 where
-    pub opens : IfSome (contents old) (λ file. IsFoundAs text file opening)
-    pub since : (file : Bytes) → IsAtRest (contents old) (images old) file → LeavesOnly moment images_since old new (λ c. IsFoundAs text c opening)
-    pub now : IfSome (contents old) (λ file. (c : Bytes) → images new c → IsFoundAs text c opening × leaves file c)
+  -- A file that was found as this history still is: where the disk was at rest, a crash at any moment since leaves one that is found as it; at
+  -- rest or not, a crash now leaves one that is found as it, and is of this kind.
+  pub record IsStillFound (text file : Bytes) (opening : History) (old new : D) (leaves : (file image : Bytes) → Type 0) : Type 0 where
+    pub since : IsAtRest (contents old) (images old) file → LeavesOnly moment images_since old new (λ c. IsFoundAs text c opening)
+    pub now : (c : Bytes) → images new c → IsFoundAs text c opening × leaves file c
 
-  -- The bytes are an accepted document, whose policy is the journal's; the file was found as a history, and still is, and of the policy, the
-  -- history and the disk's counts of faults this is so.
-  pub record IsPointOver (bytes : Bytes) (old new : D) (leaves : History → (file image : Bytes) → Type 0)
+  -- The bytes are an accepted document; where the disk told its file, opening saw so many entries in it, under the document's policy, and of their
+  -- number this is so. Where the file is found as a history, it has as many, the file is still found as it, and of the history this is so. A file
+  -- that opening alone accepts has none.
+  pub record IsPointOver (bytes : Bytes) (old new : D) (went : ℕ → Type 0) (leaves : ℕ → (file image : Bytes) → Type 0)
       (so : PlainPolicy → History → Type 0) : Type 0 where
     pub policy : PlainPolicy
     pub has_policy : HasPolicy bytes policy
-    pub history : History
-    pub still : IsStillFound (policy_part bytes) history old new (leaves history)
-    pub is_so : so policy history
+    pub entries : ℕ
+    pub own : IfSome (contents old) (IsOwnFile (policy_part bytes) entries)
+    pub goes : went entries
+    pub still : (file : Bytes) (opening : History) → contents old ≡ Some file → IsFoundAs (policy_part bytes) file opening
+        → (length opening ≡ entries) × IsStillFound (policy_part bytes) file opening old new (leaves entries) × so policy opening
 
   -- every image has the one checkpoint more, and the disk didn't fail
   abbrev pub HasPoint : Bytes → D → D → (Bytes → Type 0) → Type 0
   HasPoint bytes old new went =
-      IsPointOver bytes old new (λ H. IsPointedAt (length H)) (λ P H. (faults new ≡ faults old) × went (point_line (length H)))
+      IsPointOver bytes old new (λ entries. (faults new ≡ faults old) × went (point_line entries)) IsPointedAt (λ P H. Unit {0})
 
   -- no image has one more, and the disk didn't fail
-  abbrev pub HasNoPoint : Bytes → D → D → (PlainPolicy → History → Type 0) → Type 0
-  HasNoPoint bytes old new so =
-      IsPointOver bytes old new (λ H file c. point_places c ≡ point_places file) (λ P H. (faults new ≡ faults old) × so P H)
+  abbrev pub HasNoPoint : Bytes → D → D → Type 0 → (PlainPolicy → History → Type 0) → Type 0
+  HasNoPoint bytes old new why so =
+      IsPointOver bytes old new (λ entries. (faults new ≡ faults old) × why) (λ entries file c. point_places c ≡ point_places file) so
 
   -- each image may have one more
   abbrev pub MayHavePoint : Bytes → D → D → Type 0
   MayHavePoint bytes old new =
-      IsPointOver bytes old new
-      (λ H file c. (point_places c ≡ point_places file) ⊎ IsPointedAt (length H) file c)
-      (λ P H. faults new ≡ raised (faults old))
+      IsPointOver bytes old new (λ entries. faults new ≡ raised (faults old))
+      (λ entries file c. (point_places c ≡ point_places file) ⊎ IsPointedAt entries file c) (λ P H. Unit {0})
 
   module _ {K : Type 0} (held : K → Option Bytes) where
     -- What holds of the disk, and of the sink, by how the writing of a checkpoint ended. Otherwise than by the causes named here it made no
@@ -66,8 +68,9 @@ module _ {D : Type 0} (contents : D → Option (List ℕ)) (images : D → List 
     abbrev pub HasPointed : Outcome → Bytes → D → D → K → K → Type 0
     HasPointed Done bytes old new before now = HasPoint bytes old new (Appends (held before) (held now))
     HasPointed SinkFault bytes old new before now = HasPoint bytes old new (AppendsPrefix (held before) (held now))
-    HasPointed (FullPoint size) bytes old new before now = HasNoPoint bytes old new (λ P H. IsTooLarge (policy_part bytes) P H size)
-    HasPointed OldJournal bytes old new before now = HasNoPoint bytes old new (λ P H. IfSome (contents old) IsOld)
+    HasPointed (FullPoint size) bytes old new before now =
+        HasNoPoint bytes old new (16777215 < size) (λ P H. IsCheckpointSize (policy_part bytes) P H size)
+    HasPointed OldJournal bytes old new before now = HasNoPoint bytes old new (IfSome (contents old) IsOld) (λ P H. Unit {0})
     HasPointed DiskFault bytes old new before now =
         (MayHavePoint bytes old new ⊎ IsUnopened contents images moment images_since faults stores.DiskFault (policy_part bytes) old new)
         × (now ≡ before)
@@ -78,7 +81,7 @@ module _ {D : Type 0} (contents : D → Option (List ℕ)) (images : D → List 
         IsUnopened contents images moment images_since faults (stores.OtherPolicy place) (policy_part bytes) old new
     HasPointed (NoMemory e) bytes old new before now =
         (new ≡ old) ⊎ IsUnopened contents images moment images_since faults (stores.NoMemory e) (policy_part bytes) old new
-        ⊎ HasNoPoint bytes old new (λ P H. Unit {0})
+        ⊎ HasNoPoint bytes old new (Unit {0}) (λ P H. Unit {0})
     HasPointed outcome bytes old new before now = new ≡ old
 
     -- so it was done over some bytes, which are those of the input where the source tells them

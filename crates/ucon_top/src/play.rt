@@ -2,11 +2,9 @@
 
 ghost use Rattle.std.specs.Prelude.{◌≡◌, ◌⊎◌, ◌≤◌, length, map, Some, None};
 ghost use Rattle.ucon_disk.specs.Causes.{raised};
-ghost use Rattle.ucon_model.specs.History.{History};
 ghost use Rattle.ucon_model.specs.LegalRun.{in_text_order};
 ghost use Rattle.ucon_model.specs.Plain.{PlainPolicy};
 ghost use Rattle.ucon_syntax.specs.Policies.{accepted};
-ghost use Rattle.ucon_store.specs.Whole.{IsFront};
 ghost use Rattle.ucon_top.specs.Accepted.{IsAccepted, IsRefusedBy};
 ghost use Rattle.ucon_top.specs.Closing.{IsClosedRun, IsOfRun, IsWritten};
 ghost use Rattle.ucon_top.specs.Ending.{IsCounted, IsOfAccepted, IsOfDocument, IsUntouched, IsUnwritten, MayEnd, status_of};
@@ -67,8 +65,8 @@ fn play_lines<E: Engine, K: Sink, D: Disk>(
     requires { store.mark ≡ None }
     ensures status { result.status ≡ status_of result.outcome }
     ensures of_run { IsOfRun result.outcome }
-    ensures run { (P : PlainPolicy) (G : History) → accepted store.policy ≡ Some P → IsFront P store G
-        → IsClosedRun D.contents D.images D.moment D.images_since D.faults in_text_order P G store (map entry_of lines.now) result.outcome result.disk
+    ensures run { (P : PlainPolicy) → accepted store.policy ≡ Some P
+        → IsClosedRun D.contents D.images D.moment D.images_since D.faults in_text_order P store (map entry_of lines.now) result.outcome result.disk
         (K.contents out.old) (K.contents out.new) }
     ensures sink { IsCounted result.outcome Outcome.SinkFault (K.faults out.old) (K.faults out.new) }
     ensures unwritten { IsUnwritten result.outcome → out.new ≡ out.old }

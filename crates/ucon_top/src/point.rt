@@ -2,13 +2,14 @@
 
 ghost use Rattle.std.specs.Prelude.{◌≡◌, ◌⊎◌, ◌≤◌, ◌+◌, false, length, None, Some, IfOk, IfErr};
 ghost use Rattle.ucon_disk.specs.Causes.{raised};
-ghost use Rattle.ucon_model.specs.History.{History};
+ghost use Rattle.ucon_model.specs.Action.{Trace};
 ghost use Rattle.ucon_model.specs.Plain.{PlainPolicy};
-ghost use Rattle.ucon_store.specs.Whole.{IsFounded, whole};
+ghost use Rattle.ucon_store.specs.Starts.{IsStart};
+ghost use Rattle.ucon_syntax.specs.Policies.{accepted};
 ghost use Rattle.ucon_top.specs.Accepted.{IsAccepted, IsRefusedBy};
 ghost use Rattle.ucon_top.specs.Closing.{IsWritten};
 ghost use Rattle.ucon_top.specs.Ending.{IsCounted, IsOfAccepted, IsOfDocument, IsUntouched, IsUnwritten, status_of};
-ghost use Rattle.ucon_top.specs.PointEnding.{EndsPoint, HasPut, IsOfNoPoint, IsOfPoint};
+ghost use Rattle.ucon_top.specs.PointEnding.{EndsPoint, IsOfNoPoint, IsOfPoint, IsPut};
 ghost use Rattle.ucon_top.specs.Pointed.{HasPointed, point_line};
 
 use crate::document::read_accepted;
@@ -58,10 +59,11 @@ fn point_opened<E: Engine, K: Sink, D: Disk>(
     store: Store<E, D>,
     out: &mut K,
 ) -> Ended<D>
+    requires { store.mark ≡ None }
     ensures status { result.status ≡ status_of result.outcome }
     ensures of_point { IsOfPoint result.outcome }
-    ensures ends { (P : PlainPolicy) (G : History) → IsFounded D.contents D.images P store G
-        → EndsPoint D.contents D.images D.moment D.images_since D.faults P (whole G store) result.disk (K.contents out.old) (K.contents out.new)
+    ensures ends { (P : PlainPolicy) (T : Trace) → accepted store.policy ≡ Some P → IsStart P store.point store.before T
+        → EndsPoint D.contents D.images D.moment D.images_since D.faults P store result.disk (K.contents out.old) (K.contents out.new)
         result.outcome }
     ensures sink { IsCounted result.outcome Outcome.SinkFault (K.faults out.old) (K.faults out.new) }
     ensures unwritten { IsUnwritten result.outcome → out.new ≡ out.old }
@@ -78,12 +80,12 @@ fn put_point<E: Engine, D: Disk>(
     alloc: Global,
     store: Store<E, D>,
 ) -> Result<(D, u64), (D, Outcome)>
+    requires { store.mark ≡ None }
     ensures entries { IfOk result (λ r. r.1 ≡ store.before + length store.entries) }
-    ensures put { IfOk result (λ r. (P : PlainPolicy) (G : History) → IsFounded D.contents D.images P store G
-        → HasPut D.contents D.images D.moment D.images_since D.faults (whole G store) r.0) }
+    ensures put { IfOk result (λ r. (P : PlainPolicy) → IsPut D.contents D.images D.moment D.images_since D.faults P store r.0) }
     ensures of_none { IfErr result (λ e. IsOfNoPoint e.1) }
-    ensures ends { IfErr result (λ e. (P : PlainPolicy) (G : History) → IsFounded D.contents D.images P store G
-        → EndsPoint D.contents D.images D.moment D.images_since D.faults P (whole G store) e.0 None None e.1) }
+    ensures ends { IfErr result (λ e. (P : PlainPolicy) (T : Trace) → accepted store.policy ≡ Some P → IsStart P store.point store.before T
+        → EndsPoint D.contents D.images D.moment D.images_since D.faults P store e.0 None None e.1) }
 {
     let (store, pointed) = match store.point(alloc) {
         Ok(answer) => answer,

@@ -83,8 +83,8 @@ fn serve_lines<E: Engine + Send, K: Sink, D: Disk + Send, G: Gate + Sync, R: Thr
     requires { store.mark ≡ None }
     ensures status { result.status ≡ status_of result.outcome }
     ensures of_run { IsOfRun result.outcome }
-    ensures run { (P : PlainPolicy) (H : History) → accepted store.policy ≡ Some P → IsFront P store H
-        → IsClosedRun D.contents D.images D.moment D.images_since D.faults own_answers P H store (by_client (map entry_of lines.now))
+    ensures run { (P : PlainPolicy) → accepted store.policy ≡ Some P
+        → IsClosedRun D.contents D.images D.moment D.images_since D.faults own_answers P store (by_client (map entry_of lines.now))
         result.outcome result.disk (K.contents out.old) (K.contents out.new) }
     ensures sink { IsCounted result.outcome Outcome.SinkFault (K.faults out.old) (K.faults out.new) }
     ensures unwritten { IsUnwritten result.outcome → out.new ≡ out.old }
@@ -111,9 +111,9 @@ fn end_served<E: Engine, K: Sink, D: Disk>(
     requires clients { Each (λ t. t.line.caller.0 < 64) (told_in parts.now) }
     ensures status { result.status ≡ status_of result.outcome }
     ensures of_run { IsOfRun result.outcome }
-    ensures run { (P : PlainPolicy) (H : History) (opened : Kept D) → Stays D.contents D.images D.moment D.images_since D.faults opened store
-        → IsRunBetween own_answers P (whole H opened) (whole H store) (told_in parts.now)
-        → IsClosedRun D.contents D.images D.moment D.images_since D.faults own_answers P H opened (map (λ t. t.line) (told_in parts.now))
+    ensures run { (P : PlainPolicy) (opened : Kept D) → Stays D.contents D.images D.moment D.images_since D.faults opened store
+        → ((H : History) → IsFront P opened H → IsRunBetween own_answers P (whole H opened) (whole H store) (told_in parts.now))
+        → IsClosedRun D.contents D.images D.moment D.images_since D.faults own_answers P opened (map (λ t. t.line) (told_in parts.now))
         result.outcome result.disk (K.contents out.old) (K.contents out.new) }
     ensures sink { IsCounted result.outcome Outcome.SinkFault (K.faults out.old) (K.faults out.new) }
     ensures unwritten { IsUnwritten result.outcome → out.new ≡ out.old }

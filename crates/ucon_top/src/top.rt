@@ -27,6 +27,7 @@ use ucon_disk::Disk;
 use ucon_flow::{Sink, Source, read_all, write_all};
 use ucon_outcome::{Ended, Outcome};
 use ucon_script::generate;
+use ucon_store::opening_sees_one_thing;
 
 /// The most bytes of input.
 const LIMIT: usize = 4_194_304;
@@ -78,16 +79,16 @@ pub fn run<S: Source, K: Sink, D: Disk + Send, G: Gate + Sync, R: Threads + Wait
     ensures unread { IfSome (form_of (map (λ w. string_bytes w) words.now)) (λ form. (ReadsInput form → ⊥) → input.new ≡ input.old) }
     ensures unwritten { IsUnwritten result.outcome → out.new ≡ out.old }
 
-    // Of `play` and `serve`, by how they ended: the bytes written are the output of a legal run behind the history as which the journal was
-    // found, a crash since leaves a beginning of the history that is made, and one as the call ends the whole; or the journal wasn't opened,
-    // for this reason, and what was found in its file is still found.
+    // Of `play` and `serve`, by how they ended: where the journal is found as a history, the bytes written are the output of a legal run behind
+    // it, a crash since leaves a beginning of the history that is made, and one as the call ends the whole; or the journal wasn't opened, for
+    // this reason, and what was found in its file is still found.
     ensures played { IfSome (form_of (map (λ w. string_bytes w) words.now)) (λ form. HasJournal form
         → HasPlayedInput D.contents D.images D.moment D.images_since D.faults K.contents form result.outcome (S.left input.old) disk result.disk
         out.old out.new) }
 
-    // Of `point`, by how it ended: the bytes written are the line with the number of entries, and a crash since leaves a file that is found as
-    // the history as which the journal was found, and as the call ends one with the checkpoint more; or no checkpoint was written, for this
-    // reason, or the journal wasn't opened.
+    // Of `point`, by how it ended: the bytes written are the line with the number of entries, and where the journal is found as a history a crash
+    // since leaves a file that is found as it, and as the call ends one with the checkpoint more; or no checkpoint was written, for this reason,
+    // or the journal wasn't opened.
     ensures pointed { form_of (map (λ w. string_bytes w) words.now) ≡ Some Form.Point
         → HasPointedInput D.contents D.images D.moment D.images_since D.faults K.contents result.outcome (S.left input.old) disk result.disk
         out.old out.new }
@@ -163,16 +164,16 @@ pub fn run_alone<S: Source, K: Sink, D: Disk>(
     ensures unread { IfSome (form_of (map (λ w. string_bytes w) words.now)) (λ form. (ReadsInput form → ⊥) → input.new ≡ input.old) }
     ensures unwritten { IsUnwritten result.outcome → out.new ≡ out.old }
 
-    // Of `play`, by how it ended: the bytes written are the output of a legal run behind the history as which the journal was found, a crash
+    // Of `play`, by how it ended: where the journal is found as a history, the bytes written are the output of a legal run behind it, a crash
     // since leaves a beginning of the history that is made, and one as the call ends the whole; or the journal wasn't opened, for this reason,
     // and what was found in its file is still found.
     ensures played { IfSome (form_of (map (λ w. string_bytes w) words.now)) (λ form. HasJournal form
         → HasPlayedInput D.contents D.images D.moment D.images_since D.faults K.contents form result.outcome (S.left input.old) disk result.disk
         out.old out.new) }
 
-    // Of `point`, by how it ended: the bytes written are the line with the number of entries, and a crash since leaves a file that is found as
-    // the history as which the journal was found, and as the call ends one with the checkpoint more; or no checkpoint was written, for this
-    // reason, or the journal wasn't opened.
+    // Of `point`, by how it ended: the bytes written are the line with the number of entries, and where the journal is found as a history a crash
+    // since leaves a file that is found as it, and as the call ends one with the checkpoint more; or no checkpoint was written, for this reason,
+    // or the journal wasn't opened.
     ensures pointed { form_of (map (λ w. string_bytes w) words.now) ≡ Some Form.Point
         → HasPointedInput D.contents D.images D.moment D.images_since D.faults K.contents result.outcome (S.left input.old) disk result.disk
         out.old out.new }
@@ -193,6 +194,7 @@ pub fn run_alone<S: Source, K: Sink, D: Disk>(
         (D.faults disk) (D.faults result.disk) → IsComplete result.outcome)) }
 {
     accepted_documents_are_not_refused();
+    opening_sees_one_thing();
     let Some(form) = read_form(words) else {
         return Ended::by(Outcome::Usage, disk);
     };
@@ -262,6 +264,7 @@ fn serve_input<S: Source, K: Sink, D: Disk + Send, G: Gate + Sync, R: Threads + 
         (D.faults disk) (D.faults result.disk) → IsComplete result.outcome) }
 {
     accepted_documents_are_not_refused();
+    opening_sees_one_thing();
     match document_bytes(alloc, Form::Serve, input) {
         Ok(bytes) => serve::<Monitor, K, D, G, R>(rt, alloc, &bytes, out, disk, gate),
         Err(outcome) => Ended::by(outcome, disk),

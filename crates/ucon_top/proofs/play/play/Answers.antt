@@ -1,4 +1,4 @@
-use Rattle.std.proofs.Common.{◌≡◌, List, [], map, refl, sym, ap, subst, ◌∙◌}
+use Rattle.std.proofs.Common.{◌≡◌, List, map, refl, sym, ap, subst, ◌∙◌}
 use Rattle.std.specs.Prelude.{Some}
 use Rattle.std.proofs.lemmas.Simd.{map-map}
 use Rattle.ucon_model.specs.declared.command.Entry.{Entry}
@@ -10,7 +10,7 @@ use Rattle.ucon_top.specs.declared.form.Form.TheVariants.{Play}
 use Rattle.ucon_outcome.specs.declared.outcome.Outcome.{Outcome}
 use Rattle.ucon_trial.specs.OneAnswer.{entry_of}
 use Rattle.ucon_top.specs.Closing.{IsClosedRun}
-use Rattle.ucon_top.proofs.Playing.{IsOpened, ends_run, run_raised}
+use Rattle.ucon_top.proofs.Playing.{IsOpened, ends_run, opened_so, run_raised}
 use Rattle.ucon_top.proofs.play.play.Goals as goal
 
 pub open-requires : goal.open-requires
@@ -29,32 +29,21 @@ returns-in-Ok-open-clause-played g c =
     let some = c.in-Ok.ensures.policy in
     let P = some.policy in
     let lines = lines_spelled c.in-Ok.script in
-    let founded = told.founded P (ap accepted c.policy_part.ensures
-    ∙ (c.accepted_texts_spell_typed_policies.ensures (policy_part bytes) P).1 (some.has_policy.spelled, some.has_policy.typed)) in
-    let opened : IsOpened g.D.Disk.contents g.D.Disk.images g.D.Disk.moment g.D.Disk.images_since g.D.Disk.faults text c.args.disk [] store = record {
-      policy = told.store.0;
-      unmarked = told.store.2;
-      found = told.found;
-      images_kept = told.images;
-      at_rest = told.at_rest;
-      holds = told.holds;
-      unfailed = told.unfailed;
-      P = P;
-      founded = founded;
-      tells = λ some. told.tells ∙ some;
-    } in
-    let reads : accepted store.policy ≡ Some P =
-    ap accepted (told.store.0 ∙ c.policy_part.ensures) ∙ (c.accepted_texts_spell_typed_policies.ensures (policy_part bytes) P).1 (some.has_policy.spelled, some.has_policy.typed) in
+    let accepts : accepted text ≡ Some P =
+    ap accepted c.policy_part.ensures ∙ (c.accepted_texts_spell_typed_policies.ensures (policy_part bytes) P).1 (some.has_policy.spelled, some.has_policy.typed) in
+    let opened : IsOpened g.D.Disk.contents g.D.Disk.images g.D.Disk.moment g.D.Disk.images_since g.D.Disk.faults P text c.args.disk store =
+    opened_so g.D.Disk.contents g.D.Disk.images g.D.Disk.moment g.D.Disk.images_since g.D.Disk.faults P text c.args.disk store accepts told.store told.images told.unfailed told.tells
+    told.leads told.seen told.founded in
     let same : map entry_of c.slice.result.now ≡ entries_of lines = ap (map entry_of) c.slice.ensures ∙ sym (map-map said_entry spelled_line c.in-Ok.script.lines.items) in
-    let run = subst (λ (es : List Entry). IsClosedRun g.D.Disk.contents g.D.Disk.images g.D.Disk.moment g.D.Disk.images_since g.D.Disk.faults in_text_order P [] store es
-    c.play_lines.result.outcome c.play_lines.result.disk (g.K.Sink.contents c.args.out.now) (g.K.Sink.contents c.play_lines.new.out)) same (c.play_lines.ensures.run P [] reads founded.front) in
-    ends_run g.D.Disk.contents g.D.Disk.images g.D.Disk.moment g.D.Disk.images_since g.D.Disk.faults text c.args.disk [] store opened Play bytes P lines c.policy_part.ensures some.has_policy
-    c.in-Ok.ensures.says c.play_lines.result.disk g.K.Sink.contents c.args.out.now c.play_lines.new.out c.play_lines.result.outcome run
+    let run = subst (λ (es : List Entry). IsClosedRun g.D.Disk.contents g.D.Disk.images g.D.Disk.moment g.D.Disk.images_since g.D.Disk.faults in_text_order P store es
+    c.play_lines.result.outcome c.play_lines.result.disk (g.K.Sink.contents c.args.out.now) (g.K.Sink.contents c.play_lines.new.out)) same
+    (c.play_lines.ensures.run P (ap accepted told.store.0 ∙ accepts)) in
+    ends_run g.D.Disk.contents g.D.Disk.images g.D.Disk.moment g.D.Disk.images_since g.D.Disk.faults P text c.args.disk store opened Play bytes lines c.policy_part.ensures some.has_policy
+    c.in-Ok.ensures.says c.play_lines.result.disk g.K.Sink.contents c.args.out.now c.play_lines.new.out c.play_lines.result.outcome c.play_lines.ensures.of_run run
 
 pub returns-in-Ok-open-clause-fault : goal.returns-in-Ok-open-clause-fault
 returns-in-Ok-open-clause-fault g c = λ is.
     let bytes = c.args.bytes.now in
-    let text = c.policy_part.result.now in
     let store = c.in-Ok-open.store in
     let told = c.in-Ok-open.ensures in
     let some = c.in-Ok.ensures.policy in
@@ -62,8 +51,7 @@ returns-in-Ok-open-clause-fault g c = λ is.
     let lines = map entry_of c.slice.result.now in
     let reads : accepted store.policy ≡ Some P =
     ap accepted (told.store.0 ∙ c.policy_part.ensures) ∙ (c.accepted_texts_spell_typed_policies.ensures (policy_part bytes) P).1 (some.has_policy.spelled, some.has_policy.typed) in
-    let front = (told.founded P (ap accepted (sym told.store.0) ∙ reads)).front in
-    let run = subst (λ (o : Outcome). IsClosedRun g.D.Disk.contents g.D.Disk.images g.D.Disk.moment g.D.Disk.images_since g.D.Disk.faults in_text_order P [] store lines
-    o c.play_lines.result.disk (g.K.Sink.contents c.args.out.now) (g.K.Sink.contents c.play_lines.new.out)) is (c.play_lines.ensures.run P [] reads front) in
-    run_raised g.D.Disk.contents g.D.Disk.images g.D.Disk.moment g.D.Disk.images_since g.D.Disk.faults in_text_order P [] c.args.disk store told.store.2 told.unfailed lines
+    let run = subst (λ (o : Outcome). IsClosedRun g.D.Disk.contents g.D.Disk.images g.D.Disk.moment g.D.Disk.images_since g.D.Disk.faults in_text_order P store lines
+    o c.play_lines.result.disk (g.K.Sink.contents c.args.out.now) (g.K.Sink.contents c.play_lines.new.out)) is (c.play_lines.ensures.run P reads) in
+    run_raised g.D.Disk.contents g.D.Disk.images g.D.Disk.moment g.D.Disk.images_since g.D.Disk.faults in_text_order P c.args.disk store told.store.2 told.unfailed lines
     c.play_lines.result.disk (g.K.Sink.contents c.args.out.now) (g.K.Sink.contents c.play_lines.new.out) run

@@ -5,14 +5,14 @@ use Rattle.ucon_model.specs.Plain.{Bytes}
 use Rattle.ucon_outcome.specs.declared.outcome.Outcome.{Outcome}
 use Rattle.ucon_outcome.specs.declared.outcome.Outcome.TheVariants.{SinkFault}
 use Rattle.ucon_top.specs.Ending.{IsCounted}
-use Rattle.ucon_top.specs.Closing.{EndsRun, IsWritten}
+use Rattle.ucon_top.specs.Closing.{EndsRun, IsMarkedBy, IsWritten}
 use Rattle.ucon_store.specs.Whole.{whole}
 use Rattle.ucon_trial.specs.OneAnswer.{entry_of}
-use Rattle.ucon_top.proofs.Closing.{counted, ends_so}
+use Rattle.ucon_top.proofs.Closing.{counted, ends_so, marked_so}
 use Rattle.ucon_top.proofs.play.play_lines.Goals as goal
 
 pub returns-in-Ok-clause-run : goal.returns-in-Ok-clause-run
-returns-in-Ok-clause-run g c = λ P G accepts front.
+returns-in-Ok-clause-run g c = λ P accepts.
     let store = c.args.store in
     let closed = c.steps_text-text.new.store in
     let lines = map entry_of c.args.lines.now in
@@ -30,12 +30,14 @@ returns-in-Ok-clause-run g c = λ P G accepts front.
         stays = c.steps_text-text.ensures.stays;
         disk_is = c.by.ensures.disk ∙ c.close-disk.ensures.disk;
       };
-      ends = subst (λ (o : Outcome). EndsRun in_text_order P (whole G store) (whole G closed) lines before now o) (sym c.by.ensures.outcome)
+      marked = subst (λ (o : Outcome). IsMarkedBy o closed.mark) (sym c.by.ensures.outcome)
+          (marked_so c.write_output.result closed.mark c.in-Ok.text.items stopped before now failed fails is_stopped written);
+      ends = λ G front. subst (λ (o : Outcome). EndsRun in_text_order P (whole G store) (whole G closed) lines before now o) (sym c.by.ensures.outcome)
           (ends_so in_text_order P (whole G store) (whole G closed) lines c.in-Ok.text.items stopped before now failed fails (c.in-Ok.ensures.text P G accepts front) is_stopped c.write_output.result written);
     }
 
 pub returns-in-Err-clause-run : goal.returns-in-Err-clause-run
-returns-in-Err-clause-run g c = λ P G accepts front.
+returns-in-Err-clause-run g c = λ P accepts.
     let store = c.args.store in
     let closed = c.steps_text-text.new.store in
     let lines = map entry_of c.args.lines.now in
@@ -46,7 +48,8 @@ returns-in-Err-clause-run g c = λ P G accepts front.
         stays = c.steps_text-text.ensures.stays;
         disk_is = c.by-in-Err.ensures.disk ∙ c.close-disk.ensures.disk;
       };
-      ends = subst (λ (o : Outcome). EndsRun in_text_order P (whole G store) (whole G closed) lines before before o) (sym c.by-in-Err.ensures.outcome) (c.in-Err.ensures.no_memory P G accepts front);
+      marked = subst (λ (o : Outcome). IsMarkedBy o closed.mark) (sym c.by-in-Err.ensures.outcome) tt;
+      ends = λ G front. subst (λ (o : Outcome). EndsRun in_text_order P (whole G store) (whole G closed) lines before before o) (sym c.by-in-Err.ensures.outcome) (c.in-Err.ensures.no_memory P G accepts front);
     }
 
 pub returns-in-Ok-clause-sink : goal.returns-in-Ok-clause-sink

@@ -1,11 +1,11 @@
-use Rattle.std.proofs.Common.{◌≡◌, [], refl, sym, ap, ◌∙◌, subst}
+use Rattle.std.proofs.Common.{◌≡◌, refl, ap, ◌∙◌, subst}
 use Rattle.std.specs.Prelude.{Some}
 use Rattle.ucon_model.specs.Document.{policy_part}
-use Rattle.ucon_store.specs.Whole.{whole}
+use Rattle.ucon_model.specs.Plain.{Bytes}
 use Rattle.ucon_syntax.specs.Policies.{accepted}
 use Rattle.ucon_outcome.specs.declared.outcome.Outcome.{Outcome}
 use Rattle.ucon_top.specs.PointEnding.{EndsPoint}
-use Rattle.ucon_top.proofs.Playing.{IsOpened}
+use Rattle.ucon_top.proofs.Playing.{IsOpened, opened_so}
 use Rattle.ucon_disk.specs.Causes.{raised}
 use Rattle.ucon_top.proofs.Pointing.{HasMoments, pointed}
 use Rattle.ucon_top.proofs.point.point.Goals as goal
@@ -31,24 +31,17 @@ returns-in-Ok-open-clause-pointed g c =
     let moment = g.D.Disk.moment in
     let images_since = g.D.Disk.images_since in
     let faults = g.D.Disk.faults in
-    let founded = told.founded P (ap accepted is_text
-    ∙ (c.accepted_texts_spell_typed_policies.ensures text P).1 (some.has_policy.spelled, some.has_policy.typed)) in
-    let opened : IsOpened contents images moment images_since faults text c.args.disk [] store = rw (sym is_text) (record {
-      policy = told.store.0;
-      unmarked = told.store.2;
-      found = told.found;
-      images_kept = told.images;
-      at_rest = told.at_rest;
-      holds = told.holds;
-      unfailed = told.unfailed;
-      P = P;
-      founded = founded;
-      tells = λ some. told.tells ∙ some;
-    }) in
+    let accepts : accepted c.policy_part.result.now ≡ Some P =
+    ap accepted is_text ∙ (c.accepted_texts_spell_typed_policies.ensures text P).1 (some.has_policy.spelled, some.has_policy.typed) in
+    let opened : IsOpened contents images moment images_since faults P text c.args.disk store =
+    subst (λ (t : Bytes). IsOpened contents images moment images_since faults P t c.args.disk store) is_text
+    (opened_so contents images moment images_since faults P c.policy_part.result.now c.args.disk store accepts told.store told.images told.unfailed told.tells told.leads told.seen told.founded) in
+    let start = told.leads P accepts in
     let laws = g.met.D.Disk in
     let moments : HasMoments images moment images_since = record { counts_now = laws.counts_now; only_now = laws.only_now } in
-    pointed contents images moment images_since faults moments bytes P some.has_policy c.args.disk [] store opened told.places told.old g.K.Sink.contents c.args.out.now c.point_opened.new.out
-    c.point_opened.result.disk c.point_opened.result.outcome c.point_opened.ensures.failed (c.point_opened.ensures.ends P [] founded)
+    pointed contents images moment images_since faults moments bytes P some.has_policy c.args.disk store opened told.places (λ before now was is none. (told.old before now was is).0 none) g.K.Sink.contents c.args.out.now c.point_opened.new.out
+    c.point_opened.result.disk c.point_opened.result.outcome c.point_opened.ensures.failed
+    (c.point_opened.ensures.ends P start.0 (ap accepted told.store.0 ∙ accepts) start.1)
 
 pub returns-in-Ok-open-clause-fault : goal.returns-in-Ok-open-clause-fault
 returns-in-Ok-open-clause-fault g c = λ is.
@@ -57,8 +50,10 @@ returns-in-Ok-open-clause-fault g c = λ is.
     let told = c.in-Ok-open.ensures in
     let some = c.in-Ok.ensures.policy in
     let P = some.policy in
-    let founded = told.founded P (ap accepted c.policy_part.ensures
-    ∙ (c.accepted_texts_spell_typed_policies.ensures text P).1 (some.has_policy.spelled, some.has_policy.typed)) in
-    let ends = subst (λ (o : Outcome). EndsPoint g.D.Disk.contents g.D.Disk.images g.D.Disk.moment g.D.Disk.images_since g.D.Disk.faults P (whole [] store) c.point_opened.result.disk
-    (g.K.Sink.contents c.args.out.now) (g.K.Sink.contents c.point_opened.new.out) o) is (c.point_opened.ensures.ends P [] founded) in
+    let accepts : accepted c.policy_part.result.now ≡ Some P =
+    ap accepted c.policy_part.ensures ∙ (c.accepted_texts_spell_typed_policies.ensures text P).1 (some.has_policy.spelled, some.has_policy.typed) in
+    let start = told.leads P accepts in
+    let ends = subst (λ (o : Outcome). EndsPoint g.D.Disk.contents g.D.Disk.images g.D.Disk.moment g.D.Disk.images_since g.D.Disk.faults P store c.point_opened.result.disk
+    (g.K.Sink.contents c.args.out.now) (g.K.Sink.contents c.point_opened.new.out) o) is
+    (c.point_opened.ensures.ends P start.0 (ap accepted told.store.0 ∙ accepts) start.1) in
     ends.1 ∙ ap raised told.unfailed

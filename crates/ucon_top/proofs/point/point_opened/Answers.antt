@@ -1,5 +1,4 @@
-use Rattle.std.proofs.Common.{◌≡◌, ℕ, ◌+◌, ◌++◌, length, length-append, sym, ap, subst, ◌∙◌}
-use Rattle.ucon_store.specs.Whole.{whole}
+use Rattle.std.proofs.Common.{sym, subst, ◌∙◌}
 use Rattle.ucon_outcome.specs.declared.outcome.Outcome.{Outcome}
 use Rattle.ucon_outcome.specs.declared.outcome.Outcome.TheVariants.{SinkFault}
 use Rattle.ucon_top.specs.Ending.{IsCounted}
@@ -17,21 +16,19 @@ returns-in-Ok-clause-failed g c = λ is.
     absurd ((of_told c.tell_point.result _ _ _ _ _ c.tell_point.ensures).1 (sym c.by.ensures.outcome ∙ is))
 
 pub returns-in-Ok-clause-ends : goal.returns-in-Ok-clause-ends
-returns-in-Ok-clause-ends g c = λ P G f.
-    let count : c.in-Ok.entries ≡ length (G ++ c.args.store.entries) =
-    c.in-Ok.ensures.entries ∙ sym (length-append G c.args.store.entries ∙ ap (λ (n : ℕ). n + length c.args.store.entries) f.front.count) in
+returns-in-Ok-clause-ends g c = λ P T accepts starts.
     rw (c.by.ensures.outcome, c.by.ensures.disk) (
-    told_end g.D.Disk.contents g.D.Disk.images g.D.Disk.moment g.D.Disk.images_since g.D.Disk.faults P (whole G c.args.store) c.in-Ok.disk (g.K.Sink.contents c.args.out.now)
-    (g.K.Sink.contents c.tell_point.new.out) (g.K.Sink.faults c.args.out.now) (g.K.Sink.faults c.tell_point.new.out) c.tell_point.result c.in-Ok.entries count
-    (c.in-Ok.ensures.put P G f) c.tell_point.ensures
+    told_end g.D.Disk.contents g.D.Disk.images g.D.Disk.moment g.D.Disk.images_since g.D.Disk.faults P c.args.store c.in-Ok.disk (g.K.Sink.contents c.args.out.now)
+    (g.K.Sink.contents c.tell_point.new.out) (g.K.Sink.faults c.args.out.now) (g.K.Sink.faults c.tell_point.new.out) c.tell_point.result c.in-Ok.entries c.in-Ok.ensures.entries
+    (c.in-Ok.ensures.put P) c.tell_point.ensures
     )
 
 pub returns-in-Err-clause-ends : goal.returns-in-Err-clause-ends
-returns-in-Err-clause-ends g c = λ P G f.
+returns-in-Err-clause-ends g c = λ P T accepts starts.
     let was = g.K.Sink.contents c.args.out.now in
     rw (c.by-in-Err.ensures.outcome, c.by-in-Err.ensures.disk) (
-    same_end g.D.Disk.contents g.D.Disk.images g.D.Disk.moment g.D.Disk.images_since g.D.Disk.faults P (whole G c.args.store) c.in-Err.disk was was c.in-Err.outcome c.in-Err.ensures.of_none
-    (c.in-Err.ensures.ends P G f)
+    same_end g.D.Disk.contents g.D.Disk.images g.D.Disk.moment g.D.Disk.images_since g.D.Disk.faults P c.args.store c.in-Err.disk was was c.in-Err.outcome c.in-Err.ensures.of_none
+    (c.in-Err.ensures.ends P T accepts starts)
     )
 
 pub returns-in-Ok-clause-sink : goal.returns-in-Ok-clause-sink

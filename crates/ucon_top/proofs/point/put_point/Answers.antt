@@ -1,15 +1,16 @@
 use Rattle.std.proofs.Common.{◌≡◌, None, sym, ap, ◌∙◌, subst}
-use Rattle.ucon_model.specs.History.{trace}
+use Rattle.std.specs.Prelude.{is_some}
+use Rattle.ucon_model.specs.Action.{Trace}
 use Rattle.ucon_store.specs.Kept.{Kept}
 use Rattle.ucon_store.specs.Pointing.{IsUnpointed}
-use Rattle.ucon_store.specs.Whole.{whole}
+use Rattle.ucon_store.specs.Starts.{IsStart}
 use Rattle.ucon_outcome.specs.declared.outcome.Outcome.{Outcome}
 use Rattle.ucon_top.specs.PointEnding.{EndsPoint}
 use Rattle.ucon_top.proofs.Pointing.{err_so, ok_on, ok_so, put_so, refused_end}
 use Rattle.ucon_top.proofs.point.put_point.Goals as goal
 
 pub returns-in-Ok-pointed-clause-put : goal.returns-in-Ok-pointed-clause-put
-returns-in-Ok-pointed-clause-put g c = λ P G f.
+returns-in-Ok-pointed-clause-put g c = λ P.
     let store = c.args.store in
     let next = c.in-Ok.answer.0 in
     let r = c.in-Ok.answer.1 in
@@ -21,21 +22,25 @@ returns-in-Ok-pointed-clause-put g c = λ P G f.
     let moment = g.D.Disk.moment in
     let images_since = g.D.Disk.images_since in
     let faults = g.D.Disk.faults in
-    put_so contents images moment images_since faults G store next c.close.result c.close.ensures.disk
-    (ok_so r entries _ is told.pointed).0 (ok_on r entries _ is told.stays) (λ file. ok_on r entries _ is told.inside P G file f)
-    (λ before file. ok_on r entries _ is told.added P G before file f) P (ok_on r entries _ is told.founded P G f)
+    let same = (ok_so r entries _ is told.pointed).0 in
+    let stays = ok_on r entries _ is told.stays in (
+      λ G f. put_so contents images moment images_since faults G store next c.close.result c.close.ensures.disk
+          same stays (λ file. ok_on r entries _ is told.inside P G file f)
+          (λ before file. ok_on r entries _ is told.added P G before file f) P (ok_on r entries _ is told.founded P G f),
+      ap faults c.close.ensures.disk ∙ stays.unfailed (ap is_some same.mark),
+    )
 
 pub returns-in-Ok-pointed-clause-entries : goal.returns-in-Ok-pointed-clause-entries
 returns-in-Ok-pointed-clause-entries g c =
     (ok_so c.in-Ok.answer.1 c.in-Ok-pointed.entries _ c.in-Ok-pointed.is c.in-Ok.ensures.pointed).1
 
 pub returns-in-Err-clause-ends : goal.returns-in-Err-clause-ends
-returns-in-Err-clause-ends g c = λ P G f.
+returns-in-Err-clause-ends g c = λ P T accepts starts.
     let told = c.in-Err.ensures in
-    ((λ file is. told.inside_err P G file f is), told.failed.1)
+    ((λ G f file is. told.inside_err P G file f is), told.failed.1)
 
 pub returns-in-Err-pointed-clause-ends : goal.returns-in-Err-pointed-clause-ends
-returns-in-Err-pointed-clause-ends g c = λ P G f.
+returns-in-Err-pointed-clause-ends g c = λ P T accepts starts.
     let store = c.args.store in
     let next = c.in-Ok.answer.0 in
     let r = c.in-Ok.answer.1 in
@@ -44,7 +49,7 @@ returns-in-Err-pointed-clause-ends g c = λ P G f.
     let told = c.in-Ok.ensures in
     let disk = c.close-in-Err-pointed.result in
     let same : next ≡ store = err_so r refusal _ is told.same in
-    let why : IsUnpointed g.D.Disk.contents P (trace P G) store refusal = err_so r refusal _ is told.why P (trace P G) f.accepts f.front.starts in
-    subst (λ (o : Outcome). EndsPoint g.D.Disk.contents g.D.Disk.images g.D.Disk.moment g.D.Disk.images_since g.D.Disk.faults P (whole G store) disk None None o) (sym c.from.ensures)
-    (refused_end g.D.Disk.contents g.D.Disk.images g.D.Disk.moment g.D.Disk.images_since g.D.Disk.faults P G store disk refusal
-    (c.close-in-Err-pointed.ensures.disk ∙ ap (λ (s : Kept g.row.D.Denot). s.disk) same) f.unmarked f.front why)
+    let why : (T : Trace) → IsStart P store.point store.before T → IsUnpointed g.D.Disk.contents P T store refusal = λ T starts. err_so r refusal _ is told.why P T accepts starts in
+    subst (λ (o : Outcome). EndsPoint g.D.Disk.contents g.D.Disk.images g.D.Disk.moment g.D.Disk.images_since g.D.Disk.faults P store disk None None o) (sym c.from.ensures)
+    (refused_end g.D.Disk.contents g.D.Disk.images g.D.Disk.moment g.D.Disk.images_since g.D.Disk.faults P store disk refusal
+    (c.close-in-Err-pointed.ensures.disk ∙ ap (λ (s : Kept g.row.D.Denot). s.disk) same) c.requires T starts why)

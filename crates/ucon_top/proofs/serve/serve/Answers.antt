@@ -1,4 +1,4 @@
-use Rattle.std.proofs.Common.{◌≡◌, List, [], map, refl, sym, ap, subst, ◌∙◌}
+use Rattle.std.proofs.Common.{◌≡◌, List, map, refl, sym, ap, subst, ◌∙◌}
 use Rattle.std.specs.Prelude.{Some}
 use Rattle.std.proofs.lemmas.Simd.{map-map}
 use Rattle.ucon_model.specs.declared.command.Entry.{Entry}
@@ -11,7 +11,7 @@ use Rattle.ucon_top.specs.declared.form.Form.TheVariants.{Serve}
 use Rattle.ucon_outcome.specs.declared.outcome.Outcome.{Outcome}
 use Rattle.ucon_top.specs.Closing.{IsClosedRun}
 use Rattle.ucon_trial.specs.OneAnswer.{entry_of}
-use Rattle.ucon_top.proofs.Playing.{IsOpened, ends_run, run_raised}
+use Rattle.ucon_top.proofs.Playing.{IsOpened, ends_run, opened_so, run_raised}
 use Rattle.ucon_top.proofs.serve.serve.Goals as goal
 
 pub open-requires : goal.open-requires
@@ -30,29 +30,19 @@ returns-in-Ok-open-clause-played g c =
     let e = c.in-Ok-open.ensures in
     let lines = c.in-Ok.script.lines.items in
     let said = lines_spelled c.in-Ok.script in
-    let accepts : accepted (policy_part c.args.bytes.now) ≡ Some P =
-    (c.accepted_texts_spell_typed_policies.ensures (policy_part c.args.bytes.now) P).1 (some.has_policy.spelled, some.has_policy.typed) in
+    let accepts : accepted text ≡ Some P =
+    ap accepted c.policy_part.ensures ∙ (c.accepted_texts_spell_typed_policies.ensures (policy_part c.args.bytes.now) P).1 (some.has_policy.spelled, some.has_policy.typed) in
     let same : map entry_of c.slice.result.now ≡ entries_of said = ap (map entry_of) c.slice.ensures ∙ sym (map-map said_entry spelled_line lines) in
-    let opened : IsOpened g.D.Disk.contents g.D.Disk.images g.D.Disk.moment g.D.Disk.images_since g.D.Disk.faults text c.args.disk [] store = record {
-      policy = e.store.0;
-      unmarked = e.store.2;
-      found = e.found;
-      images_kept = e.images;
-      at_rest = e.at_rest;
-      holds = e.holds;
-      unfailed = e.unfailed;
-      P = P;
-      founded = e.founded P (ap accepted c.policy_part.ensures ∙ accepts);
-      tells = λ told. e.tells ∙ told;
-    } in
-    let run : IsClosedRun g.D.Disk.contents g.D.Disk.images g.D.Disk.moment g.D.Disk.images_since g.D.Disk.faults own_answers P [] store (by_client (entries_of said))
+    let opened : IsOpened g.D.Disk.contents g.D.Disk.images g.D.Disk.moment g.D.Disk.images_since g.D.Disk.faults P text c.args.disk store =
+    opened_so g.D.Disk.contents g.D.Disk.images g.D.Disk.moment g.D.Disk.images_since g.D.Disk.faults P text c.args.disk store accepts e.store e.images e.unfailed e.tells e.leads e.seen e.founded in
+    let run : IsClosedRun g.D.Disk.contents g.D.Disk.images g.D.Disk.moment g.D.Disk.images_since g.D.Disk.faults own_answers P store (by_client (entries_of said))
     c.serve_lines.result.outcome c.serve_lines.result.disk (g.K.Sink.contents c.args.out.now) (g.K.Sink.contents c.serve_lines.new.out) =
-    subst (λ (es : List Entry). IsClosedRun g.D.Disk.contents g.D.Disk.images g.D.Disk.moment g.D.Disk.images_since g.D.Disk.faults own_answers P [] store (by_client es)
+    subst (λ (es : List Entry). IsClosedRun g.D.Disk.contents g.D.Disk.images g.D.Disk.moment g.D.Disk.images_since g.D.Disk.faults own_answers P store (by_client es)
     c.serve_lines.result.outcome c.serve_lines.result.disk (g.K.Sink.contents c.args.out.now) (g.K.Sink.contents c.serve_lines.new.out)) same
-    (c.serve_lines.ensures.run P [] (ap accepted (e.store.0 ∙ c.policy_part.ensures) ∙ accepts) opened.founded.front) in
-    ends_run g.D.Disk.contents g.D.Disk.images g.D.Disk.moment g.D.Disk.images_since g.D.Disk.faults text c.args.disk [] store opened Serve c.args.bytes.now P said
+    (c.serve_lines.ensures.run P (ap accepted e.store.0 ∙ accepts)) in
+    ends_run g.D.Disk.contents g.D.Disk.images g.D.Disk.moment g.D.Disk.images_since g.D.Disk.faults P text c.args.disk store opened Serve c.args.bytes.now said
     c.policy_part.ensures some.has_policy c.in-Ok.ensures.says c.serve_lines.result.disk g.K.Sink.contents c.args.out.now c.serve_lines.new.out
-    c.serve_lines.result.outcome run
+    c.serve_lines.result.outcome c.serve_lines.ensures.of_run run
 
 pub returns-in-Ok-open-clause-fault : goal.returns-in-Ok-open-clause-fault
 returns-in-Ok-open-clause-fault g c = λ is.
@@ -60,13 +50,12 @@ returns-in-Ok-open-clause-fault g c = λ is.
     let P = some.policy in
     let store = c.in-Ok-open.store in
     let e = c.in-Ok-open.ensures in
-    let accepts : accepted (policy_part c.args.bytes.now) ≡ Some P =
-    (c.accepted_texts_spell_typed_policies.ensures (policy_part c.args.bytes.now) P).1 (some.has_policy.spelled, some.has_policy.typed) in
+    let accepts : accepted store.policy ≡ Some P =
+    ap accepted (e.store.0 ∙ c.policy_part.ensures) ∙ (c.accepted_texts_spell_typed_policies.ensures (policy_part c.args.bytes.now) P).1 (some.has_policy.spelled, some.has_policy.typed) in
     let before = g.K.Sink.contents c.args.out.now in
     let now = g.K.Sink.contents c.serve_lines.new.out in
     let lines = by_client (map entry_of c.slice.result.now) in
-    run_raised g.D.Disk.contents g.D.Disk.images g.D.Disk.moment g.D.Disk.images_since g.D.Disk.faults own_answers P [] c.args.disk store e.store.2 e.unfailed lines
+    run_raised g.D.Disk.contents g.D.Disk.images g.D.Disk.moment g.D.Disk.images_since g.D.Disk.faults own_answers P c.args.disk store e.store.2 e.unfailed lines
     c.serve_lines.result.disk before now
-    (subst (λ (o : Outcome). IsClosedRun g.D.Disk.contents g.D.Disk.images g.D.Disk.moment g.D.Disk.images_since g.D.Disk.faults own_answers P [] store lines
-    o c.serve_lines.result.disk before now) is (c.serve_lines.ensures.run P [] (ap accepted (e.store.0 ∙ c.policy_part.ensures) ∙ accepts)
-    (e.founded P (ap accepted c.policy_part.ensures ∙ accepts)).front))
+    (subst (λ (o : Outcome). IsClosedRun g.D.Disk.contents g.D.Disk.images g.D.Disk.moment g.D.Disk.images_since g.D.Disk.faults own_answers P store lines
+    o c.serve_lines.result.disk before now) is (c.serve_lines.ensures.run P accepts))

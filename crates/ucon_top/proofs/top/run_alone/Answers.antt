@@ -50,7 +50,7 @@ returns-in-Point-clause-complete g c =
     let known : form_of (map (λ w. string_bytes w) c.args.words.now) ≡ Some Point = cc in
     rw known (over_document (g.D.Disk.contents c.args.disk) source source' sink sink' (g.D.Disk.faults c.args.disk) (g.D.Disk.faults c.point.result.disk) Point outcome input bytes is
     (pointed_complete g.D.Disk.contents g.D.Disk.images g.D.Disk.moment g.D.Disk.images_since g.D.Disk.faults g.K.Sink.contents Point c.args.disk c.point.result.disk
-    c.args.out.now c.point.new.out source source' sink sink' bytes outcome
+    c.args.out.now c.point.new.out source source' sink sink' bytes c.opening_sees_one_thing.ensures.one outcome
     (c.accepted_documents_are_not_refused.ensures bytes outcome) c.point.ensures.refused c.point.ensures.of_document c.point.ensures.sink c.point.ensures.fault
     c.point.ensures.pointed (λ u. u.journal)))
 
@@ -69,7 +69,7 @@ returns-in-Play-clause-complete g c =
     let known : form_of (map (λ w. string_bytes w) c.args.words.now) ≡ Some Play = cc in
     rw known (over_document (g.D.Disk.contents c.args.disk) source source' sink sink' (g.D.Disk.faults c.args.disk) (g.D.Disk.faults c.play.result.disk) Play outcome input bytes is
     (played_complete g.D.Disk.contents g.D.Disk.images g.D.Disk.moment g.D.Disk.images_since g.D.Disk.faults g.K.Sink.contents Play c.args.disk c.play.result.disk
-    c.args.out.now c.play.new.out source source' sink sink' bytes outcome
+    c.args.out.now c.play.new.out source source' sink sink' bytes c.opening_sees_one_thing.ensures.one outcome
     (c.accepted_documents_are_not_refused.ensures bytes outcome) c.play.ensures.refused c.play.ensures.of_document c.play.ensures.sink c.play.ensures.fault
     c.play.ensures.played (λ u. u.journal)))
 

@@ -31,6 +31,6 @@ returns-in-Ok-clause-complete g c =
     let is = subst (λ (b : Bytes). IfSome input (λ d. d ≡ b)) (sym c.deref.ensures.value) c.in-Ok.ensures.bytes in
     over_document (g.D.Disk.contents c.args.disk) source source' sink sink' (g.D.Disk.faults c.args.disk) (g.D.Disk.faults c.serve.result.disk) Serve outcome input bytes is
     (played_complete g.D.Disk.contents g.D.Disk.images g.D.Disk.moment g.D.Disk.images_since g.D.Disk.faults g.K.Sink.contents Serve c.args.disk c.serve.result.disk
-    c.args.out.now c.serve.new.out source source' sink sink' bytes outcome
+    c.args.out.now c.serve.new.out source source' sink sink' bytes c.opening_sees_one_thing.ensures.one outcome
     (c.accepted_documents_are_not_refused.ensures bytes outcome) c.serve.ensures.refused c.serve.ensures.of_document c.serve.ensures.sink c.serve.ensures.fault
     c.serve.ensures.played (λ u. u.journal))

@@ -1,0 +1,17 @@
+-- What opening sees in a journal that is a document's own.
+use Rattle.std.specs.Prelude.{◌≡◌, ℕ}
+use Rattle.ucon_model.specs.Plain.{Bytes}
+use Rattle.ucon_store.specs.Opened.{Seen, fresh, not_journal, damaged, holds, Sees}
+
+-- a fresh file, without an entry, or a journal under the policy of this text, with so many entries
+abbrev pub HasEntries : Seen → Bytes → ℕ → Type 0
+HasEntries fresh text n = n ≡ 0
+HasEntries not_journal text n = ⊥
+HasEntries (damaged number place) text n = ⊥
+HasEntries (holds other entries there gate) text n = (other ≡ text) × (entries ≡ n)
+
+-- Opening sees one or the other in a file. It runs only what stands behind the last checkpoint, so the file needs not be found as a history.
+pub record IsOwnFile (text : Bytes) (entries : ℕ) (file : Bytes) : Type 0 where
+  pub seen : Seen
+  pub sees : Sees file seen
+  pub has : HasEntries seen text entries
