@@ -33,12 +33,39 @@ const WITH_A_AND_POINT_AND_B: &[u8] =
 /// The gate of the checkpoint is closed still, so that it doesn't count.
 const WITH_A_THEN_POINT: &[u8] =
     b"UCONJR02\x01\x00\x00\x00\x0bright r {}\n\x01\x00\x00\x00\x0e0 subject a\nok\x00\x00\x00\x00\x2fpoint 1\npolicy 11\nright r {}\n\ntick 0\nsubject a\n\x00";
-/// The checkpoint has another subject than the record.
+/// The checkpoint has a subject of no name.
 const WRONG_SUBJECT: &[u8] =
     b"UCONJR02\x01\x00\x00\x00\x0bright r {}\n\x01\x00\x00\x00\x0e0 subject a\nok\x01\x00\x00\x00\x2fpoint 1\npolicy 11\nright r {}\n\ntick 0\nsubject A\n\x00";
 /// The checkpoint tells another number of entries.
 const WRONG_NUMBER: &[u8] =
     b"UCONJR02\x01\x00\x00\x00\x0bright r {}\n\x01\x00\x00\x00\x0e0 subject a\nok\x01\x00\x00\x00\x2fpoint 2\npolicy 11\nright r {}\n\ntick 0\nsubject a\n\x00";
+/// The record before the checkpoint has the reply `oj`.
+const CHANGED_BEFORE_POINT: &[u8] =
+    b"UCONJR02\x01\x00\x00\x00\x0bright r {}\n\x01\x00\x00\x00\x0e0 subject a\noj\x01\x00\x00\x00/point 1\npolicy 11\nright r {}\n\ntick 0\nsubject a\n\x00";
+/// There is a wrong checkpoint before the last one.
+const WRONG_POINT_BEFORE_POINT: &[u8] =
+    b"UCONJR02\x01\x00\x00\x00\x0bright r {}\n\x01\x00\x00\x00\x0e0 subject a\nok\x01\x00\x00\x00/point 1\npolicy 11\nright r {}\n\ntick 0\nsubject A\n\x01\x00\x00\x00/point 1\npolicy 11\nright r {}\n\ntick 0\nsubject a\n\x00";
+/// The record behind the checkpoint has the reply `oj`.
+const CHANGED_BEHIND_POINT: &[u8] =
+    b"UCONJR02\x01\x00\x00\x00\x0bright r {}\n\x01\x00\x00\x00\x0e0 subject a\nok\x01\x00\x00\x00/point 1\npolicy 11\nright r {}\n\ntick 0\nsubject a\n\x01\x00\x00\x00\x0e0 subject b\noj\x00";
+/// The checkpoint has one subject twice.
+const SUBJECT_TWICE: &[u8] =
+    b"UCONJR02\x01\x00\x00\x00\x0bright r {}\n\x01\x00\x00\x00\x0e0 subject a\nok\x01\x00\x00\x009point 1\npolicy 11\nright r {}\n\ntick 0\nsubject a\nsubject a\n\x00";
+/// The checkpoint has a session of an object that isn't there.
+const NO_OBJECT: &[u8] =
+    b"UCONJR02\x01\x00\x00\x00\x0bright r {}\n\x01\x00\x00\x00\x0e0 subject a\nok\x01\x00\x00\x00Lpoint 1\npolicy 11\nright r {}\n\ntick 0\nsubject a\nsession 0 r a x requesting 0\n\x00";
+/// In the checkpoint a use goes on by a right that the policy hasn't.
+const UNSETTLED: &[u8] =
+    b"UCONJR02\x01\x00\x00\x00\x0bright r {}\n\x01\x00\x00\x00\x0e0 subject a\nok\x01\x00\x00\x00Tpoint 1\npolicy 11\nright r {}\n\ntick 0\nsubject a\nobject x\nsession 0 q a x accessing 0\n\x00";
+/// The checkpoint has the value of an attribute that isn't declared.
+const NO_ATTRIBUTE: &[u8] =
+    b"UCONJR02\x01\x00\x00\x00\x0bright r {}\n\x01\x00\x00\x00\x0e0 subject a\nok\x01\x00\x00\x009point 1\npolicy 11\nright r {}\n\ntick 0\nsubject a\nvalue k 1\n\x00";
+/// The checkpoint's policy is no policy.
+const POLICY_IN_PART: &[u8] =
+    b"UCONJR02\x01\x00\x00\x00\x0bright r {}\n\x01\x00\x00\x00\x0e0 subject a\nok\x01\x00\x00\x00,point 1\npolicy 9\nright r {\ntick 0\nsubject a\n\x00";
+/// The checkpoint's last line has no end.
+const POINT_IN_PART: &[u8] =
+    b"UCONJR02\x01\x00\x00\x00\x0bright r {}\n\x01\x00\x00\x00\x0e0 subject a\nok\x01\x00\x00\x00.point 1\npolicy 11\nright r {}\n\ntick 0\nsubject a\x00";
 
 const WITH_B: &[u8] =
     b"UCONJR02\x01\x00\x00\x00\x0bright r {}\n\x01\x00\x00\x00\x0e0 subject b\nok\x00";
@@ -207,7 +234,7 @@ pub fn played_rows() -> [Played; 16] {
         },
         stopped(
             "a disk that fails, or is full, at a record",
-            &[9],
+            &[11],
             b"0 - disk fault\n0 - stopped\n",
             WITH_A,
         ),
@@ -215,13 +242,13 @@ pub fn played_rows() -> [Played; 16] {
         stopped("a failing read at the opening", &[3], b"", WITH_A),
         stopped(
             "a failing sync before the gate",
-            &[10],
+            &[12],
             b"0 - disk fault\n0 - stopped\n",
             WITH_A_THEN_B,
         ),
         stopped(
             "a failing sync behind the gate",
-            &[12],
+            &[14],
             b"0 - disk fault\n0 - stopped\n",
             WITH_A_AND_B,
         ),
@@ -269,8 +296,9 @@ const fn half_pointed(
     }
 }
 
-/// A checkpoint stands behind all entries, changes no place and no reply, and has to be the one of the entries before it.
-pub fn pointed_rows() -> [Played; 18] {
+/// A checkpoint stands behind all entries, and changes no place and no reply. Opening begins at the last one, which has to hold a state, and
+/// looks at no record before it.
+pub fn pointed_rows() -> [Played; 27] {
     [
         pointed(
             "a checkpoint behind one entry",
@@ -331,8 +359,8 @@ pub fn pointed_rows() -> [Played; 18] {
             ..pointed("a failing sink", WITH_A, NO_LINES, b"", WITH_A_AND_POINT)
         },
         half_pointed("a failing read at the opening", &[3], WITH_A),
-        half_pointed("a failing sync before the gate", &[10], WITH_A_THEN_POINT),
-        half_pointed("a failing sync behind the gate", &[12], WITH_A_AND_POINT),
+        half_pointed("a failing sync before the gate", &[12], WITH_A_THEN_POINT),
+        half_pointed("a failing sync behind the gate", &[14], WITH_A_AND_POINT),
         whole(
             "what is there, with a checkpoint",
             WITH_A_AND_POINT,
@@ -355,8 +383,71 @@ pub fn pointed_rows() -> [Played; 18] {
             WITH_A,
         ),
         unopened(
-            "a checkpoint of another state",
+            "a checkpoint with a subject of no name",
             WRONG_SUBJECT,
+            SUBJECT_A,
+            7,
+            b"ucon: damaged record 2 at 43\n",
+        ),
+        whole(
+            "a record changed before a checkpoint",
+            CHANGED_BEFORE_POINT,
+            SUBJECT_A,
+            b"0 1 already there\n",
+            CHANGED_BEFORE_POINT,
+        ),
+        whole(
+            "a wrong checkpoint before the last one",
+            WRONG_POINT_BEFORE_POINT,
+            SUBJECT_A,
+            b"0 1 already there\n",
+            WRONG_POINT_BEFORE_POINT,
+        ),
+        unopened(
+            "a record changed behind a checkpoint",
+            CHANGED_BEHIND_POINT,
+            SUBJECT_A,
+            7,
+            b"ucon: damaged record 3 at 95\n",
+        ),
+        unopened(
+            "a checkpoint with one subject twice",
+            SUBJECT_TWICE,
+            SUBJECT_A,
+            7,
+            b"ucon: damaged record 2 at 43\n",
+        ),
+        unopened(
+            "a checkpoint with a session of no object",
+            NO_OBJECT,
+            SUBJECT_A,
+            7,
+            b"ucon: damaged record 2 at 43\n",
+        ),
+        unopened(
+            "a checkpoint in which a use fails",
+            UNSETTLED,
+            SUBJECT_A,
+            7,
+            b"ucon: damaged record 2 at 43\n",
+        ),
+        unopened(
+            "a checkpoint with a value of no attribute",
+            NO_ATTRIBUTE,
+            SUBJECT_A,
+            7,
+            b"ucon: damaged record 2 at 43\n",
+        ),
+        unopened(
+            "a checkpoint under no policy",
+            POLICY_IN_PART,
+            SUBJECT_A,
+            7,
+            b"ucon: damaged record 2 at 43\n",
+        ),
+        unopened(
+            "a checkpoint whose last line has no end",
+            POINT_IN_PART,
             SUBJECT_A,
             7,
             b"ucon: damaged record 2 at 43\n",
