@@ -14,7 +14,8 @@ use Rattle.ucon_model.specs.Sound.{IsNumbered}
 use Rattle.ucon_model.specs.Truth.{readings}
 use Rattle.ucon_model.specs.Usages.{going_on}
 use Rattle.ucon_wheel.specs.Deadlines.{Deadlines}
-use Rattle.ucon_cascade.specs.Timers.{AreTimedBelow, AreTimely, Gets, HasDeadline, IsHidden, IsLimit}
+use Rattle.ucon_cascade.specs.Timely.{AreTimedBelow, AreTimely}
+use Rattle.ucon_readers.specs.Timers.{Gets, HasDeadline, IsHidden, IsLimit}
 use Rattle.ucon_cascade.proofs.Anew.{last_or_before}
 use Rattle.ucon_cascade.proofs.Lasting.{limits_are_among}
 

@@ -11,11 +11,12 @@ use Rattle.ucon_state.specs.Shown.{Shown}
 use Rattle.ucon_state.specs.Tables.{session_in}
 use Rattle.ucon_cascade.specs.Grouping.{AreGrouped, AreGroupedBelow, GetsFirst}
 use Rattle.ucon_cascade.specs.Putting.{GoesOn}
-use Rattle.ucon_cascade.specs.Readers.{AreReadBelow, StandAsTheyRead, first_of, readers_at}
-use Rattle.ucon_cascade.specs.declared.readers.Readers.{Readers}
+use Rattle.ucon_cascade.specs.Reading.{AreReadBelow, StandAsTheyRead}
+use Rattle.ucon_readers.specs.Readers.{first_of, readers_at}
+use Rattle.ucon_readers.specs.declared.readers.Readers.{Readers}
 use Rattle.ucon_cascade.proofs.Grouped.{among_like, grouped_all, grouped_fewer, grouped_more}
 use Rattle.ucon_cascade.specs.Numbering.{AreNumbered, IsExact, IsExactBelow, place_numbers}
-use Rattle.ucon_cascade.specs.Listing.{ComesTo, StandsNowhere}
+use Rattle.ucon_readers.specs.Listing.{ComesTo, StandsNowhere}
 use Rattle.ucon_cascade.proofs.Putting.{usage_below}
 
 nothing_in : (n : ℕ) → Contains [] n → ⊥

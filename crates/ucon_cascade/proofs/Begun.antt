@@ -13,12 +13,14 @@ use Rattle.ucon_model.specs.Usages.{going_on}
 use Rattle.ucon_state.specs.Shown.{Shown}
 use Rattle.ucon_state.specs.Tables.{session_in}
 use Rattle.ucon_cascade.specs.Cascading.{WereExact}
-use Rattle.ucon_cascade.specs.Grouping.{AreGrouped, AreGroupedAmong, GetsFirst, MayLead, StandsAlone}
-use Rattle.ucon_cascade.specs.Listing.{ComesTo, StandsNowhere, StandsSomewhere}
+use Rattle.ucon_cascade.specs.Grouping.{AreGrouped, AreGroupedAmong, GetsFirst, MayLead}
+use Rattle.ucon_readers.specs.Joining.{StandsAlone}
+use Rattle.ucon_readers.specs.Listing.{ComesTo, StandsNowhere, StandsSomewhere}
 use Rattle.ucon_cascade.specs.Numbering.{AreNumbered, HaveNumbers, IsExact, numbers_of, place_numbers}
 use Rattle.ucon_cascade.specs.Putting.{GoesOn}
-use Rattle.ucon_cascade.specs.Readers.{StandAsTheyRead, first_of, readers_at}
-use Rattle.ucon_cascade.specs.declared.readers.Readers.{Readers}
+use Rattle.ucon_cascade.specs.Reading.{StandAsTheyRead}
+use Rattle.ucon_readers.specs.Readers.{first_of, readers_at}
+use Rattle.ucon_readers.specs.declared.readers.Readers.{Readers}
 use Rattle.ucon_cascade.proofs.Exact.{exact_with, numbered_still, numbers_stay}
 use Rattle.ucon_cascade.proofs.Grouped.{among_still, goes_same, grouped_all, grouped_more, numbered_alike, numbers_alike}
 

@@ -17,8 +17,8 @@ use Rattle.ucon_cascade.specs.Grouping.{AreGrouped}
 use Rattle.ucon_cascade.specs.Numbering.{IsExact}
 use Rattle.ucon_cascade.proofs.Exact.{exact_still}
 use Rattle.ucon_cascade.proofs.Grouped.{among_all, among_like, grouped_all, grouped_still}
-use Rattle.ucon_cascade.proofs.Leading.{told_if}
 use Rattle.ucon_cascade.proofs.Leaving.{exact_left, grouped_left}
+use Rattle.ucon_cascade.proofs.Outcomes.{told_if}
 
 -- the same who stand
 pub exact_like : (s : Shown) (standing standing' : ℕ → List ℕ) → ((place : ℕ) → standing' place ≡ standing place) → IsExact s standing → IsExact s standing'

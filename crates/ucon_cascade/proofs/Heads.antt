@@ -20,7 +20,8 @@ use Rattle.ucon_state.specs.Shown.{Shown}
 use Rattle.ucon_state.specs.Tables.{readings_in}
 use Rattle.ucon_wheel.specs.Deadlines.{Deadlines}
 use Rattle.ucon_cascade.specs.Passing.{WereMade, is_tick}
-use Rattle.ucon_cascade.specs.Timers.{AreTimely, Gets, IsLimit, IsLimitOf, LosesAll}
+use Rattle.ucon_cascade.specs.Timely.{AreTimely, IsLimitOf}
+use Rattle.ucon_readers.specs.Timers.{Gets, IsLimit, LosesAll}
 use Rattle.ucon_cascade.proofs.Alike.{AreOne, KeepsAll}
 use Rattle.ucon_cascade.proofs.Gaining.{gets_like, limits_of_row}
 use Rattle.ucon_cascade.proofs.Monitored.{HeadsTell}

@@ -1,10 +1,4 @@
 pub mod Outcomes
-pub mod Listed
-pub mod Told
-pub mod Leading
-pub mod Founding
-pub mod Placed
-pub mod Walking
 pub mod Alike
 pub mod Anew
 pub mod Begun
@@ -18,8 +12,6 @@ pub mod Targets
 pub mod Paying
 pub mod Costing
 pub mod Thrifty
-pub mod Showing
-pub mod Undoing
 pub mod Lasting
 pub mod Timing
 pub mod OwnTime

@@ -26,7 +26,8 @@ use Rattle.ucon_cascade.specs.Monitor.{IsSettled, Stands}
 use Rattle.ucon_cascade.specs.Grouping.{AreAlike, AreGrouped}
 use Rattle.ucon_cascade.specs.Numbering.{IsExact}
 use Rattle.ucon_cascade.specs.Putting.{GoesOn}
-use Rattle.ucon_cascade.specs.Timers.{AreTimely, HasDeadline}
+use Rattle.ucon_cascade.specs.Timely.{AreTimely}
+use Rattle.ucon_readers.specs.Timers.{HasDeadline}
 use Rattle.ucon_wheel.specs.Deadlines.{Deadlines}
 pub use Rattle.ucon_cascade.proofs.Outcomes.{ok_both, ok_then, on_err, on_ok}
 

@@ -13,7 +13,8 @@ use Rattle.ucon_state.specs.Following.{Follows}
 use Rattle.ucon_state.specs.Shown.{Shown}
 use Rattle.ucon_wheel.specs.Deadlines.{Deadlines}
 use Rattle.ucon_cascade.specs.Passing.{IsPassing, Moves}
-use Rattle.ucon_cascade.specs.Timers.{AreTimed, Gets, HasDeadline, IsDeadlineOf, IsLimitOf, Loses}
+use Rattle.ucon_cascade.specs.Timely.{AreTimed, IsDeadlineOf, IsLimitOf}
+use Rattle.ucon_readers.specs.Timers.{Gets, HasDeadline, Loses}
 use Rattle.ucon_cascade.proofs.Alike.{AreOne, KeepsAll}
 use Rattle.ucon_cascade.proofs.Heads.{limits_after}
 use Rattle.ucon_cascade.proofs.Lasting.{limits_are_among}

@@ -1,5 +1,6 @@
 -- What is said of a result, on each of its ways.
-use Rattle.std.specs.Prelude.{Result, Ok, Err, OnErr, OnOk}
+use Rattle.std.proofs.Common.{◌≡◌, ℕ, subst}
+use Rattle.std.specs.Prelude.{IfSome, Option, Some, None, Result, Ok, Err, OnErr, OnOk}
 
 pub on_err : {X E A : Type 0} (r : Result X E) → A → OnErr r A
 on_err (Ok x) a = tt
@@ -21,11 +22,7 @@ pub ok_three : {X E A B C D : Type 0} (r : Result X E) → (A → B → C → D)
 ok_three (Ok x) f a b c = f a b c
 ok_three (Err e) f a b c = tt
 
-pub err_then : {X E A B : Type 0} (r : Result X E) → (A → B) → OnErr r A → OnErr r B
-err_then (Ok x) f a = tt
-err_then (Err e) f a = f a
-
--- what follows on both ways
-pub either_way : {X E A B C : Type 0} (r : Result X E) → OnOk r A → OnErr r B → (A → C) → (B → C) → C
-either_way (Ok x) a b f g = f a
-either_way (Err e) a b f g = g b
+-- what is said of what an option holds
+pub told_if : (P : ℕ → Type 0) (o : Option ℕ) (m : ℕ) → o ≡ Some m → IfSome o P → P m
+told_if P None m is p = let no : ⊥ = cc in absurd no
+told_if P (Some n) m is p = let same : n ≡ m = cc in subst P same p

@@ -19,7 +19,7 @@ use Rattle.ucon_state.specs.Following.{Follows}
 use Rattle.ucon_state.specs.Shown.{Shown}
 use Rattle.ucon_wheel.specs.Deadlines.{Deadlines}
 use Rattle.ucon_cascade.specs.Passing.{IsPassing, MayPass, PassesAll, WereMade, is_tick}
-use Rattle.ucon_cascade.specs.Timers.{AreTimely}
+use Rattle.ucon_cascade.specs.Timely.{AreTimely}
 use Rattle.ucon_cascade.proofs.Making.{tick_or_not, ticks_move}
 use Rattle.ucon_cascade.proofs.OwnTime.{Makes, made_so, unless}
 use Rattle.ucon_cascade.proofs.Ticking.{begins_to_pass, between}

@@ -17,7 +17,8 @@ use Rattle.ucon_model.specs.Usages.{going_on}
 use Rattle.ucon_wheel.specs.Deadlines.{Deadlines}
 use Rattle.ucon_cascade.proofs.Covering.{or_left, or_right}
 use Rattle.ucon_cascade.specs.Passing.{HasPassed, IsPassing}
-use Rattle.ucon_cascade.specs.Timers.{AreSame, AreTimed, AreTimely, HasDeadline}
+use Rattle.ucon_readers.specs.Timers.{AreSame, HasDeadline}
+use Rattle.ucon_cascade.specs.Timely.{AreTimed, AreTimely}
 
 pub between : (now next d : ℤ) → is_between now next d ≡ true → (now ≤ℤ d) × (d <ℤ next)
 between now next d h = (grind (arith, ints), grind (arith, ints))

@@ -22,7 +22,8 @@ use Rattle.ucon_model.specs.Truth.{readings}
 use Rattle.ucon_model.specs.Updates.{same_when, session_writes, updates_of, write_of, writes}
 use Rattle.ucon_model.specs.Usages.{going_on}
 use Rattle.ucon_wheel.specs.Deadlines.{Deadlines}
-use Rattle.ucon_cascade.specs.Timers.{AreTimed, AreTimely, Gets, HasDeadline, HasDeadlineUpTo, IsDeadlineOf, IsLimit, LosesAll}
+use Rattle.ucon_cascade.specs.Timely.{AreTimed, AreTimely, HasDeadlineUpTo, IsDeadlineOf}
+use Rattle.ucon_readers.specs.Timers.{Gets, HasDeadline, IsLimit, LosesAll}
 use Rattle.ucon_cascade.proofs.Lasting.{acts_make_limits_later, deadlines_stay, holds_to_limit, limits_are_among}
 
 -- ---- no time passes, and no act is done

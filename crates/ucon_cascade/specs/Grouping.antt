@@ -1,9 +1,10 @@
 -- Sessions that share one judgement, in lists with a first.
-use Rattle.std.specs.Prelude.{◌≡◌, ◌≢◌, ◌⊎◌, ◌≤◌, ◌<◌, ℕ, Some}
+use Rattle.std.specs.Prelude.{◌≡◌, ◌⊎◌, ◌≤◌, ◌<◌, ℕ, Some}
 use Rattle.ucon_model.specs.declared.session.SessionRow.{SessionRow}
 use Rattle.ucon_model.specs.Groups.{JudgedAlike}
 use Rattle.ucon_state.specs.Shown.{Shown}
 use Rattle.ucon_state.specs.Tables.{session_in}
+use Rattle.ucon_readers.specs.Joining.{Joins}
 use Rattle.ucon_cascade.specs.Putting.{GoesOn}
 
 -- sessions m and n are there, and judged alike as long as the policy stays
@@ -34,15 +35,6 @@ abbrev pub AreGroupedBelow : Shown → ℕ → (ℕ → ℕ) → Type 0
 AreGroupedBelow s limit first = AreGroupedAmong s (λ n. n < limit) first
 
 -- ---- who comes
-
--- session n comes into the list of which m is the first, and all others keep theirs
-pub record Joins (old new : ℕ → ℕ) (n m : ℕ) : Type 0 where
-  pub first : new n ≡ m
-  pub others : (k : ℕ) → k ≢ n → new k ≡ old k
-
--- session n is its own first, and all others keep theirs
-abbrev pub StandsAlone : (old new : ℕ → ℕ) → ℕ → Type 0
-StandsAlone old new n = Joins old new n n
 
 -- session m may be the first of session n, which comes: it goes on, is below it, its own first, and judged like it
 pub record MayLead (s : Shown) (first : ℕ → ℕ) (n m : ℕ) : Type 0 where

@@ -1,10 +1,8 @@
 pub mod Numbering
 pub mod Putting
 pub mod Grouping
-pub mod Timers
-pub mod Lists
-pub mod Listing
-pub mod Readers
+pub mod Timely
+pub mod Reading
 pub mod Passing
 pub mod Cascading
 pub mod Paid

@@ -15,8 +15,9 @@ use Rattle.ucon_state.specs.Following.{Follows}
 use Rattle.ucon_state.specs.Shown.{Shown, shown, given_back}
 use Rattle.ucon_cascade.specs.Grouping.{AreGrouped}
 use Rattle.ucon_cascade.specs.Numbering.{IsExact}
-use Rattle.ucon_cascade.specs.Readers.{IsKept, UndoGives, first_of, readers_at}
-use Rattle.ucon_cascade.specs.Timers.{AreTimely, IsKept as AreKept, UndoGives as TimersGive}
+use Rattle.ucon_readers.specs.Readers.{IsKept, UndoGives, first_of, readers_at}
+use Rattle.ucon_cascade.specs.Timely.{AreTimely}
+use Rattle.ucon_readers.specs.Timers.{IsKept as AreKept, UndoGives as TimersGive, wheel_of}
 use Rattle.ucon_wheel.specs.Deadlines.{Deadlines}
 use Rattle.ucon_cascade.specs.declared.monitor.Monitor.{Monitor}
 
@@ -36,7 +37,7 @@ pub record IsSettled (s : Shown) : Type 0 where
 
 -- It stands for the trace, there is nothing to undo, and nothing is left to be rechecked.
 pub record IsReady (m : Monitor) (P : PlainPolicy) (T : Trace) : Type 0 where
-  pub stands : Stands (shown m.state) (readers_at m.readers) (first_of m.readers) m.timers.wheel P T
+  pub stands : Stands (shown m.state) (readers_at m.readers) (first_of m.readers) (wheel_of m.timers) P T
   pub settled : IsSettled (shown m.state)
   pub kept : IsKept m.readers
   pub timers_kept : AreKept m.timers
@@ -72,6 +73,6 @@ pub record MayGoBack (m : Monitor) : Type 0 where
 
 -- It stands for the trace after the entry's command, undoing gives what stands for the trace, and nothing is left to be rechecked.
 pub record HasPending (m : Monitor) (P : PlainPolicy) (T : Trace) (e : Entry) : Type 0 where
-  pub stands : Stands (shown m.state) (readers_at m.readers) (first_of m.readers) m.timers.wheel P (after P T e.caller e.command)
+  pub stands : Stands (shown m.state) (readers_at m.readers) (first_of m.readers) (wheel_of m.timers) P (after P T e.caller e.command)
   pub back : GoesBack m P T
   pub no_work : m.work.members ≡ []

@@ -16,7 +16,8 @@ use Rattle.ucon_model.specs.Work.{NobodyFails}
 use Rattle.ucon_state.specs.Following.{Follows}
 use Rattle.ucon_state.specs.Shown.{Shown}
 use Rattle.ucon_wheel.specs.Deadlines.{Deadlines}
-use Rattle.ucon_cascade.specs.Timers.{AreAhead, AreSame, AreTimed, AreTimely, HasDeadline, IsLimitOf}
+use Rattle.ucon_cascade.specs.Timely.{AreAhead, AreTimed, AreTimely, IsLimitOf}
+use Rattle.ucon_readers.specs.Timers.{AreSame, HasDeadline}
 
 -- Session n gives a deadline away for those of what holds of its right: it has these, all keep the others that they had, and nobody gets
 -- any else.

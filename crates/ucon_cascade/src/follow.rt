@@ -4,24 +4,26 @@ ghost use Rattle.std.specs.Prelude.{◌≡◌, ◌+◌, ℕ, [], false, IfOk, If
 ghost use Rattle.ucon_actions.specs.Gives.{is_amendment};
 ghost use Rattle.ucon_cascade.specs.Cascading.{WereExact};
 ghost use Rattle.ucon_cascade.specs.Numbering.{AreNumbered, IsExact, place_numbers};
-ghost use Rattle.ucon_cascade.specs.Grouping.{AreGrouped, GetsFirst, MayLead, StandsAlone};
+ghost use Rattle.ucon_cascade.specs.Grouping.{AreGrouped, GetsFirst, MayLead};
+ghost use Rattle.ucon_readers.specs.Joining.{StandsAlone};
 ghost use Rattle.ucon_cascade.specs.Putting.{GoesOn};
-ghost use Rattle.ucon_cascade.specs.Readers.{AreReadBelow, IsKept, StandAsTheyRead, UndoGives, first_of, readers_at};
-ghost use Rattle.ucon_cascade.specs.Listing.{ComesTo, StandsNowhere, StandsSomewhere};
+ghost use Rattle.ucon_cascade.specs.Reading.{AreReadBelow, StandAsTheyRead};
+ghost use Rattle.ucon_readers.specs.Readers.{IsKept, UndoGives, first_of, readers_at};
+ghost use Rattle.ucon_readers.specs.Listing.{ComesTo, StandsNowhere, StandsSomewhere};
 ghost use Rattle.ucon_model.specs.declared.reply.Head.TheVariants as heads;
 ghost use Rattle.ucon_model.specs.Reach.{places_of, timed_of};
 ghost use Rattle.ucon_model.specs.Usages.{going_on};
 ghost use Rattle.ucon_state.specs.Shown.{shown};
 ghost use Rattle.ucon_state.specs.Tables.{session_in};
 
-use crate::kinds::{Kind, are_alike, asks_while_it_goes_on, is_timed, kind_of};
+use crate::kinds::{are_alike, asks_while_it_goes_on, is_timed, kind_of};
 use crate::places::place_numbers;
-use crate::readers::Readers;
 use std::alloc::Global;
 use ucon_actions::{is_accessing, session, session_state, sessions};
 use ucon_base::NoMemory;
 use ucon_check::places_read;
 use ucon_model::{Command, Head, Ref, SessionRow, View};
+use ucon_readers::{Kind, Readers, undoing_gives_what_is_kept};
 use ucon_state::State;
 
 /// All is read anew where the command replaced the policy. Else a permitted session begins to read, and an ended one reads nothing any more.
@@ -67,6 +69,7 @@ fn follow_head(
     ensures alone { OnOk result ((k n : ℕ) → head.now ≡ heads.Permitted k → GoesOn (shown state.now) n → first_of readers.new n ≡ k → n ≡ k) }
     ensures undo { UndoGives readers.new (readers_at readers.old) (first_of readers.old) }
 {
+    undoing_gives_what_is_kept();
     match head {
         Head::Permitted(n) => begin_to_read(alloc, state, readers, *n),
         Head::Ended(n) => {
@@ -118,6 +121,7 @@ fn add_reader(
     ensures numbered { OnOk result (AreNumbered (shown state.now) row.now) }
     ensures undo { UndoGives readers.new (readers_at readers.old) (first_of readers.old) }
 {
+    undoing_gives_what_is_kept();
     let Some(right) = state.right(n) else {
         return readers.lead(n, &[]);
     };
@@ -179,6 +183,7 @@ fn lead(
     ensures numbered { OnOk result (AreNumbered (shown state.now) row.now) }
     ensures undo { UndoGives readers.new (readers_at readers.old) (first_of readers.old) }
 {
+    undoing_gives_what_is_kept();
     let numbers = place_numbers(alloc, state, row, places)?;
     readers.lead(n, numbers.slice())
 }
@@ -190,6 +195,7 @@ fn read_anew(alloc: Global, state: &State, readers: &mut Readers) -> Result<(), 
     ensures grouped { OnOk result (AreGrouped (shown state.now) (first_of readers.new)) }
     ensures undo { UndoGives readers.new (readers_at readers.old) (first_of readers.old) }
 {
+    undoing_gives_what_is_kept();
     let all = all_readers(alloc, state)?;
     readers.replace(all);
     Ok(())

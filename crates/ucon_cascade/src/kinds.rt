@@ -11,19 +11,12 @@ ghost use Rattle.ucon_model.specs.Updates.{entity_of};
 ghost use Rattle.ucon_model.specs.Views.{formula_of, predicate_of, right_of, test_of};
 ghost use Rattle.ucon_state.specs.Shown.{shown};
 ghost use Rattle.ucon_state.specs.Tables.{session_in};
-ghost use Rattle.ucon_cascade.specs.Timers.{timed_parts};
+ghost use Rattle.ucon_readers.specs.Timers.{timed_parts};
 
 use ucon_base::{Name, Side};
 use ucon_model::{Formula, Predicate, Ref, Right, SessionRow, Test, View};
+use ucon_readers::Kind;
 use ucon_state::State;
-
-/// What sessions that share a judgement have in common, by number: their right and, on each side that it reads, their entity.
-#[derive(Clone, Copy, Debug, PartialEq, Eq, Hash)]
-pub struct Kind {
-    right: u32,
-    subject: Option<u32>,
-    object: Option<u32>,
-}
 
 /// The kind of a session whose right reads these places.
 pub fn kind_of(state: &State, row: &SessionRow, places: &[Ref]) -> Kind {
@@ -74,8 +67,10 @@ pub fn are_alike(row: &SessionRow, other: &SessionRow, places: &[Ref]) -> bool
 
 /// Whether the right of session n has a predicate that is asked while the usage goes on.
 pub fn asks_while_it_goes_on(state: &State, n: u32) -> bool
-    ensures places { IsFalse result → (row : SessionRow) → session_in (shown state.now).tables n ≡ Some row → places_of (shown state.now).policy row ≡ [] }
-    ensures timed { IsFalse result → (row : SessionRow) → session_in (shown state.now).tables n ≡ Some row → timed_of (shown state.now).policy row ≡ [] }
+    ensures places { IsFalse result → (row : SessionRow) → session_in (shown state.now).tables n ≡ Some row
+        → places_of (shown state.now).policy row ≡ [] }
+    ensures timed { IsFalse result → (row : SessionRow) → session_in (shown state.now).tables n ≡ Some row
+        → timed_of (shown state.now).policy row ≡ [] }
 {
     match state.right(n) {
         Some(right) => has_ongoing(right.preds.slice()),

@@ -4,16 +4,11 @@
 
 mod follow;
 mod kinds;
-mod limits;
-mod lists;
 mod monitor;
 mod own_work;
 mod passing;
 mod places;
-mod readers;
 mod restoring;
 mod settle;
-mod standing;
-mod timers;
 
 pub use monitor::Monitor;

@@ -4,10 +4,11 @@ ghost use Rattle.std.specs.Prelude.{◌≡◌, ◌+◌, ◌≤◌, List, [], IfO
 ghost use Rattle.ucon_actions.specs.Leads.{AfterEach, KeepsBase, Leads};
 ghost use Rattle.ucon_cascade.specs.Grouping.{AreGrouped};
 ghost use Rattle.ucon_cascade.specs.Numbering.{IsExact};
-ghost use Rattle.ucon_cascade.specs.Readers.{IsKept, UndoGives, first_of, readers_at};
+ghost use Rattle.ucon_readers.specs.Readers.{IsKept, UndoGives, first_of, readers_at};
 ghost use Rattle.ucon_cascade.specs.Paid.{touched};
 ghost use Rattle.ucon_cascade.specs.Passing.{WereMade};
-ghost use Rattle.ucon_cascade.specs.Timers.{AreTimely, IsKept as AreKept, UndoGives as TimersGive};
+ghost use Rattle.ucon_cascade.specs.Timely.{AreTimely};
+ghost use Rattle.ucon_readers.specs.Timers.{IsKept as AreKept, UndoGives as TimersGive, wheel_of};
 ghost use Rattle.ucon_model.specs.declared.command.Caller.{Caller};
 ghost use Rattle.ucon_model.specs.Action.{Action, Trace, extended};
 ghost use Rattle.ucon_model.specs.Block.{reply as reply_to};
@@ -22,10 +23,8 @@ ghost use Rattle.ucon_state.specs.Shown.{shown};
 use crate::follow::{all_readers, follow_actions};
 use crate::own_work::put_own_work;
 use crate::passing::{all_timers, follow_time};
-use crate::readers::Readers;
 use crate::restoring::least_failing;
 use crate::settle::settle;
-use crate::timers::Timers;
 use std::alloc::Global;
 use ucon_actions::{ActionFault, Outcome, own_actions};
 use ucon_base::{NoMemory, Rows, Steps};
@@ -37,6 +36,7 @@ use ucon_model::{
     updates_write_their_targets, work_is_read_off_afterwards,
 };
 use ucon_pend::Pend;
+use ucon_readers::{Readers, Timers, undoing_gives_what_is_kept};
 use ucon_state::{
     Drafted, Engine, RestoreFault, State, cells_are_of_one_attribute, each_action_is_followed,
     sessions_are_few, tables_keep_what_is_followed,
@@ -166,6 +166,7 @@ impl Monitor {
     {
         actions_are_done_in_order();
         nobody_fails_after_settling();
+        undoing_gives_what_is_kept();
         match own_actions(self.alloc, &mut self.state, caller, command) {
             Err(ActionFault::NoMemory(refused)) => Err(refused),
             Err(ActionFault::Refused(r)) => Ok(Reply::Refused(r)),
@@ -185,7 +186,7 @@ impl Monitor {
         head: &Head,
         steps: &mut Steps,
     ) -> Result<Rows<Revoked>, NoMemory>
-        requires made { AreMade (shown self.old.state) (readers_at self.old.readers) (first_of self.old.readers) self.old.timers.wheel
+        requires made { AreMade (shown self.old.state) (readers_at self.old.readers) (first_of self.old.readers) (wheel_of self.old.timers)
             command.now head.now }
         requires kept { IsKept self.old.readers }
         requires timers_kept { AreKept self.old.timers }
@@ -197,11 +198,11 @@ impl Monitor {
         ensures grouped { OnOk result (AreGrouped (shown self.new.state) (first_of self.new.readers)) }
         ensures undo { UndoGives self.new.readers (readers_at self.old.readers) (first_of self.old.readers) }
         ensures timely { OnOk result ((P : PlainPolicy) (T : Trace) (caller : Caller) (actions : List Action)
-            → WereMade (shown self.old.state) self.old.timers.wheel P T caller command.now head.now actions
-            → AreTimely self.new.timers.wheel P (extended (extended T actions) (settle P (extended T actions)))) }
-        ensures timers_undo { TimersGive self.new.timers self.old.timers.wheel }
+            → WereMade (shown self.old.state) (wheel_of self.old.timers) P T caller command.now head.now actions
+            → AreTimely (wheel_of self.new.timers) P (extended (extended T actions) (settle P (extended T actions)))) }
+        ensures timers_undo { TimersGive self.new.timers (wheel_of self.old.timers) }
         ensures cost { (P : PlainPolicy) (T : Trace) (caller : Caller) (actions : List Action)
-            → WereMade (shown self.old.state) self.old.timers.wheel P T caller command.now head.now actions
+            → WereMade (shown self.old.state) (wheel_of self.old.timers) P T caller command.now head.now actions
             → steps.new ≤ steps.old + touched P T caller command.now }
         ensures done { OnOk result (self.new.work.members ≡ []) }
         ensures limit { self.new.work.limit ≡ self.old.work.limit }

@@ -15,13 +15,12 @@ ghost use Rattle.ucon_model.specs.Plain.{PlainPolicy};
 ghost use Rattle.ucon_state.specs.Shown.{shown};
 ghost use Rattle.ucon_wheel.specs.Deadlines.{Deadlines};
 ghost use Rattle.ucon_cascade.specs.Passing.{AreTimedBefore, MayPass, Moves, PassesAll, WereMade, is_tick};
-ghost use Rattle.ucon_cascade.specs.Timers.{AreTimedBelow, AreTimely, HasDeadline, IsKept, IsLimitOf, UndoGives};
-ghost use Rattle.ucon_cascade.specs.Timers.{Gets, HiddenBelow, HidesNoMore, count_below};
+ghost use Rattle.ucon_cascade.specs.Timely.{AreTimedBelow, AreTimely, IsLimitOf};
+ghost use Rattle.ucon_readers.specs.Timers.{HasDeadline, IsKept, UndoGives, wheel_of};
+ghost use Rattle.ucon_readers.specs.Timers.{Gets, HiddenBelow, HidesNoMore, count_below};
 
 use crate::follow::going_on;
 use crate::kinds::asks_while_it_goes_on;
-use crate::limits::put_limits;
-use crate::timers::Timers;
 use std::alloc::Global;
 use ucon_actions::{session, sessions};
 use ucon_base::NoMemory;
@@ -29,6 +28,7 @@ use ucon_model::{
     Command, Head, View, heads_tell_whose_usage_begins_or_ends, readings_that_agree_are_one,
 };
 use ucon_pend::Pend;
+use ucon_readers::{Timers, put_limits, undoing_gives_what_is_kept};
 use ucon_state::{State, tables_keep_what_is_followed};
 
 /// All deadlines are set anew where the command replaced the policy. A tick passes those below it, and puts their sessions into the work.
@@ -42,21 +42,23 @@ pub fn follow_time(
     work: &mut Pend,
 ) -> Result<(), NoMemory>
     requires kept { IsKept timers.old }
-    requires made { AreTimedBefore (shown state.now) timers.old.wheel command.now head.now }
+    requires made { AreTimedBefore (shown state.now) (wheel_of timers.old) command.now head.now }
     requires no_work { work.old.members ≡ [] }
     requires few { length (shown state.now).tables.sessions < work.old.limit }
     ensures timely { OnOk result ((P : PlainPolicy) (T : Trace) (caller : Caller) (actions : List Action)
-        → WereMade (shown state.now) timers.old.wheel P T caller command.now head.now actions → AreTimely timers.new.wheel P (extended T actions)) }
+        → WereMade (shown state.now) (wheel_of timers.old) P T caller command.now head.now actions
+        → AreTimely (wheel_of timers.new) P (extended T actions)) }
     ensures due { OnOk result ((P : PlainPolicy) (T : Trace) (caller : Caller) (t : ℤ) (actions : List Action) → command.now ≡ commands.Tick t
-        → WereMade (shown state.now) timers.old.wheel P T caller command.now head.now actions
+        → WereMade (shown state.now) (wheel_of timers.old) P T caller command.now head.now actions
         → (n : ℕ) → is_accessing (session T n) ≡ true → is_due P T t n ≡ true → Contains work.new.members n) }
     ensures touched { OnOk result ((P : PlainPolicy) (T : Trace) (caller : Caller) (actions : List Action)
-        → WereMade (shown state.now) timers.old.wheel P T caller command.now head.now actions
+        → WereMade (shown state.now) (wheel_of timers.old) P T caller command.now head.now actions
         → (n : ℕ) → Contains work.new.members n → 1 ≤ touches_by P T actions n) }
     ensures quiet { is_tick command.now ≡ false → work.new.members ≡ [] }
     ensures limit { work.new.limit ≡ work.old.limit }
-    ensures undo { UndoGives timers.new timers.old.wheel }
+    ensures undo { UndoGives timers.new (wheel_of timers.old) }
 {
+    undoing_gives_what_is_kept();
     match command {
         Command::Amend(_) => time_anew(alloc, state, timers),
         Command::Tick(_) => pass_deadlines(state, timers, work),
@@ -68,8 +70,8 @@ pub fn follow_time(
 fn follow_usage(state: &State, timers: &mut Timers, head: &Head) -> Result<(), NoMemory>
     requires { IsKept timers.old }
     ensures timely { OnOk result ((P : PlainPolicy) (T : Trace) (caller : Caller) (c : Command) (actions : List Action)
-        → is_amendment c ≡ false → is_tick c ≡ false → WereMade (shown state.now) timers.old.wheel P T caller c head.now actions
-        → AreTimely timers.new.wheel P (extended T actions)) }
+        → is_amendment c ≡ false → is_tick c ≡ false → WereMade (shown state.now) (wheel_of timers.old) P T caller c head.now actions
+        → AreTimely (wheel_of timers.new) P (extended T actions)) }
     ensures undo { (before : Deadlines) → UndoGives timers.old before → UndoGives timers.new before }
 {
     heads_tell_whose_usage_begins_or_ends();
@@ -85,10 +87,11 @@ fn follow_usage(state: &State, timers: &mut Timers, head: &Head) -> Result<(), N
 /// Gives session n the deadlines of what holds of its right.
 #[inline(always)]
 fn put_session(state: &State, timers: &mut Timers, n: u32) -> Result<(), NoMemory>
-    requires { HiddenBelow timers.old.wheel (shown state.now).tables.tick }
-    ensures gets { OnOk result (Gets timers.old.wheel timers.new.wheel n (IsLimitOf (shown state.now) n)) }
-    ensures hidden { HidesNoMore timers.old.wheel timers.new.wheel }
-    ensures below { count_below timers.new.wheel (shown state.now).tables.tick ≡ count_below timers.old.wheel (shown state.now).tables.tick }
+    requires { HiddenBelow (wheel_of timers.old) (shown state.now).tables.tick }
+    ensures gets { OnOk result (Gets (wheel_of timers.old) (wheel_of timers.new) n (IsLimitOf (shown state.now) n)) }
+    ensures hidden { HidesNoMore (wheel_of timers.old) (wheel_of timers.new) }
+    ensures below { count_below (wheel_of timers.new) (shown state.now).tables.tick
+        ≡ count_below (wheel_of timers.old) (shown state.now).tables.tick }
     ensures undo { (before : Deadlines) → UndoGives timers.old before → UndoGives timers.new before }
 {
     if !asks_while_it_goes_on(state, n) {
@@ -103,10 +106,10 @@ fn put_session(state: &State, timers: &mut Timers, n: u32) -> Result<(), NoMemor
 /// Takes out the deadlines below the tick, the earliest first. Their sessions are put into the work, and what still holds of their rights
 /// gets its deadline of now.
 fn pass_deadlines(state: &State, timers: &mut Timers, work: &mut Pend) -> Result<(), NoMemory>
-    requires hidden { HiddenBelow timers.old.wheel (shown state.now).tables.tick }
-    requires may { MayPass (shown state.now) timers.old.wheel work.old.members }
+    requires hidden { HiddenBelow (wheel_of timers.old) (shown state.now).tables.tick }
+    requires may { MayPass (shown state.now) (wheel_of timers.old) work.old.members }
     requires few { length (shown state.now).tables.sessions < work.old.limit }
-    ensures passed { OnOk result (PassesAll (shown state.now) timers.old.wheel timers.new.wheel work.old.members work.new.members) }
+    ensures passed { OnOk result (PassesAll (shown state.now) (wheel_of timers.old) (wheel_of timers.new) work.old.members work.new.members) }
     ensures limit { work.new.limit ≡ work.old.limit }
     ensures undo { (before : Deadlines) → UndoGives timers.old before → UndoGives timers.new before }
 {
@@ -121,13 +124,13 @@ fn pass_deadlines(state: &State, timers: &mut Timers, work: &mut Pend) -> Result
 
 /// Takes a deadline from session n, and gives it those of what still holds of its right.
 fn pass_deadline(state: &State, timers: &mut Timers, n: u32, deadline: i64) -> Result<(), NoMemory>
-    requires there { HasDeadline timers.old.wheel n deadline }
+    requires there { HasDeadline (wheel_of timers.old) n deadline }
     requires below { deadline <ℤ (shown state.now).tables.tick }
-    requires hidden { HiddenBelow timers.old.wheel (shown state.now).tables.tick }
-    ensures moves { OnOk result (Moves (shown state.now) timers.old.wheel timers.new.wheel n deadline) }
-    ensures hidden { HiddenBelow timers.new.wheel (shown state.now).tables.tick }
-    ensures fewer { OnOk result (count_below timers.new.wheel (shown state.now).tables.tick + 1
-        ≡ count_below timers.old.wheel (shown state.now).tables.tick) }
+    requires hidden { HiddenBelow (wheel_of timers.old) (shown state.now).tables.tick }
+    ensures moves { OnOk result (Moves (shown state.now) (wheel_of timers.old) (wheel_of timers.new) n deadline) }
+    ensures hidden { HiddenBelow (wheel_of timers.new) (shown state.now).tables.tick }
+    ensures fewer { OnOk result (count_below (wheel_of timers.new) (shown state.now).tables.tick + 1
+        ≡ count_below (wheel_of timers.old) (shown state.now).tables.tick) }
     ensures undo { (before : Deadlines) → UndoGives timers.old before → UndoGives timers.new before }
 {
     timers.hide(n, deadline)?;
@@ -137,9 +140,10 @@ fn pass_deadline(state: &State, timers: &mut Timers, n: u32, deadline: i64) -> R
 /// The deadlines of now take the place of those before.
 fn time_anew(alloc: Global, state: &State, timers: &mut Timers) -> Result<(), NoMemory>
     requires { IsKept timers.old }
-    ensures timely { OnOk result (AfterEach (shown state.now) (AreTimely timers.new.wheel)) }
-    ensures undo { UndoGives timers.new timers.old.wheel }
+    ensures timely { OnOk result (AfterEach (shown state.now) (AreTimely (wheel_of timers.new))) }
+    ensures undo { UndoGives timers.new (wheel_of timers.old) }
 {
+    undoing_gives_what_is_kept();
     let all = all_timers(alloc, state)?;
     timers.replace(all);
     Ok(())
@@ -147,7 +151,7 @@ fn time_anew(alloc: Global, state: &State, timers: &mut Timers) -> Result<(), No
 
 /// All deadlines.
 pub fn all_timers(alloc: Global, state: &State) -> Result<Timers, NoMemory>
-    ensures { IfOk result (λ t. AfterEach (shown state.now) (AreTimely t.wheel)) }
+    ensures { IfOk result (λ t. AfterEach (shown state.now) (AreTimely (wheel_of t))) }
 {
     let mut timers = Timers::new(alloc)?;
     for before in 0..sessions(state) {
@@ -158,10 +162,10 @@ pub fn all_timers(alloc: Global, state: &State) -> Result<Timers, NoMemory>
 
 /// Gives session n its deadlines, if it is accessing.
 fn put_accessing(state: &State, timers: &mut Timers, n: u32) -> Result<(), NoMemory>
-    requires hidden { HiddenBelow timers.old.wheel (shown state.now).tables.tick }
-    requires below { AfterEach (shown state.now) (AreTimedBelow n timers.old.wheel) }
-    ensures timed { OnOk result (AfterEach (shown state.now) (AreTimedBelow (n + 1) timers.new.wheel)) }
-    ensures hidden { HidesNoMore timers.old.wheel timers.new.wheel }
+    requires hidden { HiddenBelow (wheel_of timers.old) (shown state.now).tables.tick }
+    requires below { AfterEach (shown state.now) (AreTimedBelow n (wheel_of timers.old)) }
+    ensures timed { OnOk result (AfterEach (shown state.now) (AreTimedBelow (n + 1) (wheel_of timers.new))) }
+    ensures hidden { HidesNoMore (wheel_of timers.old) (wheel_of timers.new) }
 {
     readings_that_agree_are_one();
     tables_keep_what_is_followed();

@@ -11,10 +11,11 @@ ghost use Rattle.ucon_cascade.specs.Grouping.{AreGrouped};
 ghost use Rattle.ucon_cascade.specs.Leaving.{IsNext, LeavesList};
 ghost use Rattle.ucon_cascade.specs.Numbering.{IsExact};
 ghost use Rattle.ucon_cascade.specs.Putting.{AllBelow, GoesOn};
-ghost use Rattle.ucon_cascade.specs.Readers.{UndoGives, first_of, readers_at};
+ghost use Rattle.ucon_readers.specs.Readers.{UndoGives, first_of, readers_at};
 ghost use Rattle.ucon_cascade.specs.Paid.{CostsItsTouches, StayPaid, StayPaidRevoking};
 ghost use Rattle.ucon_model.specs.Readings.{is_accessing};
-ghost use Rattle.ucon_cascade.specs.Timers.{AreTimely, UndoGives as TimersGive};
+ghost use Rattle.ucon_cascade.specs.Timely.{AreTimely};
+ghost use Rattle.ucon_readers.specs.Timers.{UndoGives as TimersGive, wheel_of};
 ghost use Rattle.ucon_wheel.specs.Deadlines.{Deadlines};
 ghost use Rattle.ucon_model.specs.Plain.{PlainPolicy};
 ghost use Rattle.ucon_model.specs.Action.{Trace};
@@ -23,8 +24,6 @@ ghost use Rattle.ucon_state.specs.Shown.{shown};
 ghost use Rattle.ucon_state.specs.Tables.{session_in};
 
 use crate::own_work::put_targets;
-use crate::readers::Readers;
-use crate::timers::Timers;
 use std::alloc::Global;
 use ucon_actions::{accessing, is_accessing, revoke, session_state};
 use ucon_asked::typed_tests_make_no_set;
@@ -36,6 +35,7 @@ use ucon_model::{
     readings_that_agree_are_one, turns_follow_each_other, updates_write_their_targets,
 };
 use ucon_pend::Pend;
+use ucon_readers::{Readers, Timers};
 use ucon_state::{
     State, cells_are_of_one_attribute, sessions_are_few, tables_keep_what_is_followed,
 };
@@ -122,8 +122,8 @@ fn revoke_next(
     ensures work { OnOk result (IsWork (shown state.new) (first_of readers.new) work.new.members) }
     ensures exact { OnOk result (IsExact (shown state.new) (readers_at readers.new)) }
     ensures undo { (standing : ℕ → List ℕ) (first : ℕ → ℕ) → UndoGives readers.old standing first → UndoGives readers.new standing first }
-    ensures timed { OnOk result ((P : PlainPolicy) (T : Trace) → Follows (shown state.old) P T → AreTimely timers.old.wheel P T
-        → AreTimely timers.new.wheel P (extended T (revocation P T (n, label)))) }
+    ensures timed { OnOk result ((P : PlainPolicy) (T : Trace) → Follows (shown state.old) P T → AreTimely (wheel_of timers.old) P T
+        → AreTimely (wheel_of timers.new) P (extended T (revocation P T (n, label)))) }
     ensures timers_undo { (before : Deadlines) → TimersGive timers.old before → TimersGive timers.new before }
     ensures fewer { OnOk result ((m : ℕ) → GoesOn (shown state.new) m → GoesOn (shown state.old) m) }
     ensures paid { OnOk result (StayPaidRevoking (shown state.old) (n, label)
@@ -167,8 +167,8 @@ pub fn settle(
     ensures grouped { OnOk result (AreGrouped (shown state.new) (first_of readers.new)) }
     ensures undo { (standing : ℕ → List ℕ) (first : ℕ → ℕ) → UndoGives readers.old standing first → UndoGives readers.new standing first }
     ensures done { OnOk result (work.new.members ≡ []) }
-    ensures timed { OnOk result ((P : PlainPolicy) (T : Trace) → Follows (shown state.old) P T → AreTimely timers.old.wheel P T
-        → AreTimely timers.new.wheel P (extended T (settle P T))) }
+    ensures timed { OnOk result ((P : PlainPolicy) (T : Trace) → Follows (shown state.old) P T → AreTimely (wheel_of timers.old) P T
+        → AreTimely (wheel_of timers.new) P (extended T (settle P T))) }
     ensures timers_undo { (before : Deadlines) → TimersGive timers.old before → TimersGive timers.new before }
     ensures cost { CostsItsTouches (shown state.old) (first_of readers.old) work.old.members steps.old steps.new }
     ensures limit { work.new.limit ≡ work.old.limit }

@@ -1,6 +1,6 @@
 use Rattle.std.proofs.Common.{◌∙◌, sym}
 use Rattle.ucon_state.specs.Shown.{shown}
-use Rattle.ucon_cascade.specs.Readers.{readers_at}
+use Rattle.ucon_readers.specs.Readers.{readers_at}
 use Rattle.ucon_cascade.proofs.Anew.{all_stand, none_reads_next, not_yet, one_reads_next}
 use Rattle.ucon_cascade.proofs.Outcomes.{ok_three}
 use Rattle.ucon_cascade.proofs.follow.add_accessing.Goals as goal

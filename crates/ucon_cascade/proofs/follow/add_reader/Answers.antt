@@ -1,17 +1,16 @@
-use Rattle.std.proofs.Common.{◌≡◌, ◌∙◌, [], ℕ, List, None, ap, subst, sym}
+use Rattle.std.proofs.Common.{◌≡◌, [], ℕ, List, None, ap, inl, refl, subst, sym}
 use Rattle.std.specs.Prelude.{Option}
 use Rattle.std.specs.Option.{option_map_or}
-use Rattle.ucon_model.specs.Decision.{right_named}
 use Rattle.ucon_model.specs.Places.{places_read}
-use Rattle.ucon_model.specs.Plain.{PlainPolicy, PlainRight}
+use Rattle.ucon_model.specs.Plain.{PlainRight}
 use Rattle.ucon_state.specs.Shown.{shown}
-use Rattle.ucon_cascade.specs.Listing.{ComesTo, Listing, readers_in}
+use Rattle.ucon_readers.specs.Listing.{ComesTo}
+use Rattle.ucon_cascade.specs.Grouping.{GetsFirst}
 use Rattle.ucon_cascade.specs.Numbering.{numbers_of, place_numbers}
-use Rattle.ucon_cascade.specs.Readers.{first_of, readers_at}
+use Rattle.ucon_readers.specs.Readers.{first_of, readers_at}
 use Rattle.ucon_cascade.proofs.Asking.{right_by_row}
 use Rattle.ucon_cascade.proofs.Begun.{joined_comes}
 use Rattle.ucon_cascade.proofs.Outcomes.{ok_then, on_ok}
-use Rattle.ucon_cascade.proofs.Placed.{kept_gives, undo_still}
 use Rattle.ucon_cascade.proofs.follow.add_reader.Goals as goal
 
 pub returns-in_default-clause-comes : goal.returns-in_default-clause-comes
@@ -25,7 +24,7 @@ returns-in_default-clause-comes c =
     ok_then c.lead.result (subst (λ (ns : List ℕ). ComesTo (readers_at c.args.readers.now) (readers_at c.lead.new.self) c.args.n ns) (sym none)) c.lead.ensures.comes
 
 pub returns-in_err-places-clause-undo : goal.returns-in_err-places-clause-undo
-returns-in_err-places-clause-undo c = kept_gives c.args.readers.now c.requires.kept
+returns-in_err-places-clause-undo c = c.undoing_gives_what_is_kept.ensures.readers c.args.readers.now c.requires.kept
 
 pub returns-in-Some-first_alike-clause-comes : goal.returns-in-Some-first_alike-clause-comes
 returns-in-Some-first_alike-clause-comes c =
@@ -46,10 +45,14 @@ returns-in-Some-first_alike-clause-numbered c =
 pub returns-clause-comes : goal.returns-clause-comes
 returns-clause-comes c =
     on_ok c.remember.result
-    (subst (λ (s : Listing). ComesTo (readers_at c.args.readers.now) (readers_in s) c.args.n (place_numbers (shown c.args.state.now) c.args.row.now))
-    (sym c.remember.ensures.standing) c.in_ok-lead.ensures.comes)
+    (subst (λ (standing : ℕ → List ℕ). ComesTo (readers_at c.args.readers.now) standing c.args.n (place_numbers (shown c.args.state.now) c.args.row.now))
+    (sym c.remember.ensures.read) c.in_ok-lead.ensures.comes)
+
+pub returns-clause-first : goal.returns-clause-first
+returns-clause-first c =
+    on_ok c.remember.result
+    (subst (λ (first : ℕ → ℕ). GetsFirst (shown c.args.state.now) (first_of c.args.readers.now) first c.args.n) (sym c.remember.ensures.firsts)
+    (record { first = c.args.n; joins = c.in_ok-lead.ensures.alone; may = inl refl }))
 
 pub returns-clause-undo : goal.returns-clause-undo
-returns-clause-undo c =
-    undo_still c.lead-2.new.readers c.remember.new.self (readers_at c.args.readers.now) (first_of c.args.readers.now) c.remember.ensures.standing c.remember.ensures.replaced
-    c.in_ok-lead.ensures.undo
+returns-clause-undo c = c.remember.ensures.undo (readers_at c.args.readers.now) (first_of c.args.readers.now) c.in_ok-lead.ensures.undo

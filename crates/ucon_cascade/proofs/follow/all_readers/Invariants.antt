@@ -1,6 +1,7 @@
 use Rattle.std.proofs.Common.{◌+◌}
 use Rattle.ucon_state.specs.Shown.{shown}
-use Rattle.ucon_cascade.specs.Readers.{AreReadBelow, IsKept}
+use Rattle.ucon_cascade.specs.Reading.{AreReadBelow}
+use Rattle.ucon_readers.specs.Readers.{IsKept}
 use Rattle.ucon_cascade.proofs.follow.all_readers.Given as goal
 
 -- so many sessions are read

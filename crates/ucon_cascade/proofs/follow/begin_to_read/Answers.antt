@@ -1,6 +1,6 @@
 use Rattle.std.proofs.Common.{◌∙◌, sym}
 use Rattle.ucon_state.specs.Shown.{shown}
-use Rattle.ucon_cascade.specs.Readers.{first_of, readers_at}
+use Rattle.ucon_readers.specs.Readers.{first_of, readers_at}
 use Rattle.ucon_cascade.proofs.Begun.{alone_begun, alone_itself, begins_from_nowhere, exact_begun, exact_reading_nothing, grouped_begun, grouped_itself, others_stand}
 use Rattle.ucon_cascade.proofs.Outcomes.{ok_both, ok_then}
 use Rattle.ucon_cascade.proofs.follow.begin_to_read.Goals as goal

@@ -1,14 +1,13 @@
 use Rattle.std.proofs.Common.{subst}
 use Rattle.ucon_state.specs.Shown.{shown}
 use Rattle.ucon_cascade.specs.Cascading.{WereExact}
-use Rattle.ucon_cascade.specs.Readers.{first_of, readers_at}
+use Rattle.ucon_readers.specs.Readers.{first_of, readers_at}
 use Rattle.ucon_cascade.proofs.Following.{follow_ended, follow_quiet, group_ended, group_quiet}
-use Rattle.ucon_cascade.proofs.Placed.{kept_gives}
 use Rattle.ucon_cascade.proofs.follow.follow_head.Goals as goal
 
 pub returns-in_err-hide-in-Ended-clause-undo : goal.returns-in_err-hide-in-Ended-clause-undo
 returns-in_err-hide-in-Ended-clause-undo c =
-    c.in_err-hide-in-Ended.ensures.undo (readers_at c.args.readers.now) (first_of c.args.readers.now) (kept_gives c.args.readers.now c.requires.kept)
+    c.in_err-hide-in-Ended.ensures.undo (readers_at c.args.readers.now) (first_of c.args.readers.now) (c.undoing_gives_what_is_kept.ensures.readers c.args.readers.now c.requires.kept)
 
 pub returns-in_ok-hide-in-Ended-clause-exact : goal.returns-in_ok-hide-in-Ended-clause-exact
 returns-in_ok-hide-in-Ended-clause-exact c =
@@ -28,7 +27,7 @@ returns-in_ok-hide-in-Ended-clause-grouped c =
 
 pub returns-in_ok-hide-in-Ended-clause-undo : goal.returns-in_ok-hide-in-Ended-clause-undo
 returns-in_ok-hide-in-Ended-clause-undo c =
-    c.in_ok-hide-in-Ended.ensures.undo (readers_at c.args.readers.now) (first_of c.args.readers.now) (kept_gives c.args.readers.now c.requires.kept)
+    c.in_ok-hide-in-Ended.ensures.undo (readers_at c.args.readers.now) (first_of c.args.readers.now) (c.undoing_gives_what_is_kept.ensures.readers c.args.readers.now c.requires.kept)
 
 pub returns-in_default : goal.returns-in_default
 returns-in_default c =
@@ -40,5 +39,5 @@ returns-in_default c =
       exact = follow_quiet s standing first head c.requires.were c.in_default.not-Permitted c.in_default.not-Ended;
       grouped = group_quiet s standing first head c.requires.were c.in_default.not-Permitted c.in_default.not-Ended;
       alone = λ k n is. absurd (c.in_default.not-Permitted k is);
-      undo = kept_gives c.args.readers.now c.requires.kept;
+      undo = c.undoing_gives_what_is_kept.ensures.readers c.args.readers.now c.requires.kept;
     }

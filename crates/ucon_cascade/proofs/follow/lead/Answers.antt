@@ -2,14 +2,13 @@ use Rattle.std.proofs.Common.{◌↔◌, ℕ, List, subst, sym}
 use Rattle.std.specs.List.{Contains}
 use Rattle.ucon_state.specs.Shown.{shown}
 use Rattle.ucon_cascade.specs.Numbering.{place_numbers}
-use Rattle.ucon_cascade.specs.Readers.{readers_at}
+use Rattle.ucon_readers.specs.Readers.{readers_at}
 use Rattle.ucon_cascade.proofs.Begun.{comes_like}
 use Rattle.ucon_cascade.proofs.Outcomes.{ok_then}
-use Rattle.ucon_cascade.proofs.Placed.{kept_gives}
 use Rattle.ucon_cascade.proofs.follow.lead.Goals as goal
 
 pub returns-in_err-numbers-clause-undo : goal.returns-in_err-numbers-clause-undo
-returns-in_err-numbers-clause-undo c = kept_gives c.args.readers.now c.requires.kept
+returns-in_err-numbers-clause-undo c = c.undoing_gives_what_is_kept.ensures.readers c.args.readers.now c.requires.kept
 
 pub returns-clause-comes : goal.returns-clause-comes
 returns-clause-comes c =

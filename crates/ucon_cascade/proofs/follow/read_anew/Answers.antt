@@ -1,11 +1,10 @@
 use Rattle.ucon_state.specs.Shown.{shown}
-use Rattle.ucon_cascade.specs.Readers.{first_of, readers_at}
+use Rattle.ucon_readers.specs.Readers.{first_of, readers_at}
 use Rattle.ucon_cascade.proofs.Following.{exact_like, grouped_like}
-use Rattle.ucon_cascade.proofs.Placed.{kept_gives}
 use Rattle.ucon_cascade.proofs.follow.read_anew.Goals as goal
 
 pub returns-in_err-all-clause-undo : goal.returns-in_err-all-clause-undo
-returns-in_err-all-clause-undo c = kept_gives c.args.readers.now c.requires.kept
+returns-in_err-all-clause-undo c = c.undoing_gives_what_is_kept.ensures.readers c.args.readers.now c.requires.kept
 
 pub returns-clause-exact : goal.returns-clause-exact
 returns-clause-exact c =

@@ -1,4 +1,4 @@
-use Rattle.std.proofs.Common.{◌≡◌, ◌∙◌, [], List, Some, filter, map, ap, sym}
+use Rattle.std.proofs.Common.{◌∙◌, List, Some, filter, map, ap, sym}
 use Rattle.ucon_model.specs.declared.policy.Predicate.{Predicate}
 use Rattle.ucon_model.specs.Decision.{ongoing}
 use Rattle.ucon_model.specs.Views.{predicate_of, right_of}

@@ -1,6 +1,6 @@
 use Rattle.std.proofs.Common.{◌∙◌, ◌+◌, arith, refl}
 use Rattle.ucon_state.specs.Shown.{shown}
-use Rattle.ucon_cascade.specs.Readers.{first_of}
+use Rattle.ucon_readers.specs.Readers.{first_of}
 use Rattle.ucon_cascade.proofs.Putting.{GoOnBelow, all_go_on, gains_none, next_goes_on, none_go_on}
 use Rattle.ucon_cascade.proofs.own_work.put_accessing.Goals as goal
 

@@ -1,7 +1,7 @@
 use Rattle.std.proofs.Common.{◌≡◌, ◌+◌}
 use Rattle.ucon_state.specs.Shown.{shown}
 use Rattle.ucon_cascade.specs.Putting.{GainsFirsts}
-use Rattle.ucon_cascade.specs.Readers.{first_of}
+use Rattle.ucon_readers.specs.Readers.{first_of}
 use Rattle.ucon_cascade.proofs.Putting.{GoOnBelow}
 use Rattle.ucon_cascade.proofs.own_work.put_accessing.Given as goal
 

@@ -2,7 +2,7 @@ use Rattle.std.proofs.Common.{◌∙◌, sym}
 use Rattle.ucon_model.specs.Reach.{attribute_of}
 use Rattle.ucon_state.specs.Shown.{shown}
 use Rattle.ucon_cascade.specs.Putting.{StandsAt}
-use Rattle.ucon_cascade.specs.Readers.{first_of, readers_at}
+use Rattle.ucon_readers.specs.Readers.{first_of, readers_at}
 use Rattle.ucon_cascade.proofs.Putting.{gains_none}
 use Rattle.ucon_cascade.proofs.Targets.{gains_at, nobody_at}
 use Rattle.ucon_cascade.proofs.own_work.put_attribute.Goals as goal

@@ -2,7 +2,7 @@ use Rattle.std.proofs.Common.{subst, sym}
 use Rattle.ucon_model.specs.declared.command.Command.{Command}
 use Rattle.ucon_state.specs.Shown.{shown}
 use Rattle.ucon_cascade.specs.Putting.{GainsFirsts, IsCommandWork}
-use Rattle.ucon_cascade.specs.Readers.{first_of, readers_at}
+use Rattle.ucon_readers.specs.Readers.{first_of, readers_at}
 use Rattle.ucon_cascade.proofs.own_work.put_commanded.Goals as goal
 
 pub returns-in-Set-clause-members : goal.returns-in-Set-clause-members

@@ -1,5 +1,5 @@
 use Rattle.std.proofs.Common.{◌≡◌, ◌∙◌, rules, sym}
-use Rattle.ucon_cascade.specs.Readers.{first_of}
+use Rattle.ucon_readers.specs.Readers.{first_of}
 use Rattle.ucon_cascade.proofs.Putting.{gains_itself, gains_not_itself}
 use Rattle.ucon_cascade.proofs.own_work.put_first.Goals as goal
 

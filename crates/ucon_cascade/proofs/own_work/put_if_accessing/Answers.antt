@@ -2,7 +2,7 @@ use Rattle.std.proofs.Common.{◌≡◌, ◌∙◌, sym}
 use Rattle.ucon_state.specs.Shown.{shown}
 use Rattle.ucon_state.specs.Tables.{session_in}
 use Rattle.ucon_cascade.specs.Putting.{GoesOn}
-use Rattle.ucon_cascade.specs.Readers.{first_of}
+use Rattle.ucon_readers.specs.Readers.{first_of}
 use Rattle.ucon_cascade.proofs.Anew.{goes_on_in, is_over_in, no_session}
 use Rattle.ucon_cascade.proofs.Putting.{gains_like, gains_none}
 use Rattle.ucon_cascade.proofs.own_work.put_if_accessing.Goals as goal

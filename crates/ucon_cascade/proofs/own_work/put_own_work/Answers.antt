@@ -1,6 +1,6 @@
 use Rattle.ucon_state.specs.Shown.{shown}
 use Rattle.ucon_cascade.specs.Putting.{IsCommandWork, IsPermitWork}
-use Rattle.ucon_cascade.specs.Readers.{first_of, readers_at}
+use Rattle.ucon_readers.specs.Readers.{first_of, readers_at}
 use Rattle.ucon_cascade.proofs.Putting.{gains_both}
 use Rattle.ucon_cascade.proofs.own_work.put_own_work.Goals as goal
 

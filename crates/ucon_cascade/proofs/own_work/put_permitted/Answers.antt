@@ -3,7 +3,7 @@ use Rattle.ucon_model.specs.declared.policy.When.TheVariants.{Before}
 use Rattle.ucon_model.specs.declared.reply.Head.{Head}
 use Rattle.ucon_state.specs.Shown.{shown}
 use Rattle.ucon_cascade.specs.Putting.{GainsFirsts, IsPermitWork, StandsAtOne, targets_in}
-use Rattle.ucon_cascade.specs.Readers.{first_of, readers_at}
+use Rattle.ucon_readers.specs.Readers.{first_of, readers_at}
 use Rattle.ucon_cascade.proofs.Putting.{gains_both}
 use Rattle.ucon_cascade.proofs.own_work.put_permitted.Goals as goal
 

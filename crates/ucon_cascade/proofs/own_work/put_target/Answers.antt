@@ -5,7 +5,7 @@ use Rattle.ucon_model.specs.Updates.{same_when}
 use Rattle.ucon_model.specs.Views.{update_of}
 use Rattle.ucon_state.specs.Shown.{shown}
 use Rattle.ucon_cascade.specs.Putting.{GainsFirsts, StandsAt, StandsAtOne}
-use Rattle.ucon_cascade.specs.Readers.{first_of, readers_at}
+use Rattle.ucon_readers.specs.Readers.{first_of, readers_at}
 use Rattle.ucon_cascade.proofs.Putting.{gains_none}
 use Rattle.ucon_cascade.proofs.Targets.{gains_one, no_target, one_target}
 use Rattle.ucon_cascade.proofs.own_work.put_target.Goals as goal

@@ -1,15 +1,15 @@
 use Rattle.std.proofs.Common.{◌≡◌, ◌∙◌, ◌∷◌, [], List, get_or, map, take, ap, sym, subst}
 use Rattle.std.proofs.lemmas.List.{take_all}
 use Rattle.ucon_model.specs.declared.policy.Update.{Update}
-use Rattle.ucon_model.specs.Plain.{PlainPolicy, PlainUpdate}
+use Rattle.ucon_model.specs.Plain.{PlainUpdate}
 use Rattle.ucon_model.specs.Reach.{Location, targets}
 use Rattle.ucon_model.specs.Updates.{updates_of}
 use Rattle.ucon_model.specs.Views.{right_of, update_of}
 use Rattle.ucon_state.specs.Shown.{shown}
 use Rattle.ucon_cascade.specs.Putting.{AllBelow, GainsFirsts, StandsAtOne}
-use Rattle.ucon_cascade.specs.Readers.{first_of, readers_at}
+use Rattle.ucon_readers.specs.Readers.{first_of, readers_at}
 use Rattle.ucon_cascade.proofs.Putting.{gains_none}
-use Rattle.ucon_cascade.proofs.Targets.{gains_more, targets_at, targets_more, targets_none, targets_without_right, targets_without_updates, updates_by_right}
+use Rattle.ucon_cascade.proofs.Targets.{gains_more, targets_at, targets_more, targets_without_right, updates_by_right}
 use Rattle.ucon_cascade.proofs.own_work.put_targets.Goals as goal
 
 pub returns-in_default-clause-members : goal.returns-in_default-clause-members

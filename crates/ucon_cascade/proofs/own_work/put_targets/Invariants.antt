@@ -3,7 +3,7 @@ use Rattle.ucon_model.specs.Reach.{targets}
 use Rattle.ucon_model.specs.Views.{update_of}
 use Rattle.ucon_state.specs.Shown.{shown}
 use Rattle.ucon_cascade.specs.Putting.{GainsFirsts, StandsAtOne}
-use Rattle.ucon_cascade.specs.Readers.{first_of, readers_at}
+use Rattle.ucon_readers.specs.Readers.{first_of, readers_at}
 use Rattle.ucon_cascade.proofs.own_work.put_targets.Given as goal
 
 -- who reads where the updates so far write is in the work

@@ -1,7 +1,8 @@
 use Rattle.std.proofs.Common.{◌+◌}
 use Rattle.ucon_actions.specs.Leads.{AfterEach}
 use Rattle.ucon_state.specs.Shown.{shown}
-use Rattle.ucon_cascade.specs.Timers.{AreTimedBelow, HiddenBelow}
+use Rattle.ucon_cascade.specs.Timely.{AreTimedBelow}
+use Rattle.ucon_readers.specs.Timers.{HiddenBelow}
 use Rattle.ucon_cascade.proofs.passing.all_timers.Given as goal
 
 -- so many sessions have their deadlines

@@ -6,7 +6,6 @@ use Rattle.ucon_state.specs.Shown.{shown}
 use Rattle.ucon_cascade.specs.Passing.{WereMade}
 use Rattle.ucon_cascade.proofs.Monitored.{ok_then, on_ok}
 use Rattle.ucon_cascade.proofs.Ticked.{due_ticked, may_pass, nobody_in, not_amendment, not_tick, timely_ticked, touched_ticked}
-use Rattle.ucon_cascade.proofs.Undoing.{kept_gives_wheel}
 use Rattle.ucon_cascade.proofs.passing.follow_time.Goals as goal
 
 pub returns-in-Amend-clause-timely : goal.returns-in-Amend-clause-timely
@@ -50,7 +49,7 @@ returns-in-Tick-clause-touched c =
     c.args.head.now c.in-Tick.field-0 actions c.in-Tick.is c.requires.no_work were passes n has) c.pass_deadlines.ensures.passed
 
 pub returns-in-Tick-clause-undo : goal.returns-in-Tick-clause-undo
-returns-in-Tick-clause-undo c = c.pass_deadlines.ensures.undo c.args.timers.now.wheel (kept_gives_wheel c.args.timers.now c.requires.kept)
+returns-in-Tick-clause-undo c = c.pass_deadlines.ensures.undo c.args.timers.now.wheel (c.undoing_gives_what_is_kept.ensures.timers c.args.timers.now c.requires.kept)
 
 pub returns-in_default-clause-timely : goal.returns-in_default-clause-timely
 returns-in_default-clause-timely c =
@@ -64,4 +63,4 @@ pub returns-in_default-clause-touched : goal.returns-in_default-clause-touched
 returns-in_default-clause-touched c = on_ok c.follow_usage.result (λ P T caller actions were n has. absurd (nobody_in c.args.work.now.members c.requires.no_work n has))
 
 pub returns-in_default-clause-undo : goal.returns-in_default-clause-undo
-returns-in_default-clause-undo c = c.follow_usage.ensures.undo c.args.timers.now.wheel (kept_gives_wheel c.args.timers.now c.requires.kept)
+returns-in_default-clause-undo c = c.follow_usage.ensures.undo c.args.timers.now.wheel (c.undoing_gives_what_is_kept.ensures.timers c.args.timers.now c.requires.kept)

@@ -3,7 +3,7 @@ use Rattle.std.specs.Prelude.{◌<ℤ◌}
 use Rattle.std.proofs.lemmas.Int.{to_z-of_z}
 use Rattle.ucon_state.specs.Shown.{shown}
 use Rattle.ucon_wheel.specs.Deadlines.{Deadlines}
-use Rattle.ucon_cascade.specs.Timers.{AreSame, HiddenBelow, IsHidden, Loses}
+use Rattle.ucon_readers.specs.Timers.{AreSame, HiddenBelow, IsHidden, Loses}
 use Rattle.ucon_cascade.proofs.Monitored.{ok_then, on_ok}
 use Rattle.ucon_cascade.proofs.Moving.{moves_both}
 use Rattle.ucon_cascade.proofs.passing.pass_deadline.Goals as goal

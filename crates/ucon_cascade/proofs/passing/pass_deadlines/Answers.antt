@@ -4,7 +4,7 @@ use Rattle.std.proofs.lemmas.Int.{to_z-of_z}
 use Rattle.ucon_pend.specs.NumberSet.{NumberSet}
 use Rattle.ucon_state.specs.Shown.{shown}
 use Rattle.ucon_cascade.specs.Passing.{Moves}
-use Rattle.ucon_cascade.specs.Timers.{HasDeadline}
+use Rattle.ucon_readers.specs.Timers.{HasDeadline}
 use Rattle.ucon_cascade.proofs.Moving.{passed_below, passes_on}
 use Rattle.ucon_cascade.proofs.passing.pass_deadlines.Goals as goal
 

@@ -5,7 +5,7 @@ use Rattle.ucon_state.specs.Following.{Follows}
 use Rattle.ucon_state.specs.Shown.{shown}
 use Rattle.ucon_wheel.specs.Deadlines.{Deadlines}
 use Rattle.ucon_cascade.specs.Passing.{IsPassing}
-use Rattle.ucon_cascade.specs.Timers.{HiddenBelow, UndoGives, count_below}
+use Rattle.ucon_readers.specs.Timers.{HiddenBelow, UndoGives, count_below}
 use Rattle.ucon_cascade.proofs.passing.pass_deadlines.Given as goal
 
 -- the tick is passing deadlines

@@ -1,11 +1,10 @@
 use Rattle.std.proofs.Common.{subst, sym}
 use Rattle.ucon_wheel.specs.Deadlines.{Deadlines}
-use Rattle.ucon_cascade.specs.Timers.{AreTimely}
-use Rattle.ucon_cascade.proofs.Undoing.{kept_gives_wheel}
+use Rattle.ucon_cascade.specs.Timely.{AreTimely}
 use Rattle.ucon_cascade.proofs.passing.time_anew.Goals as goal
 
 pub returns-in_err-all-clause-undo : goal.returns-in_err-all-clause-undo
-returns-in_err-all-clause-undo c = kept_gives_wheel c.args.timers.now c.requires
+returns-in_err-all-clause-undo c = c.undoing_gives_what_is_kept.ensures.timers c.args.timers.now c.requires
 
 pub returns-clause-timely : goal.returns-clause-timely
 returns-clause-timely c = λ P T h. subst (λ (v : Deadlines). AreTimely v P T) (sym c.replace.ensures.wheel) (c.in_ok-all.ensures P T h)

@@ -1,4 +1,4 @@
-use Rattle.ucon_cascade.specs.Readers.{first_of}
+use Rattle.ucon_readers.specs.Readers.{first_of}
 use Rattle.ucon_cascade.proofs.Leaving.{next_joins}
 use Rattle.ucon_cascade.proofs.settle.leave_list.Goals as goal
 

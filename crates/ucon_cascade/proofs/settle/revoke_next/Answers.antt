@@ -4,7 +4,7 @@ use Rattle.ucon_model.specs.Action.{extended}
 use Rattle.ucon_model.specs.Settle.{revocation}
 use Rattle.ucon_model.specs.Usages.{going_on}
 use Rattle.ucon_state.specs.Shown.{shown}
-use Rattle.ucon_cascade.specs.Readers.{first_of, readers_at}
+use Rattle.ucon_readers.specs.Readers.{first_of, readers_at}
 use Rattle.ucon_cascade.proofs.Costing.{fewer_go_on}
 use Rattle.ucon_cascade.proofs.Putting.{all_below}
 use Rattle.ucon_cascade.proofs.Revoking.{is_revoked, left_exactly, revoking_is_paid, work_after}

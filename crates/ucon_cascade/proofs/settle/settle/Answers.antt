@@ -7,8 +7,8 @@ use Rattle.ucon_model.specs.Readings.{accessing}
 use Rattle.ucon_model.specs.Settle.{least_failing, settled_to, revoked_in}
 use Rattle.ucon_state.specs.Following.{Follows}
 use Rattle.ucon_state.specs.Shown.{shown}
-use Rattle.ucon_cascade.specs.Readers.{first_of}
-use Rattle.ucon_cascade.specs.Timers.{AreTimely}
+use Rattle.ucon_readers.specs.Readers.{first_of}
+use Rattle.ucon_cascade.specs.Timely.{AreTimely}
 use Rattle.ucon_cascade.proofs.Costing.{cost_is_paid, found_is_paid, paid_on, paid_turn}
 use Rattle.ucon_cascade.proofs.Monitored.{base_on}
 use Rattle.ucon_cascade.proofs.settle.settle.Goals as goal

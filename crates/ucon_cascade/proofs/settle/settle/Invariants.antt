@@ -7,8 +7,9 @@ use Rattle.ucon_state.specs.Shown.{shown}
 use Rattle.ucon_actions.specs.Leads.{Leads, KeepsBase}
 use Rattle.ucon_cascade.specs.Cascading.{IsWork}
 use Rattle.ucon_cascade.specs.Numbering.{IsExact}
-use Rattle.ucon_cascade.specs.Readers.{UndoGives, first_of, readers_at}
-use Rattle.ucon_cascade.specs.Timers.{AreTimely, UndoGives as TimersGive}
+use Rattle.ucon_readers.specs.Readers.{UndoGives, first_of, readers_at}
+use Rattle.ucon_cascade.specs.Timely.{AreTimely}
+use Rattle.ucon_readers.specs.Timers.{UndoGives as TimersGive}
 use Rattle.ucon_wheel.specs.Deadlines.{Deadlines}
 use Rattle.ucon_cascade.proofs.Costing.{ArePaidAfter, FewerGoOn}
 use Rattle.ucon_cascade.proofs.settle.settle.Given as goal

@@ -2,7 +2,7 @@ use Rattle.std.proofs.Common.{◌≡◌, ◌∙◌, ap, subst, sym}
 use Rattle.ucon_pend.specs.NumberSet.{NumberSet}
 use Rattle.ucon_state.specs.Shown.{Shown, given_back, shown}
 use Rattle.ucon_cascade.specs.Monitor.{Stands}
-use Rattle.ucon_cascade.specs.Readers.{first_of, readers_at}
+use Rattle.ucon_readers.specs.Readers.{first_of, readers_at}
 use Rattle.ucon_cascade.proofs.Monitored.{same_lists, same_wheel, stands_like}
 use Rattle.ucon_cascade.proofs.monitor.Monitor.go_back.Goals as goal
 

@@ -4,7 +4,7 @@ use Rattle.ucon_model.specs.OwnActions.{own}
 use Rattle.ucon_state.specs.Shown.{shown}
 use Rattle.ucon_cascade.specs.Cascading.{work_of}
 use Rattle.ucon_cascade.specs.Passing.{WereMade}
-use Rattle.ucon_cascade.specs.Readers.{first_of, readers_at}
+use Rattle.ucon_readers.specs.Readers.{first_of, readers_at}
 use Rattle.ucon_cascade.proofs.Alike.{covers_each}
 use Rattle.ucon_cascade.proofs.Drafting.{draft_is_paid}
 use Rattle.ucon_cascade.proofs.Making.{covers_made}

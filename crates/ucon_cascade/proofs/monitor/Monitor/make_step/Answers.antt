@@ -6,11 +6,9 @@ use Rattle.ucon_model.specs.OwnActions.{own}
 use Rattle.ucon_model.specs.Settle.{fails_at}
 use Rattle.ucon_state.specs.Following.{Follows}
 use Rattle.ucon_state.specs.Shown.{shown}
-use Rattle.ucon_cascade.specs.Readers.{first_of, readers_at}
+use Rattle.ucon_readers.specs.Readers.{first_of, readers_at}
 use Rattle.ucon_cascade.proofs.Monitored.{made_actions, made_after, made_reply, on_err, opening_on, stands_before}
-use Rattle.ucon_cascade.specs.Timers.{AreTimely}
-use Rattle.ucon_cascade.proofs.Placed.{kept_gives}
-use Rattle.ucon_cascade.proofs.Undoing.{kept_gives_wheel}
+use Rattle.ucon_cascade.specs.Timely.{AreTimely}
 use Rattle.ucon_cascade.proofs.monitor.Monitor.make_step.Goals as goal
 
 pub own_actions-requires : goal.own_actions-requires
@@ -36,9 +34,9 @@ returns-in-Err-NoMemory-clause-err c = λ P T h.
     record {
       stood = readers_at r;
       first = first_of r;
-      undone = kept_gives r h.kept;
+      undone = c.undoing_gives_what_is_kept.ensures.readers r h.kept;
       was = c.args.self.now.timers.wheel;
-      timers_undone = kept_gives_wheel c.args.self.now.timers h.timers_kept;
+      timers_undone = c.undoing_gives_what_is_kept.ensures.timers c.args.self.now.timers h.timers_kept;
       stands = stands_before (shown c.args.self.now.state) (shown c.own_actions.new.state) (readers_at r) (first_of r) c.args.self.now.timers.wheel P T c.own_actions.ensures.opening h.settled h.stands;
       limit = h.limit;
     }

@@ -1,7 +1,7 @@
 use Rattle.std.proofs.Common.{ap}
 use Rattle.ucon_pend.specs.NumberSet.{NumberSet}
 use Rattle.ucon_state.specs.Shown.{shown}
-use Rattle.ucon_cascade.specs.Readers.{first_of, readers_at}
+use Rattle.ucon_readers.specs.Readers.{first_of, readers_at}
 use Rattle.ucon_cascade.proofs.Monitored.{stands_like}
 use Rattle.ucon_cascade.proofs.monitor.Monitor.over.Goals as goal
 

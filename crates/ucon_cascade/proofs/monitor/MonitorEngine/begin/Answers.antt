@@ -3,7 +3,7 @@ use Rattle.ucon_model.specs.Checked.{checked_policy}
 use Rattle.ucon_pend.specs.NumberSet.{NumberSet}
 use Rattle.ucon_state.specs.Applied.{opening_tables}
 use Rattle.ucon_state.specs.Shown.{shown}
-use Rattle.ucon_cascade.specs.Readers.{first_of, readers_at}
+use Rattle.ucon_readers.specs.Readers.{first_of, readers_at}
 use Rattle.ucon_cascade.proofs.Monitored.{exact_empty, grouped_empty, timely_empty}
 use Rattle.ucon_cascade.proofs.monitor.MonitorEngine.begin.Goals as goal
 

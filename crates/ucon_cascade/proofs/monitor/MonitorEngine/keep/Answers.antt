@@ -2,7 +2,7 @@ use Rattle.std.proofs.Common.{◌≡◌, ◌∙◌, ap, subst, sym}
 use Rattle.ucon_model.specs.Block.{after}
 use Rattle.ucon_state.specs.Shown.{Shown, kept, shown}
 use Rattle.ucon_cascade.specs.Monitor.{Stands}
-use Rattle.ucon_cascade.specs.Readers.{first_of, readers_at}
+use Rattle.ucon_readers.specs.Readers.{first_of, readers_at}
 use Rattle.ucon_cascade.proofs.Monitored.{stands_kept, stands_like}
 use Rattle.ucon_cascade.proofs.monitor.MonitorEngine.keep.Goals as goal
 

@@ -1,0 +1,10 @@
+pub mod Outcomes
+pub mod Listed
+pub mod Told
+pub mod Leading
+pub mod Founding
+pub mod Walking
+pub mod Gaining
+pub mod Showing
+pub mod Undoing
+pub mod Placed

@@ -1,0 +1,24 @@
+//! Who reads which place, in lists of sessions that are judged alike, and up to when what they read holds. What a draft changes of it can be
+//! undone until it is kept.
+#![tactic(auto)]
+
+mod kind;
+mod laws;
+mod limits;
+mod lists;
+mod readers;
+mod standing;
+mod timers;
+
+pub use kind::Kind;
+pub use laws::undoing_gives_what_is_kept;
+pub use limits::put_limits;
+// A crate can name `Readers` and `Timers` in a contract only if the types of their fields are exported.
+#[doc(hidden)]
+pub use lists::Lists;
+pub use readers::Readers;
+#[doc(hidden)]
+pub use standing::Standing;
+#[doc(hidden)]
+pub use timers::Change;
+pub use timers::Timers;
