@@ -1,5 +1,4 @@
 pub mod Writes
-pub mod ReadOff
 pub mod Stepping
 pub mod AttributeCells
 pub mod Keeping

@@ -27,7 +27,7 @@ use Rattle.ucon_state.specs.Tables.{entity_number, session_in, readings_in}
 use Rattle.ucon_state.specs.Shown.{Shown}
 use Rattle.ucon_state.specs.Following.{Follows}
 use Rattle.ucon_actions.specs.Updating.{written_out, update_at, updates_in}
-use Rattle.ucon_actions.proofs.ReadOff.{TablesKeep, entity_there, readings_same, session_same}
+use Rattle.ucon_readings.specs.ReadOff.{TablesKeep, entity_there, readings_same, session_same}
 
 -- ---- the update at a place
 

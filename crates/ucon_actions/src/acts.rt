@@ -10,9 +10,9 @@ ghost use Rattle.ucon_state.specs.Shown.{shown};
 ghost use Rattle.ucon_state.specs.Tables.{entity_number, moment_in};
 
 use crate::outcome::{ActionFault, Outcome, require};
-use crate::reading::{acts, has_entity, moment, names_act};
 use ucon_base::{Name, NoMemory, Side};
 use ucon_model::{Head, Refusal};
+use ucon_readings::{acts, has_entity, moment, names_act};
 use ucon_state::{State, each_action_is_followed, tables_keep_what_is_followed};
 
 /// An act is done now.

@@ -11,10 +11,10 @@ ghost use Rattle.ucon_state.specs.Tables.{entity_number};
 
 use crate::entities::{is_admin, no_entity};
 use crate::outcome::{ActionFault, Outcome, require};
-use crate::reading::{attr_admits, attribute, has_entity};
 use std::alloc::Global;
 use ucon_base::{Name, NoMemory, Side, Value};
 use ucon_model::{Caller, Head, Refusal};
+use ucon_readings::{attr_admits, attribute, has_entity};
 use ucon_state::{State, each_action_is_followed, tables_keep_what_is_followed};
 
 /// Writes a value to an attribute.

@@ -10,10 +10,10 @@ ghost use Rattle.ucon_state.specs.Shown.{shown};
 
 use crate::entities::is_admin;
 use crate::outcome::{ActionFault, Outcome, require};
-use crate::reading::{env_admits, tick};
 use std::alloc::Global;
 use ucon_base::{Int, Name, NoMemory, Value};
 use ucon_model::{Caller, Head, Refusal};
+use ucon_readings::{env_admits, tick};
 use ucon_state::{State, each_action_is_followed, tables_keep_what_is_followed};
 
 /// A variable gets a value.

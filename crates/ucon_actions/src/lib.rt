@@ -8,12 +8,10 @@ mod entities;
 mod environment;
 mod outcome;
 mod own;
-mod reading;
 mod update;
 mod usage;
 
 pub use outcome::{ActionFault, Outcome};
 pub use own::own_actions;
-pub use reading::{accessing, session, session_state, sessions};
 pub use update::{entity_of, is_of, run_updates, updates_of};
 pub use usage::{is_accessing, revoke};

@@ -18,7 +18,6 @@ ghost use Rattle.ucon_state.specs.Shown.{AreThere, object_name, right_name, show
 ghost use Rattle.ucon_state.specs.Tables.{entity_number, session_in, readings_in, accessing_among};
 
 use crate::outcome::{ActionFault, Outcome, require};
-use crate::reading::{accessing, find_entity, find_right, session, sessions};
 use crate::update::run_updates;
 use std::alloc::Global;
 use ucon_asked::typed_tests_make_no_set;
@@ -28,6 +27,7 @@ use ucon_model::{
     Caller, Head, Refusal, SessionRow, SessionState, Verdict, When, actions_are_done_in_order,
     the_least_failing_is_found, updates_write_their_targets, writes_leave_sessions,
 };
+use ucon_readings::{accessing, find_entity, find_right, session, sessions};
 use ucon_state::{State, each_action_is_followed, tables_keep_what_is_followed};
 
 /// The session, if it is there and the caller's own.

@@ -19,11 +19,12 @@ ghost use Rattle.ucon_state.specs.Tables.{session_in};
 use crate::kinds::{are_alike, asks_while_it_goes_on, is_timed, kind_of};
 use crate::places::place_numbers;
 use std::alloc::Global;
-use ucon_actions::{is_accessing, session, session_state, sessions};
+use ucon_actions::is_accessing;
 use ucon_base::NoMemory;
 use ucon_check::places_read;
 use ucon_model::{Command, Head, Ref, SessionRow, View};
 use ucon_readers::{Kind, Readers, undoing_gives_what_is_kept};
+use ucon_readings::{session, session_state, sessions};
 use ucon_state::State;
 
 /// All is read anew where the command replaced the policy. Else a permitted session begins to read, and an ended one reads nothing any more.

@@ -9,11 +9,12 @@ ghost use Rattle.ucon_cascade.specs.Putting.{AllBelow, GainsFirsts, GoesOn, IsCo
 ghost use Rattle.ucon_readers.specs.Readers.{first_of, readers_at};
 
 use crate::places::{attribute_place, variable_place};
-use ucon_actions::{entity_of, is_accessing, is_of, session, session_state, sessions};
+use ucon_actions::{entity_of, is_accessing, is_of};
 use ucon_base::{Name, Side};
 use ucon_model::{Command, Head, SessionRow, Update, View, When};
 use ucon_pend::Pend;
 use ucon_readers::Readers;
+use ucon_readings::{session, session_state, sessions};
 use ucon_state::State;
 
 /// Puts into the work who reads an attribute of an entity; of each list its first, as everywhere here.

@@ -22,13 +22,13 @@ ghost use Rattle.ucon_readers.specs.Timers.{Gets, HiddenBelow, HidesNoMore, coun
 use crate::follow::going_on;
 use crate::kinds::asks_while_it_goes_on;
 use std::alloc::Global;
-use ucon_actions::{session, sessions};
 use ucon_base::NoMemory;
 use ucon_model::{
     Command, Head, View, heads_tell_whose_usage_begins_or_ends, readings_that_agree_are_one,
 };
 use ucon_pend::Pend;
 use ucon_readers::{Timers, put_limits, undoing_gives_what_is_kept};
+use ucon_readings::{session, sessions};
 use ucon_state::{State, tables_keep_what_is_followed};
 
 /// All deadlines are set anew where the command replaced the policy. A tick passes those below it, and puts their sessions into the work.

@@ -6,8 +6,8 @@ ghost use Rattle.ucon_model.specs.Settle.{least_failing};
 ghost use Rattle.ucon_state.specs.Shown.{shown};
 
 use crate::settle::fails_at;
-use ucon_actions::sessions;
 use ucon_base::{Name, Steps};
+use ucon_readings::sessions;
 use ucon_state::State;
 
 /// The least accessing session that fails, with its label.

@@ -25,7 +25,7 @@ ghost use Rattle.ucon_state.specs.Tables.{session_in};
 
 use crate::own_work::put_targets;
 use std::alloc::Global;
-use ucon_actions::{accessing, is_accessing, revoke, session_state};
+use ucon_actions::{is_accessing, revoke};
 use ucon_asked::typed_tests_make_no_set;
 use ucon_base::{Name, NoMemory, Rows, Steps};
 use ucon_eval::failing;
@@ -36,6 +36,7 @@ use ucon_model::{
 };
 use ucon_pend::Pend;
 use ucon_readers::{Readers, Timers};
+use ucon_readings::{accessing, session_state};
 use ucon_state::{
     State, cells_are_of_one_attribute, sessions_are_few, tables_keep_what_is_followed,
 };

@@ -7,11 +7,12 @@ ghost use Rattle.ucon_actions.specs.Leads.{AfterEach, IsFollowing, KeepsBase, Le
 ghost use Rattle.ucon_state.specs.Shown.{shown};
 
 use std::alloc::Global;
-use ucon_actions::{accessing, is_accessing, revoke, session_state, sessions};
+use ucon_actions::{is_accessing, revoke};
 use ucon_asked::{typed_tests_make_no_set, views_that_agree_decide_alike};
 use ucon_base::{Name, NoMemory, Rows, Steps};
 use ucon_eval::failing;
 use ucon_model::{Revoked, turns_follow_each_other};
+use ucon_readings::{accessing, session_state, sessions};
 use ucon_state::{State, tables_keep_what_is_followed};
 
 /// The label by which session n fails, if it is accessing.

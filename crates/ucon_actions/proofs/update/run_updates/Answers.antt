@@ -8,7 +8,7 @@ use Rattle.ucon_model.specs.Views.{update_of}
 use Rattle.ucon_state.specs.Following.{Follows}
 use Rattle.ucon_state.specs.Shown.{shown}
 use Rattle.ucon_actions.specs.Updating.{update_at, written_out}
-use Rattle.ucon_actions.proofs.ReadOff.{session_same}
+use Rattle.ucon_readings.specs.ReadOff.{session_same}
 use Rattle.ucon_actions.proofs.Writes.{written_out-more}
 use Rattle.ucon_actions.proofs.Updated.{nothing_written, session_written, row_stays_by}
 use Rattle.ucon_actions.proofs.Keeping.{base_on}

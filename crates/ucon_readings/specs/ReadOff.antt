@@ -1,4 +1,5 @@
--- What is read off a state is what is read off the trace that it follows.
+-- What is read off a state is what is read off the trace that it follows. These laws stand here and not as functions, since the proofs of
+-- the crates above go on from them.
 use Rattle.std.proofs.Common.{◌≡◌, ℕ, length, sym, ap}
 use Rattle.std.specs.Prelude.{is_some}
 use Rattle.ucon_base.specs.declared.value.Side.{Side}

@@ -5,7 +5,7 @@ ghost use Rattle.ucon_base.specs.Admits.{admits};
 ghost use Rattle.ucon_model.specs.Decision.{right_named};
 ghost use Rattle.ucon_model.specs.OwnActions.{names_act};
 ghost use Rattle.ucon_model.specs.Readings.{in_force, has_entity, entities, tick_of, acts, sessions, accessing, session, moment, attribute, declared_attr, declared_env};
-ghost use Rattle.ucon_actions.specs.Leads.{AfterEach};
+ghost use Rattle.ucon_state.specs.Following.{AfterEach};
 ghost use Rattle.ucon_state.specs.Tables.{entity_number, entities_of, session_in, moment_in, accessing_among};
 ghost use Rattle.ucon_state.specs.Shown.{right_name, right_names, shown};
 ghost use Rattle.ucon_state.specs.Stored.{name_at};
@@ -46,7 +46,7 @@ pub fn entities(state: &State, side: Side) -> u32
 }
 
 /// The value of an attribute of an entity. None where one of them isn't there.
-#[tactic(auto, using(crate::proofs::ReadOff::attribute_same))]
+#[tactic(auto, using(crate::specs::ReadOff::attribute_same))]
 pub fn attribute<'a>(state: &'a State, side: Side, name: &Name, attr: &Name) -> Option<&'a Value>
     ensures { AfterEach (shown state.now) (λ P T. attribute P T side name.now attr.now ≡ option_copied result) }
 {
