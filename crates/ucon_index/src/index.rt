@@ -48,8 +48,7 @@ impl Index {
             ≡ record self.old { places = self.old.places ++ replicate (places - length self.old.places) empty_place }) }
         ensures err { OnErr result (self.new ≡ self.old) }
     {
-        let more = places.saturating_sub(self.places.list_count());
-        self.places.more_lists(more)
+        self.places.grow(places)
     }
 
     /// Lets the sessions below this number be added.
@@ -57,8 +56,7 @@ impl Index {
         ensures ok { OnOk result (self.new ≡ record self.old { sessions = self.old.sessions + (sessions - self.old.sessions) }) }
         ensures err { OnErr result (self.new ≡ self.old) }
     {
-        let more = sessions.saturating_sub(self.sessions.list_count());
-        self.sessions.more_lists(more)
+        self.sessions.grow(sessions)
     }
 
     /// Makes room for so many more nodes: a session needs one for each of its places. Lets the sessions below that number be added too;

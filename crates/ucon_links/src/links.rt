@@ -4,7 +4,7 @@ ghost use Rattle.std.specs.Prelude.{◌≡◌, ◌+◌, ◌-◌, ◌^◌, ◌<�
 ghost use Rattle.ucon_links.specs.Lists.{node_count, list_at, list_of, first_or, last_or, place_of, owner_of, nodes_of, newest, oldest, IsListed, IsAbsent, IsDistinct, IsGap, CanUnhide, link_behind, hide, unlink, unhide, free_oldest, free_newest, hide_all, Lists, AllListed, AreHidden, WereHidden};
 
 use crate::table::{Node, State, Table};
-use std::alloc::Global;
+use std::alloc::{AllocError, Global};
 use std::marker::Model;
 use ucon_base::NoMemory;
 
@@ -54,8 +54,8 @@ impl Links {
         Ok(links)
     }
 
-    /// Adds empty lists behind the others.
-    pub fn more_lists(&mut self, n: u32) -> Result<(), NoMemory>
+    // Adds empty lists behind the others.
+    fn more_lists(&mut self, n: u32) -> Result<(), NoMemory>
         requires { length self.old.lists + n < 2 ^ 32 }
         ensures ok { OnOk result (self.new ≡ record self.old { lists = self.old.lists ++ replicate n [] }) }
         ensures err { OnErr result (self.new ≡ self.old) }
@@ -63,6 +63,15 @@ impl Links {
         let len = self.table.firsts.len();
         self.table.firsts.resize(len + n as usize, None)?;
         Ok(())
+    }
+
+    /// Makes the lists at least so many.
+    pub fn grow(&mut self, lists: u32) -> Result<(), NoMemory>
+        ensures ok { OnOk result (self.new ≡ record self.old { lists = self.old.lists ++ replicate (lists - length self.old.lists) [] }) }
+        ensures err { OnErr result (self.new ≡ self.old) }
+    {
+        let more = lists.saturating_sub(self.list_count());
+        self.more_lists(more)
     }
 
     /// How many lists there are.
@@ -143,14 +152,16 @@ impl Links {
         Ok(())
     }
 
-    /// Makes room for so many nodes.
+    /// Makes room for so many nodes. More than can be numbered are answered as want of memory.
     pub fn reserve(&mut self, n: u32) -> Result<(), NoMemory>
-        requires { node_count self.old + n < 2 ^ 32 - 1 }
         ensures kept { self.new ≡ record self.old { spare = self.new.spare } }
         ensures spare { self.old.spare ≤ self.new.spare }
         ensures most { self.new.spare ≤ max self.old.spare n }
         ensures ok { OnOk result (n ≤ self.new.spare) }
     {
+        if self.node_count() >= u32::MAX - n {
+            return Err(NoMemory::from(AllocError));
+        }
         while self.spare() < n {
             self.add_spare()?;
         }

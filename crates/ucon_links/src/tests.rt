@@ -135,7 +135,7 @@ fn six_hidden_nodes_go_back_in_reverse_order(rt: HostRuntime) -> Result<(), Fail
 #[test]
 fn new_lists_are_empty_and_a_new_node_is_first(rt: HostRuntime) -> Result<(), Fail> {
     let mut links = Links::new(rt.alloc(), 2)?;
-    links.more_lists(1)?;
+    links.grow(3)?;
     links.reserve(2)?;
     links.link(0, 9);
     links.link(0, 8);

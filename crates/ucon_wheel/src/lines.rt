@@ -1,12 +1,12 @@
 //! Pairs as linked lists: all of them in order, and those of each session.
 
-ghost use Rattle.std.specs.Prelude.{◌≡◌, ◌≢◌, ℕ, List, ◌+◌, ◌-◌, ◌^◌, ◌<◌, ◌≤◌, ◌≤ℤ◌, ◌⊎◌, ◌==◌, [], ◌∷◌, ◌++◌, length, vec_len, Some, None, find, option_map, slice_set, IfSome, IfOk, OnOk, OnErr, IsTrue, ◌↔◌};
+ghost use Rattle.std.specs.Prelude.{◌≡◌, ◌≢◌, ℕ, List, ◌+◌, ◌-◌, ◌<◌, ◌≤◌, ◌≤ℤ◌, ◌⊎◌, ◌==◌, [], ◌∷◌, ◌++◌, length, vec_len, Some, None, find, option_map, slice_set, IfSome, IfOk, OnOk, OnErr, IsTrue, ◌↔◌};
 ghost use Rattle.ucon_links.specs.Lists.{list_at, node_count, nodes_of, IsListed, IsAbsent, IsDistinct};
 ghost use Rattle.ucon_wheel.specs.Deadlines.{pair_cmp, first, later};
 ghost use Rattle.ucon_wheel.specs.Lines.{Has, HasPair, HasNext, IsKnown, IsItemOf, IsNodeOf, IsEarliest, deadline_at, without_pair, put_before};
 ghost use Rattle.std.specs.List.Sorted.{IsStrictlySortedBy};
 
-use std::alloc::{AllocError, Global};
+use std::alloc::Global;
 use std::marker::Model;
 use ucon_base::NoMemory;
 use ucon_links::{Links, NodeId, nodes_stand_where_listed};
@@ -157,13 +157,6 @@ impl Model for Lines {
     ghost invariant = { λ l. IsSound l.order l.own l.deadlines.items l.end };
 }
 
-// Whether so many more nodes can be numbered.
-fn has_numbers(links: &Links, n: u32) -> bool
-    ensures { IsTrue result ↔ (node_count links.now + n < 2 ^ 32 - 1) }
-{
-    u64::from(links.node_count()) + u64::from(n) < u64::from(u32::MAX)
-}
-
 // Makes the deadlines at least so many.
 fn lengthen(deadlines: &mut Vec<Deadline>, n: usize) -> Result<(), NoMemory>
     ensures kept { (node : ℕ) → deadline_at deadlines.new.items node ≡ deadline_at deadlines.old.items node }
@@ -195,37 +188,12 @@ impl Lines {
         })
     }
 
-    // Lists for the sessions below this number.
-    fn grow(&mut self, sessions: u32) -> Result<(), NoMemory>
-        ensures kept { self.new ≡ record self.old { sessions = self.new.sessions } }
-        ensures more { self.old.sessions ≤ self.new.sessions }
-        ensures ok { OnOk result (sessions ≤ self.new.sessions) }
-    {
-        let more = sessions.saturating_sub(self.own.list_count());
-        self.own.more_lists(more)
-    }
-
-    // Room for so many items.
-    fn reserve_items(&mut self, n: u32) -> Result<(), NoMemory>
-        ensures kept { self.new ≡ record self.old { item_spare = self.new.item_spare } }
-        ensures more { self.old.item_spare ≤ self.new.item_spare }
-        ensures ok { OnOk result (n ≤ self.new.item_spare) }
-    {
-        if !has_numbers(&self.own, n) {
-            return Err(NoMemory::from(AllocError));
-        }
-        self.own.reserve(n)
-    }
-
     // Room for so many nodes, and a deadline for each.
     fn reserve_nodes(&mut self, n: u32) -> Result<(), NoMemory>
         ensures kept { self.new ≡ record self.old { spare = self.new.spare } }
         ensures more { self.old.spare ≤ self.new.spare }
         ensures ok { OnOk result (n ≤ self.new.spare) }
     {
-        if !has_numbers(&self.order, n) {
-            return Err(NoMemory::from(AllocError));
-        }
         let nodes = self.order.node_count() as usize + self.order.spare().max(n) as usize;
         lengthen(&mut self.deadlines, nodes)?;
         self.order.reserve(n)
@@ -241,8 +209,8 @@ impl Lines {
         ensures item_room { OnOk result (n ≤ self.new.item_spare) }
         ensures numbers { OnOk result (sessions ≤ self.new.sessions) }
     {
-        self.grow(sessions)?;
-        self.reserve_items(n)?;
+        self.own.grow(sessions)?;
+        self.own.reserve(n)?;
         self.reserve_nodes(n)
     }
 

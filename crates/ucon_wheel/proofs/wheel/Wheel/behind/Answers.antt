@@ -1,4 +1,4 @@
-use Rattle.std.proofs.Common.{◌≡◌, ◌∙◌, ◌⊎◌, ℕ, ℤ, Some, None, Option, ap, refl, sym, subst, w64}
+use Rattle.std.proofs.Common.{◌≡◌, ◌∙◌, ◌⊎◌, ℤ, Some, None, Option, ap, refl, subst, w64}
 use Rattle.std.specs.Prelude.{IfNone, IfSome}
 use Rattle.std.proofs.lemmas.Int.{to_z-of_z}
 use Rattle.ucon_wheel.specs.Deadlines.{Pair, Deadlines, IsBehind, IsShown, first_behind}
