@@ -18,17 +18,16 @@ use Rattle.ucon_model.specs.Readings.{attrs_of, declared_attr, declared_env}
 use Rattle.ucon_model.specs.Typing.{IsTyped}
 use Rattle.ucon_state.specs.Applied.{with_cell}
 use Rattle.ucon_state.specs.Tables.{Tables}
-use Rattle.ucon_point.specs.declared.order.Reached.{Reached}
-use Rattle.ucon_point.specs.declared.order.Stage.{Stage}
-use Rattle.ucon_point.specs.declared.order.Stage.TheVariants.{Variables, Subjects, Objects, Acts, Sessions}
-use Rattle.ucon_point.specs.declared.row.Row.{Row}
-use Rattle.ucon_point.specs.declared.row.Row.TheVariants.{Variable, Entity, Attribute, Act, Session}
-use Rattle.ucon_point.specs.Order.{after, attribute_place, awaited, rank, stage_of, variable_place, with_row, with_value}
+use Rattle.ucon_row.specs.declared.order.Reached.{Reached}
+use Rattle.ucon_row.specs.declared.order.Stage.{Stage}
+use Rattle.ucon_row.specs.declared.order.Stage.TheVariants.{Variables, Subjects, Objects, Acts, Sessions}
+use Rattle.ucon_row.specs.declared.row.Row.{Row}
+use Rattle.ucon_row.specs.declared.row.Row.TheVariants.{Variable, Entity, Attribute, Act, Session}
+use Rattle.ucon_row.specs.Order.{after, attribute_place, awaited, rank, stage_of, variable_place, with_row, with_value}
 use Rattle.ucon_point.specs.Standing.{Fits, HasLast, last_cell, with_put}
-use Rattle.ucon_point.proofs.Cuts.{nothing}
 use Rattle.ucon_point.proofs.Declared.{env_declared, attr_once}
 use Rattle.std.proofs.lemmas.Bool.{and_parts}
-use Rattle.ucon_point.proofs.RowsSpelled.{kept, mapped_is}
+use Rattle.ucon_point.proofs.Results.{kept, mapped_is, nothing}
 
 abbrev pub reaching : Stage → ℕ → Reached
 reaching stage values = record { stage = stage; values = values }
@@ -119,7 +118,7 @@ fits_at Q typed t Objects i (Attribute name v) next last h =
 fits_at Q typed t Acts i (Attribute name v) next last h = absurd (nothing h)
 fits_at Q typed t Sessions i (Attribute name v) next last h = absurd (nothing h)
 fits_at Q typed t stage i (Entity side name) next last h = tt
-fits_at Q typed t stage i (Act a) next last h = tt
+fits_at Q typed t stage i (Act subject action object moment) next last h = tt
 fits_at Q typed t stage i (Session s) next last h = tt
 
 pub row_fits : (Q : PlainPolicy) → IsTyped Q → (t : Tables) (r : Reached) (row : Row) (next : Reached) → HasLast r.stage t → after Q r row ≡ Some next → Fits Q r.stage t row
@@ -158,7 +157,8 @@ last_at Q t Acts i (Attribute name v) next last h = absurd (nothing h)
 last_at Q t Sessions i (Attribute name v) next last h = absurd (nothing h)
 last_at Q t stage i (Entity side name) next last h =
     subst (λ (r : Reached). HasLast r.stage (with_put Q stage t (Entity side name))) (row_came (awaited Q (reaching stage i)) stage (stage_of side) i next h).is (entity_last Q t stage side name)
-last_at Q t stage i (Act a) next last h = subst (λ (r : Reached). HasLast r.stage (with_put Q stage t (Act a))) (row_came (awaited Q (reaching stage i)) stage Acts i next h).is tt
+last_at Q t stage i (Act subject action object moment) next last h =
+    subst (λ (r : Reached). HasLast r.stage (with_put Q stage t (Act subject action object moment))) (row_came (awaited Q (reaching stage i)) stage Acts i next h).is tt
 last_at Q t stage i (Session s) next last h = subst (λ (r : Reached). HasLast r.stage (with_put Q stage t (Session s))) (row_came (awaited Q (reaching stage i)) stage Sessions i next h).is tt
 
 pub last_there : (Q : PlainPolicy) (t : Tables) (r : Reached) (row : Row) (next : Reached) → HasLast r.stage t → after Q r row ≡ Some next → HasLast next.stage (with_put Q r.stage t row)

@@ -11,10 +11,10 @@ use Rattle.ucon_model.specs.declared.policy.EnvDecl.{EnvDecl}
 use Rattle.ucon_model.specs.Plain.{Bytes, PlainPolicy}
 use Rattle.ucon_model.specs.Readings.{same_side, declared_attr, declared_env, attrs_of}
 use Rattle.ucon_model.specs.Typing.{TypeFault, IsTyped, type_fault, item_fault, name_if, attr_fault, env_fault, first_fault_of, one_item, is_typed_start}
-use Rattle.ucon_point.proofs.Cuts.{nothing}
 use Rattle.ucon_point.proofs.Found.{none_of, found_at, found_filtered, filtered_at}
 use Rattle.ucon_point.proofs.PointsRead.{bytes_same}
 use Rattle.ucon_point.proofs.PointsSpelled.{none_is}
+use Rattle.ucon_point.proofs.Results.{nothing}
 
 neither : {A : Type 0} (o r : Option A) → option_or o r ≡ None → (o ≡ None) × (r ≡ None)
 neither None r h = (refl, h)

@@ -32,11 +32,10 @@ use Rattle.ucon_state.specs.Shown.{Shown, changed_by}
 use Rattle.ucon_state.specs.Tables.{accessing_among}
 use Rattle.ucon_point.specs.Orderly.{HasRoomBehind, IsActInOrder, IsBy, IsOrderly, IsSessionInOrder, one_session, same_names, sessions_to}
 use Rattle.ucon_point.specs.PointRead.{is_whole}
-use Rattle.ucon_point.proofs.Cuts.{nothing}
 use Rattle.ucon_point.proofs.Declared.{attr_once, env_declared}
 use Rattle.ucon_point.proofs.Made.{StateLaws, seen}
 use Rattle.ucon_point.proofs.PointsRead.{bytes_same, some_and}
-use Rattle.ucon_point.proofs.RowsSpelled.{mapped_is, same}
+use Rattle.ucon_point.proofs.Results.{mapped_is, nothing, same}
 
 -- ---- options and lists
 

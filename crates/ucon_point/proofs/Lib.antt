@@ -1,8 +1,6 @@
 pub mod Blocks
 pub mod Coming
-pub mod Cuts
 pub mod Declared
-pub mod Digits
 pub mod Found
 pub mod LegalInOrder
 pub mod LineWalk
@@ -10,7 +8,6 @@ pub mod Listed
 pub mod LowerLaws
 pub mod Made
 pub mod MayPut
-pub mod OneLine
 pub mod Opening
 pub mod PointsRead
 pub mod PointsRefused
@@ -19,9 +16,8 @@ pub mod PoliciesRefused
 pub mod PutInOrder
 pub mod PutSoFar
 pub mod Refusals
+pub mod Results
 pub mod RowsHeld
-pub mod RowsRead
 pub mod RowsRefused
-pub mod RowsSpelled
 pub mod Steps
 pub mod Told

@@ -25,22 +25,21 @@ use Rattle.ucon_state.specs.Held.{Held, held_after, held_in}
 use Rattle.ucon_state.specs.Putting.{MayPutAct, MayPutSession, with_act_row}
 use Rattle.ucon_state.specs.Shown.{Shown, changed_by, changed_to}
 use Rattle.ucon_state.specs.Tables.{Tables, cell_at, entities_of, entity_number}
-use Rattle.ucon_point.specs.declared.order.Reached.{Reached}
-use Rattle.ucon_point.specs.declared.order.Stage.{Stage}
-use Rattle.ucon_point.specs.declared.order.Stage.TheVariants.{Variables, Subjects, Objects, Acts, Sessions}
-use Rattle.ucon_point.specs.declared.row.Row.{Row}
-use Rattle.ucon_point.specs.declared.row.Row.TheVariants.{Variable, Entity, Attribute, Act, Session}
+use Rattle.ucon_row.specs.declared.order.Reached.{Reached}
+use Rattle.ucon_row.specs.declared.order.Stage.{Stage}
+use Rattle.ucon_row.specs.declared.order.Stage.TheVariants.{Variables, Subjects, Objects, Acts, Sessions}
+use Rattle.ucon_row.specs.declared.row.Row.{Row}
+use Rattle.ucon_row.specs.declared.row.Row.TheVariants.{Variable, Entity, Attribute, Act, Session}
 use Rattle.ucon_point.specs.HeldRows.{rows_held}
-use Rattle.ucon_point.specs.Order.{after, attribute_place, awaited, stage_of, variable_place}
-use Rattle.ucon_point.specs.Standing.{Standing, last_cell, may_put, may_put_entity, put, put_all, start, with_next, with_put}
+use Rattle.ucon_row.specs.Order.{after, attribute_place, awaited, stage_of, variable_place}
+use Rattle.ucon_point.specs.Standing.{Standing, act_of, last_cell, may_put, may_put_entity, put, put_all, start, with_next, with_put}
 use Rattle.ucon_point.proofs.Blocks.{AtValues, Full, Told, closed, to_subjects, to_objects, to_acts, to_sessions}
 use Rattle.ucon_point.proofs.Coming.{ValueCame, RowCame, attr_there, attribute_fits, env_there, reaching, row_came, value_came, variable_fits}
-use Rattle.ucon_point.proofs.Cuts.{no_place, nothing}
 use Rattle.ucon_point.proofs.MayPut.{may_act, may_session}
 use Rattle.std.proofs.lemmas.Bool.{and_parts}
 use Rattle.ucon_point.proofs.PointsSpelled.{none_is}
-use Rattle.ucon_point.proofs.RowsSpelled.{and_then_is, kept, same}
-use Rattle.ucon_point.proofs.Steps.{act_step, get_behind, object_step, object_value_step, session_step, subject_step, subject_value_step, variable_step}
+use Rattle.ucon_point.proofs.Steps.{act_step, get_behind, object_step, object_value_step, row_of_act, session_step, subject_step, subject_value_step, variable_step}
+use Rattle.ucon_point.proofs.Results.{and_then_is, kept, no_place, nothing, same}
 
 -- the laws of a state that are built on
 pub record StateLaws : Type 0 where
@@ -87,7 +86,7 @@ tick_kept Q stage t (Attribute name v) = by _
     by : (o : Option ℕ) → (option_map_or (λ cell. with_cell t cell v) o t).tick ≡ t.tick
     by None = refl
     by (Some cell) = refl
-tick_kept Q stage t (Act a) = refl
+tick_kept Q stage t (Act who what whom at) = refl
 tick_kept Q stage t (Session s) = refl
 
 module _ (laws : StateLaws) (Q : PlainPolicy) (typed : IsTyped Q) where
@@ -217,7 +216,7 @@ module _ (laws : StateLaws) (Q : PlainPolicy) (typed : IsTyped Q) where
   -- ---- acts and sessions
 
   act_put : (t : Tables) (stage : Stage) (i : ℕ) (a : ActRow) (next : Reached) (rows : List Row) → IsFollowing (seen Q t) → Told stage i (held_in Q t) rows
-      → RowCame (awaited Q (reaching stage i)) stage Acts next → MayPutAct t a → Makes (with_act_row t a) Acts 0 (rows ++ Act a ∷ [])
+      → RowCame (awaited Q (reaching stage i)) stage Acts next → MayPutAct t a → Makes (with_act_row t a) Acts 0 (rows ++ row_of_act a ∷ [])
   act_put t stage i a next rows f told c may = (
     moved_so (changed_to (seen Q t) (with_act_row t a)) (seen Q (with_act_row t a)) refl refl (laws.acts (seen Q t) a f may),
     act_step Q t a rows (to_acts stage (held_in Q t) rows c.later (full_at t stage i rows told c.none)) may.new,
@@ -255,8 +254,10 @@ module _ (laws : StateLaws) (Q : PlainPolicy) (typed : IsTyped Q) where
   one_put t Sessions i (Attribute name v) next rows f told h may = absurd (nothing h)
   one_put t stage i (Entity side name) next rows f told h may =
       let c = row_came (awaited Q (reaching stage i)) stage (stage_of side) i next h in on_to (with_put Q stage t (Entity side name)) _ next (rows ++ Entity side name ∷ []) c.is (entity_put t stage i side name next rows f told c may)
-  one_put t stage i (Act a) next rows f told h may =
-      let c = row_came (awaited Q (reaching stage i)) stage Acts i next h in on_to (with_put Q stage t (Act a)) _ next (rows ++ Act a ∷ []) c.is (act_put t stage i a next rows f told c (may_act t a may))
+  one_put t stage i (Act who what whom at) next rows f told h may =
+      let a = act_of who what whom at in
+      let c = row_came (awaited Q (reaching stage i)) stage Acts i next h in
+      on_to (with_put Q stage t (row_of_act a)) _ next (rows ++ row_of_act a ∷ []) c.is (act_put t stage i a next rows f told c (may_act t a may))
   one_put t stage i (Session s) next rows f told h may =
       let c = row_came (awaited Q (reaching stage i)) stage Sessions i next h in on_to (with_put Q stage t (Session s)) _ next (rows ++ Session s ∷ []) c.is (session_put t stage i s next rows f told c (may_session t s may))
 

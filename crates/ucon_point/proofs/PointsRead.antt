@@ -7,32 +7,21 @@ use Rattle.std.specs.Str.{bytes_eq}
 use Rattle.std.proofs.lemmas.Bool.{le-ltb, lt-leb, ltb-false, cases_Bool}
 use Rattle.std.proofs.lemmas.Slice.Eq.{bytes_eq-Decides}
 use Rattle.std.proofs.Math.Seq.{take-append_seam, drop-append_seam}
-use Rattle.ucon_base.specs.declared.value.Side.TheVariants as sides
-use Rattle.ucon_base.specs.declared.value.Value.{Value}
 use Rattle.ucon_base.specs.declared.value.Value.TheVariants.{Int}
 use Rattle.ucon_base.specs.Elements.{Each}
-use Rattle.ucon_base.specs.NameBytes.{is_name}
-use Rattle.ucon_base.specs.Spelling.{value_spelling}
-use Rattle.ucon_model.specs.declared.session.SessionState.{SessionState}
-use Rattle.ucon_model.specs.declared.session.SessionState.TheVariants as states
 use Rattle.ucon_model.specs.Output.{Lacks}
 use Rattle.ucon_model.specs.Plain.{Bytes, PlainPolicy}
-use Rattle.ucon_model.specs.Spelling.{state_word}
 use Rattle.ucon_syntax.specs.Policies.{accepted, reading_of}
-use Rattle.ucon_point.specs.declared.row.Row.{Row}
-use Rattle.ucon_point.specs.declared.row.Row.TheVariants.{Variable, Entity, Attribute, Act, Session}
-use Rattle.ucon_point.specs.Order.{awaited}
+use Rattle.ucon_row.specs.declared.row.Row.{Row}
+use Rattle.ucon_row.specs.Cutting.{cut_at-append}
+use Rattle.ucon_row.specs.Order.{awaited}
 use Rattle.ucon_point.specs.Standing.{Standing, start, put, put_all}
 use Rattle.ucon_point.specs.PointRead.{Said, IsPoint, point_spelling, row_line, counted, tick_read, is_whole, line_at, policy_told, text_at, policy_at, lines_of, row_at, rows_at, rows_from, point_behind, point_read}
 use Rattle.ucon_point.specs.PointText.{entries_line, policy_lines, tick_line}
-use Rattle.ucon_point.specs.RowText.{row_spelling, IsRow, IsSpelled}
-use Rattle.ucon_point.proofs.Cuts.{cut_at-append, nothing}
-use Rattle.ucon_point.proofs.Digits.{count_read-decimal}
+use Rattle.ucon_row.specs.RowText.{row_spelling, IsRow, IsSpelled}
 use Rattle.ucon_point.proofs.LineWalk.{lines_of-some}
-use Rattle.ucon_point.proofs.LowerLaws.{TextsLack}
-use Rattle.ucon_point.proofs.OneLine.{value_lacks}
-use Rattle.ucon_point.proofs.RowsRead.{integer_back, row_back}
-use Rattle.ucon_point.proofs.RowsSpelled.{and_then_is, same}
+use Rattle.ucon_point.proofs.LowerLaws.{RowsAreRead, TextsLack}
+use Rattle.ucon_point.proofs.Results.{and_then_is, nothing, same}
 
 -- ---- lines
 
@@ -47,11 +36,8 @@ line_first w rest = append_assoc w (10 ∷ []) rest
 pub bytes_same : (bs : Bytes) → bytes_eq bs bs ≡ true
 bytes_same bs = (bytes_eq-Decides bs bs).1 refl
 
-counted_back : (word : Bytes) (n : ℕ) → Lacks 32 word → n < 2 ^ 64 → counted word (word ++ 32 ∷ decimal n) ≡ Some n
-counted_back word n lacks lt = rw (cut_at-append 32 word (decimal n) lacks, bytes_same word, count_read-decimal n lt) refl
-
 tick_back : (t : ℤ) → IsSpelled (Int t) → is_whole t ≡ true → tick_read (codes "tick" ++ 32 ∷ signed_decimal t) ≡ Some t
-tick_back t spelled whole = rw (integer_back t spelled, whole) refl
+tick_back t spelled whole = rw (spelled, whole) refl
 
 pub some_and : {A : Type 0} (o : Option A) (P : A → Type 0) → IsSomeAnd o P → (x : A) × ((o ≡ Some x) × P x)
 some_and None P h = absurd h
@@ -76,50 +62,15 @@ text_back total place text rest Q is =
     let longer : length text < length (text ++ 10 ∷ rest) = omega (arith, length-append text (10 ∷ rest)) in
     rw (le-ltb 65536 (length text) (accepted_short text Q is), lt-leb (length (text ++ 10 ∷ rest)) (length text) longer, take-append_seam text (10 ∷ rest), drop-append_seam text (10 ∷ rest)) (policy_told_back place text rest Q is)
 
-module _ (lack : TextsLack) where
+module _ (lack : TextsLack) (read : RowsAreRead) where
+  counted_back : (word : Bytes) (n : ℕ) → Lacks 32 word → n < 2 ^ 64 → counted word (word ++ 32 ∷ decimal n) ≡ Some n
+  counted_back word n lacks lt = rw (cut_at-append 32 word (decimal n) lacks, bytes_same word, read.counts n lt) refl
+
   spaced : (a b : Bytes) → Lacks 10 a → Lacks 10 b → Lacks 10 (a ++ 32 ∷ b)
   spaced a b h k = lack.joined 10 a (32 ∷ b) h (refl, k)
 
-  name_one_line : (name : Bytes) → is_name name ≡ true → Lacks 10 name
-  name_one_line name h = lack.names 10 name refl h
-
-  value_one_line : (v : Value) → IsSpelled v → Lacks 10 (value_spelling v)
-  value_one_line v h = value_lacks (value_spelling v) v h
-
-  integer_one_line : (z : ℤ) → IsSpelled (Int z) → Lacks 10 (signed_decimal z)
-  integer_one_line z h = value_one_line (Int z) h
-
-  state_one_line : (s : SessionState) → Lacks 10 (state_word s)
-  state_one_line states.Requesting = lack.tested 10 (codes "requesting") refl
-  state_one_line states.Denied = lack.tested 10 (codes "denied") refl
-  state_one_line states.Accessing = lack.tested 10 (codes "accessing") refl
-  state_one_line states.Revoked = lack.tested 10 (codes "revoked") refl
-  state_one_line states.Ended = lack.tested 10 (codes "ended") refl
-
   number_one_line : (n : ℕ) → n < 2 ^ 64 → Lacks 10 (decimal n)
   number_one_line n lt = lack.numbers 10 n (omega arith) lt
-
-  row_one_line : (row : Row) → IsRow row → Lacks 10 (row_spelling row)
-  row_one_line (Variable name v) h =
-      spaced (codes "env") (name ++ 32 ∷ value_spelling v) (lack.tested 10 (codes "env") refl) (spaced name (value_spelling v) (name_one_line name h.0) (value_one_line v h.1))
-  row_one_line (Attribute name v) h =
-      spaced (codes "value") (name ++ 32 ∷ value_spelling v) (lack.tested 10 (codes "value") refl) (spaced name (value_spelling v) (name_one_line name h.0) (value_one_line v h.1))
-  row_one_line (Entity sides.Subject name) h = spaced (codes "subject") name (lack.tested 10 (codes "subject") refl) (name_one_line name h)
-  row_one_line (Entity sides.Object name) h = spaced (codes "object") name (lack.tested 10 (codes "object") refl) (name_one_line name h)
-  row_one_line (Act a) h =
-      spaced (codes "act") (a.subject ++ 32 ∷ (a.action ++ 32 ∷ (a.object ++ 32 ∷ signed_decimal a.moment))) (lack.tested 10 (codes "act") refl)
-      (spaced a.subject (a.action ++ 32 ∷ (a.object ++ 32 ∷ signed_decimal a.moment)) (name_one_line a.subject h.0.0)
-      (spaced a.action (a.object ++ 32 ∷ signed_decimal a.moment) (name_one_line a.action h.0.1)
-      (spaced a.object (signed_decimal a.moment) (name_one_line a.object h.0.2) (integer_one_line a.moment h.1))))
-  row_one_line (Session s) h =
-      let c : Bytes = state_word s.state ++ 32 ∷ signed_decimal s.start in
-      let b : Bytes = s.right ++ 32 ∷ (s.subject ++ 32 ∷ (s.object ++ 32 ∷ c)) in
-      spaced (codes "session") (decimal s.caller.0 ++ 32 ∷ b) (lack.tested 10 (codes "session") refl)
-      (spaced (decimal s.caller.0) b (number_one_line s.caller.0 (omega (arith, h.0)))
-      (spaced s.right (s.subject ++ 32 ∷ (s.object ++ 32 ∷ c)) (name_one_line s.right h.1.0)
-      (spaced s.subject (s.object ++ 32 ∷ c) (name_one_line s.subject h.1.1)
-      (spaced s.object c (name_one_line s.object h.1.2)
-      (spaced (state_word s.state) (signed_decimal s.start) (state_one_line s.state) (integer_one_line s.start h.2))))))
 
   -- ---- rows
 
@@ -128,12 +79,12 @@ module _ (lack : TextsLack) where
   lines_back (row ∷ rows) h =
       let rest : Bytes = flat_map row_line rows in
       ap lines_of (line_first (row_spelling row) rest)
-      ∙ lines_of-some (row_spelling row ++ 10 ∷ rest) (row_spelling row) rest (cut_at-append 10 (row_spelling row) rest (row_one_line row h.0))
+      ∙ lines_of-some (row_spelling row ++ 10 ∷ rest) (row_spelling row) rest (cut_at-append 10 (row_spelling row) rest (read.lines row h.0))
       ∙ ap (λ (l : List Bytes × Bytes). (row_spelling row ∷ l.0, l.1)) (lines_back rows h.1)
 
   row_at_back : (place : ℕ) (Q : PlainPolicy) (r next : Standing) (row : Row) → IsRow row → put Q r row ≡ Some next → row_at place Q r (row_spelling row) ≡ Ok (row, next)
   unfolding row_at
-  row_at_back place Q r next row h is = rw (row_back lack row h, is) refl
+  row_at_back place Q r next row h is = rw (read.rows row h, is) refl
 
   pub rows_back : (place : ℕ) (Q : PlainPolicy) (r end : Standing) (rows : List Row) → Each IsRow rows → put_all Q r rows ≡ Some end → awaited Q end.reached ≡ None
       → rows_at place Q r [] (map row_spelling rows) ≡ Ok rows
@@ -179,7 +130,7 @@ module _ (lack : TextsLack) where
   ticks_back total t rest spelled whole =
       let w : Bytes = codes "tick" ++ 32 ∷ signed_decimal t in
       ap (line_at tick_read total) (line_first w rest)
-      ∙ line_back tick_read total w rest t (tick_back t spelled whole) (spaced (codes "tick") (signed_decimal t) (lack.tested 10 (codes "tick") refl) (integer_one_line t spelled))
+      ∙ line_back tick_read total w rest t (tick_back t spelled whole) (spaced (codes "tick") (signed_decimal t) (lack.tested 10 (codes "tick") refl) (read.integers t spelled))
 
   pub point_back : (p : Said) → IsPoint p → point_read (point_spelling p) ≡ Ok p
   unfolding point_read point_behind

@@ -15,17 +15,18 @@ use Rattle.ucon_model.specs.Output.{cut_at}
 use Rattle.ucon_model.specs.Payload.{◌>>=◌}
 use Rattle.ucon_model.specs.Plain.{Bytes, PlainPolicy}
 use Rattle.ucon_syntax.specs.Policies.{accepted}
-use Rattle.ucon_point.specs.declared.row.Row.{Row}
-use Rattle.ucon_point.specs.Order.{awaited}
+use Rattle.ucon_row.specs.declared.row.Row.{Row}
+use Rattle.ucon_row.specs.Cutting.{cut_is}
+use Rattle.ucon_row.specs.Lines.{line}
+use Rattle.ucon_row.specs.Numbers.{count_read}
+use Rattle.ucon_row.specs.Order.{awaited}
 use Rattle.ucon_point.specs.Standing.{Standing, start, put, put_all}
-use Rattle.ucon_point.specs.PointRead.{Said, IsPoint, point_spelling, row_line, count_read, behind_if, behind, counted, from_zero, is_whole, tick_read, line_at, behind_newline, policy_told, text_at, policy_at, with_byte, lines_of, before, row_at, rows_at, rows_from, point_behind, point_read}
-use Rattle.ucon_point.specs.PointText.{line, entries_line, policy_lines, tick_line}
-use Rattle.ucon_point.specs.RowText.{row_spelling, row_read, IsRow, IsSpelled}
-use Rattle.ucon_point.proofs.Cuts.{nothing, cut_is}
-use Rattle.ucon_point.proofs.Digits.{count_is}
-use Rattle.ucon_point.proofs.LowerLaws.{ValuesAreSpelled}
+use Rattle.ucon_point.specs.PointRead.{Said, IsPoint, point_spelling, row_line, behind_if, behind, counted, from_zero, is_whole, tick_read, line_at, behind_newline, policy_told, text_at, policy_at, with_byte, lines_of, before, row_at, rows_at, rows_from, point_behind, point_read}
+use Rattle.ucon_point.specs.PointText.{entries_line, policy_lines, tick_line}
+use Rattle.ucon_row.specs.RowText.{row_spelling, row_read, IsRow, IsSpelled}
+use Rattle.ucon_point.proofs.LowerLaws.{RowsAreSpelled}
 use Rattle.ucon_point.proofs.PointsRead.{line_first}
-use Rattle.ucon_point.proofs.RowsSpelled.{and_then_is, same, row_is, integer_is}
+use Rattle.ucon_point.proofs.Results.{and_then_is, kept, nothing}
 
 -- ---- what is made of what
 
@@ -42,10 +43,6 @@ said_is (Some y) place x h = ap result_ok h
 
 pub done : {A : Type 0} (x y : A) → ◌≡◌ {A = Result A ℕ} (Ok x) (Ok y) → x ≡ y
 done x y h = ap (λ o. unwrap_or o x) (ap result_ok h)
-
-kept : {A : Type 0} (b : Bool) (x y : A) → cond b (Some x) None ≡ Some y → (b ≡ true) × (x ≡ y)
-kept true x y h = (refl, same x y h)
-kept false x y h = absurd (nothing h)
 
 -- ---- lines
 
@@ -69,10 +66,10 @@ behind_is word line rest h =
     let is = kept (bytes_eq cut.0.0 word) cut.0.1 rest cut.1.1 in
     ap (λ w. w ++ 32 ∷ rest) (sym ((bytes_eq-Decides cut.0.0 word).0 is.0)) ∙ ap (λ r. cut.0.0 ++ 32 ∷ r) (sym is.1) ∙ cut_is 32 line cut.0 cut.1.0
 
-counted_is : (word line : Bytes) (n : ℕ) → counted word line ≡ Some n → (word ++ 32 ∷ decimal n ≡ line) × (n < 2 ^ 64)
-counted_is word line n h =
+counted_is : RowsAreSpelled → (word line : Bytes) (n : ℕ) → counted word line ≡ Some n → (word ++ 32 ∷ decimal n ≡ line) × (n < 2 ^ 64)
+counted_is spelled word line n h =
     let rest = and_then_is (behind word line) count_read n h in
-    let is = count_is rest.0 n rest.1.1 in
+    let is = spelled.counts rest.0 n rest.1.1 in
     (ap (λ r. word ++ 32 ∷ r) is.0 ∙ behind_is word line rest.0 rest.1.0, is.1)
 
 -- ---- policies
@@ -114,13 +111,13 @@ text_at_is total place n bytes p h =
           ]
     ]
 
-policy_at_is : (total : ℕ) (bytes : Bytes) (p : (Bytes × PlainPolicy) × Bytes) → policy_at total bytes ≡ Ok p → (policy_lines p.0.0 ++ p.1 ≡ bytes) × (accepted p.0.0 ≡ Some p.0.1)
+policy_at_is : RowsAreSpelled → (total : ℕ) (bytes : Bytes) (p : (Bytes × PlainPolicy) × Bytes) → policy_at total bytes ≡ Ok p → (policy_lines p.0.0 ++ p.1 ≡ bytes) × (accepted p.0.0 ≡ Some p.0.1)
 unfolding policy_at
-policy_at_is total bytes p h =
+policy_at_is spelled total bytes p h =
     let first = bind_is (line_at (counted (codes "policy")) total bytes) _ p h in
     let n : ℕ = first.0.0 in
     let line_is = line_at_is (counted (codes "policy")) total bytes first.0 first.1.0 in
-    let told = counted_is (codes "policy") line_is.0 n line_is.1.0 in
+    let told = counted_is spelled (codes "policy") line_is.0 n line_is.1.0 in
     let is = text_at_is total (total - length bytes) n first.0.1 p first.1.1 in
     let w : Bytes = codes "policy" ++ 32 ∷ decimal (length p.0.0) in (
       append_assoc (w ++ 10 ∷ []) (p.0.0 ++ 10 ∷ []) p.1 ∙ line_first w ((p.0.0 ++ 10 ∷ []) ++ p.1) ∙ ap (λ (r : Bytes). w ++ 10 ∷ r) (line_first p.0.0 p.1 ∙ is.2)
@@ -173,14 +170,14 @@ pub record AreRead (Q : PlainPolicy) (r : Standing) (last : Bytes) (lines : List
   pub order : put_all Q r rows ≡ Some end
   pub complete : awaited Q end.reached ≡ None
 
-module _ (values : ValuesAreSpelled) where
+module _ (spelled : RowsAreSpelled) where
   row_at_is : (place : ℕ) (Q : PlainPolicy) (r : Standing) (w : Bytes) (p : Row × Standing) → row_at place Q r w ≡ Ok p → (row_spelling p.0 ≡ w) × IsRow p.0 × (put Q r p.0 ≡ Some p.1)
   unfolding row_at
   row_at_is place Q r w p h =
       let row = bind_is (ok_or (row_read w) place) _ p h in
       let next = bind_is (ok_or (put Q r row.0) place) _ p row.1.1 in
       let is : (row.0, next.0) ≡ p = done _ p next.1.1 in
-      let told = row_is values w row.0 (said_is (row_read w) place row.0 row.1.0) in
+      let told = spelled.rows w row.0 (said_is (row_read w) place row.0 row.1.0) in
       let P : Row × Standing → Type 0 = λ q. (row_spelling q.0 ≡ w) × IsRow q.0 × (put Q r q.0 ≡ Some q.1) in
       subst P is (told.0, told.1, said_is (put Q r row.0) place next.0 next.1.0)
 
@@ -241,7 +238,7 @@ module _ (values : ValuesAreSpelled) where
   tick_is w t h =
       let n = and_then_is (option_and_then integer_in (behind (codes "tick") w)) from_zero t h in
       let rest = and_then_is (behind (codes "tick") w) integer_in n.0 n.1.0 in
-      let is = integer_is values rest.0 n.0 rest.1.1 in
+      let is = spelled.integers rest.0 n.0 rest.1.1 in
       let whole = whole_is n.0 t n.1.1 in
       let P : ℤ → Type 0 = λ u. (codes "tick" ++ 32 ∷ signed_decimal u ≡ w) × IsSpelled (Int u) in
       let told = subst P whole.0 (ap (λ (r : Bytes). codes "tick" ++ 32 ∷ r) is.0 ∙ behind_is (codes "tick") w rest.0 rest.1.0, is.1) in
@@ -256,8 +253,8 @@ module _ (values : ValuesAreSpelled) where
       let tick = bind_is (line_at tick_read total policy.0.1) _ p policy.1.1 in
       let rows = bind_is (rows_from total policy.0.0.1 (start policy.0.0.1 tick.0.0) tick.0.1) _ p tick.1.1 in
       let n = line_at_is (counted (codes "point")) total bytes entries.0 entries.1.0 in
-      let n_is = counted_is (codes "point") n.0 entries.0.0 n.1.0 in
-      let Q_is = policy_at_is total entries.0.1 policy.0 policy.1.0 in
+      let n_is = counted_is spelled (codes "point") n.0 entries.0.0 n.1.0 in
+      let Q_is = policy_at_is spelled total entries.0.1 policy.0 policy.1.0 in
       let t = line_at_is tick_read total policy.0.1 tick.0 tick.1.0 in
       let t_is = tick_is t.0 tick.0.0 t.1.0 in
       let rows_are = rows_from_is total policy.0.0.1 (start policy.0.0.1 tick.0.0) tick.0.1 rows.0 rows.1.0 in

@@ -28,20 +28,19 @@ use Rattle.ucon_state.specs.Following.{row_of}
 use Rattle.ucon_state.specs.Held.{Held}
 use Rattle.ucon_state.specs.Putting.{StartsAtZero, with_act_row}
 use Rattle.ucon_state.specs.Tables.{Tables, accessing_among, entities_of, entity_number, same_act}
-use Rattle.ucon_point.specs.declared.order.Reached.{Reached}
-use Rattle.ucon_point.specs.declared.order.Stage.{Stage}
-use Rattle.ucon_point.specs.declared.order.Stage.TheVariants.{Variables, Subjects, Objects, Acts, Sessions}
-use Rattle.ucon_point.specs.declared.row.Row.{Row}
-use Rattle.ucon_point.specs.declared.row.Row.TheVariants.{Variable, Entity, Attribute, Act, Session}
+use Rattle.ucon_row.specs.declared.order.Reached.{Reached}
+use Rattle.ucon_row.specs.declared.order.Stage.{Stage}
+use Rattle.ucon_row.specs.declared.order.Stage.TheVariants.{Variables, Subjects, Objects, Acts, Sessions}
+use Rattle.ucon_row.specs.declared.row.Row.{Row}
+use Rattle.ucon_row.specs.declared.row.Row.TheVariants.{Variable, Entity, Attribute, Act, Session}
 use Rattle.ucon_point.specs.HeldRows.{given, variable_rows, attribute_rows, entity_rows, act_row, session_rows, session_rows_to, rows_held}
-use Rattle.ucon_point.specs.Order.{after, attribute_place, awaited, declared_in, rank, stage_of, variable_place, with_row, with_value}
+use Rattle.ucon_row.specs.Order.{after, attribute_place, awaited, declared_in, rank, stage_of, variable_place, with_row, with_value}
 use Rattle.ucon_point.specs.Orderly.{AreBothThere, HasRoomBehind, IsBy, IsOrderly, IsSessionInOrder, one_session, same_names, sessions_to}
 use Rattle.ucon_point.specs.Standing.{AreWhole, Standing, has_room_in, is_past, is_zero, last_cell, may_put, put, put_all, side_of, start, starts_right, with_next, with_put}
 use Rattle.ucon_point.proofs.Blocks.{of_side}
 use Rattle.ucon_point.proofs.Coming.{reaching}
-use Rattle.ucon_point.proofs.Cuts.{nothing}
 use Rattle.ucon_point.proofs.PointsRead.{bytes_same, some_and}
-use Rattle.ucon_point.proofs.RowsSpelled.{and_then_is, same}
+use Rattle.ucon_point.proofs.Results.{and_then_is, nothing, same}
 
 -- ---- lists
 
@@ -329,14 +328,15 @@ module _ (h : Held) (o : IsOrderly h) where
       let count : length t.acts ≡ k = sym (length-map t.acts row_of) ∙ ap length names in
       let room : length t.acts < 1048576 = omega (arith, count, all, length-append done (a ∷ more), o.few_acts) in
       let both = entities_there t a.0 a.2 there in_order.entities in
-      let may : may_put t (Act row) ≡ true =
+      let put_row : Row = Act a.0 a.1 a.2 row.moment in
+      let may : may_put t put_row ≡ true =
       both_so _ _ (lt-ltb (length t.acts) 1048576 room) (both_so _ _ (both_so _ _ both.0 both.1) (both_so _ _ (past_so t row.moment there in_order.past) (ap is_none (never_done a t.acts once)))) in
       let t1 : Tables = with_act_row t row in
       let rest = acts_put more (done ++ a ∷ []) (at Acts 0 t1) refl refl (record { subjects = there.subjects; objects = there.objects; tick = there.tick })
       (map-append row_of t.acts _ ∙ ap (λ (l : List (Bytes × Bytes × Bytes)). l ++ a ∷ []) names) (is ∙ sym (append_assoc done (a ∷ []) more)) in
       record {
         end = rest.end;
-        made = put_first Q s rest.end (Act row) (reaching Acts 0) (map (act_row h) more) (row_comes (awaited Q s.reached) s.reached Acts none below) may rest.made;
+        made = put_first Q s rest.end put_row (reaching Acts 0) (map (act_row h) more) (row_comes (awaited Q s.reached) s.reached Acts none below) may rest.made;
         none = rest.none;
         below = rest.below;
         there = rest.there;

@@ -25,9 +25,9 @@ use Rattle.ucon_state.specs.Following.{row_of}
 use Rattle.ucon_state.specs.Held.{Held, held_after, held_in}
 use Rattle.ucon_state.specs.Putting.{act_in, with_act_row}
 use Rattle.ucon_state.specs.Tables.{Tables, moment_in, same_act, session_in}
-use Rattle.ucon_point.specs.declared.order.Stage.TheVariants.{Variables, Subjects, Objects, Acts, Sessions}
-use Rattle.ucon_point.specs.declared.row.Row.{Row}
-use Rattle.ucon_point.specs.declared.row.Row.TheVariants.{Variable, Entity, Attribute, Act, Session}
+use Rattle.ucon_row.specs.declared.order.Stage.TheVariants.{Variables, Subjects, Objects, Acts, Sessions}
+use Rattle.ucon_row.specs.declared.row.Row.{Row}
+use Rattle.ucon_row.specs.declared.row.Row.TheVariants.{Variable, Entity, Attribute, Act, Session}
 use Rattle.ucon_point.specs.HeldRows.{given, variable_rows, attribute_rows, entity_rows, act_row, session_rows, session_rows_to, rows_held}
 use Rattle.ucon_point.proofs.Blocks.{AtValues, Full, Told, all_acts, all_entities, all_variables, each_same, own_rows, take_more}
 use Rattle.ucon_point.proofs.Declared.{attr_once, env_declared, env_once}
@@ -188,26 +188,30 @@ module _ {K X : Type 0} (test : K → Bool) where
       by rest true = refl
       by rest false = rest
 
+-- the row of an act
+abbrev pub row_of_act : ActRow → Row
+row_of_act a = Act a.subject a.action a.object a.moment
+
 module _ (Q : PlainPolicy) (t : Tables) (row : ActRow) where
   acts_same : (done rest : List (Doing × ℤ)) → t.acts ≡ done ++ rest
       → map (act_row (held_in Q (with_act_row t row))) (map row_of rest) ≡ map (act_row (held_in Q t)) (map row_of rest)
   acts_same done [] is = refl
   acts_same done (e ∷ rest) is =
       let there : is_some (lookup (same_act e.0) t.acts) ≡ true = ap (λ (es : List (Doing × ℤ)). is_some (lookup (same_act e.0) es)) is ∙ is_there (same_act e.0) done rest e (same_itself e.0) in
-      ap₂ (λ (m : Option ℤ) (r : List Row). Act (record { subject = e.0.subject; action = e.0.action; object = e.0.object; moment = unwrap_or m (pos 0) }) ∷ r)
+      ap₂ (λ (m : Option ℤ) (r : List Row). Act e.0.subject e.0.action e.0.object (unwrap_or m (pos 0)) ∷ r)
       (found_before (same_act e.0) t.acts ((act_in row, row.moment) ∷ []) there) (acts_same (done ++ e ∷ []) rest (is ∙ sym (append_assoc done (e ∷ []) rest)))
 
-  pub act_step : (rows : List Row) → Full Acts (held_in Q t) rows → moment_in t row.subject row.action row.object ≡ None → Told Acts 0 (held_in Q (with_act_row t row)) (rows ++ Act row ∷ [])
+  pub act_step : (rows : List Row) → Full Acts (held_in Q t) rows → moment_in t row.subject row.action row.object ≡ None → Told Acts 0 (held_in Q (with_act_row t row)) (rows ++ row_of_act row ∷ [])
   act_step rows f none =
       let h : Held = held_in Q t in
       let h' : Held = held_in Q (with_act_row t row) in
       let pre : List Row = (all_variables h ++ all_entities h sides.Subject) ++ all_entities h sides.Object in
       let e : Doing × ℤ = (act_in row, row.moment) in
       let one : lookup (same_act (act_in row)) (t.acts ++ e ∷ []) ≡ Some row.moment = found_behind (same_act (act_in row)) t.acts (e ∷ []) none ∙ rw (same_itself (act_in row)) refl in
-      let acts : all_acts h' ≡ all_acts h ++ Act row ∷ [] =
+      let acts : all_acts h' ≡ all_acts h ++ row_of_act row ∷ [] =
       ap (map (act_row h')) (map-append row_of t.acts (e ∷ [])) ∙ map-append (act_row h') (map row_of t.acts) (row_of e ∷ [])
-      ∙ ap₂ (λ (x : List Row) (m : Option ℤ). x ++ Act (record { subject = row.subject; action = row.action; object = row.object; moment = unwrap_or m (pos 0) }) ∷ []) (acts_same [] t.acts refl) one in
-      (ap (λ (r : List Row). r ++ Act row ∷ []) f.0 ∙ append_assoc pre (all_acts h) (Act row ∷ []) ∙ ap (λ (r : List Row). pre ++ r) (sym acts), f.1)
+      ∙ ap₂ (λ (x : List Row) (m : Option ℤ). x ++ Act row.subject row.action row.object (unwrap_or m (pos 0)) ∷ []) (acts_same [] t.acts refl) one in
+      (ap (λ (r : List Row). r ++ row_of_act row ∷ []) f.0 ∙ append_assoc pre (all_acts h) (row_of_act row ∷ []) ∙ ap (λ (r : List Row). pre ++ r) (sym acts), f.1)
 
 -- ---- sessions
 

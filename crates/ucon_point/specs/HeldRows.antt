@@ -10,8 +10,8 @@ use Rattle.ucon_model.specs.declared.session.SessionRow.{SessionRow}
 use Rattle.ucon_model.specs.Plain.{Bytes}
 use Rattle.ucon_model.specs.Readings.{same_side}
 use Rattle.ucon_state.specs.Held.{Held}
-use Rattle.ucon_point.specs.declared.row.Row.{Row}
-use Rattle.ucon_point.specs.declared.row.Row.TheVariants.{Variable, Entity, Attribute, Act, Session}
+use Rattle.ucon_row.specs.declared.row.Row.{Row}
+use Rattle.ucon_row.specs.declared.row.Row.TheVariants.{Variable, Entity, Attribute, Act, Session}
 use Rattle.ucon_point.specs.PointRead.{Said}
 
 -- a row of a value that is there
@@ -31,7 +31,7 @@ entity_rows h side name = Entity side name ∷ flat_map (attribute_rows h side n
 
 -- an act with its moment
 abbrev pub act_row : Held → Bytes × Bytes × Bytes → Row
-act_row h a = Act (record { subject = a.0; action = a.1; object = a.2; moment = unwrap_or (h.moment a.0 a.1 a.2) (pos 0) })
+act_row h a = Act a.0 a.1 a.2 (unwrap_or (h.moment a.0 a.1 a.2) (pos 0))
 
 abbrev pub session_rows : Option SessionRow → List Row
 session_rows None = []

@@ -1,9 +1,7 @@
 pub mod Faults
 pub mod HeldRows
 pub mod Opened
-pub mod Order
 pub mod Orderly
 pub mod PointRead
 pub mod PointText
-pub mod RowText
 pub mod Standing

@@ -5,14 +5,16 @@ use Rattle.std.specs.Str.{bytes_eq}
 use Rattle.ucon_base.specs.declared.value.Value.TheVariants.{Int}
 use Rattle.ucon_base.specs.Elements.{Each}
 use Rattle.ucon_model.specs.CommandLine.{integer_in}
-use Rattle.ucon_model.specs.Output.{cut_at, number_read}
+use Rattle.ucon_model.specs.Output.{cut_at}
 use Rattle.ucon_model.specs.Payload.{◌>>=◌}
 use Rattle.ucon_model.specs.Plain.{Bytes, PlainPolicy}
 use Rattle.ucon_syntax.specs.Policies.{accepted}
-use Rattle.ucon_point.specs.declared.row.Row.{Row}
-use Rattle.ucon_point.specs.Order.{awaited}
-use Rattle.ucon_point.specs.PointText.{entries_line, line, policy_lines, tick_line}
-use Rattle.ucon_point.specs.RowText.{row_words, row_read, IsRow, IsSpelled}
+use Rattle.ucon_row.specs.declared.row.Row.{Row}
+use Rattle.ucon_row.specs.Lines.{line}
+use Rattle.ucon_row.specs.Numbers.{count_read}
+use Rattle.ucon_row.specs.Order.{awaited}
+use Rattle.ucon_row.specs.RowText.{row_words, row_read, IsRow, IsSpelled}
+use Rattle.ucon_point.specs.PointText.{entries_line, policy_lines, tick_line}
 use Rattle.ucon_point.specs.Standing.{Standing, start, put, AreWhole}
 
 -- What a checkpoint says: how many entries there were; the text of the policy in force, and the policy; the tick; and a row for each line
@@ -49,14 +51,6 @@ pub record IsPoint (p : Said) : Type 0 where
   pub order : AreWhole p.policy p.tick p.rows
 
 -- ---- what is read
-
--- a number below 2^64
-abbrev pub below_2_64 : ℕ → Option ℕ
-below_2_64 n = if nat_lt n (2 ^ 64) then Some n else None
-
--- the number below 2^64 of which this is the decimal spelling
-abbrev pub count_read : Bytes → Option ℕ
-count_read bytes = option_and_then below_2_64 (number_read bytes)
 
 -- what stands behind this word and a space
 abbrev pub behind_if : Bytes → Bytes × Bytes → Option Bytes

@@ -1,25 +1,19 @@
 -- The text of a checkpoint: what is there after so many entries, line by line.
-use Rattle.std.specs.Prelude.{ℕ, zero, suc, ℤ, pos, List, [], ◌∷◌, ◌++◌, codes, decimal, length, Option, Some, None, unwrap_or, if◌then◌else◌}
+use Rattle.std.specs.Prelude.{ℕ, zero, suc, ℤ, pos, [], ◌∷◌, ◌++◌, codes, decimal, length, Option, Some, None, unwrap_or, if◌then◌else◌}
 use Rattle.std.specs.Fmt.{signed_decimal}
-use Rattle.std.specs.List.{flat_map, join_with_byte}
+use Rattle.std.specs.List.{flat_map}
 use Rattle.ucon_base.specs.declared.value.Side.{Side}
 use Rattle.ucon_base.specs.declared.value.Side.TheVariants.{Subject, Object}
-use Rattle.ucon_base.specs.declared.value.Value.{Value}
-use Rattle.ucon_base.specs.Spelling.{value_spelling}
 use Rattle.ucon_model.specs.declared.policy.AttrDecl.{AttrDecl}
 use Rattle.ucon_model.specs.declared.policy.EnvDecl.{EnvDecl}
 use Rattle.ucon_model.specs.declared.session.SessionRow.{SessionRow}
 use Rattle.ucon_model.specs.Plain.{Bytes, PlainPolicy}
 use Rattle.ucon_model.specs.Readings.{same_side}
 use Rattle.ucon_model.specs.History.{History, trace}
-use Rattle.ucon_model.specs.Spelling.{state_word}
+use Rattle.ucon_row.specs.Lines.{line, value_line, entity_line, act_words, session_words}
 use Rattle.ucon_state.specs.Held.{Held, held_after}
 
--- ---- one line of each sort
-
--- words with a space between, and a newline
-abbrev pub line : List Bytes → Bytes
-line words = join_with_byte 32 words ++ 10 ∷ []
+-- ---- the lines before the rows
 
 -- how many entries there were
 abbrev pub entries_line : ℕ → Bytes
@@ -33,29 +27,7 @@ policy_lines text = line (codes "policy" ∷ decimal (length text) ∷ []) ++ (t
 abbrev pub tick_line : ℤ → Bytes
 tick_line now = line (codes "tick" ∷ signed_decimal now ∷ [])
 
--- a word, a name and its value; no line where it has none
-abbrev pub value_line : Bytes → Bytes → Option Value → Bytes
-value_line word name None = []
-value_line word name (Some v) = line (word ∷ name ∷ value_spelling v ∷ [])
-
--- the word of a side
-abbrev pub entity_word : Side → Bytes
-entity_word Subject = codes "subject"
-entity_word Object = codes "object"
-
--- an entity
-abbrev pub entity_line : Side → Bytes → Bytes
-entity_line side name = line (entity_word side ∷ name ∷ [])
-
--- an act by its three names, and its moment
-abbrev pub act_words : Bytes × Bytes × Bytes → ℤ → List Bytes
-act_words a moment = codes "act" ∷ a.0 ∷ a.1 ∷ a.2 ∷ signed_decimal moment ∷ []
-
--- a session
-abbrev pub session_words : SessionRow → List Bytes
-session_words row = codes "session" ∷ decimal row.caller.0 ∷ row.right ∷ row.subject ∷ row.object ∷ state_word row.state ∷ signed_decimal row.start ∷ []
-
--- ---- the lines of each sort
+-- ---- the lines of each sort of rows
 
 -- a variable, as it is declared
 abbrev pub variable_line : Held → EnvDecl → Bytes

@@ -15,12 +15,12 @@ use Rattle.ucon_state.specs.Applied.{applied, opening_tables, with_cell, with_en
 use Rattle.ucon_state.specs.Putting.{with_act_row}
 use Rattle.ucon_state.specs.Shown.{shown}
 use Rattle.ucon_state.specs.Tables.{Tables, accessing_among, cell_at, entities_of, entity_number, moment_in}
-use Rattle.ucon_point.specs.declared.order.Reached.{Reached}
-use Rattle.ucon_point.specs.declared.order.Stage.{Stage}
-use Rattle.ucon_point.specs.declared.order.Stage.TheVariants.{Subjects, Objects}
-use Rattle.ucon_point.specs.declared.row.Row.{Row}
-use Rattle.ucon_point.specs.declared.row.Row.TheVariants.{Variable, Entity, Attribute, Act, Session}
-use Rattle.ucon_point.specs.Order.{after, awaited, beginning}
+use Rattle.ucon_row.specs.declared.order.Reached.{Reached}
+use Rattle.ucon_row.specs.declared.order.Stage.{Stage}
+use Rattle.ucon_row.specs.declared.order.Stage.TheVariants.{Subjects, Objects}
+use Rattle.ucon_row.specs.declared.row.Row.{Row}
+use Rattle.ucon_row.specs.declared.row.Row.TheVariants.{Variable, Entity, Attribute, Act, Session}
+use Rattle.ucon_row.specs.Order.{after, awaited, beginning}
 
 -- how far the rows have come, and the tables that they made
 pub record Standing : Type 0 where
@@ -42,12 +42,16 @@ side_of stage = sides.Subject
 abbrev pub last_cell : PlainPolicy → Tables → Side → Bytes → Option ℕ
 last_cell Q t side attr = cell_at Q t side (length (entities_of side t) - 1) attr
 
+-- an act of these names, last done at this moment
+abbrev pub act_of : Bytes → Bytes → Bytes → ℤ → ActRow
+act_of subject action object moment = record { subject = subject; action = action; object = object; moment = moment }
+
 -- the tables with a row
 abbrev pub with_put : PlainPolicy → Stage → Tables → Row → Tables
 with_put Q stage t (Variable name v) = applied Q (env name v) t
 with_put Q stage t (Entity side name) = with_entity Q t side name
 with_put Q stage t (Attribute attr v) = option_map_or (λ cell. with_cell t cell v) (last_cell Q t (side_of stage) attr) t
-with_put Q stage t (Act a) = with_act_row t a
+with_put Q stage t (Act subject action object moment) = with_act_row t (act_of subject action object moment)
 with_put Q stage t (Session s) = with_new_session t s
 
 -- ---- whether a row may be put
@@ -92,7 +96,7 @@ abbrev pub may_put : Tables → Row → Bool
 may_put t (Variable name v) = true
 may_put t (Entity side name) = may_put_entity t side name
 may_put t (Attribute attr v) = true
-may_put t (Act a) = may_put_act t a
+may_put t (Act subject action object moment) = may_put_act t (act_of subject action object moment)
 may_put t (Session s) = may_put_session t s
 
 -- ---- row after row

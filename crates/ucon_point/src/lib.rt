@@ -4,14 +4,9 @@
 mod fault;
 mod header;
 mod laws;
-mod lines;
-mod order;
 mod point;
 mod putting;
 mod reading;
-mod row;
-mod rows;
-mod words;
 mod writing;
 
 pub use fault::PointFault;
@@ -19,8 +14,6 @@ pub use laws::{
     histories_are_in_order, points_are_read_back, rows_make_what_they_say, texts_are_of_rows,
     what_is_in_order_can_be_put,
 };
-pub use order::{Reached, Stage, after, awaited, beginning};
 pub use point::Point;
 pub use reading::read_point;
-pub use row::Row;
 pub use writing::point_text;

@@ -10,10 +10,9 @@ ghost use Rattle.ucon_state.specs.Putting.{with_act_row};
 ghost use Rattle.ucon_state.specs.Shown.{changed_to, shown};
 ghost use Rattle.ucon_state.specs.Tables.{entities_of};
 
-use crate::order::Stage;
-use crate::row::Row;
 use ucon_base::{Name, NoMemory, Side, Value};
 use ucon_model::SessionRow;
+use ucon_row::{Row, Stage};
 use ucon_state::{ActRow, State};
 
 /// The most entities of a side.
@@ -31,7 +30,20 @@ pub fn put_row(state: &mut State, stage: Stage, row: Row) -> Result<bool, NoMemo
         Row::Variable(name, value) => put_variable(state, &name, value),
         Row::Entity(side, name) => put_entity(state, side, name),
         Row::Attribute(attr, value) => put_attribute(state, side_of(stage), &attr, value),
-        Row::Act(act) => put_act(state, act),
+        Row::Act {
+            subject,
+            action,
+            object,
+            moment,
+        } => put_act(
+            state,
+            ActRow {
+                subject,
+                action,
+                object,
+                moment,
+            },
+        ),
         Row::Session(session) => put_session(state, session),
     }
 }

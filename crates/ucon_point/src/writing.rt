@@ -5,17 +5,15 @@ ghost use Rattle.std.specs.List.{flat_map};
 ghost use Rattle.ucon_model.specs.Action.{Trace};
 ghost use Rattle.ucon_model.specs.History.{History, trace};
 ghost use Rattle.ucon_model.specs.Plain.{PlainPolicy};
-ghost use Rattle.ucon_point.specs.PointText.{act_line, attribute_line, entity_lines, point_after, point_text, sessions_to, variable_line};
+ghost use Rattle.ucon_point.specs.PointText.{act_line, attribute_line, entity_lines, entries_line, point_after, point_text, policy_lines, sessions_to, tick_line, variable_line};
 ghost use Rattle.ucon_state.specs.Following.{Follows};
 ghost use Rattle.ucon_state.specs.Held.{held, held_after};
 ghost use Rattle.ucon_state.specs.Shown.{shown};
 
-use crate::lines::{
-    put_act, put_entity, put_entries, put_policy, put_session, put_tick, put_value,
-};
 use std::alloc::Global;
-use ucon_base::{Name, NoMemory, Side};
+use ucon_base::{Int, Name, NoMemory, Side, put, put_integer, put_number};
 use ucon_model::{AttrDecl, View};
+use ucon_row::{put_act, put_entity, put_session, put_value};
 use ucon_state::{State, states_hold_what_they_follow};
 
 /// The text of the checkpoint after so many entries, this being the text of the policy in force: after each trace that the state follows,
@@ -50,6 +48,35 @@ fn written(alloc: Global, entries: u64, policy: &[u8], state: &State) -> Result<
     put_acts(&mut text, state)?;
     put_sessions(&mut text, state)?;
     Ok(text)
+}
+
+/// Adds the line of the number of entries.
+fn put_entries(out: &mut Vec<u8>, entries: u64) -> Result<(), NoMemory>
+    ensures { OnOk result (out.new.items ≡ out.old.items ++ entries_line entries) }
+{
+    put(out, b"point ")?;
+    put_number(out, entries)?;
+    put(out, b"\n")
+}
+
+/// Adds the lines of a policy's text: how many bytes it has, and these.
+fn put_policy(out: &mut Vec<u8>, text: &[u8]) -> Result<(), NoMemory>
+    ensures { OnOk result (out.new.items ≡ out.old.items ++ policy_lines text.now) }
+{
+    put(out, b"policy ")?;
+    put_number(out, text.len() as u64)?;
+    put(out, b"\n")?;
+    put(out, text)?;
+    put(out, b"\n")
+}
+
+/// Adds the line of the tick.
+fn put_tick(out: &mut Vec<u8>, tick: Int) -> Result<(), NoMemory>
+    ensures { OnOk result (out.new.items ≡ out.old.items ++ tick_line tick) }
+{
+    put(out, b"tick ")?;
+    put_integer(out, tick)?;
+    put(out, b"\n")
 }
 
 fn put_variables(alloc: Global, out: &mut Vec<u8>, state: &State) -> Result<(), NoMemory>
@@ -125,7 +152,7 @@ fn put_acts(out: &mut Vec<u8>, state: &State) -> Result<(), NoMemory>
         let Some(act) = state.act(number) else {
             unreachable!()
         };
-        put_act(out, &act)?;
+        put_act(out, &act.subject, &act.action, &act.object, act.moment)?;
     }
     Ok(())
 }

@@ -13,7 +13,7 @@ ghost use Rattle.ucon_model.specs.Found.{fresh, holds, not_journal, payloads_of}
 ghost use Rattle.ucon_model.specs.History.{History, IsProper, trace, trace_from};
 ghost use Rattle.ucon_model.specs.Plain.{Bytes, PlainPolicy};
 ghost use Rattle.ucon_point.specs.HeldRows.{rows_held};
-ghost use Rattle.ucon_point.specs.RowText.{IsRow};
+ghost use Rattle.ucon_row.specs.RowText.{IsRow};
 ghost use Rattle.ucon_state.specs.Following.{Follows};
 ghost use Rattle.ucon_state.specs.Held.{held_after};
 ghost use Rattle.ucon_state.specs.Shown.{Shown};

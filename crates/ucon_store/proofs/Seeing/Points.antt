@@ -20,10 +20,10 @@ use Rattle.ucon_state.specs.Following.{Follows, IsFollowing, IsLegalTrace, Keeps
 use Rattle.ucon_state.specs.Held.{Held, ReadsAlike, held_after, held_in}
 use Rattle.ucon_state.specs.Shown.{Shown, changed_by}
 use Rattle.ucon_point.specs.HeldRows.{point_held, rows_held}
-use Rattle.ucon_point.specs.Order.{awaited}
+use Rattle.ucon_row.specs.Order.{awaited}
 use Rattle.ucon_point.specs.PointRead.{IsPoint, Said, point_read}
 use Rattle.ucon_point.specs.PointText.{point_text}
-use Rattle.ucon_point.specs.RowText.{IsRow, IsSpelled}
+use Rattle.ucon_row.specs.RowText.{IsRow, IsSpelled}
 use Rattle.ucon_point.specs.Standing.{Standing, put_all, start}
 use Rattle.ucon_syntax.specs.Policies.{accepted}
 use Rattle.ucon_store.specs.Opened.{IsPointOf, showing_only, text_said}

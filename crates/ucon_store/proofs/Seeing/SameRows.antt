@@ -15,8 +15,8 @@ use Rattle.ucon_model.specs.Plain.{Bytes, PlainPolicy}
 use Rattle.ucon_model.specs.Readings.{in_force, has_entity, entity_names, same_side, declared_attr, declared_env, attribute, variable, moment, act_rows, session, sessions}
 use Rattle.ucon_state.specs.declared.held.ActRow.{ActRow}
 use Rattle.ucon_state.specs.Held.{Held}
-use Rattle.ucon_point.specs.declared.row.Row.{Row}
-use Rattle.ucon_point.specs.declared.row.Row.TheVariants.{Variable, Entity, Attribute, Act, Session}
+use Rattle.ucon_row.specs.declared.row.Row.{Row}
+use Rattle.ucon_row.specs.declared.row.Row.TheVariants.{Variable, Entity, Attribute, Act, Session}
 use Rattle.ucon_point.specs.HeldRows.{given, variable_rows, attribute_rows, act_row, session_rows, session_rows_to}
 use Rattle.ucon_point.specs.Orderly.{same_names}
 
@@ -47,7 +47,7 @@ is_entity side (Entity s name) = same_side side s
 is_entity side row = false
 
 abbrev pub is_act : Row → Bool
-is_act (Act a) = true
+is_act (Act s a o m) = true
 is_act row = false
 
 pub begins_append : (p : Row → Bool) (xs ys : List Row) → begins p xs ≡ false → begins p ys ≡ false → begins p (xs ++ ys) ≡ false
@@ -80,7 +80,7 @@ name_in_row (Entity side name) = name
 name_in_row row = []
 
 abbrev act_in_row : Row → ActRow → ActRow
-act_in_row (Act a) b = a
+act_in_row (Act s a o m) b = record { subject = s; action = a; object = o; moment = m }
 act_in_row row b = b
 
 abbrev session_in_row : Row → SessionRow → SessionRow
