@@ -141,7 +141,9 @@ fn member<'a>(
     bytes: &'a [u8],
 ) -> Result<(&'a [u8], &'a [u8]), ValueFault>
     requires { at + length bytes.now < usize.MAX }
-    ensures read { MatchResult result (λ r. members (option_copied last.entry) (inside at []) (at + 1) bytes.now ≡ before (record { at = at; text = r.0.now }) (members (Some r.0.now) behind (at + (length r.0.now + 2)) r.1.now)) (λ f. members (option_copied last.entry) (inside at []) (at + 1) bytes.now ≡ Err f) }
+    ensures read { MatchResult result
+        (λ r. members (option_copied last.entry) (inside at []) (at + 1) bytes.now ≡ before (record { at = at; text = r.0.now }) (members (Some r.0.now) behind (at + (length r.0.now + 2)) r.1.now))
+        (λ f. members (option_copied last.entry) (inside at []) (at + 1) bytes.now ≡ Err f) }
     ensures shorter { IfOk result (λ r. length r.0.now + 1 + length r.1.now ≡ length bytes.now) }
 {
     let (text, rest) = bytes.split_at(text_len(bytes));
@@ -173,7 +175,9 @@ fn after_quote(bytes: &[u8]) -> Option<&[u8]>
 /// What stands behind the comma that is here, or none where the set ends.
 fn next_member(at: usize, bytes: &[u8]) -> Result<Option<&[u8]>, ValueFault>
     requires { at < usize.MAX }
-    ensures read { (last : Option (List ℕ)) → MatchResult result (λ o. members last behind at bytes.now ≡ awaited last at (option_copied o)) (λ f. members last behind at bytes.now ≡ Err f) }
+    ensures read { (last : Option (List ℕ)) → MatchResult result
+        (λ o. members last behind at bytes.now ≡ awaited last at (option_copied o))
+        (λ f. members last behind at bytes.now ≡ Err f) }
     ensures shorter { IfOk result (λ o. IfSome o (λ more. length more.now + 1 ≡ length bytes.now)) }
 {
     match bytes {

@@ -3,7 +3,6 @@
 ghost use Rattle.std.specs.Prelude.{◌≡◌};
 
 use crate::NoMemory;
-use std::alloc::AllocFailed;
 
 /// Why bytes spell no value. They are tried in this order; places are from 0.
 #[derive(Clone, Copy, Debug, PartialEq, Eq)]
@@ -27,16 +26,5 @@ impl From<NoMemory> for ValueFault {
 
     fn from(e: NoMemory) -> ValueFault {
         ValueFault::NoMemory(e)
-    }
-}
-
-impl<T: Drop> From<AllocFailed<T>> for ValueFault {
-    ghost use Rattle.ucon_base.specs.declared.value_fault.ValueFault.TheVariants as faults;
-    ghost use Rattle.ucon_base.specs.Memory.{out_of_memory};
-
-    ghost from_gives = { λ _ f. f ≡ faults.NoMemory out_of_memory };
-
-    fn from(e: AllocFailed<T>) -> ValueFault {
-        ValueFault::NoMemory(NoMemory::from(e))
     }
 }

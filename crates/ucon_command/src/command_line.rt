@@ -30,7 +30,9 @@ impl<'a> CommandLine<'a> {
     /// The line, if it spells a command, or the first refusal. Only a value that is a set, and an amendment's
     /// policy, take memory while it is judged; so but for an amendment each refusal is told whatever memory there is.
     pub fn judge(alloc: Global, text: &'a [u8]) -> Result<CommandLine<'a>, LineFault>
-        ensures judged { MatchResult result (λ l. (l.text.now ≡ text.now) × IsOk (line_read accepted text.now)) (IsRefusal (line_read accepted text.now)) }
+        ensures judged { MatchResult result
+            (λ l. (l.text.now ≡ text.now) × IsOk (line_read accepted text.now))
+            (IsRefusal (line_read accepted text.now)) }
         ensures sure { IsFalse (amends text.now) → IfErr result (IsSure (line_read accepted text.now)) }
         ensures long { most_bytes text.now < length text.now → result ≡ Err (LineFault.TooLong (length text.now)) }
     {

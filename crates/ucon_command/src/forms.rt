@@ -21,7 +21,9 @@ use ucon_reply::{Word, last_word, name_then, next_word, word_between, word_count
 /// Where a line's second word begins, if it has no third.
 fn one_word(line: &[u8], second: Option<usize>) -> Option<usize>
     requires { IfSome second (λ at. at ≤ length line.now) }
-    ensures { MatchOption result (length (words_from second line.now) ≡ 1 → ⊥) (λ a. (a ≤ length line.now) × (words_from second line.now ≡ record { at = a; text = drop a line.now } ∷ [])) }
+    ensures { MatchOption result
+        (length (words_from second line.now) ≡ 1 → ⊥)
+        (λ a. (a ≤ length line.now) × (words_from second line.now ≡ record { at = a; text = drop a line.now } ∷ [])) }
 {
     let a = second?;
     match next_word(line, a) {
@@ -103,7 +105,9 @@ fn set_places(line: &[u8], second: Option<usize>) -> Option<(usize, usize, usize
 pub fn one_name(line: &[u8], second: Option<usize>) -> Result<u16, LineFault>
     requires short { length line.now ≤ 8192 }
     requires second { IsSecond second line.now }
-    ensures { MatchResult result (λ n. (one_word name_in (words_of line.now) ≡ Ok (drop n line.now)) × IsTrue (ends_in_name n line.now)) (IsTold (one_word name_in (words_of line.now))) }
+    ensures { MatchResult result
+        (λ n. (one_word name_in (words_of line.now) ≡ Ok (drop n line.now)) × IsTrue (ends_in_name n line.now))
+        (IsTold (one_word name_in (words_of line.now))) }
 {
     let Some(name) = one_word(line, second) else {
         return Err(LineFault::WrongCount(word_count(line)));
@@ -117,7 +121,9 @@ pub fn one_name(line: &[u8], second: Option<usize>) -> Result<u16, LineFault>
 pub fn one_integer(alloc: Global, line: &[u8], second: Option<usize>) -> Result<u16, LineFault>
     requires short { length line.now ≤ 8192 }
     requires second { IsSecond second line.now }
-    ensures { MatchResult result (λ t. IsOk (one_word integer_in (words_of line.now)) × (result_ok (one_word integer_in (words_of line.now)) ≡ integer_in (drop t line.now)) × (t ≤ length line.now)) (IsTold (one_word integer_in (words_of line.now))) }
+    ensures { MatchResult result
+        (λ t. IsOk (one_word integer_in (words_of line.now)) × (result_ok (one_word integer_in (words_of line.now)) ≡ integer_in (drop t line.now)) × (t ≤ length line.now))
+        (IsTold (one_word integer_in (words_of line.now))) }
 {
     let Some(tick) = one_word(line, second) else {
         return Err(LineFault::WrongCount(word_count(line)));
@@ -144,7 +150,9 @@ pub fn one_number(alloc: Global, line: &[u8], second: Option<usize>) -> Result<u
 pub fn three_names(line: &[u8], second: Option<usize>) -> Result<(u16, u16, u16), LineFault>
     requires short { length line.now ≤ 8192 }
     requires second { IsSecond second line.now }
-    ensures read { MatchResult result (λ p. three_names (words_of line.now) ≡ Ok (between p.0 p.1 line.now, between p.1 p.2 line.now, drop p.2 line.now)) (IsTold (three_names (words_of line.now))) }
+    ensures read { MatchResult result
+        (λ p. three_names (words_of line.now) ≡ Ok (between p.0 p.1 line.now, between p.1 p.2 line.now, drop p.2 line.now))
+        (IsTold (three_names (words_of line.now))) }
     ensures words { IfOk result (λ p. IsTrue (has_name p.0 p.1 line.now) × IsTrue (has_name p.1 p.2 line.now) × IsTrue (ends_in_name p.2 line.now)) }
 {
     let Some(w) = three_words(line, second) else {
@@ -159,7 +167,9 @@ pub fn three_names(line: &[u8], second: Option<usize>) -> Result<(u16, u16, u16)
 /// The side that an entity and its attribute are of.
 #[tactic(auto, unfolding(ucon_model::specs::CommandLine::place_of))]
 fn place_of(side: &Word<'_>, name: &Word<'_>, attr: &Word<'_>) -> Result<Side, LineFault>
-    ensures read { MatchResult result (λ s. place_of (word_of side.now) (word_of name.now) (word_of attr.now) ≡ Ok (s, name.now.text.now, attr.now.text.now)) (IsTold (place_of (word_of side.now) (word_of name.now) (word_of attr.now))) }
+    ensures read { MatchResult result
+        (λ s. place_of (word_of side.now) (word_of name.now) (word_of attr.now) ≡ Ok (s, name.now.text.now, attr.now.text.now))
+        (IsTold (place_of (word_of side.now) (word_of name.now) (word_of attr.now))) }
     ensures names { IfOk result (λ _. IsTrue (is_name name.now.text.now) × IsTrue (is_name attr.now.text.now)) }
 {
     let side = side_word(side)?;
@@ -173,7 +183,9 @@ fn place_of(side: &Word<'_>, name: &Word<'_>, attr: &Word<'_>) -> Result<Side, L
 pub fn value_words(line: &[u8], second: Option<usize>) -> Result<(Side, u16, u16), LineFault>
     requires short { length line.now ≤ 8192 }
     requires second { IsSecond second line.now }
-    ensures read { MatchResult result (λ p. value_words (words_of line.now) ≡ Ok (p.0, between p.1 p.2 line.now, drop p.2 line.now)) (IsTold (value_words (words_of line.now))) }
+    ensures read { MatchResult result
+        (λ p. value_words (words_of line.now) ≡ Ok (p.0, between p.1 p.2 line.now, drop p.2 line.now))
+        (IsTold (value_words (words_of line.now))) }
     ensures words { IfOk result (λ p. IsTrue (has_name p.1 p.2 line.now) × IsTrue (ends_in_name p.2 line.now)) }
 {
     let Some(w) = three_words(line, second) else {
@@ -192,7 +204,9 @@ pub fn value_words(line: &[u8], second: Option<usize>) -> Result<(Side, u16, u16
 pub fn set_words(alloc: Global, line: &[u8], second: Option<usize>) -> Result<Cuts, LineFault>
     requires short { length line.now ≤ 8192 }
     requires second { IsSecond second line.now }
-    ensures { MatchResult result (λ k. AreCuts k line.now (set_words line.now (words_of line.now))) (IsSure (set_words line.now (words_of line.now))) }
+    ensures { MatchResult result
+        (λ k. AreCuts k line.now (set_words line.now (words_of line.now)))
+        (IsSure (set_words line.now (words_of line.now))) }
 {
     let Some((a, b, c, d)) = set_places(line, second) else {
         return Err(LineFault::WrongCount(word_count(line)));
@@ -216,7 +230,9 @@ pub fn set_words(alloc: Global, line: &[u8], second: Option<usize>) -> Result<Cu
 pub fn env_words(alloc: Global, line: &[u8], second: Option<usize>) -> Result<Cuts, LineFault>
     requires short { length line.now ≤ 8192 }
     requires second { IsSecond second line.now }
-    ensures { MatchResult result (λ k. AreCuts k line.now (env_words line.now (words_of line.now))) (IsSure (env_words line.now (words_of line.now))) }
+    ensures { MatchResult result
+        (λ k. AreCuts k line.now (env_words line.now (words_of line.now)))
+        (IsSure (env_words line.now (words_of line.now))) }
 {
     let Some((a, b)) = env_places(line, second) else {
         return Err(LineFault::WrongCount(word_count(line)));

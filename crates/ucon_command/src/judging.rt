@@ -75,7 +75,9 @@ fn form_cuts(
     requires short { length line.now ≤ most_bytes line.now }
     requires second { IsSecond second line.now }
     requires first { first.now ≡ (word_to 0 second line.now).text }
-    ensures cuts { MatchResult result (λ k. AreCuts k line.now (command_read accepted line.now first.now (words_of line.now))) (IsRefusal (command_read accepted line.now first.now (words_of line.now))) }
+    ensures cuts { MatchResult result
+        (λ k. AreCuts k line.now (command_read accepted line.now first.now (words_of line.now)))
+        (IsRefusal (command_read accepted line.now first.now (words_of line.now))) }
     ensures sure { IsFalse (amends line.now) → IfErr result (IsSure (command_read accepted line.now first.now (words_of line.now))) }
 {
     if first == b"amend".as_slice() {
@@ -96,7 +98,9 @@ fn other_cuts(
     requires short { length line.now ≤ 8192 }
     requires second { IsSecond second line.now }
     requires other { IsFalse (bytes_eq first.now (codes "amend")) }
-    ensures { MatchResult result (λ k. AreCuts k line.now (command_read accepted line.now first.now (words_of line.now))) (IsSure (command_read accepted line.now first.now (words_of line.now))) }
+    ensures { MatchResult result
+        (λ k. AreCuts k line.now (command_read accepted line.now first.now (words_of line.now)))
+        (IsSure (command_read accepted line.now first.now (words_of line.now))) }
 {
     if first == b"subject".as_slice() {
         return one_name(line, second).map(|name| Cuts::Subject { name });

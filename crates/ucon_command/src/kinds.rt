@@ -76,7 +76,9 @@ pub fn number_word(alloc: Global, w: &Word<'_>) -> Result<u32, LineFault>
 
 /// That a word spells an amendment's policy.
 pub fn amendment_word(alloc: Global, w: &Word<'_>) -> Result<(), LineFault>
-    ensures { MatchResult result (λ _. IsOk (said (amendment_in accepted) (word_of w.now))) (IsRefusal (said (amendment_in accepted) (word_of w.now))) }
+    ensures { MatchResult result
+        (λ _. IsOk (said (amendment_in accepted) (word_of w.now)))
+        (IsRefusal (said (amendment_in accepted) (word_of w.now))) }
 {
     match amendment_in(alloc, w.text)? {
         Some(_) => Ok(()),

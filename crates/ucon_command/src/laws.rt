@@ -52,7 +52,8 @@ pub fn steps_are_taken_as_spelled()
         → let reply = said P H t.caller t.command in
         taken accepted P H payload ≡ (if changes reply && bytes_eq (payload_spelling (told (entry_told t) reply)) payload
         then Some (H ++ entry_told t ∷ []) else None) }
-    ensures unread { (P : PlainPolicy) (H : History) (payload : Bytes) (place : ℕ) → payload_read accepted payload ≡ Err place → taken accepted P H payload ≡ None }
+    ensures unread { (P : PlainPolicy) (H : History) (payload : Bytes) (place : ℕ) → payload_read accepted payload ≡ Err place
+        → taken accepted P H payload ≡ None }
     ensures long { (P : PlainPolicy) (H : History) (payload : Bytes) → most_payload < length payload → taken accepted P H payload ≡ None }
     ensures next { (P : PlainPolicy) (H : History) (e : Entry)
         → IsStep (told e (said P H e.caller e.command)) → IsTrue (changes (said P H e.caller e.command))

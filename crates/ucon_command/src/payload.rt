@@ -125,7 +125,9 @@ fn step(
     bytes: &[u8],
 ) -> Result<(Caller, Command, Reply), PayloadFault>
     requires { place + length bytes.now < 2 ^ 64 }
-    ensures { MatchResult result (λ t. step_read accepted place caller bytes.now ≡ Ok (told_of t.0 t.1 t.2)) (IsBadAt (step_read accepted place caller bytes.now)) }
+    ensures { MatchResult result
+        (λ t. step_read accepted place caller bytes.now ≡ Ok (told_of t.0 t.1 t.2))
+        (IsBadAt (step_read accepted place caller bytes.now)) }
 {
     let Some((line, text)) = cut_at(b'\n', bytes) else {
         return Err(PayloadFault::BadPlace(place));
@@ -137,7 +139,9 @@ fn step(
 
 /// The command of a line at this place.
 fn command_at(alloc: Global, place: usize, line: &[u8]) -> Result<Command, PayloadFault>
-    ensures { MatchResult result (λ c. ok_or (result_ok (line_read accepted line.now)) place ≡ Ok c) (IsBadAt (ok_or (result_ok (line_read accepted line.now)) place)) }
+    ensures { MatchResult result
+        (λ c. ok_or (result_ok (line_read accepted line.now)) place ≡ Ok c)
+        (IsBadAt (ok_or (result_ok (line_read accepted line.now)) place)) }
 {
     match read_command(alloc, line) {
         Ok(command) => Ok(command),

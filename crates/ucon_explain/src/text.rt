@@ -8,6 +8,7 @@ ghost use Rattle.ucon_explain.specs.Text.{explanation_spelling, fact_spelling, f
 use std::alloc::Global;
 use ucon_base::{Int, Name, NoMemory, Value, put, put_integer};
 use ucon_model::{Ref, Verdict};
+use ucon_spelling::put_spelling;
 use ucon_told::{Explanation, Fact, Factor, Why};
 
 /// The letter of what a predicate decides by.
@@ -70,7 +71,7 @@ fn put_value(alloc: Global, out: &mut Vec<u8>, place: &Ref, value: &Value) -> Re
     put(out, b"  read ")?;
     put_place(out, place)?;
     put(out, b" ")?;
-    value.write(alloc, out)?;
+    put_spelling(alloc, out, value)?;
     put(out, b"\n")
 }
 

@@ -4,6 +4,7 @@ use std::test::Fail;
 use ucon_base::{
     Int, Kind, Name, NameFault, Rows, Steps, Text, TextFault, TextSet, Value, ValueFault,
 };
+use ucon_spelling::put_spelling;
 
 #[test]
 fn names_and_texts_are_read(rt: HostRuntime) -> Result<(), Fail> {
@@ -39,7 +40,6 @@ fn integers_are_clamped(rt: HostRuntime) -> Result<(), Fail> {
     let minus = Int::new(-7).ok_or("in range")?;
     let product = limit.add(limit).sub(minus).mul(minus);
     assert_eq!(rt; product.get(), -1_000_000_000_000_000);
-    assert_eq!(rt; product.clamp_to(minus, Int::zero()), minus);
     assert!(rt; minus.is_below(limit) && minus.is_at_most(minus));
     Ok(())
 }
@@ -94,9 +94,8 @@ fn values_are_read_and_written(rt: HostRuntime) -> Result<(), Fail> {
     ];
     for bytes in spelled {
         let mut out = Vec::new(rt.alloc());
-        Value::read(rt.alloc(), bytes)?
-            .copy(rt.alloc())?
-            .write(rt.alloc(), &mut out)?;
+        let value = Value::read(rt.alloc(), bytes)?;
+        put_spelling(rt.alloc(), &mut out, &value.copy(rt.alloc())?)?;
         assert_eq!(rt; out.as_slice(), bytes);
     }
     let refused: [(&[u8], ValueFault); 10] = [

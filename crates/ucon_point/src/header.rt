@@ -33,7 +33,9 @@ pub fn count_at<'a>(
     bytes: &'a [u8],
 ) -> Result<(u64, &'a [u8]), PointFault>
     requires { length bytes.now ≤ total }
-    ensures read { MatchResult result (λ p. line_at (counted word.now) total bytes.now ≡ Ok (p.0, p.1.now)) (IsBadAt (line_at (counted word.now) total bytes.now)) }
+    ensures read { MatchResult result
+        (λ p. line_at (counted word.now) total bytes.now ≡ Ok (p.0, p.1.now))
+        (IsBadAt (line_at (counted word.now) total bytes.now)) }
     ensures within { IfOk result (λ p. length p.1.now ≤ length bytes.now) }
 {
     let Some((line, rest)) = cut_at(b'\n', bytes) else {
@@ -70,7 +72,9 @@ pub fn policy_at(
     bytes: &[u8],
 ) -> Result<(PolicyText, &[u8]), PointFault>
     requires { length bytes.now ≤ total }
-    ensures read { MatchResult result (λ p. policy_at total bytes.now ≡ Ok ((p.0.text.items, checked_policy p.0.policy), p.1.now)) (IsBadAt (policy_at total bytes.now)) }
+    ensures read { MatchResult result
+        (λ p. policy_at total bytes.now ≡ Ok ((p.0.text.items, checked_policy p.0.policy), p.1.now))
+        (IsBadAt (policy_at total bytes.now)) }
     ensures within { IfOk result (λ p. length p.1.now ≤ length bytes.now) }
 {
     let (n, rest) = count_at(b"policy", total, bytes)?;
@@ -86,7 +90,9 @@ fn text_at(
     n: u64,
     bytes: &[u8],
 ) -> Result<(PolicyText, &[u8]), PointFault>
-    ensures read { MatchResult result (λ p. text_at total place n bytes.now ≡ Ok ((p.0.text.items, checked_policy p.0.policy), p.1.now)) (IsBadAt (text_at total place n bytes.now)) }
+    ensures read { MatchResult result
+        (λ p. text_at total place n bytes.now ≡ Ok ((p.0.text.items, checked_policy p.0.policy), p.1.now))
+        (IsBadAt (text_at total place n bytes.now)) }
     ensures within { IfOk result (λ p. length p.1.now ≤ length bytes.now) }
 {
     if n > MOST_BYTES {
@@ -106,7 +112,9 @@ fn policy_told<'a>(
     text: &[u8],
     bytes: &'a [u8],
 ) -> Result<(PolicyText, &'a [u8]), PointFault>
-    ensures read { MatchResult result (λ p. policy_told place text.now bytes.now ≡ Ok ((p.0.text.items, checked_policy p.0.policy), p.1.now)) (IsBadAt (policy_told place text.now bytes.now)) }
+    ensures read { MatchResult result
+        (λ p. policy_told place text.now bytes.now ≡ Ok ((p.0.text.items, checked_policy p.0.policy), p.1.now))
+        (IsBadAt (policy_told place text.now bytes.now)) }
     ensures within { IfOk result (λ p. length p.1.now ≤ length bytes.now) }
 {
     let Some(rest) = behind_newline(bytes) else {

@@ -6,6 +6,7 @@ ghost use Rattle.ucon_base.specs.Spelling.{value_spelling};
 
 use std::alloc::Global;
 use ucon_base::{Name, NoMemory, Value, put, put_number};
+use ucon_spelling::put_spelling;
 
 /// Adds a space and a name.
 #[inline(always)]
@@ -21,7 +22,7 @@ pub fn put_value(alloc: Global, out: &mut Vec<u8>, v: &Value) -> Result<(), NoMe
     ensures { OnOk result (out.new.items ≡ out.old.items ++ 32 ∷ value_spelling v.now) }
 {
     out.push(b' ')?;
-    v.write(alloc, out)
+    put_spelling(alloc, out, v)
 }
 
 /// Adds a word and a session's number.

@@ -8,6 +8,7 @@ ghost use Rattle.ucon_row.specs.Lines.{act_words, entity_line, entity_word, line
 use std::alloc::Global;
 use ucon_base::{Int, Name, NoMemory, Side, Value, put, put_integer, put_number};
 use ucon_model::{Caller, SessionRow, SessionState};
+use ucon_spelling::put_spelling;
 
 /// Adds the line of a value: a word, a name and the value. None, if it has no value.
 pub fn put_value(
@@ -25,7 +26,7 @@ pub fn put_value(
     put(out, word)?;
     put_name(out, name)?;
     put(out, b" ")?;
-    value.write(alloc, out)?;
+    put_spelling(alloc, out, value)?;
     put(out, b"\n")
 }
 

@@ -1,8 +1,6 @@
 //! Sets of texts.
 
 ghost use Rattle.std.specs.Prelude.{◌≡◌, ◌<◌, [], ◌∷◌, ◌++◌, length, true, IfOk};
-ghost use Rattle.std.specs.Ordering.{nat_cmp, is_lt};
-ghost use Rattle.std.specs.Cmp.Lexicographic.{slice_cmp};
 ghost use Rattle.ucon_base.specs.Value.{is_rising};
 ghost use Rattle.ucon_token.specs.Reading.{Gives};
 ghost use Rattle.ucon_token.specs.Literals.{member_at, texts_at, set_at};
@@ -14,12 +12,6 @@ use ucon_base::{NoMemory, Text, TextSet};
 
 const MOST_TEXTS: usize = 64;
 
-fn is_below(t: &Text, u: &Text) -> bool
-    ensures { result ≡ is_lt (slice_cmp nat_cmp t.now u.now) }
-{
-    t < u
-}
-
 /// Whether the texts still rise with this one behind them.
 #[tactic(auto, using(crate::proofs::Rises::rises_first, crate::proofs::Rises::rises_last))]
 fn rises(set: &TextSet, text: &Text) -> bool
@@ -28,7 +20,7 @@ fn rises(set: &TextSet, text: &Text) -> bool
 {
     match set.at(set.size().saturating_sub(1)) {
         None => true,
-        Some(last) => is_below(last, text),
+        Some(last) => last.is_below(text),
     }
 }
 
