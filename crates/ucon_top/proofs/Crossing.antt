@@ -19,8 +19,8 @@ use Rattle.ucon_base.proofs.name.Name.TheSendSync as name
 use Rattle.ucon_base.proofs.rows.Rows.TheSendSync as rows
 use Rattle.ucon_base.proofs.value.Side.TheSendSync as side
 use Rattle.ucon_base.specs.contracts.name.Name as Name
-use Rattle.ucon_cascade.proofs.readers.Readers.TheSendSync as readers
-use Rattle.ucon_cascade.proofs.timers.Timers.TheSendSync as timers
+use Rattle.ucon_readers.proofs.readers.Readers.TheSendSync as readers
+use Rattle.ucon_readers.proofs.timers.Timers.TheSendSync as timers
 use Rattle.ucon_cascade.specs.contracts.monitor.Monitor as Monitor
 use Rattle.ucon_model.proofs.formula.Expr.TheLaws.TheKnot as expr
 use Rattle.ucon_model.proofs.formula.Formula.TheLaws.TheKnot as formula
