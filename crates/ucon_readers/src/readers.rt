@@ -15,12 +15,21 @@ use ucon_base::NoMemory;
 use ucon_pend::Pend;
 
 /// Forgets those who were replaced, where some were: most often none were, and to move none costs as much as to move some.
+#[inline(always)]
 fn forget(replaced: &mut Option<Standing>)
     ensures { replaced.new ≡ None }
 {
     if replaced.is_some() {
-        *replaced = None;
+        forget_some(replaced);
     }
+}
+
+/// Forgets those who were replaced. It stands alone, so that who forgets none makes no room for one.
+#[inline(never)]
+fn forget_some(replaced: &mut Option<Standing>)
+    ensures { replaced.new ≡ None }
+{
+    *replaced = None;
 }
 
 /// For each place the accessing sessions that read it, in lists of such as share one judgement. What a draft changes can be undone until

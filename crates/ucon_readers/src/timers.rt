@@ -30,12 +30,21 @@ fn take_back(wheel: &mut Wheel, change: Change)
 }
 
 /// Forgets the wheel that was replaced, where one was: most often none was, and to move none costs as much as to move one.
+#[inline(always)]
 fn forget(replaced: &mut Option<Wheel>)
     ensures { replaced.new ≡ None }
 {
     if replaced.is_some() {
-        *replaced = None;
+        forget_some(replaced);
     }
+}
+
+/// Forgets the wheel that was replaced. It stands alone, so that who forgets none makes no room for one.
+#[inline(never)]
+fn forget_some(replaced: &mut Option<Wheel>)
+    ensures { replaced.new ≡ None }
+{
+    *replaced = None;
 }
 
 /// For each accessing session ticks after which a part of what its right reads may stop to hold. What a draft changes can be undone

@@ -394,6 +394,7 @@ impl State {
     }
 
     /// From here on undoing gives what is there now.
+    #[inline(always)]
     pub fn keep(&mut self)
         ensures { shown self.new ≡ kept (shown self.old) }
     {
