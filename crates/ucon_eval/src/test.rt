@@ -38,6 +38,7 @@ fn worth_at<'a, V: View>(view: &'a V, session: u32, place: &Ref) -> Worth<'a>
 }
 
 /// What an expression is worth for a session, by what its parts are.
+#[inline(never)]
 fn worth_of_parts<'a, V: View>(view: &'a V, session: u32, e: &'a Expr) -> Worth<'a>
     requires there { IsSome ((V.readings view.now).row session) }
     requires no_set { makes_no_set ((V.readings view.now).at (row_at (V.readings view.now) session)) (expr_of e.now) ≡ true }
@@ -60,6 +61,7 @@ fn worth_of_parts<'a, V: View>(view: &'a V, session: u32, e: &'a Expr) -> Worth<
 }
 
 /// Whether a formula holds for a session. No recursion is entered for a comparison or a duration, as most are.
+#[inline(always)]
 fn holds<V: View>(view: &V, session: u32, f: &Formula) -> bool
     requires there { IsSome ((V.readings view.now).row session) }
     requires no_set { formula_makes_no_set ((V.readings view.now).at (row_at (V.readings view.now) session)) (formula_of f.now) ≡ true }
@@ -73,6 +75,7 @@ fn holds<V: View>(view: &V, session: u32, f: &Formula) -> bool
 }
 
 /// Whether what two expressions are worth compares so.
+#[inline(never)]
 fn compare<V: View>(view: &V, session: u32, op: Op, a: &Expr, b: &Expr) -> bool
     requires there { IsSome ((V.readings view.now).row session) }
     requires no_set { makes_no_set ((V.readings view.now).at (row_at (V.readings view.now) session)) (expr_of a.now) ≡ true }
@@ -92,6 +95,7 @@ fn lasts<V: View>(view: &V, session: u32, n: Int) -> bool
 }
 
 /// Whether a formula holds for a session, by whether its parts do.
+#[inline(never)]
 fn holds_by_parts<V: View>(view: &V, session: u32, f: &Formula) -> bool
     requires there { IsSome ((V.readings view.now).row session) }
     requires no_set { formula_makes_no_set ((V.readings view.now).at (row_at (V.readings view.now) session)) (formula_of f.now) ≡ true }
@@ -142,6 +146,7 @@ fn in_time(now: Int, start: Int, form: Form, last: Option<Int>) -> bool
     }
 }
 
+#[inline(never)]
 fn is_done<V: View>(view: &V, session: u32, o: &Obligation) -> bool
     requires there { IsSome ((V.readings view.now).row session) }
     ensures { result ≡ is_done (V.readings view.now) (row_at (V.readings view.now) session) o.now }
@@ -151,6 +156,7 @@ fn is_done<V: View>(view: &V, session: u32, o: &Obligation) -> bool
 }
 
 /// Whether a test is true for a session.
+#[inline(always)]
 pub fn is_true<V: View>(view: &V, session: u32, test: &Test) -> bool
     requires there { IsSome ((V.readings view.now).row session) }
     requires no_set { test_makes_no_set ((V.readings view.now).at (row_at (V.readings view.now) session)) (test_of test.now) ≡ true }
