@@ -30,6 +30,7 @@ fn perform(state: &mut State, subject: &Name, action: &Name, object: &Name) -> R
 }
 
 /// Anybody does an act that an obligation names.
+#[inline(never)]
 pub fn do_act(
     state: &mut State,
     subject: &Name,

@@ -41,6 +41,7 @@ fn replace(alloc: Global, state: &mut State, a: &Amend) -> Result<(), NoMemory>
 }
 
 /// Client 0 replaces the policy in force by one that changes no kind.
+#[inline(never)]
 pub fn replace_policy(
     alloc: Global,
     state: &mut State,

@@ -42,6 +42,7 @@ pub fn write(
 }
 
 /// Client 0 writes a value to an attribute.
+#[inline(never)]
 pub fn set_attribute(
     alloc: Global,
     state: &mut State,
@@ -66,6 +67,7 @@ pub fn set_attribute(
 }
 
 /// The value of an attribute of an entity.
+#[inline(never)]
 pub fn tell_value(
     alloc: Global,
     state: &State,

@@ -58,6 +58,7 @@ fn make(state: &mut State, side: Side, name: Name) -> Result<(), NoMemory>
 }
 
 /// Client 0 makes an entity.
+#[inline(never)]
 pub fn add_entity(
     state: &mut State,
     caller: Caller,

@@ -38,6 +38,7 @@ fn advance(state: &mut State, t: Int) -> Result<(), NoMemory>
 }
 
 /// Client 0 gives a variable a value.
+#[inline(never)]
 pub fn set_variable(
     alloc: Global,
     state: &mut State,
@@ -58,6 +59,7 @@ pub fn set_variable(
 }
 
 /// Client 0 moves the tick, never back.
+#[inline(never)]
 pub fn move_tick(state: &mut State, caller: Caller, t: Int) -> Result<Outcome, ActionFault>
     ensures given { IfOk result (λ o. Gives o (shown state.old) (shown state.new) (λ P T. move_tick T caller t)) }
     ensures refused { IfErr result (λ e. Refuses e (shown state.old) (λ P T. move_tick T caller t)) }

@@ -19,7 +19,8 @@ use ucon_model::{Caller, Command};
 use ucon_state::State;
 
 /// Makes a command's own actions. A refused command and one that reads change nothing; after want of memory the state may be anywhere
-/// within them, and undoing gives what it gave before.
+/// within them, and undoing gives what it gave before. All but a try are called from here: what comes of one is large, and where it stood
+/// here, it would have a room of its own, which each command clears.
 pub fn own_actions(
     alloc: Global,
     state: &mut State,

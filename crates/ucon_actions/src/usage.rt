@@ -180,6 +180,7 @@ fn lacks_right(state: &State, n: u32) -> bool
 }
 
 /// Decides afresh on a session that is requesting, whose right is in the policy in force.
+#[inline(never)]
 pub fn try_again(
     alloc: Global,
     state: &mut State,
@@ -201,6 +202,7 @@ pub fn try_again(
 }
 
 /// Runs the updates during a usage.
+#[inline(never)]
 pub fn beat(
     alloc: Global,
     state: &mut State,
@@ -232,6 +234,7 @@ fn end_usage(alloc: Global, state: &mut State, n: u32) -> Result<(), NoMemory>
 }
 
 /// Ends a usage.
+#[inline(never)]
 pub fn end(alloc: Global, state: &mut State, caller: Caller, n: u32) -> Result<Outcome, ActionFault>
     requires { IsFollowing (shown state.old) }
     ensures given { IfOk result (λ o. Gives o (shown state.old) (shown state.new) (λ P T. with_usage T caller n (end_usage P T n))) }
@@ -259,6 +262,7 @@ pub fn revoke(alloc: Global, state: &mut State, n: u32, label: Name) -> Result<(
 }
 
 /// The state of a session.
+#[inline(never)]
 pub fn look(state: &State, n: u32) -> Result<Outcome, ActionFault>
     ensures given { IfOk result (λ o. Gives o (shown state.now) (shown state.now) (λ P T. looked_at T n)) }
     ensures refused { IfErr result (λ e. Refuses e (shown state.now) (λ P T. looked_at T n)) }
