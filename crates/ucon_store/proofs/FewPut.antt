@@ -52,7 +52,7 @@ few_with_put : (Q : PlainPolicy) (stage : Stage) (t : Tables) (row : Row) → ma
 few_with_put Q stage t (Variable name v) may few = few_if (env_position Q name) t (λ place. with_variable t place v) (λ place. few) few
 few_with_put Q stage t (Entity side name) may few = few_entity Q t side name few
 few_with_put Q stage t (Attribute attr v) may few = few_if (last_cell Q t (side_of stage) attr) t (λ cell. with_cell t cell v) (λ cell. few) few
-few_with_put Q stage t (Act a) may few = few
+few_with_put Q stage t (Act subject action object moment) may few = few
 few_with_put Q stage t (Session s) may few = few_session t s may few
 
 few_if_put : (Q : PlainPolicy) (s : Standing) (row : Row) (next : Reached) (end : Standing) (b : Bool) → may_put s.tables row ≡ b
