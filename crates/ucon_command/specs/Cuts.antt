@@ -1,9 +1,11 @@
 -- Where the words of a line stand, and the command that they give.
-use Rattle.std.specs.Prelude.{◌≡◌, ℕ, ◌≤◌, ◌<◌, Bool, ◌&&◌, true, nat_lt, nat_le, IsTrue, IsOk, ◌∷◌, drop, length, Option, Some, option_map, IfSome, Result}
+use Rattle.std.specs.Prelude.{◌≡◌, ℕ, ◌≤◌, ◌<◌, Bool, ◌&&◌, true, nat_lt, nat_le, IsTrue, IsOk, ◌∷◌, drop, length, Option, Some, option_map, IfSome, MatchResult, Result}
 use Rattle.std.specs.Coded.{Coded-set, coded_option}
 use Rattle.std.specs.Result.{result_ok}
 use Rattle.ucon_base.specs.NameBytes.{is_name}
 use Rattle.ucon_command.specs.declared.cuts.Cuts.{Cuts}
+use Rattle.ucon_command.specs.declared.line_fault.LineFault.{LineFault}
+use Rattle.ucon_command.specs.Faults.{IsSure}
 use Rattle.ucon_command.specs.declared.cuts.Cuts.TheVariants as cuts
 use Rattle.ucon_model.specs.contracts.command.Command as the_command
 use Rattle.ucon_model.specs.declared.command.Command.{Command}
@@ -70,3 +72,7 @@ pub record AreCuts (k : Cuts) (line : Bytes) (read : Result Command LineRefusal)
   pub spelled : IsOk read
   pub cut : result_ok read ≡ command_cut k line
   pub words : IsTrue (has_words k line)
+
+-- what is given are cuts that give what is read of a line, or the refusal that is read; want of memory is told only where nothing is refused
+abbrev pub GivesCuts : Result Cuts LineFault → Bytes → Result Command LineRefusal → Type 0
+GivesCuts result line read = MatchResult result (λ k. AreCuts k line read) (IsSure read)

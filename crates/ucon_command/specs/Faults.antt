@@ -1,5 +1,5 @@
 -- What the faults of lines tell.
-use Rattle.std.specs.Prelude.{◌≡◌, Bool, Result, Err, IsOk, codes, nat_eq, ⊤}
+use Rattle.std.specs.Prelude.{◌≡◌, Bool, Result, Ok, Err, IsOk, MatchResult, codes, nat_eq, ⊤}
 use Rattle.std.specs.List.{starts_with}
 use Rattle.ucon_command.specs.declared.line_fault.LineFault.{LineFault}
 use Rattle.ucon_command.specs.declared.line_fault.LineFault.TheVariants.{TooLong, NoWord, UnknownWord, WrongCount, BadWord, NoMemory}
@@ -26,6 +26,10 @@ IsSure said f = IsRefusalOr (IsOk said) said f
 -- what is said is this refusal, whatever memory there is
 abbrev pub IsTold : {A : Type 0} → Result A LineRefusal → LineFault → Type 0
 IsTold said f = IsRefusalOr ⊥ said f
+
+-- what is given is, seen so, what is said, or the refusal that is said, whatever memory there is
+abbrev pub GivesTold : {A B : Type 0} → Result A LineFault → Result B LineRefusal → (A → B) → Type 0
+GivesTold result said seen = MatchResult result (λ x. said ≡ Ok (seen x)) (IsTold said)
 
 -- whether a line is one that amends
 abbrev pub amends : Bytes → Bool

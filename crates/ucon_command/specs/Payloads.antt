@@ -1,5 +1,5 @@
 -- What the calls of payloads give and refuse.
-use Rattle.std.specs.Prelude.{◌≡◌, ◌+◌, ◌<◌, ◌≤◌, ℕ, [], ◌∷◌, ◌++◌, length, Option, Result, Ok, Err, ok_or, ⊤}
+use Rattle.std.specs.Prelude.{◌≡◌, ◌+◌, ◌<◌, ◌≤◌, ℕ, [], ◌∷◌, ◌++◌, length, MatchResult, Option, Result, Ok, Err, ok_or, ⊤}
 use Rattle.std.specs.Result.{result_ok}
 use Rattle.ucon_base.specs.Elements.{Each}
 use Rattle.ucon_command.specs.declared.payload_fault.PayloadFault.{PayloadFault}
@@ -35,6 +35,10 @@ entry_read reads bytes = do
 abbrev pub IsBadAt : {A : Type 0} → Result A ℕ → PayloadFault → Type 0
 IsBadAt read (BadPlace place) = read ≡ Err place
 IsBadAt read (NoMemory e) = ⊤
+
+-- what is given is the step that is read; or what is read is refused at its place, unless it is want of memory
+abbrev pub GivesStep : Result (Caller × Command × Reply) PayloadFault → Result Told ℕ → Type 0
+GivesStep result read = MatchResult result (λ t. read ≡ Ok (told_of t.0 t.1 t.2)) (IsBadAt read)
 
 -- no payload is longer, of which a command's text has at most 65,542 bytes
 abbrev pub most_told : PlainReply → ℕ

@@ -5,8 +5,8 @@ ghost use Rattle.std.specs.Result.{result_ok};
 ghost use Rattle.ucon_base.specs.NameBytes.{is_name};
 ghost use Rattle.ucon_model.specs.CommandLine.{name_in, integer_in, number_in, one_word, three_names, place_of, value_words, set_words, env_words, amend_words, words_of};
 ghost use Rattle.ucon_syntax.specs.Policies.{accepted};
-ghost use Rattle.ucon_command.specs.Cuts.{AreCuts, IsSecond, ends_in_name, has_name};
-ghost use Rattle.ucon_command.specs.Faults.{IsRefusal, IsSure, IsTold};
+ghost use Rattle.ucon_command.specs.Cuts.{AreCuts, GivesCuts, IsSecond, ends_in_name, has_name};
+ghost use Rattle.ucon_command.specs.Faults.{GivesTold, IsRefusal, IsTold};
 ghost use Rattle.ucon_reply.specs.Words.{between, word_of, words_at, words_from};
 
 use crate::cuts::Cuts;
@@ -21,8 +21,7 @@ use ucon_reply::{Word, last_word, name_then, next_word, word_between, word_count
 /// Where a line's second word begins, if it has no third.
 fn one_word(line: &[u8], second: Option<usize>) -> Option<usize>
     requires { IfSome second (λ at. at ≤ length line.now) }
-    ensures { MatchOption result
-        (length (words_from second line.now) ≡ 1 → ⊥)
+    ensures { MatchOption result (length (words_from second line.now) ≡ 1 → ⊥)
         (λ a. (a ≤ length line.now) × (words_from second line.now ≡ record { at = a; text = drop a line.now } ∷ [])) }
 {
     let a = second?;
@@ -38,7 +37,8 @@ fn three_words(line: &[u8], second: Option<usize>) -> Option<ThreeWords>
     requires { IfSome second (λ at. at ≤ length line.now) }
     ensures none { IfNone result (length (words_from second line.now) ≡ 3 → ⊥) }
     ensures words { IfSome result (λ w. words_from second line.now
-        ≡ record { at = w.a; text = between w.a w.b line.now } ∷ record { at = w.b; text = between w.b w.c line.now } ∷ record { at = w.c; text = drop w.c line.now } ∷ []) }
+        ≡ record { at = w.a; text = between w.a w.b line.now } ∷ record { at = w.b; text = between w.b w.c line.now }
+        ∷ record { at = w.c; text = drop w.c line.now } ∷ []) }
     ensures a_named { IfSome result (λ w. w.a_named ≡ is_name (between w.a w.b line.now)) }
     ensures b_named { IfSome result (λ w. w.b_named ≡ is_name (between w.b w.c line.now)) }
     ensures c_named { IfSome result (λ w. w.c_named ≡ is_name (drop w.c line.now)) }
@@ -90,7 +90,8 @@ fn set_places(line: &[u8], second: Option<usize>) -> Option<(usize, usize, usize
     requires { IfSome second (λ at. at ≤ length line.now) }
     ensures none { IfNone result (length (words_from second line.now) < 4) }
     ensures words { IfSome result (λ p. words_from second line.now
-        ≡ record { at = p.0; text = between p.0 p.1 line.now } ∷ record { at = p.1; text = between p.1 p.2 line.now } ∷ record { at = p.2; text = between p.2 p.3 line.now } ∷ words_at p.3 line.now) }
+        ≡ record { at = p.0; text = between p.0 p.1 line.now } ∷ record { at = p.1; text = between p.1 p.2 line.now }
+        ∷ record { at = p.2; text = between p.2 p.3 line.now } ∷ words_at p.3 line.now) }
     ensures within { IfSome result (λ p. (p.0 < p.1) × (p.1 < p.2) × (p.2 < p.3) × (p.3 ≤ length line.now) × (0 < length (words_at p.3 line.now))) }
 {
     let a = second?;
@@ -105,8 +106,7 @@ fn set_places(line: &[u8], second: Option<usize>) -> Option<(usize, usize, usize
 pub fn one_name(line: &[u8], second: Option<usize>) -> Result<u16, LineFault>
     requires short { length line.now ≤ 8192 }
     requires second { IsSecond second line.now }
-    ensures { MatchResult result
-        (λ n. (one_word name_in (words_of line.now) ≡ Ok (drop n line.now)) × IsTrue (ends_in_name n line.now))
+    ensures { MatchResult result (λ n. (one_word name_in (words_of line.now) ≡ Ok (drop n line.now)) × IsTrue (ends_in_name n line.now))
         (IsTold (one_word name_in (words_of line.now))) }
 {
     let Some(name) = one_word(line, second) else {
@@ -122,7 +122,8 @@ pub fn one_integer(alloc: Global, line: &[u8], second: Option<usize>) -> Result<
     requires short { length line.now ≤ 8192 }
     requires second { IsSecond second line.now }
     ensures { MatchResult result
-        (λ t. IsOk (one_word integer_in (words_of line.now)) × (result_ok (one_word integer_in (words_of line.now)) ≡ integer_in (drop t line.now)) × (t ≤ length line.now))
+        (λ t. IsOk (one_word integer_in (words_of line.now))
+        × (result_ok (one_word integer_in (words_of line.now)) ≡ integer_in (drop t line.now)) × (t ≤ length line.now))
         (IsTold (one_word integer_in (words_of line.now))) }
 {
     let Some(tick) = one_word(line, second) else {
@@ -137,7 +138,7 @@ pub fn one_integer(alloc: Global, line: &[u8], second: Option<usize>) -> Result<
 pub fn one_number(alloc: Global, line: &[u8], second: Option<usize>) -> Result<u32, LineFault>
     requires short { length line.now ≤ 8192 }
     requires second { IsSecond second line.now }
-    ensures { MatchResult result (λ n. one_word number_in (words_of line.now) ≡ Ok n) (IsTold (one_word number_in (words_of line.now))) }
+    ensures { GivesTold result (one_word number_in (words_of line.now)) (λ n. n) }
 {
     match one_word(line, second) {
         Some(session) => number_word(alloc, &last_word(line, session)),
@@ -150,9 +151,7 @@ pub fn one_number(alloc: Global, line: &[u8], second: Option<usize>) -> Result<u
 pub fn three_names(line: &[u8], second: Option<usize>) -> Result<(u16, u16, u16), LineFault>
     requires short { length line.now ≤ 8192 }
     requires second { IsSecond second line.now }
-    ensures read { MatchResult result
-        (λ p. three_names (words_of line.now) ≡ Ok (between p.0 p.1 line.now, between p.1 p.2 line.now, drop p.2 line.now))
-        (IsTold (three_names (words_of line.now))) }
+    ensures read { GivesTold result (three_names (words_of line.now)) (λ p. (between p.0 p.1 line.now, between p.1 p.2 line.now, drop p.2 line.now)) }
     ensures words { IfOk result (λ p. IsTrue (has_name p.0 p.1 line.now) × IsTrue (has_name p.1 p.2 line.now) × IsTrue (ends_in_name p.2 line.now)) }
 {
     let Some(w) = three_words(line, second) else {
@@ -167,9 +166,8 @@ pub fn three_names(line: &[u8], second: Option<usize>) -> Result<(u16, u16, u16)
 /// The side that an entity and its attribute are of.
 #[tactic(auto, unfolding(ucon_model::specs::CommandLine::place_of))]
 fn place_of(side: &Word<'_>, name: &Word<'_>, attr: &Word<'_>) -> Result<Side, LineFault>
-    ensures read { MatchResult result
-        (λ s. place_of (word_of side.now) (word_of name.now) (word_of attr.now) ≡ Ok (s, name.now.text.now, attr.now.text.now))
-        (IsTold (place_of (word_of side.now) (word_of name.now) (word_of attr.now))) }
+    ensures read { GivesTold result (place_of (word_of side.now) (word_of name.now) (word_of attr.now))
+        (λ s. (s, name.now.text.now, attr.now.text.now)) }
     ensures names { IfOk result (λ _. IsTrue (is_name name.now.text.now) × IsTrue (is_name attr.now.text.now)) }
 {
     let side = side_word(side)?;
@@ -183,9 +181,7 @@ fn place_of(side: &Word<'_>, name: &Word<'_>, attr: &Word<'_>) -> Result<Side, L
 pub fn value_words(line: &[u8], second: Option<usize>) -> Result<(Side, u16, u16), LineFault>
     requires short { length line.now ≤ 8192 }
     requires second { IsSecond second line.now }
-    ensures read { MatchResult result
-        (λ p. value_words (words_of line.now) ≡ Ok (p.0, between p.1 p.2 line.now, drop p.2 line.now))
-        (IsTold (value_words (words_of line.now))) }
+    ensures read { GivesTold result (value_words (words_of line.now)) (λ p. (p.0, between p.1 p.2 line.now, drop p.2 line.now)) }
     ensures words { IfOk result (λ p. IsTrue (has_name p.1 p.2 line.now) × IsTrue (ends_in_name p.2 line.now)) }
 {
     let Some(w) = three_words(line, second) else {
@@ -204,9 +200,7 @@ pub fn value_words(line: &[u8], second: Option<usize>) -> Result<(Side, u16, u16
 pub fn set_words(alloc: Global, line: &[u8], second: Option<usize>) -> Result<Cuts, LineFault>
     requires short { length line.now ≤ 8192 }
     requires second { IsSecond second line.now }
-    ensures { MatchResult result
-        (λ k. AreCuts k line.now (set_words line.now (words_of line.now)))
-        (IsSure (set_words line.now (words_of line.now))) }
+    ensures { GivesCuts result line.now (set_words line.now (words_of line.now)) }
 {
     let Some((a, b, c, d)) = set_places(line, second) else {
         return Err(LineFault::WrongCount(word_count(line)));
@@ -230,9 +224,7 @@ pub fn set_words(alloc: Global, line: &[u8], second: Option<usize>) -> Result<Cu
 pub fn env_words(alloc: Global, line: &[u8], second: Option<usize>) -> Result<Cuts, LineFault>
     requires short { length line.now ≤ 8192 }
     requires second { IsSecond second line.now }
-    ensures { MatchResult result
-        (λ k. AreCuts k line.now (env_words line.now (words_of line.now)))
-        (IsSure (env_words line.now (words_of line.now))) }
+    ensures { GivesCuts result line.now (env_words line.now (words_of line.now)) }
 {
     let Some((a, b)) = env_places(line, second) else {
         return Err(LineFault::WrongCount(word_count(line)));

@@ -4,7 +4,7 @@ ghost use Rattle.std.specs.Prelude.{◌≡◌, ◌<◌, ◌≤◌, ◌-◌, leng
 ghost use Rattle.std.specs.Str.{bytes_eq};
 ghost use Rattle.ucon_model.specs.CommandLine.{command_read, line_read, most_bytes, words_of};
 ghost use Rattle.ucon_syntax.specs.Policies.{accepted};
-ghost use Rattle.ucon_command.specs.Cuts.{AreCuts, IsSecond};
+ghost use Rattle.ucon_command.specs.Cuts.{AreCuts, GivesCuts, IsSecond};
 ghost use Rattle.ucon_command.specs.Faults.{IsRefusal, IsSure, amends};
 ghost use Rattle.ucon_reply.specs.Words.{word_to};
 
@@ -75,8 +75,7 @@ fn form_cuts(
     requires short { length line.now ≤ most_bytes line.now }
     requires second { IsSecond second line.now }
     requires first { first.now ≡ (word_to 0 second line.now).text }
-    ensures cuts { MatchResult result
-        (λ k. AreCuts k line.now (command_read accepted line.now first.now (words_of line.now)))
+    ensures cuts { MatchResult result (λ k. AreCuts k line.now (command_read accepted line.now first.now (words_of line.now)))
         (IsRefusal (command_read accepted line.now first.now (words_of line.now))) }
     ensures sure { IsFalse (amends line.now) → IfErr result (IsSure (command_read accepted line.now first.now (words_of line.now))) }
 {
@@ -98,9 +97,7 @@ fn other_cuts(
     requires short { length line.now ≤ 8192 }
     requires second { IsSecond second line.now }
     requires other { IsFalse (bytes_eq first.now (codes "amend")) }
-    ensures { MatchResult result
-        (λ k. AreCuts k line.now (command_read accepted line.now first.now (words_of line.now)))
-        (IsSure (command_read accepted line.now first.now (words_of line.now))) }
+    ensures { GivesCuts result line.now (command_read accepted line.now first.now (words_of line.now)) }
 {
     if first == b"subject".as_slice() {
         return one_name(line, second).map(|name| Cuts::Subject { name });

@@ -80,8 +80,8 @@ pub fn histories_are_found()
 /// What is found in the payloads of a proper history of commands of the 64 clients is that history, and each payload fits its record: its
 /// replies can be spelled.
 pub fn proper_histories_are_found()
-    ensures found { (takes : Takes) (text : Bytes) (P : PlainPolicy) (H : History) → TakesSteps accepted takes → accepted text ≡ Some P → AreOfClients H
-        → IsProper P H
+    ensures found { (takes : Takes) (text : Bytes) (P : PlainPolicy) (H : History) → TakesSteps accepted takes → accepted text ≡ Some P
+        → AreOfClients H → IsProper P H
         → found_in accepted takes (payloads_of text P H) ≡ holds text P H (gate_behind first_gate (payloads_of text P H)) }
     ensures fits { (text : Bytes) (P : PlainPolicy) (H : History) → accepted text ≡ Some P → AreOfClients H → IsProper P H
         → Each (λ payload. length payload ≤ most_payload) (payloads_of text P H) }

@@ -9,7 +9,7 @@ ghost use Rattle.ucon_model.specs.Payload.{Told, caller_read, entry_told, payloa
 ghost use Rattle.ucon_model.specs.ReplyText.{reply_read};
 ghost use Rattle.ucon_model.specs.Views.{reply_of};
 ghost use Rattle.ucon_syntax.specs.Policies.{accepted};
-ghost use Rattle.ucon_command.specs.Payloads.{IsBadAt, entry_read, most_told, told_of};
+ghost use Rattle.ucon_command.specs.Payloads.{GivesStep, IsBadAt, entry_read, most_told, told_of};
 
 use crate::commands::put_command;
 use crate::in_form::command_in_form;
@@ -64,7 +64,7 @@ pub fn put_payload(
 /// The step of which the bytes are the text, or the place of the first part that is none. Bytes that begin with no client's number and a
 /// space are refused before any memory is taken.
 pub fn read_payload(alloc: Global, bytes: &[u8]) -> Result<(Caller, Command, Reply), PayloadFault>
-    ensures read { MatchResult result (λ t. payload_read accepted bytes.now ≡ Ok (told_of t.0 t.1 t.2)) (IsBadAt (payload_read accepted bytes.now)) }
+    ensures read { GivesStep result (payload_read accepted bytes.now) }
     ensures spelled { IfOk result (λ t. payload_spelling (told_of t.0 t.1 t.2) ≡ bytes.now) }
     ensures client { IfOk result (λ t. t.0.0 < 64) }
     ensures no_client { payload_read accepted bytes.now ≡ Err 0 → result ≡ Err (PayloadFault.BadPlace 0) }
@@ -76,7 +76,7 @@ pub fn read_payload(alloc: Global, bytes: &[u8]) -> Result<(Caller, Command, Rep
 #[tactic(auto, unfolding(ucon_model::specs::Payload::payload_read))]
 fn payload(alloc: Global, bytes: &[u8]) -> Result<(Caller, Command, Reply), PayloadFault>
     ensures no_client { payload_read accepted bytes.now ≡ Err 0 → result ≡ Err (PayloadFault.BadPlace 0) }
-    ensures read { MatchResult result (λ t. payload_read accepted bytes.now ≡ Ok (told_of t.0 t.1 t.2)) (IsBadAt (payload_read accepted bytes.now)) }
+    ensures read { GivesStep result (payload_read accepted bytes.now) }
 {
     let Some((client, behind)) = cut_at(b' ', bytes) else {
         return Err(PayloadFault::BadPlace(0));
@@ -125,9 +125,7 @@ fn step(
     bytes: &[u8],
 ) -> Result<(Caller, Command, Reply), PayloadFault>
     requires { place + length bytes.now < 2 ^ 64 }
-    ensures { MatchResult result
-        (λ t. step_read accepted place caller bytes.now ≡ Ok (told_of t.0 t.1 t.2))
-        (IsBadAt (step_read accepted place caller bytes.now)) }
+    ensures { GivesStep result (step_read accepted place caller bytes.now) }
 {
     let Some((line, text)) = cut_at(b'\n', bytes) else {
         return Err(PayloadFault::BadPlace(place));
@@ -139,8 +137,7 @@ fn step(
 
 /// The command of a line at this place.
 fn command_at(alloc: Global, place: usize, line: &[u8]) -> Result<Command, PayloadFault>
-    ensures { MatchResult result
-        (λ c. ok_or (result_ok (line_read accepted line.now)) place ≡ Ok c)
+    ensures { MatchResult result (λ c. ok_or (result_ok (line_read accepted line.now)) place ≡ Ok c)
         (IsBadAt (ok_or (result_ok (line_read accepted line.now)) place)) }
 {
     match read_command(alloc, line) {

@@ -61,7 +61,8 @@ fn side_of(stage: Stage) -> Side
 fn put_variable(state: &mut State, name: &Name, value: Value) -> Result<bool, NoMemory>
     requires { VariableAdmits (shown state.old).policy name.now value }
     ensures told { IfOk result (λ told. IsTrue told) }
-    ensures put { OnOk result (shown state.new ≡ changed_to (shown state.old) (applied (shown state.old).policy (actions.env name.now value) (shown state.old).tables)) }
+    ensures put { OnOk result (shown state.new
+        ≡ changed_to (shown state.old) (applied (shown state.old).policy (actions.env name.now value) (shown state.old).tables)) }
     ensures kept { result ≢ Ok true → shown state.new ≡ shown state.old }
 {
     state.set_env(name, value)?;

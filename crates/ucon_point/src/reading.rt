@@ -98,7 +98,8 @@ fn put_rows(alloc: Global, total: usize, state: &mut State, bytes: &[u8]) -> Res
     requires { length bytes.now ≤ total }
     ensures policy { IfOk result (λ _. (shown state.new).policy ≡ (shown state.old).policy) }
     ensures rows { MatchResult result
-        (λ _. ArePut (shown state.old).policy (standing beginning state.old) (rows_from total (shown state.old).policy (standing beginning state.old) bytes.now) state.new)
+        (λ _. ArePut (shown state.old).policy (standing beginning state.old)
+        (rows_from total (shown state.old).policy (standing beginning state.old) bytes.now) state.new)
         (IsBadAt (rows_from total (shown state.old).policy (standing beginning state.old) bytes.now)) }
 {
     let mut reached = beginning();
