@@ -1,5 +1,5 @@
 -- From the opening of a journal to its closing: the checkpoint that was written over it.
-use Rattle.std.proofs.Common.{◌≡◌, ◌⊎◌, ⊎_elim, ℕ, ◌+◌, ◌<◌, ◌≤◌, false, true, List, [], ◌∷◌, ◌++◌, length, length-append, refl, sym, ap, subst, ◌∙◌, inl, inr}
+use Rattle.std.proofs.Common.{◌≡◌, ◌⊎◌, ◌↔◌, ⊎_elim, ℕ, ◌+◌, ◌<◌, ◌≤◌, false, true, List, [], ◌∷◌, ◌++◌, length, length-append, refl, sym, ap, subst, ◌∙◌, inl, inr}
 use Rattle.std.specs.Prelude.{Option, Some, None, IsSome, IfSome, Result, Ok, Err, IfOk, IfErr, OnOk}
 use Rattle.std.specs.Io.KnownBytes.{Appends}
 use Rattle.ucon_flow.specs.Writing.{AppendsPrefix}
@@ -17,16 +17,16 @@ use Rattle.ucon_store.specs.Pointing.{IsFoundPointed, IsSameStore, IsUnpointed}
 use Rattle.ucon_store.specs.declared.fault.PointRefusal.{PointRefusal}
 use Rattle.ucon_store.specs.declared.fault.PointRefusal.TheVariants as refusals
 use Rattle.ucon_store.specs.Points.{IsOld, SamePlaces, has_points, point_places}
-use Rattle.ucon_store.specs.Starts.{IsStart}
+use Rattle.ucon_store.specs.Starts.{IsStart, checkpoint_behind}
 use Rattle.ucon_store.specs.Stays.{Stays}
-use Rattle.ucon_store.specs.Whole.{IsFounded, whole}
+use Rattle.ucon_store.specs.Whole.{IsFounded, IsFront, whole}
 use Rattle.ucon_outcome.specs.declared.outcome.Outcome.{Outcome}
 use Rattle.ucon_outcome.specs.declared.outcome.Outcome.TheVariants as outcomes
 use Rattle.ucon_top.specs.Accepted.{HasPolicy}
 use Rattle.ucon_top.specs.Closing.{IsWritten}
 use Rattle.ucon_outcome.specs.Ending.{by_refusal}
-use Rattle.ucon_top.specs.Pointed.{HasNoPoint, HasPoint, HasPointed, HasPointedInput, IsCheckpointSize, IsPointOver, IsPointedAt, IsStillFound, MayHavePoint, point_line}
-use Rattle.ucon_top.specs.PointEnding.{BehindEach, EndsPoint, HasPut, IsOfNoPoint, IsOfPoint, IsPut, LeavesPointed}
+use Rattle.ucon_top.specs.Pointed.{FitsRecord, HasNoPoint, HasPoint, HasPointed, HasPointedInput, IsCheckpointSize, IsNotOld, IsPointOver, IsPointedAt, IsStillFound, MayHavePoint, point_line}
+use Rattle.ucon_top.specs.PointEnding.{BehindEach, EndsPoint, HasPut, IsOfNoPoint, IsOfPoint, IsPut, LeavesPointed, MayHavePoints}
 use Rattle.ucon_top.specs.Unread.{IsUnread}
 use Rattle.ucon_top.proofs.Behind.{checkpoint_whole}
 use Rattle.ucon_top.proofs.Playing.{IsOpened}
@@ -55,7 +55,7 @@ module _ {D : Type 0} (contents : D → Option (List ℕ)) (images : D → List 
     (moments : HasMoments images moment images_since) (bytes : Bytes) (P : PlainPolicy) (has_policy : HasPolicy bytes P) (disk : D) (store : Kept D)
     (opened : IsOpened contents images moment images_since faults P (policy_part bytes) disk store)
     (same_places : SamePlaces (contents disk) (contents store.disk))
-    (old : (before now : Bytes) → contents disk ≡ Some before → contents store.disk ≡ Some now → has_points now ≡ false → IsOld before) where
+    (old : (before now : Bytes) → contents disk ≡ Some before → contents store.disk ≡ Some now → (has_points now ≡ false) ↔ IsOld before) where
   abbrev text : Bytes
   text = policy_part bytes
 
@@ -131,7 +131,7 @@ module _ {D : Type 0} (contents : D → Option (List ℕ)) (images : D → List 
                 here.1,
           )
 
-    written_there : (now : D) → HasPut contents images moment images_since faults (whole G store) now
+    written_there : (now : D) → HasPut contents images moment images_since faults P (whole G store) now
         → (c : Bytes) → images now c → IsAsBefore c × IsPointedAt count before c
     written_there now put c image =
         let left = put.left opened_file opened_told c image in
@@ -165,12 +165,22 @@ module _ {D : Type 0} (contents : D → Option (List ℕ)) (images : D → List 
       (ap faults same ∙ opened.unfailed, holds)
       (λ before told G f found. (still_unpointed before told G f found now same, is G f))
 
+  -- a file that may have checkpoints wasn't old
+  not_old : MayHavePoints contents images moment images_since faults store → IfSome (contents disk) IsNotOld
+  not_old may = if_told (contents disk) IsNotOld (λ before told was.
+      let file = file_of before told in
+      let is : has_points file.0 ≡ true = so_told (contents store.disk) (λ f. has_points f ≡ true) file.0 file.1 may in
+      let bad : true ≡ false = sym is ∙ (old before file.0 told file.1).1 was in absurd (cc bad))
+
+  fits_so : (G : History) → FitsRecord store.policy P (G ++ store.entries) → FitsRecord text P (G ++ store.entries)
+  fits_so G is = subst (λ (t : Bytes). FitsRecord t P (G ++ store.entries)) opened.policy is
+
   written : (now : D) → IsPut contents images moment images_since faults P store now → (went : Bytes → Type 0) → went (point_line count)
       → HasPoint contents images moment images_since faults bytes disk now went
-  written now put went told = point_over now (λ entries. (faults now ≡ faults disk) × went (point_line entries)) IsPointedAt (λ Q H. Unit {0})
-      (put.1 ∙ opened.unfailed, told)
+  written now put went told = point_over now (λ entries. (faults now ≡ faults disk) × IfSome (contents disk) IsNotOld × went (point_line entries)) IsPointedAt (FitsRecord text)
+      (put.2 ∙ opened.unfailed, not_old put.1, told)
       (λ before is G f found. let has = put.0 G f in
-      (still_pointed before is G f found now has.inside (IsPointedAt count) (written_there before is G f found now has), tt))
+      (still_pointed before is G f found now has.inside (IsPointedAt count) (written_there before is G f found now has), fits_so G has.fits))
 
   failed : (now : D) → BehindEach contents images moment images_since faults P store (λ s. LeavesPointed contents images moment images_since faults s now)
       → faults now ≡ raised (faults store.disk) → MayHavePoint contents images moment images_since faults bytes disk now
@@ -189,7 +199,7 @@ module _ {D : Type 0} (contents : D → Option (List ℕ)) (images : D → List 
   old_file : IfSome (contents store.disk) (λ file. has_points file ≡ false) → IfSome (contents disk) IsOld
   old_file none = if_told (contents disk) IsOld (λ before told.
       let file = file_of before told in
-      old before file.0 told file.1 (so_told (contents store.disk) (λ f. has_points f ≡ false) file.0 file.1 none))
+      (old before file.0 told file.1).0 (so_told (contents store.disk) (λ f. has_points f ≡ false) file.0 file.1 none))
 
   -- how it ends, by how it ends over the open store
   module _ {K : Type 0} (held : K → Option Bytes) (was got : K) (now : D) where
@@ -201,7 +211,7 @@ module _ {D : Type 0} (contents : D → Option (List ℕ)) (images : D → List 
     pointed outcomes.DiskFault silent e = (inl (failed now e.0 e.1), silent refl)
     pointed (outcomes.NoMemory m) silent e = inr (inr (unpointed now e (Unit {0}) tt (λ Q H. Unit {0}) (λ G f. tt)))
     pointed (outcomes.FullPoint size) silent e =
-        unpointed now e.0 (16777215 < size) e.1 (λ Q H. IsCheckpointSize text Q H size) (λ G f. size_so G size (e.2 G f))
+        unpointed now e.0 (IfSome (contents disk) IsNotOld × (16777215 < size)) (not_old e.1, e.2) (λ Q H. IsCheckpointSize text Q H size) (λ G f. size_so G size (e.3 G f))
     pointed outcomes.OldJournal silent e = unpointed now e.0 (IfSome (contents disk) IsOld) (old_file e.1) (λ Q H. Unit {0}) (λ G f. tt)
     pointed outcomes.Usage silent e = absurd e
     pointed (outcomes.Policy f) silent e = absurd e
@@ -268,6 +278,7 @@ refused_end contents images moment images_since faults P store disk refusals.Sto
 refused_end contents images moment images_since faults P store disk refusals.OldJournal same none T starts why = (same, why T starts)
 refused_end contents images moment images_since faults P store disk (refusals.TooLarge size) same none T starts why = (
   same,
+  (why T starts).0,
   (why T starts).2,
   λ G f. (why (trace P G) f.front.starts).1 ∙ ap (λ (l : Bytes). length l) (checkpoint_whole P store G f.front),
 )
@@ -327,8 +338,10 @@ pub put_so : {D : Type 0} (contents : D → Option (List ℕ)) (images : D → L
     → ((file : Bytes) → contents store.disk ≡ Some file → LeavesOnly moment images_since store.disk next.disk (IsFoundPointed store.policy (G ++ store.entries) (point_places file)))
     → ((before file : Bytes) → contents store.disk ≡ Some before → contents next.disk ≡ Some file → point_places file ≡ point_places before ++ length (G ++ store.entries) ∷ [])
     → (P : PlainPolicy) → IsFounded contents images P next G
-    → HasPut contents images moment images_since faults (whole G store) disk
-put_so contents images moment images_since faults G store next disk is same stays inside added P founded = record {
+    → IsFront P store G → length (checkpoint_behind store.policy store.point store.before P (trace P G) store.entries) ≤ 16777215
+    → HasPut contents images moment images_since faults P (whole G store) disk
+put_so contents images moment images_since faults G store next disk is same stays inside added P founded front fits = record {
+  fits = subst (λ (l : Bytes). length l ≤ 16777215) (checkpoint_whole P store G front) fits;
   inside = λ file told. subst (λ d. LeavesOnly moment images_since store.disk d (IsFoundPointed store.policy (G ++ store.entries) (point_places file))) (sym is) (inside file told);
   left = λ file told c image.
       let here = told_file (contents next.disk) (stays.tells (subst (λ (o : Option Bytes). IsSome o) (sym told) refl)) in

@@ -1,5 +1,5 @@
 -- How the writing of a checkpoint over an open store ends, and what it leaves on the disk.
-use Rattle.std.specs.Prelude.{◌≡◌, ◌<◌, ◌+◌, ℕ, false, List, length, Option, Some, IfSome}
+use Rattle.std.specs.Prelude.{◌≡◌, ◌<◌, ◌+◌, ℕ, true, false, List, length, Option, Some, IfSome}
 use Rattle.std.specs.Io.KnownBytes.{Appends}
 use Rattle.ucon_disk.specs.Causes.{raised}
 use Rattle.ucon_disk.specs.Run.{LeavesOnly}
@@ -13,7 +13,7 @@ use Rattle.ucon_store.specs.Pointing.{IsFoundPointed}
 use Rattle.ucon_store.specs.Points.{has_points, point_places}
 use Rattle.ucon_outcome.specs.declared.outcome.Outcome.{Outcome}
 use Rattle.ucon_outcome.specs.declared.outcome.Outcome.TheVariants.{Done, SinkFault, DiskFault, NoMemory, FullPoint, OldJournal}
-use Rattle.ucon_top.specs.Pointed.{IsCheckpointSize, IsPointedAt, point_line}
+use Rattle.ucon_top.specs.Pointed.{FitsRecord, IsCheckpointSize, IsPointedAt, point_line}
 
 -- how it may end
 abbrev pub IsOfPoint : Outcome → Type 0
@@ -32,8 +32,9 @@ module _ {D : Type 0} (contents : D → Option (List ℕ)) (images : D → List 
   LeavesPointed store disk = (file : Bytes) → contents store.disk ≡ Some file
       → LeavesOnly moment images_since store.disk disk (IsFoundPointed store.policy store.entries (point_places file))
 
-  -- the checkpoint is written: each image now has it
-  pub record HasPut (store : Kept D) (disk : D) : Type 0 where
+  -- the checkpoint is written, which fits a record: each image now has it
+  pub record HasPut (P : PlainPolicy) (store : Kept D) (disk : D) : Type 0 where
+    pub fits : FitsRecord store.policy P store.entries
     pub inside : LeavesPointed store disk
     pub left : (file : Bytes) → contents store.disk ≡ Some file → (c : Bytes) → images disk c
         → IsFoundAs store.policy c store.entries × IsPointedAt (length store.entries) file c
@@ -42,9 +43,13 @@ module _ {D : Type 0} (contents : D → Option (List ℕ)) (images : D → List 
   abbrev pub BehindEach : PlainPolicy → Kept D → (Kept D → Type 0) → Type 0
   BehindEach P store so = (G : History) → IsFounded contents images P store G → so (whole G store)
 
-  -- the checkpoint is written, and the disk didn't fail
+  -- where the disk told the store's file, it may have checkpoints
+  abbrev pub MayHavePoints : Kept D → Type 0
+  MayHavePoints store = IfSome (contents store.disk) (λ file. has_points file ≡ true)
+
+  -- the checkpoint is written, in a file that may have it, and the disk didn't fail
   abbrev pub IsPut : PlainPolicy → Kept D → D → Type 0
-  IsPut P store disk = BehindEach P store (λ s. HasPut s disk) × (faults disk ≡ faults store.disk)
+  IsPut P store disk = BehindEach P store (λ s. HasPut P s disk) × MayHavePoints store × (faults disk ≡ faults store.disk)
 
   -- And so it ended, where the sink held this before and holds that now. But by a disk fault, where the checkpoint wasn't written nothing was.
   module _ (P : PlainPolicy) (store : Kept D) (disk : D) (before now : Option Bytes) where
@@ -53,7 +58,8 @@ module _ {D : Type 0} (contents : D → Option (List ℕ)) (images : D → List 
     EndsPoint SinkFault = IsPut P store disk × AppendsPrefix before now (point_line (store.before + length store.entries))
     EndsPoint DiskFault = BehindEach P store (λ s. LeavesPointed s disk) × (faults disk ≡ raised (faults store.disk))
     EndsPoint (NoMemory e) = disk ≡ store.disk
-    EndsPoint (FullPoint size) = (disk ≡ store.disk) × (16777215 < size) × BehindEach P store (λ s. IsCheckpointSize s.policy P s.entries size)
+    EndsPoint (FullPoint size) =
+        (disk ≡ store.disk) × MayHavePoints store × (16777215 < size) × BehindEach P store (λ s. IsCheckpointSize s.policy P s.entries size)
     EndsPoint OldJournal = (disk ≡ store.disk) × IfSome (contents store.disk) (λ file. has_points file ≡ false)
     EndsPoint outcome = ⊥
 

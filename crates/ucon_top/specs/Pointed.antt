@@ -1,5 +1,5 @@
 -- What writing a checkpoint over the disk of a journal leaves, and how it ends.
-use Rattle.std.specs.Prelude.{◌≡◌, ◌⊎◌, ◌<◌, ℕ, List, [], ◌∷◌, ◌++◌, length, Option, Some, IfSome}
+use Rattle.std.specs.Prelude.{◌≡◌, ◌⊎◌, ◌<◌, ◌≤◌, ℕ, List, [], ◌∷◌, ◌++◌, length, Option, Some, IfSome}
 use Rattle.std.specs.Io.KnownBytes.{Appends}
 use Rattle.ucon_disk.specs.Causes.{raised}
 use Rattle.ucon_disk.specs.Run.{IsAtRest, LeavesOnly}
@@ -17,6 +17,10 @@ use Rattle.ucon_top.specs.Accepted.{HasPolicy}
 use Rattle.ucon_top.specs.Own.{IsOwnFile}
 use Rattle.ucon_top.specs.Played.{IsUnopened}
 
+-- a file that isn't of version 1: it may have checkpoints, or becomes one that may
+abbrev pub IsNotOld : Bytes → Type 0
+IsNotOld file = IsOld file → ⊥
+
 -- an image has the checkpoints of the opening file, and then one behind so many entries
 abbrev pub IsPointedAt : (entries : ℕ) (opening image : Bytes) → Type 0
 IsPointedAt entries opening image = point_places image ≡ point_places opening ++ entries ∷ []
@@ -24,6 +28,10 @@ IsPointedAt entries opening image = point_places image ≡ point_places opening 
 -- the checkpoint of a history is so long
 abbrev pub IsCheckpointSize : (text : Bytes) (P : PlainPolicy) (H : History) (size : ℕ) → Type 0
 IsCheckpointSize text P H size = size ≡ length (checkpoint text P H)
+
+-- it is no longer than a record may be
+abbrev pub FitsRecord : (text : Bytes) (P : PlainPolicy) (H : History) → Type 0
+FitsRecord text P H = length (checkpoint text P H) ≤ 16777215
 
 module _ {D : Type 0} (contents : D → Option (List ℕ)) (images : D → List ℕ → Type 0) (moment : D → ℕ)
     (images_since : D → ℕ → List ℕ → Type 0) (faults : D → ℕ) where
@@ -46,10 +54,11 @@ module _ {D : Type 0} (contents : D → Option (List ℕ)) (images : D → List 
     pub still : (file : Bytes) (opening : History) → contents old ≡ Some file → IsFoundAs (policy_part bytes) file opening
         → (length opening ≡ entries) × IsStillFound (policy_part bytes) file opening old new (leaves entries) × so policy opening
 
-  -- every image has the one checkpoint more, and the disk didn't fail
+  -- every image has the one checkpoint more, which fits a record, the file wasn't old, and the disk didn't fail
   abbrev pub HasPoint : Bytes → D → D → (Bytes → Type 0) → Type 0
   HasPoint bytes old new went =
-      IsPointOver bytes old new (λ entries. (faults new ≡ faults old) × went (point_line entries)) IsPointedAt (λ P H. Unit {0})
+      IsPointOver bytes old new (λ entries. (faults new ≡ faults old) × IfSome (contents old) IsNotOld × went (point_line entries)) IsPointedAt
+      (FitsRecord (policy_part bytes))
 
   -- no image has one more, and the disk didn't fail
   abbrev pub HasNoPoint : Bytes → D → D → Type 0 → (PlainPolicy → History → Type 0) → Type 0
@@ -69,7 +78,7 @@ module _ {D : Type 0} (contents : D → Option (List ℕ)) (images : D → List 
     HasPointed Done bytes old new before now = HasPoint bytes old new (Appends (held before) (held now))
     HasPointed SinkFault bytes old new before now = HasPoint bytes old new (AppendsPrefix (held before) (held now))
     HasPointed (FullPoint size) bytes old new before now =
-        HasNoPoint bytes old new (16777215 < size) (λ P H. IsCheckpointSize (policy_part bytes) P H size)
+        HasNoPoint bytes old new (IfSome (contents old) IsNotOld × (16777215 < size)) (λ P H. IsCheckpointSize (policy_part bytes) P H size)
     HasPointed OldJournal bytes old new before now = HasNoPoint bytes old new (IfSome (contents old) IsOld) (λ P H. Unit {0})
     HasPointed DiskFault bytes old new before now =
         (MayHavePoint bytes old new ⊎ IsUnopened contents images moment images_since faults stores.DiskFault (policy_part bytes) old new)

@@ -39,7 +39,7 @@ returns-in-Ok-open-clause-pointed g c =
     let start = told.leads P accepts in
     let laws = g.met.D.Disk in
     let moments : HasMoments images moment images_since = record { counts_now = laws.counts_now; only_now = laws.only_now } in
-    pointed contents images moment images_since faults moments bytes P some.has_policy c.args.disk store opened told.places (λ before now was is none. (told.old before now was is).0 none) g.K.Sink.contents c.args.out.now c.point_opened.new.out
+    pointed contents images moment images_since faults moments bytes P some.has_policy c.args.disk store opened told.places told.old g.K.Sink.contents c.args.out.now c.point_opened.new.out
     c.point_opened.result.disk c.point_opened.result.outcome c.point_opened.ensures.failed
     (c.point_opened.ensures.ends P start.0 (ap accepted told.store.0 ∙ accepts) start.1)
 

@@ -1,6 +1,7 @@
 use Rattle.std.proofs.Common.{◌≡◌, None, sym, ap, ◌∙◌, subst}
 use Rattle.std.specs.Prelude.{is_some}
 use Rattle.ucon_model.specs.Action.{Trace}
+use Rattle.ucon_model.specs.History.{trace}
 use Rattle.ucon_store.specs.Kept.{Kept}
 use Rattle.ucon_store.specs.Pointing.{IsUnpointed}
 use Rattle.ucon_store.specs.Starts.{IsStart}
@@ -26,7 +27,9 @@ returns-in-Ok-pointed-clause-put g c = λ P.
     let stays = ok_on r entries _ is told.stays in (
       λ G f. put_so contents images moment images_since faults G store next c.close.result c.close.ensures.disk
           same stays (λ file. ok_on r entries _ is told.inside P G file f)
-          (λ before file. ok_on r entries _ is told.added P G before file f) P (ok_on r entries _ is told.founded P G f),
+          (λ before file. ok_on r entries _ is told.added P G before file f) P (ok_on r entries _ is told.founded P G f)
+          f.front (ok_on r entries _ is told.fits P (trace P G) f.accepts f.front.starts),
+      ok_on r entries _ is told.second,
       ap faults c.close.ensures.disk ∙ stays.unfailed (ap is_some same.mark),
     )
 
