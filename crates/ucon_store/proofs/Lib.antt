@@ -12,7 +12,6 @@ pub mod Openings
 pub mod Places
 pub mod Placing
 pub mod Pointed
-pub mod Reached
 pub mod Reading
 pub mod Recorded
 pub mod Restored
@@ -24,4 +23,3 @@ pub mod Stepped
 pub mod Stepping
 pub mod Taking
 pub mod Versions
-pub mod Walked

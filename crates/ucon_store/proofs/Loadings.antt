@@ -20,15 +20,14 @@ use Rattle.ucon_store.specs.Opened.{Seen, Sees, first_long}
 use Rattle.ucon_store.specs.Opening.{HasOtherPolicy, IsForeign, KeepsFound, first_difference}
 use Rattle.ucon_store.specs.Points.{has_points, takes_with}
 use Rattle.ucon_store.specs.Starts.{IsBeforeAll, IsStart}
-use Rattle.ucon_store.specs.declared.walking.LastPoint.{LastPoint}
-use Rattle.ucon_store.specs.Walking.{IsWalked}
+use Rattle.ucon_walk.specs.declared.walking.LastPoint.{LastPoint}
+use Rattle.ucon_walk.specs.Walking.{IsWalked}
 use Rattle.ucon_store.proofs.Fronts.{held_as}
 use Rattle.ucon_store.proofs.Openings.{found_counted, found_fresh}
 use Rattle.ucon_store.proofs.Reading.{sees_read, some_counted}
 use Rattle.ucon_store.proofs.Runs.{IsAtHome}
 use Rattle.ucon_store.proofs.Stepping.{one_policy}
-use Rattle.ucon_store.proofs.Taking.{long_seen}
-use Rattle.ucon_store.proofs.Walked.{long_here}
+use Rattle.ucon_store.proofs.Taking.{long_here, long_seen}
 
 -- these payloads may stand in the file, where the disk tells
 abbrev pub IsOfKind : Bool → Bytes → Type 0

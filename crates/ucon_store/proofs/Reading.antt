@@ -11,14 +11,15 @@ use Rattle.ucon_model.specs.History.{History}
 use Rattle.ucon_model.specs.Payload.{most_payload}
 use Rattle.ucon_model.specs.Plain.{Bytes, PlainPolicy}
 use Rattle.ucon_syntax.specs.Policies.{accepted}
-use Rattle.ucon_store.specs.declared.walking.LastPoint.{LastPoint}
+use Rattle.ucon_walk.specs.declared.walking.LastPoint.{LastPoint}
+use Rattle.ucon_walk.specs.Reaching.{IsTaken, IsUpTo}
+use Rattle.ucon_walk.specs.Walking.{IsAtParted, IsWalked}
 use Rattle.ucon_store.specs.Found.{found}
-use Rattle.ucon_store.specs.Loading.{IsOfNone, IsReadAs, IsReadTo, IsReadWhole, IsTaken, IsUpTo, found_from}
+use Rattle.ucon_store.specs.Loading.{IsOfNone, IsReadAs, IsReadTo, IsReadWhole, found_from}
 use Rattle.ucon_store.specs.Opened as opened
 use Rattle.ucon_store.specs.Opened.{IsPointOf, Parted, Seen, Sees, SeesIn, SeesPast, first_long, parted, parted_with, preceded_by, seen_after, steps_after, steps_among}
 use Rattle.ucon_store.specs.Points.{has_points, is_point, point_taken, takes_with}
 use Rattle.ucon_store.specs.Starts.{BeginsAt, IsBeforeAll, IsStart}
-use Rattle.ucon_store.specs.Walking.{IsAtParted, IsWalked}
 use Rattle.ucon_store.proofs.After.{long_after}
 use Rattle.ucon_store.proofs.Finding.{takes_of}
 use Rattle.ucon_store.proofs.Openings.{found_counted, policy_right, step_right, step_wrong}

@@ -1,6 +1,6 @@
 -- Whether a payload is the one that the next step spells.
-use Rattle.std.proofs.Common.{◌≡◌, ◌≢◌, ℕ, ◌≤◌, ◌<◌, List, [], ◌∷◌, ◌++◌, length, Bool, Option, Some, None, Ok, Err, refl, sym, ap, ◌∙◌, subst, true, false}
-use Rattle.std.specs.Prelude.{IfSome, Result}
+use Rattle.std.proofs.Common.{◌≡◌, ◌≢◌, ℕ, ◌+◌, ◌≤◌, ◌<◌, List, [], ◌∷◌, ◌++◌, length, Bool, Option, Some, None, Ok, Err, refl, sym, ap, ◌∙◌, cond, subst, true, false, arith}
+use Rattle.std.specs.Prelude.{nat_lt, IfSome, Result}
 use Rattle.std.specs.Str.{bytes_eq}
 use Rattle.std.proofs.lemmas.Slice.Eq.{bytes_eq-Decides}
 use Rattle.ucon_disk.specs.Causes.{raised}
@@ -10,7 +10,7 @@ use Rattle.ucon_journal.specs.Found.{counted, payloads_from}
 use Rattle.ucon_model.specs.declared.command.Entry.{Entry}
 use Rattle.ucon_model.specs.Action.{Trace}
 use Rattle.ucon_model.specs.Block.{reply as reply_to}
-use Rattle.ucon_model.specs.Found.{Finding, first_gate, taken}
+use Rattle.ucon_model.specs.Found.{Finding, first_gate, next_gate, taken}
 use Rattle.ucon_model.specs.History.{History, said, changes, trace_from}
 use Rattle.ucon_model.specs.LegalRun.{tells_change}
 use Rattle.ucon_model.specs.Payload.{most_payload, Told, entry_told, told, payload_spelling, payload_read}
@@ -18,13 +18,15 @@ use Rattle.ucon_model.specs.Plain.{Bytes, PlainPolicy, PlainReply}
 use Rattle.ucon_model.specs.Spelling.{reply_spelling}
 use Rattle.ucon_syntax.specs.Policies.{accepted}
 use Rattle.ucon_store.specs.declared.fault.StoreFault.{StoreFault}
-use Rattle.ucon_store.specs.declared.fault.StoreFault.TheVariants as faults
-use Rattle.ucon_store.specs.Faults.{of_take}
+use Rattle.ucon_walk.specs.declared.fault.RecordFault.{RecordFault}
+use Rattle.ucon_walk.specs.declared.fault.RecordFault.TheVariants as records
+use Rattle.ucon_walk.specs.Reaching.{IsUnpassed}
+use Rattle.ucon_walk.specs.Walking.{HasLong}
+use Rattle.ucon_store.specs.Faults.{of_record, of_take}
 use Rattle.ucon_store.specs.Found.{found}
 use Rattle.ucon_store.specs.Opened.{Sees, SeesIn, SeesPast, damaged, first_long, parted_with, steps_after}
 use Rattle.ucon_store.specs.Opening.{HasReason}
 use Rattle.ucon_store.specs.Points.{has_points}
-use Rattle.ucon_store.specs.Walking.{HasLong}
 use Rattle.ucon_store.proofs.After.{taken_after, tested, unread_after}
 
 module _ {A : Type 0} (x : A) where
@@ -80,19 +82,43 @@ long_seen points number gate [] f long place is = absurd (let no : None ≡ Some
 long_seen points number gate (text ∷ payloads) f long place is =
     subst (λ (o : Option (ℕ × ℕ)). SeesPast o text (accepted text) (parted_with points payloads) f (damaged long place)) (sym is) refl
 
+long_yes : (m n : ℕ) → m < n → nat_lt m n ≡ true
+long_yes m n less = grind arith
+
+-- a record that is too long is the first such
+pub long_here : (number gate : ℕ) (file : Bytes) (p : Bytes) (ps : List Bytes) → payloads_from file gate ≡ p ∷ ps → most_payload < length p
+    → first_long number gate (payloads_from file gate) ≡ Some (number, gate)
+long_here number gate file p ps is long =
+    ap (first_long number gate) is ∙ ap (λ (b : Bool). cond b (Some (number, gate)) (first_long (number + 1) (next_gate gate p) ps)) (long_yes most_payload (length p) long)
+
 -- why a walk stopped is why the journal isn't opened
-pub long_unopened : (fault : StoreFault) (text : Bytes) (o : Option Bytes) (before now : ℕ) → IfSome o (λ file. payloads_from file 8 ≡ counted file) → HasLong fault o 0 8 before now
-    → HasReason fault text o before now
-long_unopened (faults.Damaged long place) text o before now all h = (told o all h.0, h.1)
+long_record : (fault : RecordFault) (text : Bytes) (o : Option Bytes) (before now : ℕ) → IfSome o (λ file. payloads_from file 8 ≡ counted file) → HasLong fault o 0 8 before now
+    → HasReason (of_record fault) text o before now
+long_record (records.Damaged long place) text o before now all h = (told o all h.0, h.1)
   where
     told : (o : Option Bytes) → IfSome o (λ file. payloads_from file 8 ≡ counted file) → IfSome o (λ file. first_long 0 8 (payloads_from file 8) ≡ Some (long, place))
         → IfSome o (λ file. Sees file (damaged long place))
     told None all h = tt
     told (Some file) all h = long_seen (has_points file) 0 8 (counted file) (found file) long place (ap (first_long 0 8) (sym all) ∙ h)
-long_unopened faults.DiskFault text o before now all h = h
-long_unopened (faults.NoMemory e) text o before now all h = h
-long_unopened faults.NotJournal text o before now all h = absurd h
-long_unopened (faults.OtherPolicy p) text o before now all h = absurd h
+long_record records.DiskFault text o before now all h = h
+long_record (records.NoMemory e) text o before now all h = h
+
+pub long_unopened : (stored : StoreFault) (fault : RecordFault) (text : Bytes) (o : Option Bytes) (before now : ℕ) → stored ≡ of_record fault
+    → IfSome o (λ file. payloads_from file 8 ≡ counted file) → HasLong fault o 0 8 before now → HasReason stored text o before now
+long_unopened stored fault text o before now is all h =
+    subst (λ (f : StoreFault). HasReason f text o before now) (sym is) (long_record fault text o before now all h)
+
+-- and so is why a record wasn't passed that can be
+unpassed_record : (fault : RecordFault) (text : Bytes) (o : Option Bytes) (before now : ℕ) → IsUnpassed fault o before now → HasReason (of_record fault) text o before now
+unpassed_record (records.Damaged number place) text o before now h =
+    (subst (λ (x : Option Bytes). IfSome x (λ file. Sees file (damaged number place))) (sym h.0) tt, h.1)
+unpassed_record records.DiskFault text o before now h = h
+unpassed_record (records.NoMemory e) text o before now h = h
+
+pub unpassed_unopened : (stored : StoreFault) (fault : RecordFault) (text : Bytes) (o : Option Bytes) (before now : ℕ) → stored ≡ of_record fault → IsUnpassed fault o before now
+    → HasReason stored text o before now
+unpassed_unopened stored fault text o before now is h =
+    subst (λ (f : StoreFault). HasReason f text o before now) (sym is) (unpassed_record fault text o before now h)
 
 -- why a record could not be taken
 pub taking_reason : (fault : TakeFault) (text : Bytes) (o : Option Bytes) (number gate before now : ℕ)

@@ -1,6 +1,6 @@
 -- What payloads may stand in a file, by its version, and that a step's payload is taken in each.
-use Rattle.std.proofs.Common.{◌≡◌, ℕ, zero, suc, ◌≤◌, ◌<◌, Bool, true, false, cond, List, [], ◌∷◌, ◌++◌, length, drop, Option, Some, None, Err, refl, sym, ap, ◌∙◌, arith}
-use Rattle.std.specs.Prelude.{◌&&◌, codes, nat_lt, ◌==◌, option_and_then, if◌then◌else◌, IfSome}
+use Rattle.std.proofs.Common.{◌≡◌, ℕ, ◌<◌, Bool, true, false, cond, List, [], ◌∷◌, ◌++◌, length, drop, Option, Some, None, Err, refl, sym, ap, ◌∙◌, arith}
+use Rattle.std.specs.Prelude.{◌&&◌, codes, nat_lt, option_and_then, if◌then◌else◌, IfSome}
 use Rattle.std.specs.Fmt.{digits}
 use Rattle.std.specs.Result.{result_ok}
 use Rattle.std.specs.Str.{bytes_eq}
@@ -12,8 +12,7 @@ use Rattle.ucon_model.specs.Payload.{most_payload, payload_read}
 use Rattle.ucon_model.specs.Plain.{Bytes, PlainPolicy}
 use Rattle.ucon_journal.specs.declared.journal.Journal.{Journal}
 use Rattle.ucon_journal.specs.Found.{StandsAt, counted, payloads_from}
-use Rattle.ucon_journal.specs.Journal.{disk_of, gate_of, version_of, HasEnded, IsClosed, IsReading}
-use Rattle.ucon_journal.specs.JournalBytes.{IsVersion}
+use Rattle.ucon_journal.specs.Journal.{disk_of, gate_of, version_of, HasEnded, IsClosed}
 use Rattle.ucon_syntax.specs.Policies.{accepted}
 use Rattle.ucon_store.specs.Points.{checkpoint, has_points, is_point, point_taken, points_of, takes_with}
 
@@ -78,12 +77,6 @@ long_refused false text P H payload long = long_step P H payload long
 pub stands_with : (file : Bytes) (version gate : ℕ) (payloads : List Bytes) → StandsAt file version gate payloads → has_points file ≡ points_of version
 stands_with file version gate payloads s = ap has_points s.is
 
-pub of_version : (version : ℕ) → IsVersion version → (version == 2) ≡ points_of version
-of_version zero is = absurd (let no : 1 ≤ 0 = is.0 in omega (arith, no))
-of_version (suc zero) is = refl
-of_version (suc (suc zero)) is = refl
-of_version (suc (suc (suc n))) is = absurd (let no : suc (suc (suc n)) ≤ 2 = is.1 in omega (arith, no))
-
 module _ {D : Type 0} (contents : D → Option (List ℕ)) (j : Journal D) where
   told_kind : (o : Option (List ℕ)) (payloads : List ℕ → List Bytes) → IfSome o (λ file. StandsAt file (version_of j) (gate_of j) (payloads file)) → IfSome o (λ file. has_points file ≡ points_of (version_of j))
   told_kind None payloads h = tt
@@ -93,14 +86,7 @@ module _ {D : Type 0} (contents : D → Option (List ℕ)) (j : Journal D) where
   first_part None A B h = tt
   first_part (Some file) A B h = h.0
 
-  some_kind : (o : Option (List ℕ)) → IfSome o (λ file. (payloads : List Bytes) × StandsAt file (version_of j) (gate_of j) payloads) → IfSome o (λ file. has_points file ≡ points_of (version_of j))
-  some_kind None h = tt
-  some_kind (Some file) h = stands_with file (version_of j) (gate_of j) h.0 h.1
-
   -- the file of a journal is of its version
-  pub reading_kind : IsReading contents j → IfSome (contents (disk_of j)) (λ file. has_points file ≡ points_of (version_of j))
-  reading_kind r = some_kind (contents (disk_of j)) r.told
-
   pub ended_kind : HasEnded contents j → IfSome (contents (disk_of j)) (λ file. has_points file ≡ points_of (version_of j))
   ended_kind r = told_kind (contents (disk_of j)) counted
       (first_part (contents (disk_of j)) (λ file. StandsAt file (version_of j) (gate_of j) (counted file)) (λ file. payloads_from file (gate_of j) ≡ []) r.told)

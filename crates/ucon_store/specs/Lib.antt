@@ -11,5 +11,4 @@ pub mod Points
 pub mod Starts
 pub mod Stays
 pub mod Steps
-pub mod Walking
 pub mod Whole

@@ -1,5 +1,5 @@
 -- What a journal's records give, from the last checkpoint on.
-use Rattle.std.specs.Prelude.{◌≡◌, ◌≢◌, ◌⊎◌, ℕ, ◌+◌, ◌*◌, ◌<◌, ◌≤◌, List, [], ◌∷◌, ◌++◌, length, Option, Some, None, IfSome}
+use Rattle.std.specs.Prelude.{◌≡◌, ◌⊎◌, ℕ, ◌+◌, ◌*◌, ◌<◌, ◌≤◌, List, [], ◌∷◌, length, Option, Some, None, IfSome}
 use Rattle.ucon_journal.specs.declared.journal.Journal.{Journal}
 use Rattle.ucon_journal.specs.Found.{counted, payloads_from}
 use Rattle.ucon_journal.specs.Journal.{disk_of, gate_of}
@@ -11,33 +11,12 @@ use Rattle.ucon_model.specs.Work.{NobodyFails}
 use Rattle.ucon_point.specs.PointRead.{point_read}
 use Rattle.ucon_store.specs.declared.beginning.Beginning.{Beginning}
 use Rattle.ucon_store.specs.declared.loading.Loaded.{Loaded}
-use Rattle.ucon_store.specs.declared.walking.LastPoint.{LastPoint}
 use Rattle.ucon_store.specs.Found.{found}
 use Rattle.ucon_store.specs.Kept.{RevokesFew, payload_in, text_in}
 use Rattle.ucon_store.specs.Opened.{IsPointOf, Parted, first_long, parted_with, steps_after, text_said}
 use Rattle.ucon_store.specs.Points.{has_points}
 use Rattle.ucon_store.specs.Starts.{BeginsAt, IsBeforeAll, IsStart, text_at_start}
 use Rattle.ucon_syntax.specs.Policies.{accepted}
-
--- ---- up to the last checkpoint
-
--- The records from a gate on, of which the first has this number: some of which none is too long up to the last checkpoint, it, and those behind it.
-pub record IsUpTo (last : LastPoint) (p : Parted) (number gate : ℕ) (file : Bytes) : Type 0 where
-  pub rest : List Bytes
-  pub are : payloads_from file gate ≡ rest ++ p.point ∷ p.behind
-  pub count : number + length rest ≡ last.number
-  pub place : gate_behind gate rest ≡ last.place
-  pub short : first_long number gate (payloads_from file gate) ≡ None
-
--- the checkpoint was taken
-pub record IsTaken (last : LastPoint) (p : Parted) (payload : Bytes) (next : ℕ) (file : Bytes) : Type 0 where
-  pub is : payload ≡ p.point
-  pub behind : payloads_from file next ≡ p.behind
-  pub place : next ≡ next_gate last.place p.point
-
--- from a gate on, whose record has this number, there is a record, and none is too long
-abbrev pub CanBePassed : (number gate : ℕ) → Bytes → Type 0
-CanBePassed number gate file = (payloads_from file gate ≢ []) × (first_long number gate (payloads_from file gate) ≡ None)
 
 -- ---- at the last checkpoint
 

@@ -1,6 +1,5 @@
 -- What opening sees in a journal with checkpoints, of which it runs only what stands behind the last one.
-use Rattle.std.specs.Prelude.{◌≡◌, ◌⊎◌, ℕ, ◌+◌, nat_lt, Bool, ◌&&◌, List, [], ◌∷◌, ◌++◌, length, Option, Some, None, option_map, option_and_then, Result, Ok, Err, if◌then◌else◌}
-use Rattle.std.specs.Option.{option_or}
+use Rattle.std.specs.Prelude.{◌≡◌, ◌⊎◌, ℕ, ◌+◌, nat_lt, Bool, ◌&&◌, List, [], ◌∷◌, ◌++◌, length, Option, Some, None, option_and_then, Result, Ok, Err, if◌then◌else◌}
 use Rattle.std.specs.Result.{result_ok}
 use Rattle.std.specs.Str.{bytes_eq}
 use Rattle.ucon_model.specs.Action.{Trace}
@@ -19,8 +18,9 @@ use Rattle.ucon_state.specs.Shown.{Shown}
 use Rattle.ucon_state.specs.Tables.{Tables}
 use Rattle.ucon_syntax.specs.Policies.{accepted}
 use Rattle.ucon_store.specs.Found.{found}
-use Rattle.ucon_store.specs.Points.{checkpoint, has_points, is_point, text_in_force}
+use Rattle.ucon_store.specs.Points.{checkpoint, has_points, text_in_force}
 use Rattle.ucon_journal.specs.Found.{counted}
+pub use Rattle.ucon_walk.specs.Parted.{Parted, first_long, parted, parted_here, parted_with, preceded_by, steps_among}
 
 -- What opening sees: no record yet; no journal; a record that is wrong, by its number and the place of its gate; or the policy's text, how many
 -- entries there are, all that is there after them, and the place of the gate behind the last record.
@@ -32,28 +32,6 @@ pub data Seen : Type 0 where
 
 -- ---- the last checkpoint
 
--- payloads around the last of them that begins as a checkpoint
-pub record Parted : Type 0 where
-  pub before : List Bytes
-  pub point : Bytes
-  pub behind : List Bytes
-
--- with one payload more before them
-abbrev pub preceded_by : Bytes → Parted → Parted
-preceded_by payload p = record { before = payload ∷ p.before; point = p.point; behind = p.behind }
-
-abbrev pub parted_here : Bytes → List Bytes → Option Parted
-parted_here payload payloads = if is_point payload then Some (record { before = []; point = payload; behind = payloads }) else None
-
--- the payloads around the last checkpoint; none where there is none
-abbrev pub parted : List Bytes → Option Parted
-parted [] = None
-parted (payload ∷ payloads) = option_or (option_map (preceded_by payload) (parted payloads)) (parted_here payload payloads)
-
--- the same where there may be checkpoints; where there may not, none is
-abbrev pub parted_with : Bool → List Bytes → Option Parted
-parted_with points payloads = if points then parted payloads else None
-
 -- those of a journal around its last checkpoint, of which the first is record 0's
 abbrev pub parted_behind : Bool → List Bytes → Option Parted
 parted_behind points [] = None
@@ -62,11 +40,6 @@ parted_behind points (text ∷ payloads) = parted_with points payloads
 -- a file's payloads around its last checkpoint
 abbrev pub last_point : Bytes → Option Parted
 last_point file = parted_behind (has_points file) (counted file)
-
--- how many payloads don't begin as a checkpoint
-abbrev pub steps_among : List Bytes → ℕ
-steps_among [] = 0
-steps_among (payload ∷ payloads) = if is_point payload then steps_among payloads else steps_among payloads + 1
 
 -- ---- from a checkpoint on
 
@@ -105,12 +78,6 @@ seen_after entries T (model.damaged number place) = damaged number place
 seen_after entries T (model.holds text P H gate) = holds text (entries + length H) (held_after P (trace_from P T H)) gate
 
 -- ---- the whole walk
-
--- a record is too long: the first one, by its number and the place of its gate
-abbrev pub first_long : (number gate : ℕ) → List Bytes → Option (ℕ × ℕ)
-first_long number gate [] = None
-first_long number gate (payload ∷ payloads) =
-    if nat_lt most_payload (length payload) then Some (number, gate) else first_long (number + 1) (next_gate gate payload) payloads
 
 -- From the last checkpoint: either it is the one of no trace, and wrong; or some trace leads to it, and the records behind it are run after that.
 abbrev pub SeesFrom : Bytes → Parted → Seen → Type 0

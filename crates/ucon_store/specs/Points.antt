@@ -1,6 +1,5 @@
 -- Checkpoints among the records of a journal: what has to stand in one, and where they stand.
-use Rattle.std.specs.Prelude.{◌≡◌, ⊤, ℕ, ◌+◌, ◌<◌, nat_eq, nat_lt, Bool, false, List, [], ◌∷◌, codes, length, take, Some, None, if◌then◌else◌, Option}
-use Rattle.std.specs.List.{starts_with}
+use Rattle.std.specs.Prelude.{◌≡◌, ⊤, ℕ, ◌+◌, ◌<◌, nat_lt, Bool, false, List, [], ◌∷◌, length, Some, None, if◌then◌else◌, Option}
 use Rattle.std.specs.Str.{bytes_eq}
 use Rattle.ucon_model.specs.declared.command.Command.{Command}
 use Rattle.ucon_model.specs.declared.command.Command.TheVariants.{Amend}
@@ -8,9 +7,9 @@ use Rattle.ucon_model.specs.Found.{Takes, only_steps, taken}
 use Rattle.ucon_model.specs.History.{History}
 use Rattle.ucon_model.specs.Payload.{most_payload}
 use Rattle.ucon_model.specs.Plain.{Bytes, PlainPolicy}
-use Rattle.ucon_journal.specs.JournalBytes.{magic}
 use Rattle.ucon_journal.specs.Found.{counted}
 use Rattle.ucon_point.specs.PointText.{point_after}
+pub use Rattle.ucon_walk.specs.Points.{has_points, is_point, points_of}
 use Rattle.ucon_syntax.specs.Policies.{accepted}
 
 -- ---- one checkpoint
@@ -29,10 +28,6 @@ text_in_force text (e ∷ H) = text_in_force (text_behind text e.command) H
 abbrev pub checkpoint : Bytes → PlainPolicy → History → Bytes
 checkpoint text P H = point_after (text_in_force text H) P H
 
--- the payload begins as a checkpoint does, and as no step's does
-abbrev pub is_point : Bytes → Bool
-is_point payload = starts_with nat_eq payload (codes "point ")
-
 -- ---- which payloads may stand behind record 0
 
 -- the checkpoint of the entries before it, which stay; none where the record is wrong
@@ -47,14 +42,6 @@ steps_and_points text P H payload = if is_point payload then point_taken text P 
 -- by whether there may be checkpoints
 abbrev pub takes_with : Bool → Takes
 takes_with points = if points then steps_and_points else only_steps accepted
-
--- only version 2 may have checkpoints
-abbrev pub points_of : ℕ → Bool
-points_of version = bytes_eq (magic version) (magic 2)
-
--- by the first 8 bytes of a file
-abbrev pub has_points : Bytes → Bool
-has_points file = bytes_eq (take 8 file) (magic 2)
 
 -- ---- where the checkpoints stand
 

@@ -4,10 +4,11 @@ ghost use Rattle.std.specs.Prelude.{◌≡◌};
 ghost use Rattle.ucon_store.specs.declared.fault.PointRefusal.TheVariants as refusals;
 ghost use Rattle.ucon_store.specs.declared.fault.StepFault.TheVariants as step_faults;
 ghost use Rattle.ucon_store.specs.declared.fault.StoreFault.TheVariants as store_faults;
-ghost use Rattle.ucon_store.specs.Faults.{of_open, of_take};
+ghost use Rattle.ucon_store.specs.Faults.{of_open, of_record, of_take};
 
 use ucon_base::NoMemory;
 use ucon_journal::{DiskFault, OpenFault, TakeFault};
+use ucon_walk::RecordFault;
 
 /// Why a store could not be opened.
 #[derive(Clone, Copy, Debug, PartialEq, Eq)]
@@ -49,15 +50,23 @@ impl From<OpenFault> for StoreFault {
     }
 }
 
+impl From<RecordFault> for StoreFault {
+    ghost from_gives = { λ e fault. fault ≡ of_record e };
+
+    fn from(e: RecordFault) -> StoreFault {
+        match e {
+            RecordFault::Damaged { number, place } => StoreFault::Damaged { number, place },
+            RecordFault::DiskFault => StoreFault::DiskFault,
+            RecordFault::NoMemory(e) => StoreFault::NoMemory(e),
+        }
+    }
+}
+
 /// Why the record of this number could not be taken: it is too long, or the journal failed.
 pub(crate) fn at_record(number: u64, fault: TakeFault) -> StoreFault
     ensures { result ≡ of_take number fault }
 {
-    match fault {
-        TakeFault::TooLong(place) => StoreFault::Damaged { number, place },
-        TakeFault::DiskFault => StoreFault::DiskFault,
-        TakeFault::NoMemory(e) => StoreFault::NoMemory(e),
-    }
+    ucon_walk::at_record(number, fault).into()
 }
 
 /// Why no checkpoint was written, and nothing else either.

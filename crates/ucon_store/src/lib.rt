@@ -10,13 +10,11 @@ mod loading;
 mod opening;
 mod placed;
 mod points;
-mod reaching;
 mod recording;
 mod restoring;
 mod starting;
 mod store;
 mod turned;
-mod walking;
 
 pub use event::{Base, Event};
 pub use fault::{PointRefusal, StepFault, StoreFault};

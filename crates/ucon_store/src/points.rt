@@ -1,6 +1,6 @@
 //! Checkpoints of what is there.
 
-ghost use Rattle.std.specs.Prelude.{◌≡◌, ◌≤◌, ◌<◌, ◌+◌, ◌^◌, ◌&&◌, length, true, IfOk, IfErr, OnOk};
+ghost use Rattle.std.specs.Prelude.{◌≡◌, ◌≤◌, ◌<◌, ◌+◌, ◌^◌, length, true, IfOk, IfErr, OnOk};
 ghost use Rattle.ucon_journal.specs.Journal.{disk_of, gate_of, version_of, HasRoomFor, IsClosed};
 ghost use Rattle.ucon_model.specs.Action.{Trace};
 ghost use Rattle.ucon_model.specs.History.{trace_from};
@@ -9,7 +9,7 @@ ghost use Rattle.ucon_store.specs.Pointing.{IsUnprepared};
 ghost use Rattle.ucon_point.specs.PointText.{point_text};
 ghost use Rattle.ucon_state.specs.Held.{held_after};
 ghost use Rattle.ucon_store.specs.Kept.{text_in};
-ghost use Rattle.ucon_store.specs.Points.{is_point, points_of, text_behind, text_in_force};
+ghost use Rattle.ucon_store.specs.Points.{points_of, text_behind, text_in_force};
 ghost use Rattle.ucon_store.specs.Starts.{point_behind};
 
 use crate::beginning::Beginning;
@@ -21,21 +21,7 @@ use ucon_journal::{Journal, MAX_PAYLOAD};
 use ucon_model::{Command, Entry};
 use ucon_point::point_text;
 use ucon_state::Engine;
-
-/// Whether there may be checkpoints in the journal's file.
-#[tactic(auto, using(crate::proofs::Versions::of_version))]
-pub(crate) fn has_points<D: Disk>(journal: &Journal<D>) -> bool
-    ensures { result ≡ points_of (version_of journal.now) }
-{
-    journal.version() == 2
-}
-
-/// Whether a payload has to be a checkpoint: where there may be any, it begins as one does.
-pub(crate) fn is_point(points: bool, payload: &[u8]) -> bool
-    ensures { result ≡ (points && is_point payload.now) }
-{
-    points && payload.starts_with(b"point ")
-}
+use ucon_walk::has_points;
 
 /// The checkpoint of an engine, which is after so many entries, of which these are the last ones, or all. Before these the policy in force has this
 /// text.

@@ -9,12 +9,12 @@ use Rattle.ucon_journal.specs.Found.{counted, payloads_from}
 use Rattle.ucon_model.specs.Found.{first_gate, gate_behind, next_gate}
 use Rattle.ucon_model.specs.Payload.{most_payload}
 use Rattle.ucon_model.specs.Plain.{Bytes}
-use Rattle.ucon_store.specs.declared.walking.LastPoint.{LastPoint}
-use Rattle.ucon_store.specs.declared.walking.Walk.{Walk}
-use Rattle.ucon_store.specs.Faults.{of_take}
-use Rattle.ucon_store.specs.Opened.{Parted, first_long, parted, parted_with, preceded_by, steps_among}
-use Rattle.ucon_store.specs.Points.{has_points, is_point}
-use Rattle.ucon_store.specs.Walking.{HasLong, IsAtParted, IsWalked, finds, walked}
+use Rattle.ucon_walk.specs.declared.walking.LastPoint.{LastPoint}
+use Rattle.ucon_walk.specs.declared.walking.Walk.{Walk}
+use Rattle.ucon_walk.specs.Faults.{of_take}
+use Rattle.ucon_walk.specs.Parted.{Parted, first_long, parted, parted_with, preceded_by, steps_among}
+use Rattle.ucon_walk.specs.Points.{has_points, is_point}
+use Rattle.ucon_walk.specs.Walking.{HasLong, IsAtParted, IsWalked, finds, walked}
 
 -- ---- one record
 

@@ -1,24 +1,20 @@
 //! How opening gets to the last checkpoint: the records before it are read once more, and none is interpreted.
 
-ghost use Rattle.std.specs.Prelude.{◌≡◌, ◌+◌, ◌*◌, ◌≤◌, ◌<◌, ◌^◌, ◌∷◌, ℕ, List, length, IfSome, IfErr, OnOk};
+ghost use Rattle.std.specs.Prelude.{◌≡◌, ◌+◌, ◌*◌, ◌≤◌, ◌<◌, ◌^◌, ◌∷◌, length, IfSome, IfErr, OnOk};
 ghost use Rattle.ucon_disk.specs.Disk.{SameImages};
 ghost use Rattle.ucon_disk.specs.Run.{LeavesOnly};
 ghost use Rattle.ucon_journal.specs.Found.{payloads_from};
 ghost use Rattle.ucon_journal.specs.Journal.{disk_of, gate_of, payload_of, version_of, IsReading};
-ghost use Rattle.ucon_store.specs.Loading.{CanBePassed, IsTaken, IsUpTo};
-ghost use Rattle.ucon_store.specs.Opened.{Parted};
-ghost use Rattle.ucon_store.specs.Opening.{HasReason};
+ghost use Rattle.ucon_walk.specs.Parted.{Parted};
+ghost use Rattle.ucon_walk.specs.Reaching.{CanBePassed, IsTaken, IsUnpassed, IsUpTo};
 
-use crate::fault::{StoreFault, at_record};
+use crate::fault::{RecordFault, at_record};
 use crate::walking::LastPoint;
 use ucon_disk::Disk;
 use ucon_journal::{Journal, MAX_PAYLOAD};
 
 /// Takes the last checkpoint of a journal of which record 0 was taken, as a walk has found it.
-pub(crate) fn take_point<D: Disk>(
-    last: LastPoint,
-    journal: &mut Journal<D>,
-) -> Result<(), StoreFault>
+pub fn take_point<D: Disk>(last: LastPoint, journal: &mut Journal<D>) -> Result<(), RecordFault>
     requires reading { IsReading D.contents journal.old }
     requires upto { IfSome (D.contents (disk_of journal.old)) (λ file. (p : Parted) × IsUpTo last p 1 (gate_of journal.old) file) }
     requires small { 5 ≤ gate_of journal.old }
@@ -27,8 +23,8 @@ pub(crate) fn take_point<D: Disk>(
         → IsUpTo last p 1 (gate_of journal.old) file → IsTaken last p (payload_of journal.new) (gate_of journal.new) file)) }
     ensures short { OnOk result (length (payload_of journal.new) ≤ MAX_PAYLOAD) }
     ensures small { OnOk result (5 * (last.number + 1) ≤ gate_of journal.new) }
-    ensures reason { IfErr result (λ fault. (text : List ℕ)
-        → HasReason fault text (D.contents (disk_of journal.old)) (D.faults (disk_of journal.old)) (D.faults (disk_of journal.new))) }
+    ensures unpassed { IfErr result (λ fault.
+        IsUnpassed fault (D.contents (disk_of journal.old)) (D.faults (disk_of journal.old)) (D.faults (disk_of journal.new))) }
     ensures reading { IsReading D.contents journal.new }
     ensures version { version_of journal.new ≡ version_of journal.old }
     ensures contents { D.contents (disk_of journal.new) ≡ D.contents (disk_of journal.old) }
@@ -42,7 +38,7 @@ pub(crate) fn take_point<D: Disk>(
 }
 
 /// Passes the records behind record 0 and before the last checkpoint.
-fn pass_to<D: Disk>(last: LastPoint, journal: &mut Journal<D>) -> Result<(), StoreFault>
+fn pass_to<D: Disk>(last: LastPoint, journal: &mut Journal<D>) -> Result<(), RecordFault>
     requires reading { IsReading D.contents journal.old }
     requires upto { IfSome (D.contents (disk_of journal.old)) (λ file. (p : Parted) × IsUpTo last p 1 (gate_of journal.old) file) }
     requires small { 5 ≤ gate_of journal.old }
@@ -50,8 +46,8 @@ fn pass_to<D: Disk>(last: LastPoint, journal: &mut Journal<D>) -> Result<(), Sto
     ensures upto { OnOk result (IfSome (D.contents (disk_of journal.old)) (λ file. (p : Parted)
         → IsUpTo last p 1 (gate_of journal.old) file → IsUpTo last p last.number (gate_of journal.new) file)) }
     ensures small { OnOk result (5 * last.number ≤ gate_of journal.new) }
-    ensures reason { IfErr result (λ fault. (text : List ℕ)
-        → HasReason fault text (D.contents (disk_of journal.old)) (D.faults (disk_of journal.old)) (D.faults (disk_of journal.new))) }
+    ensures unpassed { IfErr result (λ fault.
+        IsUnpassed fault (D.contents (disk_of journal.old)) (D.faults (disk_of journal.old)) (D.faults (disk_of journal.new))) }
     ensures reading { IsReading D.contents journal.new }
     ensures version { version_of journal.new ≡ version_of journal.old }
     ensures contents { D.contents (disk_of journal.new) ≡ D.contents (disk_of journal.old) }
@@ -68,15 +64,15 @@ fn pass_to<D: Disk>(last: LastPoint, journal: &mut Journal<D>) -> Result<(), Sto
 }
 
 /// Passes the record of this number, which a walk has passed already.
-fn pass<D: Disk>(number: u64, journal: &mut Journal<D>) -> Result<(), StoreFault>
+fn pass<D: Disk>(number: u64, journal: &mut Journal<D>) -> Result<(), RecordFault>
     requires reading { IsReading D.contents journal.old }
     requires some { IfSome (D.contents (disk_of journal.old)) (CanBePassed number (gate_of journal.old)) }
     ensures passed { OnOk result (IfSome (D.contents (disk_of journal.old)) (λ file.
         payloads_from file (gate_of journal.old) ≡ payload_of journal.new ∷ payloads_from file (gate_of journal.new))) }
     ensures short { OnOk result (length (payload_of journal.new) ≤ MAX_PAYLOAD) }
     ensures advance { OnOk result (gate_of journal.new ≡ gate_of journal.old + 5 + length (payload_of journal.new)) }
-    ensures reason { IfErr result (λ fault. (text : List ℕ)
-        → HasReason fault text (D.contents (disk_of journal.old)) (D.faults (disk_of journal.old)) (D.faults (disk_of journal.new))) }
+    ensures unpassed { IfErr result (λ fault.
+        IsUnpassed fault (D.contents (disk_of journal.old)) (D.faults (disk_of journal.old)) (D.faults (disk_of journal.new))) }
     ensures reading { IsReading D.contents journal.new }
     ensures version { version_of journal.new ≡ version_of journal.old }
     ensures contents { D.contents (disk_of journal.new) ≡ D.contents (disk_of journal.old) }
@@ -88,7 +84,7 @@ fn pass<D: Disk>(number: u64, journal: &mut Journal<D>) -> Result<(), StoreFault
     match journal.next() {
         Err(fault) => Err(at_record(number, fault)),
         // The file has got shorter since the walk.
-        Ok(false) => Err(StoreFault::Damaged { number, place }),
+        Ok(false) => Err(RecordFault::Damaged { number, place }),
         Ok(true) => Ok(()),
     }
 }

@@ -3,21 +3,21 @@ use Rattle.std.specs.Prelude.{IfSome}
 use Rattle.ucon_journal.specs.Found.{payloads_from}
 use Rattle.ucon_journal.specs.Journal.{disk_of, gate_of, payload_of, version_of}
 use Rattle.ucon_model.specs.Plain.{Bytes}
-use Rattle.ucon_store.specs.declared.fault.StoreFault.{StoreFault}
-use Rattle.ucon_store.specs.Faults.{of_take}
-use Rattle.ucon_store.specs.Points.{points_of}
-use Rattle.ucon_store.specs.Walking.{HasLong, finds}
-use Rattle.ucon_store.proofs.Openings.{more_told}
-use Rattle.ucon_store.proofs.Versions.{reading_kind}
-use Rattle.ucon_store.proofs.Walked.{all_walked, long_reason}
-use Rattle.ucon_store.proofs.walking.last_point.Goals as goal
+use Rattle.ucon_walk.specs.declared.fault.RecordFault.{RecordFault}
+use Rattle.ucon_walk.specs.Faults.{of_take}
+use Rattle.ucon_walk.specs.Points.{points_of}
+use Rattle.ucon_walk.specs.Walking.{HasLong, finds}
+use Rattle.ucon_walk.proofs.Told.{more_told}
+use Rattle.ucon_walk.proofs.Versions.{reading_kind}
+use Rattle.ucon_walk.proofs.Walked.{all_walked, long_reason}
+use Rattle.ucon_walk.proofs.walking.last_point.Goals as goal
 
 pub returns-in-Err-clause-long : goal.returns-in-Err-clause-long
 returns-in-Err-clause-long g c =
     let o = g.D.Disk.contents (disk_of c.args.journal.now) in
     let before = g.D.Disk.faults (disk_of c.args.journal.now) in
     let now = g.D.Disk.faults (disk_of c.next.new.self) in
-    subst (λ (f : StoreFault). HasLong f o 0 8 before now) (sym c.at_record.ensures)
+    subst (λ (f : RecordFault). HasLong f o 0 8 before now) (sym c.at_record.ensures)
     (subst (λ (gate : ℕ). HasLong (of_take 0 c.in-Err.fault) o 0 gate before now) c.requires.first
     (long_reason c.in-Err.fault o 0 (gate_of c.args.journal.now) before now c.in-Err.ensures.too_long (λ is. c.in-Err.ensures.failed (ap Err is))
     (λ isnt. c.in-Err.ensures.unfailed (λ e. isnt (cc e)))))

@@ -1,19 +1,18 @@
-use Rattle.std.proofs.Common.{◌≡◌, ◌-◌, ◌<◌, ◌^◌}
+use Rattle.std.proofs.Common.{◌≡◌, ◌-◌, ◌*◌, ◌≤◌}
 use Rattle.std.specs.Prelude.{IfSome}
 use Rattle.ucon_disk.specs.Disk.{SameImages}
 use Rattle.ucon_disk.specs.Run.{LeavesOnly}
 use Rattle.ucon_journal.specs.Journal.{disk_of, gate_of, version_of, IsReading}
-use Rattle.ucon_store.specs.Points.{points_of}
-use Rattle.ucon_store.specs.Walking.{IsWalking, finds}
-use Rattle.ucon_store.proofs.walking.Walk.pass_all.Given as goal
+use Rattle.ucon_walk.specs.Parted.{Parted}
+use Rattle.ucon_walk.specs.Reaching.{IsUpTo}
+use Rattle.ucon_walk.proofs.reaching.pass_to.Given as goal
 
 abbrev pub invariant-records : goal.invariant-records
 invariant-records g l = record {
   reading : IsReading g.D.Disk.contents l.journal;
-  walking : IsWalking l.self (gate_of l.journal);
-  below : gate_of l.journal < 2 ^ 63;
-  passed : IfSome (g.D.Disk.contents (disk_of l.initial.journal)) (λ file. finds (points_of (version_of l.initial.journal)) l.self (gate_of l.journal) file
-      ≡ finds (points_of (version_of l.initial.journal)) l.initial.self (gate_of l.initial.journal) file);
+  small : 5 * l.number ≤ gate_of l.journal;
+  within : l.number ≤ l.last.number;
+  upto : IfSome (g.D.Disk.contents (disk_of l.initial.journal)) (λ file. (p : Parted) → IsUpTo l.last p 1 (gate_of l.initial.journal) file → IsUpTo l.last p l.number (gate_of l.journal) file);
   version : version_of l.journal ≡ version_of l.initial.journal;
   contents : g.D.Disk.contents (disk_of l.journal) ≡ g.D.Disk.contents (disk_of l.initial.journal);
   images : SameImages (g.D.Disk.images (disk_of l.initial.journal)) (g.D.Disk.images (disk_of l.journal));
@@ -22,4 +21,4 @@ invariant-records g l = record {
 }
 
 abbrev pub decreases-records : goal.decreases-records
-decreases-records g l = 2 ^ 63 - gate_of l.journal
+decreases-records g l = l.last.number - l.number

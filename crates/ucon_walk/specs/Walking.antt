@@ -4,12 +4,12 @@ use Rattle.ucon_disk.specs.Causes.{raised}
 use Rattle.ucon_journal.specs.Found.{payloads_from}
 use Rattle.ucon_model.specs.Found.{first_gate, gate_behind, next_gate}
 use Rattle.ucon_model.specs.Plain.{Bytes}
-use Rattle.ucon_store.specs.declared.fault.StoreFault.{StoreFault}
-use Rattle.ucon_store.specs.declared.fault.StoreFault.TheVariants.{NotJournal, Damaged, OtherPolicy, DiskFault, NoMemory}
-use Rattle.ucon_store.specs.declared.walking.LastPoint.{LastPoint}
-use Rattle.ucon_store.specs.declared.walking.Walk.{Walk}
-use Rattle.ucon_store.specs.Opened.{Parted, first_long, parted_with, steps_among}
-use Rattle.ucon_store.specs.Points.{is_point}
+use Rattle.ucon_walk.specs.declared.fault.RecordFault.{RecordFault}
+use Rattle.ucon_walk.specs.declared.fault.RecordFault.TheVariants.{Damaged, DiskFault, NoMemory}
+use Rattle.ucon_walk.specs.declared.walking.LastPoint.{LastPoint}
+use Rattle.ucon_walk.specs.declared.walking.Walk.{Walk}
+use Rattle.ucon_walk.specs.Parted.{Parted, first_long, parted_with, steps_among}
+use Rattle.ucon_walk.specs.Points.{is_point}
 
 -- ---- a whole journal
 
@@ -52,10 +52,8 @@ pub record IsWalking (w : Walk) (gate : ℕ) : Type 0 where
   pub last : IfSome w.last (IsPlacedBelow gate)
 
 -- why a walk didn't come to the end: the first record that is too long, a fault of the disk, or want of memory
-abbrev pub HasLong : StoreFault → Option Bytes → (number gate before now : ℕ) → Type 0
+abbrev pub HasLong : RecordFault → Option Bytes → (number gate before now : ℕ) → Type 0
 HasLong (Damaged long place) file number gate before now =
     IfSome file (λ bytes. first_long number gate (payloads_from bytes gate) ≡ Some (long, place)) × (now ≡ before)
 HasLong DiskFault file number gate before now = now ≡ raised before
 HasLong (NoMemory e) file number gate before now = now ≡ before
-HasLong NotJournal file number gate before now = ⊥
-HasLong (OtherPolicy place) file number gate before now = ⊥

@@ -4,9 +4,9 @@ use Rattle.ucon_disk.specs.Run.{joined, weaker}
 use Rattle.ucon_journal.specs.Found.{payloads_from}
 use Rattle.ucon_journal.specs.Journal.{disk_of, gate_of, payload_of}
 use Rattle.ucon_model.specs.Plain.{Bytes}
-use Rattle.ucon_store.specs.Loading.{CanBePassed}
-use Rattle.ucon_store.proofs.Reached.{can_be_passed, up_to_more}
-use Rattle.ucon_store.proofs.reaching.pass_to.Goals as goal
+use Rattle.ucon_walk.specs.Reaching.{CanBePassed}
+use Rattle.ucon_walk.proofs.Reached.{can_be_passed, up_to_more}
+use Rattle.ucon_walk.proofs.reaching.pass_to.Goals as goal
 
 pub pass-requires-clause-some : goal.pass-requires-clause-some
 pass-requires-clause-some g c =

@@ -1,39 +1,35 @@
 -- Record after record up to the last checkpoint.
-use Rattle.std.proofs.Common.{◌≡◌, ℕ, ◌+◌, ◌<◌, ◌≤◌, Bool, false, cond, List, [], ◌∷◌, ◌++◌, length, Option, Some, None, sym, ap, ◌∙◌, arith}
+use Rattle.std.proofs.Common.{◌≡◌, ℕ, ◌+◌, ◌<◌, ◌≤◌, Bool, false, cond, List, [], ◌∷◌, ◌++◌, length, Option, Some, None, refl, sym, ap, ◌∙◌, arith}
 use Rattle.std.specs.Prelude.{nat_lt, IfSome}
 use Rattle.ucon_journal.specs.Found.{payloads_from}
 use Rattle.ucon_model.specs.Found.{gate_behind, next_gate}
 use Rattle.ucon_model.specs.Payload.{most_payload}
 use Rattle.ucon_model.specs.Plain.{Bytes}
-use Rattle.ucon_store.specs.declared.fault.StoreFault.{StoreFault}
-use Rattle.ucon_store.specs.declared.fault.StoreFault.TheVariants as faults
-use Rattle.ucon_store.specs.declared.walking.LastPoint.{LastPoint}
-use Rattle.ucon_store.specs.Loading.{CanBePassed, IsTaken, IsUpTo}
-use Rattle.ucon_store.specs.Opened.{Parted, Sees, damaged, first_long}
-use Rattle.ucon_store.specs.Opening.{HasReason}
-use Rattle.ucon_store.specs.Walking.{HasLong}
+use Rattle.ucon_walk.specs.declared.fault.RecordFault.{RecordFault}
+use Rattle.ucon_walk.specs.declared.fault.RecordFault.TheVariants as faults
+use Rattle.ucon_walk.specs.declared.walking.LastPoint.{LastPoint}
+use Rattle.ucon_walk.specs.Parted.{Parted, first_long}
+use Rattle.ucon_walk.specs.Reaching.{CanBePassed, IsTaken, IsUnpassed, IsUpTo}
+use Rattle.ucon_walk.specs.Walking.{HasLong}
 
 -- ---- a record that can be passed
 
 -- it is passed unless the disk fails or memory is wanting
-pub passed_reason : (fault : StoreFault) (text : Bytes) (o : Option Bytes) (number gate before now : ℕ) → IfSome o (CanBePassed number gate) → HasLong fault o number gate before now
-    → HasReason fault text o before now
-passed_reason (faults.Damaged long place) text o number gate before now can h = (told o can h.0, h.1)
+pub passed_unless : (fault : RecordFault) (o : Option Bytes) (number gate before now : ℕ) → IfSome o (CanBePassed number gate) → HasLong fault o number gate before now
+    → IsUnpassed fault o before now
+passed_unless (faults.Damaged long place) o number gate before now can h = (told o can h.0, h.1)
   where
     told : (o : Option Bytes) → IfSome o (CanBePassed number gate) → IfSome o (λ bytes. first_long number gate (payloads_from bytes gate) ≡ Some (long, place))
-        → IfSome o (λ bytes. Sees bytes (damaged long place))
-    told None can h = tt
+        → o ≡ None
+    told None can h = refl
     told (Some file) can h = let no : None ≡ Some (long, place) = sym can.1 ∙ h in absurd (cc no)
-passed_reason faults.DiskFault text o number gate before now can h = h
-passed_reason (faults.NoMemory e) text o number gate before now can h = h
-passed_reason faults.NotJournal text o number gate before now can h = absurd h
-passed_reason (faults.OtherPolicy p) text o number gate before now can h = absurd h
+passed_unless faults.DiskFault o number gate before now can h = h
+passed_unless (faults.NoMemory e) o number gate before now can h = h
 
 -- and it is there
-pub passed_there : (text : Bytes) (o : Option Bytes) (number gate place : ℕ) → IfSome o (CanBePassed number gate) → IfSome o (λ file. payloads_from file gate ≡ [])
-    → IfSome o (λ bytes. Sees bytes (damaged number place))
-passed_there text None number gate place can none = tt
-passed_there text (Some file) number gate place can none = absurd (can.0 none)
+pub passed_there : (o : Option Bytes) (number gate : ℕ) → IfSome o (CanBePassed number gate) → IfSome o (λ file. payloads_from file gate ≡ []) → o ≡ None
+passed_there None number gate can none = refl
+passed_there (Some file) number gate can none = absurd (can.0 none)
 
 -- ---- one record
 

@@ -2,14 +2,14 @@ use Rattle.std.proofs.Common.{◌≡◌, ◌+◌, ℕ, ◌∷◌, [], length, Ok
 use Rattle.std.specs.Prelude.{◌&&◌, IfSome}
 use Rattle.ucon_journal.specs.Found.{payloads_from}
 use Rattle.ucon_journal.specs.Journal.{disk_of, gate_of, payload_of, version_of}
-use Rattle.ucon_store.specs.declared.fault.StoreFault.{StoreFault}
-use Rattle.ucon_store.specs.declared.walking.Walk.{Walk}
-use Rattle.ucon_store.specs.Points.{is_point, points_of}
-use Rattle.ucon_store.specs.Walking.{HasLong, finds}
-use Rattle.ucon_store.proofs.Openings.{more_told}
-use Rattle.ucon_store.proofs.Walked.{behind_point, long_reason, passed_point, passed_step}
-use Rattle.ucon_store.proofs.walking.Walk.pass_next.Goals.{then-is_point, else-is_point}
-use Rattle.ucon_store.proofs.walking.Walk.pass_next.Goals as goal
+use Rattle.ucon_walk.specs.declared.fault.RecordFault.{RecordFault}
+use Rattle.ucon_walk.specs.declared.walking.Walk.{Walk}
+use Rattle.ucon_walk.specs.Points.{is_point, points_of}
+use Rattle.ucon_walk.specs.Walking.{HasLong, finds}
+use Rattle.ucon_walk.proofs.Told.{more_told}
+use Rattle.ucon_walk.proofs.Walked.{behind_point, long_reason, passed_point, passed_step}
+use Rattle.ucon_walk.proofs.walking.Walk.pass_next.Goals.{then-is_point, else-is_point}
+use Rattle.ucon_walk.proofs.walking.Walk.pass_next.Goals as goal
 
 pub returns-in-Err-clause-long : goal.returns-in-Err-clause-long
 returns-in-Err-clause-long g c =
@@ -18,7 +18,7 @@ returns-in-Err-clause-long g c =
     let number = c.args.self.now.number in
     let before = g.D.Disk.faults (disk_of c.args.journal.now) in
     let now = g.D.Disk.faults (disk_of c.next.new.self) in
-    subst (λ (f : StoreFault). HasLong f o number gate before now) (sym c.at_record.ensures)
+    subst (λ (f : RecordFault). HasLong f o number gate before now) (sym c.at_record.ensures)
     (long_reason c.in-Err.fault o number gate before now c.in-Err.ensures.too_long (λ is. c.in-Err.ensures.failed (ap Err is)) (λ isnt. c.in-Err.ensures.unfailed (λ e. isnt (cc e))))
 
 pub returns-after-is_point-clause-passed : goal.returns-after-is_point-clause-passed

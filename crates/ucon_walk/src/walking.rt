@@ -5,17 +5,17 @@ ghost use Rattle.ucon_disk.specs.Disk.{SameImages};
 ghost use Rattle.ucon_disk.specs.Run.{LeavesOnly};
 ghost use Rattle.ucon_journal.specs.Found.{counted, payloads_from};
 ghost use Rattle.ucon_journal.specs.Journal.{disk_of, gate_of, version_of, IsReading};
-ghost use Rattle.ucon_store.specs.Points.{has_points, points_of};
-ghost use Rattle.ucon_store.specs.Walking.{HasLong, IsPlacedBelow, IsWalked, IsWalking, finds};
+ghost use Rattle.ucon_walk.specs.Points.{has_points, points_of};
+ghost use Rattle.ucon_walk.specs.Walking.{HasLong, IsPlacedBelow, IsWalked, IsWalking, finds};
 
-use crate::fault::{StoreFault, at_record};
+use crate::fault::{RecordFault, at_record};
 use crate::points::{has_points, is_point};
 use ucon_disk::Disk;
 use ucon_journal::Journal;
 
 /// A record that begins as a checkpoint, where there may be any.
 #[derive(Clone, Copy)]
-pub(crate) struct LastPoint {
+pub struct LastPoint {
     /// Its number, from 0.
     pub number: u64,
     /// The place of its gate.
@@ -25,7 +25,7 @@ pub(crate) struct LastPoint {
 }
 
 /// The last checkpoint in the journal, of which no record was taken yet. None where there is none. Each record is read, and none may be too long.
-pub(crate) fn last_point<D: Disk>(journal: &mut Journal<D>) -> Result<Option<LastPoint>, StoreFault>
+pub fn last_point<D: Disk>(journal: &mut Journal<D>) -> Result<Option<LastPoint>, RecordFault>
     requires reading { IsReading D.contents journal.old }
     requires all { IfSome (D.contents (disk_of journal.old)) (λ file. payloads_from file 8 ≡ counted file) }
     requires first { gate_of journal.old ≡ 8 }
@@ -74,7 +74,7 @@ impl Walk {
     }
 
     /// Passes the next record. False where there is none.
-    fn pass_next<D: Disk>(&mut self, journal: &mut Journal<D>) -> Result<bool, StoreFault>
+    fn pass_next<D: Disk>(&mut self, journal: &mut Journal<D>) -> Result<bool, RecordFault>
         requires reading { IsReading D.contents journal.old }
         requires walking { IsWalking self.old (gate_of journal.old) }
         ensures passed { result ≡ Ok true → IfSome (D.contents (disk_of journal.old)) (λ file.
@@ -117,7 +117,7 @@ impl Walk {
     }
 
     /// Passes all records that are left.
-    fn pass_all<D: Disk>(&mut self, journal: &mut Journal<D>) -> Result<(), StoreFault>
+    fn pass_all<D: Disk>(&mut self, journal: &mut Journal<D>) -> Result<(), RecordFault>
         requires reading { IsReading D.contents journal.old }
         requires walking { IsWalking self.old (gate_of journal.old) }
         ensures found { OnOk result (IfSome (D.contents (disk_of journal.old)) (λ file.

@@ -3,9 +3,9 @@ use Rattle.std.specs.Prelude.{IfSome}
 use Rattle.ucon_journal.specs.Found.{payloads_from}
 use Rattle.ucon_journal.specs.Journal.{disk_of, gate_of, payload_of}
 use Rattle.ucon_model.specs.Plain.{Bytes}
-use Rattle.ucon_store.specs.Loading.{CanBePassed}
-use Rattle.ucon_store.proofs.Reached.{can_be_passed, taken_more}
-use Rattle.ucon_store.proofs.reaching.take_point.Goals as goal
+use Rattle.ucon_walk.specs.Reaching.{CanBePassed}
+use Rattle.ucon_walk.proofs.Reached.{can_be_passed, taken_more}
+use Rattle.ucon_walk.proofs.reaching.take_point.Goals as goal
 
 pub pass-requires-clause-some : goal.pass-requires-clause-some
 pass-requires-clause-some g c =
