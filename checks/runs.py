@@ -4,6 +4,7 @@ from typing import Iterator, List, NamedTuple, Optional
 
 DIVIDER = b"%%\n"
 MAGIC = b"UCONJR02"
+POINT = b"point "
 CHANGES = {b"ok", b"permitted", b"denied", b"waiting", b"ended"}
 
 
@@ -94,8 +95,13 @@ def record(payload: bytes) -> bytes:
     return b"\1" + len(payload).to_bytes(4, "big") + payload
 
 
+def journal_with(payloads: List[bytes]) -> bytes:
+    """A journal of these records, the first of which is its policy."""
+    return MAGIC + b"".join(map(record, payloads)) + b"\0"
+
+
 def journal_of(policy: bytes, entries: List[Answer]) -> bytes:
-    return MAGIC + b"".join(map(record, [policy, *(it.payload() for it in entries)])) + b"\0"
+    return journal_with([policy, *(it.payload() for it in entries)])
 
 
 def payloads_of(journal: bytes) -> List[bytes]:
@@ -116,8 +122,8 @@ def entry_of(payload: bytes, place: int) -> Answer:
     return Answer(int(client), command, place, reply)
 
 
-def entries_in(policy: bytes, journal: Optional[bytes]) -> List[Answer]:
-    """The entries that are found in a file, which is a journal under this policy, or is being made, or isn't there."""
+def records_in(policy: bytes, journal: Optional[bytes]) -> List[bytes]:
+    """The payloads behind the policy in a file, which is a journal under this policy, or is being made, or isn't there."""
     if journal is None or len(journal) <= 9:
         return []
     if not journal.startswith(MAGIC):
@@ -125,4 +131,15 @@ def entries_in(policy: bytes, journal: Optional[bytes]) -> List[Answer]:
     payloads = payloads_of(journal)
     if payloads and payloads[0] != policy:
         raise Wrong("the journal has another policy")
-    return [entry_of(payload, place) for place, payload in enumerate(payloads[1:], 1)]
+    return payloads[1:]
+
+
+def entries_in(policy: bytes, journal: Optional[bytes]) -> List[Answer]:
+    """The entries that are found in a file, which is a journal under this policy, or is being made, or isn't there."""
+    steps = [it for it in records_in(policy, journal) if not it.startswith(POINT)]
+    return [entry_of(payload, place) for place, payload in enumerate(steps, 1)]
+
+
+def points_in(policy: bytes, journal: Optional[bytes]) -> List[bytes]:
+    """The checkpoints that are found in such a file."""
+    return [it for it in records_in(policy, journal) if it.startswith(POINT)]
