@@ -1,16 +1,25 @@
 -- Who stands at a place, and who is whose first, once a session comes into a list or leaves its own.
 use Rattle.std.proofs.Common.{◌≡◌, ◌≢◌, ◌∙◌, ◌⊎◌, inl, inr, ◌↔◌, ℕ, zero, suc, ◌<◌, ◌≤◌, Bool, true, false, List, [], ◌∷◌, map, refl, sym, ap, subst, arith, ◌||◌, ◌==◌}
 use Rattle.std.specs.Prelude.{Option, Some, None, IfNone, IfSome, cond, nat_eq, unwrap_or}
-use Rattle.std.specs.List.{All, Contains}
+use Rattle.std.specs.List.{All, Contains, flat_map}
 use Rattle.std.proofs.lemmas.Bool.Decides.{eqb_tells}
 use Rattle.std.proofs.lemmas.List.Elements.{All-contains}
 use Rattle.ucon_index.specs.Dependents.{Dependents, Place, has_session, is_there, others, place_at, stands_in}
 use Rattle.ucon_links.specs.Lists.{IsAbsent}
-use Rattle.ucon_wheel.specs.Deadlines.{Deadlines}
+use Rattle.ucon_lists.specs.Lists.{IsLed, IsNext, JoinsAtMost, Members, is_joined, leader_in}
+use Rattle.ucon_lists.specs.Undoing.{Who, who_in}
 use Rattle.ucon_readers.specs.Joining.{Joins}
 use Rattle.ucon_readers.specs.Listing.{AreLed, ComesTo, StandsNowhere, StandsSomewhere, standing_by}
-use Rattle.ucon_readers.specs.Lists.{AreOfOne, HasCome, HasLeft, JoinsAtMost, first_in, is_joined, leader_in, led_by, members_in}
-use Rattle.ucon_readers.proofs.Listed.{first_alone, first_below, first_if, first_is_low, first_or_later, first_there, flat_map_has, further, in_flat_map, is_none_if, leader_cases, leader_none, nothing_in, one_first, only_in}
+use Rattle.ucon_readers.specs.Lists.{first_in, led_by, members_in}
+use Rattle.ucon_readers.proofs.Listed.{first_alone, first_below, first_if, first_is_low, first_or_later, first_there, flat_map_has, further, in_flat_map, is_none_if, leader_cases, leader_none, leader_some, members_alike, next_least, next_none, next_there, nothing_in, of_one, one_first, only_in, told_least, told_there}
+
+-- a session came into the list of a leader, as it is with the leader in it
+abbrev pub HasCome : (old new : Members) → (leader session : ℕ) → Type 0
+HasCome old new leader session = (l n : ℕ) → Contains (led_by new l) n ↔ (((n ≡ session) × (l ≡ leader)) ⊎ Contains (led_by old l) n)
+
+-- a session left its list
+abbrev pub HasLeft : (old new : Members) → ℕ → Type 0
+HasLeft old new session = (l n : ℕ) → Contains (members_in new l) n ↔ ((n ≢ session) × Contains (members_in old l) n)
 
 -- ---- coming to places
 
@@ -48,17 +57,17 @@ put_first standing standing' k places first elsewhere n place = (
 -- ---- standing at places
 
 -- who is in a list that was joined is a member
-pub led_member : (v : Deadlines) (l n : ℕ) → is_joined v l ≡ true → Contains (led_by v l) n → Contains (members_in v l) n
+pub led_member : (v : Members) (l n : ℕ) → is_joined v l ≡ true → Contains (led_by v l) n → Contains (members_in v l) n
 led_member v l n joined has = subst (λ (b : Bool). Contains (cond b (members_in v l) (l ∷ [])) n) joined has
 
-pub joined_led : (v : Deadlines) (l n : ℕ) → is_joined v l ≡ true → Contains (members_in v l) n → Contains (led_by v l) n
+pub joined_led : (v : Members) (l n : ℕ) → is_joined v l ≡ true → Contains (members_in v l) n → Contains (led_by v l) n
 joined_led v l n joined has = subst (λ (b : Bool). Contains (cond b (members_in v l) (l ∷ [])) n) (sym joined) has
 
 -- and else it is the leader
-pub led_only : (v : Deadlines) (l n : ℕ) → is_joined v l ≡ false → Contains (led_by v l) n → n ≡ l
+pub led_only : (v : Members) (l n : ℕ) → is_joined v l ≡ false → Contains (led_by v l) n → n ≡ l
 led_only v l n unjoined has = only_in l n (subst (λ (b : Bool). Contains (cond b (members_in v l) (l ∷ [])) n) unjoined has)
 
-pub alone_led : (v : Deadlines) (l : ℕ) → is_joined v l ≡ false → Contains (led_by v l) l
+pub alone_led : (v : Members) (l : ℕ) → is_joined v l ≡ false → Contains (led_by v l) l
 alone_led v l unjoined = subst (λ (b : Bool). Contains (cond b (members_in v l) (l ∷ [])) l) (sym unjoined) (0, omega arith, refl)
 
 pub is_or_not : (b : Bool) → (b ≡ true) ⊎ (b ≡ false)
@@ -69,7 +78,7 @@ pub never_both : {A : Type 0} (b : Bool) → b ≡ true → b ≡ false → A
 never_both b is not = absurd (let both : true ≡ false = sym is ∙ not in cc)
 
 -- lists with the same members that were joined alike
-pub led_same : (v w : Deadlines) (l : ℕ) → is_joined w l ≡ is_joined v l → ((n : ℕ) → Contains (members_in w l) n ↔ Contains (members_in v l) n) → (n : ℕ)
+pub led_same : (v w : Members) (l : ℕ) → is_joined w l ≡ is_joined v l → ((n : ℕ) → Contains (members_in w l) n ↔ Contains (members_in v l) n) → (n : ℕ)
     → Contains (led_by w l) n ↔ Contains (led_by v l) n
 led_same v w l joined same n = elim (is_or_not (is_joined v l)) [
   | inl was ↦ (
@@ -82,10 +91,10 @@ led_same v w l joined same n = elim (is_or_not (is_joined v l)) [
   )
 ]
 
-pub stands_by : (v : Deadlines) (i : Dependents) (place l n : ℕ) → Contains (stands_in i place) l → Contains (led_by v l) n → Contains (standing_by v i place) n
+pub stands_by : (v : Members) (i : Dependents) (place l n : ℕ) → Contains (stands_in i place) l → Contains (led_by v l) n → Contains (standing_by v i place) n
 stands_by v i place l n stands led = flat_map_has (led_by v) (stands_in i place) l n stands led
 
-pub whose_list : (v : Deadlines) (i : Dependents) (place n : ℕ) → Contains (standing_by v i place) n
+pub whose_list : (v : Members) (i : Dependents) (place n : ℕ) → Contains (standing_by v i place) n
     → (l : ℕ) × Contains (stands_in i place) l × Contains (led_by v l) n
 whose_list v i place n stands = in_flat_map (led_by v) (stands_in i place) n stands
 
@@ -134,20 +143,20 @@ pub there_like : (i j : Dependents) → ((l place : ℕ) → Contains (stands_in
 there_like i j stands l there = let stood = stands_if_there l i.places there in there_if_stands l j.places stood.0 (stands l stood.0 stood.1)
 
 -- whoever stands nowhere is in no list
-pub nowhere_listed : (v : Deadlines) (i : Dependents) (n : ℕ) → AreLed v i → StandsNowhere (standing_by v i) n → leader_in v n ≡ None
+pub nowhere_listed : (v : Members) (i : Dependents) (n : ℕ) → AreLed v i → StandsNowhere (standing_by v i) n → leader_in v n ≡ None
 nowhere_listed v i n led nowhere = is_none_if v n (λ l member.
     let is = led.there l n member in
     let stands = stands_if_there l i.places is.0 in
     nowhere stands.0 (stands_by v i stands.0 l n stands.1 (joined_led v l n is.1 member)))
 
 -- a leader that stands, and whose list wasn't joined, stands itself
-pub stands_itself : (v : Deadlines) (i : Dependents) (l : ℕ) → is_there l i.places ≡ true → is_joined v l ≡ false → StandsSomewhere (standing_by v i) l
+pub stands_itself : (v : Members) (i : Dependents) (l : ℕ) → is_there l i.places ≡ true → is_joined v l ≡ false → StandsSomewhere (standing_by v i) l
 stands_itself v i l there unjoined =
     let stands = stands_if_there l i.places there in
     (stands.0, stands_by v i stands.0 l l stands.1 (alone_led v l unjoined))
 
 -- members and leaders that stand are led where they were
-pub led_like : (v w : Deadlines) (i j : Dependents) → AreLed v i → ((l n : ℕ) → Contains (members_in w l) n → Contains (members_in v l) n)
+pub led_like : (v w : Members) (i j : Dependents) → AreLed v i → ((l n : ℕ) → Contains (members_in w l) n → Contains (members_in v l) n)
     → ((l : ℕ) → is_joined w l ≡ is_joined v l) → ((l n : ℕ) → Contains (members_in w l) n → is_there l i.places ≡ true → is_there l j.places ≡ true)
     → ((l : ℕ) → is_there l j.places ≡ true → is_there l i.places ≡ true) → AreLed w j
 led_like v w i j led fewer joined still were = record {
@@ -155,11 +164,29 @@ led_like v w i j led fewer joined still were = record {
   alone = λ l there unjoined. is_none_if w l (λ k has. leader_none v l k (led.alone l (were l there) (sym (joined l) ∙ unjoined)) (fewer k l has));
 }
 
+-- ---- the same members
+
+pub led_by_alike : (v w : Members) → who_in w ≡ who_in v → (l : ℕ) → led_by w l ≡ led_by v l
+led_by_alike v w same l =
+    ap (λ (b : Bool). cond b (members_in w l) (l ∷ [])) (ap (λ (who : Who). who.joined l) same)
+    ∙ ap (λ (ms : List ℕ). cond (is_joined v l) ms (l ∷ [])) (members_alike v w same l)
+
+pub standing_alike : (v w : Members) (i : Dependents) → who_in w ≡ who_in v → (place : ℕ) → standing_by w i place ≡ standing_by v i place
+standing_alike v w i same place = ap (λ (f : ℕ → List ℕ). flat_map f (stands_in i place)) (λ k l. led_by_alike v w same l k)
+
+pub are_led_alike : (v w : Members) (i : Dependents) → who_in w ≡ who_in v → AreLed v i → AreLed w i
+are_led_alike v w i same led = record {
+  there = λ l n has.
+      let was = led.there l n (subst (λ (ms : List ℕ). Contains ms n) (members_alike v w same l) has) in
+      (was.0, ap (λ (who : Who). who.joined l) same ∙ was.1);
+  alone = λ l there unjoined. ap (λ (who : Who). who.leader l) same ∙ led.alone l there (ap (λ (who : Who). who.joined l) (sym same) ∙ unjoined);
+}
+
 -- ---- the first of a list, in these words
 
-led_below : (v : Deadlines) → AreOfOne v → (l n m : ℕ) → Contains (led_by v l) n → Contains (led_by v l) m → first_in v n ≤ m
-led_below v one l n m has other = elim (is_or_not (is_joined v l)) [
-  | inl joined ↦ first_below v one l n m (led_member v l n joined has) (led_member v l m joined other)
+led_below : (v : Members) → (l n m : ℕ) → Contains (led_by v l) n → Contains (led_by v l) m → first_in v n ≤ m
+led_below v l n m has other = elim (is_or_not (is_joined v l)) [
+  | inl joined ↦ first_below v l n m (led_member v l n joined has) (led_member v l m joined other)
   | inr unjoined ↦
       let here = led_only v l n unjoined has in
       let there = led_only v l m unjoined other in
@@ -167,10 +194,10 @@ led_below v one l n m has other = elim (is_or_not (is_joined v l)) [
       omega (arith, here, there, low)
 ]
 
-led_first : (v : Deadlines) → AreOfOne v → (l n m : ℕ) → (is_joined v l ≡ false → leader_in v l ≡ None) → Contains (led_by v l) n → Contains (led_by v l) m
+led_first : (v : Members) → (l n m : ℕ) → (is_joined v l ≡ false → leader_in v l ≡ None) → Contains (led_by v l) n → Contains (led_by v l) m
     → ((k : ℕ) → Contains (led_by v l) k → m ≤ k) → first_in v n ≡ m
-led_first v one l n m alone has other least = elim (is_or_not (is_joined v l)) [
-  | inl joined ↦ first_if v one l n m (led_member v l n joined has) (led_member v l m joined other) (λ k member. least k (joined_led v l k joined member))
+led_first v l n m alone has other least = elim (is_or_not (is_joined v l)) [
+  | inl joined ↦ first_if v l n m (led_member v l n joined has) (led_member v l m joined other) (λ k member. least k (joined_led v l k joined member))
   | inr unjoined ↦
       let here = led_only v l n unjoined has in
       first_alone v n (ap (leader_in v) here ∙ alone unjoined) ∙ here ∙ sym (led_only v l m unjoined other)
@@ -179,26 +206,31 @@ led_first v one l n m alone has other least = elim (is_or_not (is_joined v l)) [
 -- ---- a session comes into a list
 
 -- whom a session is led by, where it stands
-pub led_leader : (v : Deadlines) (i : Dependents) → AreOfOne v → AreLed v i → (l n : ℕ) → is_there l i.places ≡ true → Contains (led_by v l) n
+pub led_leader : (v : Members) (i : Dependents) → AreLed v i → (l n : ℕ) → is_there l i.places ≡ true → Contains (led_by v l) n
     → unwrap_or (leader_in v n) n ≡ l
-led_leader v i one led l n there has = elim (is_or_not (is_joined v l)) [
-  | inl joined ↦ ap (λ (o : Option ℕ). unwrap_or o n) (one l n (led_member v l n joined has))
+led_leader v i led l n there has = elim (is_or_not (is_joined v l)) [
+  | inl joined ↦ ap (λ (o : Option ℕ). unwrap_or o n) (of_one v l n (led_member v l n joined has))
   | inr unjoined ↦
       let is = led_only v l n unjoined has in
       ap (λ (o : Option ℕ). unwrap_or o n) (ap (leader_in v) is ∙ led.alone l there unjoined) ∙ is
 ]
 
+-- who may have come into a list
+at_most_members : (v w : Members) (leader session : ℕ) → JoinsAtMost v w leader session → (l n : ℕ) → Contains (members_in w l) n
+    → ((l ≡ leader) × (is_joined w leader ≡ true) × ((n ≡ session) ⊎ ((n ≡ leader) × (is_joined v leader ≡ false)))) ⊎ Contains (members_in v l) n
+at_most_members v w leader session at_most l n has = elim (at_most.members l n (of_one w l n has)) [ inl new ↦ inl new | inr old ↦ inr (leader_some v n l old) ]
+
 -- where a session that stood nowhere may have joined, all are led
-pub joins_led : (v w : Deadlines) (i : Dependents) (leader session : ℕ) → AreLed v i → JoinsAtMost v w leader session → is_there leader i.places ≡ true
+pub joins_led : (v w : Members) (i : Dependents) (leader session : ℕ) → AreLed v i → JoinsAtMost v w leader session → is_there leader i.places ≡ true
     → StandsNowhere (standing_by v i) session → AreLed w i
 joins_led v w i leader session led at_most there nowhere = record {
-  there = λ l n member. elim (at_most.members l n member) [
+  there = λ l n member. elim (at_most_members v w leader session at_most l n member) [
     | inl new ↦ (ap (λ (k : ℕ). is_there k i.places) new.0 ∙ there, ap (is_joined w) new.0 ∙ new.1)
     | inr old ↦ (let was = led.there l n old in (was.0, at_most.joined l was.1))
   ];
   alone = λ l stands unjoined. elim (is_or_not (is_joined v l)) [
     | inl was ↦ never_both (is_joined w l) (at_most.joined l was) unjoined
-    | inr was ↦ is_none_if w l (λ k has. elim (at_most.members k l has) [
+    | inr was ↦ is_none_if w l (λ k has. elim (at_most_members v w leader session at_most k l has) [
       | inl new ↦ elim new.2 [
         | inl same ↦ (let somewhere = stands_itself v i l stands was in
             nowhere somewhere.0 (subst (Contains (standing_by v i somewhere.0)) same somewhere.1))
@@ -210,13 +242,13 @@ joins_led v w i leader session led at_most there nowhere = record {
 }
 
 -- a session joins the list of one that is its first and below it
-module _ (v w : Deadlines) (i : Dependents) (leader session other : ℕ) (one : AreOfOne v) (one' : AreOfOne w) (led : AreLed v i)
+module _ (v w : Members) (i : Dependents) (leader session other : ℕ) (led : AreLed v i)
     (come : HasCome v w leader session) (at_most : JoinsAtMost v w leader session) (joined : is_joined w leader ≡ true)
     (there : is_there leader i.places ≡ true) (among : Contains (led_by v leader) other) where
   least_still : first_in v other ≡ other → other < session → (m : ℕ) → Contains (members_in w leader) m → other ≤ m
   least_still itself below m has = elim ((come leader m).0 (joined_led w leader m joined has)) [
     | inl new ↦ (let is : m ≡ session = new.0 in omega (arith, below, is))
-    | inr old ↦ (let low = led_below v one leader other m among old in omega (arith, low, itself))
+    | inr old ↦ (let low = led_below v leader other m among old in omega (arith, low, itself))
   ]
 
   other_there : Contains (members_in w leader) other
@@ -225,21 +257,21 @@ module _ (v w : Deadlines) (i : Dependents) (leader session other : ℕ) (one : 
   alone_still : first_in v other ≡ other → other < session → (k : ℕ) → k ≢ session → leader_in v k ≡ None → first_in w k ≡ first_in v k
   alone_still itself below k apart none = elim (leader_cases w k) [
     | inl still ↦ first_alone w k still ∙ sym (first_alone v k none)
-    | inr some ↦ elim (at_most.members some.0 k some.2) [
+    | inr some ↦ elim (at_most_members v w leader session at_most some.0 k some.2) [
       | inr old ↦ absurd (leader_none v k some.0 none old)
       | inl new ↦ elim new.2 [
         | inl same ↦ absurd (apart same)
         | inr founder ↦
             let member = subst (λ (l : ℕ). Contains (members_in w l) k) new.0 some.2 in
             let lone = led_only v leader other founder.1 among in
-            first_if w one' leader k other member other_there (least_still itself below) ∙ lone ∙ sym founder.0 ∙ sym (first_alone v k none)
+            first_if w leader k other member other_there (least_still itself below) ∙ lone ∙ sym founder.0 ∙ sym (first_alone v k none)
       ]
     ]
   ]
 
   pub joined_like : first_in v other ≡ other → other < session → Joins (first_in v) (first_in w) session other
   joined_like itself below = record {
-    first = first_if w one' leader session other (led_member w leader session joined ((come leader session).1 (inl (refl, refl)))) other_there
+    first = first_if w leader session other (led_member w leader session joined ((come leader session).1 (inl (refl, refl)))) other_there
         (least_still itself below);
     others = λ k apart. elim (leader_cases v k) [
       | inl none ↦ alone_still itself below k apart none
@@ -248,15 +280,15 @@ module _ (v w : Deadlines) (i : Dependents) (leader session other : ℕ) (one : 
           let is = at_most.joined some.0 was in
           let stays : (n : ℕ) → Contains (members_in v some.0) n → Contains (members_in w some.0) n =
           λ n has. led_member w some.0 n is ((come some.0 n).1 (inr (joined_led v some.0 n was has))) in
-          first_if w one' some.0 k (first_in v k) (stays k some.2) (stays (first_in v k) (first_there v one some.0 k some.2))
+          first_if w some.0 k (first_in v k) (stays k some.2) (stays (first_in v k) (first_there v some.0 k some.2))
           (λ m has. elim ((come some.0 m).0 (joined_led w some.0 m is has)) [
             | inl new ↦
                 let here : is_joined v leader ≡ true = ap (is_joined v) (sym new.1) ∙ was in
                 let first : first_in v k ≡ other =
-                one_first v one leader k other (subst (λ (l : ℕ). Contains (members_in v l) k) new.1 some.2) (led_member v leader other here among) ∙ itself in
+                one_first v leader k other (subst (λ (l : ℕ). Contains (members_in v l) k) new.1 some.2) (led_member v leader other here among) ∙ itself in
                 let same : m ≡ session = new.0 in
                 omega (arith, first, below, same)
-            | inr old ↦ first_below v one some.0 k m some.2 (led_member v some.0 m was old)
+            | inr old ↦ first_below v some.0 k m some.2 (led_member v some.0 m was old)
           ])
     ];
   }
@@ -273,14 +305,14 @@ module _ (v w : Deadlines) (i : Dependents) (leader session other : ℕ) (one : 
       | inl new ↦
           let at = whose_list v i place other new.1 in
           let whose : at.0 ≡ leader =
-          sym (led_leader v i one led at.0 other (there_if_stands at.0 i.places place at.1) at.2) ∙ led_leader v i one led leader other there among in
+          sym (led_leader v i led at.0 other (there_if_stands at.0 i.places place at.1) at.2) ∙ led_leader v i led leader other there among in
           stands_by w i place leader n (subst (Contains (stands_in i place)) whose at.1) ((come leader n).1 (inl (new.0, refl)))
       | inr stands ↦ (let at = whose_list v i place n stands in stands_by w i place at.0 n at.1 ((come at.0 n).1 (inr at.2)))
     ],
   )
 
 -- one that comes alone stands where it was put
-pub led_stands : (v : Deadlines) (i j : Dependents) (session : ℕ) (places : List ℕ) → is_joined v session ≡ false
+pub led_stands : (v : Members) (i j : Dependents) (session : ℕ) (places : List ℕ) → is_joined v session ≡ false
     → ComesTo (stands_in i) (stands_in j) session places → ComesTo (standing_by v i) (standing_by v j) session places
 led_stands v i j session places unjoined comes n place = (
   λ has. (let at = whose_list v j place n has in elim ((comes at.0 place).0 at.1) [
@@ -295,7 +327,7 @@ led_stands v i j session places unjoined comes n place = (
 )
 
 -- and all are led
-pub come_led : (v : Deadlines) (i j : Dependents) (session : ℕ) (places : List ℕ) → AreLed v i → leader_in v session ≡ None
+pub come_led : (v : Members) (i j : Dependents) (session : ℕ) (places : List ℕ) → AreLed v i → leader_in v session ≡ None
     → ComesTo (stands_in i) (stands_in j) session places → AreLed v j
 come_led v i j session places led none comes = record {
   there = λ l n member. (let was = led.there l n member in (there_like i j (λ k place stood. (comes k place).1 (inr stood)) l was.0, was.1));
@@ -310,32 +342,32 @@ come_led v i j session places led none comes = record {
 -- ---- a session leaves its list
 
 -- whoever isn't led by it keeps its first
-pub left_same : (v w : Deadlines) (session leader : ℕ) → AreOfOne v → AreOfOne w → HasLeft v w session → Contains (members_in v leader) session
+pub left_same : (v w : Members) (session leader : ℕ) → HasLeft v w session → Contains (members_in v leader) session
     → (n : ℕ) → n ≢ session → first_in v n ≢ session → first_in w n ≡ first_in v n
-left_same v w session leader one one' left among n apart differs = elim (leader_cases v n) [
+left_same v w session leader left among n apart differs = elim (leader_cases v n) [
   | inl none ↦
       let still : leader_in w n ≡ None = is_none_if w n (λ l has. leader_none v n l none ((left l n).0 has).1) in
       first_alone w n still ∙ sym (first_alone v n none)
   | inr some ↦
-      first_if w one' some.0 n (first_in v n) ((left some.0 n).1 (apart, some.2))
-      ((left some.0 (first_in v n)).1 (differs, first_there v one some.0 n some.2))
-      (λ m has. first_below v one some.0 n m some.2 ((left some.0 m).0 has).1)
+      first_if w some.0 n (first_in v n) ((left some.0 n).1 (apart, some.2))
+      ((left some.0 (first_in v n)).1 (differs, first_there v some.0 n some.2))
+      (λ m has. first_below v some.0 n m some.2 ((left some.0 m).0 has).1)
 ]
 
 -- who was led by it is of its list
-pub left_list : (v : Deadlines) (session leader : ℕ) → AreOfOne v → Contains (members_in v leader) session → (n : ℕ) → n ≢ session → first_in v n ≡ session
+pub left_list : (v : Members) (session leader : ℕ) → Contains (members_in v leader) session → (n : ℕ) → n ≢ session → first_in v n ≡ session
     → Contains (members_in v leader) n
-left_list v session leader one among n apart is = elim (leader_cases v n) [
+left_list v session leader among n apart is = elim (leader_cases v n) [
   | inl none ↦ absurd (apart (sym (first_alone v n none) ∙ is))
   | inr some ↦
-      let there = subst (Contains (members_in v some.0)) is (first_there v one some.0 n some.2) in
-      let same : Some some.0 ≡ Some leader = sym (one some.0 session there) ∙ one leader session among in
+      let there = subst (Contains (members_in v some.0)) is (first_there v some.0 n some.2) in
+      let same : Some some.0 ≡ Some leader = sym (of_one v some.0 session there) ∙ of_one v leader session among in
       let leaders : some.0 ≡ leader = cc in
       subst (λ (l : ℕ). Contains (members_in v l) n) leaders some.2
 ]
 
 -- who stands where
-pub left_stands : (v w : Deadlines) (i j : Dependents) (session leader : ℕ) → AreLed v i → HasLeft v w session → leader_in v session ≡ Some leader
+pub left_stands : (v w : Members) (i j : Dependents) (session leader : ℕ) → AreLed v i → HasLeft v w session → leader_in v session ≡ Some leader
     → ((l : ℕ) → is_joined w l ≡ is_joined v l)
     → ((l n place : ℕ) → Contains (led_by w l) n → Contains (stands_in i place) l → Contains (stands_in j place) l)
     → ((l place : ℕ) → Contains (stands_in j place) l → Contains (stands_in i place) l)
@@ -367,7 +399,7 @@ left_stands v w i j session leader led left is joined still were n place = (
     ]
 
 -- a session that is in no list, and stood alone, stands nowhere any more
-pub left_alone : (v : Deadlines) (i j : Dependents) (session : ℕ) → leader_in v session ≡ None → (is_joined v session ≡ true → j ≡ i)
+pub left_alone : (v : Members) (i j : Dependents) (session : ℕ) → leader_in v session ≡ None → (is_joined v session ≡ true → j ≡ i)
     → (is_joined v session ≡ false → (l place : ℕ) → Contains (stands_in j place) l ↔ ((l ≢ session) × Contains (stands_in i place) l))
     → (n place : ℕ) → Contains (standing_by v j place) n ↔ ((n ≢ session) × Contains (standing_by v i place) n)
 left_alone v i j session none stays out n place = elim (is_or_not (is_joined v session)) [
@@ -400,7 +432,7 @@ left_alone v i j session none stays out n place = elim (is_or_not (is_joined v s
   )
 ]
 
-pub left_alone_led : (v : Deadlines) (i j : Dependents) (session : ℕ) → AreLed v i → (is_joined v session ≡ true → j ≡ i)
+pub left_alone_led : (v : Members) (i j : Dependents) (session : ℕ) → AreLed v i → (is_joined v session ≡ true → j ≡ i)
     → (is_joined v session ≡ false → (l place : ℕ) → Contains (stands_in j place) l ↔ ((l ≢ session) × Contains (stands_in i place) l)) → AreLed v j
 left_alone_led v i j session led stays out = elim (is_or_not (is_joined v session)) [
   | inl joined ↦ subst (AreLed v) (sym (stays joined)) led
@@ -451,7 +483,7 @@ not_in_others k (x ∷ xs) n has = by (eqb_tells x k) has (not_in_others k xs n)
 -- ---- what was so before, and what is so after
 
 -- where nobody is a member of a list, its leader needn't stand
-pub without_stands : (v w : Deadlines) (i j : Dependents) (leader : ℕ) → ((n : ℕ) → Contains (led_by w leader) n → ⊥)
+pub without_stands : (v w : Members) (i j : Dependents) (leader : ℕ) → ((n : ℕ) → Contains (led_by w leader) n → ⊥)
     → ((place : ℕ) → stands_in j place ≡ others leader (stands_in i place)) → (l n place : ℕ) → Contains (led_by w l) n → Contains (stands_in i place) l
     → Contains (stands_in j place) l
 without_stands v w i j leader empty out l n place member stands =
@@ -461,18 +493,18 @@ without_stands v w i j leader empty out l n place member stands =
 -- ---- who is told as the first
 
 -- what is the least of a list, or tells that it is empty, is the first of each of its members
-pub first_told : (v : Deadlines) → AreOfOne v → (leader : ℕ) (told : Option ℕ) → IfSome told (λ m. Contains (members_in v leader) m)
+pub first_told : (v : Members) → (leader : ℕ) (told : Option ℕ) → IfSome told (λ m. Contains (members_in v leader) m)
     → IfSome told (λ m. (n : ℕ) → Contains (members_in v leader) n → m ≤ n) → IfNone told ((n : ℕ) → Contains (members_in v leader) n → ⊥) → (n : ℕ)
     → Contains (members_in v leader) n → told ≡ Some (first_in v n)
-first_told v one leader None there least none n member = absurd (none n member)
-first_told v one leader (Some m) there least none n member = ap (λ (k : ℕ). Some k) (sym (first_if v one leader n m member there least))
+first_told v leader None there least none n member = absurd (none n member)
+first_told v leader (Some m) there least none n member = ap (λ (k : ℕ). Some k) (sym (first_if v leader n m member there least))
 
 -- so who is its own first
-pub own_first : (v : Deadlines) → AreOfOne v → (leader m : ℕ) → (is_joined v leader ≡ false → leader_in v leader ≡ None) → Contains (led_by v leader) m
+pub own_first : (v : Members) → (leader m : ℕ) → (is_joined v leader ≡ false → leader_in v leader ≡ None) → Contains (led_by v leader) m
     → ((n : ℕ) → Contains (led_by v leader) n → m ≤ n) → (n : ℕ) → (n ≡ m) ↔ (Contains (led_by v leader) n × (first_in v n ≡ n))
-own_first v one leader m alone there least n = (
-  λ same. (subst (Contains (led_by v leader)) (sym same) there, subst (λ (k : ℕ). first_in v k ≡ k) (sym same) (led_first v one leader m m alone there there least)),
-  λ both. sym both.1 ∙ led_first v one leader n m alone both.0 there least,
+own_first v leader m alone there least n = (
+  λ same. (subst (Contains (led_by v leader)) (sym same) there, subst (λ (k : ℕ). first_in v k ≡ k) (sym same) (led_first v leader m m alone there there least)),
+  λ both. sym both.1 ∙ led_first v leader n m alone both.0 there least,
 )
 
 pub if_told : (P : ℕ → Type 0) (o : Option ℕ) → ((m : ℕ) → o ≡ Some m → P m) → IfSome o P
@@ -492,13 +524,15 @@ not_told_if Q None is q = q
 not_told_if Q (Some m) is q = let no : ⊥ = cc in absurd no
 
 -- where a session has left a leader's list, the first of it now is the first before, or the next of the session where that was itself
-module _ (v w : Deadlines) (session leader : ℕ) (one : AreOfOne v) (left : HasLeft v w session) (among : Contains (members_in v leader) session)
-    (first next now : Option ℕ) (there : IfSome first (λ m. Contains (members_in v leader) m))
-    (least : IfSome first (λ m. (n : ℕ) → Contains (members_in v leader) n → m ≤ n)) (was : first ≡ Some (first_in v session))
-    (next_there : IfSome next (λ m. Contains (members_in v leader) m × (session < m)))
-    (next_least : IfSome next (λ m. (n : ℕ) → Contains (members_in v leader) n → session < n → m ≤ n))
-    (next_none : IfNone next ((n : ℕ) → Contains (members_in v leader) n → session < n → ⊥))
+module _ (v w : Members) (session leader : ℕ) (left : HasLeft v w session) (among : Contains (members_in v leader) session) (first next now : Option ℕ)
+    (first_is : IsNext (IsLed v leader) None first) (was : first ≡ Some (first_in v session)) (next_is : IsNext (IsLed v leader) (Some session) next)
     (itself : first ≡ Some session → now ≡ next) (another : (first ≡ Some session → ⊥) → now ≡ first) where
+  there : IfSome first (λ m. Contains (members_in v leader) m)
+  there = told_there v leader first first_is
+
+  least : IfSome first (λ m. (n : ℕ) → Contains (members_in v leader) n → m ≤ n)
+  least = told_least v leader first first_is
+
   -- the others are behind the session, where it was the first
   behind_it : first ≡ Some session → (n : ℕ) → Contains (members_in w leader) n → Contains (members_in v leader) n × (session < n)
   behind_it own n member =
@@ -519,7 +553,7 @@ module _ (v w : Deadlines) (session leader : ℕ) (one : AreOfOne v) (left : Has
   pub now_there : IfSome now (λ m. Contains (members_in w leader) m)
   now_there = if_told (λ m. Contains (members_in w leader) m) now (λ m is. elim own_or_not [
     | inl own ↦ (
-        let both = told_if (λ k. Contains (members_in v leader) k × (session < k)) next m (sym (itself own) ∙ is) next_there in
+        let both = told_if (λ k. Contains (members_in v leader) k × (session < k)) next m (sym (itself own) ∙ is) (next_there v leader session next next_is) in
         let behind = both.1 in
         (left leader m).1 ((λ same. omega (arith, same, behind)), both.0))
     | inr other ↦ (
@@ -531,7 +565,7 @@ module _ (v w : Deadlines) (session leader : ℕ) (one : AreOfOne v) (left : Has
   now_least = if_told (λ m. (n : ℕ) → Contains (members_in w leader) n → m ≤ n) now (λ m is n member. elim own_or_not [
     | inl own ↦ (
         let behind = behind_it own n member in
-        told_if (λ k. (n : ℕ) → Contains (members_in v leader) n → session < n → k ≤ n) next m (sym (itself own) ∙ is) next_least n behind.0 behind.1)
+        told_if (λ k. (n : ℕ) → Contains (members_in v leader) n → session < n → k ≤ n) next m (sym (itself own) ∙ is) (next_least v leader session next next_is) n behind.0 behind.1)
     | inr other ↦
         told_if (λ k. (n : ℕ) → Contains (members_in v leader) n → k ≤ n) first m (sym (another other) ∙ is) least n ((left leader n).0 member).1
   ])
@@ -540,19 +574,19 @@ module _ (v w : Deadlines) (session leader : ℕ) (one : AreOfOne v) (left : Has
   now_none = if_not_told ((n : ℕ) → Contains (members_in w leader) n → ⊥) now (λ is n member. elim own_or_not [
     | inl own ↦ (
         let behind = behind_it own n member in
-        not_told_if ((n : ℕ) → Contains (members_in v leader) n → session < n → ⊥) next (sym (itself own) ∙ is) next_none n behind.0 behind.1)
+        not_told_if ((n : ℕ) → Contains (members_in v leader) n → session < n → ⊥) next (sym (itself own) ∙ is) (next_none v leader session next next_is) n behind.0 behind.1)
     | inr other ↦ (let no : None ≡ Some (first_in v session) = sym is ∙ another other ∙ was in let never : ⊥ = cc in never)
   ])
 
 -- a session has left a leader's list; the list's first before, its first now, and the one of these that is told
-module _ (v w : Deadlines) (session leader : ℕ) (one : AreOfOne v) (one' : AreOfOne w) (left : HasLeft v w session)
+module _ (v w : Members) (session leader : ℕ) (left : HasLeft v w session)
     (among : Contains (members_in v leader) session) (first next result : Option ℕ) (was : first ≡ Some (first_in v session))
     (is : (n : ℕ) → Contains (members_in w leader) n → next ≡ Some (first_in w n)) (there : IfSome next (λ m. Contains (members_in w leader) m))
     (led : first ≡ Some session → result ≡ next) (other : (first ≡ Some session → ⊥) → result ≡ None) where
   pub left_next : (n : ℕ) → n ≢ session → first_in v n ≡ session → result ≡ Some (first_in w n)
   left_next n apart first_is =
-      let member = left_list v session leader one among n apart first_is in
-      let own : first_in v session ≡ session = one_first v one leader session n among member ∙ first_is in
+      let member = left_list v session leader among n apart first_is in
+      let own : first_in v session ≡ session = one_first v leader session n among member ∙ first_is in
       led (was ∙ ap (λ (k : ℕ). Some k) own) ∙ is n ((left leader n).1 (apart, member))
 
   -- whoever is told was led by it, and leads the others now
@@ -573,7 +607,7 @@ module _ (v w : Deadlines) (session leader : ℕ) (one : AreOfOne v) (one' : Are
   left_first = if_told (λ m. (m ≢ session) × (first_in v m ≡ session) × (first_in w m ≡ m)) result (λ m told.
       let of = told_next m told in
       let before = (left leader m).0 of.0 in
-      (before.0, one_first v one leader m session before.1 among ∙ of.1, of.2))
+      (before.0, one_first v leader m session before.1 among ∙ of.1, of.2))
 
   pub left_where : (i : Dependents) → AreLed v i → IfSome result (λ m. (place : ℕ) × Contains (standing_by v i place) m)
   left_where i led = if_told (λ m. (place : ℕ) × Contains (standing_by v i place) m) result (λ m told.

@@ -1,6 +1,5 @@
 pub mod Outcomes
 pub mod Listed
-pub mod Told
 pub mod Leading
 pub mod Founding
 pub mod Walking

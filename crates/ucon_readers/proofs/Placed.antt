@@ -3,13 +3,13 @@ use Rattle.std.proofs.Common.{◌≡◌, ℕ, zero, suc, List, [], ◌∷◌, �
 use Rattle.std.specs.Prelude.{Option, None, Some}
 use Rattle.std.specs.List.{flat_map}
 use Rattle.ucon_index.specs.Dependents.{Place, Dependents, UnhideGives, empty_place, hide, place_at, stands_in, has_session, is_there}
-use Rattle.ucon_wheel.specs.Deadlines.{Deadlines}
+use Rattle.ucon_lists.specs.Lists.{Members}
+use Rattle.ucon_lists.specs.Undoing.{CanUndoAll, IsKept as AreKept, Listed, UndoGives as ListsGive, Who, all_undone, who_in}
+use Rattle.ucon_lists.specs.declared.lists.Change.{Change}
 use Rattle.ucon_readers.specs.Listing.{AreLed, ChangesGive, IsKept, Listing, TakingOutGives, readers_in}
 use Rattle.ucon_readers.specs.Lists.{first_in, led_by}
 use Rattle.ucon_readers.specs.Readers.{IsKept as IsKeptSo, UndoGives, by_changes, by_replaced, first_of, readers_at}
-use Rattle.ucon_readers.specs.Timers.{UndoGives as ListsGive}
 use Rattle.ucon_readers.specs.declared.readers.Readers.{Readers}
-use Rattle.ucon_readers.proofs.Undoing.{kept_gives_wheel}
 
 -- ---- growth
 
@@ -33,28 +33,35 @@ is_there-grown session (place ∷ rest) n = ap (λ b. has_session session place.
 
 -- ---- undoing
 
+-- where there is nothing to undo, undoing gives the lists that are there
+pub kept_gives_lists : (l : Listed) → AreKept l → ListsGive l (who_in l.members)
+kept_gives_lists l kept = record {
+  can = subst (λ (cs : List Change). CanUndoAll cs (who_in l.members) (length l.members.rows)) (sym kept) tt;
+  back = ap (λ (cs : List Change). all_undone cs (who_in l.members)) kept;
+}
+
 -- whoever is there in one index is there in another
-pub led_there : (v : Deadlines) (i j : Dependents) → AreLed v i → ((l : ℕ) → is_there l j.places ≡ is_there l i.places) → AreLed v j
+pub led_there : (v : Members) (i j : Dependents) → AreLed v i → ((l : ℕ) → is_there l j.places ≡ is_there l i.places) → AreLed v j
 led_there v i j led there = record {
   there = λ l n member. (let was = led.there l n member in (there l ∙ was.0, was.1));
   alone = λ l is unjoined. led.alone l (sym (there l) ∙ is) unjoined;
 }
 
 -- where an index is as it was, or has one more leader, undoing gives what stood there before
-pub base_gives : (s s' : Listing) (base : Dependents) → IsKept s → ListsGive s'.lists s.lists.wheel → TakingOutGives s'.added s'.index base → s'.index.hidden ≡ []
+pub base_gives : (s s' : Listing) (base : Dependents) → IsKept s → ListsGive s'.lists (who_in s.lists.members) → TakingOutGives s'.added s'.index base → s'.index.hidden ≡ []
     → base.hidden ≡ [] → ((place : ℕ) → stands_in base place ≡ stands_in s.index place) → ((l : ℕ) → is_there l base.places ≡ is_there l s.index.places)
-    → ChangesGive s' (readers_in s) (first_in s.lists.wheel)
+    → ChangesGive s' (readers_in s) (first_in s.lists.members)
 base_gives s s' base kept lists taking_out none_hidden base_hidden stands there = record {
-  before = s.lists.wheel;
+  before = s.lists.members;
   unhidden = s'.index;
   base = base;
   lists = lists;
   unhiding = subst (λ hidden. UnhideGives (length hidden) s'.index s'.index) (sym none_hidden) refl;
   taking_out = taking_out;
   holds = record {
-    stands = λ place. ap (flat_map (led_by s.lists.wheel)) (stands place);
+    stands = λ place. ap (flat_map (led_by s.lists.members)) (stands place);
     firsts = λ n. refl;
-    led = led_there s.lists.wheel s.index base kept.led there;
+    led = led_there s.lists.members s.index base kept.led there;
     nobody_hidden = base_hidden;
   };
 }
@@ -63,28 +70,28 @@ none_out : (added : Option ℕ) (index base : Dependents) → added ≡ None →
 none_out added index base none same = subst (λ (o : Option ℕ). TakingOutGives o index base) (sym none) same
 
 -- so where nobody was added
-pub still_gives : (s s' : Listing) → IsKept s → ListsGive s'.lists s.lists.wheel → s'.added ≡ s.added → s'.index.hidden ≡ s.index.hidden
+pub still_gives : (s s' : Listing) → IsKept s → ListsGive s'.lists (who_in s.lists.members) → s'.added ≡ s.added → s'.index.hidden ≡ s.index.hidden
     → ((place : ℕ) → stands_in s'.index place ≡ stands_in s.index place) → ((l : ℕ) → is_there l s'.index.places ≡ is_there l s.index.places)
-    → ChangesGive s' (readers_in s) (first_in s.lists.wheel)
+    → ChangesGive s' (readers_in s) (first_in s.lists.members)
 still_gives s s' kept lists added hidden stands there =
     base_gives s s' s'.index kept lists (none_out s'.added s'.index s'.index (added ∙ kept.none_added) refl) (hidden ∙ kept.nobody_hidden) (hidden ∙ kept.nobody_hidden) stands there
 
 -- where there is nothing to undo, undoing gives what is there
-pub rest_gives : (s : Listing) → IsKept s → ChangesGive s (readers_in s) (first_in s.lists.wheel)
-rest_gives s kept = still_gives s s kept (kept_gives_wheel s.lists kept.lists_kept) refl refl (λ place. refl) (λ l. refl)
+pub rest_gives : (s : Listing) → IsKept s → ChangesGive s (readers_in s) (first_in s.lists.members)
+rest_gives s kept = still_gives s s kept (kept_gives_lists s.lists kept.lists_kept) refl refl (λ place. refl) (λ l. refl)
 
 pub kept_gives : (r : Readers) → IsKeptSo r → UndoGives r (readers_at r) (first_of r)
 kept_gives r kept = by_changes kept.none_replaced (rest_gives r.standing kept.at_rest)
 
 -- where a leader is hidden, undoing gives what it gave before
 pub hidden_gives : (s s' : Listing) (leader : ℕ) (standing : ℕ → List ℕ) (first : ℕ → ℕ) → s'.added ≡ s.added → s'.index ≡ hide s.index leader
-    → UnhideGives 1 s'.index s.index → ((before : Deadlines) → ListsGive s.lists before → ListsGive s'.lists before) → ChangesGive s standing first
+    → UnhideGives 1 s'.index s.index → ((before : Who) → ListsGive s.lists before → ListsGive s'.lists before) → ChangesGive s standing first
     → ChangesGive s' standing first
 hidden_gives s s' leader standing first added hidden back lists gives = record {
   before = gives.before;
   unhidden = gives.unhidden;
   base = gives.base;
-  lists = lists gives.before gives.lists;
+  lists = lists (who_in gives.before) gives.lists;
   unhiding = subst (λ (hs : List ℕ). UnhideGives (length hs) s'.index gives.unhidden) (sym (ap (λ (v : Dependents). v.hidden) hidden))
       (back.0, subst (λ (v : Dependents). UnhideGives (length s.index.hidden) v gives.unhidden) (sym back.1) gives.unhiding);
   taking_out = subst (λ added. TakingOutGives added gives.unhidden gives.base) (sym added) gives.taking_out;
@@ -93,12 +100,12 @@ hidden_gives s s' leader standing first added hidden back lists gives = record {
 
 -- so where none is
 pub listed_gives : (s s' : Listing) (standing : ℕ → List ℕ) (first : ℕ → ℕ) → s'.added ≡ s.added → s'.index ≡ s.index
-    → ((before : Deadlines) → ListsGive s.lists before → ListsGive s'.lists before) → ChangesGive s standing first → ChangesGive s' standing first
+    → ((before : Who) → ListsGive s.lists before → ListsGive s'.lists before) → ChangesGive s standing first → ChangesGive s' standing first
 listed_gives s s' standing first added index lists gives = record {
   before = gives.before;
   unhidden = gives.unhidden;
   base = gives.base;
-  lists = lists gives.before gives.lists;
+  lists = lists (who_in gives.before) gives.lists;
   unhiding = subst (λ (v : Dependents). UnhideGives (length v.hidden) v gives.unhidden) (sym index) gives.unhiding;
   taking_out = subst (λ added. TakingOutGives added gives.unhidden gives.base) (sym added) gives.taking_out;
   holds = gives.holds;

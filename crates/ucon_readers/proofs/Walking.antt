@@ -4,26 +4,26 @@ use Rattle.std.specs.List.{All, Contains, flat_map}
 use Rattle.std.proofs.lemmas.List.Elements.{All-contains, All-contains_itself, All-weaker, Contains-append_left, Contains-append_right, Contains-append_cases}
 use Rattle.ucon_index.specs.Dependents.{Dependents, stands_in}
 use Rattle.ucon_index.specs.Walk.{IsWalked}
-use Rattle.ucon_wheel.specs.Deadlines.{Deadlines}
+use Rattle.ucon_lists.specs.Lists.{Members}
 use Rattle.ucon_readers.specs.Listing.{standing_by}
 use Rattle.ucon_readers.specs.Lists.{first_in, led_by}
 use Rattle.ucon_readers.proofs.Listed.{flat_map_has, in_flat_map, only_in}
 
 -- session n is the first of one of these leaders' lists
-abbrev pub IsFirstOf : Deadlines → List ℕ → ℕ → Type 0
+abbrev pub IsFirstOf : Members → List ℕ → ℕ → Type 0
 IsFirstOf lists leaders n = Contains (flat_map (led_by lists) leaders) n × (first_in lists n ≡ n)
 
 -- the firsts of those whom the walk has met are in the work, beside those who were
-pub record IsPutting (lists : Deadlines) (v : Dependents) (place : ℕ) (at : Option ℕ) (before now : List ℕ) : Type 0 where
+pub record IsPutting (lists : Members) (v : Dependents) (place : ℕ) (at : Option ℕ) (before now : List ℕ) : Type 0 where
   pub met : List ℕ
   pub way : IsWalked v place met at
   pub members : (n : ℕ) → Contains now n ↔ (IsFirstOf lists met n ⊎ Contains before n)
 
-pub nobody_met : (lists : Deadlines) (before : List ℕ) (n : ℕ) → Contains before n ↔ (IsFirstOf lists [] n ⊎ Contains before n)
+pub nobody_met : (lists : Members) (before : List ℕ) (n : ℕ) → Contains before n ↔ (IsFirstOf lists [] n ⊎ Contains before n)
 nobody_met lists before n = (λ has. inr has, λ either. elim either [ inl none ↦ absurd (omega (arith, none.0.1)) | inr has ↦ has ])
 
 -- one more is met
-pub one_met : (lists : Deadlines) (met before old new : List ℕ) (leader n : ℕ) → Contains old n ↔ (IsFirstOf lists met n ⊎ Contains before n)
+pub one_met : (lists : Members) (met before old new : List ℕ) (leader n : ℕ) → Contains old n ↔ (IsFirstOf lists met n ⊎ Contains before n)
     → Contains new n ↔ ((Contains (led_by lists leader) n × (first_in lists n ≡ n)) ⊎ Contains old n)
     → Contains new n ↔ (IsFirstOf lists (met ++ leader ∷ []) n ⊎ Contains before n)
 one_met lists met before old new leader n so_far put = (
@@ -48,7 +48,7 @@ one_met lists met before old new leader n so_far put = (
 )
 
 -- whoever is in a list that stands at a place is below the limit
-pub members_below : (lists : Deadlines) (v : Dependents) (place leader limit : ℕ) → All (λ n. n < limit) (standing_by lists v place)
+pub members_below : (lists : Members) (v : Dependents) (place leader limit : ℕ) → All (λ n. n < limit) (standing_by lists v place)
     → Contains (stands_in v place) leader → All (λ n. n < limit) (led_by lists leader)
 members_below lists v place leader limit below stands =
     All-weaker (Contains (led_by lists leader)) (λ n. n < limit)

@@ -2,27 +2,26 @@
 use Rattle.std.specs.Prelude.{◌≡◌, ◌↔◌, ◌⊎◌, ℕ, false, true, List, [], length, Option, Some, None}
 use Rattle.std.specs.List.{Contains, flat_map}
 use Rattle.ucon_index.specs.Dependents.{Dependents, UnhideGives, is_there, remove, stands_in}
-use Rattle.ucon_wheel.specs.Deadlines.{Deadlines}
-use Rattle.ucon_readers.specs.Lists.{first_in, is_joined, leader_in, led_by, members_in}
-use Rattle.ucon_readers.specs.Timers.{IsKept as AreKept, UndoGives as ListsGive}
-use Rattle.ucon_readers.specs.declared.timers.Timers.{Timers}
+use Rattle.ucon_lists.specs.Lists.{Members, is_joined, leader_in}
+use Rattle.ucon_lists.specs.Undoing.{IsKept as AreKept, Listed, UndoGives as ListsGive, who_in}
+use Rattle.ucon_readers.specs.Lists.{first_in, led_by, members_in}
 
 -- the lists, the leaders of which stand at the places, and the leader that was added
 pub record Listing : Type 0 where
-  pub lists : Timers
+  pub lists : Listed
   pub index : Dependents
   pub added : Option ℕ
 
 -- who stands at a place: who is in the lists of the leaders that stand there
-abbrev pub standing_by : Deadlines → Dependents → ℕ → List ℕ
+abbrev pub standing_by : Members → Dependents → ℕ → List ℕ
 standing_by lists index place = flat_map (led_by lists) (stands_in index place)
 
 abbrev pub readers_in : Listing → ℕ → List ℕ
-readers_in s place = standing_by s.lists.wheel s.index place
+readers_in s place = standing_by s.lists.members s.index place
 
 -- each list that has a member was joined, and its leader stands somewhere; and a leader that stands somewhere, and whose list wasn't joined,
 -- is in no other
-pub record AreLed (lists : Deadlines) (index : Dependents) : Type 0 where
+pub record AreLed (lists : Members) (index : Dependents) : Type 0 where
   pub there : (leader n : ℕ) → Contains (members_in lists leader) n → (is_there leader index.places ≡ true) × (is_joined lists leader ≡ true)
   pub alone : (leader : ℕ) → is_there leader index.places ≡ true → is_joined lists leader ≡ false → leader_in lists leader ≡ None
 
@@ -46,7 +45,7 @@ TakingOutGives None v base = v ≡ base
 TakingOutGives (Some n) v base = (is_there n v.places ≡ true) × (remove v n ≡ base)
 
 -- these stand at each place, and have these firsts, and nobody is hidden
-pub record HoldsThose (lists : Deadlines) (index : Dependents) (standing : ℕ → List ℕ) (first : ℕ → ℕ) : Type 0 where
+pub record HoldsThose (lists : Members) (index : Dependents) (standing : ℕ → List ℕ) (first : ℕ → ℕ) : Type 0 where
   pub stands : (place : ℕ) → standing_by lists index place ≡ standing place
   pub firsts : (n : ℕ) → first_in lists n ≡ first n
   pub led : AreLed lists index
@@ -54,17 +53,17 @@ pub record HoldsThose (lists : Deadlines) (index : Dependents) (standing : ℕ �
 
 -- undoing each change of the lists and of the index gives some that hold these
 pub record ChangesGive (s : Listing) (standing : ℕ → List ℕ) (first : ℕ → ℕ) : Type 0 where
-  pub before : Deadlines
+  pub before : Members
   pub unhidden : Dependents
   pub base : Dependents
-  pub lists : ListsGive s.lists before
+  pub lists : ListsGive s.lists (who_in before)
   pub unhiding : UnhideGives (length s.index.hidden) s.index unhidden
   pub taking_out : TakingOutGives s.added unhidden base
   pub holds : HoldsThose before base standing first
 
 -- there is nothing to undo
 pub record IsKept (s : Listing) : Type 0 where
-  pub led : AreLed s.lists.wheel s.index
+  pub led : AreLed s.lists.members s.index
   pub lists_kept : AreKept s.lists
   pub nobody_hidden : s.index.hidden ≡ []
   pub none_added : s.added ≡ None

@@ -10,7 +10,7 @@ readers_at r place = readers_in r.standing place
 
 -- the first of the list in which session n is, who is judged for it; n itself where it is in none
 abbrev pub first_of : Readers → ℕ → ℕ
-first_of r n = first_in r.standing.lists.wheel n
+first_of r n = first_in r.standing.lists.members n
 
 -- ---- undoing
 
@@ -18,7 +18,7 @@ first_of r n = first_in r.standing.lists.wheel n
 pub data UndoGives (r : Readers) (standing : ℕ → List ℕ) (first : ℕ → ℕ) : Type 0 where
   by_changes : r.replaced ≡ None → ChangesGive r.standing standing first → UndoGives r standing first
   by_replaced : (before : Listing) → r.replaced ≡ Some before → IsAtRest before
-      → HoldsThose before.lists.wheel before.index standing first → UndoGives r standing first
+      → HoldsThose before.lists.members before.index standing first → UndoGives r standing first
 
 -- there is nothing to undo
 pub record IsKept (r : Readers) : Type 0 where

@@ -5,7 +5,6 @@
 mod kind;
 mod laws;
 mod limits;
-mod lists;
 mod readers;
 mod standing;
 mod timers;
@@ -13,10 +12,8 @@ mod timers;
 pub use kind::Kind;
 pub use laws::undoing_gives_what_is_kept;
 pub use limits::put_limits;
-// A crate can name `Readers` and `Timers` in a contract only if the types of their fields are exported.
-#[doc(hidden)]
-pub use lists::Lists;
 pub use readers::Readers;
+// A crate can name `Readers` and `Timers` in a contract only if the types of their fields are exported.
 #[doc(hidden)]
 pub use standing::Standing;
 #[doc(hidden)]

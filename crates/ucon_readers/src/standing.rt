@@ -4,15 +4,16 @@ ghost use Rattle.std.specs.Prelude.{◌≡◌, ◌≢◌, ◌↔◌, ◌⊎◌, 
 ghost use Rattle.std.specs.List.{All, Contains};
 ghost use Rattle.ucon_links.specs.Lists.{IsDistinct};
 ghost use Rattle.ucon_index.specs.Dependents.{Dependents, UnhideGives, hide, is_there, others, stands_in};
+ghost use Rattle.ucon_lists.specs.Lists.{is_joined, leader_in};
 ghost use Rattle.ucon_readers.specs.Listing.{AreLed, TakingOutGives, standing_by};
 ghost use Rattle.ucon_readers.specs.Joining.{Joins, StandsAlone};
-ghost use Rattle.ucon_readers.specs.Lists.{AreOfOne, first_in, is_joined, leader_in, led_by};
+ghost use Rattle.ucon_readers.specs.Lists.{first_in, led_by};
 
-use crate::lists::Lists;
 use std::alloc::{AllocError, Global};
 use std::marker::Model;
 use ucon_base::NoMemory;
 use ucon_index::{Index, walks_meet_who_stands};
+use ucon_lists::Lists;
 use ucon_pend::Pend;
 
 /// Sessions in lists, of which all members read the same, and at each place the leaders of the lists that read it. What a draft changes
@@ -33,7 +34,7 @@ impl Model for Standing {
 
     ghost view = { λ s. record { lists = s.lists; index = s.index; added = s.added } };
 
-    ghost invariant = { λ s. AreLed s.lists.wheel s.index };
+    ghost invariant = { λ s. AreLed s.lists.members s.index };
 }
 
 impl Standing {
@@ -55,7 +56,7 @@ impl Standing {
 
     /// The first of the list in which a session is. The session itself where it is in none.
     pub(crate) fn first(&self, session: u32) -> u32
-        ensures { result ≡ first_in self.now.lists.wheel session }
+        ensures { result ≡ first_in self.now.lists.members session }
     {
         let Some(leader) = self.lists.leader(session) else {
             return session;
@@ -65,7 +66,7 @@ impl Standing {
 
     /// The first of a leader's list. None where nobody is in it.
     pub(crate) fn first_led(&self, leader: u32) -> Option<u32>
-        ensures itself { IfSome result (λ m. first_in self.now.lists.wheel m ≡ m) }
+        ensures itself { IfSome result (λ m. first_in self.now.lists.members m ≡ m) }
         ensures stands { IfSome result (StandsSomewhere (readers_in self.now)) }
     {
         if self.index.is_there(leader) {
@@ -82,8 +83,8 @@ impl Standing {
         requires distinct { IsDistinct places.now }
         requires nowhere { StandsNowhere (readers_in self.old) session }
         ensures comes { OnOk result (ComesTo (readers_in self.old) (readers_in self.new) session places.now) }
-        ensures alone { OnOk result (StandsAlone (first_in self.old.lists.wheel) (first_in self.new.lists.wheel) session) }
-        ensures undo { ChangesGive self.new (readers_in self.old) (first_in self.old.lists.wheel) }
+        ensures alone { OnOk result (StandsAlone (first_in self.old.lists.members) (first_in self.new.lists.members) session) }
+        ensures undo { ChangesGive self.new (readers_in self.old) (first_in self.old.lists.members) }
     {
         if places.is_empty() {
             return Ok(());
@@ -107,9 +108,9 @@ impl Standing {
         requires nowhere { StandsNowhere (readers_in self.old) session }
         ensures comes { OnOk result ((n place : ℕ) → Contains (readers_in self.new place) n
             ↔ (((n ≡ session) × Contains (readers_in self.old place) other) ⊎ Contains (readers_in self.old place) n)) }
-        ensures joins { OnOk result (first_in self.old.lists.wheel other ≡ other → other < session
-            → Joins (first_in self.old.lists.wheel) (first_in self.new.lists.wheel) session other) }
-        ensures undo { ChangesGive self.new (readers_in self.old) (first_in self.old.lists.wheel) }
+        ensures joins { OnOk result (first_in self.old.lists.members other ≡ other → other < session
+            → Joins (first_in self.old.lists.members) (first_in self.new.lists.members) session other) }
+        ensures undo { ChangesGive self.new (readers_in self.old) (first_in self.old.lists.members) }
     {
         let leader = self.lists.leader(other).unwrap_or(other);
         self.lists.join(leader, session)
@@ -119,14 +120,14 @@ impl Standing {
     pub(crate) fn hide(&mut self, session: u32) -> Result<Option<u32>, NoMemory>
         ensures read { OnOk result ((n place : ℕ) → Contains (readers_in self.new place) n
             ↔ ((n ≢ session) × Contains (readers_in self.old place) n)) }
-        ensures same { OnOk result ((n : ℕ) → n ≢ session → first_in self.old.lists.wheel n ≢ session
-            → first_in self.new.lists.wheel n ≡ first_in self.old.lists.wheel n) }
-        ensures next { IfOk result (λ next. (n : ℕ) → n ≢ session → first_in self.old.lists.wheel n ≡ session
-            → next ≡ Some (first_in self.new.lists.wheel n)) }
+        ensures same { OnOk result ((n : ℕ) → n ≢ session → first_in self.old.lists.members n ≢ session
+            → first_in self.new.lists.members n ≡ first_in self.old.lists.members n) }
+        ensures next { IfOk result (λ next. (n : ℕ) → n ≢ session → first_in self.old.lists.members n ≡ session
+            → next ≡ Some (first_in self.new.lists.members n)) }
         ensures first { IfOk result (λ next. IfSome next (λ m.
-            (m ≢ session) × (first_in self.old.lists.wheel m ≡ session) × (first_in self.new.lists.wheel m ≡ m))) }
+            (m ≢ session) × (first_in self.old.lists.members m ≡ session) × (first_in self.new.lists.members m ≡ m))) }
         ensures stands { IfOk result (λ next. IfSome next (λ m. (place : ℕ) × Contains (readers_in self.old place) m)) }
-        ensures low { OnOk result ((n : ℕ) → first_in self.new.lists.wheel n ≤ n) }
+        ensures low { OnOk result ((n : ℕ) → first_in self.new.lists.members n ≤ n) }
         ensures undo { (standing : ℕ → List ℕ) (first : ℕ → ℕ) → ChangesGive self.old standing first → ChangesGive self.new standing first }
     {
         let Some(leader) = self.lists.leader(session) else {
@@ -145,7 +146,7 @@ impl Standing {
         requires { All (λ n. n < work.old.limit) (readers_in self.now place) }
         ensures limit { work.new.limit ≡ work.old.limit }
         ensures members { (n : ℕ) → Contains work.new.members n
-            ↔ ((Contains (readers_in self.now place) n × (first_in self.now.lists.wheel n ≡ n)) ⊎ Contains work.old.members n) }
+            ↔ ((Contains (readers_in self.now place) n × (first_in self.now.lists.members n ≡ n)) ⊎ Contains work.old.members n) }
     {
         put_firsts(&self.lists, &self.index, place, work);
     }
@@ -156,7 +157,7 @@ impl Standing {
         ensures read { (standing : ℕ → List ℕ) (first : ℕ → ℕ) → ChangesGive self.old standing first
             → (place : ℕ) → readers_in self.new place ≡ standing place }
         ensures firsts { (standing : ℕ → List ℕ) (first : ℕ → ℕ) → ChangesGive self.old standing first
-            → (n : ℕ) → first_in self.new.lists.wheel n ≡ first n }
+            → (n : ℕ) → first_in self.new.lists.members n ≡ first n }
         ensures kept { IsKept self.new }
     {
         self.lists.undo();
@@ -168,7 +169,7 @@ impl Standing {
     /// From here on undoing gives what is there now.
     pub(crate) fn keep(&mut self)
         ensures read { (n place : ℕ) → Contains (readers_in self.new place) n ↔ Contains (readers_in self.old place) n }
-        ensures firsts { (n : ℕ) → first_in self.new.lists.wheel n ≡ first_in self.old.lists.wheel n }
+        ensures firsts { (n : ℕ) → first_in self.new.lists.members n ≡ first_in self.old.lists.members n }
         ensures kept { IsKept self.new }
     {
         self.index.forget_hidden();
@@ -207,8 +208,8 @@ fn make_room(index: &mut Index, leader: u32, places: &[u32]) -> Result<(), NoMem
 
 /// Takes a session that is in no list out of the index, if it stands there alone.
 fn hide_alone(lists: &Lists, index: &mut Index, session: u32)
-    ensures stays { is_joined lists.now.wheel session ≡ true → index.new ≡ index.old }
-    ensures stands { is_joined lists.now.wheel session ≡ false → (l place : ℕ)
+    ensures stays { is_joined lists.now.members session ≡ true → index.new ≡ index.old }
+    ensures stands { is_joined lists.now.members session ≡ false → (l place : ℕ)
         → Contains (stands_in index.new place) l ↔ ((l ≢ session) × Contains (stands_in index.old place) l) }
     ensures hidden { (index.new ≡ index.old) ⊎ ((index.new ≡ hide index.old session) × UnhideGives 1 index.new index.old) }
 {
@@ -261,11 +262,11 @@ fn take_out(index: &mut Index, added: Option<u32>)
 
 /// Puts the firsts of the lists whose leaders stand at a place into the work.
 fn put_firsts(lists: &Lists, index: &Index, place: u32, work: &mut Pend)
-    requires below { All (λ n. n < work.old.limit) (standing_by lists.now.wheel index.now place) }
-    requires led { AreLed lists.now.wheel index.now }
+    requires below { All (λ n. n < work.old.limit) (standing_by lists.now.members index.now place) }
+    requires led { AreLed lists.now.members index.now }
     ensures limit { work.new.limit ≡ work.old.limit }
     ensures members { (n : ℕ) → Contains work.new.members n
-        ↔ ((Contains (standing_by lists.now.wheel index.now place) n × (first_in lists.now.wheel n ≡ n)) ⊎ Contains work.old.members n) }
+        ↔ ((Contains (standing_by lists.now.members index.now place) n × (first_in lists.now.members n ≡ n)) ⊎ Contains work.old.members n) }
 {
     walks_meet_who_stands();
     if place >= index.place_count() {
@@ -280,11 +281,11 @@ fn put_firsts(lists: &Lists, index: &Index, place: u32, work: &mut Pend)
 
 /// Puts the first of a leader's list into the work.
 fn put_first(lists: &Lists, leader: u32, work: &mut Pend)
-    requires below { All (λ n. n < work.old.limit) (led_by lists.now.wheel leader) }
-    requires alone { is_joined lists.now.wheel leader ≡ false → leader_in lists.now.wheel leader ≡ None }
+    requires below { All (λ n. n < work.old.limit) (led_by lists.now.members leader) }
+    requires alone { is_joined lists.now.members leader ≡ false → leader_in lists.now.members leader ≡ None }
     ensures limit { work.new.limit ≡ work.old.limit }
     ensures members { (n : ℕ) → Contains work.new.members n
-        ↔ ((Contains (led_by lists.now.wheel leader) n × (first_in lists.now.wheel n ≡ n)) ⊎ Contains work.old.members n) }
+        ↔ ((Contains (led_by lists.now.members leader) n × (first_in lists.now.members n ≡ n)) ⊎ Contains work.old.members n) }
 {
     if let Some(first) = first_in_list(lists, leader) {
         work.put(first);
@@ -293,10 +294,9 @@ fn put_first(lists: &Lists, leader: u32, work: &mut Pend)
 
 /// The first of a leader's list. None where nobody is in it.
 fn first_in_list(lists: &Lists, leader: u32) -> Option<u32>
-    ensures there { IfSome result (λ m. Contains (led_by lists.now.wheel leader) m) }
-    ensures least { IfSome result (λ m. (n : ℕ) → Contains (led_by lists.now.wheel leader) n → m ≤ n) }
-    ensures none { IfNone result ((n : ℕ) → Contains (led_by lists.now.wheel leader) n → ⊥) }
-    ensures of_one { AreOfOne lists.now.wheel }
+    ensures there { IfSome result (λ m. Contains (led_by lists.now.members leader) m) }
+    ensures least { IfSome result (λ m. (n : ℕ) → Contains (led_by lists.now.members leader) n → m ≤ n) }
+    ensures none { IfNone result ((n : ℕ) → Contains (led_by lists.now.members leader) n → ⊥) }
 {
     if lists.is_joined(leader) {
         lists.first(leader)

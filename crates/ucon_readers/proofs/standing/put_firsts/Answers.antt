@@ -15,7 +15,7 @@ loop-at-init c = record {
   way = record {
     met = [];
     way = c.walks_meet_who_stands.ensures.begins c.args.index.now c.args.place c.first-at.result c.first-at.ensures.first;
-    members = nobody_met c.args.lists.now.wheel c.args.work.now.members;
+    members = nobody_met c.args.lists.now.members c.args.work.now.members;
   };
   limit = refl;
 }
@@ -31,7 +31,7 @@ owner-requires c =
 pub put_first-requires-clause-below : goal.put_first-requires-clause-below
 put_first-requires-clause-below c =
     let v = c.args.index.now in
-    let lists = c.args.lists.now.wheel in
+    let lists = c.args.lists.now.members in
     let way = c.loop-at.invariant.way in
     let within : c.args.place < _ = subst (λ n. c.args.place < n) c.place_count.ensures c.if-place-place_count.false in
     let met = c.walks_meet_who_stands.ensures.meets v c.args.place way.met c.in-Some.node c.first-at.ensures.distinct within (subst (IsWalked v c.args.place way.met) c.in-Some.is way.way) in
@@ -69,7 +69,7 @@ loop-at-smaller c =
 pub loop-at-preserved : goal.loop-at-preserved
 loop-at-preserved c =
     let v = c.args.index.now in
-    let lists = c.args.lists.now.wheel in
+    let lists = c.args.lists.now.members in
     let way = c.loop-at.invariant.way in
     let within : c.args.place < _ = subst (λ n. c.args.place < n) c.place_count.ensures c.if-place-place_count.false in
     let met = c.walks_meet_who_stands.ensures.meets v c.args.place way.met c.in-Some.node c.first-at.ensures.distinct within (subst (IsWalked v c.args.place way.met) c.in-Some.is way.way) in
@@ -88,7 +88,7 @@ loop-at-preserved c =
 pub returns-clause-members : goal.returns-clause-members
 returns-clause-members c =
     let v = c.args.index.now in
-    let lists = c.args.lists.now.wheel in
+    let lists = c.args.lists.now.members in
     let way = c.loop-at.invariant.way in
     let none : c.loop-at.at ≡ None = c.in_default.is in
     let ended = c.walks_meet_who_stands.ensures.ends v c.args.place way.met (subst (IsWalked v c.args.place way.met) none way.way) in

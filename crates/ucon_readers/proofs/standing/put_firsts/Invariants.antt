@@ -6,7 +6,7 @@ use Rattle.ucon_readers.proofs.standing.put_firsts.Given as goal
 
 abbrev pub invariant-loop-at : goal.invariant-loop-at
 invariant-loop-at l = record {
-  way : IsPutting l.lists.wheel l.index l.place l.at l.initial.work.members l.work.members;
+  way : IsPutting l.lists.members l.index l.place l.at l.initial.work.members l.work.members;
   limit : l.work.limit ≡ l.initial.work.limit;
 }
 

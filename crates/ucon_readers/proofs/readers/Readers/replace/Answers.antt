@@ -9,7 +9,7 @@ returns-clause-undo c =
     let s : Listing = c.args.self.now.standing in
     let same : c.replace-before.result ≡ s = search in
     by_replaced c.replace-before.result refl (subst IsKept (sym same) c.requires.kept.at_rest)
-    (subst (λ (x : Listing). HoldsThose x.lists.wheel x.index (readers_in s) (first_in s.lists.wheel)) (sym same) (record {
+    (subst (λ (x : Listing). HoldsThose x.lists.members x.index (readers_in s) (first_in s.lists.members)) (sym same) (record {
       stands = λ place. refl;
       firsts = λ n. refl;
       led = c.requires.kept.at_rest.led;

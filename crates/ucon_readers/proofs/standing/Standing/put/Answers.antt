@@ -8,5 +8,5 @@ pub returns-clause-members : goal.returns-clause-members
 returns-clause-members c =
     subst
     (λ (s : Listing). (n : ℕ) → Contains c.put_firsts.new.work.members n
-    ↔ ((Contains (readers_in s c.args.place) n × (first_in s.lists.wheel n ≡ n)) ⊎ Contains c.args.work.now.members n))
+    ↔ ((Contains (readers_in s c.args.place) n × (first_in s.lists.members n ≡ n)) ⊎ Contains c.args.work.now.members n))
     c.self.view_is c.put_firsts.ensures.members
