@@ -3,6 +3,7 @@
 ghost use Rattle.std.specs.Prelude.{◌≡◌, IfOk};
 ghost use Rattle.std.specs.Int.{int_max, int_min};
 ghost use Rattle.ucon_base.specs.declared.value.Kind.TheVariants.{Int as IntKind};
+ghost use Rattle.ucon_base.specs.Numbers.{clamp};
 ghost use Rattle.ucon_base.specs.Arithmetic.{sum_of, difference_of, product_of, size_of, fitted};
 
 use crate::worth::size_of_set;
@@ -74,7 +75,24 @@ fn clamped_value(low: Int, high: Int, v: Value) -> Value
     ensures { result ≡ fitted (IntKind low high) v }
 {
     match &v {
-        Value::Int(n) => Value::Int(later(low, earlier(*n, high))),
+        Value::Int(n) => Value::Int(clamped_to(low, high, *n)),
         _ => v,
+    }
+}
+
+/// The integer clamped to a range.
+fn clamped_to(low: Int, high: Int, n: Int) -> Int
+    ensures { result ≡ clamp low high n }
+{
+    later(low, earlier(n, high))
+}
+
+/// The integer as an attribute of a kind keeps it.
+pub fn fitted_integer(kind: &Kind, n: Int) -> Int
+    ensures { Value.Int result ≡ fitted kind.now (Value.Int n) }
+{
+    match kind {
+        Kind::Int { low, high } => clamped_to(*low, *high, n),
+        _ => n,
     }
 }

@@ -9,7 +9,8 @@ ghost use Rattle.ucon_eval.specs.Worth.{worth_value};
 ghost use Rattle.ucon_asked.specs.Sums.{makes_no_set, formula_makes_no_set, test_makes_no_set};
 
 use crate::arithmetic::later;
-use crate::worth::Worth;
+use crate::at_hand::value_at_hand;
+use crate::worth::{Worth, values_compare};
 use ucon_base::Int;
 use ucon_model::{Expr, Form, Formula, Obligation, Op, Ref, Test, View};
 
@@ -74,9 +75,26 @@ fn holds<V: View>(view: &V, session: u32, f: &Formula) -> bool
     }
 }
 
+/// Whether what two expressions are worth compares so. Literals and places, as most are, are compared where they lie.
+#[inline(always)]
+fn compare<V: View>(view: &V, session: u32, op: Op, a: &Expr, b: &Expr) -> bool
+    requires there { IsSome ((V.readings view.now).row session) }
+    requires no_set { makes_no_set ((V.readings view.now).at (row_at (V.readings view.now) session)) (expr_of a.now) ≡ true }
+    requires no_set_either { makes_no_set ((V.readings view.now).at (row_at (V.readings view.now) session)) (expr_of b.now) ≡ true }
+    ensures { result ≡ compares op (value_of ((V.readings view.now).at (row_at (V.readings view.now) session)) (expr_of a.now))
+        (value_of ((V.readings view.now).at (row_at (V.readings view.now) session)) (expr_of b.now)) }
+{
+    if let Some(left) = value_at_hand(view, session, a) {
+        if let Some(right) = value_at_hand(view, session, b) {
+            return values_compare(op, left, right);
+        }
+    }
+    worths_compare(view, session, op, a, b)
+}
+
 /// Whether what two expressions are worth compares so.
 #[inline(never)]
-fn compare<V: View>(view: &V, session: u32, op: Op, a: &Expr, b: &Expr) -> bool
+fn worths_compare<V: View>(view: &V, session: u32, op: Op, a: &Expr, b: &Expr) -> bool
     requires there { IsSome ((V.readings view.now).row session) }
     requires no_set { makes_no_set ((V.readings view.now).at (row_at (V.readings view.now) session)) (expr_of a.now) ≡ true }
     requires no_set_either { makes_no_set ((V.readings view.now).at (row_at (V.readings view.now) session)) (expr_of b.now) ≡ true }
@@ -163,8 +181,7 @@ pub fn is_true<V: View>(view: &V, session: u32, test: &Test) -> bool
     ensures { result ≡ truth (V.readings view.now) (row_at (V.readings view.now) session) (test_of test.now) }
 {
     match test {
-        Test::A(f) => holds(view, session, f),
+        Test::A(f) | Test::C(f) => holds(view, session, f),
         Test::B(o) => is_done(view, session, o),
-        Test::C(f) => holds(view, session, f),
     }
 }

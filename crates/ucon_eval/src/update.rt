@@ -6,7 +6,8 @@ ghost use Rattle.ucon_model.specs.Updates.{fitted_to};
 ghost use Rattle.ucon_model.specs.Views.{expr_of, update_of};
 ghost use Rattle.ucon_asked.specs.Asked.{row_at, result_read, update_at, result_at};
 
-use crate::arithmetic::{difference, fitted, product, size, sum};
+use crate::arithmetic::{difference, fitted, fitted_integer, product, size, sum};
+use crate::at_hand::integer;
 use std::alloc::Global;
 use ucon_base::{Int, NoMemory, Value};
 use ucon_model::{AttrDecl, Expr, Update, View};
@@ -47,14 +48,42 @@ fn fitted_to(attr: Option<&AttrDecl>, v: Value) -> Value
     }
 }
 
-/// What an update writes for a session.
-fn result_of<V: View>(alloc: Global, view: &V, session: u32, u: &Update) -> Result<Value, NoMemory>
+/// The integer as the attribute keeps it.
+fn integer_fitted_to(attr: Option<&AttrDecl>, n: Int) -> Int
+    ensures { Value.Int result ≡ fitted_to (option_copied attr.entry) (Value.Int n) }
+{
+    match attr {
+        Some(a) => fitted_integer(&a.kind, n),
+        None => n,
+    }
+}
+
+/// What an update writes for a session, by what the parts of its expression are.
+#[inline(never)]
+fn result_by_parts<V: View>(
+    alloc: Global,
+    view: &V,
+    session: u32,
+    u: &Update,
+) -> Result<Value, NoMemory>
     requires { IsSome ((V.readings view.now).row session) }
     ensures { IfOk result (λ v. v ≡ result_read (V.policy view.now) (V.readings view.now) (row_at (V.readings view.now) session) (update_of u.now)) }
 {
     let value = value_of(alloc, view, session, &u.value)?;
     let policy = view.checked().policy();
     Ok(fitted_to(policy.attr(u.side, &u.attr), value))
+}
+
+/// What an update writes for a session.
+fn result_of<V: View>(alloc: Global, view: &V, session: u32, u: &Update) -> Result<Value, NoMemory>
+    requires { IsSome ((V.readings view.now).row session) }
+    ensures { IfOk result (λ v. v ≡ result_read (V.policy view.now) (V.readings view.now) (row_at (V.readings view.now) session) (update_of u.now)) }
+{
+    let attr = view.checked().policy().attr(u.side, &u.attr);
+    if let Some(n) = integer(view, session, &u.value) {
+        return Ok(Value::Int(integer_fitted_to(attr, n)));
+    }
+    result_by_parts(alloc, view, session, u)
 }
 
 /// An update of the session's right by its place, from 0.

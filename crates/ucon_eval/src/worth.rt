@@ -1,11 +1,11 @@
 //! What the expressions of a test are worth. No memory is taken: texts and sets are lent.
 
-ghost use Rattle.std.specs.Prelude.{◌≡◌, pos, length, true, false, option_copied};
+ghost use Rattle.std.specs.Prelude.{◌≡◌, pos, length, false, option_copied};
 ghost use Rattle.ucon_base.specs.declared.value.Value.TheVariants.{Int as IntValue};
 ghost use Rattle.ucon_base.specs.Arithmetic.{sum_of, difference_of, product_of, size_of, same_value, same_texts};
 ghost use Rattle.ucon_model.specs.Comparison.{compares};
 ghost use Rattle.ucon_eval.specs.Worth.{worth_value};
-ghost use Rattle.ucon_asked.specs.Sums.{is_set_and_text, is_order, is_same_text};
+ghost use Rattle.ucon_asked.specs.Sums.{is_set_and_text, is_same_text};
 
 use ucon_base::{Int, Text, TextSet, Value};
 use ucon_model::Op;
@@ -97,11 +97,14 @@ impl<'a> Worth<'a> {
     pub fn compares(&self, op: Op, other: &Worth<'a>) -> bool
         ensures { result ≡ compares op (worth_value self.now) (worth_value other.now) }
     {
-        match op {
-            Op::Eq => self.equals(other),
-            Op::Ne => !self.equals(other),
-            Op::Member => self.is_in(other),
-            _ => self.is_ordered(op, other),
+        match (self, other) {
+            (Worth::Int(a), Worth::Int(b)) => integers_compare(op, *a, *b),
+            _ => match op {
+                Op::Eq => self.equals(other),
+                Op::Ne => !self.equals(other),
+                Op::Member => self.is_in(other),
+                _ => false,
+            },
         }
     }
 
@@ -114,22 +117,41 @@ impl<'a> Worth<'a> {
             _ => false,
         }
     }
+}
 
-    /// Whether two integers stand in this order.
-    fn is_ordered(&self, op: Op, other: &Worth<'a>) -> bool
-        requires { is_order op ≡ true }
-        ensures { result ≡ compares op (worth_value self.now) (worth_value other.now) }
-    {
-        match (self, other) {
-            (Worth::Int(a), Worth::Int(b)) => match op {
-                Op::Lt => a.is_below(*b),
-                Op::Le => a.is_at_most(*b),
-                Op::Gt => b.is_below(*a),
-                _ => b.is_at_most(*a),
-            },
-            _ => false,
-        }
+/// Whether two integers compare so.
+#[inline(always)]
+fn integers_compare(op: Op, a: Int, b: Int) -> bool
+    ensures { result ≡ compares op (IntValue a) (IntValue b) }
+{
+    match op {
+        Op::Eq => a == b,
+        Op::Ne => a != b,
+        Op::Lt => a.is_below(b),
+        Op::Le => a.is_at_most(b),
+        Op::Gt => b.is_below(a),
+        Op::Ge => b.is_at_most(a),
+        Op::Member => false,
     }
+}
+
+/// Whether two values compare so. Integers, as most are, are compared at once.
+#[inline(always)]
+pub fn values_compare(op: Op, a: &Value, b: &Value) -> bool
+    ensures { result ≡ compares op a.now b.now }
+{
+    match (a, b) {
+        (Value::Int(a), Value::Int(b)) => integers_compare(op, *a, *b),
+        _ => texts_or_sets_compare(op, a, b),
+    }
+}
+
+/// Whether two values compare so. It is asked where one of them is no integer, and right for all.
+#[inline(never)]
+fn texts_or_sets_compare(op: Op, a: &Value, b: &Value) -> bool
+    ensures { result ≡ compares op a.now b.now }
+{
+    Worth::of(a).compares(op, &Worth::of(b))
 }
 
 pub fn size_of_set(s: &TextSet) -> Int
