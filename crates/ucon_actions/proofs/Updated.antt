@@ -1,8 +1,8 @@
 -- Updates that run.
-use Rattle.std.proofs.Common.{◌≡◌, ◌∙◌, sym, ap, subst, ℕ, zero, suc, ◌<◌, Bool, true, cond, List, [], ◌∷◌, length, map, get_or, refl, arith}
-use Rattle.std.specs.Prelude.{Result, Ok, Err, OnOk, Option, Some, None, is_some, option_map, option_and_then, slice_get, IsSomeAnd, IsTrue}
+use Rattle.std.proofs.Common.{◌≡◌, ◌∙◌, sym, ap, subst, ℕ, zero, suc, ◌<◌, ◌≤◌, Bool, true, cond, List, [], ◌∷◌, length, map, take, get_or, refl, arith}
+use Rattle.std.specs.Prelude.{Result, Ok, Err, OnOk, Option, Some, None, option_map, option_and_then, slice_get, IsSomeAnd, IsTrue}
 use Rattle.std.specs.Option.{option_map_or, option_to_list}
-use Rattle.std.proofs.lemmas.List.{length-map}
+use Rattle.std.proofs.lemmas.List.{length-map, take_all}
 use Rattle.std.proofs.lemmas.Option.{slice_get-map, slice_get_read}
 use Rattle.ucon_base.specs.declared.value.Side.{Side}
 use Rattle.ucon_base.specs.declared.value.Side.TheVariants.{Subject, Object}
@@ -23,11 +23,11 @@ use Rattle.ucon_model.specs.Typing.{IsTyped}
 use Rattle.ucon_model.specs.Views.{update_of}
 use Rattle.ucon_model.specs.Sound.{IsGrounded}
 use Rattle.ucon_asked.specs.Asked as asked
-use Rattle.ucon_state.specs.Tables.{entity_number, session_in, readings_in}
+use Rattle.ucon_state.specs.Tables.{session_in, readings_in}
 use Rattle.ucon_state.specs.Shown.{Shown}
 use Rattle.ucon_state.specs.Following.{Follows}
-use Rattle.ucon_actions.specs.Updating.{written_out, update_at, updates_in}
-use Rattle.ucon_readings.specs.ReadOff.{TablesKeep, entity_there, readings_same, session_same}
+use Rattle.ucon_actions.specs.Updating.{written_out, first_written_out, update_at, updates_in}
+use Rattle.ucon_readings.specs.ReadOff.{TablesKeep, readings_same, session_same}
 
 -- ---- the update at a place
 
@@ -36,6 +36,21 @@ pub picked : (raw : List Update) (us : List PlainUpdate) (at : ℕ) (u : Update)
 picked raw us at u seen lt is =
     let within : at < length raw = omega (arith, ap length seen, length-map raw update_of) in
     ap (λ (xs : List PlainUpdate). slice_get xs at) (sym seen) ∙ slice_get-map update_of raw at ∙ ap (option_map update_of) (slice_get_read raw (length raw) at u refl within is)
+
+-- the updates of the right that a session names, if there is one
+abbrev updates_by : PlainPolicy → Option SessionRow → List PlainUpdate
+updates_by P o = option_map_or (λ (right : PlainRight). right.updates) (option_and_then (λ (row : SessionRow). right_named P.rights row.right) o) []
+
+-- where there is an update, there is the session
+pub with_row : {G : Type 0} (P : PlainPolicy) (o : Option SessionRow) (at : ℕ) → at < length (updates_by P o) → ((row : SessionRow) → o ≡ Some row → G) → G
+with_row P None at lt told = absurd (omega (arith, lt))
+with_row P (Some row) at lt told = told row refl
+
+-- an update that was read stands at its place in the session's right
+pub its_place : (s : Shown) (n at : ℕ) (raw : List Update) (u : Update) (row : SessionRow) → map update_of raw ≡ updates_in s n → at < length (updates_in s n) → u ≡ get_or raw at u
+    → session_in s.tables n ≡ Some row → slice_get (updates_of s.policy row) at ≡ Some (update_of u)
+its_place s n at raw u row seen lt is there =
+    picked raw (updates_of s.policy row) at u (seen ∙ ap (updates_by s.policy) there) (subst (λ (o : Option SessionRow). at < length (updates_by s.policy o)) there lt) is
 
 each_at : {A : Type 0} (Q : A → Type 0) (xs : List A) (i : ℕ) (x : A) → Each Q xs → slice_get xs i ≡ Some x → Q x
 each_at Q [] i x each e = absurd cc
@@ -79,12 +94,6 @@ module _ (keep : TablesKeep) (s : Shown) (P : PlainPolicy) (T : Trace) (h : Foll
   grounded_row : (n : ℕ) (row : SessionRow) → session_in s.tables n ≡ Some row → IsGrounded T (Some row)
   grounded_row n row is = subst (IsGrounded T) (session_same keep s P T h n ∙ is) (h.sound.grounded n)
 
-  -- the session's entity is there
-  pub its_entity_there : (n : ℕ) (row : SessionRow) (side : Side) (name : Bytes) → session_in s.tables n ≡ Some row → name ≡ entity_of side row
-      → is_some (entity_number s.tables side name) ≡ true
-  its_entity_there n row side name is named =
-      sym (entity_there keep s P T h side name) ∙ ap (λ (e : Bytes). has_entity side e T) named ∙ of_side side row T (grounded_row n row is)
-
   -- the declaration admits the result
   pub result_admitted : TypedUpdatesFit → (n at : ℕ) (row : SessionRow) (u : PlainUpdate) (v : Value) → session_in s.tables n ≡ Some row
       → slice_get (updates_of s.policy row) at ≡ Some u → asked.result_at s.policy (readings_in s.policy s.tables) n at ≡ Some v
@@ -115,32 +124,48 @@ pub on_ok : {X E A B : Type 0} (r : Result X E) → (A → B) → OnOk r A → O
 on_ok (Ok x) f h = f h
 on_ok (Err e) f h = h
 
--- where there is no such session, nothing is written
-pub nothing_written : (P : PlainPolicy) (n : ℕ) (when : When) (T : Trace) → session T n ≡ None → extended T (session_writes P n when T) ≡ T
-nothing_written P n when T none = ap (λ (o : Option SessionRow). extended T (option_map_or (λ row. writes P row when (updates_of (in_force P T) row) T) o [])) none
+module _ (P : PlainPolicy) (n : ℕ) (when : When) (T : Trace) where
+  -- before the first update nothing is written
+  pub none_written : first_written_out P n when 0 T ≡ T
+  none_written = by (session T n)
+    where
+      by : (o : Option SessionRow) → option_map_or (λ row. written_out P row when (take 0 (updates_of (in_force P T) row)) T) o T ≡ T
+      by None = refl
+      by (Some row) = refl
 
-pub session_written : (P : PlainPolicy) (n : ℕ) (when : When) (T : Trace) (row : SessionRow) → session T n ≡ Some row
-    → extended T (session_writes P n when T) ≡ written_out P row when (updates_of (in_force P T) row) T
-session_written P n when T row is = ap (λ (o : Option SessionRow). extended T (option_map_or (λ row. writes P row when (updates_of (in_force P T) row) T) o [])) is
+  -- the first updates of the right of a session that is there
+  pub row_written : (count : ℕ) (row : SessionRow) → session T n ≡ Some row
+      → first_written_out P n when count T ≡ written_out P row when (take count (updates_of (in_force P T) row)) T
+  row_written count row is = ap (λ (o : Option SessionRow). option_map_or (λ row. written_out P row when (take count (updates_of (in_force P T) row)) T) o T) is
+
+  -- as many as there are: all
+  pub all_written : (count : ℕ) → length (updates_by (in_force P T) (session T n)) ≤ count → first_written_out P n when count T ≡ extended T (session_writes P n when T)
+  all_written count = by (session T n)
+    where
+      by : (o : Option SessionRow) → length (updates_by (in_force P T) o) ≤ count → option_map_or (λ row. written_out P row when (take count (updates_of (in_force P T) row)) T) o T
+          ≡ extended T (option_map_or (λ row. writes P row when (updates_of (in_force P T) row) T) o [])
+      by None le = refl
+      by (Some row) le = ap (λ (us : List PlainUpdate). written_out P row when us T) (take_all count (updates_of (in_force P T) row) le)
+
+-- where the policy and the session stay, the session's right has as many updates
+pub updates_stay : (s s' : Shown) (n at : ℕ) (row : SessionRow) → s'.policy ≡ s.policy → session_in s.tables n ≡ Some row → session_in s'.tables n ≡ Some row
+    → at < length (updates_in s n) → at < length (updates_in s' n)
+updates_stay s s' n at row policy there still lt =
+    subst (λ (us : List PlainUpdate). at < length us) (ap (updates_by s.policy) (there ∙ sym still) ∙ ap (λ (Q : PlainPolicy). updates_by Q (session_in s'.tables n)) (sym policy)) lt
 
 -- the writes of updates leave every session
 abbrev pub WritesLeaveSessions : Type 0
 WritesLeaveSessions = (P : PlainPolicy) (row : SessionRow) (when : When) (us : List PlainUpdate) (n : ℕ) (T : Trace) → session (extended T (writes P row when us T)) n ≡ session T n
 
 module _ (keep : TablesKeep) where
-  -- where the session's right has no updates, nothing is written either
-  pub none_to_write : (s : Shown) (P : PlainPolicy) (T : Trace) → Follows s P T → (n : ℕ) (when : When) → updates_in s n ≡ [] → extended T (session_writes P n when T) ≡ T
-  none_to_write s P T h n when none =
-      ap (λ (o : Option SessionRow). extended T (option_map_or (λ row. writes P row when (updates_of (in_force P T) row) T) o [])) (session_same keep s P T h n)
-      ∙ by (session_in s.tables n) none
-    where
-      by : (o : Option SessionRow) → option_map_or (λ (right : PlainRight). right.updates) (option_and_then (λ (row : SessionRow). right_named s.policy.rights row.right) o) [] ≡ []
-          → extended T (option_map_or (λ row. writes P row when (updates_of (in_force P T) row) T) o []) ≡ T
-      by None none = refl
-      by (Some row) none = ap (λ (us : List PlainUpdate). extended T (writes P row when us T)) (ap (λ (Q : PlainPolicy). updates_of Q row) (sym h.policy) ∙ none)
-
   -- the writes of updates leave the session whose they are
   pub row_stays_by : WritesLeaveSessions → (s s' : Shown) (P : PlainPolicy) (T : Trace) → Follows s P T → (n : ℕ) (row : SessionRow) (when : When) (us : List PlainUpdate) → session_in s.tables n ≡ Some row
       → Follows s' P (written_out P row when us T) → session_in s'.tables n ≡ Some row
   row_stays_by leave s s' P T h n row when us is h' =
       sym (session_same keep s' P (written_out P row when us T) h' n) ∙ leave P row when us n T ∙ session_same keep s P T h n ∙ is
+
+  -- after the trace the session's right has as many, too
+  pub in_trace : (s : Shown) (P : PlainPolicy) (T : Trace) → Follows s P T → (n count : ℕ) → length (updates_in s n) ≤ count → length (updates_by (in_force P T) (session T n)) ≤ count
+  in_trace s P T h n count le =
+      subst (λ (us : List PlainUpdate). length us ≤ count)
+      (ap (λ (Q : PlainPolicy). updates_by Q (session_in s.tables n)) h.policy ∙ ap (updates_by (in_force P T)) (sym (session_same keep s P T h n))) le

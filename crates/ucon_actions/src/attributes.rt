@@ -1,13 +1,15 @@
 //! Attributes are written and told: `set` and `value`.
 
-ghost use Rattle.std.specs.Prelude.{◌≡◌, ◌∷◌, IfErr, IfOk, OnOk, IsSome};
+ghost use Rattle.std.specs.Prelude.{◌≡◌, ◌∷◌, IfErr, IfOk, OnOk, IsSome, Some};
+ghost use Rattle.ucon_model.specs.declared.session.SessionRow.{SessionRow};
 ghost use Rattle.ucon_model.specs.Action.{write};
 ghost use Rattle.ucon_model.specs.Fitting.{AttributeAdmits};
 ghost use Rattle.ucon_model.specs.OwnActions.{set_attribute, tell_value};
+ghost use Rattle.ucon_model.specs.Updates.{entity_of};
 ghost use Rattle.ucon_actions.specs.Gives.{Gives, Refuses, Unchanged};
 ghost use Rattle.ucon_actions.specs.Leads.{KeepsBase, Leads};
 ghost use Rattle.ucon_state.specs.Shown.{shown};
-ghost use Rattle.ucon_state.specs.Tables.{entity_number};
+ghost use Rattle.ucon_state.specs.Tables.{entity_number, session_in};
 
 use crate::entities::{is_admin, no_entity};
 use crate::outcome::{ActionFault, Outcome, require};
@@ -36,6 +38,28 @@ pub fn write(
         unreachable!()
     };
     let Some(cell) = state.cell(side, entity, attr) else {
+        unreachable!()
+    };
+    state.write(cell, value)
+}
+
+/// Writes a value to an attribute of session n's own subject or object.
+pub fn write_own(
+    state: &mut State,
+    n: u32,
+    side: Side,
+    attr: &Name,
+    value: Value,
+) -> Result<(), NoMemory>
+    requires session { IsSome (session_in (shown state.old).tables n) }
+    requires admitted { AttributeAdmits (shown state.old).policy side attr.now value }
+    ensures leads { (row : SessionRow) → session_in (shown state.old).tables n ≡ Some row
+        → OnOk result (Leads (shown state.old) (shown state.new) (λ P T. write side (entity_of side row) attr.now value ∷ T)) }
+    ensures base { KeepsBase (shown state.old) (shown state.new) }
+{
+    tables_keep_what_is_followed();
+    each_action_is_followed();
+    let Some(cell) = state.own_cell(n, side, attr) else {
         unreachable!()
     };
     state.write(cell, value)

@@ -1,6 +1,7 @@
 //! Updates of a session's right.
 
-ghost use Rattle.std.specs.Prelude.{◌≡◌, ◌<◌, [], false, length, map, Some, OnOk};
+ghost use Rattle.std.specs.Prelude.{◌≡◌, ◌<◌, length, map, Some, OnOk};
+ghost use Rattle.ucon_model.specs.declared.session.SessionRow.{SessionRow};
 ghost use Rattle.ucon_model.specs.Action.{extended};
 ghost use Rattle.ucon_model.specs.Updates.{same_when, entity_of, updates_of, session_writes};
 ghost use Rattle.ucon_model.specs.Views.{policy_of, update_of};
@@ -9,7 +10,7 @@ ghost use Rattle.ucon_state.specs.Shown.{shown};
 ghost use Rattle.ucon_state.specs.Tables.{session_in};
 ghost use Rattle.ucon_actions.specs.Updating.{one_written_out, updates_in};
 
-use crate::attributes::write;
+use crate::attributes::write_own;
 use std::alloc::{AllocError, Global};
 use ucon_base::{Name, NoMemory, Side};
 use ucon_eval::result;
@@ -49,41 +50,34 @@ pub fn entity_of(side: Side, row: &SessionRow) -> Name
     }
 }
 
+/// The updates of the right of session n; none where one of them isn't there.
+fn updates_in(state: &State, n: u32) -> &[Update]
+    ensures { map update_of result.now ≡ updates_in (shown state.now) n }
+{
+    match state.right(n) {
+        Some(right) => right.updates.slice(),
+        None => &[],
+    }
+}
+
 /// Runs the update at a place, from 0, of the right of session n, if it is of this time.
-fn run_update(
-    alloc: Global,
-    state: &mut State,
-    n: u32,
-    row: &SessionRow,
-    when: When,
-    at: u32,
-) -> Result<(), NoMemory>
+fn run_update(alloc: Global, state: &mut State, n: u32, when: When, at: u32) -> Result<(), NoMemory>
     requires following { IsFollowing (shown state.old) }
-    requires row { session_in (shown state.old).tables n ≡ Some row.now }
-    requires at { at < length (updates_of (shown state.old).policy row.now) }
-    ensures leads { OnOk result (Leads (shown state.old) (shown state.new) (λ P T. one_written_out P row.now when at T)) }
+    requires at { at < length (updates_in (shown state.old) n) }
+    ensures leads { (row : SessionRow) → session_in (shown state.old).tables n ≡ Some row
+        → OnOk result (Leads (shown state.old) (shown state.new) (λ P T. one_written_out P row when at T)) }
     ensures base { KeepsBase (shown state.old) (shown state.new) }
 {
     tables_keep_what_is_followed();
     updates_fit();
-    let u = &updates_of(state.checked().policy(), row)[at as usize];
+    let u = &updates_in(state, n)[at as usize];
     if !is_of(u, when) {
         return Ok(());
     }
     let side = u.side;
     let attr = u.attr;
     let value = result(alloc, state, n, at)?;
-    write(state, side, &entity_of(side, row), &attr, value)
-}
-
-/// Whether the right of session n has updates.
-fn has_updates(state: &State, n: u32) -> bool
-    ensures { result ≡ false → updates_in (shown state.now) n ≡ [] }
-{
-    match state.right(n) {
-        Some(right) => !right.updates.slice().is_empty(),
-        None => false,
-    }
+    write_own(state, n, side, &attr, value)
 }
 
 /// Runs the updates of a time of the right of session n, in written order. A right with more updates than a `u32` counts is answered
@@ -95,18 +89,11 @@ pub fn run_updates(alloc: Global, state: &mut State, n: u32, when: When) -> Resu
 {
     tables_keep_what_is_followed();
     writes_leave_sessions();
-    if !has_updates(state, n) {
-        return Ok(());
-    }
-    let Some(row) = state.session(n) else {
-        return Ok(());
-    };
-    let count = updates_of(state.checked().policy(), &row).len();
-    let Ok(count) = u32::try_from(count) else {
+    let Ok(count) = u32::try_from(updates_in(state, n).len()) else {
         return Err(NoMemory::from(AllocError));
     };
     for at in 0..count {
-        run_update(alloc, state, n, &row, when, at)?;
+        run_update(alloc, state, n, when, at)?;
     }
     Ok(())
 }

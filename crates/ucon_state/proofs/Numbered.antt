@@ -16,7 +16,7 @@ use Rattle.ucon_model.specs.Lookup.{value_read}
 use Rattle.ucon_state.specs.declared.session.Session.{Session}
 use Rattle.ucon_state.specs.Applied.{with_entity, with_new_session}
 use Rattle.ucon_state.specs.Stored.{Stored, NumbersAreBelow, AreDistinct, AreNumbered, moved_at, name_at, right_at, row_of, named}
-use Rattle.ucon_state.specs.Tables.{cell_at, entity_number, place_in, readings_in, session_in}
+use Rattle.ucon_state.specs.Tables.{cell_at, cell_of, entity_number, place_in, readings_in, session_in}
 use Rattle.ucon_state.proofs.Following.Names.{same_name, number_by}
 use Rattle.ucon_state.proofs.Following.Places.{still_there, passes_there, placed_where_first}
 
@@ -189,3 +189,16 @@ module _ (R : List Bytes) (t : Stored) (n : ℕ) (x : Session) (there : session_
       ap (λ o. option_and_then (slice_get t.cells) (option_and_then (λ e. cell_at P t sides.Object e attr) o))
       (sym (number_of_name t.objects x.object h.objects_differ (numbers_are h).object))
       ∙ sym (ap (option_and_then (λ row. place_in P (named R t) row (refs.Object attr))) row_is)
+
+  -- the cell of its own subject's or object's attribute is the one that is found by the names
+  pub subject_cell : (P : PlainPolicy) → AreNumbered R t.subjects t.objects t.sessions → (attr : Bytes)
+      → cell_at P t sides.Subject x.subject attr ≡ option_and_then (λ row. cell_of P (named R t) sides.Subject row.subject attr) (session_in (named R t) n)
+  subject_cell P h attr =
+      ap (option_and_then (λ e. cell_at P t sides.Subject e attr)) (sym (number_of_name t.subjects x.subject h.subjects_differ (numbers_are h).subject))
+      ∙ sym (ap (option_and_then (λ row. cell_of P (named R t) sides.Subject row.subject attr)) row_is)
+
+  pub object_cell : (P : PlainPolicy) → AreNumbered R t.subjects t.objects t.sessions → (attr : Bytes)
+      → cell_at P t sides.Object x.object attr ≡ option_and_then (λ row. cell_of P (named R t) sides.Object row.object attr) (session_in (named R t) n)
+  object_cell P h attr =
+      ap (option_and_then (λ e. cell_at P t sides.Object e attr)) (sym (number_of_name t.objects x.object h.objects_differ (numbers_are h).object))
+      ∙ sym (ap (option_and_then (λ row. cell_of P (named R t) sides.Object row.object attr)) row_is)

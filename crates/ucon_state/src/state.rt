@@ -439,6 +439,7 @@ fn start_in(state: SessionState, now: Int, before: Int) -> Int
 }
 
 /// The cell of an attribute of an entity.
+#[inline(always)]
 pub(crate) fn cell_number(
     checked: &Checked,
     tables: &Tables,

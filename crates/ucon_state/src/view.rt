@@ -1,16 +1,18 @@
 //! What a state gives to read.
 
-ghost use Rattle.std.specs.Prelude.{◌≡◌, ◌<◌, length, option_and_then, option_copied, option_map, slice_get, unwrap_or};
+ghost use Rattle.std.specs.Prelude.{◌≡◌, ◌<◌, IsSome, is_some, length, option_and_then, option_copied, option_map, slice_get, unwrap_or};
 ghost use Rattle.ucon_model.specs.Checked.{checked_policy};
 ghost use Rattle.ucon_model.specs.Decision.{right_named};
+ghost use Rattle.ucon_model.specs.Readings.{declared_attr};
+ghost use Rattle.ucon_model.specs.Updates.{entity_of};
 ghost use Rattle.ucon_model.specs.Views.{right_of};
 ghost use Rattle.ucon_state.specs.Views.{lists_of};
-ghost use Rattle.ucon_state.specs.Tables.{attribute_in, cell_at, readings_in, session_in, variable_in};
+ghost use Rattle.ucon_state.specs.Tables.{attribute_in, cell_at, cell_of, readings_in, session_in, variable_in};
 ghost use Rattle.ucon_state.specs.Shown.{right_name, right_names, shown};
 ghost use Rattle.ucon_state.specs.Stored.{NumbersAreBelow, row_of};
 
 use crate::session::Session;
-use crate::state::{State, cell_number};
+use crate::state::{CellId, State, cell_number};
 use ucon_base::{Int, Name, Side, Value};
 use ucon_model::{Checked, Obligation, Ref, Right, SessionRow, SessionState, View};
 
@@ -24,12 +26,28 @@ impl State {
     }
 
     /// The value of an attribute of the entity with this number. None where the attribute isn't declared for that side.
+    #[inline(always)]
     fn attribute_at(&self, side: Side, entity: u32, attr: &Name) -> Option<&Value>
         ensures { option_copied result ≡ option_and_then (slice_get (lists_of self.now.tables).cells)
             (cell_at (checked_policy self.now.checked) (lists_of self.now.tables) side entity attr.now) }
     {
         let cell = cell_number(&self.checked, &self.tables, side, entity as usize, attr)?;
         self.tables.cells.get(cell)
+    }
+
+    /// The cell of an attribute of a session's own subject or object. None where there is no such session, or the attribute isn't
+    /// declared for that side.
+    pub fn own_cell(&self, session: u32, side: Side, attr: &Name) -> Option<CellId>
+        ensures cell { result ≡ option_and_then (λ row. cell_of (shown self.now).policy (shown self.now).tables side (entity_of side row) attr.now)
+            (session_in (shown self.now).tables session) }
+        ensures declared { IsSome (session_in (shown self.now).tables session)
+            → is_some result ≡ is_some (declared_attr (shown self.now).policy.attrs side attr.now) }
+    {
+        let session = self.tables.session(session)?;
+        match side {
+            Side::Subject => self.cell(Side::Subject, session.subject, attr),
+            Side::Object => self.cell(Side::Object, session.object, attr),
+        }
     }
 
     /// The value of a variable. None where the policy in force doesn't declare it.
@@ -112,6 +130,7 @@ impl View for State {
         Some(session.start)
     }
 
+    #[inline(always)]
     fn value(&self, session: u32, place: &Ref) -> Option<&Value> {
         let session = self.tables.session(session)?;
         match place {
