@@ -1,3 +1,5 @@
+pub mod CutOff
+pub mod Decimals
 pub mod Integers
 pub mod Passing
 pub mod Products

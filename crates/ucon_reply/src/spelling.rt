@@ -14,7 +14,7 @@ pub fn put_name(out: &mut Vec<u8>, name: &Name) -> Result<(), NoMemory>
     ensures { OnOk result (out.new.items ≡ out.old.items ++ 32 ∷ name.now) }
 {
     out.push(b' ')?;
-    put(out, name.bytes())
+    name.put(out)
 }
 
 /// Adds a space and a value.
