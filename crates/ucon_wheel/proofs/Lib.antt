@@ -1,5 +1,6 @@
 pub mod Behind
 pub mod Earliest
+pub mod Finding
 pub mod Firsts
 pub mod Lined
 pub mod Linking

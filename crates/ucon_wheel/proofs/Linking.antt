@@ -19,7 +19,7 @@ in_middle list front back x parts = subst (λ xs. Has xs x) (sym parts) (here fr
     here (y ∷ ys) = inr (here ys)
 
 -- the last one, with those in front
-record LastSplit (xs : List (ℕ × ℕ)) (node : ℕ) : Type 0 where
+pub record LastSplit (xs : List (ℕ × ℕ)) (node : ℕ) : Type 0 where
   pub front : List (ℕ × ℕ)
   pub owner : ℕ
   pub parts : xs ≡ front ++ (node, owner) ∷ []
@@ -28,7 +28,7 @@ last_split : (x : ℕ × ℕ) (xs : List (ℕ × ℕ)) (node : ℕ) → last_or 
 last_split x [] node is = let same : x.0 ≡ node = cc in record { front = []; owner = x.1; parts = ap (λ n. (n, x.1) ∷ []) same }
 last_split x (y ∷ ys) node is = let rest = last_split y ys node is in record { front = x ∷ rest.front; owner = rest.owner; parts = ap (λ zs. x ∷ zs) rest.parts }
 
-last_of : (xs : List (ℕ × ℕ)) (node : ℕ) → last_or None xs ≡ Some node → LastSplit xs node
+pub last_of : (xs : List (ℕ × ℕ)) (node : ℕ) → last_or None xs ≡ Some node → LastSplit xs node
 last_of [] node is = let no : ⊥ = cc in absurd no
 last_of (x ∷ xs) node is = last_split x xs node is
 

@@ -84,7 +84,7 @@ among_first p q false es above (inl is) rest = let same : is_pair p q ≡ true =
 among_first p q false es above (inr has) rest = rw (behind_other p q es above has) (rest has)
 
 -- a pair among those that are shown is shown
-shown_has : (p : Pair) (es : List (Pair × Bool)) → AreOrdered es → Has (shown_of es) p → lookup (is_pair p) es ≡ Some false
+pub shown_has : (p : Pair) (es : List (Pair × Bool)) → AreOrdered es → Has (shown_of es) p → lookup (is_pair p) es ≡ Some false
 unfolding IsStrictlySortedBy
 shown_has p [] ordered has = absurd has
 shown_has p (e ∷ es) ordered has = among_first p e.0 e.1 es ordered.0 has (shown_has p es ordered.1)

@@ -1,9 +1,9 @@
 //! Pairs as linked lists: all of them in order, and those of each session.
 
-ghost use Rattle.std.specs.Prelude.{◌≡◌, ◌≢◌, ℕ, List, ◌+◌, ◌-◌, ◌<◌, ◌≤◌, ◌≤ℤ◌, ◌⊎◌, ◌==◌, [], ◌∷◌, ◌++◌, length, vec_len, Some, None, find, option_map, slice_set, IfSome, IfOk, OnOk, OnErr, IsTrue, ◌↔◌};
+ghost use Rattle.std.specs.Prelude.{◌≡◌, ◌≢◌, ℕ, List, ◌+◌, ◌-◌, ◌<◌, ◌≤◌, ◌≤ℤ◌, ◌⊎◌, ◌==◌, [], ◌∷◌, ◌++◌, length, vec_len, Some, None, find, option_map, slice_set, IfSome, IfNone, IfOk, OnOk, OnErr, IsTrue, ◌↔◌};
 ghost use Rattle.ucon_links.specs.Lists.{list_at, node_count, nodes_of, IsListed, IsAbsent, IsDistinct};
 ghost use Rattle.ucon_wheel.specs.Deadlines.{pair_cmp, first, later};
-ghost use Rattle.ucon_wheel.specs.Lines.{Has, HasPair, HasNext, IsKnown, IsItemOf, IsNodeOf, IsEarliest, deadline_at, without_pair, put_before};
+ghost use Rattle.ucon_wheel.specs.Lines.{Has, HasPair, HasNext, IsKnown, IsItemOf, IsNodeOf, IsEarliest, HasDeadline, deadline_at, without_pair, put_before};
 ghost use Rattle.std.specs.List.Sorted.{IsStrictlySortedBy};
 
 use std::alloc::Global;
@@ -55,10 +55,12 @@ fn link_before(links: &mut Links, next: NodeId, owner: u32) -> NodeId
     }
 }
 
-// The item of a pair in its session's list.
-fn item_of(own: &Links, deadlines: &[Deadline], pair: (i64, u32)) -> NodeId
-    requires { IsKnown own.now deadlines.now (Some pair) }
-    ensures item { IsItemOf own.now deadlines.now pair result }
+// The item of a pair in its session's list, if it has one.
+fn find_item(own: &Links, deadlines: &[Deadline], pair: (i64, u32)) -> Option<NodeId>
+    requires session { pair.1 < length own.now.lists }
+    requires within { (y : ℕ × ℕ) → Has (list_at own.now.lists pair.1) y → y.1 < length deadlines.now }
+    ensures item { IfSome result (IsItemOf own.now deadlines.now pair) }
+    ensures none { IfNone result (HasDeadline deadlines.now (list_at own.now.lists pair.1) pair.0 → ⊥) }
     ensures distinct { IsDistinct (nodes_of own.now) }
 {
     nodes_stand_where_listed();
@@ -67,11 +69,23 @@ fn item_of(own: &Links, deadlines: &[Deadline], pair: (i64, u32)) -> NodeId
         let node = own.owner(item);
         let there = deadlines[node as usize];
         if there.is_of(pair) {
-            return item;
+            return Some(item);
         }
         at = own.next(item);
     }
-    unreachable!()
+    None
+}
+
+// The item of a pair that has one.
+fn item_of(own: &Links, deadlines: &[Deadline], pair: (i64, u32)) -> NodeId
+    requires { IsKnown own.now deadlines.now (Some pair) }
+    ensures item { IsItemOf own.now deadlines.now pair result }
+    ensures distinct { IsDistinct (nodes_of own.now) }
+{
+    match find_item(own, deadlines, pair) {
+        Some(item) => item,
+        None => unreachable!(),
+    }
 }
 
 // The node of a pair that has one, or the end.
@@ -212,6 +226,44 @@ impl Lines {
         self.own.grow(sessions)?;
         self.own.reserve(n)?;
         self.reserve_nodes(n)
+    }
+
+    /// Whether there is room for so many more pairs, of sessions below this number.
+    #[inline(always)]
+    pub fn has_room(&self, n: u32, sessions: u32) -> bool
+        ensures room { IsTrue result → n ≤ self.now.spare }
+        ensures item_room { IsTrue result → n ≤ self.now.item_spare }
+        ensures numbers { IsTrue result → sessions ≤ self.now.sessions }
+    {
+        n <= self.order.spare() && n <= self.own.spare() && sessions <= self.own.list_count()
+    }
+
+    /// Whether a pair is there. Only its session's pairs are walked.
+    #[inline(always)]
+    pub fn has(&self, pair: (i64, u32)) -> bool
+        ensures { IsTrue result ↔ Has self.now.pairs pair }
+    {
+        if pair.1 >= self.own.list_count() {
+            return false;
+        }
+        find_item(&self.own, &self.deadlines, pair).is_some()
+    }
+
+    /// Whether all pairs are before this one. Only the last of them is looked at.
+    #[inline(always)]
+    pub fn are_before(&self, pair: (i64, u32)) -> bool
+        requires { IsStrictlySortedBy pair_cmp self.now.pairs }
+        ensures { IsTrue result → first (later (Some pair) self.now.pairs) ≡ None }
+    {
+        nodes_stand_where_listed();
+        self.order.nodes_are_distinct();
+        let Some(node) = self.order.previous(self.end) else {
+            return true;
+        };
+        match pair_of(&self.order, &self.deadlines, self.end, node) {
+            Some(last) => last.cmp(&pair).is_lt(),
+            None => false,
+        }
     }
 
     /// Puts a pair in front of `next`, or behind all.

@@ -81,16 +81,6 @@ impl Marks {
         }
     }
 
-    /// Whether the pair is there and not hidden.
-    pub fn has(&self, pair: (i64, u32)) -> bool
-        ensures { IsTrue result ↔ IsShown self.now pair }
-    {
-        match self.pairs.get(&pair) {
-            Some(hidden) => !*hidden,
-            None => false,
-        }
-    }
-
     /// Whether the pair is there, hidden or not.
     pub fn is_there(&self, pair: (i64, u32)) -> bool
         ensures { result ≡ is_some (state_of self.now pair) }

@@ -29,6 +29,9 @@ fn tick_of(deadline: Deadline) -> i64
     deadline.tick
 }
 
+// For how many more pairs and sessions room is made beyond what is asked for, so that most pairs find it made.
+const AHEAD: u32 = 15;
+
 // Room in the lists for a pair of the session, beside those that are hidden.
 fn make_room(marks: &Marks, lines: &mut Lines, session: u32) -> Result<(), NoMemory>
     ensures pairs { lines.new.pairs ≡ lines.old.pairs }
@@ -43,7 +46,26 @@ fn make_room(marks: &Marks, lines: &mut Lines, session: u32) -> Result<(), NoMem
     if hidden >= u32::MAX as usize || session == u32::MAX {
         return Err(NoMemory::from(AllocError));
     }
-    lines.reserve(hidden as u32 + 1, session + 1)
+    let n = hidden as u32 + 1;
+    let sessions = session + 1;
+    if lines.has_room(n, sessions) {
+        return Ok(());
+    }
+    lines.reserve(n.saturating_add(AHEAD), sessions.saturating_add(AHEAD))
+}
+
+// The pair in front of which a pair comes that the lists lack.
+fn next_of(marks: &Marks, lines: &Lines, pair: (i64, u32)) -> Option<(i64, u32)>
+    requires is_shown { IsShown marks.now pair }
+    requires lacking { lines.now.pairs ≡ without_pair pair (shown marks.now) }
+    ensures first { result ≡ first_behind marks.now (Some pair) }
+    ensures ordered { IsStrictlySortedBy pair_cmp (shown marks.now) }
+{
+    marks.pairs_are_ordered();
+    if lines.are_before(pair) {
+        return None;
+    }
+    marks.first_behind(Some(pair))
 }
 
 // Puts a pair that is shown into the lists.
@@ -61,7 +83,7 @@ fn enter(marks: &Marks, lines: &mut Lines, pair: (i64, u32))
     } }
     ensures ordered { IsStrictlySortedBy pair_cmp (shown marks.now) }
 {
-    let next = marks.first_behind(Some(pair));
+    let next = next_of(marks, lines, pair);
     lines.insert(pair, next);
 }
 
@@ -101,7 +123,8 @@ impl Wheel {
     pub fn has(&self, session: u32, deadline: i64) -> bool
         ensures { IsTrue result ↔ IsShown self.now (deadline, session) }
     {
-        self.marks.has(pair_of(session, deadline))
+        self.marks.pairs_are_ordered();
+        self.lines.has(pair_of(session, deadline))
     }
 
     /// Whether the pair is there, hidden or not: the condition of `put`.
@@ -203,7 +226,7 @@ impl Wheel {
     {
         match after {
             None => self.lines.first(),
-            Some(pair) if self.marks.has(pair) => self.lines.behind(pair),
+            Some(pair) if self.lines.has(pair) => self.lines.behind(pair),
             Some(_) => self.marks.first_behind(after),
         }
     }

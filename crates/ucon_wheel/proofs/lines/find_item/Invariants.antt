@@ -2,7 +2,7 @@ use Rattle.std.proofs.Common.{◌≢◌, List, ℕ}
 use Rattle.ucon_links.specs.Lists.{list_at, nodes_of, IsDistinct}
 use Rattle.ucon_wheel.specs.Lines.{Has, deadline_at}
 use Rattle.ucon_wheel.proofs.Walking.{IsAt, rest_length}
-use Rattle.ucon_wheel.proofs.lines.item_of.Given as goal
+use Rattle.ucon_wheel.proofs.lines.find_item.Given as goal
 
 abbrev pub invariant-loop-at : goal.invariant-loop-at
 invariant-loop-at l = record {
