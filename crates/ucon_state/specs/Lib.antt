@@ -5,6 +5,7 @@ pub mod Undo
 pub mod Sound
 pub mod Views
 pub mod Shown
+pub mod Numbers
 pub mod Following
 pub mod Engine
 pub mod Held

@@ -9,6 +9,7 @@ mod engine;
 mod held;
 mod laws;
 mod layout;
+mod numbers;
 mod putting;
 mod restore_fault;
 mod session;
@@ -24,5 +25,6 @@ pub use laws::{
     sessions_are_few, states_follow_what_reads_alike, tables_keep_the_trace,
     tables_keep_what_is_followed, traces_of_histories_are_legal, what_is_put_is_followed,
 };
+pub use numbers::Numbers;
 pub use restore_fault::RestoreFault;
 pub use state::{CellId, State};
