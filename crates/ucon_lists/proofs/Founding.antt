@@ -1,8 +1,8 @@
 -- A list is joined by its leader, and by a session after it.
-use Rattle.std.proofs.Common.{◌≡◌, ◌∙◌, inl, inr, ℕ, true, false, sym, ap}
+use Rattle.std.proofs.Common.{◌≡◌, ◌∙◌, inl, inr, ℕ, true, sym, ap}
 use Rattle.std.specs.Prelude.{Result, Ok, Err, OnErr, OnOk}
 use Rattle.std.proofs.lemmas.Bool.Decides.{eqb_tells}
-use Rattle.ucon_lists.specs.Lists.{AreSame, Enters, JoinsAtMost, Members, Opens, is_joined, leader_in}
+use Rattle.ucon_lists.specs.Lists.{AreSame, Enters, JoinsAtMost, Members, is_joined, leader_in}
 use Rattle.ucon_lists.proofs.Standing.{some_of}
 
 -- what follows on both ways
@@ -30,23 +30,4 @@ at_most_entered v u w leader session at_most joined enters = record {
     ]
   ];
   joined = λ l was. enters.joined l ∙ at_most.joined l was;
-}
-
-pub at_most_none : (v w : Members) (leader session : ℕ) → AreSame v w → JoinsAtMost v w leader session
-at_most_none v w leader session same = record { members = λ l n led. inr (sym (same.leaders n) ∙ led); joined = λ l was. same.joined l ∙ was }
-
-pub at_most_opened : (v w : Members) (leader session : ℕ) → Opens v w leader → JoinsAtMost v w leader session
-at_most_opened v w leader session opens = record {
-  members = λ l n led. inr (sym (opens.leaders n) ∙ led);
-  joined = λ l was. elim (eqb_tells l leader) [ inl same ↦ ap (is_joined w) same.1 ∙ opens.joined | inr other ↦ opens.lists l other.1 ∙ was ];
-}
-
-pub at_most_founded : (v u w : Members) (leader session : ℕ) → is_joined v leader ≡ false → Opens v u leader → Enters u w leader leader
-    → JoinsAtMost v w leader session
-at_most_founded v u w leader session unjoined opens enters = record {
-  members = λ l n led. elim (eqb_tells n leader) [
-    | inl same ↦ inl (some_of (sym led ∙ ap (leader_in w) same.1 ∙ enters.itself), enters.joined leader ∙ opens.joined, inr (same.1, unjoined))
-    | inr other ↦ inr (sym (opens.leaders n) ∙ sym (enters.others n other.1) ∙ led)
-  ];
-  joined = λ l was. enters.joined l ∙ (at_most_opened v u leader session opens).joined l was;
 }

@@ -77,20 +77,6 @@ is_or_not false = inr refl
 pub never_both : {A : Type 0} (b : Bool) → b ≡ true → b ≡ false → A
 never_both b is not = absurd (let both : true ≡ false = sym is ∙ not in cc)
 
--- lists with the same members that were joined alike
-pub led_same : (v w : Members) (l : ℕ) → is_joined w l ≡ is_joined v l → ((n : ℕ) → Contains (members_in w l) n ↔ Contains (members_in v l) n) → (n : ℕ)
-    → Contains (led_by w l) n ↔ Contains (led_by v l) n
-led_same v w l joined same n = elim (is_or_not (is_joined v l)) [
-  | inl was ↦ (
-    λ has. joined_led v l n was ((same n).0 (led_member w l n (joined ∙ was) has)),
-    λ has. joined_led w l n (joined ∙ was) ((same n).1 (led_member v l n was has)),
-  )
-  | inr was ↦ (
-    λ has. subst (Contains (led_by v l)) (sym (led_only w l n (joined ∙ was) has)) (alone_led v l was),
-    λ has. subst (Contains (led_by w l)) (sym (led_only v l n was has)) (alone_led w l (joined ∙ was)),
-  )
-]
-
 pub stands_by : (v : Members) (i : Dependents) (place l n : ℕ) → Contains (stands_in i place) l → Contains (led_by v l) n → Contains (standing_by v i place) n
 stands_by v i place l n stands led = flat_map_has (led_by v) (stands_in i place) l n stands led
 

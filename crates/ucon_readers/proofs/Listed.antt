@@ -46,10 +46,6 @@ module _ {X Y : Type 0} (f : X → List Y) where
 
 -- ---- members and their leaders
 
--- no session is in two lists
-abbrev pub AreOfOne : Members → Type 0
-AreOfOne v = (l n : ℕ) → Contains (members_in v l) n → leader_in v n ≡ Some l
-
 is_of_tells : (leader : ℕ) (told : Option ℕ) → ((is_of leader told ≡ true) × (told ≡ Some leader)) ⊎ ((is_of leader told ≡ false) × (told ≢ Some leader))
 is_of_tells leader None = inr (refl, λ is. cc)
 is_of_tells leader (Some l) = elim (eqb_tells l leader) [
@@ -98,8 +94,8 @@ among_members leader start (row ∷ rows) (suc k) is =
         (further start (members_from leader (suc start) rows) (start + suc k) rest)
     by (inr other) rest = subst (λ (b : Bool). Contains (cond b (start ∷ members_from leader (suc start) rows) (members_from leader (suc start) rows)) (start + suc k)) (sym other.0) rest
 
--- who is a member of a list has its leader, and no other is a member
-pub of_one : (v : Members) → AreOfOne v
+-- whoever is a member of a list has its leader, so that nobody is in two; and whoever has that leader is a member
+pub of_one : (v : Members) (l n : ℕ) → Contains (members_in v l) n → leader_in v n ≡ Some l
 of_one v l n has =
     let is = from_members l zero v.rows n has in
     let at : n ≡ is.0 = let same = is.1 in omega (arith, same) in
