@@ -1,5 +1,6 @@
 mod Added
 mod Files
+mod Leading
 mod Openings
 mod Reading
 mod Records

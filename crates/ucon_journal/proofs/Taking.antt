@@ -1,18 +1,10 @@
 -- A record that is taken.
-use Rattle.std.proofs.Common.{◌≡◌, ℕ, ◌+◌, ◌-◌, ◌<◌, min, true, List, [], ◌∷◌, ◌++◌, length, take, drop, sym, ◌∙◌, ap, subst, arith, append_assoc, length-append, length-take, length-drop, take-append-drop}
-use Rattle.std.proofs.lemmas.List.{take_min, take_all, drop-drop, append-nil}
-use Rattle.ucon_disk.specs.Disk.{Reads}
+use Rattle.std.proofs.Common.{◌≡◌, ℕ, ◌+◌, ◌-◌, true, List, [], ◌∷◌, ◌++◌, length, take, drop, sym, ◌∙◌, ap, subst, arith, append_assoc, length-append, length-take, length-drop, take-append-drop}
+use Rattle.std.proofs.lemmas.List.{drop-drop, append-nil}
 use Rattle.ucon_journal.specs.JournalBytes.{magic}
 use Rattle.ucon_journal.specs.Found.{length_told, counts, payload_at, payloads_after, payloads_from, counted, StandsAt}
 use Rattle.ucon_journal.proofs.Records.{length-records-append, payloads_after-more, counts_within, reads_more}
 use Rattle.ucon_journal.proofs.Files.{drop-gate, counted-stands}
-
--- what is read into n places of a buffer is the first n bytes behind the place
-pub front_is : (file : List ℕ) (n at got : ℕ) (buf : List ℕ) → length buf ≡ n → Reads file at got buf → take got buf ≡ take n (drop at file)
-front_is file n at got buf size reads =
-    let tail = drop at file in
-    let count : got ≡ min n (length tail) = omega (arith, reads.count, size, length-drop at file) in
-    reads.bytes ∙ ap (λ k. take k tail) count ∙ take_min n tail
 
 pub left_is : (file : List ℕ) (gate len left : ℕ) → left ≡ len - gate → len ≡ length file → left ≡ length (drop gate file)
 left_is file gate len left is is_len = omega (arith, is, is_len, length-drop gate file)
@@ -24,9 +16,6 @@ ends_at file version gate stands none =
     (subst (λ (ps : List (List ℕ)). StandsAt file version gate ps) (sym all) stands.1, none)
 
 module _ (file : List ℕ) (gate n : ℕ) (counted : counts (drop gate file) ≡ true) (told : n ≡ length_told (drop gate file)) where
-  within : gate + (5 + n) < length file
-  within = omega (arith, counts_within (drop gate file) counted, told, length-drop gate file)
-
   pub length-payload : length (payload_at (drop gate file)) ≡ n
   length-payload = omega (arith, length-take (length_told (drop gate file)) (drop 5 (drop gate file)), length-drop 5 (drop gate file), counts_within (drop gate file) counted, told)
 
@@ -36,17 +25,9 @@ module _ (file : List ℕ) (gate n : ℕ) (counted : counts (drop gate file) ≡
       ∙ ap (λ k. payload_at (drop gate file) ∷ payloads_after 0 (drop (5 + k) (drop gate file))) (sym told)
       ∙ ap (λ (l : List ℕ). payload_at (drop gate file) ∷ payloads_after 0 l) (drop-drop (5 + n) gate file)
 
-  -- the payload is read whole
-  pub full_read : (got : ℕ) (buf : List ℕ) → length buf ≡ n → Reads file (gate + 5) got buf → got ≡ n
-  full_read got buf size reads = omega (arith, reads.count, size, within)
-
-  pub payload_is : (got : ℕ) (buf : List ℕ) → length buf ≡ n → Reads file (gate + 5) got buf → payload_at (drop gate file) ≡ buf
-  payload_is got buf size reads =
-      let all : got ≡ n = full_read got buf size reads in
-      ap (λ k. take k (drop 5 (drop gate file))) (sym told ∙ sym all)
-      ∙ ap (λ (l : List ℕ). take got l) (drop-drop 5 gate file)
-      ∙ sym reads.bytes
-      ∙ take_all got buf (omega (arith, all, size))
+  -- the payload stands behind the gate and its length
+  pub payload_is : payload_at (drop gate file) ≡ take n (drop (gate + 5) file)
+  payload_is = ap (λ k. take k (drop 5 (drop gate file))) (sym told) ∙ ap (λ (l : List ℕ). take n l) (drop-drop 5 gate file)
 
   pub stands_more : (version : ℕ) (ps : List (List ℕ)) → StandsAt file version gate ps → StandsAt file version (gate + (5 + n)) (ps ++ payload_at (drop gate file) ∷ [])
   stands_more version ps stands =

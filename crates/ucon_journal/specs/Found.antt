@@ -28,6 +28,11 @@ payloads_after zero (byte ∷ rest) = if counts (byte ∷ rest) then payload_at 
 abbrev pub payloads_from : List ℕ → ℕ → List (List ℕ)
 payloads_from file gate = payloads_after 0 (drop gate file)
 
+-- From a gate on the first records are of these payloads, and lead to another gate; the others are of those.
+pub record LeadTo (file : List ℕ) (from : ℕ) (ps : List (List ℕ)) (to : ℕ) (qs : List (List ℕ)) : Type 0 where
+  pub are : payloads_from file from ≡ ps ++ qs
+  pub place : to ≡ from + length (records ps)
+
 pub data Found : Type 0 where
   Fresh : Found
   NotJournal : Found

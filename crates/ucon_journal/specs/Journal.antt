@@ -3,7 +3,7 @@ use Rattle.std.specs.Prelude.{◌≡◌, ◌⊎◌, ℕ, ◌+◌, ◌≤◌, Lis
 use Rattle.ucon_journal.specs.declared.journal.Journal.{Journal}
 use Rattle.ucon_journal.specs.declared.phase.Phase.{Phase}
 use Rattle.ucon_journal.specs.declared.phase.Phase.TheVariants.{Reading, Ended, Closed, Broken}
-use Rattle.ucon_journal.specs.Ahead.{IsPartOf}
+use Rattle.ucon_journal.specs.Ahead.{IsPartOf, bytes_at}
 use Rattle.ucon_journal.specs.Found.{counted, payloads_from, StandsAt}
 
 abbrev pub disk_of : {D : Type 0} → Journal D → D
@@ -17,9 +17,9 @@ version_of j = j.version
 abbrev pub gate_of : {D : Type 0} → Journal D → ℕ
 gate_of j = j.gate
 
--- the payload that was read last
+-- the payload that was taken last, as it was read ahead
 abbrev pub payload_of : {D : Type 0} → Journal D → List ℕ
-payload_of j = j.buffer.items
+payload_of j = bytes_at j.ahead j.payload_place j.payload_len
 
 -- there is room for a payload of n bytes
 abbrev pub HasRoomFor : {D : Type 0} → Journal D → ℕ → Type 0

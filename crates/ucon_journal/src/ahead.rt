@@ -1,14 +1,15 @@
 //! Bytes of a file that are read ahead.
 
-ghost use Rattle.std.specs.Prelude.{◌≡◌, ◌-◌, ◌≤◌, IsTrue, ℕ, List, min, length, IfSome, IfOk, OnOk, vec_capacity};
-ghost use Rattle.ucon_disk.specs.Causes.{HasCause};
-ghost use Rattle.ucon_disk.specs.Disk.{Elapses, Reads, SameImages};
-ghost use Rattle.ucon_journal.specs.Ahead.{IsPartOf};
+ghost use Rattle.std.specs.Prelude.{◌≡◌, ◌≢◌, ◌-◌, ◌≤◌, Err, IsTrue, IsErrOf, ℕ, List, max, min, take, drop, length, IfSome, OnOk, vec_capacity};
+ghost use Rattle.ucon_disk.specs.Causes.{HasCause, raised};
+ghost use Rattle.ucon_disk.specs.Disk.{Elapses, SameImages};
+ghost use Rattle.ucon_journal.specs.Ahead.{IsPartOf, bytes_at};
 
-use std::alloc::Global;
+use crate::fault::TakeFault;
+use std::alloc::{AllocError, Global};
 use ucon_disk::{Disk, Failed};
 
-/// How many bytes are read at once.
+/// How many bytes are read at once, where no more are asked for.
 const WINDOW: usize = 65_536;
 
 /// Some bytes of a file, from a place on.
@@ -29,37 +30,49 @@ impl Ahead {
         }
     }
 
-    /// What the disk's `read_at` gives. The disk is called only where not all of it was read ahead, and then more of the file is read, if there
-    /// is memory for it.
-    pub(crate) fn read_at<D: Disk>(
+    /// Sees to it that so many bytes from a place on are there, as far as the file has them. The disk is called only where not all of them were
+    /// read ahead.
+    #[inline]
+    pub(crate) fn bring<D: Disk>(
         &mut self,
         disk: &mut D,
         at: u64,
-        buf: &mut [u8],
-    ) -> Result<usize, Failed>
+        n: usize,
+    ) -> Result<(), TakeFault>
         requires { IfSome (D.contents disk.old) (IsPartOf self.old) }
         ensures part { IfSome (D.contents disk.new) (IsPartOf self.new) }
-        ensures bound { IfOk result (λ n. n ≤ length buf.new) }
-        ensures reads { IfOk result (λ n. IfSome (D.contents disk.old) (λ file. Reads file at n buf.new)) }
+        ensures there { OnOk result (IfSome (D.contents disk.old) (λ file. bytes_at self.new at n ≡ take n (drop at file))) }
         ensures contents { D.contents disk.new ≡ D.contents disk.old }
         ensures images { SameImages (D.images disk.old) (D.images disk.new) }
         ensures time { Elapses (D.moment disk.old) (D.moment disk.new) (D.images_since disk.old) (D.images_since disk.new) (D.images disk.new) }
-        ensures cause { HasCause (D.faults disk.old) (D.faults disk.new) result }
+        ensures failed { IsErrOf result TakeFault.DiskFault → D.faults disk.new ≡ raised (D.faults disk.old) }
+        ensures unfailed { result ≢ Err TakeFault.DiskFault → D.faults disk.new ≡ D.faults disk.old }
+        ensures whole { (place : ℕ) → result ≢ Err (TakeFault.TooLong place) }
     {
-        if self.has(at, buf.len()) {
-            return Ok(self.copy(at, buf));
+        if self.has(at, n) {
+            return Ok(());
         }
-        if buf.len() > WINDOW {
-            return disk.read_at(at, buf);
-        }
-        if !self.has_room() {
-            return disk.read_at(at, buf);
-        }
-        self.fill(disk, at)?;
-        Ok(self.copy(at, buf))
+        let size = n.max(WINDOW);
+        self.make_room(size)?;
+        self.fill(disk, at, size)?;
+        Ok(())
+    }
+
+    /// What was read ahead of so many bytes from a place on.
+    #[inline]
+    pub(crate) fn bytes_at(&self, at: u64, n: usize) -> &[u8]
+        ensures { result.now ≡ bytes_at self.now at n }
+    {
+        let skipped = at.saturating_sub(self.place) as usize;
+        let rest = match self.bytes.get(skipped..) {
+            Some(rest) => rest,
+            None => &[],
+        };
+        &rest[..n.min(rest.len())]
     }
 
     /// Whether so many bytes from a place on were read ahead.
+    #[inline]
     fn has(&self, at: u64, n: usize) -> bool
         ensures place { IsTrue result → self.now.place ≤ at }
         ensures all { IsTrue result → n ≤ length self.now.bytes.items - (at - self.now.place) }
@@ -73,43 +86,29 @@ impl Ahead {
         }
     }
 
-    /// Puts the bytes from a place on into the front of the buffer, as far as they were read ahead.
-    fn copy(&self, at: u64, buf: &mut [u8]) -> usize
-        requires { self.now.place ≤ at }
-        ensures { Reads self.now.bytes.items (at - self.now.place) result buf.new }
-    {
-        let skipped = (at - self.place) as usize;
-        let rest = match self.bytes.get(skipped..) {
-            Some(rest) => rest,
-            None => &[],
-        };
-        let n = rest.len().min(buf.len());
-        buf[..n].copy_from_slice(&rest[..n]);
-        n
-    }
-
-    /// Whether there is memory for the bytes that are read at once.
-    fn has_room(&mut self) -> bool
-        ensures room { IsTrue result → WINDOW ≤ vec_capacity self.new.bytes }
+    /// Makes room for so many bytes.
+    fn make_room(&mut self, size: usize) -> Result<(), AllocError>
+        ensures room { OnOk result (size ≤ vec_capacity self.new.bytes) }
         ensures place { self.new.place ≡ self.old.place }
         ensures bytes { self.new.bytes.items ≡ self.old.bytes.items }
     {
-        let more = WINDOW.saturating_sub(self.bytes.len());
-        self.bytes.reserve(more).is_ok()
+        let more = size.saturating_sub(self.bytes.len());
+        self.bytes.reserve(more)
     }
 
-    /// Reads the bytes from a place on, in the place of those that were there.
-    fn fill<D: Disk>(&mut self, disk: &mut D, at: u64) -> Result<(), Failed>
-        requires { WINDOW ≤ vec_capacity self.old.bytes }
+    /// Reads so many bytes from a place on, in the place of those that were there.
+    #[inline(never)]
+    fn fill<D: Disk>(&mut self, disk: &mut D, at: u64, size: usize) -> Result<(), Failed>
+        requires { size ≤ vec_capacity self.old.bytes }
         ensures part { IfSome (D.contents disk.new) (IsPartOf self.new) }
         ensures place { OnOk result (self.new.place ≡ at) }
-        ensures filled { OnOk result (IfSome (D.contents disk.old) (λ file. min WINDOW (length file - at) ≤ length self.new.bytes.items)) }
+        ensures filled { OnOk result (IfSome (D.contents disk.old) (λ file. min size (length file - at) ≤ length self.new.bytes.items)) }
         ensures contents { D.contents disk.new ≡ D.contents disk.old }
         ensures images { SameImages (D.images disk.old) (D.images disk.new) }
         ensures time { Elapses (D.moment disk.old) (D.moment disk.new) (D.images_since disk.old) (D.images_since disk.new) (D.images disk.new) }
         ensures cause { HasCause (D.faults disk.old) (D.faults disk.new) result }
     {
-        let Ok(()) = self.bytes.resize(WINDOW, 0) else {
+        let Ok(()) = self.bytes.resize(size, 0) else {
             unreachable!()
         };
         match disk.read_at(at, &mut self.bytes) {

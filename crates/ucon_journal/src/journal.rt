@@ -8,7 +8,7 @@ ghost use Rattle.ucon_disk.specs.Causes.{HasCause, raised};
 ghost use Rattle.ucon_disk.specs.Disk.{Only, SameImages};
 ghost use Rattle.ucon_disk.specs.Run.{LeavesOnly, LeavesAfter};
 ghost use Rattle.ucon_journal.specs.JournalBytes.{IsVersion, AreShort, records, journal_bytes};
-ghost use Rattle.ucon_journal.specs.Found.{found, version_told, counted, payloads_from, counts, length_told};
+ghost use Rattle.ucon_journal.specs.Found.{found, version_told, counted, payloads_from, counts, length_told, LeadTo};
 ghost use Rattle.ucon_journal.specs.Found as finding;
 ghost use Rattle.ucon_journal.specs.Opened.{opened, shut_at, with_payload, Untouched, SamePayloads, PerhapsAdded};
 
@@ -37,6 +37,8 @@ pub struct Journal<D> {
     gate: u64,
     len: u64,
     ahead: Ahead,
+    payload_place: u64,
+    payload_len: usize,
     buffer: Vec<u8>,
     phase: Phase,
     ghost version_known: { IsVersion version },
@@ -73,6 +75,8 @@ impl<D: Disk> Journal<D> {
                 gate: FIRST_GATE,
                 len: opened.len,
                 ahead: Ahead::new(alloc),
+                payload_place: 0,
+                payload_len: 0,
                 buffer: Vec::new(alloc),
                 phase: Phase::Reading,
             }),
@@ -109,26 +113,28 @@ impl<D: Disk> Journal<D> {
         ensures failed { IsErrOf result TakeFault.DiskFault → D.faults (disk_of self.new) ≡ raised (D.faults (disk_of self.old)) }
         ensures unfailed { result ≢ Err TakeFault.DiskFault → D.faults (disk_of self.new) ≡ D.faults (disk_of self.old) }
     {
-        let mut header = [0; 5];
-        let got = self.ahead.read_at(&mut self.disk, self.gate, &mut header)?;
+        self.ahead
+            .bring(&mut self.disk, self.gate, HEADER as usize)?;
         let left = self.len.saturating_sub(self.gate);
-        let Some(len) = whole_len(&header[..got], left) else {
+        let header = self.ahead.bytes_at(self.gate, HEADER as usize);
+        let Some(len) = whole_len(header, left) else {
             self.phase = Phase::Ended;
             return Ok(false);
         };
         if len > MAX_PAYLOAD {
             return Err(TakeFault::TooLong(self.gate));
         }
-        self.buffer.resize(len as usize, 0)?;
-        let got = self
-            .ahead
-            .read_at(&mut self.disk, self.gate + HEADER, &mut self.buffer)?;
+        let place = self.gate + HEADER;
+        let size = len as usize;
+        self.ahead.bring(&mut self.disk, place, size)?;
         // A disk that tells its content reads whole here. A real file may have got shorter since its length was taken: then
         // the record doesn't lie within it, and doesn't count. No clause can say so, since no clause speaks of a real file.
-        if got < self.buffer.len() {
+        if self.ahead.bytes_at(place, size).len() < size {
             self.phase = Phase::Ended;
             return Ok(false);
         }
+        self.payload_place = place;
+        self.payload_len = size;
         self.gate += HEADER + len;
         self.phase = Phase::Reading;
         Ok(true)
@@ -146,7 +152,7 @@ impl<D: Disk> Journal<D> {
     pub fn payload(&self) -> &[u8]
         ensures { result.now ≡ payload_of self.now }
     {
-        &self.buffer
+        self.ahead.bytes_at(self.payload_place, self.payload_len)
     }
 
     /// Goes back before the first record, which `next` takes then.
@@ -159,6 +165,22 @@ impl<D: Disk> Journal<D> {
         ensures disk { disk_of self.new ≡ disk_of self.old }
     {
         self.gate = FIRST_GATE;
+        self.phase = Phase::Reading;
+    }
+
+    /// Goes on to a gate that a walk has passed, whose record `next` takes then. None of the records before it is read.
+    pub fn go_to(&mut self, gate: u64)
+        requires reading { IsReading D.contents self.old }
+        requires leads { IfSome (D.contents (disk_of self.old)) (λ file. (ps : List (List ℕ)) × (qs : List (List ℕ)) × LeadTo file (gate_of self.old) ps gate qs) }
+        requires small { gate < 2 ^ 63 }
+        ensures reading { IsReading D.contents self.new }
+        ensures gate { gate_of self.new ≡ gate }
+        ensures left { IfSome (D.contents (disk_of self.old)) (λ file. (ps qs : List (List ℕ)) → LeadTo file (gate_of self.old) ps gate qs
+            → payloads_from file gate ≡ qs) }
+        ensures version { version_of self.new ≡ version_of self.old }
+        ensures disk { disk_of self.new ≡ disk_of self.old }
+    {
+        self.gate = gate;
         self.phase = Phase::Reading;
     }
 
@@ -239,6 +261,8 @@ impl<D: Disk> Journal<D> {
             gate: _,
             len: _,
             ahead: _,
+            payload_place: _,
+            payload_len: _,
             buffer: _,
             phase: _,
         } = self;

@@ -1,7 +1,9 @@
--- Record after record up to the last checkpoint.
-use Rattle.std.proofs.Common.{◌≡◌, ℕ, ◌+◌, ◌<◌, ◌≤◌, Bool, false, cond, List, [], ◌∷◌, ◌++◌, length, Option, Some, None, refl, sym, ap, ◌∙◌, arith}
+-- Straight to the last checkpoint, behind the records before it.
+use Rattle.std.proofs.Common.{◌≡◌, inl, inr, ℕ, ◌+◌, Bool, cond, List, [], ◌∷◌, ◌++◌, length, Option, Some, None, refl, sym, ap, ◌∙◌, arith, length-append}
+use Rattle.std.proofs.lemmas.Bool.{cases_Bool}
 use Rattle.std.specs.Prelude.{nat_lt, IfSome}
-use Rattle.ucon_journal.specs.Found.{payloads_from}
+use Rattle.ucon_journal.specs.Found.{payloads_from, LeadTo}
+use Rattle.ucon_journal.specs.JournalBytes.{records}
 use Rattle.ucon_model.specs.Found.{gate_behind, next_gate}
 use Rattle.ucon_model.specs.Payload.{most_payload}
 use Rattle.ucon_model.specs.Plain.{Bytes}
@@ -33,9 +35,6 @@ passed_there (Some file) number gate can none = absurd (can.0 none)
 
 -- ---- one record
 
-long_no : (m n : ℕ) → n ≤ m → nat_lt m n ≡ false
-long_no m n le = grind arith
-
 heads : (x y : Bytes) (xs ys : List Bytes) → x ∷ xs ≡ y ∷ ys → x ≡ y
 heads x y xs ys h = cc h
 
@@ -43,30 +42,7 @@ tails : (x y : Bytes) (xs ys : List Bytes) → x ∷ xs ≡ y ∷ ys → xs ≡ 
 tails x y xs ys h = cc h
 
 module _ (last : LastPoint) (p : Parted) (number gate next : ℕ) (file payload : Bytes) (more : payloads_from file gate ≡ payload ∷ payloads_from file next)
-    (on : next ≡ gate + 5 + length payload) (short : length payload ≤ most_payload) where
-  next_short : first_long number gate (payloads_from file gate) ≡ None → first_long (number + 1) next (payloads_from file next) ≡ None
-  next_short none =
-      let fits : nat_lt most_payload (length payload) ≡ false = long_no most_payload (length payload) short in
-      ap (λ (n : ℕ). first_long (number + 1) n (payloads_from file next)) on
-      ∙ (ap (λ (b : Bool). cond b (Some (number, gate)) (first_long (number + 1) (next_gate gate payload) (payloads_from file next))) (sym fits)
-      ∙ (ap (first_long number gate) (sym more) ∙ none))
-
-  -- a record before the checkpoint
-  pub up_to_next : IsUpTo last p number gate file → number < last.number → IsUpTo last p (number + 1) next file
-  up_to_next u less = by u.rest u.are u.count u.place
-    where
-      by : (rest : List Bytes) → payloads_from file gate ≡ rest ++ p.point ∷ p.behind → number + length rest ≡ last.number → gate_behind gate rest ≡ last.place → IsUpTo last p (number + 1) next file
-      by [] are count place = absurd (omega (arith, count, less))
-      by (r ∷ rest) are count place =
-          let same : payload ≡ r = heads payload r (payloads_from file next) (rest ++ p.point ∷ p.behind) (sym more ∙ are) in
-          let gates : next_gate gate r ≡ next = ap (λ (x : Bytes). gate + 5 + length x) (sym same) ∙ sym on in record {
-            rest = rest;
-            are = tails payload r (payloads_from file next) (rest ++ p.point ∷ p.behind) (sym more ∙ are);
-            count = omega (arith, count);
-            place = ap (λ (n : ℕ). gate_behind n rest) (sym gates) ∙ place;
-            short = next_short u.short;
-          }
-
+    (on : next ≡ gate + 5 + length payload) where
   -- the checkpoint
   pub taken_at : IsUpTo last p number gate file → number ≡ last.number → IsTaken last p payload next file
   taken_at u is = by u.rest u.are u.count u.place
@@ -80,22 +56,62 @@ module _ (last : LastPoint) (p : Parted) (number gate next : ℕ) (file payload 
             place = on ∙ (λ i. place i + 5 + length (same i));
           }
 
+-- ---- the records before the checkpoint
+
+-- a gate behind records, by their bytes
+gates : (gate : ℕ) (ps : List Bytes) → gate_behind gate ps ≡ gate + length (records ps)
+gates gate [] = omega arith
+gates gate (p ∷ ps) = gates (next_gate gate p) ps ∙ omega (arith, length-append p (records ps))
+
+-- where none of some records is too long, none behind the first of them is
+short_behind : (number gate : ℕ) (rest later : List Bytes) → first_long number gate (rest ++ later) ≡ None → first_long (number + length rest) (gate_behind gate rest) later ≡ None
+short_behind number gate [] later none =
+    let same : number + 0 ≡ number = omega arith in
+    ap (λ (n : ℕ). first_long n gate later) same ∙ none
+short_behind number gate (r ∷ rest) later none = elim (cases_Bool (nat_lt most_payload (length r))) [
+  | inl e ↦
+      let no : Some (number, gate) ≡ None = sym (ap (λ (b : Bool). cond b (Some (number, gate)) (first_long (number + 1) (next_gate gate r) (rest ++ later))) e) ∙ none in
+      absurd (cc no)
+  | inr e ↦
+      let on : first_long (number + 1) (next_gate gate r) (rest ++ later) ≡ None =
+      sym (ap (λ (b : Bool). cond b (Some (number, gate)) (first_long (number + 1) (next_gate gate r) (rest ++ later))) e) ∙ none in
+      let count : number + length (r ∷ rest) ≡ (number + 1) + length rest = omega arith in
+      ap (λ (n : ℕ). first_long n (gate_behind (next_gate gate r) rest) later) count ∙ short_behind (number + 1) (next_gate gate r) rest later on
+]
+
+module _ (last : LastPoint) (p : Parted) (first : ℕ) (file : Bytes) (u : IsUpTo last p 1 first file) where
+  leads : LeadTo file first u.rest last.place (p.point ∷ p.behind)
+  leads = record { are = u.are; place = sym u.place ∙ gates first u.rest }
+
+  -- so it stands at its gate, and no record is too long from there on
+  gone_to : payloads_from file last.place ≡ p.point ∷ p.behind → IsUpTo last p last.number last.place file
+  gone_to are = record {
+    rest = [];
+    are = are;
+    count = omega arith;
+    place = refl;
+    short = (λ i. first_long (sym u.count i) (sym u.place i) (are i)) ∙ short_behind 1 first u.rest (p.point ∷ p.behind) (sym (ap (first_long 1 first) u.are) ∙ u.short);
+  }
+
 -- ---- where the disk tells
 
 module _ (last : LastPoint) where
-  pub up_to_more : (o : Option Bytes) (number first gate next : ℕ) (payload : Bytes) → IfSome o (λ file. (p : Parted) → IsUpTo last p 1 first file → IsUpTo last p number gate file)
-      → IfSome o (λ file. payloads_from file gate ≡ payload ∷ payloads_from file next) → next ≡ gate + 5 + length payload → length payload ≤ most_payload → number < last.number
-      → IfSome o (λ file. (p : Parted) → IsUpTo last p 1 first file → IsUpTo last p (number + 1) next file)
-  up_to_more None number first gate next payload upto more on short less = tt
-  up_to_more (Some file) number first gate next payload upto more on short less =
-      λ p u. up_to_next last p number gate next file payload more on short (upto p u) less
+  pub leads_told : (o : Option Bytes) (first : ℕ) → IfSome o (λ file. (p : Parted) × IsUpTo last p 1 first file)
+      → IfSome o (λ file. (ps : List Bytes) × (qs : List Bytes) × LeadTo file first ps last.place qs)
+  leads_told None first there = tt
+  leads_told (Some file) first there = (there.1.rest, there.0.point ∷ there.0.behind, leads last there.0 first file there.1)
+
+  pub gone_told : (o : Option Bytes) (first : ℕ) → IfSome o (λ file. (ps qs : List Bytes) → LeadTo file first ps last.place qs → payloads_from file last.place ≡ qs)
+      → IfSome o (λ file. (p : Parted) → IsUpTo last p 1 first file → IsUpTo last p last.number last.place file)
+  gone_told None first left = tt
+  gone_told (Some file) first left = λ p u. gone_to last p first file u (left u.rest (p.point ∷ p.behind) (leads last p first file u))
 
   pub taken_more : (o : Option Bytes) (number first gate next : ℕ) (payload : Bytes) → IfSome o (λ file. (p : Parted) → IsUpTo last p 1 first file → IsUpTo last p number gate file)
-      → IfSome o (λ file. payloads_from file gate ≡ payload ∷ payloads_from file next) → next ≡ gate + 5 + length payload → length payload ≤ most_payload → number ≡ last.number
+      → IfSome o (λ file. payloads_from file gate ≡ payload ∷ payloads_from file next) → next ≡ gate + 5 + length payload → number ≡ last.number
       → IfSome o (λ file. (p : Parted) → IsUpTo last p 1 first file → IsTaken last p payload next file)
-  taken_more None number first gate next payload upto more on short is = tt
-  taken_more (Some file) number first gate next payload upto more on short is =
-      λ p u. taken_at last p number gate next file payload more on short (upto p u) is
+  taken_more None number first gate next payload upto more on is = tt
+  taken_more (Some file) number first gate next payload upto more on is =
+      λ p u. taken_at last p number gate next file payload more on (upto p u) is
 
   not_empty : (rest front : List Bytes) (x : Bytes) (xs : List Bytes) → rest ≡ front ++ x ∷ xs → rest ≡ [] → ⊥
   not_empty rest [] x xs is none = let no : x ∷ xs ≡ [] = sym is ∙ none in absurd (cc no)

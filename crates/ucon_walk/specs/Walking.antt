@@ -25,9 +25,9 @@ abbrev pub IsWalked : Bool → List Bytes → Option LastPoint → Type 0
 IsWalked points [] last = last ≡ None
 IsWalked points (text ∷ payloads) last = (first_long 0 first_gate (text ∷ payloads) ≡ None) × IsAtParted text (parted_with points payloads) last
 
--- fewer steps than records stand before it, in fewer bytes than these, five at least each
+-- fewer steps than records stand before it, five bytes at least each, and its gate's place is below so many bytes
 abbrev pub IsPlacedBelow : ℕ → LastPoint → Type 0
-IsPlacedBelow bytes last = (last.entries < last.number) × (5 * last.number < bytes)
+IsPlacedBelow bytes last = (last.entries < last.number) × (5 * last.number ≤ last.place) × (last.place < bytes)
 
 -- ---- record by record
 

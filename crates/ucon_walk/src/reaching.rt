@@ -1,24 +1,24 @@
-//! How opening gets to the last checkpoint: the records before it are read once more, and none is interpreted.
+//! How opening gets to the last checkpoint: a walk has passed the records before it, and they aren't read again.
 
-ghost use Rattle.std.specs.Prelude.{◌≡◌, ◌+◌, ◌*◌, ◌≤◌, ◌<◌, ◌^◌, ◌∷◌, length, IfSome, IfErr, OnOk};
+ghost use Rattle.std.specs.Prelude.{◌≡◌, ◌+◌, ◌*◌, ◌≤◌, ◌^◌, ◌∷◌, length, IfSome, IfErr, OnOk};
 ghost use Rattle.ucon_disk.specs.Disk.{SameImages};
 ghost use Rattle.ucon_disk.specs.Run.{LeavesOnly};
 ghost use Rattle.ucon_journal.specs.Found.{payloads_from};
 ghost use Rattle.ucon_journal.specs.Journal.{disk_of, gate_of, payload_of, version_of, IsReading};
 ghost use Rattle.ucon_walk.specs.Parted.{Parted};
 ghost use Rattle.ucon_walk.specs.Reaching.{CanBePassed, IsTaken, IsUnpassed, IsUpTo};
+ghost use Rattle.ucon_walk.specs.Walking.{IsPlacedBelow};
 
 use crate::fault::{RecordFault, at_record};
 use crate::walking::LastPoint;
 use ucon_disk::Disk;
 use ucon_journal::{Journal, MAX_PAYLOAD};
 
-/// Takes the last checkpoint of a journal of which record 0 was taken, as a walk has found it.
+/// Takes the last checkpoint of a journal of which record 0 was taken, as a walk has found it. It goes straight there.
 pub fn take_point<D: Disk>(last: LastPoint, journal: &mut Journal<D>) -> Result<(), RecordFault>
     requires reading { IsReading D.contents journal.old }
     requires upto { IfSome (D.contents (disk_of journal.old)) (λ file. (p : Parted) × IsUpTo last p 1 (gate_of journal.old) file) }
-    requires small { 5 ≤ gate_of journal.old }
-    requires some { last.entries < last.number }
+    requires below { IsPlacedBelow (2 ^ 63) last }
     ensures taken { OnOk result (IfSome (D.contents (disk_of journal.old)) (λ file. (p : Parted)
         → IsUpTo last p 1 (gate_of journal.old) file → IsTaken last p (payload_of journal.new) (gate_of journal.new) file)) }
     ensures short { OnOk result (length (payload_of journal.new) ≤ MAX_PAYLOAD) }
@@ -32,34 +32,8 @@ pub fn take_point<D: Disk>(last: LastPoint, journal: &mut Journal<D>) -> Result<
     ensures run { LeavesOnly D.moment D.images_since (disk_of journal.old) (disk_of journal.new) (D.images (disk_of journal.old)) }
     ensures unfailed { OnOk result (D.faults (disk_of journal.new) ≡ D.faults (disk_of journal.old)) }
 {
-    pass_to(last, journal)?;
+    journal.go_to(last.place);
     pass(last.number, journal)?;
-    Ok(())
-}
-
-/// Passes the records behind record 0 and before the last checkpoint.
-fn pass_to<D: Disk>(last: LastPoint, journal: &mut Journal<D>) -> Result<(), RecordFault>
-    requires reading { IsReading D.contents journal.old }
-    requires upto { IfSome (D.contents (disk_of journal.old)) (λ file. (p : Parted) × IsUpTo last p 1 (gate_of journal.old) file) }
-    requires small { 5 ≤ gate_of journal.old }
-    requires some { last.entries < last.number }
-    ensures upto { OnOk result (IfSome (D.contents (disk_of journal.old)) (λ file. (p : Parted)
-        → IsUpTo last p 1 (gate_of journal.old) file → IsUpTo last p last.number (gate_of journal.new) file)) }
-    ensures small { OnOk result (5 * last.number ≤ gate_of journal.new) }
-    ensures unpassed { IfErr result (λ fault.
-        IsUnpassed fault (D.contents (disk_of journal.old)) (D.faults (disk_of journal.old)) (D.faults (disk_of journal.new))) }
-    ensures reading { IsReading D.contents journal.new }
-    ensures version { version_of journal.new ≡ version_of journal.old }
-    ensures contents { D.contents (disk_of journal.new) ≡ D.contents (disk_of journal.old) }
-    ensures images { SameImages (D.images (disk_of journal.old)) (D.images (disk_of journal.new)) }
-    ensures run { LeavesOnly D.moment D.images_since (disk_of journal.old) (disk_of journal.new) (D.images (disk_of journal.old)) }
-    ensures unfailed { OnOk result (D.faults (disk_of journal.new) ≡ D.faults (disk_of journal.old)) }
-{
-    let mut number = 1;
-    'records: while number < last.number {
-        pass(number, journal)?;
-        number += 1;
-    }
     Ok(())
 }
 

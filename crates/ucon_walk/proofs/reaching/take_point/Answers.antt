@@ -1,28 +1,36 @@
-use Rattle.std.proofs.Common.{◌≡◌, ◌∷◌, Option, refl, sym, subst}
+use Rattle.std.proofs.Common.{◌≡◌, ◌∷◌, ℕ, Option, refl, sym, ap, subst}
 use Rattle.std.specs.Prelude.{IfSome}
 use Rattle.ucon_journal.specs.Found.{payloads_from}
 use Rattle.ucon_journal.specs.Journal.{disk_of, gate_of, payload_of}
 use Rattle.ucon_model.specs.Plain.{Bytes}
-use Rattle.ucon_walk.specs.Reaching.{CanBePassed}
-use Rattle.ucon_walk.proofs.Reached.{can_be_passed, taken_more}
+use Rattle.ucon_walk.specs.Parted.{Parted}
+use Rattle.ucon_walk.specs.Reaching.{CanBePassed, IsUpTo}
+use Rattle.ucon_walk.proofs.Reached.{can_be_passed, gone_told, leads_told, taken_more}
 use Rattle.ucon_walk.proofs.reaching.take_point.Goals as goal
+
+pub go_to-requires-clause-leads : goal.go_to-requires-clause-leads
+go_to-requires-clause-leads g c = leads_told c.args.last (g.D.Disk.contents (disk_of c.args.journal.now)) (gate_of c.args.journal.now) c.requires.upto
 
 pub pass-requires-clause-some : goal.pass-requires-clause-some
 pass-requires-clause-some g c =
-    let reached = c.in_ok-pass_to.ensures in
     let last = c.args.last in
-    let gate = gate_of c.pass_to.new.journal in
-    subst (λ (x : Option Bytes). IfSome x (CanBePassed last.number gate)) (sym reached.contents)
-    (can_be_passed last (g.D.Disk.contents (disk_of c.args.journal.now)) last.number (gate_of c.args.journal.now) gate c.requires.upto reached.upto)
+    let o = g.D.Disk.contents (disk_of c.args.journal.now) in
+    let first = gate_of c.args.journal.now in
+    let same : g.D.Disk.contents (disk_of c.go_to.new.self) ≡ o = ap g.D.Disk.contents c.go_to.ensures.disk in
+    let upto = gone_told last o first c.go_to.ensures.left in
+    subst (λ (z : Option Bytes × ℕ). IfSome z.0 (CanBePassed last.number z.1)) (λ i. (sym same i, sym c.go_to.ensures.gate i))
+    (can_be_passed last o last.number first last.place c.requires.upto upto)
 
 pub returns-clause-taken : goal.returns-clause-taken
 returns-clause-taken g c =
-    let reached = c.in_ok-pass_to.ensures in
     let done = c.in_ok-pass.ensures in
     let last = c.args.last in
     let o = g.D.Disk.contents (disk_of c.args.journal.now) in
-    let gate = gate_of c.pass_to.new.journal in
+    let first = gate_of c.args.journal.now in
+    let gate = gate_of c.go_to.new.self in
     let next = gate_of c.pass.new.journal in
     let payload = payload_of c.pass.new.journal in
-    let more = subst (λ (x : Option Bytes). IfSome x (λ file. payloads_from file gate ≡ payload ∷ payloads_from file next)) reached.contents done.passed in
-    taken_more last o last.number (gate_of c.args.journal.now) gate next payload reached.upto more done.advance done.short refl
+    let same : g.D.Disk.contents (disk_of c.go_to.new.self) ≡ o = ap g.D.Disk.contents c.go_to.ensures.disk in
+    let upto = subst (λ (n : ℕ). IfSome o (λ file. (p : Parted) → IsUpTo last p 1 first file → IsUpTo last p last.number n file)) (sym c.go_to.ensures.gate) (gone_told last o first c.go_to.ensures.left) in
+    let more = subst (λ (x : Option Bytes). IfSome x (λ file. payloads_from file gate ≡ payload ∷ payloads_from file next)) same done.passed in
+    taken_more last o last.number first gate next payload upto more done.advance refl
