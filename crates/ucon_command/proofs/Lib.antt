@@ -11,3 +11,4 @@ pub mod Proper
 pub mod ReadLines
 pub mod Refusals
 pub mod SpelledLines
+pub mod Tried

@@ -48,10 +48,10 @@ pub fn command_into(
             right,
             object,
         } => try_into(line, subject, right, object, out),
-        Cuts::Again(n) => *out = Command::Again(n),
-        Cuts::Beat(n) => *out = Command::Beat(n),
-        Cuts::End(n) => *out = Command::End(n),
-        Cuts::Look(n) => *out = Command::Look(n),
+        Cuts::Again(n) => again_into(n, out),
+        Cuts::Beat(n) => beat_into(n, out),
+        Cuts::End(n) => end_into(n, out),
+        Cuts::Look(n) => look_into(n, out),
         Cuts::Value { side, name, attr } => value_into(line, side, name, attr, out),
         Cuts::Amend { policy } => amend_into(alloc, line, policy, out)?,
     }
@@ -144,9 +144,31 @@ fn act_into(line: &[u8], subject: u16, action: u16, object: u16, out: &mut Comma
     };
 }
 
-/// `try`, by where its names begin.
+/// `try`, by where its names begin. Another `try` stays where it is, and gets its names one by one.
 #[inline(always)]
 fn try_into(line: &[u8], subject: u16, right: u16, object: u16, out: &mut Command)
+    requires subject { IsTrue (has_name subject right line.now) }
+    requires right { IsTrue (has_name right object line.now) }
+    requires object { IsTrue (ends_in_name object line.now) }
+    ensures { command_cut (Cuts.Try subject right object) line.now ≡ Some out.new }
+{
+    if let Command::Try {
+        subject: subject_name,
+        right: right_name,
+        object: object_name,
+    } = out
+    {
+        *subject_name = name_between(line, subject, right);
+        *right_name = name_between(line, right, object);
+        *object_name = last_name(line, object);
+        return;
+    }
+    try_over(line, subject, right, object, out);
+}
+
+/// `try` over a command of any form.
+#[inline(never)]
+fn try_over(line: &[u8], subject: u16, right: u16, object: u16, out: &mut Command)
     requires subject { IsTrue (has_name subject right line.now) }
     requires right { IsTrue (has_name right object line.now) }
     requires object { IsTrue (ends_in_name object line.now) }
@@ -157,6 +179,38 @@ fn try_into(line: &[u8], subject: u16, right: u16, object: u16, out: &mut Comman
         right: name_between(line, right, object),
         object: last_name(line, object),
     };
+}
+
+/// `again`, by its session's number.
+#[inline(never)]
+fn again_into(n: u32, out: &mut Command)
+    ensures { out.new ≡ Command.Again n }
+{
+    *out = Command::Again(n);
+}
+
+/// `beat`, by its session's number.
+#[inline(never)]
+fn beat_into(n: u32, out: &mut Command)
+    ensures { out.new ≡ Command.Beat n }
+{
+    *out = Command::Beat(n);
+}
+
+/// `end`, by its session's number.
+#[inline(never)]
+fn end_into(n: u32, out: &mut Command)
+    ensures { out.new ≡ Command.End n }
+{
+    *out = Command::End(n);
+}
+
+/// `look`, by its session's number.
+#[inline(never)]
+fn look_into(n: u32, out: &mut Command)
+    ensures { out.new ≡ Command.Look n }
+{
+    *out = Command::Look(n);
 }
 
 /// `value`, by where its names begin.

@@ -147,6 +147,7 @@ pub fn one_number(alloc: Global, line: &[u8], second: Option<usize>) -> Result<u
 }
 
 /// `act S ACT O` and `try S RIGHT O`: where the names begin.
+#[inline(always)]
 #[tactic(auto, unfolding(ucon_model::specs::CommandLine::three_names, ucon_model::specs::CommandLine::names_of), using(crate::proofs::Placed::three_miscounted))]
 pub fn three_names(line: &[u8], second: Option<usize>) -> Result<(u16, u16, u16), LineFault>
     requires short { length line.now ≤ 8192 }

@@ -18,7 +18,7 @@ use ucon_reply::next_word;
 
 /// Where the words of a line's command stand, or the first refusal. A line of too many bytes is refused before any memory is taken,
 /// and of another line than an amendment each refusal is told whatever memory there is.
-#[tactic(auto, unfolding(ucon_model::specs::CommandLine::line_read))]
+#[tactic(auto, unfolding(ucon_model::specs::CommandLine::line_read), using(crate::proofs::Tried::second, crate::proofs::Tried::short, crate::proofs::Tried::read, crate::proofs::Refusals::sure_refused))]
 pub fn cuts_of(alloc: Global, line: &[u8]) -> Result<Cuts, LineFault>
     ensures long { most_bytes line.now < length line.now → result ≡ Err (LineFault.TooLong (length line.now)) }
     ensures cuts { MatchResult result (λ k. AreCuts k line.now (line_read accepted line.now)) (IsRefusal (line_read accepted line.now)) }
@@ -27,6 +27,35 @@ pub fn cuts_of(alloc: Global, line: &[u8]) -> Result<Cuts, LineFault>
     if is_too_long(line) {
         return Err(LineFault::TooLong(line.len()));
     }
+    if line.starts_with(b"try ") {
+        return try_cuts(line, Some(4));
+    }
+    form_of(alloc, line)
+}
+
+/// `try`: most lines are of this form.
+#[inline(always)]
+#[tactic(auto, unfolding(ucon_model::specs::CommandLine::command_read))]
+fn try_cuts(line: &[u8], second: Option<usize>) -> Result<Cuts, LineFault>
+    requires short { length line.now ≤ 8192 }
+    requires second { IsSecond second line.now }
+    ensures { GivesCuts result line.now (command_read accepted line.now (codes "try") (words_of line.now)) }
+{
+    three_names(line, second).map(|(subject, right, object)| Cuts::Try {
+        subject,
+        right,
+        object,
+    })
+}
+
+/// The form of a line that isn't too long.
+#[inline(never)]
+#[tactic(auto, unfolding(ucon_model::specs::CommandLine::line_read))]
+fn form_of(alloc: Global, line: &[u8]) -> Result<Cuts, LineFault>
+    requires fits { IsFalse (nat_lt (most_bytes line.now) (length line.now)) }
+    ensures cuts { MatchResult result (λ k. AreCuts k line.now (line_read accepted line.now)) (IsRefusal (line_read accepted line.now)) }
+    ensures sure { IsFalse (amends line.now) → IfErr result (IsSure (line_read accepted line.now)) }
+{
     let second = next_word(line, 0);
     let first = first_word(line, second);
     if first.is_empty() {
@@ -122,11 +151,7 @@ fn other_cuts(
         });
     }
     if first == b"try".as_slice() {
-        return three_names(line, second).map(|(subject, right, object)| Cuts::Try {
-            subject,
-            right,
-            object,
-        });
+        return try_cuts(line, second);
     }
     if first == b"again".as_slice() {
         return one_number(alloc, line, second).map(Cuts::Again);
