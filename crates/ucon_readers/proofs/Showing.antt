@@ -193,13 +193,14 @@ none_hidden v w is n deadline hidden = kept_shown (is_pair (deadline, n)) v.pair
 
 -- ---- a pair that is there already
 
-pub found_shown : (v : Deadlines) (n : ℕ) (d : ℤ) → is_some (state_of v (d, n)) ≡ true → (IsHidden v n d → ⊥) → HasDeadline v n d
-found_shown v n d some never = by (state_of v (d, n)) refl some
+-- one that is neither shown nor hidden isn't there
+pub not_there : (v : Deadlines) (n : ℕ) (d : ℤ) → (HasDeadline v n d → ⊥) → (IsHidden v n d → ⊥) → state_of v (d, n) ≡ None
+not_there v n d unshown unhidden = by (state_of v (d, n)) refl
   where
-    by : (o : Option Bool) → state_of v (d, n) ≡ o → is_some o ≡ true → HasDeadline v n d
-    by None is some = absurd (let no : false ≡ true = some in cc)
-    by (Some true) is some = absurd (never is)
-    by (Some false) is some = is
+    by : (o : Option Bool) → state_of v (d, n) ≡ o → o ≡ None
+    by None is = refl
+    by (Some true) is = absurd (unhidden is)
+    by (Some false) is = absurd (unshown is)
 
 pub has_already : (v : Deadlines) (n : ℕ) (deadline : ℤ) → HasDeadline v n deadline → Gets v v n (λ d. d ≡ deadline)
 has_already v n deadline there m d = (

@@ -101,7 +101,7 @@ impl Timers {
         ensures replaced { replaced_of self.new ≡ replaced_of self.old }
         ensures undo { (before : Deadlines) → UndoGives self.old before → UndoGives self.new before }
     {
-        if self.wheel.is_there(session, deadline) {
+        if self.wheel.has(session, deadline) {
             return Ok(());
         }
         self.add(session, deadline)
