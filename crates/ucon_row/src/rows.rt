@@ -30,22 +30,27 @@ fn row_told(alloc: Global, word: &[u8], rest: &[u8]) -> Result<Option<Row>, NoMe
     ensures { IfOk result (λ row. row ≡ row_told word.now rest.now) }
 {
     if word == b"env".as_slice() {
-        variable(alloc, rest)
-    } else if word == b"subject".as_slice() {
-        Ok(entity(Side::Subject, rest))
-    } else if word == b"object".as_slice() {
-        Ok(entity(Side::Object, rest))
-    } else if word == b"value".as_slice() {
-        attribute(alloc, rest)
-    } else if word == b"act".as_slice() {
-        act(alloc, rest)
-    } else if word == b"session".as_slice() {
-        session(alloc, rest)
-    } else {
-        Ok(None)
+        return variable(alloc, rest);
     }
+    if word == b"subject".as_slice() {
+        return Ok(entity(Side::Subject, rest));
+    }
+    if word == b"object".as_slice() {
+        return Ok(entity(Side::Object, rest));
+    }
+    if word == b"value".as_slice() {
+        return attribute(alloc, rest);
+    }
+    if word == b"act".as_slice() {
+        return act(alloc, rest);
+    }
+    if word == b"session".as_slice() {
+        return session(alloc, rest);
+    }
+    Ok(None)
 }
 
+#[inline(never)]
 fn variable(alloc: Global, bytes: &[u8]) -> Result<Option<Row>, NoMemory>
     ensures { IfOk result (λ row. row ≡ option_map (λ p. Variable p.0 p.1) (valued bytes.now)) }
 {
@@ -55,6 +60,7 @@ fn variable(alloc: Global, bytes: &[u8]) -> Result<Option<Row>, NoMemory>
     }
 }
 
+#[inline(never)]
 fn attribute(alloc: Global, bytes: &[u8]) -> Result<Option<Row>, NoMemory>
     ensures { IfOk result (λ row. row ≡ option_map (λ p. Attribute p.0 p.1) (valued bytes.now)) }
 {
@@ -64,6 +70,7 @@ fn attribute(alloc: Global, bytes: &[u8]) -> Result<Option<Row>, NoMemory>
     }
 }
 
+#[inline(never)]
 fn entity(side: Side, bytes: &[u8]) -> Option<Row>
     ensures { result ≡ option_map (Entity side) (name_in bytes.now) }
 {
@@ -88,6 +95,7 @@ fn valued(alloc: Global, bytes: &[u8]) -> Result<Option<(Name, Value)>, NoMemory
 }
 
 /// Three names and a moment.
+#[inline(never)]
 #[tactic(auto, unfolding(crate::specs::RowText::act_read))]
 fn act(alloc: Global, bytes: &[u8]) -> Result<Option<Row>, NoMemory>
     ensures { IfOk result (λ row. row ≡ act_read bytes.now) }
@@ -107,6 +115,7 @@ fn act(alloc: Global, bytes: &[u8]) -> Result<Option<Row>, NoMemory>
 }
 
 /// A client, three names, a state and a start.
+#[inline(never)]
 #[tactic(auto, unfolding(crate::specs::RowText::session_read))]
 fn session(alloc: Global, bytes: &[u8]) -> Result<Option<Row>, NoMemory>
     ensures { IfOk result (λ row. row ≡ session_read bytes.now) }
