@@ -1,5 +1,5 @@
 -- A line that begins otherwise than `client` is no heading.
-use Rattle.std.proofs.Common.{◌≡◌, ℕ, zero, suc, true, false, [], ◌∷◌, take, inl, inr, refl, sym, ◌∙◌}
+use Rattle.std.proofs.Common.{◌≡◌, ℕ, zero, suc, Bool, true, false, ◌&&◌, [], ◌∷◌, take, inl, inr, refl, sym, ap, ◌∙◌}
 use Rattle.std.specs.Prelude.{codes, nat_eq}
 use Rattle.std.specs.List.{starts_with}
 use Rattle.std.specs.Str.{bytes_eq}
@@ -22,4 +22,12 @@ begins_otherwise line other =
     elim (cases_Bool (is_heading line)) [
       | inl is ↦ absurd (true≢false (sym (begins _ line (codes "client") is) ∙ other))
       | inr isnt ↦ isnt
+    ]
+
+pub other_byte : (line : Bytes) → starts_with nat_eq line (codes "c") ≡ false → is_heading line ≡ false
+other_byte [] other = refl
+other_byte (b ∷ rest) other =
+    elim (cases_Bool (nat_eq 99 b)) [
+      | inl is ↦ absurd (false≢true (sym other ∙ ap (λ (c : Bool). c && true) is))
+      | inr isnt ↦ begins_otherwise (b ∷ rest) (ap (λ (c : Bool). c && starts_with nat_eq rest (codes "lient")) isnt)
     ]

@@ -59,6 +59,7 @@ fn is_divider(line: &[u8]) -> bool
 }
 
 /// What stands before the first separator, and what stands behind it.
+#[inline(always)]
 pub fn cut(bytes: &[u8], separator: u8) -> (&[u8], &[u8])
     ensures front { result.0.now ≡ before_first (λ b. b == separator) bytes.now }
     ensures back { result.1.now ≡ after_first (λ b. b == separator) bytes.now }
@@ -69,6 +70,7 @@ pub fn cut(bytes: &[u8], separator: u8) -> (&[u8], &[u8])
     }
 }
 
+#[inline(always)]
 fn first_place(bytes: &[u8], separator: u8) -> Option<usize>
     ensures place { result ≡ position (λ b. b == separator) bytes.now }
     ensures within { IfSome result (λ i. i + 1 ≤ length bytes.now) }

@@ -104,8 +104,21 @@ fn command_line<'a>(
     }
 }
 
-/// What stands behind the word `client` and a space, where that is a line's first word. The first space of a line that begins otherwise isn't sought.
+/// What stands behind the word `client` and a space, where that is a line's first word. Most lines begin with another byte, and aren't looked at further.
+#[inline(always)]
+#[tactic(auto, using(crate::proofs::Headings::other_byte))]
 fn behind_client(line: &[u8]) -> Option<&[u8]>
+    ensures { MatchOption result (IsFalse (is_heading line.now)) (λ rest. IsTrue (is_heading line.now) × (rest.now ≡ behind_first_word line.now)) }
+{
+    if !line.starts_with(b"c") {
+        return None;
+    }
+    behind_word(line)
+}
+
+/// The same of any line. The first space of one that doesn't begin with the word isn't sought.
+#[inline(never)]
+fn behind_word(line: &[u8]) -> Option<&[u8]>
     ensures { MatchOption result (IsFalse (is_heading line.now)) (λ rest. IsTrue (is_heading line.now) × (rest.now ≡ behind_first_word line.now)) }
 {
     if !line.starts_with(b"client") {
