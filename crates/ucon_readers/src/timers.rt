@@ -1,7 +1,7 @@
 //! The deadlines of usages that go on, and what a draft has changed of them.
 
-ghost use Rattle.std.specs.Prelude.{◌≡◌, ◌↔◌, ◌⊎◌, ◌+◌, ◌≤ℤ◌, ◌<ℤ◌, [], ℕ, ℤ, IfOk, IfSome, IfNone, OnOk, OnErr, None, IsTrue, length};
-ghost use Rattle.ucon_wheel.specs.Deadlines.{Deadlines, IsBehind, IsShown, Pair, shown, state_of};
+ghost use Rattle.std.specs.Prelude.{◌≡◌, ◌↔◌, ◌⊎◌, ◌+◌, ◌≤ℤ◌, ◌<ℤ◌, [], ℕ, ℤ, IfOk, IfSome, IfNone, OnOk, OnErr, None, length};
+ghost use Rattle.ucon_wheel.specs.Deadlines.{Deadlines, shown, state_of};
 ghost use Rattle.ucon_readers.specs.Timers.{CanUndo, undone};
 
 use std::alloc::Global;
@@ -73,22 +73,6 @@ impl Timers {
             changes: Vec::new(alloc),
             replaced: None,
         })
-    }
-
-    /// Whether a session has this deadline.
-    pub(crate) fn has(&self, session: u32, deadline: i64) -> bool
-        ensures { IsTrue result ↔ HasDeadline (wheel_of self.now) session deadline }
-    {
-        self.wheel.has(session, deadline)
-    }
-
-    /// The first deadline behind this one, with its session: the earlier first, and of one tick that of the lower session.
-    pub(crate) fn behind(&self, session: u32, deadline: i64) -> Option<(i64, u32)>
-        ensures there { IfSome result (λ p. IsShown (wheel_of self.now) p × IsBehind (deadline, session) p) }
-        ensures least { IfSome result (λ p. (q : Pair) → IsShown (wheel_of self.now) q → IsBehind (deadline, session) q → (q ≡ p) ⊎ IsBehind p q) }
-        ensures none { IfNone result ((q : Pair) → IsShown (wheel_of self.now) q → IsBehind (deadline, session) q → ⊥) }
-    {
-        self.wheel.behind(session, deadline)
     }
 
     /// Gives a session a deadline, if it hasn't it.
