@@ -191,6 +191,10 @@ all_grouped s first limit all grouped = grouped_all s (λ n. n < limit) first gr
 
 -- ---- whether a usage goes on
 
+pub none_on : (o : Option SessionRow) → (IsSome o → ⊥) → o ≡ None
+none_on None never = refl
+none_on (Some row) never = absurd (never refl)
+
 on_state : (b : Bool) (row : SessionRow) → b ≡ true → cond b (Some row) None ≡ Some row
 on_state true row is = refl
 on_state false row is = absurd cc

@@ -35,6 +35,10 @@ begun_row (Some other) row is some = by (is_accessing_state other.state) some
 one_row_of : (o : Option SessionRow) (row other : SessionRow) → o ≡ Some row → o ≡ Some other → row ≡ other
 one_row_of o row other is told = let both : Some row ≡ Some other = sym is ∙ told in cc
 
+pub row_there : (o : Option SessionRow) → IsSome (going_on o) → (row : SessionRow) × (o ≡ Some row)
+row_there None some = absurd cc
+row_there (Some row) some = (row, refl)
+
 -- ---- coming to places
 
 -- the same places, told otherwise
@@ -98,6 +102,10 @@ module _ (s : Shown) (r : Readers) (k : ℕ) (were : WereExact s (readers_at r) 
           λ reads. were.exact.complete m place (record { row = row; is = was; reads = subst (λ (ns : List ℕ). Contains ns place) same reads }),
         ),
       )
+
+  -- it is there
+  pub begun_there : (row : SessionRow) × (session_in s.tables k ≡ Some row)
+  begun_there = row_there (session_in s.tables k) ((were.told k).begun refl).1
 
   -- session k's usage has begun, which reads its places
   pub exact_begun : (standing' : ℕ → List ℕ) (row : SessionRow) → session_in s.tables k ≡ Some row → AreNumbered s row

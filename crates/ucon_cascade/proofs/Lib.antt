@@ -31,3 +31,5 @@ pub mod Revoking
 pub mod Sharing
 pub mod Grouped
 pub mod Asking
+pub mod Sides
+pub mod Kindred

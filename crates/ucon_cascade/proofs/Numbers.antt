@@ -1,6 +1,6 @@
 -- The numbers of the places that a session reads, one after the other.
 use Rattle.std.proofs.Common.{◌≡◌, ◌≢◌, ◌↔◌, ◌⊎◌, ◌∙◌, ◌+◌, ◌<◌, inl, inr, ℕ, zero, suc, true, false, List, [], ◌∷◌, ◌++◌, length, get_or, take, sym, ap, subst, arith}
-use Rattle.std.specs.Prelude.{◌==◌, Option, Some, IsSome, is_some}
+use Rattle.std.specs.Prelude.{◌==◌, Option, Some, IsSome, is_some, option_and_then, option_map}
 use Rattle.std.specs.List.{Contains, list_any}
 use Rattle.std.specs.Option.{option_to_list}
 use Rattle.std.proofs.lemmas.Bool.Decides.{eqb_tells}
@@ -11,11 +11,23 @@ use Rattle.ucon_base.specs.Elements.{each_append}
 use Rattle.ucon_links.specs.Lists.{IsAbsent, IsDistinct}
 use Rattle.ucon_model.specs.declared.formula.Ref.{Ref}
 use Rattle.ucon_model.specs.declared.session.SessionRow.{SessionRow}
-use Rattle.ucon_model.specs.Reach.{location_of}
+use Rattle.ucon_base.specs.declared.value.Side.{Side}
+use Rattle.ucon_model.specs.Plain.{Bytes}
+use Rattle.ucon_model.specs.Reach.{attribute_of, location_of}
+use Rattle.ucon_model.specs.Updates.{entity_of}
 use Rattle.ucon_state.specs.Shown.{Shown}
-use Rattle.ucon_cascade.specs.Numbering.{HaveNumbers, numbers_of, place_number}
+use Rattle.ucon_state.specs.Tables.{cell_of, session_in}
+use Rattle.ucon_cascade.specs.Numbering.{HaveNumbers, numbers_of, place_number, told}
 
--- ---- by the right
+-- ---- by the session
+
+-- the place of an attribute of a session's own entity, by its cell
+pub own_place : (s : Shown) (n : ℕ) (side : Side) (attr : Bytes) (row : SessionRow) (cell : Option ℕ) → session_in s.tables n ≡ Some row
+    → cell ≡ option_and_then (λ (r : SessionRow). cell_of s.policy s.tables side (entity_of side r) attr) (session_in s.tables n)
+    → told (option_map (λ c. length s.policy.envs + c) cell) ≡ place_number s (attribute_of side (entity_of side row) attr)
+own_place s n side attr row cell is its =
+    ap (λ (o : Option ℕ). told (option_map (λ c. length s.policy.envs + c) o))
+    (its ∙ ap (option_and_then (λ (r : SessionRow). cell_of s.policy s.tables side (entity_of side r) attr)) is)
 
 -- ---- one more
 

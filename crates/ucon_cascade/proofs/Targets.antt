@@ -109,3 +109,16 @@ targets_without_updates s n when r none is = no_updates_write s.policy when r (s
 pub updates_by_right : (s : Shown) (n : ℕ) (row : SessionRow) (r : PlainRight) → session_in s.tables n ≡ Some row → Some r ≡ right_read s.policy (readings_in s.policy s.tables) n
     → r.updates ≡ updates_of s.policy row
 updates_by_right s n row r there is = ap (λ (x : Option PlainRight). option_map_or (λ (y : PlainRight). y.updates) x []) (sym (right_by_row s n row (Some r) there is))
+
+-- what holds of where those updates write that are its right's, for whatever its row, holds of where it writes
+pub targets_of_right : (s : Shown) (n : ℕ) (when : When) (r : PlainRight) (us : List PlainUpdate) (Holds : List Location → Type 0)
+    → Some r ≡ right_read s.policy (readings_in s.policy s.tables) n → us ≡ r.updates
+    → ((row : SessionRow) → session_in s.tables n ≡ Some row → Holds (targets row when us)) → Holds (targets_in s n when)
+targets_of_right s n when r us Holds right its holds = by (session_in s.tables n) refl
+  where
+    by : (o : Option SessionRow) → session_in s.tables n ≡ o → Holds (targets_in s n when)
+    by None none =
+        let no : Some r ≡ None = right ∙ ap (option_and_then (λ (row : SessionRow). right_named s.policy.rights row.right)) none in
+        absurd cc
+    by (Some row) there =
+        subst Holds (ap (targets row when) (its ∙ updates_by_right s n row r there right) ∙ sym (targets_at s n when row there)) (holds row there)

@@ -1,6 +1,7 @@
 pub mod Numbering
 pub mod Putting
 pub mod Grouping
+pub mod Kinds
 pub mod Timely
 pub mod Reading
 pub mod Passing

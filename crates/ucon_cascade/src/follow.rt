@@ -1,28 +1,31 @@
 //! Who reads what after a command's own actions.
 
-ghost use Rattle.std.specs.Prelude.{◌≡◌, ◌+◌, ℕ, [], false, IfOk, IfSome, OnOk, Some};
+ghost use Rattle.std.specs.Prelude.{◌≡◌, ◌<◌, ◌+◌, ℕ, [], false, IfOk, IfSome, IsFalse, IsTrue, OnOk, Some};
 ghost use Rattle.ucon_actions.specs.Gives.{is_amendment};
 ghost use Rattle.ucon_cascade.specs.Cascading.{WereExact};
 ghost use Rattle.ucon_cascade.specs.Numbering.{AreNumbered, IsExact, place_numbers};
-ghost use Rattle.ucon_cascade.specs.Grouping.{AreGrouped, GetsFirst, MayLead};
+ghost use Rattle.ucon_cascade.specs.Grouping.{AreGrouped, GetsFirst};
+ghost use Rattle.ucon_cascade.specs.Kinds.{IsOfKind};
 ghost use Rattle.ucon_readers.specs.Joining.{StandsAlone};
 ghost use Rattle.ucon_cascade.specs.Putting.{GoesOn};
 ghost use Rattle.ucon_cascade.specs.Reading.{AreReadBelow, StandAsTheyRead};
 ghost use Rattle.ucon_readers.specs.Readers.{IsKept, UndoGives, first_of, readers_at};
 ghost use Rattle.ucon_readers.specs.Listing.{ComesTo, StandsNowhere, StandsSomewhere};
 ghost use Rattle.ucon_model.specs.declared.reply.Head.TheVariants as heads;
-ghost use Rattle.ucon_model.specs.Reach.{places_of, timed_of};
+ghost use Rattle.ucon_model.specs.declared.session.SessionRow.{SessionRow};
+ghost use Rattle.ucon_model.specs.Decision.{right_named};
+ghost use Rattle.ucon_model.specs.Views.{right_of};
 ghost use Rattle.ucon_model.specs.Usages.{going_on};
 ghost use Rattle.ucon_state.specs.Shown.{shown};
 ghost use Rattle.ucon_state.specs.Tables.{session_in};
 
-use crate::kinds::{are_alike, asks_while_it_goes_on, is_timed, kind_of};
+use crate::kinds::{asks_while_it_goes_on, is_of_kind, kind_of};
 use crate::places::place_numbers;
 use std::alloc::Global;
 use ucon_actions::is_accessing;
 use ucon_base::NoMemory;
 use ucon_check::places_read;
-use ucon_model::{Command, Head, Ref, SessionRow, View};
+use ucon_model::{Command, Head, Right, SessionRow, View};
 use ucon_readers::{Kind, Readers, undoing_gives_what_is_kept};
 use ucon_readings::{session, session_state, sessions};
 use ucon_state::State;
@@ -98,69 +101,45 @@ fn begin_to_read(
     if !asks_while_it_goes_on(state, n) {
         return readers.lead(n, &[]);
     }
-    let Some(row) = session(state, n) else {
-        return Ok(());
-    };
-    add_reader(alloc, state, readers, n, &row)
+    add_reader(alloc, state, readers, n)
 }
 
 /// From here on session n reads the places of its right: in the list of one that is judged like it, if one is known, else in a list of its
 /// own.
-fn add_reader(
-    alloc: Global,
-    state: &State,
-    readers: &mut Readers,
-    n: u32,
-    row: &SessionRow,
-) -> Result<(), NoMemory>
+fn add_reader(alloc: Global, state: &State, readers: &mut Readers, n: u32) -> Result<(), NoMemory>
     requires kept { IsKept readers.old }
-    requires row { session_in (shown state.now).tables n ≡ Some row.now }
     requires nowhere { StandsNowhere (readers_at readers.old) n }
     requires exact { StandAsTheyRead (shown state.now) readers.old n }
-    ensures comes { OnOk result (ComesTo (readers_at readers.old) (readers_at readers.new) n (place_numbers (shown state.now) row.now)) }
+    ensures comes { OnOk result ((row : SessionRow) → session_in (shown state.now).tables n ≡ Some row
+        → ComesTo (readers_at readers.old) (readers_at readers.new) n (place_numbers (shown state.now) row)) }
     ensures first { OnOk result (GetsFirst (shown state.now) (first_of readers.old) (first_of readers.new) n) }
-    ensures numbered { OnOk result (AreNumbered (shown state.now) row.now) }
+    ensures numbered { OnOk result ((row : SessionRow) → session_in (shown state.now).tables n ≡ Some row → AreNumbered (shown state.now) row) }
     ensures undo { UndoGives readers.new (readers_at readers.old) (first_of readers.old) }
 {
-    undoing_gives_what_is_kept();
     let Some(right) = state.right(n) else {
         return readers.lead(n, &[]);
     };
-    let places = places_read(alloc, right)?;
-    let places = places.slice();
-    if places.is_empty() || is_timed(right) {
-        return lead(alloc, state, readers, n, row, places);
-    }
-    let kind = kind_of(state, row, places);
-    if let Some(first) = first_alike(state, readers, n, row, places, kind) {
+    let Some(kind) = kind_of(state, n, right) else {
+        return lead_list(alloc, state, readers, n, right);
+    };
+    if let Some(first) = first_of_kind(state, readers, n, &kind) {
         return readers.join(n, first);
     }
-    lead(alloc, state, readers, n, row, places)?;
+    lead_list(alloc, state, readers, n, right)?;
     readers.remember(kind, n)
 }
 
-/// The first of a list that session n may join: one whose usage goes on, that is below it, and that is judged like it. A session that is
+/// The first of a list that session n may join: one whose usage goes on, that is below it, and that is of its kind. A session that is
 /// below the first of a list doesn't join it, since who is judged for the others would change.
-fn first_alike(
-    state: &State,
-    readers: &Readers,
-    n: u32,
-    row: &SessionRow,
-    places: &[Ref],
-    kind: Kind,
-) -> Option<u32>
-    requires row { session_in (shown state.now).tables n ≡ Some row.now }
-    requires places { places.now ≡ places_of (shown state.now).policy row.now }
-    requires untimed { timed_of (shown state.now).policy row.now ≡ [] }
-    ensures may { IfSome result (MayLead (shown state.now) (first_of readers.now) n) }
+fn first_of_kind(state: &State, readers: &Readers, n: u32, kind: &Kind) -> Option<u32>
+    ensures below { IfSome result (λ m. m < n) }
+    ensures on { IfSome result (GoesOn (shown state.now)) }
+    ensures itself { IfSome result (λ m. first_of readers.now m ≡ m) }
+    ensures kind { IfSome result (λ m. IsOfKind state.now m kind.now) }
     ensures stands { IfSome result (StandsSomewhere (readers_at readers.now)) }
 {
-    let first = readers.guess(kind)?;
-    if first >= n {
-        return None;
-    }
-    let other = going_on(state, first)?;
-    if are_alike(&other, row, places) {
+    let first = readers.guess(*kind)?;
+    if first < n && goes_on(state, first) && is_of_kind(state, first, kind) {
         Some(first)
     } else {
         None
@@ -168,24 +147,26 @@ fn first_alike(
 }
 
 /// From here on session n reads the places of its right, in a list of its own.
-fn lead(
+fn lead_list(
     alloc: Global,
     state: &State,
     readers: &mut Readers,
     n: u32,
-    row: &SessionRow,
-    places: &[Ref],
+    right: &Right,
 ) -> Result<(), NoMemory>
     requires kept { IsKept readers.old }
-    requires places { places.now ≡ places_of (shown state.now).policy row.now }
+    requires right { (row : SessionRow) → session_in (shown state.now).tables n ≡ Some row
+        → right_named (shown state.now).policy.rights row.right ≡ Some (right_of right.now) }
     requires nowhere { StandsNowhere (readers_at readers.old) n }
-    ensures comes { OnOk result (ComesTo (readers_at readers.old) (readers_at readers.new) n (place_numbers (shown state.now) row.now)) }
+    ensures comes { OnOk result ((row : SessionRow) → session_in (shown state.now).tables n ≡ Some row
+        → ComesTo (readers_at readers.old) (readers_at readers.new) n (place_numbers (shown state.now) row)) }
     ensures alone { OnOk result (StandsAlone (first_of readers.old) (first_of readers.new) n) }
-    ensures numbered { OnOk result (AreNumbered (shown state.now) row.now) }
+    ensures numbered { OnOk result ((row : SessionRow) → session_in (shown state.now).tables n ≡ Some row → AreNumbered (shown state.now) row) }
     ensures undo { UndoGives readers.new (readers_at readers.old) (first_of readers.old) }
 {
     undoing_gives_what_is_kept();
-    let numbers = place_numbers(alloc, state, row, places)?;
+    let places = places_read(alloc, right)?;
+    let numbers = place_numbers(alloc, state, n, places.slice())?;
     readers.lead(n, numbers.slice())
 }
 
@@ -215,6 +196,17 @@ pub fn all_readers(alloc: Global, state: &State) -> Result<Readers, NoMemory>
     Ok(readers)
 }
 
+/// Whether the usage of session n goes on.
+fn goes_on(state: &State, n: u32) -> bool
+    ensures on { IsTrue result → GoesOn (shown state.now) n }
+    ensures over { IsFalse result → GoesOn (shown state.now) n → ⊥ }
+{
+    match session_state(state, n) {
+        Some(it) => is_accessing(it),
+        None => false,
+    }
+}
+
 /// Session n while its usage goes on. A row is built of no other.
 pub fn going_on(state: &State, n: u32) -> Option<SessionRow>
     ensures { result ≡ going_on (session_in (shown state.now).tables n) }
@@ -236,8 +228,8 @@ fn add_accessing(
     requires below { AreReadBelow (shown state.now) n readers.old }
     ensures { OnOk result (AreReadBelow (shown state.now) (n + 1) readers.new) }
 {
-    let Some(row) = going_on(state, n) else {
+    if !goes_on(state, n) {
         return Ok(());
-    };
-    add_reader(alloc, state, readers, n, &row)
+    }
+    add_reader(alloc, state, readers, n)
 }

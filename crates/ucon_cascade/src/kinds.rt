@@ -1,46 +1,140 @@
 //! Which sessions may share a judgement.
 
-ghost use Rattle.std.specs.Prelude.{◌≡◌, ◌∷◌, [], true, IsFalse, IsTrue, Some};
+ghost use Rattle.std.specs.Prelude.{◌≡◌, ◌&&◌, ◌∷◌, [], None, false, IfSome, IsFalse, IsTrue, Some};
 ghost use Rattle.std.specs.List.{list_any};
+ghost use Rattle.ucon_base.specs.declared.value.Side.TheVariants as sides;
+ghost use Rattle.ucon_cascade.specs.Kinds.{IsOfKind};
 ghost use Rattle.ucon_model.specs.Groups.{is_of_side};
-ghost use Rattle.ucon_base.specs.declared.value.Side.{Side};
 ghost use Rattle.ucon_model.specs.declared.session.SessionRow.{SessionRow};
 ghost use Rattle.ucon_model.specs.Decision.{ongoing};
+ghost use Rattle.ucon_model.specs.Places.{expr_places, formula_places, places_read, test_places};
 ghost use Rattle.ucon_model.specs.Reach.{formula_timed, places_of, right_timed, test_timed, timed_of};
-ghost use Rattle.ucon_model.specs.Updates.{entity_of};
-ghost use Rattle.ucon_model.specs.Views.{formula_of, predicate_of, right_of, test_of};
+ghost use Rattle.ucon_model.specs.Views.{expr_of, formula_of, predicate_of, right_of, test_of};
 ghost use Rattle.ucon_state.specs.Shown.{shown};
 ghost use Rattle.ucon_state.specs.Tables.{session_in};
 ghost use Rattle.ucon_readers.specs.Timers.{timed_parts};
 
-use ucon_base::{Name, Side};
-use ucon_model::{Formula, Predicate, Ref, Right, SessionRow, Test, View};
+use ucon_base::Side;
+use ucon_model::{Expr, Formula, Predicate, Ref, Right, Test, View};
 use ucon_readers::Kind;
-use ucon_state::State;
+use ucon_state::{Numbers, State};
 
-/// The kind of a session whose right reads these places.
-pub fn kind_of(state: &State, row: &SessionRow, places: &[Ref]) -> Kind {
-    Kind {
-        right: state.find_right(&row.right).unwrap_or(u32::MAX),
-        subject: entity_read(state, Side::Subject, &row.subject, places),
-        object: entity_read(state, Side::Object, &row.object, places),
+/// The kind of session n, which has this right. None where time decides over a part of the right, so that it is judged alone, and where
+/// there is no such session.
+pub fn kind_of(state: &State, n: u32, right: &Right) -> Option<Kind>
+    ensures kind { IfSome result (IsOfKind state.now n) }
+    ensures untimed { IfSome result (λ kind. right_timed (right_of right.now) ≡ []) }
+    ensures subject { IfSome result (λ kind. kind.subject ≡ None
+        → list_any (is_of_side sides.Subject) (places_read (right_of right.now)) ≡ false) }
+    ensures object { IfSome result (λ kind. kind.object ≡ None
+        → list_any (is_of_side sides.Object) (places_read (right_of right.now)) ≡ false) }
+{
+    if is_timed(right) {
+        return None;
     }
+    let numbers = state.numbers(n)?;
+    let subject = if_read(reads_of(Side::Subject, right), numbers.subject);
+    let object = if_read(reads_of(Side::Object, right), numbers.object);
+    Some(Kind {
+        right: numbers.right,
+        subject,
+        object,
+    })
 }
 
 /// The number of an entity, where its side is read.
-fn entity_read(state: &State, side: Side, name: &Name, places: &[Ref]) -> Option<u32> {
-    if is_read(side, places) {
-        state.find(side, name)
-    } else {
-        None
+fn if_read(is_read: bool, number: u32) -> Option<u32>
+    ensures some { IfSome result (λ it. it ≡ number) }
+    ensures none { result ≡ None → is_read ≡ false }
+{
+    if is_read { Some(number) } else { None }
+}
+
+/// Whether session n is of a kind.
+pub fn is_of_kind(state: &State, n: u32, kind: &Kind) -> bool
+    ensures { IsTrue result → IsOfKind state.now n kind.now }
+{
+    match state.numbers(n) {
+        Some(numbers) => have_kind(&numbers, kind),
+        None => false,
     }
 }
 
-/// Whether one of these places is of a side's entity.
-fn is_read(side: Side, places: &[Ref]) -> bool
-    ensures { result ≡ list_any (is_of_side side) places.now }
+/// Whether these numbers are those of a kind.
+fn have_kind(numbers: &Numbers, kind: &Kind) -> bool
+    ensures right { IsTrue result → numbers.now.right ≡ kind.now.right }
+    ensures subject { IsTrue result → IfSome kind.now.subject (λ it. it ≡ numbers.now.subject) }
+    ensures object { IsTrue result → IfSome kind.now.object (λ it. it ≡ numbers.now.object) }
 {
-    places.iter().any(|place| is_of(side, place))
+    numbers.right == kind.right
+        && is_or_any(kind.subject, numbers.subject)
+        && is_or_any(kind.object, numbers.object)
+}
+
+/// Whether a number is the one that is wanted, where one is.
+fn is_or_any(wanted: Option<u32>, number: u32) -> bool
+    ensures { IsTrue result → IfSome wanted (λ it. it ≡ number) }
+{
+    match wanted {
+        Some(it) => it == number,
+        None => true,
+    }
+}
+
+/// Whether a right's ongoing predicates read an attribute of a side's entity.
+fn reads_of(side: Side, right: &Right) -> bool
+    ensures { IsFalse result → list_any (is_of_side side) (places_read (right_of right.now)) ≡ false }
+{
+    any_reads(side, right.preds.slice())
+}
+
+/// Whether one of these predicates is ongoing and reads an attribute of a side's entity.
+fn any_reads(side: Side, preds: &[Predicate]) -> bool
+    ensures { result ≡ list_any (λ p. ongoing (predicate_of p) && list_any (is_of_side side) (test_places (predicate_of p).test)) preds.now }
+{
+    preds
+        .iter()
+        .any(|p| p.is_ongoing() && test_reads(side, &p.test))
+}
+
+/// Whether a test reads an attribute of a side's entity.
+fn test_reads(side: Side, test: &Test) -> bool
+    ensures { result ≡ list_any (is_of_side side) (test_places (test_of test.now)) }
+{
+    match test {
+        Test::A(f) => formula_reads(side, f),
+        Test::B(_) => false,
+        Test::C(f) => formula_reads(side, f),
+    }
+}
+
+/// Whether a formula reads an attribute of a side's entity.
+#[tactic(auto, using(crate::proofs::Sides::any_of_both))]
+fn formula_reads(side: Side, f: &Formula) -> bool
+    ensures { result ≡ list_any (is_of_side side) (formula_places (formula_of f.now)) }
+{
+    match f {
+        Formula::And(f, g) => formula_reads(side, f) || formula_reads(side, g),
+        Formula::Or(f, g) => formula_reads(side, f) || formula_reads(side, g),
+        Formula::Not(f) => formula_reads(side, f),
+        Formula::Compare(_, a, b) => expr_reads(side, a) || expr_reads(side, b),
+        Formula::Lasts(_) => false,
+    }
+}
+
+/// Whether an expression reads an attribute of a side's entity.
+#[tactic(auto, using(crate::proofs::Sides::any_of_one, crate::proofs::Sides::any_of_both))]
+fn expr_reads(side: Side, e: &Expr) -> bool
+    ensures { result ≡ list_any (is_of_side side) (expr_places (expr_of e.now)) }
+{
+    match e {
+        Expr::Lit(_) => false,
+        Expr::Read(place) => is_of(side, place),
+        Expr::Add(a, b) => expr_reads(side, a) || expr_reads(side, b),
+        Expr::Sub(a, b) => expr_reads(side, a) || expr_reads(side, b),
+        Expr::Mul(a, b) => expr_reads(side, a) || expr_reads(side, b),
+        Expr::Size(a) => expr_reads(side, a),
+    }
 }
 
 /// Whether a place is of a side's entity.
@@ -52,17 +146,6 @@ fn is_of(side: Side, place: &Ref) -> bool
         (Side::Object, Ref::Object(_)) => true,
         _ => false,
     }
-}
-
-/// Whether two sessions have one right and, on each side of which one of these places is, one entity.
-pub fn are_alike(row: &SessionRow, other: &SessionRow, places: &[Ref]) -> bool
-    ensures right { IsTrue result → row.now.right ≡ other.now.right }
-    ensures entities { IsTrue result → (side : Side) → list_any (is_of_side side) places.now ≡ true
-        → entity_of side row.now ≡ entity_of side other.now }
-{
-    row.right == other.right
-        && (!is_read(Side::Subject, places) || row.subject == other.subject)
-        && (!is_read(Side::Object, places) || row.object == other.object)
 }
 
 /// Whether the right of session n has a predicate that is asked while the usage goes on.
@@ -86,7 +169,7 @@ fn has_ongoing(preds: &[Predicate]) -> bool
 }
 
 /// Whether time decides over a part of a right's ongoing predicates.
-pub fn is_timed(right: &Right) -> bool
+fn is_timed(right: &Right) -> bool
     ensures { IsFalse result → right_timed (right_of right.now) ≡ [] }
 {
     for p in right.preds.slice() {

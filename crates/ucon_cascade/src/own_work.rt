@@ -1,20 +1,22 @@
 //! Whom a command's own actions concern, read off the command and the head of its reply.
 
-ghost use Rattle.std.specs.Prelude.{◌≡◌, ◌<◌, ◌∷◌, ℕ, [], length};
+ghost use Rattle.std.specs.Prelude.{◌≡◌, ◌<◌, ◌∷◌, ℕ, [], length, Some};
 ghost use Rattle.ucon_model.specs.declared.reply.Head.TheVariants as heads;
 ghost use Rattle.ucon_model.specs.Reach.{attribute_of, targets, variable_of};
 ghost use Rattle.ucon_model.specs.Views.{update_of};
+ghost use Rattle.ucon_model.specs.declared.session.SessionRow.{SessionRow};
 ghost use Rattle.ucon_state.specs.Shown.{shown};
+ghost use Rattle.ucon_state.specs.Tables.{session_in};
 ghost use Rattle.ucon_cascade.specs.Putting.{AllBelow, GainsFirsts, GoesOn, IsCommandWork, IsOwnWork, IsPermitWork, StandsAt, StandsAtOne, targets_in};
 ghost use Rattle.ucon_readers.specs.Readers.{first_of, readers_at};
 
-use crate::places::{attribute_place, variable_place};
-use ucon_actions::{entity_of, is_accessing, is_of};
+use crate::places::{attribute_place, place_of_session, variable_place};
+use ucon_actions::{is_accessing, is_of};
 use ucon_base::{Name, Side};
-use ucon_model::{Command, Head, SessionRow, Update, View, When};
+use ucon_model::{Command, Head, Update, View, When};
 use ucon_pend::Pend;
 use ucon_readers::Readers;
-use ucon_readings::{session, session_state, sessions};
+use ucon_readings::{session_state, sessions};
 use ucon_state::State;
 
 /// Puts into the work who reads an attribute of an entity; of each list its first, as everywhere here.
@@ -50,31 +52,21 @@ fn put_variable(state: &State, readers: &Readers, name: &Name, work: &mut Pend)
     readers.put(place, work);
 }
 
-/// Puts into the work who reads where an update of a session's right writes, if it is of this time.
-fn put_target(
-    state: &State,
-    readers: &Readers,
-    row: &SessionRow,
-    u: &Update,
-    when: When,
-    work: &mut Pend,
-)
+/// Puts into the work who reads where an update of session n's right writes, if it is of this time.
+fn put_target(state: &State, readers: &Readers, n: u32, u: &Update, when: When, work: &mut Pend)
     requires { AllBelow (readers_at readers.now) work.old.limit }
     ensures limit { work.new.limit ≡ work.old.limit }
-    ensures members { GainsFirsts (first_of readers.now) work.old.members work.new.members
-        (StandsAtOne (shown state.now) (readers_at readers.now) (targets row.now when (update_of u.now ∷ []))) }
+    ensures members { (row : SessionRow) → session_in (shown state.now).tables n ≡ Some row
+        → GainsFirsts (first_of readers.now) work.old.members work.new.members
+        (StandsAtOne (shown state.now) (readers_at readers.now) (targets row when (update_of u.now ∷ []))) }
 {
     if !is_of(u, when) {
         return;
     }
-    put_attribute(
-        state,
-        readers,
-        u.side,
-        &entity_of(u.side, row),
-        &u.attr,
-        work,
-    );
+    let Some(place) = place_of_session(state, n, u.side, &u.attr) else {
+        return;
+    };
+    readers.put(place, work);
 }
 
 /// Puts into the work who reads where the updates of a time of session n write.
@@ -87,15 +79,8 @@ pub fn put_targets(state: &State, readers: &Readers, n: u32, when: When, work: &
     let Some(right) = state.right(n) else {
         return;
     };
-    let updates = right.updates.slice();
-    if updates.is_empty() {
-        return;
-    }
-    let Some(row) = session(state, n) else {
-        return;
-    };
-    for u in updates {
-        put_target(state, readers, &row, u, when, work);
+    for u in right.updates.slice() {
+        put_target(state, readers, n, u, when, work);
     }
 }
 

@@ -1,7 +1,6 @@
-use Rattle.std.proofs.Common.{◌∙◌, sym}
 use Rattle.ucon_state.specs.Shown.{shown}
 use Rattle.ucon_readers.specs.Readers.{first_of, readers_at}
-use Rattle.ucon_cascade.proofs.Begun.{alone_begun, alone_itself, begins_from_nowhere, exact_begun, exact_reading_nothing, grouped_begun, grouped_itself, others_stand}
+use Rattle.ucon_cascade.proofs.Begun.{alone_begun, alone_itself, begins_from_nowhere, begun_there, exact_begun, exact_reading_nothing, grouped_begun, grouped_itself, others_stand}
 use Rattle.ucon_cascade.proofs.Outcomes.{ok_both, ok_then}
 use Rattle.ucon_cascade.proofs.follow.begin_to_read.Goals as goal
 
@@ -13,9 +12,10 @@ add_reader-requires-clause-exact c = others_stand (shown c.args.state.now) c.arg
 
 pub returns-clause-exact : goal.returns-clause-exact
 returns-clause-exact c =
+    let there = begun_there (shown c.args.state.now) c.args.readers.now c.args.n c.requires.were in
     ok_both c.add_reader.result
-    (λ comes numbered. exact_begun (shown c.args.state.now) c.args.readers.now c.args.n c.requires.were (readers_at c.add_reader.new.readers) c.in-Some.row
-    (sym c.session.ensures.tables ∙ c.in-Some.is) numbered comes)
+    (λ comes numbered. exact_begun (shown c.args.state.now) c.args.readers.now c.args.n c.requires.were (readers_at c.add_reader.new.readers) there.0 there.1 (numbered there.0 there.1)
+    (comes there.0 there.1))
     c.add_reader.ensures.comes c.add_reader.ensures.numbered
 
 pub returns-clause-grouped : goal.returns-clause-grouped

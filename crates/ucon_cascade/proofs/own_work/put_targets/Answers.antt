@@ -1,15 +1,15 @@
-use Rattle.std.proofs.Common.{◌≡◌, ◌∙◌, ◌∷◌, [], List, get_or, map, take, ap, sym, subst}
+use Rattle.std.proofs.Common.{◌≡◌, ◌∙◌, ◌∷◌, [], List, Some, get_or, map, take, ap, sym, subst}
 use Rattle.std.proofs.lemmas.List.{take_all}
 use Rattle.ucon_model.specs.declared.policy.Update.{Update}
-use Rattle.ucon_model.specs.Plain.{PlainUpdate}
+use Rattle.ucon_model.specs.declared.session.SessionRow.{SessionRow}
 use Rattle.ucon_model.specs.Reach.{Location, targets}
-use Rattle.ucon_model.specs.Updates.{updates_of}
 use Rattle.ucon_model.specs.Views.{right_of, update_of}
 use Rattle.ucon_state.specs.Shown.{shown}
+use Rattle.ucon_state.specs.Tables.{session_in}
 use Rattle.ucon_cascade.specs.Putting.{AllBelow, GainsFirsts, StandsAtOne}
 use Rattle.ucon_readers.specs.Readers.{first_of, readers_at}
 use Rattle.ucon_cascade.proofs.Putting.{gains_none}
-use Rattle.ucon_cascade.proofs.Targets.{gains_more, targets_at, targets_more, targets_without_right, updates_by_right}
+use Rattle.ucon_cascade.proofs.Targets.{gains_more, targets_more, targets_of_right, targets_without_right}
 use Rattle.ucon_cascade.proofs.own_work.put_targets.Goals as goal
 
 pub returns-in_default-clause-members : goal.returns-in_default-clause-members
@@ -24,7 +24,7 @@ returns-in_default-clause-members c =
 
 pub loop-u-init : goal.loop-u-init
 loop-u-init c = record {
-  members = gains_none (first_of c.args.readers.now) c.args.work.now.members (StandsAtOne (shown c.args.state.now) (readers_at c.args.readers.now) []) (λ n none. none);
+  members = λ row is. gains_none (first_of c.args.readers.now) c.args.work.now.members (StandsAtOne (shown c.args.state.now) (readers_at c.args.readers.now) []) (λ n none. none);
   limit = search;
 }
 
@@ -36,17 +36,16 @@ loop-u-preserved c =
     let s = shown c.args.state.now in
     let standing = readers_at c.args.readers.now in
     let first = first_of c.args.readers.now in
-    let row = c.in-Some-session.row in
-    let us = c.slice-updates.result.now in
+    let us = c.slice-u-items.result.now in
     let i = c.loop-u.u-index in
     let u = c.u-item.result in
-    let last = λ (v : Update). GainsFirsts first c.loop-u.work.members c.put_target.new.work.members (StandsAtOne s standing (targets row c.args.when (update_of v ∷ []))) in
-    let more = gains_more s standing first c.args.work.now.members c.loop-u.work.members c.put_target.new.work.members
+    let last = λ (row : SessionRow) (v : Update). GainsFirsts first c.loop-u.work.members c.put_target.new.work.members (StandsAtOne s standing (targets row c.args.when (update_of v ∷ []))) in
+    let more = λ (row : SessionRow) (is : session_in s.tables c.args.n ≡ Some row). gains_more s standing first c.args.work.now.members c.loop-u.work.members c.put_target.new.work.members
     (targets row c.args.when (map update_of (take i us))) (targets row c.args.when (update_of (get_or us i u) ∷ []))
-    c.loop-u.invariant.members (subst last c.u-item.is c.put_target.ensures.members) in
+    (c.loop-u.invariant.members row is) (subst (last row) c.u-item.is (c.put_target.ensures.members row is)) in
     record {
-      members = subst (λ (locations : List Location). GainsFirsts first c.args.work.now.members c.put_target.new.work.members (StandsAtOne s standing locations))
-          (sym (targets_more row c.args.when us i u c.loop-u-test.true)) more;
+      members = λ row is. subst (λ (locations : List Location). GainsFirsts first c.args.work.now.members c.put_target.new.work.members (StandsAtOne s standing locations))
+          (sym (targets_more row c.args.when us i u c.loop-u-test.true)) (more row is);
       limit = c.put_target.ensures.limit ∙ c.loop-u.invariant.limit;
     }
 
@@ -55,15 +54,10 @@ returns-clause-members c =
     let s = shown c.args.state.now in
     let standing = readers_at c.args.readers.now in
     let first = first_of c.args.readers.now in
-    let row = c.in-Some-session.row in
-    let us = c.slice-updates.result.now in
+    let us = c.slice-u-items.result.now in
     let i = c.loop-u.u-index in
-    let there = sym c.session.ensures.tables ∙ c.in-Some-session.is in
-    let seen : map update_of us ≡ updates_of s.policy row =
-    ap (map update_of) c.slice-updates.ensures ∙ updates_by_right s c.args.n row (right_of c.in-Some.right.now) there c.in-Some.ensures in
     let whole : take i us ≡ us = take_all i us c.loop-u-test.false in
-    subst (λ (locations : List Location). GainsFirsts first c.args.work.now.members c.loop-u.work.members (StandsAtOne s standing locations))
-    (ap (λ (xs : List Update). targets row c.args.when (map update_of xs)) whole
-    ∙ ap (λ (xs : List PlainUpdate). targets row c.args.when xs) seen
-    ∙ sym (targets_at s c.args.n c.args.when row there))
+    targets_of_right s c.args.n c.args.when (right_of c.in-Some.right.now) (map update_of (take i us))
+    (λ (locations : List Location). GainsFirsts first c.args.work.now.members c.loop-u.work.members (StandsAtOne s standing locations))
+    c.in-Some.ensures (ap (λ (xs : List Update). map update_of xs) whole ∙ ap (map update_of) c.slice-u-items.ensures)
     c.loop-u.invariant.members
