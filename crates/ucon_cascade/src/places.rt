@@ -45,7 +45,7 @@ pub fn place_of_session(state: &State, n: u32, side: Side, attr: &Name) -> Optio
     ensures { (row : SessionRow) → session_in (shown state.now).tables n ≡ Some row
         → result ≡ place_number (shown state.now) (attribute_of side (entity_of side row) attr.now) }
 {
-    let cell = state.cell_of_session(n, side, attr)?;
+    let cell = state.own_cell(n, side, attr)?;
     place_of_cell(state, cell)
 }
 
