@@ -47,15 +47,16 @@ pub gets_by_row : (s : Shown) (v w : Deadlines) (n : ℕ) (row : SessionRow) →
 gets_by_row s v w n row is gets =
     gets_like v w n (IsLimit (readings_in s.policy s.tables) row (timed_of s.policy row)) (IsLimitOf s n) (limits_of_row s n row is) gets
 
--- one whose right has no timed parts gets nothing
-pub gets_none_untimed : (s : Shown) (v : Deadlines) (n : ℕ) → ((row : SessionRow) → session_in s.tables n ≡ Some row → timed_of s.policy row ≡ [])
-    → Gets v v n (IsLimitOf s n)
-gets_none_untimed s v n none =
-    gets_nothing v n (IsLimitOf s n) (λ d told. nothing_in told.limit.part (subst (λ (parts : List Timed). Contains parts told.limit.part) (none told.row told.is) told.limit.one_of))
-
 -- one that isn't there gets nothing
 pub gets_none_there : (s : Shown) (v : Deadlines) (n : ℕ) → session_in s.tables n ≡ None → Gets v v n (IsLimitOf s n)
 gets_none_there s v n none = gets_nothing v n (IsLimitOf s n) (λ d told. (let no : None ≡ Some told.row = sym none ∙ told.is in cc))
+
+-- what session n gets, whether it is there or not
+pub gets_limits : (s : Shown) (v w : Deadlines) (n : ℕ) (o : Option SessionRow) → session_in s.tables n ≡ o → (session_in s.tables n ≡ None → w ≡ v)
+    → ((row : SessionRow) → session_in s.tables n ≡ Some row → Gets v w n (IsLimit (readings_in s.policy s.tables) row (timed_of s.policy row)))
+    → Gets v w n (IsLimitOf s n)
+gets_limits s v w n None is none gets = subst (λ (x : Deadlines). Gets v x n (IsLimitOf s n)) (sym (none is)) (gets_none_there s v n is)
+gets_limits s v w n (Some row) is none gets = gets_by_row s v w n row is (gets row is)
 
 -- ---- of one predicate more
 

@@ -20,7 +20,6 @@ ghost use Rattle.ucon_readers.specs.Timers.{HasDeadline, IsKept, UndoGives, whee
 ghost use Rattle.ucon_readers.specs.Timers.{Gets, HiddenBelow, HidesNoMore, count_below};
 
 use crate::follow::going_on;
-use crate::kinds::asks_while_it_goes_on;
 use std::alloc::Global;
 use ucon_base::NoMemory;
 use ucon_model::{
@@ -28,7 +27,7 @@ use ucon_model::{
 };
 use ucon_pend::Pend;
 use ucon_readers::{Timers, put_limits, undoing_gives_what_is_kept};
-use ucon_readings::{session, sessions};
+use ucon_readings::sessions;
 use ucon_state::{State, tables_keep_what_is_followed};
 
 /// All deadlines are set anew where the command replaced the policy. A tick passes those below it, and puts their sessions into the work.
@@ -94,13 +93,7 @@ fn put_session(state: &State, timers: &mut Timers, n: u32) -> Result<(), NoMemor
         ≡ count_below (wheel_of timers.old) (shown state.now).tables.tick }
     ensures undo { (before : Deadlines) → UndoGives timers.old before → UndoGives timers.new before }
 {
-    if !asks_while_it_goes_on(state, n) {
-        return Ok(());
-    }
-    let Some(row) = session(state, n) else {
-        return Ok(());
-    };
-    put_limits(state, timers, n, &row)
+    put_limits(state, timers, n)
 }
 
 /// Takes out the deadlines below the tick, the earliest first. Their sessions are put into the work, and what still holds of their rights
@@ -169,8 +162,8 @@ fn put_accessing(state: &State, timers: &mut Timers, n: u32) -> Result<(), NoMem
 {
     readings_that_agree_are_one();
     tables_keep_what_is_followed();
-    let Some(row) = going_on(state, n) else {
+    let Some(_row) = going_on(state, n) else {
         return Ok(());
     };
-    put_limits(state, timers, n, &row)
+    put_limits(state, timers, n)
 }

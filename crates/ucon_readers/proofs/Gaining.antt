@@ -1,6 +1,6 @@
 -- What a session gets, one after the other.
 use Rattle.std.proofs.Common.{◌≡◌, ◌∙◌, ◌⊎◌, ◌↔◌, ◌+◌, ◌<◌, inl, inr, ℕ, ℤ, zero, suc, Bool, true, false, cond, List, [], ◌∷◌, ◌++◌, append_assoc, filter, get_or, length, map, take, ap, refl, sym, subst, arith}
-use Rattle.std.specs.Prelude.{◌≤ℤ◌, Option, Some, None, option_and_then}
+use Rattle.std.specs.Prelude.{◌≤ℤ◌, Option, Some, None, option_and_then, option_map}
 use Rattle.std.specs.List.{Contains, flat_map}
 use Rattle.std.proofs.lemmas.List.{map_more}
 use Rattle.std.proofs.lemmas.List.Elements.{Contains-append_left, Contains-append_right, Contains-append_cases}
@@ -8,7 +8,7 @@ use Rattle.ucon_model.specs.declared.policy.Predicate.{Predicate}
 use Rattle.ucon_model.specs.declared.session.SessionRow.{SessionRow}
 use Rattle.ucon_model.specs.Deadlines.{limit_of}
 use Rattle.ucon_model.specs.Decision.{ongoing, right_named}
-use Rattle.ucon_model.specs.Lookup.{right_read}
+use Rattle.ucon_model.specs.Lookup.{right_read, start_read}
 use Rattle.ucon_model.specs.Plain.{PlainPredicate, PlainRight}
 use Rattle.ucon_model.specs.Reach.{Timed, test_timed}
 use Rattle.ucon_model.specs.Truth.{Readings}
@@ -131,3 +131,21 @@ its_parts p on = rw on (sym (append_none (test_timed p.test)))
 pub right_by_row : (s : Shown) (n : ℕ) (row : SessionRow) (o : Option PlainRight) → session_in s.tables n ≡ Some row
     → o ≡ right_read s.policy (readings_in s.policy s.tables) n → right_named s.policy.rights row.right ≡ o
 right_by_row s n row o is read = sym (ap (option_and_then (λ (x : SessionRow). right_named s.policy.rights x.right)) is) ∙ sym read
+
+-- a session starts where its row says
+pub starts_at : (R : Readings) (n : ℕ) (row : SessionRow) (start : ℤ) → R.row n ≡ Some row → start_read R n ≡ Some start → row.start ≡ start
+starts_at R n row start there told =
+    let both : Some row.start ≡ Some start = sym (ap (option_map (λ (x : SessionRow). x.start)) there) ∙ told in
+    cc
+
+-- a session that isn't there has no right
+pub no_right : (s : Shown) (n : ℕ) (right : PlainRight) → session_in s.tables n ≡ None → Some right ≡ right_read s.policy (readings_in s.policy s.tables) n → ⊥
+no_right s n right none read =
+    let no : Some right ≡ None = read ∙ ap (option_and_then (λ (x : SessionRow). right_named s.policy.rights x.right)) none in
+    cc
+
+-- a session that is there has a start
+pub has_start : (R : Readings) (n : ℕ) (row : SessionRow) → R.row n ≡ Some row → start_read R n ≡ None → ⊥
+has_start R n row there told =
+    let no : Some row.start ≡ None = sym (ap (option_map (λ (x : SessionRow). x.start)) there) ∙ told in
+    cc

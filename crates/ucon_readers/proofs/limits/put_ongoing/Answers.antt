@@ -13,8 +13,7 @@ returns-then-not-is_ongoing-clause-gets c =
     let s = shown c.args.state.now in
     let R = readings_in s.policy s.tables in
     let v = c.args.timers.now.wheel in
-    let row = c.args.row.now in
-    subst (λ (parts : List Timed). Gets v v c.args.n (IsLimit R row parts)) (no_parts (predicate_of c.args.p.now) (sym c.is_ongoing.ensures ∙ c.if-not-is_ongoing.true))
+    λ row there. subst (λ (parts : List Timed). Gets v v c.args.n (IsLimit R row parts)) (no_parts (predicate_of c.args.p.now) (sym c.is_ongoing.ensures ∙ c.if-not-is_ongoing.true))
     (no_limits v c.args.n R row)
 
 pub returns-clause-gets : goal.returns-clause-gets
@@ -23,7 +22,6 @@ returns-clause-gets c =
     let R = readings_in s.policy s.tables in
     let v = c.args.timers.now.wheel in
     let w = c.put_test.new.timers.wheel in
-    let row = c.args.row.now in
     ok_then c.put_test.result
-    (λ gets. subst (λ (parts : List Timed). Gets v w c.args.n (IsLimit R row parts)) (its_parts (predicate_of c.args.p.now) (sym c.is_ongoing.ensures ∙ c.if-not-is_ongoing.false)) gets)
+    (λ gets row there. subst (λ (parts : List Timed). Gets v w c.args.n (IsLimit R row parts)) (its_parts (predicate_of c.args.p.now) (sym c.is_ongoing.ensures ∙ c.if-not-is_ongoing.false)) (gets row there))
     c.put_test.ensures.gets
