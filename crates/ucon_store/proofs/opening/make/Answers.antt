@@ -1,6 +1,6 @@
 use Rattle.std.proofs.Common.{◌≡◌, ℕ, length, sym, ap, ◌∙◌, subst, arith}
 use Rattle.std.specs.Prelude.{option_map, IfSome}
-use Rattle.ucon_disk.specs.Run.{LeavesAfter}
+use Rattle.ucon_disk.specs.Run.{LeavesAfter, LeavesOnly, started}
 use Rattle.ucon_journal.specs.Journal.{disk_of, gate_of, told_payloads, version_of}
 use Rattle.ucon_journal.specs.Opened.{shut_at, with_payload, SamePayloads}
 use Rattle.ucon_model.specs.History.{History}
@@ -8,11 +8,22 @@ use Rattle.ucon_syntax.specs.Policies.{accepted}
 use Rattle.ucon_store.specs.Kept.{payload_in}
 use Rattle.ucon_store.proofs.Openings.{holds_made}
 use Rattle.ucon_store.proofs.Loadings.{IsOfKind, fresh_kept, fresh_payloads, fresh_read}
-use Rattle.ucon_store.proofs.Runs.{mend_fresh_opens, make_opens}
+use Rattle.ucon_store.proofs.Runs.{mend_fresh_opens, make_opens, read_opens}
 use Rattle.ucon_store.proofs.SamePlaces.{made_places, same_kind}
 use Rattle.ucon_store.proofs.Versions.{closed_kind, ended_kind}
 use Rattle.ucon_store.specs.Points.{points_of}
 use Rattle.ucon_store.proofs.opening.make.Goals as goal
+
+-- no call was made of the disk, so a crash leaves what it left before
+pub returns-in_err-reserve-clause-images : goal.returns-in_err-reserve-clause-images
+returns-in_err-reserve-clause-images g c =
+    let contents = g.D.Disk.contents in
+    let images = g.D.Disk.images in
+    let moment = g.D.Disk.moment in
+    let since = g.D.Disk.images_since in
+    let old = disk_of c.args.journal.now in
+    let run = subst (λ (d : g.row.D.Denot). LeavesOnly moment since old d (images old)) (sym c.reserve.ensures.disk) (started moment since old (images old) (g.met.D.Disk.only_now old)) in
+    read_opens contents images moment since c.args.policy.now old (disk_of c.reserve.new.self) run
 
 pub returns-in_err-mend-clause-images : goal.returns-in_err-mend-clause-images
 returns-in_err-mend-clause-images g c =
