@@ -1,35 +1,40 @@
 //! The limits of names, texts, integers and values, and rows and steps.
 
+use std::alloc::Global;
 use std::test::Fail;
 use ucon_base::{
     Int, Kind, Name, NameFault, Rows, Steps, Text, TextFault, TextSet, Value, ValueFault,
 };
 use ucon_spelling::put_spelling;
 
+/// Names, and what is wrong with each.
+const NAMES: &[(&[u8], Option<NameFault>)] = &[
+    (b"sign_up2", None),
+    (b"", Some(NameFault::Empty)),
+    (
+        b"0123456789abcdef0123456789ABCDEF0",
+        Some(NameFault::TooLong(33)),
+    ),
+    (b"1st", Some(NameFault::BadByte(0))),
+    (b"a-b", Some(NameFault::BadByte(1))),
+];
+
+/// Texts, and what is wrong with each.
+const TEXTS: &[(&[u8], Option<TextFault>)] = &[
+    (b"", None),
+    (b"say \"a\"", Some(TextFault::BadByte(4))),
+    (&[b'a'; 65], Some(TextFault::TooLong(65))),
+];
+
 #[test]
 fn names_and_texts_are_read(rt: HostRuntime) -> Result<(), Fail> {
-    let names: [(&[u8], Option<NameFault>); 5] = [
-        (b"sign_up2", None),
-        (b"", Some(NameFault::Empty)),
-        (
-            b"0123456789abcdef0123456789ABCDEF0",
-            Some(NameFault::TooLong(33)),
-        ),
-        (b"1st", Some(NameFault::BadByte(0))),
-        (b"a-b", Some(NameFault::BadByte(1))),
-    ];
-    for (bytes, fault) in names {
-        assert_eq!(rt; Name::read(bytes).err(), fault);
+    for &(bytes, fault) in NAMES {
+        assert!(rt; Name::read(bytes).err() == fault, "{bytes:?}");
     }
-    let texts: [(&[u8], Option<TextFault>); 3] = [
-        (b"", None),
-        (b"say \"a\"", Some(TextFault::BadByte(4))),
-        (&[b'a'; 65], Some(TextFault::TooLong(65))),
-    ];
-    for (bytes, fault) in texts {
-        assert_eq!(rt; Text::read(bytes).err(), fault);
+    for &(bytes, fault) in TEXTS {
+        assert!(rt; Text::read(bytes).err() == fault, "{bytes:?}");
     }
-    assert_eq!(rt; Name::read(b"ann")?.bytes(), Text::read(b"ann")?.bytes());
+    assert!(rt; Name::read(b"ann")?.bytes() == Text::read(b"ann")?.bytes());
     Ok(())
 }
 
@@ -63,7 +68,7 @@ fn rows_and_steps(rt: HostRuntime) -> Result<(), Fail> {
     let mut rows = Rows::new(rt.alloc());
     rows.push(1)?;
     rows.reserve(2)?;
-    assert_eq!(rt; (rows.len(), rows.at(0), rows.at(1)), (1, Some(&1), None));
+    assert!(rt; rows.len() == 1 && rows.at(0) == Some(&1) && rows.at(1).is_none());
     let rows = Rows::from(rows.into_vec());
     assert_eq!(rt; rows.slice(), [1].as_slice());
     let mut steps = Steps::new();
@@ -76,67 +81,84 @@ fn rows_and_steps(rt: HostRuntime) -> Result<(), Fail> {
 fn sets_grow_and_shrink(rt: HostRuntime) -> Result<(), Fail> {
     let a = Text::read(b"a")?;
     let one = TextSet::empty(rt.alloc()).with(rt.alloc(), &a)?;
-    assert_eq!(rt; (one.size(), one.at(0)), (1, Some(&a)));
+    assert!(rt; one.size() == 1 && one.at(0) == Some(&a));
     assert_eq!(rt; one.without(rt.alloc(), &a)?.size(), 0);
     assert!(rt; one.copy(rt.alloc())?.has(&a));
     Ok(())
 }
 
+/// Values as they are spelled.
+const SPELLED: &[&[u8]] = &[
+    b"0",
+    b"-5",
+    b"1000000000000000",
+    b"\"a b\"",
+    b"{}",
+    b"{\"a\",\"ab\",\"b\"}",
+];
+
+/// The spelling of a copy of what is read of one.
+fn spelled_back(alloc: Global, bytes: &[u8]) -> Result<Vec<u8>, Fail> {
+    let mut out = Vec::new(alloc);
+    let value = Value::read(alloc, bytes)?;
+    put_spelling(alloc, &mut out, &value.copy(alloc)?)?;
+    Ok(out)
+}
+
+/// Bytes that spell no value, and why.
+const REFUSED: &[(&[u8], ValueFault)] = &[
+    (b"", ValueFault::BadSpelling(0)),
+    (b"-0", ValueFault::BadSpelling(1)),
+    (b"12x", ValueFault::BadSpelling(2)),
+    (b"\"a\"\"", ValueFault::BadSpelling(3)),
+    (b"{\"a\",", ValueFault::BadSpelling(5)),
+    (b"{\"b\",\"a\"}", ValueFault::BadSpelling(5)),
+    (b"{\"b\",\"a", ValueFault::BadSpelling(5)),
+    (b"{\"b\",\"b\"}", ValueFault::BadSpelling(5)),
+    (b"{\"b\",\"b", ValueFault::BadSpelling(7)),
+    (b"1000000000000001", ValueFault::OutOfRange),
+];
+
+fn is_refused(alloc: Global, bytes: &[u8], fault: ValueFault) -> bool {
+    Value::read(alloc, bytes).err() == Some(fault)
+}
+
 #[test]
 fn values_are_read_and_written(rt: HostRuntime) -> Result<(), Fail> {
-    let spelled: [&[u8]; 6] = [
-        b"0",
-        b"-5",
-        b"1000000000000000",
-        b"\"a b\"",
-        b"{}",
-        b"{\"a\",\"ab\",\"b\"}",
-    ];
-    for bytes in spelled {
-        let mut out = Vec::new(rt.alloc());
-        let value = Value::read(rt.alloc(), bytes)?;
-        put_spelling(rt.alloc(), &mut out, &value.copy(rt.alloc())?)?;
-        assert_eq!(rt; out.as_slice(), bytes);
+    for &bytes in SPELLED {
+        assert!(rt;
+            spelled_back(rt.alloc(), bytes)?.as_slice() == bytes,
+            "{bytes:?}"
+        );
     }
-    let refused: [(&[u8], ValueFault); 10] = [
-        (b"", ValueFault::BadSpelling(0)),
-        (b"-0", ValueFault::BadSpelling(1)),
-        (b"12x", ValueFault::BadSpelling(2)),
-        (b"\"a\"\"", ValueFault::BadSpelling(3)),
-        (b"{\"a\",", ValueFault::BadSpelling(5)),
-        (b"{\"b\",\"a\"}", ValueFault::BadSpelling(5)),
-        (b"{\"b\",\"a", ValueFault::BadSpelling(5)),
-        (b"{\"b\",\"b\"}", ValueFault::BadSpelling(5)),
-        (b"{\"b\",\"b", ValueFault::BadSpelling(7)),
-        (b"1000000000000001", ValueFault::OutOfRange),
-    ];
-    for (bytes, fault) in refused {
-        assert_eq!(rt; Value::read(rt.alloc(), bytes).err(), Some(fault));
+    for &(bytes, fault) in REFUSED {
+        assert!(rt; is_refused(rt.alloc(), bytes, fault), "{bytes:?}");
     }
     Ok(())
 }
 
-#[test]
-fn values_keep_their_limits(rt: HostRuntime) -> Result<(), Fail> {
-    let mut long = Vec::new(rt.alloc());
-    long.extend_from_slice(b"{\"")?;
+/// A set of one text that is a byte too long.
+fn long_set(alloc: Global) -> Result<Vec<u8>, Fail> {
+    let mut long = Vec::from_slice(alloc, b"{\"")?;
     long.extend_from_slice(&[b'a'; 65])?;
     long.extend_from_slice(b"\"}")?;
-    assert_eq!(rt;
-        Value::read(rt.alloc(), &long).err(),
-        Some(ValueFault::TooLong(1))
-    );
-    let mut many = Vec::new(rt.alloc());
-    for c in b'#'..b'd' {
-        many.push(if c == b'#' { b'{' } else { b',' })?;
-        many.push(b'"')?;
-        many.push(c)?;
-        many.push(b'"')?;
+    Ok(long)
+}
+
+/// A set of one text too many.
+fn many_texts(alloc: Global) -> Result<Vec<u8>, Fail> {
+    let mut many = Vec::from_slice(alloc, b"{\"#\"")?;
+    for c in b'$'..b'd' {
+        many.extend_from_slice(&[b',', b'"', c, b'"'])?;
     }
     many.push(b'}')?;
-    assert_eq!(rt;
-        Value::read(rt.alloc(), &many).err(),
-        Some(ValueFault::TooMany(65))
-    );
+    Ok(many)
+}
+
+#[test]
+fn values_keep_their_limits(rt: HostRuntime) -> Result<(), Fail> {
+    let alloc = rt.alloc();
+    assert!(rt; is_refused(alloc, &long_set(alloc)?, ValueFault::TooLong(1)));
+    assert!(rt; is_refused(alloc, &many_texts(alloc)?, ValueFault::TooMany(65)));
     Ok(())
 }

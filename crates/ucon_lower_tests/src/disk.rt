@@ -49,31 +49,33 @@ fn images(alloc: Global, rt: &impl Abort, ops: &[Op], failing: &[u64]) -> Result
     Ok(all)
 }
 
+/// Calls, those that fail, and the images after them.
+const IMAGES: &[(&[Op], &[u64], &str)] = &[
+    (&[], &[], "|abc"),
+    (&[Write(3, "de")], &[], "|abc|abc?|abc??"),
+    (&[Write(1, "X")], &[], "|a?c"),
+    (&[Write(0, "")], &[], "|abc"),
+    (&[Cut(1)], &[], "|a|ab|abc"),
+    (&[Cut(1), Write(1, "XYZ")], &[], "|a|a?|a??|a???"),
+    (&[Cut(1), Sync], &[], "|a"),
+    (&[Cut(1), Sync, Write(1, "XY")], &[], "|a|a?|a??"),
+    (&[Write(3, "de"), Sync], &[], "|abcde"),
+    (
+        &[Write(3, "de"), Sync, Write(4, "fg")],
+        &[],
+        "|abcd?|abcd??",
+    ),
+    (&[Write(1, "X")], &[0], "|a?c"),
+    (&[Write(2, "XYZ")], &[0], "|ab?|ab??|ab???"),
+    (&[Cut(1)], &[0], "|a|ab|abc"),
+    (&[Write(3, "de"), Sync], &[1], "|abc|abc?|abc??"),
+];
+
 #[test]
 fn images_after_short_sequences(rt: HostRuntime) -> Result<(), Fail> {
-    let table: [(&[Op], &[u64], &str); 14] = [
-        (&[], &[], "|abc"),
-        (&[Write(3, "de")], &[], "|abc|abc?|abc??"),
-        (&[Write(1, "X")], &[], "|a?c"),
-        (&[Write(0, "")], &[], "|abc"),
-        (&[Cut(1)], &[], "|a|ab|abc"),
-        (&[Cut(1), Write(1, "XYZ")], &[], "|a|a?|a??|a???"),
-        (&[Cut(1), Sync], &[], "|a"),
-        (&[Cut(1), Sync, Write(1, "XY")], &[], "|a|a?|a??"),
-        (&[Write(3, "de"), Sync], &[], "|abcde"),
-        (
-            &[Write(3, "de"), Sync, Write(4, "fg")],
-            &[],
-            "|abcd?|abcd??",
-        ),
-        (&[Write(1, "X")], &[0], "|a?c"),
-        (&[Write(2, "XYZ")], &[0], "|ab?|ab??|ab???"),
-        (&[Cut(1)], &[0], "|a|ab|abc"),
-        (&[Write(3, "de"), Sync], &[1], "|abc|abc?|abc??"),
-    ];
-    for (ops, failing, want) in table {
+    for &(ops, failing, want) in IMAGES {
         let got = images(rt.alloc(), &rt, ops, failing)?;
-        assert_eq!(rt; got.as_str(), want, "after {ops:?}");
+        assert!(rt; got.as_str() == want, "{got} after {ops:?}");
     }
     Ok(())
 }

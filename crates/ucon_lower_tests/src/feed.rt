@@ -72,22 +72,22 @@ fn source(alloc: Global, bytes: &[u8], piece: usize, faults: &[u64]) -> Result<M
     Ok(MemSource::new(bytes, piece, Vec::from_slice(alloc, faults)?))
 }
 
+/// How many bytes a read gives at the most.
+const PIECES: &[usize] = &[1, 2, 4096];
+
+const LINES: &[&[u8]] = &[b"a\n", b"bc\n", b"\n", b"d"];
+
 #[test]
 fn lines_are_given_one_by_one(rt: HostRuntime) -> Result<(), Fail> {
     let alloc = rt.alloc();
-    for piece in [1usize, 2, 4096] {
+    for &piece in PIECES {
         let mut source = source(alloc, b"a\nbc\n\nd", piece.max(1), &[])?;
         let mut reader = LineReader::new(alloc, 7);
-        for wanted in [
-            b"a\n".as_slice(),
-            b"bc\n".as_slice(),
-            b"\n".as_slice(),
-            b"d".as_slice(),
-        ] {
+        for &wanted in LINES {
             let line = reader.next(alloc, &mut source)?.ok_or("a line")?;
-            assert_eq!(rt; line.as_slice(), wanted);
+            assert!(rt; line.as_slice() == wanted, "{wanted:?} of {piece}");
         }
-        assert_eq!(rt; reader.next(alloc, &mut source)?, None);
+        assert!(rt; reader.next(alloc, &mut source)?.is_none());
     }
     Ok(())
 }
@@ -112,22 +112,25 @@ fn a_line_is_given_before_the_next_piece_is_read(rt: HostRuntime) -> Result<(), 
     Ok(())
 }
 
+const LIMIT: usize = 4_194_304;
+
+/// The length of a line, and what is read of it: as many bytes, or why it is refused.
+const LONG: &[(usize, Option<usize>, Option<ReadFault>)] = &[
+    (LIMIT, Some(LIMIT), None),
+    (LIMIT + 1, None, Some(ReadFault::TooLong)),
+];
+
 #[test]
 fn a_line_may_be_as_long_as_the_limit(rt: HostRuntime) -> Result<(), Fail> {
     let alloc = rt.alloc();
-    let limit = 4_194_304usize;
-    let cases = [
-        (limit, (Some(limit), None)),
-        (limit + 1, (None, Some(ReadFault::TooLong))),
-    ];
-    for (len, wanted) in cases {
+    for &(len, wanted, refused) in LONG {
         let bytes = vec![in alloc; b'a'; len]?;
         let mut source = MemSource::new(bytes, 4096, Vec::new(alloc));
-        let read = match LineReader::new(alloc, limit).next(alloc, &mut source) {
+        let (read, fault) = match LineReader::new(alloc, LIMIT).next(alloc, &mut source) {
             Ok(line) => (line.map(|l| l.len()), None),
             Err(fault) => (None, Some(fault)),
         };
-        assert_eq!(rt; read, wanted);
+        assert!(rt; read == wanted && fault == refused, "{len}");
     }
     Ok(())
 }

@@ -11,18 +11,20 @@ fn source(alloc: Global, faults: &[u64]) -> Result<MemSource, Fail> {
     Ok(MemSource::new(bytes, 2, Vec::from_slice(alloc, faults)?))
 }
 
+/// The calls that fail, the limit, and what is told then.
+const REFUSED: &[(&[u64], usize, ReadFault)] = &[
+    (&[], 2, ReadFault::TooLong),
+    (&[1], 3, ReadFault::SourceFault),
+];
+
 #[test]
 fn a_source_is_read_whole_up_to_the_limit(rt: HostRuntime) -> Result<(), Fail> {
     let alloc = rt.alloc();
     let bytes = read_all(alloc, &mut source(alloc, &[])?, 3)?;
     assert_eq!(rt; bytes.as_slice(), b"abc".as_slice());
-    let cases: [(&[u64], usize, ReadFault); 2] = [
-        (&[], 2, ReadFault::TooLong),
-        (&[1], 3, ReadFault::SourceFault),
-    ];
-    for (faults, limit, fault) in cases {
+    for &(faults, limit, fault) in REFUSED {
         let refused = read_all(alloc, &mut source(alloc, faults)?, limit).err();
-        assert_eq!(rt; refused, Some(fault));
+        assert!(rt; refused == Some(fault), "{limit}");
     }
     let mut reader = ReadSource::new(b"abc".as_slice());
     assert_eq!(rt;

@@ -142,19 +142,19 @@ fn after_opening(alloc: Global, bytes: &[u8]) -> Result<(Vec<u8>, u8), Fail> {
     }
 }
 
+/// A file, what is in it after its opening, and the version.
+const OPENED: &[(&[u8], &[u8], u8)] = &[
+    (b"", b"UCONJR02\0", 2),
+    (b"UCONJR01\0", b"UCONJR02\0", 2),
+    (b"UCONJR01\0\0", b"UCONJR01\0\0", 1),
+    (b"UCONJR02\x01\0", b"UCONJR02\x01\0", 2),
+];
+
 #[test]
 fn nine_bytes_become_version_2_and_ten_stay(rt: HostRuntime) -> Result<(), Fail> {
-    let alloc = rt.alloc();
-    let rows: [(&[u8], &[u8], u8); 4] = [
-        (b"", b"UCONJR02\0", 2),
-        (b"UCONJR01\0", b"UCONJR02\0", 2),
-        (b"UCONJR01\0\0", b"UCONJR01\0\0", 1),
-        (b"UCONJR02\x01\0", b"UCONJR02\x01\0", 2),
-    ];
-    for (bytes, want, version) in rows {
-        let (after, told) = after_opening(alloc, bytes)?;
-        assert_eq!(rt; after.as_slice(), want);
-        assert_eq!(rt; told, version);
+    for &(bytes, want, version) in OPENED {
+        let (after, told) = after_opening(rt.alloc(), bytes)?;
+        assert!(rt; after.as_slice() == want && told == version, "{bytes:?}");
     }
     Ok(())
 }
@@ -210,28 +210,28 @@ fn check_images(alloc: Global, rt: &impl Abort, bytes: &[u8], wants: &[&[u8]]) -
     Ok(())
 }
 
+/// A file, and what may be found in it after a stop.
+type Stopped = (&'static [u8], &'static [&'static [u8]]);
+
+const MADE: &[&[u8]] = &[b"", b"right r {}\n|", b"right r {}\n|0 subject a\nok|"];
+
+const TORN: &[&[u8]] = &[
+    b"abc|",
+    b"abc|right r {}\n|",
+    b"abc|right r {}\n|0 subject a\nok|",
+];
+
+const STOPPED: &[Stopped] = &[
+    (b"", MADE),
+    (b"UCON", MADE),
+    (b"UCONJR01\x01\0\0\0\x03abc\0\0\0\0\x02xy\0", TORN),
+    (b"UCONJR02\x01\0\0\0\x03abc\x01\0\0\0\x09xy\x01", TORN),
+];
+
 #[test]
 fn images_after_a_stop(rt: HostRuntime) -> Result<(), Fail> {
-    let alloc = rt.alloc();
-    let made: [&[u8]; 3] = [b"", b"right r {}\n|", b"right r {}\n|0 subject a\nok|"];
-    check_images(alloc, &rt, b"", &made)?;
-    check_images(alloc, &rt, b"UCON", &made)?;
-    let torn: [&[u8]; 3] = [
-        b"abc|",
-        b"abc|right r {}\n|",
-        b"abc|right r {}\n|0 subject a\nok|",
-    ];
-    check_images(
-        alloc,
-        &rt,
-        b"UCONJR01\x01\0\0\0\x03abc\0\0\0\0\x02xy\0",
-        &torn,
-    )?;
-    check_images(
-        alloc,
-        &rt,
-        b"UCONJR02\x01\0\0\0\x03abc\x01\0\0\0\x09xy\x01",
-        &torn,
-    )?;
+    for &(bytes, wants) in STOPPED {
+        check_images(rt.alloc(), &rt, bytes, wants)?;
+    }
     Ok(())
 }

@@ -19,7 +19,7 @@ fn place(alloc: Global, bytes: &[u8]) -> Result<Option<usize>, Fail> {
 const SMALL: &[u8] = b"point 1\npolicy 11\nright r {}\n\ntick 0\nsubject a\n";
 
 /// Lines that are no point's, at their places.
-const LINES: [(&[u8], Option<usize>); 30] = [
+const LINES: &[(&[u8], Option<usize>)] = &[
     (SMALL, None),
     (
         b"point 2\npolicy 11\nright r {}\n\ntick 0\nsubject a\n",
@@ -83,7 +83,7 @@ const LINES: [(&[u8], Option<usize>); 30] = [
 ];
 
 /// Rows that can't be put.
-const PUT: [(&[u8], Option<usize>); 7] = [
+const PUT: &[(&[u8], Option<usize>)] = &[
     (
         b"point 0\npolicy 0\n\ntick 5\nsubject a\nobject c\nact a b c 5\nsession 63 r a c ended 5\n",
         None,
@@ -116,10 +116,10 @@ const PUT: [(&[u8], Option<usize>); 7] = [
 
 #[test]
 fn what_is_no_point_is_refused_at_its_place(rt: HostRuntime) -> Result<(), Fail> {
-    for (bytes, wanted) in LINES {
+    for &(bytes, wanted) in LINES {
         assert!(rt; place(rt.alloc(), bytes)? == wanted, "{bytes:?}");
     }
-    for (bytes, wanted) in PUT {
+    for &(bytes, wanted) in PUT {
         assert!(rt; place(rt.alloc(), bytes)? == wanted, "{bytes:?}");
     }
     Ok(())
@@ -178,7 +178,7 @@ session 63 r a b ended 2
 ";
 
 /// Number, caller, state and start of each of its sessions.
-const SESSIONS: [(u32, u8, SessionState, i64); 5] = [
+const SESSIONS: &[(u32, u8, SessionState, i64)] = &[
     (1, 0, SessionState::Requesting, 0),
     (2, 1, SessionState::Denied, 0),
     (3, 2, SessionState::Accessing, 5),
@@ -211,7 +211,7 @@ fn all_sorts_of_rows_are_read(rt: HostRuntime) -> Result<(), Fail> {
     assert!(rt; is_kept(rt.alloc(), FULL, 7, POLICY)?);
     let point = read_point(rt.alloc(), FULL)?;
     assert_eq!(rt; times_of(&point), Some((5, 2)));
-    for session in SESSIONS {
+    for &session in SESSIONS {
         assert_eq!(rt; seen(&point, session.0), Some(session));
     }
     Ok(())

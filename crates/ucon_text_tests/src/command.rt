@@ -9,7 +9,7 @@ use ucon_command::{
 use ucon_model::{Caller, Command, Head, Refusal, Reply, Revoked, SessionState};
 use ucon_reply::{ReplyFault, read_reply, reply_text};
 
-const LINES: [&[u8]; 23] = [
+const LINES: &[&[u8]] = &[
     b"subject ann",
     b"object doc1",
     b"set s ann credit -1000000000000000",
@@ -43,7 +43,7 @@ fn line_back(alloc: Global, line: &[u8]) -> Result<Vec<u8>, Fail> {
 
 #[test]
 fn each_line_is_read_and_written_back(rt: HostRuntime) -> Result<(), Fail> {
-    for line in LINES {
+    for &line in LINES {
         assert!(rt; line_back(rt.alloc(), line)?.as_slice() == line, "{line:?}");
     }
     Ok(())
@@ -89,7 +89,7 @@ fn words_stand_where_the_form_says(rt: HostRuntime) -> Result<(), Fail> {
     Ok(())
 }
 
-const REFUSED: [(&[u8], LineFault); 45] = [
+const REFUSED: &[(&[u8], LineFault)] = &[
     (&[b'a'; 8193], LineFault::TooLong(8193)),
     (&[b'a'; 8192], LineFault::UnknownWord),
     (b"", LineFault::NoWord),
@@ -149,7 +149,7 @@ fn is_refused(alloc: Global, line: &[u8], fault: LineFault) -> bool {
 
 #[test]
 fn each_refusal_has_its_place(rt: HostRuntime) {
-    for (line, fault) in REFUSED {
+    for &(line, fault) in REFUSED {
         assert!(rt; is_refused(rt.alloc(), line, fault), "{line:?}");
     }
 }
@@ -176,7 +176,7 @@ fn amendments_may_be_long(rt: HostRuntime) -> Result<(), Fail> {
     Ok(())
 }
 
-const REPLIES: [&[u8]; 16] = [
+const REPLIES: &[&[u8]] = &[
     b"ok",
     b"ok revoked 2 lb",
     b"ok revoked 1 a revoked 2 b revoked 4294967295 c",
@@ -203,7 +203,7 @@ fn reply_back(alloc: Global, text: &[u8]) -> Result<Vec<u8>, Fail> {
 
 #[test]
 fn each_reply_is_read_and_written_back(rt: HostRuntime) -> Result<(), Fail> {
-    for text in REPLIES {
+    for &text in REPLIES {
         assert!(rt;
             reply_back(rt.alloc(), text)?.as_slice() == text,
             "{text:?}"
@@ -212,7 +212,7 @@ fn each_reply_is_read_and_written_back(rt: HostRuntime) -> Result<(), Fail> {
     Ok(())
 }
 
-const REFUSALS: [(Refusal, &[u8]); 20] = [
+const REFUSALS: &[(Refusal, &[u8])] = &[
     (Refusal::NotAdmin, b"not admin"),
     (Refusal::NoRight, b"no right"),
     (Refusal::NoSubject, b"no subject"),
@@ -243,7 +243,7 @@ fn has_text(alloc: Global, refusal: Refusal, text: &[u8]) -> Result<bool, Fail> 
 
 #[test]
 fn each_refusal_has_its_text(rt: HostRuntime) -> Result<(), Fail> {
-    for (refusal, text) in REFUSALS {
+    for &(refusal, text) in REFUSALS {
         assert!(rt; has_text(rt.alloc(), refusal, text)?, "{refusal:?}");
     }
     Ok(())
@@ -268,7 +268,7 @@ fn replies_that_were_made_are_written(rt: HostRuntime) -> Result<(), Fail> {
     Ok(())
 }
 
-const NO_REPLIES: [&[u8]; 17] = [
+const NO_REPLIES: &[&[u8]] = &[
     b"",
     b"OK",
     b"ok ",
@@ -294,7 +294,7 @@ fn is_no_reply(alloc: Global, text: &[u8]) -> bool {
 
 #[test]
 fn other_bytes_are_no_reply(rt: HostRuntime) {
-    for text in NO_REPLIES {
+    for &text in NO_REPLIES {
         assert!(rt; is_no_reply(rt.alloc(), text), "{text:?}");
     }
 }
@@ -327,7 +327,7 @@ fn a_payload_is_written_and_read_back(rt: HostRuntime) -> Result<(), Fail> {
 }
 
 /// Payloads, and where the first part that is none stands.
-const NO_PAYLOADS: [(&[u8], usize); 8] = [
+const NO_PAYLOADS: &[(&[u8], usize)] = &[
     (b"", 0),
     (b"7", 0),
     (b"64 end 7", 0),
@@ -344,7 +344,7 @@ fn is_bad_at(alloc: Global, payload: &[u8], place: usize) -> bool {
 
 #[test]
 fn the_first_part_that_is_none_is_told(rt: HostRuntime) {
-    for (payload, place) in NO_PAYLOADS {
+    for &(payload, place) in NO_PAYLOADS {
         assert!(rt; is_bad_at(rt.alloc(), payload, place), "{payload:?}");
     }
 }

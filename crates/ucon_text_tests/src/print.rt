@@ -10,16 +10,17 @@ fn printed(alloc: Global, written: &[u8]) -> Result<Vec<u8>, Fail> {
 }
 
 /// A right without items has two lines, and a difference on the right has brackets.
+const RIGHTS: &[(&[u8], &[u8])] = &[
+    (b"right r {}", b"right r {\n}\n"),
+    (
+        b"right r { before s.credit = s.credit - (2 - -3); }",
+        b"right r {\n  before s.credit = s.credit - (2 - -3);\n}\n",
+    ),
+];
+
 #[test]
 fn rights_are_printed(rt: HostRuntime) -> Result<(), Fail> {
-    let rights: [(&[u8], &[u8]); 2] = [
-        (b"right r {}", b"right r {\n}\n"),
-        (
-            b"right r { before s.credit = s.credit - (2 - -3); }",
-            b"right r {\n  before s.credit = s.credit - (2 - -3);\n}\n",
-        ),
-    ];
-    for (written, wanted) in rights {
+    for &(written, wanted) in RIGHTS {
         assert!(rt;
             printed(rt.alloc(), written)?.as_slice() == wanted,
             "{wanted:?}"
@@ -29,7 +30,7 @@ fn rights_are_printed(rt: HostRuntime) -> Result<(), Fail> {
 }
 
 /// A condition, as it is written and as it is printed.
-const CONDITIONS: [(&str, &str); 16] = [
+const CONDITIONS: &[(&str, &str)] = &[
     ("1 - 2 - 3 = 0", "1 - 2 - 3 = 0"),
     ("1 - (2 - 3) = 0", "1 - (2 - 3) = 0"),
     ("(1 - 2) - 3 = 0", "1 - 2 - 3 = 0"),
@@ -67,7 +68,7 @@ fn is_printed(alloc: Global, written: &str, wanted: &str) -> Result<bool, Fail> 
 
 #[test]
 fn printings_are_read_and_printed_again(rt: HostRuntime) -> Result<(), Fail> {
-    for (written, wanted) in CONDITIONS {
+    for &(written, wanted) in CONDITIONS {
         assert!(rt; is_printed(rt.alloc(), written, wanted)?, "{written}");
     }
     Ok(())

@@ -8,24 +8,26 @@ use ucon_script::{DocFault, Document, Line, Script, policy_part, read_document, 
 /// What a document may have.
 const MOST_BYTES: usize = 4_194_304;
 
+/// Documents, and the policy's part of each.
+const PARTS: &[(&[u8], &[u8])] = &[
+    (b"", b""),
+    (b"%%", b""),
+    (b"%%\n", b""),
+    (b"a", b"a"),
+    (b"a\n", b"a\n"),
+    (b"a\n%%", b"a\n"),
+    (b"a\n%%\nb\n", b"a\n"),
+    (b"\n\n%%\n", b"\n\n"),
+    (b"a\n%%\n%%\n", b"a\n"),
+    (b"a\n%%\r\nb\n", b"a\n%%\r\nb\n"),
+    (b"a\n%% \nb", b"a\n%% \nb"),
+    (b"a%%\n%\n", b"a%%\n%\n"),
+    (b"a\n%%%\n%%\nb", b"a\n%%%\n"),
+];
+
 #[test]
 fn policy_parts(rt: HostRuntime) {
-    let cases: [(&[u8], &[u8]); 13] = [
-        (b"", b""),
-        (b"%%", b""),
-        (b"%%\n", b""),
-        (b"a", b"a"),
-        (b"a\n", b"a\n"),
-        (b"a\n%%", b"a\n"),
-        (b"a\n%%\nb\n", b"a\n"),
-        (b"\n\n%%\n", b"\n\n"),
-        (b"a\n%%\n%%\n", b"a\n"),
-        (b"a\n%%\r\nb\n", b"a\n%%\r\nb\n"),
-        (b"a\n%% \nb", b"a\n%% \nb"),
-        (b"a%%\n%\n", b"a%%\n%\n"),
-        (b"a\n%%%\n%%\nb", b"a\n%%%\n"),
-    ];
-    for (text, part) in cases {
+    for &(text, part) in PARTS {
         assert!(rt; policy_part(text) == part, "{text:?}");
     }
 }
@@ -72,31 +74,33 @@ fn lines_stand_where_they_are(rt: HostRuntime) -> Result<(), Fail> {
     Ok(())
 }
 
+/// Documents, and the number, the client and the session of each of their lines.
+const SEEN: &[(&[u8], &[(u32, u8, u32)])] = &[
+    (b"", &[]),
+    (b"right r {}\nclient 1\nlook 1\n", &[]),
+    (b"a\n%%", &[]),
+    (b"%%\nclient 1", &[]),
+    (b"%%\nclient 1\nlook 1", &[(3, 1, 1)]),
+    (b"%%\nclient 63\nlook 1\n", &[(3, 63, 1)]),
+    (b"a\n\n%%\nclient 5\nlook 1\n", &[(5, 5, 1)]),
+    (b"%%\r\n%%\nclient 1\nlook 1\n", &[(4, 1, 1)]),
+    (b"%%\n\n#\nclient 1\n\n# look 9\nlook 1\n", &[(7, 1, 1)]),
+    (b"%%\nclient 0\nclient 2\nlook 1\n", &[(4, 2, 1)]),
+    (
+        b"%%\nclient 1\nlook 1\nclient 0\nlook 2\nclient 1\nlook 3",
+        &[(3, 1, 1), (5, 0, 2), (7, 1, 3)],
+    ),
+    (
+        b"%%\nclient 10\nlook 1\nlook 2\n#client 2\nlook 3",
+        &[(3, 10, 1), (4, 10, 2), (6, 10, 3)],
+    ),
+    (b"%%\nclient 0\nsubject ann\n", &[(3, 0, 0)]),
+];
+
 #[test]
 fn lines_have_their_numbers_and_clients(rt: HostRuntime) -> Result<(), Fail> {
     let alloc = rt.alloc();
-    let cases: [(&[u8], &[(u32, u8, u32)]); 13] = [
-        (b"", &[]),
-        (b"right r {}\nclient 1\nlook 1\n", &[]),
-        (b"a\n%%", &[]),
-        (b"%%\nclient 1", &[]),
-        (b"%%\nclient 1\nlook 1", &[(3, 1, 1)]),
-        (b"%%\nclient 63\nlook 1\n", &[(3, 63, 1)]),
-        (b"a\n\n%%\nclient 5\nlook 1\n", &[(5, 5, 1)]),
-        (b"%%\r\n%%\nclient 1\nlook 1\n", &[(4, 1, 1)]),
-        (b"%%\n\n#\nclient 1\n\n# look 9\nlook 1\n", &[(7, 1, 1)]),
-        (b"%%\nclient 0\nclient 2\nlook 1\n", &[(4, 2, 1)]),
-        (
-            b"%%\nclient 1\nlook 1\nclient 0\nlook 2\nclient 1\nlook 3",
-            &[(3, 1, 1), (5, 0, 2), (7, 1, 3)],
-        ),
-        (
-            b"%%\nclient 10\nlook 1\nlook 2\n#client 2\nlook 3",
-            &[(3, 10, 1), (4, 10, 2), (6, 10, 3)],
-        ),
-        (b"%%\nclient 0\nsubject ann\n", &[(3, 0, 0)]),
-    ];
-    for (text, lines) in cases {
+    for &(text, lines) in SEEN {
         assert!(rt; text.len() <= MOST_BYTES);
         match read_document(alloc, text) {
             Ok(document) => {
@@ -122,76 +126,78 @@ fn fault(alloc: Global, rt: &impl Abort, text: &[u8]) -> Option<DocFault> {
     read_document(alloc, text).err()
 }
 
+/// Documents, and what is wrong with them first.
+const REFUSED: &[(&[u8], DocFault)] = &[
+    (b"%%\nclient 64", DocFault::TooManyClients(2)),
+    (b"%%\nclient 100\n", DocFault::TooManyClients(2)),
+    (b"%%\nclient 640", DocFault::TooManyClients(2)),
+    (
+        b"%%\n\nclient 123456789012345678901234567890\n",
+        DocFault::TooManyClients(3),
+    ),
+    (b"%%\nclient 064", DocFault::BadHeading(2)),
+    (b"%%\nclient 01", DocFault::BadHeading(2)),
+    (b"%%\nclient 00", DocFault::BadHeading(2)),
+    (
+        b"%%\nclient 012345678901234567890123456789",
+        DocFault::BadHeading(2),
+    ),
+    (b"%%\nclient", DocFault::BadHeading(2)),
+    (b"%%\nclient ", DocFault::BadHeading(2)),
+    (b"%%\nclient  1", DocFault::BadHeading(2)),
+    (b"%%\nclient 1 ", DocFault::BadHeading(2)),
+    (b"%%\nclient 64 ", DocFault::BadHeading(2)),
+    (b"%%\nclient 64 x", DocFault::BadHeading(2)),
+    (b"%%\nclient -1", DocFault::BadHeading(2)),
+    (b"%%\nclient +1", DocFault::BadHeading(2)),
+    (b"%%\nclient x", DocFault::BadHeading(2)),
+    (b"%%\nclient 1\r\nlook 1\n", DocFault::BadHeading(2)),
+    (b"%%\ntick 1", DocFault::BadHeading(2)),
+    (b"%%\n \n", DocFault::BadHeading(2)),
+    (b"%%\nclients 3", DocFault::BadHeading(2)),
+    (
+        b"%%\nclient 0\nclients 3",
+        DocFault::BadLine(3, LineFault::UnknownWord),
+    ),
+    (
+        b"%%\nclient 0\nfly a",
+        DocFault::BadLine(3, LineFault::UnknownWord),
+    ),
+    (
+        b"%%\nclient 0\n%%\nclient 0\n",
+        DocFault::BadLine(3, LineFault::UnknownWord),
+    ),
+    (
+        b"%%\nclient 0\n \n",
+        DocFault::BadLine(3, LineFault::NoWord),
+    ),
+    (
+        b"%%\nclient 0\n client 1\n",
+        DocFault::BadLine(3, LineFault::NoWord),
+    ),
+    (
+        b"%%\nclient 0\nend",
+        DocFault::BadLine(3, LineFault::WrongCount(1)),
+    ),
+    (
+        b"%%\nclient 0\nlook 1\r\n",
+        DocFault::BadLine(3, LineFault::BadWord(5)),
+    ),
+    (
+        b"%%\nclient 0\n\n#\nend x\nclient 64\n",
+        DocFault::BadLine(5, LineFault::BadWord(4)),
+    ),
+    (
+        b"%%\nclient 64\nclient 0\nfly a",
+        DocFault::TooManyClients(2),
+    ),
+    (b"%%\nlook 1\nclient 64", DocFault::BadHeading(2)),
+];
+
 #[test]
 fn the_first_refusal_decides(rt: HostRuntime) {
-    let cases: [(&[u8], DocFault); 31] = [
-        (b"%%\nclient 64", DocFault::TooManyClients(2)),
-        (b"%%\nclient 100\n", DocFault::TooManyClients(2)),
-        (b"%%\nclient 640", DocFault::TooManyClients(2)),
-        (
-            b"%%\n\nclient 123456789012345678901234567890\n",
-            DocFault::TooManyClients(3),
-        ),
-        (b"%%\nclient 064", DocFault::BadHeading(2)),
-        (b"%%\nclient 01", DocFault::BadHeading(2)),
-        (b"%%\nclient 00", DocFault::BadHeading(2)),
-        (
-            b"%%\nclient 012345678901234567890123456789",
-            DocFault::BadHeading(2),
-        ),
-        (b"%%\nclient", DocFault::BadHeading(2)),
-        (b"%%\nclient ", DocFault::BadHeading(2)),
-        (b"%%\nclient  1", DocFault::BadHeading(2)),
-        (b"%%\nclient 1 ", DocFault::BadHeading(2)),
-        (b"%%\nclient 64 ", DocFault::BadHeading(2)),
-        (b"%%\nclient 64 x", DocFault::BadHeading(2)),
-        (b"%%\nclient -1", DocFault::BadHeading(2)),
-        (b"%%\nclient +1", DocFault::BadHeading(2)),
-        (b"%%\nclient x", DocFault::BadHeading(2)),
-        (b"%%\nclient 1\r\nlook 1\n", DocFault::BadHeading(2)),
-        (b"%%\ntick 1", DocFault::BadHeading(2)),
-        (b"%%\n \n", DocFault::BadHeading(2)),
-        (b"%%\nclients 3", DocFault::BadHeading(2)),
-        (
-            b"%%\nclient 0\nclients 3",
-            DocFault::BadLine(3, LineFault::UnknownWord),
-        ),
-        (
-            b"%%\nclient 0\nfly a",
-            DocFault::BadLine(3, LineFault::UnknownWord),
-        ),
-        (
-            b"%%\nclient 0\n%%\nclient 0\n",
-            DocFault::BadLine(3, LineFault::UnknownWord),
-        ),
-        (
-            b"%%\nclient 0\n \n",
-            DocFault::BadLine(3, LineFault::NoWord),
-        ),
-        (
-            b"%%\nclient 0\n client 1\n",
-            DocFault::BadLine(3, LineFault::NoWord),
-        ),
-        (
-            b"%%\nclient 0\nend",
-            DocFault::BadLine(3, LineFault::WrongCount(1)),
-        ),
-        (
-            b"%%\nclient 0\nlook 1\r\n",
-            DocFault::BadLine(3, LineFault::BadWord(5)),
-        ),
-        (
-            b"%%\nclient 0\n\n#\nend x\nclient 64\n",
-            DocFault::BadLine(5, LineFault::BadWord(4)),
-        ),
-        (
-            b"%%\nclient 64\nclient 0\nfly a",
-            DocFault::TooManyClients(2),
-        ),
-        (b"%%\nlook 1\nclient 64", DocFault::BadHeading(2)),
-    ];
-    for (text, first) in cases {
-        assert_eq!(rt; fault(rt.alloc(), &rt, text), Some(first), "{text:?}");
+    for &(text, first) in REFUSED {
+        assert!(rt; fault(rt.alloc(), &rt, text) == Some(first), "{text:?}");
     }
 }
 
