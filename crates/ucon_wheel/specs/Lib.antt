@@ -1,4 +1,2 @@
 pub mod Deadlines
-pub mod Lines
-pub mod Marks
 pub mod Wheel
