@@ -1,33 +1,20 @@
 //! The deadline of each session.
 
-ghost use Rattle.std.specs.Prelude.{◌≡◌, ◌+◌, ◌<ℤ◌, ◌≤ℤ◌, ℕ, ℤ, None, Some, IfNone, IfOk, IfSome, OnErr, OnOk};
+ghost use Rattle.std.specs.Prelude.{◌≡◌, ◌+◌, ◌<ℤ◌, ◌≤ℤ◌, [], ℕ, ℤ, None, Some, IfNone, IfOk, IfSome, OnErr, OnOk};
 ghost use Rattle.ucon_wheel.specs.Deadlines.{AreAlike, Gives, IsPassed, count_below, deadline_of, passed};
 
+use crate::owned::Owned;
+use crate::queue::Queue;
 use std::alloc::Global;
-use std::cmp::Reverse;
-use std::collections::BinaryHeap;
 use std::marker::Model;
-use std::mem;
 use ucon_base::{Int, NoMemory};
-
-/// A session whose deadline was changed, and the one that it had before.
-#[derive(Clone, Copy, Debug)]
-pub struct Change {
-    session: u32,
-    before: Option<i64>,
-}
 
 /// At most one deadline a session. What a draft changes can be undone until it is kept.
 #[derive(Drop)]
 pub struct Wheel {
-    /// The deadline of each session, at the place that is its number. A session behind the last one has none.
-    own: Vec<Option<i64>>,
-    /// Each session's deadline, and such as a session had before it was given another: the earliest on top.
-    queue: BinaryHeap<Reverse<(i64, u32)>>,
-    /// What the draft has taken off the queue. The queue has room for all of it.
-    taken: Vec<Reverse<(i64, u32)>>,
-    /// What the draft has changed, the last change last.
-    changes: Vec<Change>,
+    owned: Owned,
+    /// Each session's deadline, and such as a session had before it was given another.
+    queue: Queue,
 }
 
 impl Model for Wheel {
@@ -35,11 +22,11 @@ impl Model for Wheel {
 
     ghost Value = { Deadlines };
 
-    ghost use Rattle.ucon_wheel.specs.Wheel.{IsSound, seen};
+    ghost use Rattle.ucon_wheel.specs.Wheel.{IsSound};
 
-    ghost view = { seen };
+    ghost view = { λ w. w.owned };
 
-    ghost invariant = { IsSound };
+    ghost invariant = { λ w. IsSound w.owned w.queue };
 }
 
 impl Wheel {
@@ -48,10 +35,8 @@ impl Wheel {
         ensures { result ≡ record { now = []; opening = [] } }
     {
         Wheel {
-            own: Vec::new(alloc),
-            queue: BinaryHeap::new(alloc),
-            taken: Vec::new(alloc),
-            changes: Vec::new(alloc),
+            owned: Owned::new(alloc),
+            queue: Queue::new(alloc),
         }
     }
 
@@ -59,10 +44,7 @@ impl Wheel {
     pub fn deadline(&self, session: u32) -> Option<i64>
         ensures { result ≡ deadline_of self.now.now session }
     {
-        match self.own.get(session as usize) {
-            Some(deadline) => *deadline,
-            None => None,
-        }
+        self.owned.get(session)
     }
 
     /// Gives a session a deadline in place of its own, or takes that away.
@@ -73,16 +55,11 @@ impl Wheel {
         ensures err { OnErr result (AreAlike self.old.now self.new.now) }
         ensures opening { AreAlike self.old.opening self.new.opening }
     {
-        if self.deadline(session) == deadline {
+        if self.owned.get(session) == deadline {
             return Ok(());
         }
-        self.lengthen(session)?;
-        self.changes.reserve(1)?;
-        if let Some(tick) = deadline {
-            self.enter(tick, session)?;
-        }
-        self.change(session, deadline);
-        Ok(())
+        self.queue.enter(session, deadline)?;
+        self.owned.set(session, deadline)
     }
 
     /// Takes the earliest deadline from its session, if it is below the tick, and says which session that is.
@@ -95,17 +72,14 @@ impl Wheel {
         ensures err { OnErr result (AreAlike self.old.now self.new.now) }
         ensures opening { AreAlike self.old.opening self.new.opening }
     {
-        while let Some((deadline, session)) = self.first_below(tick) {
-            self.changes.reserve(1)?;
-            self.taken.reserve(1)?;
-            let is_due = self.deadline(session) == Some(deadline);
-            if is_due {
-                self.change(session, None);
-            }
-            self.take_first();
-            if is_due {
+        while let Some((deadline, session)) = self.queue.first_below(tick) {
+            self.queue.make_room()?;
+            if self.owned.has(session, deadline) {
+                self.owned.set(session, None)?;
+                self.queue.take_first();
                 return Ok(Some(session));
             }
+            self.queue.take_first();
         }
         Ok(None)
     }
@@ -114,12 +88,8 @@ impl Wheel {
     pub fn undo(&mut self)
         ensures { self.new ≡ record { now = self.old.opening; opening = self.old.opening } }
     {
-        while let Some(change) = self.changes.pop() {
-            self.own[change.session as usize] = change.before;
-        }
-        while let Some(entry) = self.taken.pop() {
-            self.give_back(entry);
-        }
+        self.owned.undo();
+        self.queue.undo();
     }
 
     /// From here on undoing gives what is there now.
@@ -127,51 +97,7 @@ impl Wheel {
     pub fn keep(&mut self)
         ensures { self.new ≡ record { now = self.old.now; opening = self.old.now } }
     {
-        self.changes.clear();
-        self.taken.clear();
-    }
-
-    /// Makes a place for the deadline of a session.
-    fn lengthen(&mut self, session: u32) -> Result<(), NoMemory> {
-        while self.own.len() <= session as usize {
-            self.own.push(None)?;
-        }
-        Ok(())
-    }
-
-    /// Puts a deadline of a session into the queue, with room for what was taken off it.
-    fn enter(&mut self, deadline: i64, session: u32) -> Result<(), NoMemory> {
-        self.queue.reserve(self.taken.len() + 1)?;
-        self.queue.push(Reverse((deadline, session)))?;
-        Ok(())
-    }
-
-    /// Changes the deadline of a session.
-    fn change(&mut self, session: u32, deadline: Option<i64>) {
-        let before = mem::replace(&mut self.own[session as usize], deadline);
-        self.changes.push_reserved(Change { session, before });
-    }
-
-    /// The first of the queue, if its deadline is below the tick.
-    fn first_below(&self, tick: Int) -> Option<(i64, u32)> {
-        match self.queue.peek() {
-            Some(Reverse(first)) if first.0 < tick.get() => Some(*first),
-            _ => None,
-        }
-    }
-
-    /// Takes the first off the queue.
-    fn take_first(&mut self) {
-        if let Some(first) = self.queue.pop() {
-            self.taken.push_reserved(first);
-        }
-    }
-
-    /// Puts what was taken off the queue back.
-    fn give_back(&mut self, entry: Reverse<(i64, u32)>) {
-        match self.queue.push(entry) {
-            Ok(()) => {}
-            Err(_) => unreachable!(),
-        }
+        self.owned.keep();
+        self.queue.keep();
     }
 }
