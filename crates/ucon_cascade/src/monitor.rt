@@ -65,7 +65,7 @@ impl Engine for Monitor {
         each_action_is_followed();
         let state = State::new(alloc, checked)?;
         let readers = Readers::new(alloc)?;
-        let timers = Timers::new(alloc)?;
+        let timers = Timers::new(alloc);
         let work = Pend::new(alloc, 1_048_577)?;
         Ok(Monitor {
             alloc,

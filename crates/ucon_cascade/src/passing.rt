@@ -26,7 +26,7 @@ use ucon_model::{
     Command, Head, View, heads_tell_whose_usage_begins_or_ends, readings_that_agree_are_one,
 };
 use ucon_pend::Pend;
-use ucon_readers::{Timers, put_limits, undoing_gives_what_is_kept};
+use ucon_readers::{Timers, first_limit, undoing_gives_what_is_kept};
 use ucon_readings::sessions;
 use ucon_state::{State, tables_keep_what_is_followed};
 
@@ -78,7 +78,7 @@ fn follow_usage(state: &State, timers: &mut Timers, head: &Head) -> Result<(), N
     tables_keep_what_is_followed();
     match head {
         Head::Permitted(n) => put_session(state, timers, *n),
-        Head::Ended(n) => timers.hide_all(*n),
+        Head::Ended(n) => timers.set(*n, None),
         _ => Ok(()),
     }
 }
@@ -93,7 +93,7 @@ fn put_session(state: &State, timers: &mut Timers, n: u32) -> Result<(), NoMemor
         ≡ count_below (wheel_of timers.old) (shown state.now).tables.tick }
     ensures undo { (before : Deadlines) → UndoGives timers.old before → UndoGives timers.new before }
 {
-    put_limits(state, timers, n)
+    timers.set(n, first_limit(state, n))
 }
 
 /// Takes out the deadlines below the tick, the earliest first. Their sessions are put into the work, and what still holds of their rights
@@ -108,26 +108,11 @@ fn pass_deadlines(state: &State, timers: &mut Timers, work: &mut Pend) -> Result
 {
     readings_that_agree_are_one();
     tables_keep_what_is_followed();
-    while let Some(due) = timers.due(state.tick()) {
-        pass_deadline(state, timers, due.1, due.0)?;
-        work.put(due.1);
+    while let Some(n) = timers.take_due(state.tick())? {
+        put_session(state, timers, n)?;
+        work.put(n);
     }
     Ok(())
-}
-
-/// Takes a deadline from session n, and gives it those of what still holds of its right.
-fn pass_deadline(state: &State, timers: &mut Timers, n: u32, deadline: i64) -> Result<(), NoMemory>
-    requires there { HasDeadline (wheel_of timers.old) n deadline }
-    requires below { deadline <ℤ (shown state.now).tables.tick }
-    requires hidden { HiddenBelow (wheel_of timers.old) (shown state.now).tables.tick }
-    ensures moves { OnOk result (Moves (shown state.now) (wheel_of timers.old) (wheel_of timers.new) n deadline) }
-    ensures hidden { HiddenBelow (wheel_of timers.new) (shown state.now).tables.tick }
-    ensures fewer { OnOk result (count_below (wheel_of timers.new) (shown state.now).tables.tick + 1
-        ≡ count_below (wheel_of timers.old) (shown state.now).tables.tick) }
-    ensures undo { (before : Deadlines) → UndoGives timers.old before → UndoGives timers.new before }
-{
-    timers.hide(n, deadline)?;
-    put_session(state, timers, n)
 }
 
 /// The deadlines of now take the place of those before.
@@ -146,7 +131,7 @@ fn time_anew(alloc: Global, state: &State, timers: &mut Timers) -> Result<(), No
 pub fn all_timers(alloc: Global, state: &State) -> Result<Timers, NoMemory>
     ensures { IfOk result (λ t. AfterEach (shown state.now) (AreTimely (wheel_of t))) }
 {
-    let mut timers = Timers::new(alloc)?;
+    let mut timers = Timers::new(alloc);
     for before in 0..sessions(state) {
         put_accessing(state, &mut timers, before + 1)?;
     }
@@ -165,5 +150,5 @@ fn put_accessing(state: &State, timers: &mut Timers, n: u32) -> Result<(), NoMem
     let Some(_row) = going_on(state, n) else {
         return Ok(());
     };
-    put_limits(state, timers, n)
+    put_session(state, timers, n)
 }

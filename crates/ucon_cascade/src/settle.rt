@@ -144,7 +144,7 @@ fn revoke_next(
     revoke(alloc, state, n, label)?;
     revoked.push(Revoked { session: n, label })?;
     leave_list(readers, n, work)?;
-    timers.hide_all(n)?;
+    timers.set(n, None)?;
     put_targets(state, readers, n, When::AfterRevoke, work);
     Ok(())
 }

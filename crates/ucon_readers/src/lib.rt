@@ -11,11 +11,10 @@ mod timers;
 
 pub use kind::Kind;
 pub use laws::undoing_gives_what_is_kept;
-pub use limits::put_limits;
+pub use limits::first_limit;
 pub use readers::Readers;
 // A crate can name `Readers` and `Timers` in a contract only if the types of their fields are exported.
 #[doc(hidden)]
 pub use standing::Standing;
 #[doc(hidden)]
-pub use timers::Change;
 pub use timers::Timers;

@@ -1,4 +1,5 @@
 pub mod Deadlines
-pub mod Lines
-pub mod Marks
+pub mod Entries
+pub mod Owned
+pub mod Queue
 pub mod Wheel

@@ -1,13 +1,10 @@
--- What ties the lists of a wheel to its pairs. No public clause cites this module.
-use Rattle.std.specs.Prelude.{◌≡◌, ◌<◌, ◌≤◌, length}
-use Rattle.std.specs.List.Sorted.{IsStrictlySortedBy}
-use Rattle.ucon_wheel.specs.Deadlines.{Pair, Deadlines, pair_cmp, shown}
-use Rattle.ucon_wheel.specs.Lines.{Linked, Has}
+-- What ties the queue of a wheel to the deadlines. No public clause cites this module.
+use Rattle.std.specs.Prelude.{◌≡◌, ◌⊎◌, ℕ, ℤ, Some}
+use Rattle.std.specs.List.{Contains}
+use Rattle.ucon_wheel.specs.Deadlines.{Deadlines, deadline_of}
+use Rattle.ucon_wheel.specs.Entries.{Queued, entry}
 
--- the lists have the pairs that aren't hidden, and room for those that are
-pub record IsSound (marks : Deadlines) (lines : Linked) : Type 0 where
-  pub listed : lines.pairs ≡ shown marks
-  pub ordered : IsStrictlySortedBy pair_cmp (shown marks)
-  pub room : length marks.hidden ≤ lines.spare
-  pub item_room : length marks.hidden ≤ lines.item_spare
-  pub sessions : (pair : Pair) → Has marks.hidden pair → pair.1 < lines.sessions
+-- each deadline now is in the queue, and each at the last keep is in it or was taken off
+pub record IsSound (owned : Deadlines) (queue : Queued) : Type 0 where
+  pub now : (n : ℕ) (d : ℤ) → deadline_of owned.now n ≡ Some d → Contains queue.waiting (entry d n)
+  pub opening : (n : ℕ) (d : ℤ) → deadline_of owned.opening n ≡ Some d → Contains queue.waiting (entry d n) ⊎ Contains queue.taken (entry d n)

@@ -1,15 +1,13 @@
-//! Deadlines of sessions in order, some of them hidden for a while, over linked lists.
+//! The deadline of each session, and whose is over.
 #![tactic(auto)]
 
-mod laws;
-mod lines;
-mod marks;
+mod owned;
+mod queue;
 mod wheel;
 
-pub use laws::hides_are_undone_in_reverse;
 // A crate can name `Wheel` in a contract only if the types of its fields are exported.
 #[doc(hidden)]
-pub use lines::{Deadline, Lines};
+pub use owned::{Change, Owned};
 #[doc(hidden)]
-pub use marks::Marks;
+pub use queue::Queue;
 pub use wheel::Wheel;
