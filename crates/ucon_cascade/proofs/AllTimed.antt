@@ -1,44 +1,27 @@
 -- The deadlines are set anew, session by session.
-use Rattle.std.proofs.Common.{◌≡◌, ◌∙◌, ◌+◌, ◌<◌, ◌≤◌, inl, inr, ℕ, ℤ, zero, suc, true, false, [], sym, ap, subst, arith}
-use Rattle.std.specs.Prelude.{Some, None}
-use Rattle.std.specs.Int.Signed.{≤ℤ_refl}
-use Rattle.std.specs.List.{Contains}
+use Rattle.std.proofs.Common.{◌≡◌, ◌∙◌, ◌+◌, ◌<◌, ◌≤◌, inl, inr, ℕ, ℤ, zero, suc, List, sym, ap, arith}
+use Rattle.std.specs.Prelude.{Option, Some, None}
 use Rattle.std.proofs.lemmas.Bool.{cases_lt}
 use Rattle.ucon_model.specs.declared.session.SessionRow.{SessionRow}
 use Rattle.ucon_model.specs.Action.{Trace}
-use Rattle.ucon_model.specs.Deadlines.{limit_of}
 use Rattle.ucon_model.specs.Plain.{PlainPolicy}
 use Rattle.ucon_model.specs.Reach.{timed_of}
 use Rattle.ucon_model.specs.Readings.{in_force, session, sessions}
 use Rattle.ucon_model.specs.Sound.{IsNumbered}
 use Rattle.ucon_model.specs.Truth.{readings}
 use Rattle.ucon_model.specs.Usages.{going_on}
-use Rattle.ucon_wheel.specs.Deadlines.{Deadlines}
+use Rattle.ucon_readers.specs.Limits.{IsFirstLimit}
+use Rattle.ucon_wheel.specs.Deadlines.{Gives, deadline_of}
 use Rattle.ucon_cascade.specs.Timely.{AreTimedBelow, AreTimely}
-use Rattle.ucon_readers.specs.Timers.{Gets, HasDeadline, IsHidden, IsLimit}
 use Rattle.ucon_cascade.proofs.Anew.{last_or_before}
-use Rattle.ucon_cascade.proofs.Lasting.{limits_are_among}
+use Rattle.ucon_cascade.proofs.Giving.{ahead_given, as_before, given_or_before, held_given, theirs_given}
 
 -- ---- at first
 
-pub none_there : (v : Deadlines) → v ≡ record { pairs = []; hidden = [] } → (n : ℕ) (d : ℤ) → HasDeadline v n d → ⊥
-none_there v is n d has =
-    let none : Deadlines = record { pairs = []; hidden = [] } in
-    let now : HasDeadline none n d = subst (λ (x : Deadlines). HasDeadline x n d) is has in
-    let no : None ≡ Some false = now in
-    cc
-
-pub none_hidden_there : (v : Deadlines) → v ≡ record { pairs = []; hidden = [] } → (n : ℕ) (d : ℤ) → IsHidden v n d → ⊥
-none_hidden_there v is n d hidden =
-    let none : Deadlines = record { pairs = []; hidden = [] } in
-    let now : IsHidden none n d = subst (λ (x : Deadlines). IsHidden x n d) is hidden in
-    let no : None ≡ Some true = now in
-    cc
-
-pub none_timed : (v : Deadlines) (P : PlainPolicy) (T : Trace) → IsNumbered T → v ≡ record { pairs = []; hidden = [] } → AreTimedBelow 1 v P T
-none_timed v P T numbered is = record {
+pub none_timed : (ds : List (Option ℤ)) (P : PlainPolicy) (T : Trace) → IsNumbered T → ((n : ℕ) → deadline_of ds n ≡ None) → AreTimedBelow 1 ds P T
+none_timed ds P T numbered none = record {
   held = λ n row part last below on of_right told ahead. absurd (nobody n row below on);
-  theirs = λ n d has. absurd (none_there v is n d has);
+  theirs = λ n d has. (let no : None ≡ Some d = sym (none n) ∙ has in cc);
 }
   where
     nobody : (n : ℕ) (row : SessionRow) → n < 1 → going_on (session T n) ≡ Some row → ⊥
@@ -47,57 +30,30 @@ none_timed v P T numbered is = record {
 
 -- ---- one session more
 
--- one that is accessing, which gets the deadlines of what holds
-pub one_more_timed : (v w : Deadlines) (P : PlainPolicy) (T : Trace) (n : ℕ) (row : SessionRow) → AreTimedBelow n v P T → going_on (session T n) ≡ Some row
-    → Gets v w n (IsLimit (readings P T) row (timed_of (in_force P T) row)) → AreTimedBelow (n + 1) w P T
-one_more_timed v w P T n row timed on gets = record {
+-- one that is accessing, which gets the first limit of what holds
+pub one_more_timed : (ds es : List (Option ℤ)) (P : PlainPolicy) (T : Trace) (n : ℕ) (row : SessionRow) (first : Option ℤ) → AreTimedBelow n ds P T
+    → going_on (session T n) ≡ Some row → IsFirstLimit (readings P T) row (timed_of (in_force P T) row) first → Gives ds es n first → AreTimedBelow (n + 1) es P T
+one_more_timed ds es P T n row first timed on is gives = record {
   held = λ m other part last below goes of_right told ahead. elim (last_or_before n m below) [
-    | inl here ↦ record {
-      deadline = last;
-      there = (gets m last).1 (inl (
-        here,
-        record {
-          part = part;
-          one_of = subst (λ (r : SessionRow). Contains (timed_of (in_force P T) r) part) (one_row m other here goes) of_right;
-          is = subst (λ (r : SessionRow). limit_of (readings P T) r part ≡ Some last) (one_row m other here goes) told;
-          ahead = ahead;
-        },
-      ));
-      among = limits_are_among P T other part last told;
-      up_to = ≤ℤ_refl last;
-    }
+    | inl here ↦ held_given ds es P T n row first is gives on m other part last here goes of_right told ahead
     | inr before ↦ (
         let was = timed.held m other part last before goes of_right told ahead in
-        record { deadline = was.deadline; there = (gets m was.deadline).1 (inr was.there); among = was.among; up_to = was.up_to })
+        record { deadline = was.deadline; there = as_before ds es n first gives m (λ same. omega (arith, before, same)) ∙ was.there; up_to = was.up_to })
   ];
-  theirs = λ m d has. elim ((gets m d).0 has) [
+  theirs = λ m d has. elim (given_or_before ds es n first gives m d has) [
     | inl here ↦ (
-        let is : m ≡ n = here.0 in (
-          omega (arith, is),
-          record {
-            row = row;
-            part = here.1.part;
-            is = ap (λ (k : ℕ). going_on (session T k)) here.0 ∙ on;
-            of_right = here.1.one_of;
-            among = limits_are_among P T row here.1.part d here.1.is;
-          },
-          here.1.ahead,
-        ))
+        let same : m ≡ n = here.0 in
+        (omega (arith, same), theirs_given ds es P T n row first is gives on m d here.0 here.1, ahead_given ds es P T n row first is gives on d here.1))
     | inr was ↦ (
-        let before = timed.theirs m d was in
+        let before = timed.theirs m d was.1 in
         let below = before.0 in
         (omega (arith, below), before.1, before.2))
   ];
 }
-  where
-    one_row : (m : ℕ) (other : SessionRow) → m ≡ n → going_on (session T m) ≡ Some other → other ≡ row
-    one_row m other here goes =
-        let both : Some other ≡ Some row = sym goes ∙ ap (λ (k : ℕ). going_on (session T k)) here ∙ on in
-        cc
 
 -- one that isn't
-pub none_more_timed : (v : Deadlines) (P : PlainPolicy) (T : Trace) (n : ℕ) → AreTimedBelow n v P T → going_on (session T n) ≡ None → AreTimedBelow (n + 1) v P T
-none_more_timed v P T n timed over = record {
+pub none_more_timed : (ds : List (Option ℤ)) (P : PlainPolicy) (T : Trace) (n : ℕ) → AreTimedBelow n ds P T → going_on (session T n) ≡ None → AreTimedBelow (n + 1) ds P T
+none_more_timed ds P T n timed over = record {
   held = λ m other part last below goes of_right told ahead. elim (last_or_before n m below) [
     | inl here ↦ absurd (let no : None ≡ Some other = sym over ∙ sym (ap (λ (k : ℕ). going_on (session T k)) here) ∙ goes in cc)
     | inr before ↦ timed.held m other part last before goes of_right told ahead
@@ -113,8 +69,8 @@ going_on_within T numbered n row on = elim (cases_lt (sessions T) n) [
   | inr within ↦ within
 ]
 
-pub all_timed : (v : Deadlines) (P : PlainPolicy) (T : Trace) (limit : ℕ) → IsNumbered T → sessions T < limit → AreTimedBelow limit v P T → AreTimely v P T
-all_timed v P T limit numbered all timed = record {
+pub all_timed : (ds : List (Option ℤ)) (P : PlainPolicy) (T : Trace) (limit : ℕ) → IsNumbered T → sessions T < limit → AreTimedBelow limit ds P T → AreTimely ds P T
+all_timed ds P T limit numbered all timed = record {
   timed = record {
     held = λ n row part last on of_right told ahead.
         let within = going_on_within T numbered n row on in

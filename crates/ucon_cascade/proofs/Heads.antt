@@ -1,5 +1,5 @@
 -- The deadlines stay timely after a head is followed.
-use Rattle.std.proofs.Common.{◌≡◌, ◌≢◌, ◌∙◌, ◌⊎◌, ◌↔◌, inl, inr, ℕ, ℤ, Bool, true, false, cond, List, [], ◌∷◌, refl, sym, subst}
+use Rattle.std.proofs.Common.{◌≡◌, ◌≢◌, ◌⊎◌, inl, inr, ℕ, ℤ, Bool, true, false, cond, List, [], ◌∷◌, refl, sym, subst}
 use Rattle.std.specs.Prelude.{Option, Some, None, IsSome}
 use Rattle.ucon_actions.specs.Gives.{is_amendment}
 use Rattle.ucon_model.specs.declared.command.Caller.{Caller}
@@ -11,19 +11,14 @@ use Rattle.ucon_model.specs.declared.session.SessionRow.{SessionRow}
 use Rattle.ucon_model.specs.Action.{Action, Trace, act, extended}
 use Rattle.ucon_model.specs.OwnActions.{make, own}
 use Rattle.ucon_model.specs.Plain.{Bytes, PlainPolicy}
-use Rattle.ucon_model.specs.Reach.{timed_of}
-use Rattle.ucon_model.specs.Readings.{in_force, is_accessing_state, session}
-use Rattle.ucon_model.specs.Truth.{Readings, readings}
+use Rattle.ucon_model.specs.Readings.{is_accessing_state, session}
 use Rattle.ucon_model.specs.Usages.{IsUsageTold, going_on}
-use Rattle.ucon_state.specs.Following.{Follows}
 use Rattle.ucon_state.specs.Shown.{Shown}
-use Rattle.ucon_state.specs.Tables.{readings_in}
-use Rattle.ucon_wheel.specs.Deadlines.{Deadlines}
+use Rattle.ucon_wheel.specs.Deadlines.{Gives}
 use Rattle.ucon_cascade.specs.Passing.{WereMade, is_tick}
-use Rattle.ucon_cascade.specs.Timely.{AreTimely, IsLimitOf}
-use Rattle.ucon_readers.specs.Timers.{Gets, IsLimit, LosesAll}
+use Rattle.ucon_cascade.specs.Timely.{AreTimely, GivesFirst}
 use Rattle.ucon_cascade.proofs.Alike.{AreOne, KeepsAll}
-use Rattle.ucon_cascade.proofs.Gaining.{gets_like, limits_of_row}
+use Rattle.ucon_cascade.proofs.Giving.{first_after}
 use Rattle.ucon_cascade.proofs.Monitored.{HeadsTell}
 use Rattle.ucon_cascade.proofs.Owing.{obligations_are_met}
 use Rattle.ucon_cascade.proofs.OwnTime.{act_or_not, acts_are_done, is_act, own_actions_take_no_time}
@@ -45,28 +40,28 @@ acted P T caller c head actions no_amend no_tick made = by (act_or_not c)
     by (inr no_act) = by_others (own_actions_take_no_time P T caller c head actions no_amend no_tick no_act made)
 
 -- a head that permits and ends nobody
-pub timely_quiet : HeadsTell → (s : Shown) (v : Deadlines) (P : PlainPolicy) (T : Trace) (caller : Caller) (c : Command) (head : Head) (actions : List Action)
-    → is_amendment c ≡ false → is_tick c ≡ false → WereMade s v P T caller c head actions → ((n : ℕ) → head ≢ heads.Permitted n) → ((n : ℕ) → head ≢ heads.Ended n)
-    → AreTimely v P (extended T actions)
-timely_quiet tell_it s v P T caller c head actions no_amend no_tick were no_permit no_end = by (acted P T caller c head actions no_amend no_tick were.made)
+pub timely_quiet : HeadsTell → (s : Shown) (ds : List (Option ℤ)) (P : PlainPolicy) (T : Trace) (caller : Caller) (c : Command) (head : Head) (actions : List Action)
+    → is_amendment c ≡ false → is_tick c ≡ false → WereMade s ds P T caller c head actions → ((n : ℕ) → head ≢ heads.Permitted n) → ((n : ℕ) → head ≢ heads.Ended n)
+    → AreTimely ds P (extended T actions)
+timely_quiet tell_it s ds P T caller c head actions no_amend no_tick were no_permit no_end = by (acted P T caller c head actions no_amend no_tick were.made)
   where
-    by : IsActOrNot P T head actions → AreTimely v P (extended T actions)
-    by (by_act s a o ok is) = subst (λ (all : List Action). AreTimely v P (extended T all)) (sym is) (timely_act obligations_are_met v P T s a o were.sound.timely were.nobody were.timely)
+    by : IsActOrNot P T head actions → AreTimely ds P (extended T actions)
+    by (by_act s a o ok is) = subst (λ (all : List Action). AreTimely ds P (extended T all)) (sym is) (timely_act obligations_are_met ds P T s a o were.sound.timely were.nobody were.timely)
     by (by_others time) =
-        timely_still v v P T (extended T actions) time (λ m. (tell_it P T caller c head actions m were.sound.numbered were.made).same (no_permit m) (no_end m)) refl were.timely
+        timely_still ds ds P T (extended T actions) time (λ m. (tell_it P T caller c head actions m were.sound.numbered were.made).same (no_permit m) (no_end m)) (λ m. refl) were.timely
 
--- one that ends session n, which loses its deadlines
-pub timely_ended : HeadsTell → (s : Shown) (v w : Deadlines) (P : PlainPolicy) (T : Trace) (caller : Caller) (c : Command) (n : ℕ) (actions : List Action)
-    → is_amendment c ≡ false → is_tick c ≡ false → WereMade s v P T caller c (heads.Ended n) actions → LosesAll v w n → AreTimely w P (extended T actions)
-timely_ended tell_it s v w P T caller c n actions no_amend no_tick were loses = by (acted P T caller c (heads.Ended n) actions no_amend no_tick were.made)
+-- one that ends session n, which loses its deadline
+pub timely_ended : HeadsTell → (s : Shown) (ds es : List (Option ℤ)) (P : PlainPolicy) (T : Trace) (caller : Caller) (c : Command) (n : ℕ) (actions : List Action)
+    → is_amendment c ≡ false → is_tick c ≡ false → WereMade s ds P T caller c (heads.Ended n) actions → Gives ds es n None → AreTimely es P (extended T actions)
+timely_ended tell_it s ds es P T caller c n actions no_amend no_tick were gives = by (acted P T caller c (heads.Ended n) actions no_amend no_tick were.made)
   where
     told : (m : ℕ) → IsUsageTold (heads.Ended n) m (session T m) (session (extended T actions) m)
     told m = tell_it P T caller c (heads.Ended n) actions m were.sound.numbered were.made
 
-    by : IsActOrNot P T (heads.Ended n) actions → AreTimely w P (extended T actions)
+    by : IsActOrNot P T (heads.Ended n) actions → AreTimely es P (extended T actions)
     by (by_act s a o ok is) = absurd (let no : heads.Ended n ≡ heads.Ok = ok in cc)
     by (by_others time) =
-        timely_without v w P T (extended T actions) time n loses ((told n).over refl)
+        timely_without ds es P T (extended T actions) time n gives ((told n).over refl)
         (λ m other. (told m).same (λ h. cc) (λ h. (let back : n ≡ m = cc in other (sym back)))) were.timely
 
 -- the row of a usage that goes on
@@ -78,28 +73,11 @@ begun_row (Some row) some = (row, refl, by (is_accessing_state row.state) some)
     by true some = refl
     by false some = absurd (let no : false ≡ true = some in cc)
 
--- what a session gets by the tables, it gets by the trace
-pub limits_after : KeepsAll → AreOne → (s : Shown) (P : PlainPolicy) (U : Trace) → Follows s P U → (n : ℕ) (row : SessionRow) → session U n ≡ Some row → (d : ℤ)
-    → IsLimitOf s n d ↔ IsLimit (readings P U) row (timed_of (in_force P U) row) d
-limits_after keeps one s P U h n row is d =
-    let same : readings_in s.policy s.tables ≡ readings P U = one (readings_in s.policy s.tables) (readings P U) (keeps s P U h).readings_agree in
-    let by_row = limits_of_row s n row (h.tables.sessions.rows n ∙ is) d in (
-      λ told. subst (λ (R : Readings). IsLimit R row (timed_of (in_force P U) row) d) same
-          (subst (λ (Q : PlainPolicy). IsLimit (readings_in s.policy s.tables) row (timed_of Q row) d) h.policy (by_row.1 told)),
-      λ limit. by_row.0 (subst (λ (Q : PlainPolicy). IsLimit (readings_in s.policy s.tables) row (timed_of Q row) d) (sym h.policy)
-          (subst (λ (R : Readings). IsLimit R row (timed_of (in_force P U) row) d) (sym same) limit)),
-    )
-
-pub gets_after : KeepsAll → AreOne → (s : Shown) (P : PlainPolicy) (U : Trace) → Follows s P U → (v w : Deadlines) (n : ℕ) (row : SessionRow) → session U n ≡ Some row
-    → Gets v w n (IsLimitOf s n) → Gets v w n (IsLimit (readings P U) row (timed_of (in_force P U) row))
-gets_after keeps one s P U h v w n row is gets =
-    gets_like v w n (IsLimitOf s n) (IsLimit (readings P U) row (timed_of (in_force P U) row)) (limits_after keeps one s P U h n row is) gets
-
--- one that permits session n, which gets the deadlines of what holds
-pub timely_permitted : HeadsTell → KeepsAll → AreOne → (s : Shown) (v w : Deadlines) (P : PlainPolicy) (T : Trace) (caller : Caller) (c : Command) (n : ℕ) (actions : List Action)
-    → is_amendment c ≡ false → is_tick c ≡ false → WereMade s v P T caller c (heads.Permitted n) actions
-    → Gets v w n (IsLimitOf s n) → AreTimely w P (extended T actions)
-timely_permitted tell_it keeps one s v w P T caller c n actions no_amend no_tick were gets = by (acted P T caller c (heads.Permitted n) actions no_amend no_tick were.made)
+-- one that permits session n, which gets the first limit of what holds
+pub timely_permitted : HeadsTell → KeepsAll → AreOne → (s : Shown) (ds es : List (Option ℤ)) (P : PlainPolicy) (T : Trace) (caller : Caller) (c : Command) (n : ℕ)
+    (actions : List Action) → is_amendment c ≡ false → is_tick c ≡ false → WereMade s ds P T caller c (heads.Permitted n) actions
+    → GivesFirst s ds es n → AreTimely es P (extended T actions)
+timely_permitted tell_it keeps one s ds es P T caller c n actions no_amend no_tick were gives = by (acted P T caller c (heads.Permitted n) actions no_amend no_tick were.made)
   where
     U : Trace
     U = extended T actions
@@ -110,11 +88,8 @@ timely_permitted tell_it keeps one s v w P T caller c n actions no_amend no_tick
     there : (row : SessionRow) × (session U n ≡ Some row) × (going_on (session U n) ≡ Some row)
     there = begun_row (session U n) ((told n).begun refl).1
 
-    gets_limits : Gets v w n (IsLimit (readings P U) there.0 (timed_of (in_force P U) there.0))
-    gets_limits = gets_after keeps one s P U were.follows v w n there.0 there.1 gets
-
-    by : IsActOrNot P T (heads.Permitted n) actions → AreTimely w P U
+    by : IsActOrNot P T (heads.Permitted n) actions → AreTimely es P U
     by (by_act s a o ok is) = absurd (let no : heads.Permitted n ≡ heads.Ok = ok in cc)
     by (by_others time) =
-        timely_with v w P T U time n there.0 gets_limits there.2
-        (λ m other. (told m).same (λ h. (let back : n ≡ m = cc in other (sym back))) (λ h. cc)) were.timely ((told n).begun refl).0
+        timely_with ds es P T U time n there.0 gives.first (first_after keeps one s P U were.follows n there.0 there.1 gives.first gives.is) gives.gives there.2
+        (λ m other. (told m).same (λ h. (let back : n ≡ m = cc in other (sym back))) (λ h. cc)) were.timely

@@ -1,24 +1,23 @@
 -- Sessions of one kind are judged alike.
-use Rattle.std.proofs.Common.{◌≡◌, ◌∙◌, ◌<◌, ℕ, Bool, true, false, List, [], ap, refl, sym, subst}
+use Rattle.std.proofs.Common.{◌≡◌, ◌∙◌, ◌<◌, ℕ, Bool, true, false, [], ap, refl, sym}
 use Rattle.std.specs.Prelude.{IfSome, Option, Some, None, option_map}
 use Rattle.std.specs.List.{list_any}
 use Rattle.std.specs.Option.{option_map_or}
 use Rattle.ucon_base.specs.declared.value.Side.{Side}
 use Rattle.ucon_base.specs.declared.value.Side.TheVariants as sides
-use Rattle.ucon_model.specs.declared.formula.Ref.{Ref}
 use Rattle.ucon_model.specs.declared.session.SessionRow.{SessionRow}
-use Rattle.ucon_model.specs.Groups.{JudgedAlike, is_of_side}
-use Rattle.ucon_model.specs.Plain.{Bytes, PlainPolicy, PlainRight}
+use Rattle.ucon_model.specs.Groups.{is_of_side}
+use Rattle.ucon_model.specs.Plain.{Bytes, PlainRight}
 use Rattle.ucon_model.specs.Places.{places_read}
 use Rattle.ucon_model.specs.Decision.{right_named}
 use Rattle.ucon_model.specs.Lookup.{right_read}
-use Rattle.ucon_model.specs.Reach.{places_of, right_timed, timed_of}
+use Rattle.ucon_model.specs.Reach.{places_of, right_timed}
 use Rattle.ucon_model.specs.Updates.{entity_of}
 use Rattle.ucon_readers.specs.declared.kind.Kind.{Kind}
 use Rattle.ucon_state.specs.declared.numbers.Numbers.{Numbers}
 use Rattle.ucon_state.specs.declared.state.State.{State}
 use Rattle.ucon_state.specs.Numbers.{Names, names_by, names_of}
-use Rattle.ucon_state.specs.Shown.{Shown, object_name, right_name, shown, subject_name}
+use Rattle.ucon_state.specs.Shown.{object_name, right_name, shown, subject_name}
 use Rattle.ucon_state.specs.Tables.{readings_in, session_in}
 use Rattle.ucon_cascade.specs.Grouping.{AreAlike, MayLead}
 use Rattle.ucon_cascade.specs.Kinds.{IsOfKind}

@@ -13,6 +13,7 @@ pub mod Paying
 pub mod Costing
 pub mod Thrifty
 pub mod Lasting
+pub mod Giving
 pub mod Timing
 pub mod OwnTime
 pub mod Making
@@ -21,7 +22,7 @@ pub mod Heads
 pub mod Ticking
 pub mod Drafting
 pub mod Ticked
-pub mod Gaining
+pub mod Untimed
 pub mod Moving
 pub mod AllTimed
 pub mod Touched

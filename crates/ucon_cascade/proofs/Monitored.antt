@@ -1,5 +1,5 @@
 -- The monitor within a step: what its own actions are, and what undoing gives.
-use Rattle.std.proofs.Common.{◌≡◌, ◌∙◌, ◌↔◌, ◌≤◌, inl, inr, ℕ, ℤ, List, [], ◌++◌, sym, ap, subst, arith}
+use Rattle.std.proofs.Common.{◌≡◌, ◌∙◌, ◌↔◌, ◌≤◌, inl, inr, ℕ, ℤ, List, [], ◌++◌, refl, sym, ap, subst, arith}
 use Rattle.std.specs.List.{Contains}
 use Rattle.std.specs.Prelude.{false, true, is_some, Option, Some, None, option_map}
 use Rattle.ucon_actions.specs.Gives.{Makes}
@@ -27,8 +27,8 @@ use Rattle.ucon_cascade.specs.Grouping.{AreAlike, AreGrouped}
 use Rattle.ucon_cascade.specs.Numbering.{IsExact}
 use Rattle.ucon_cascade.specs.Putting.{GoesOn}
 use Rattle.ucon_cascade.specs.Timely.{AreTimely}
-use Rattle.ucon_readers.specs.Timers.{HasDeadline}
-use Rattle.ucon_wheel.specs.Deadlines.{Deadlines}
+use Rattle.ucon_wheel.specs.Deadlines.{AreAlike as AlikeDeadlines, deadline_of}
+use Rattle.ucon_cascade.proofs.Timing.{no_time, timely_still}
 pub use Rattle.ucon_cascade.proofs.Outcomes.{ok_both, ok_then, on_err, on_ok}
 
 -- ---- own actions
@@ -130,27 +130,9 @@ given_back_is s s' keeps settled =
     ∙ ap (λ (Q : PlainPolicy). (let x : Shown = record { policy = Q; tables = s.opening; opening_policy = s.opening_policy; opening = s.opening } in x)) settled.policy
     ∙ ap (λ (t : Tables). (let x : Shown = record { policy = s.policy; tables = t; opening_policy = s.opening_policy; opening = s.opening } in x)) settled.tables
 
--- the same deadlines
-pub timely_like : (v w : Deadlines) (P : PlainPolicy) (T : Trace) → ((n : ℕ) (d : ℤ) → HasDeadline w n d ↔ HasDeadline v n d) → AreTimely v P T → AreTimely w P T
-timely_like v w P T same timely = record {
-  timed = record {
-    held = λ n row part limit on of_right told ahead. (let was = timely.timed.held n row part limit on of_right told ahead in record {
-      deadline = was.deadline;
-      there = (same n was.deadline).1 was.there;
-      among = was.among;
-      up_to = was.up_to;
-    });
-    theirs = λ n d has. timely.timed.theirs n d ((same n d).0 has);
-  };
-  ahead = λ n d has. timely.ahead n d ((same n d).0 has);
-}
-
-pub same_wheel : (v w : Deadlines) → w ≡ v → (n : ℕ) (d : ℤ) → HasDeadline w n d ↔ HasDeadline v n d
-same_wheel v w is n d = (λ has. subst (λ (x : Deadlines). HasDeadline x n d) is has, λ has. subst (λ (x : Deadlines). HasDeadline x n d) (sym is) has)
-
 -- before there are sessions there are no deadlines
-pub timely_empty : (v : Deadlines) (P : PlainPolicy) → v ≡ record { pairs = []; hidden = [] } → AreTimely v P []
-timely_empty v P is = record {
+pub timely_empty : (ds : List (Option ℤ)) (P : PlainPolicy) → ((n : ℕ) → deadline_of ds n ≡ None) → AreTimely ds P []
+timely_empty ds P none = record {
   timed = record {
     held = λ n row part limit on of_right told ahead. absurd (let no : None ≡ Some row = on in cc);
     theirs = λ n d has. absurd (none_there n d has);
@@ -158,12 +140,8 @@ timely_empty v P is = record {
   ahead = λ n d has. absurd (none_there n d has);
 }
   where
-    none_there : (n : ℕ) (d : ℤ) → HasDeadline v n d → ⊥
-    none_there n d has =
-        let empty : Deadlines = record { pairs = []; hidden = [] } in
-        let now : HasDeadline empty n d = subst (λ (x : Deadlines). HasDeadline x n d) is has in
-        let no : None ≡ Some false = now in
-        cc
+    none_there : (n : ℕ) (d : ℤ) → deadline_of ds n ≡ Some d → ⊥
+    none_there n d has = let no : None ≡ Some d = sym (none n) ∙ has in cc
 
 -- the same who stand, told by their numbers
 pub exact_same : (s : Shown) (standing standing' : ℕ → List ℕ) → ((n place : ℕ) → Contains (standing' place) n ↔ Contains (standing place) n) → IsExact s standing
@@ -186,15 +164,15 @@ grouped_like s first first' same grouped = record {
   ];
 }
 
-pub stands_like : (s : Shown) (standing standing' : ℕ → List ℕ) (first first' : ℕ → ℕ) (v w : Deadlines) (P : PlainPolicy) (T : Trace)
+pub stands_like : (s : Shown) (standing standing' : ℕ → List ℕ) (first first' : ℕ → ℕ) (ds es : List (Option ℤ)) (P : PlainPolicy) (T : Trace)
     → ((n place : ℕ) → Contains (standing' place) n ↔ Contains (standing place) n) → ((n : ℕ) → first' n ≡ first n)
-    → ((n : ℕ) (d : ℤ) → HasDeadline w n d ↔ HasDeadline v n d) → Stands s standing first v P T → Stands s standing' first' w P T
-stands_like s standing standing' first first' v w P T same same_firsts same_deadlines stands = record {
+    → AlikeDeadlines ds es → Stands s standing first ds P T → Stands s standing' first' es P T
+stands_like s standing standing' first first' ds es P T same same_firsts alike stands = record {
   follows = stands.follows;
   nobody = stands.nobody;
   exact = exact_same s standing standing' same stands.exact;
   grouped = grouped_like s first first' same_firsts stands.grouped;
-  timely = timely_like v w P T same_deadlines stands.timely;
+  timely = timely_still ds es P T T (no_time P T) (λ n. refl) alike stands.timely;
 }
 
 pub same_lists : (standing standing' : ℕ → List ℕ) → ((place : ℕ) → standing' place ≡ standing place) → (n place : ℕ) → Contains (standing' place) n ↔ Contains (standing place) n
@@ -204,9 +182,9 @@ same_lists standing standing' same n place = (
 )
 
 -- what undoing would give matters to nobody who reads
-pub stands_kept : (s : Shown) (standing : ℕ → List ℕ) (first : ℕ → ℕ) (v : Deadlines) (P : PlainPolicy) (T : Trace) → Stands s standing first v P T
-    → Stands (kept s) standing first v P T
-stands_kept s standing first v P T stands = record {
+pub stands_kept : (s : Shown) (standing : ℕ → List ℕ) (first : ℕ → ℕ) (ds : List (Option ℤ)) (P : PlainPolicy) (T : Trace) → Stands s standing first ds P T
+    → Stands (kept s) standing first ds P T
+stands_kept s standing first ds P T stands = record {
   follows = record {
     policy = stands.follows.policy;
     typed = stands.follows.typed;
@@ -237,6 +215,6 @@ pub status_is : (s : Shown) (P : PlainPolicy) (T : Trace) → Follows s P T → 
 status_is s P T h n = ap (option_map (λ (row : SessionRow). row.state)) (h.tables.sessions.rows n)
 
 -- undoing a change gives what stood before it
-pub stands_before : (s s' : Shown) (standing : ℕ → List ℕ) (first : ℕ → ℕ) (v : Deadlines) (P : PlainPolicy) (T : Trace) → KeepsOpening s s' → IsSettled s
-    → Stands s standing first v P T → Stands (given_back s') standing first v P T
-stands_before s s' standing first v P T keeps settled stands = subst (λ (x : Shown). Stands x standing first v P T) (sym (given_back_is s s' keeps settled)) stands
+pub stands_before : (s s' : Shown) (standing : ℕ → List ℕ) (first : ℕ → ℕ) (ds : List (Option ℤ)) (P : PlainPolicy) (T : Trace) → KeepsOpening s s' → IsSettled s
+    → Stands s standing first ds P T → Stands (given_back s') standing first ds P T
+stands_before s s' standing first ds P T keeps settled stands = subst (λ (x : Shown). Stands x standing first ds P T) (sym (given_back_is s s' keeps settled)) stands

@@ -1,5 +1,5 @@
 -- Of which sides a right's ongoing predicates read.
-use Rattle.std.proofs.Common.{◌≡◌, ◌∙◌, Bool, true, false, cond, List, [], ◌∷◌, ◌++◌, filter, map, ap, refl, sym}
+use Rattle.std.proofs.Common.{◌≡◌, ◌∙◌, Bool, true, false, cond, List, [], ◌∷◌, ◌++◌, filter, map, refl, sym}
 use Rattle.std.specs.Prelude.{◌&&◌, ◌||◌, fold}
 use Rattle.std.specs.List.{flat_map, list_any}
 use Rattle.std.proofs.lemmas.List.Folds.{list_any-append}
@@ -7,7 +7,6 @@ use Rattle.ucon_model.specs.declared.formula.Ref.{Ref}
 use Rattle.ucon_model.specs.declared.policy.Predicate.{Predicate}
 use Rattle.ucon_model.specs.Decision.{ongoing}
 use Rattle.ucon_model.specs.Places.{distinct, same_place, test_places, with_place}
-use Rattle.ucon_model.specs.Plain.{PlainPredicate}
 use Rattle.ucon_model.specs.Views.{predicate_of}
 
 neither : (a b : Bool) → (a || b) ≡ false → (a ≡ false) × (b ≡ false)

@@ -1,6 +1,6 @@
 -- After a tick has passed all deadlines below it.
 use Rattle.std.proofs.Common.{◌≡◌, ◌≢◌, ◌∙◌, ◌≤◌, inl, inr, ℕ, ℤ, Bool, true, false, cond, List, [], ◌∷◌, refl, sym, subst, arith}
-use Rattle.std.specs.Prelude.{◌≤ℤ◌, ◌<ℤ◌, int_lt, not}
+use Rattle.std.specs.Prelude.{◌≤ℤ◌, ◌<ℤ◌, Option, int_lt, not}
 use Rattle.std.specs.List.{Contains}
 use Rattle.std.proofs.lemmas.Int.{ints}
 use Rattle.ucon_model.specs.declared.command.Caller.{Caller}
@@ -17,7 +17,6 @@ use Rattle.ucon_model.specs.Readings.{is_accessing, session, tick_of}
 use Rattle.ucon_model.specs.Touches.{touches, touches_by}
 use Rattle.ucon_state.specs.Following.{Follows}
 use Rattle.ucon_state.specs.Shown.{Shown}
-use Rattle.ucon_wheel.specs.Deadlines.{Deadlines}
 use Rattle.ucon_cascade.specs.Passing.{IsPassing, MayPass, PassesAll, WereMade, is_tick}
 use Rattle.ucon_cascade.specs.Timely.{AreTimely}
 use Rattle.ucon_cascade.proofs.Making.{tick_or_not, ticks_move}
@@ -41,27 +40,27 @@ not_below : (t d : ℤ) → t ≤ℤ d → d <ℤ t → ⊥
 not_below t d le lt = omega (arith, ints, le, lt)
 
 -- so it may pass deadlines
-pub may_pass : (s : Shown) (v : Deadlines) (members : List ℕ) (P : PlainPolicy) (T : Trace) (caller : Caller) (head : Head) (t : ℤ) (actions : List Action)
-    → WereMade s v P T caller (Tick t) head actions → members ≡ [] → MayPass s v members
-may_pass s v members P T caller head t actions were none = record {
+pub may_pass : (s : Shown) (ds : List (Option ℤ)) (members : List ℕ) (P : PlainPolicy) (T : Trace) (caller : Caller) (head : Head) (t : ℤ) (actions : List Action)
+    → WereMade s ds P T caller (Tick t) head actions → members ≡ [] → MayPass s ds members
+may_pass s ds members P T caller head t actions were none = record {
   policy = P;
   trace = T;
   next = t;
   follows = subst (λ (all : List Action). Follows s P (extended T all)) (ticks_move P T caller head t actions were.made) were.follows;
-  passing = subst (λ (ms : List ℕ). IsPassing v ms P T t) (sym none) (begins_to_pass v P T t (ticks_go_on P T caller head t actions were.made) were.timely);
+  passing = subst (λ (ms : List ℕ). IsPassing ds ms P T t) (sym none) (begins_to_pass ds P T t (ticks_go_on P T caller head t actions were.made) were.timely);
 }
 
--- all that has to be passed is: the wheel is timely, and of whom the tick passed a limit is in the work, who was touched
-pub record HasTicked (w : Deadlines) (members : List ℕ) (P : PlainPolicy) (T : Trace) (t : ℤ) : Type 0 where
-  pub timely : AreTimely w P (tick t ∷ T)
+-- all that has to be passed is: the deadlines are timely, and of whom the tick passed a limit is in the work, who was touched
+pub record HasTicked (es : List (Option ℤ)) (members : List ℕ) (P : PlainPolicy) (T : Trace) (t : ℤ) : Type 0 where
+  pub timely : AreTimely es P (tick t ∷ T)
   pub due : (n : ℕ) → is_accessing (session T n) ≡ true → is_due P T t n ≡ true → Contains members n
   pub touched : (n : ℕ) → Contains members n → 1 ≤ touches P T (tick t) n
 
-pub has_ticked : (s : Shown) (v w : Deadlines) (members : List ℕ) (P : PlainPolicy) (T : Trace) (caller : Caller) (head : Head) (t : ℤ) (actions : List Action)
-    → WereMade s v P T caller (Tick t) head actions → PassesAll s v w [] members → HasTicked w members P T t
-has_ticked s v w members P T caller head t actions were passes =
+pub has_ticked : (s : Shown) (ds es : List (Option ℤ)) (members : List ℕ) (P : PlainPolicy) (T : Trace) (caller : Caller) (head : Head) (t : ℤ) (actions : List Action)
+    → WereMade s ds P T caller (Tick t) head actions → PassesAll s ds es [] members → HasTicked es members P T t
+has_ticked s ds es members P T caller head t actions were passes =
     let is : actions ≡ tick t ∷ [] = ticks_move P T caller head t actions were.made in
-    let first = begins_to_pass v P T t (ticks_go_on P T caller head t actions were.made) were.timely in
+    let first = begins_to_pass ds P T t (ticks_go_on P T caller head t actions were.made) were.timely in
     let done = passes P T t (subst (λ (all : List Action). Follows s P (extended T all)) is were.follows) first in
     record {
       timely = record { timed = done.0.timed; ahead = done.1 };
@@ -77,19 +76,19 @@ touched_by_tick P T t n h = omega (arith, h)
 
 -- ---- by the command
 
-module _ (s : Shown) (v w : Deadlines) (old members : List ℕ) (P : PlainPolicy) (T : Trace) (caller : Caller) (c : Command) (head : Head) (t : ℤ) (actions : List Action) (is : c ≡ Tick t)
-    (none : old ≡ []) (were : WereMade s v P T caller c head actions) (passes : PassesAll s v w old members) where
-  ticking : WereMade s v P T caller (Tick t) head actions
-  ticking = subst (λ (d : Command). WereMade s v P T caller d head actions) is were
+module _ (s : Shown) (ds es : List (Option ℤ)) (old members : List ℕ) (P : PlainPolicy) (T : Trace) (caller : Caller) (c : Command) (head : Head) (t : ℤ) (actions : List Action) (is : c ≡ Tick t)
+    (none : old ≡ []) (were : WereMade s ds P T caller c head actions) (passes : PassesAll s ds es old members) where
+  ticking : WereMade s ds P T caller (Tick t) head actions
+  ticking = subst (λ (d : Command). WereMade s ds P T caller d head actions) is were
 
-  done : HasTicked w members P T t
-  done = has_ticked s v w members P T caller head t actions ticking (subst (λ (ms : List ℕ). PassesAll s v w ms members) none passes)
+  done : HasTicked es members P T t
+  done = has_ticked s ds es members P T caller head t actions ticking (subst (λ (ms : List ℕ). PassesAll s ds es ms members) none passes)
 
   moved : actions ≡ tick t ∷ []
   moved = ticks_move P T caller head t actions ticking.made
 
-  pub timely_ticked : AreTimely w P (extended T actions)
-  timely_ticked = subst (λ (all : List Action). AreTimely w P (extended T all)) (sym moved) done.timely
+  pub timely_ticked : AreTimely es P (extended T actions)
+  timely_ticked = subst (λ (all : List Action). AreTimely es P (extended T all)) (sym moved) done.timely
 
   pub due_ticked : (next : ℤ) → c ≡ Tick next → (n : ℕ) → is_accessing (session T n) ≡ true → is_due P T next n ≡ true → Contains members n
   due_ticked next told n on due =

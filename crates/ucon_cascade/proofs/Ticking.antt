@@ -1,5 +1,5 @@
 -- A tick passes deadlines, one after the other.
-use Rattle.std.proofs.Common.{◌≡◌, ◌∙◌, ◌⊎◌, ◌≤◌, inl, inr, ℕ, ℤ, zero, suc, Bool, true, false, cond, List, [], ◌∷◌, filter, length, refl, sym, ap, subst, arith}
+use Rattle.std.proofs.Common.{◌≡◌, ◌≢◌, ◌∙◌, ◌⊎◌, ◌↔◌, ◌≤◌, inl, inr, ℕ, ℤ, zero, suc, Bool, true, false, cond, List, [], ◌∷◌, filter, length, refl, sym, ap, subst, arith}
 use Rattle.std.specs.Prelude.{◌||◌, ◌≤ℤ◌, ◌<ℤ◌, Option, Some, None}
 use Rattle.std.specs.List.{Contains, list_any}
 use Rattle.std.specs.Option.{option_map_or}
@@ -14,11 +14,10 @@ use Rattle.ucon_model.specs.Readings.{in_force, is_accessing, is_accessing_state
 use Rattle.ucon_model.specs.Touches.{touches, touches_row}
 use Rattle.ucon_model.specs.Truth.{readings}
 use Rattle.ucon_model.specs.Usages.{going_on}
-use Rattle.ucon_wheel.specs.Deadlines.{Deadlines}
+use Rattle.ucon_wheel.specs.Deadlines.{AreAlike, deadline_of}
 use Rattle.ucon_cascade.proofs.Covering.{or_left, or_right}
 use Rattle.ucon_cascade.specs.Passing.{HasPassed, IsPassing}
-use Rattle.ucon_readers.specs.Timers.{AreSame, HasDeadline}
-use Rattle.ucon_cascade.specs.Timely.{AreTimed, AreTimely}
+use Rattle.ucon_cascade.specs.Timely.{AreTimed, AreTimely, HasDeadline}
 
 pub between : (now next d : ℤ) → is_between now next d ≡ true → (now ≤ℤ d) × (d <ℤ next)
 between now next d h = (grind (arith, ints), grind (arith, ints))
@@ -62,8 +61,8 @@ both_at_most a b c le more = omega (arith, ints, le, more)
 below_too : (a b c : ℤ) → a ≤ℤ b → b <ℤ c → a <ℤ c
 below_too a b c le lt = omega (arith, ints, le, lt)
 
-has_passed : (v : Deadlines) (P : PlainPolicy) (T : Trace) (t : ℤ) → AreTimely v P T → (n : ℕ) → is_accessing (session T n) ≡ true → is_due P T t n ≡ true → HasPassed v (tick_of T) t n
-has_passed v P T t timely n on due =
+has_passed : (ds : List (Option ℤ)) (P : PlainPolicy) (T : Trace) (t : ℤ) → AreTimely ds P T → (n : ℕ) → is_accessing (session T n) ≡ true → is_due P T t n ≡ true → HasPassed ds (tick_of T) t n
+has_passed ds P T t timely n on due =
     let there = going_row (session T n) on in
     let row = there.0 in
     let any : list_any (λ part. passes (tick_of T) t (limit_of (readings P T) row part)) (timed_of (in_force P T) row) ≡ true =
@@ -79,28 +78,22 @@ has_passed v P T t timely n on due =
     }
 
 -- at first it passes all deadlines that are below it
-pub begins_to_pass : (v : Deadlines) (P : PlainPolicy) (T : Trace) (t : ℤ) → tick_of T ≤ℤ t → AreTimely v P T → IsPassing v [] P T t
-begins_to_pass v P T t forward timely = record {
+pub begins_to_pass : (ds : List (Option ℤ)) (P : PlainPolicy) (T : Trace) (t : ℤ) → tick_of T ≤ℤ t → AreTimely ds P T → IsPassing ds [] P T t
+begins_to_pass ds P T t forward timely = record {
   forward = forward;
   timed = record {
     held = λ n row part limit on of_right told ahead.
-        let was = timely.timed.held n row part limit on of_right (sym (same_limit P T t row part) ∙ told) (both_at_most (tick_of T) t limit forward ahead) in
-        record {
-          deadline = was.deadline;
-          there = was.there;
-          among = subst (λ (ds : List ℤ). Contains ds was.deadline) (sym (same_deadlines T t row part)) was.among;
-          up_to = was.up_to;
-        };
+        timely.timed.held n row part limit on of_right (sym (same_limit P T t row part) ∙ told) (both_at_most (tick_of T) t limit forward ahead);
     theirs = λ n d has. (let is = timely.timed.theirs n d has in record {
       row = is.row;
       part = is.part;
       is = is.is;
       of_right = is.of_right;
-      among = subst (λ (ds : List ℤ). Contains ds d) (sym (same_deadlines T t is.row is.part)) is.among;
+      among = subst (λ (all : List ℤ). Contains all d) (sym (same_deadlines T t is.row is.part)) is.among;
     });
   };
   ahead = timely.ahead;
-  due = λ n on due. inr (has_passed v P T t timely n on due);
+  due = λ n on due. inr (has_passed ds P T t timely n on due);
   touched = λ n has. absurd (nothing_in n has);
 }
   where
@@ -136,12 +129,12 @@ accessing_row (Some other) row is = by (is_accessing_state other.state) refl is
     by false off is = absurd (let no : None ≡ Some row = is in cc)
 
 -- the tick touches the session of a deadline that it passes
-pub passed_is_touched : (v : Deadlines) (P : PlainPolicy) (T : Trace) (t : ℤ) (members : List ℕ) → IsPassing v members P T t → (n : ℕ) (d : ℤ) → HasDeadline v n d → d <ℤ t
+pub passed_is_touched : (ds : List (Option ℤ)) (P : PlainPolicy) (T : Trace) (t : ℤ) (members : List ℕ) → IsPassing ds members P T t → (n : ℕ) (d : ℤ) → HasDeadline ds n d → d <ℤ t
     → 1 ≤ touches P T (tick t) n
-passed_is_touched v P T t members passing n d has below =
+passed_is_touched ds P T t members passing n d has below =
     let is = passing.timed.theirs n d has in
     let there = accessing_row (session T n) is.row is.is in
-    let at : Contains (deadlines T is.row is.part) d = subst (λ (ds : List ℤ). Contains ds d) (same_deadlines T t is.row is.part) is.among in
+    let at : Contains (deadlines T is.row is.part) d = subst (λ (all : List ℤ). Contains all d) (same_deadlines T t is.row is.part) is.among in
     let passes_it = is_between_so (tick_of T) t d (passing.ahead n d has) below in
     let count = count_with (λ part. has_between (tick_of T) t (deadlines T is.row part)) (timed_of (in_force P T) is.row) is.part is.of_right
     (any_with (is_between (tick_of T) t) (deadlines T is.row is.part) d at passes_it) in
@@ -151,31 +144,42 @@ passed_is_touched v P T t members passing n d has below =
     omega (arith, told, count)
 
 -- one deadline is passed, and its session is put into the work
-pub passes_one : (v w : Deadlines) (P : PlainPolicy) (T : Trace) (t : ℤ) (old new : List ℕ) (n : ℕ) (d : ℤ) → IsPassing v old P T t → HasDeadline v n d → d <ℤ t
-    → AreTimed w P (tick t ∷ T) → ((m : ℕ) (e : ℤ) → HasDeadline w m e → ((AreSame m e n d → ⊥) × HasDeadline v m e) ⊎ (t ≤ℤ e))
-    → ((m : ℕ) (e : ℤ) → (AreSame m e n d → ⊥) → HasDeadline v m e → HasDeadline w m e)
-    → ((m : ℕ) → Contains new m → (m ≡ n) ⊎ Contains old m) → ((m : ℕ) → (m ≡ n) ⊎ Contains old m → Contains new m)
-    → IsPassing w new P T t
-passes_one v w P T t old new n d passing has below timed ahead others gains puts = record {
+pub passes_one : (ds es : List (Option ℤ)) (P : PlainPolicy) (T : Trace) (t : ℤ) (old new : List ℕ) (n : ℕ) (d : ℤ) → IsPassing ds old P T t → HasDeadline ds n d → d <ℤ t
+    → AreTimed es P (tick t ∷ T) → ((m : ℕ) (e : ℤ) → HasDeadline es m e → HasDeadline ds m e ⊎ (t ≤ℤ e))
+    → ((m : ℕ) → m ≢ n → deadline_of es m ≡ deadline_of ds m) → ((m : ℕ) → Contains new m ↔ ((m ≡ n) ⊎ Contains old m)) → IsPassing es new P T t
+passes_one ds es P T t old new n d passing has below timed ahead others gains = record {
   forward = passing.forward;
   timed = timed;
-  ahead = λ m e there. elim (ahead m e there) [
-    | inl was ↦ passing.ahead m e was.1
-    | inr later ↦ both_at_most (tick_of T) t e passing.forward later
-  ];
+  ahead = λ m e there. elim (ahead m e there) [ inl was ↦ passing.ahead m e was | inr later ↦ both_at_most (tick_of T) t e passing.forward later ];
   due = λ m on due. elim (passing.due m on due) [
-    | inl was ↦ inl (puts m (inr was))
+    | inl was ↦ inl ((gains m).1 (inr was))
     | inr passed ↦ elim (eqb_tells m n) [
-      | inl here ↦ inl (puts m (inl here.1))
-      | inr apart ↦ inr (record {
-        deadline = passed.deadline;
-        there = others m passed.deadline (λ same. apart.1 same.0) passed.there;
-        passed = passed.passed;
-      })
+      | inl here ↦ inl ((gains m).1 (inl here.1))
+      | inr apart ↦ inr (record { deadline = passed.deadline; there = others m apart.1 ∙ passed.there; passed = passed.passed })
     ]
   ];
-  touched = λ m is. elim (gains m is) [
-    | inl here ↦ subst (λ (k : ℕ). 1 ≤ touches P T (tick t) k) (sym here) (passed_is_touched v P T t old passing n d has below)
+  touched = λ m is. elim ((gains m).0 is) [
+    | inl here ↦ subst (λ (k : ℕ). 1 ≤ touches P T (tick t) k) (sym here) (passed_is_touched ds P T t old passing n d has below)
     | inr was ↦ passing.touched m was
   ];
+}
+
+-- the same deadlines
+pub passing_like : (ds es : List (Option ℤ)) (members : List ℕ) (P : PlainPolicy) (T : Trace) (t : ℤ) → AreAlike ds es → IsPassing ds members P T t → IsPassing es members P T t
+passing_like ds es members P T t alike passing = record {
+  forward = passing.forward;
+  timed = record {
+    held = λ m row part limit on of_right told ahead. (let was = passing.timed.held m row part limit on of_right told ahead in record {
+      deadline = was.deadline;
+      there = alike m ∙ was.there;
+      up_to = was.up_to;
+    });
+    theirs = λ m d has. passing.timed.theirs m d (sym (alike m) ∙ has);
+  };
+  ahead = λ m d has. passing.ahead m d (sym (alike m) ∙ has);
+  due = λ m on due. elim (passing.due m on due) [
+    | inl was ↦ inl was
+    | inr passed ↦ inr (record { deadline = passed.deadline; there = alike m ∙ passed.there; passed = passed.passed })
+  ];
+  touched = passing.touched;
 }

@@ -1,7 +1,6 @@
--- The deadlines in the wheel stay timely where usages begin and end.
+-- The deadlines stay timely where usages begin and end.
 use Rattle.std.proofs.Common.{◌≡◌, ◌≢◌, ◌∙◌, inl, inr, ℕ, ℤ, Bool, true, false, List, [], ◌∷◌, refl, sym, ap, subst, arith}
 use Rattle.std.specs.Prelude.{◌≤ℤ◌, int_le, Option, Some, None, cond}
-use Rattle.std.specs.Int.Signed.{≤ℤ_refl}
 use Rattle.std.specs.List.{Contains}
 use Rattle.std.specs.Option.{option_map_or}
 use Rattle.std.proofs.lemmas.Bool.Decides.{eqb_tells}
@@ -21,10 +20,11 @@ use Rattle.ucon_model.specs.Settle.{fails_at, revocation}
 use Rattle.ucon_model.specs.Truth.{readings}
 use Rattle.ucon_model.specs.Updates.{same_when, session_writes, updates_of, write_of, writes}
 use Rattle.ucon_model.specs.Usages.{going_on}
-use Rattle.ucon_wheel.specs.Deadlines.{Deadlines}
-use Rattle.ucon_cascade.specs.Timely.{AreTimed, AreTimely, HasDeadlineUpTo, IsDeadlineOf}
-use Rattle.ucon_readers.specs.Timers.{Gets, HasDeadline, IsLimit, LosesAll}
-use Rattle.ucon_cascade.proofs.Lasting.{acts_make_limits_later, deadlines_stay, holds_to_limit, limits_are_among}
+use Rattle.ucon_readers.specs.Limits.{IsFirstLimit}
+use Rattle.ucon_wheel.specs.Deadlines.{AreAlike, Gives, deadline_of}
+use Rattle.ucon_cascade.specs.Timely.{AreTimed, AreTimely, HasDeadline, HasDeadlineUpTo, IsDeadlineOf}
+use Rattle.ucon_cascade.proofs.Giving.{ahead_given, as_before, given_or_before, held_given, theirs_given}
+use Rattle.ucon_cascade.proofs.Lasting.{acts_make_limits_later, deadlines_stay, holds_to_limit}
 
 -- ---- no time passes, and no act is done
 
@@ -80,19 +80,14 @@ deadlines_same P T U time row (owed o) = ap (form_deadlines row.start o.form) (t
 
 -- ---- one session as before
 
-module _ (v w : Deadlines) (P : PlainPolicy) (T U : Trace) (time : SameTime P T U) where
+module _ (ds es : List (Option ℤ)) (P : PlainPolicy) (T U : Trace) (time : SameTime P T U) where
   held_still : (m : ℕ) (row : SessionRow) (part : Timed) (limit : ℤ) → going_on (session U m) ≡ going_on (session T m)
-      → ((d : ℤ) → HasDeadline v m d → HasDeadline w m d) → AreTimed v P T → going_on (session U m) ≡ Some row → Contains (timed_of (in_force P U) row) part
-      → limit_of (readings P U) row part ≡ Some limit → tick_of U ≤ℤ limit → HasDeadlineUpTo w U m row part limit
-  held_still m row part limit same keeps timed on of_right is ahead =
+      → deadline_of es m ≡ deadline_of ds m → AreTimed ds P T → going_on (session U m) ≡ Some row → Contains (timed_of (in_force P U) row) part
+      → limit_of (readings P U) row part ≡ Some limit → tick_of U ≤ℤ limit → HasDeadlineUpTo es m limit
+  held_still m row part limit same kept timed on of_right is ahead =
       let was = timed.held m row part limit (sym same ∙ on) (subst (λ (Q : PlainPolicy). Contains (timed_of Q row) part) time.policy of_right)
       (sym (limit_same P T U time row part) ∙ is) (subst (λ (t : ℤ). t ≤ℤ limit) time.tick ahead) in
-      record {
-        deadline = was.deadline;
-        there = keeps was.deadline was.there;
-        among = subst (λ (ds : List ℤ). Contains ds was.deadline) (sym (deadlines_same P T U time row part)) was.among;
-        up_to = was.up_to;
-      }
+      record { deadline = was.deadline; there = kept ∙ was.there; up_to = was.up_to }
 
   theirs_still : (m : ℕ) (d : ℤ) → going_on (session U m) ≡ going_on (session T m) → IsDeadlineOf P T m d → IsDeadlineOf P U m d
   theirs_still m d same is = record {
@@ -100,74 +95,55 @@ module _ (v w : Deadlines) (P : PlainPolicy) (T U : Trace) (time : SameTime P T 
     part = is.part;
     is = same ∙ is.is;
     of_right = subst (λ (Q : PlainPolicy). Contains (timed_of Q is.row) is.part) (sym time.policy) is.of_right;
-    among = subst (λ (ds : List ℤ). Contains ds d) (sym (deadlines_same P T U time is.row is.part)) is.among;
+    among = subst (λ (all : List ℤ). Contains all d) (sym (deadlines_same P T U time is.row is.part)) is.among;
   }
+
+  ahead_still : (m : ℕ) (d : ℤ) → AreTimely ds P T → HasDeadline ds m d → tick_of U ≤ℤ d
+  ahead_still m d timely has = subst (λ (t : ℤ). t ≤ℤ d) (sym time.tick) (timely.ahead m d has)
 
   -- where each usage goes on as before
-  pub timely_still : ((m : ℕ) → going_on (session U m) ≡ going_on (session T m)) → v ≡ w → AreTimely v P T → AreTimely w P U
-  timely_still same is timely = record {
+  pub timely_still : ((m : ℕ) → going_on (session U m) ≡ going_on (session T m)) → AreAlike ds es → AreTimely ds P T → AreTimely es P U
+  timely_still same alike timely = record {
     timed = record {
-      held = λ m row part limit on of_right told ahead. held_still m row part limit (same m) (λ d has. subst (λ (x : Deadlines). HasDeadline x m d) is has) timely.timed on of_right told ahead;
-      theirs = λ m d has. theirs_still m d (same m) (timely.timed.theirs m d (subst (λ (x : Deadlines). HasDeadline x m d) (sym is) has));
+      held = λ m row part limit on of_right told ahead. held_still m row part limit (same m) (alike m) timely.timed on of_right told ahead;
+      theirs = λ m d has. theirs_still m d (same m) (timely.timed.theirs m d (sym (alike m) ∙ has));
     };
-    ahead = λ m d has. subst (λ (t : ℤ). t ≤ℤ d) (sym time.tick) (timely.ahead m d (subst (λ (x : Deadlines). HasDeadline x m d) (sym is) has));
+    ahead = λ m d has. ahead_still m d timely (sym (alike m) ∙ has);
   }
 
-  -- where session n's is over, which loses its deadlines
-  pub timely_without : (n : ℕ) → LosesAll v w n → going_on (session U n) ≡ None → ((m : ℕ) → m ≢ n → going_on (session U m) ≡ going_on (session T m)) → AreTimely v P T
-      → AreTimely w P U
-  timely_without n loses over same timely = record {
+  -- where session n's is over, which loses its deadline
+  pub timely_without : (n : ℕ) → Gives ds es n None → going_on (session U n) ≡ None → ((m : ℕ) → m ≢ n → going_on (session U m) ≡ going_on (session T m)) → AreTimely ds P T
+      → AreTimely es P U
+  timely_without n gives over same timely = record {
     timed = record {
       held = λ m row part limit on of_right told ahead.
           let other : m ≢ n = λ here. (let no : None ≡ Some row = sym over ∙ ap (λ (k : ℕ). going_on (session U k)) (sym here) ∙ on in cc) in
-          held_still m row part limit (same m other) (λ d has. (loses m d).1 (other, has)) timely.timed on of_right told ahead;
-      theirs = λ m d has. let was = (loses m d).0 has in theirs_still m d (same m was.0) (timely.timed.theirs m d was.1);
+          held_still m row part limit (same m other) (as_before ds es n None gives m other) timely.timed on of_right told ahead;
+      theirs = λ m d has. (let was = before m d has in theirs_still m d (same m was.0) (timely.timed.theirs m d was.1));
     };
-    ahead = λ m d has. subst (λ (t : ℤ). t ≤ℤ d) (sym time.tick) (timely.ahead m d ((loses m d).0 has).1);
+    ahead = λ m d has. ahead_still m d timely (before m d has).1;
   }
+    where
+      before : (m : ℕ) (d : ℤ) → HasDeadline es m d → (m ≢ n) × HasDeadline ds m d
+      before m d has = elim (given_or_before ds es n None gives m d has) [ inl here ↦ absurd (let no : None ≡ Some d = here.1 in cc) | inr was ↦ was ]
 
-  -- where session n's begins, which gets the deadlines of what holds
-  pub timely_with : (n : ℕ) (row : SessionRow) → Gets v w n (IsLimit (readings P U) row (timed_of (in_force P U) row)) → going_on (session U n) ≡ Some row
-      → ((m : ℕ) → m ≢ n → going_on (session U m) ≡ going_on (session T m)) → AreTimely v P T → going_on (session T n) ≡ None → AreTimely w P U
-  timely_with n row gets begun same timely new = record {
+  -- where session n's begins, which gets the first limit of what holds
+  pub timely_with : (n : ℕ) (row : SessionRow) (first : Option ℤ) → IsFirstLimit (readings P U) row (timed_of (in_force P U) row) first → Gives ds es n first
+      → going_on (session U n) ≡ Some row → ((m : ℕ) → m ≢ n → going_on (session U m) ≡ going_on (session T m)) → AreTimely ds P T → AreTimely es P U
+  timely_with n row first is gives begun same timely = record {
     timed = record {
       held = λ m other part limit on of_right told ahead. elim (eqb_tells m n) [
-        | inl here ↦
-            let both : Some other ≡ Some row = sym on ∙ ap (λ (k : ℕ). going_on (session U k)) here.1 ∙ begun in
-            let one : other ≡ row = cc in
-            record {
-              deadline = limit;
-              there = (gets m limit).1 (inl (
-                here.1,
-                record {
-                  part = part;
-                  one_of = subst (λ (r : SessionRow). Contains (timed_of (in_force P U) r) part) one of_right;
-                  is = subst (λ (r : SessionRow). limit_of (readings P U) r part ≡ Some limit) one told;
-                  ahead = ahead;
-                },
-              ));
-              among = limits_are_among P U other part limit told;
-              up_to = ≤ℤ_refl limit;
-            }
-        | inr apart ↦ held_still m other part limit (same m apart.1) (λ d has. (gets m d).1 (inr has)) timely.timed on of_right told ahead
+        | inl here ↦ held_given ds es P U n row first is gives begun m other part limit here.1 on of_right told ahead
+        | inr apart ↦ held_still m other part limit (same m apart.1) (as_before ds es n first gives m apart.1) timely.timed on of_right told ahead
       ];
-      theirs = λ m d has. elim ((gets m d).0 has) [
-        | inl here ↦ record {
-          row = row;
-          part = here.1.part;
-          is = ap (λ (k : ℕ). going_on (session U k)) here.0 ∙ begun;
-          of_right = here.1.one_of;
-          among = limits_are_among P U row here.1.part d here.1.is;
-        }
-        | inr was ↦
-            let before = timely.timed.theirs m d was in
-            let apart : m ≢ n = λ here. (let no : None ≡ Some before.row = sym new ∙ ap (λ (k : ℕ). going_on (session T k)) (sym here) ∙ before.is in cc) in
-            theirs_still m d (same m apart) before
+      theirs = λ m d has. elim (given_or_before ds es n first gives m d has) [
+        | inl here ↦ theirs_given ds es P U n row first is gives begun m d here.0 here.1
+        | inr was ↦ theirs_still m d (same m was.0) (timely.timed.theirs m d was.1)
       ];
     };
-    ahead = λ m d has. elim ((gets m d).0 has) [
-      | inl here ↦ here.1.ahead
-      | inr was ↦ subst (λ (t : ℤ). t ≤ℤ d) (sym time.tick) (timely.ahead m d was)
+    ahead = λ m d has. elim (given_or_before ds es n first gives m d has) [
+      | inl here ↦ ahead_given ds es P U n row first is gives begun d here.1
+      | inr was ↦ ahead_still m d timely was.1
     ];
   }
 
@@ -185,9 +161,9 @@ both_at_most : (a b c : ℤ) → a ≤ℤ b → b ≤ℤ c → a ≤ℤ c
 both_at_most a b c le more = omega (arith, ints, le, more)
 
 -- an act gives no deadline: what it makes hold longer held before
-pub timely_act : ObligationsAreMet → (v : Deadlines) (P : PlainPolicy) (T : Trace) (s a o : Bytes) → IsTimely T → NobodyFails P T → AreTimely v P T
-    → AreTimely v P (act s a o ∷ T)
-timely_act met v P T s a o in_order nobody timely = record {
+pub timely_act : ObligationsAreMet → (ds : List (Option ℤ)) (P : PlainPolicy) (T : Trace) (s a o : Bytes) → IsTimely T → NobodyFails P T → AreTimely ds P T
+    → AreTimely ds P (act s a o ∷ T)
+timely_act met ds P T s a o in_order nobody timely = record {
   timed = record {
     held = held;
     theirs = λ m d has. (let is = timely.timed.theirs m d has in record {
@@ -201,20 +177,12 @@ timely_act met v P T s a o in_order nobody timely = record {
   ahead = timely.ahead;
 }
   where
-    held_so : (m : ℕ) (row : SessionRow) (part : Timed) (limit b : ℤ) → b ≤ℤ limit → HasDeadlineUpTo v T m row part b → HasDeadlineUpTo v (act s a o ∷ T) m row part limit
-    held_so m row part limit b le was = record {
-      deadline = was.deadline;
-      there = was.there;
-      among = deadlines_stay T (act s a o) row part was.deadline was.among;
-      up_to = both_at_most was.deadline b limit was.up_to le;
-    }
-
     held : (m : ℕ) (row : SessionRow) (part : Timed) (limit : ℤ) → going_on (session T m) ≡ Some row → Contains (timed_of (in_force P T) row) part
-        → limit_of (readings P (act s a o ∷ T)) row part ≡ Some limit → tick_of T ≤ℤ limit → HasDeadlineUpTo v (act s a o ∷ T) m row part limit
-    held m row (lasting n) limit on of_right told ahead = held_so m row (lasting n) limit limit (≤ℤ_refl limit) (timely.timed.held m row (lasting n) limit on of_right told ahead)
+        → limit_of (readings P (act s a o ∷ T)) row part ≡ Some limit → tick_of T ≤ℤ limit → HasDeadlineUpTo ds m limit
+    held m row (lasting n) limit on of_right told ahead = timely.timed.held m row (lasting n) limit on of_right told ahead
     held m row (owed w) limit on of_right told ahead =
         let holds : timed_truth (readings P T) row (owed w) ≡ true = met P T m row w (nobody m) on of_right in
         let before = acts_make_limits_later P T s a o row (owed w) limit in_order holds told in
         let now : int_le (tick_of T) before.0 ≡ true = sym (holds_to_limit (readings P T) row (owed w) before.0 before.1) ∙ holds in
-        held_so m row (owed w) limit before.0 before.2
-        (timely.timed.held m row (owed w) before.0 on of_right before.1 (at_most (tick_of T) before.0 now))
+        let was = timely.timed.held m row (owed w) before.0 on of_right before.1 (at_most (tick_of T) before.0 now) in
+        record { deadline = was.deadline; there = was.there; up_to = both_at_most was.deadline before.0 limit was.up_to before.2 }

@@ -12,7 +12,7 @@ ghost use Rattle.ucon_model.specs.Reach.{formula_timed, places_of, right_timed, 
 ghost use Rattle.ucon_model.specs.Views.{expr_of, formula_of, predicate_of, right_of, test_of};
 ghost use Rattle.ucon_state.specs.Shown.{shown};
 ghost use Rattle.ucon_state.specs.Tables.{session_in};
-ghost use Rattle.ucon_readers.specs.Timers.{timed_parts};
+ghost use Rattle.ucon_readers.specs.Limits.{timed_parts};
 
 use ucon_base::Side;
 use ucon_model::{Expr, Formula, Predicate, Ref, Right, Test, View};

@@ -8,7 +8,7 @@ ghost use Rattle.ucon_readers.specs.Readers.{IsKept, UndoGives, first_of, reader
 ghost use Rattle.ucon_cascade.specs.Paid.{touched};
 ghost use Rattle.ucon_cascade.specs.Passing.{WereMade};
 ghost use Rattle.ucon_cascade.specs.Timely.{AreTimely};
-ghost use Rattle.ucon_readers.specs.Timers.{IsKept as AreKept, UndoGives as TimersGive, wheel_of};
+ghost use Rattle.ucon_readers.specs.Timers.{IsKept as AreKept, UndoGives as TimersGive, deadlines_in};
 ghost use Rattle.ucon_model.specs.declared.command.Caller.{Caller};
 ghost use Rattle.ucon_model.specs.Action.{Action, Trace, extended};
 ghost use Rattle.ucon_model.specs.Block.{reply as reply_to};
@@ -186,7 +186,7 @@ impl Monitor {
         head: &Head,
         steps: &mut Steps,
     ) -> Result<Rows<Revoked>, NoMemory>
-        requires made { AreMade (shown self.old.state) (readers_at self.old.readers) (first_of self.old.readers) (wheel_of self.old.timers)
+        requires made { AreMade (shown self.old.state) (readers_at self.old.readers) (first_of self.old.readers) (deadlines_in self.old.timers)
             command.now head.now }
         requires kept { IsKept self.old.readers }
         requires timers_kept { AreKept self.old.timers }
@@ -198,11 +198,11 @@ impl Monitor {
         ensures grouped { OnOk result (AreGrouped (shown self.new.state) (first_of self.new.readers)) }
         ensures undo { UndoGives self.new.readers (readers_at self.old.readers) (first_of self.old.readers) }
         ensures timely { OnOk result ((P : PlainPolicy) (T : Trace) (caller : Caller) (actions : List Action)
-            → WereMade (shown self.old.state) (wheel_of self.old.timers) P T caller command.now head.now actions
-            → AreTimely (wheel_of self.new.timers) P (extended (extended T actions) (settle P (extended T actions)))) }
-        ensures timers_undo { TimersGive self.new.timers (wheel_of self.old.timers) }
+            → WereMade (shown self.old.state) (deadlines_in self.old.timers) P T caller command.now head.now actions
+            → AreTimely (deadlines_in self.new.timers) P (extended (extended T actions) (settle P (extended T actions)))) }
+        ensures timers_undo { TimersGive self.new.timers (deadlines_in self.old.timers) }
         ensures cost { (P : PlainPolicy) (T : Trace) (caller : Caller) (actions : List Action)
-            → WereMade (shown self.old.state) (wheel_of self.old.timers) P T caller command.now head.now actions
+            → WereMade (shown self.old.state) (deadlines_in self.old.timers) P T caller command.now head.now actions
             → steps.new ≤ steps.old + touched P T caller command.now }
         ensures done { OnOk result (self.new.work.members ≡ []) }
         ensures limit { self.new.work.limit ≡ self.old.work.limit }

@@ -1,6 +1,6 @@
 //! Which deadlines there are after a command's own actions, and whom a tick concerns.
 
-ghost use Rattle.std.specs.Prelude.{◌≡◌, ◌+◌, ◌<◌, ◌≤◌, ◌<ℤ◌, ℕ, ℤ, List, [], true, false, length, IfOk, OnOk};
+ghost use Rattle.std.specs.Prelude.{◌≡◌, ◌+◌, ◌<◌, ◌≤◌, ℕ, ℤ, List, [], true, false, length, Option, IfOk, OnOk};
 ghost use Rattle.std.specs.List.{Contains};
 ghost use Rattle.ucon_actions.specs.Gives.{is_amendment};
 ghost use Rattle.ucon_actions.specs.Leads.{AfterEach};
@@ -13,11 +13,10 @@ ghost use Rattle.ucon_model.specs.Readings.{is_accessing, session};
 ghost use Rattle.ucon_model.specs.Touches.{touches_by};
 ghost use Rattle.ucon_model.specs.Plain.{PlainPolicy};
 ghost use Rattle.ucon_state.specs.Shown.{shown};
-ghost use Rattle.ucon_wheel.specs.Deadlines.{Deadlines};
-ghost use Rattle.ucon_cascade.specs.Passing.{AreTimedBefore, MayPass, Moves, PassesAll, WereMade, is_tick};
-ghost use Rattle.ucon_cascade.specs.Timely.{AreTimedBelow, AreTimely, IsLimitOf};
-ghost use Rattle.ucon_readers.specs.Timers.{HasDeadline, IsKept, UndoGives, wheel_of};
-ghost use Rattle.ucon_readers.specs.Timers.{Gets, HiddenBelow, HidesNoMore, count_below};
+ghost use Rattle.ucon_wheel.specs.Deadlines.{count_below};
+ghost use Rattle.ucon_cascade.specs.Passing.{AreTimedBefore, MayPass, PassesAll, WereMade, is_tick};
+ghost use Rattle.ucon_cascade.specs.Timely.{AreTimedBelow, AreTimely, GivesFirst};
+ghost use Rattle.ucon_readers.specs.Timers.{IsKept, UndoGives, deadlines_in};
 
 use crate::follow::going_on;
 use std::alloc::Global;
@@ -41,21 +40,21 @@ pub fn follow_time(
     work: &mut Pend,
 ) -> Result<(), NoMemory>
     requires kept { IsKept timers.old }
-    requires made { AreTimedBefore (shown state.now) (wheel_of timers.old) command.now head.now }
+    requires made { AreTimedBefore (shown state.now) (deadlines_in timers.old) command.now head.now }
     requires no_work { work.old.members ≡ [] }
     requires few { length (shown state.now).tables.sessions < work.old.limit }
     ensures timely { OnOk result ((P : PlainPolicy) (T : Trace) (caller : Caller) (actions : List Action)
-        → WereMade (shown state.now) (wheel_of timers.old) P T caller command.now head.now actions
-        → AreTimely (wheel_of timers.new) P (extended T actions)) }
+        → WereMade (shown state.now) (deadlines_in timers.old) P T caller command.now head.now actions
+        → AreTimely (deadlines_in timers.new) P (extended T actions)) }
     ensures due { OnOk result ((P : PlainPolicy) (T : Trace) (caller : Caller) (t : ℤ) (actions : List Action) → command.now ≡ commands.Tick t
-        → WereMade (shown state.now) (wheel_of timers.old) P T caller command.now head.now actions
+        → WereMade (shown state.now) (deadlines_in timers.old) P T caller command.now head.now actions
         → (n : ℕ) → is_accessing (session T n) ≡ true → is_due P T t n ≡ true → Contains work.new.members n) }
     ensures touched { OnOk result ((P : PlainPolicy) (T : Trace) (caller : Caller) (actions : List Action)
-        → WereMade (shown state.now) (wheel_of timers.old) P T caller command.now head.now actions
+        → WereMade (shown state.now) (deadlines_in timers.old) P T caller command.now head.now actions
         → (n : ℕ) → Contains work.new.members n → 1 ≤ touches_by P T actions n) }
     ensures quiet { is_tick command.now ≡ false → work.new.members ≡ [] }
     ensures limit { work.new.limit ≡ work.old.limit }
-    ensures undo { UndoGives timers.new (wheel_of timers.old) }
+    ensures undo { UndoGives timers.new (deadlines_in timers.old) }
 {
     undoing_gives_what_is_kept();
     match command {
@@ -69,9 +68,9 @@ pub fn follow_time(
 fn follow_usage(state: &State, timers: &mut Timers, head: &Head) -> Result<(), NoMemory>
     requires { IsKept timers.old }
     ensures timely { OnOk result ((P : PlainPolicy) (T : Trace) (caller : Caller) (c : Command) (actions : List Action)
-        → is_amendment c ≡ false → is_tick c ≡ false → WereMade (shown state.now) (wheel_of timers.old) P T caller c head.now actions
-        → AreTimely (wheel_of timers.new) P (extended T actions)) }
-    ensures undo { (before : Deadlines) → UndoGives timers.old before → UndoGives timers.new before }
+        → is_amendment c ≡ false → is_tick c ≡ false → WereMade (shown state.now) (deadlines_in timers.old) P T caller c head.now actions
+        → AreTimely (deadlines_in timers.new) P (extended T actions)) }
+    ensures undo { (before : List (Option ℤ)) → UndoGives timers.old before → UndoGives timers.new before }
 {
     heads_tell_whose_usage_begins_or_ends();
     readings_that_agree_are_one();
@@ -83,28 +82,25 @@ fn follow_usage(state: &State, timers: &mut Timers, head: &Head) -> Result<(), N
     }
 }
 
-/// Gives session n the deadlines of what holds of its right.
+/// Gives session n the first limit of what holds of its right for its deadline, and takes it away where nothing has a limit.
 #[inline(always)]
 fn put_session(state: &State, timers: &mut Timers, n: u32) -> Result<(), NoMemory>
-    requires { HiddenBelow (wheel_of timers.old) (shown state.now).tables.tick }
-    ensures gets { OnOk result (Gets (wheel_of timers.old) (wheel_of timers.new) n (IsLimitOf (shown state.now) n)) }
-    ensures hidden { HidesNoMore (wheel_of timers.old) (wheel_of timers.new) }
-    ensures below { count_below (wheel_of timers.new) (shown state.now).tables.tick
-        ≡ count_below (wheel_of timers.old) (shown state.now).tables.tick }
-    ensures undo { (before : Deadlines) → UndoGives timers.old before → UndoGives timers.new before }
+    ensures gives { OnOk result (GivesFirst (shown state.now) (deadlines_in timers.old) (deadlines_in timers.new) n) }
+    ensures below { OnOk result (count_below (deadlines_in timers.new) (shown state.now).tables.tick
+        ≤ count_below (deadlines_in timers.old) (shown state.now).tables.tick) }
+    ensures undo { (before : List (Option ℤ)) → UndoGives timers.old before → UndoGives timers.new before }
 {
     timers.set(n, first_limit(state, n))
 }
 
-/// Takes out the deadlines below the tick, the earliest first. Their sessions are put into the work, and what still holds of their rights
-/// gets its deadline of now.
+/// Takes the deadlines below the tick away, the earliest first. Their sessions are put into the work, and get the next ones of what still
+/// holds of their rights.
 fn pass_deadlines(state: &State, timers: &mut Timers, work: &mut Pend) -> Result<(), NoMemory>
-    requires hidden { HiddenBelow (wheel_of timers.old) (shown state.now).tables.tick }
-    requires may { MayPass (shown state.now) (wheel_of timers.old) work.old.members }
+    requires may { MayPass (shown state.now) (deadlines_in timers.old) work.old.members }
     requires few { length (shown state.now).tables.sessions < work.old.limit }
-    ensures passed { OnOk result (PassesAll (shown state.now) (wheel_of timers.old) (wheel_of timers.new) work.old.members work.new.members) }
+    ensures passed { OnOk result (PassesAll (shown state.now) (deadlines_in timers.old) (deadlines_in timers.new) work.old.members work.new.members) }
     ensures limit { work.new.limit ≡ work.old.limit }
-    ensures undo { (before : Deadlines) → UndoGives timers.old before → UndoGives timers.new before }
+    ensures undo { (before : List (Option ℤ)) → UndoGives timers.old before → UndoGives timers.new before }
 {
     readings_that_agree_are_one();
     tables_keep_what_is_followed();
@@ -118,8 +114,8 @@ fn pass_deadlines(state: &State, timers: &mut Timers, work: &mut Pend) -> Result
 /// The deadlines of now take the place of those before.
 fn time_anew(alloc: Global, state: &State, timers: &mut Timers) -> Result<(), NoMemory>
     requires { IsKept timers.old }
-    ensures timely { OnOk result (AfterEach (shown state.now) (AreTimely (wheel_of timers.new))) }
-    ensures undo { UndoGives timers.new (wheel_of timers.old) }
+    ensures timely { OnOk result (AfterEach (shown state.now) (AreTimely (deadlines_in timers.new))) }
+    ensures undo { UndoGives timers.new (deadlines_in timers.old) }
 {
     undoing_gives_what_is_kept();
     let all = all_timers(alloc, state)?;
@@ -129,7 +125,7 @@ fn time_anew(alloc: Global, state: &State, timers: &mut Timers) -> Result<(), No
 
 /// All deadlines.
 pub fn all_timers(alloc: Global, state: &State) -> Result<Timers, NoMemory>
-    ensures { IfOk result (λ t. AfterEach (shown state.now) (AreTimely (wheel_of t))) }
+    ensures { IfOk result (λ t. AfterEach (shown state.now) (AreTimely (deadlines_in t))) }
 {
     let mut timers = Timers::new(alloc);
     for before in 0..sessions(state) {
@@ -140,10 +136,8 @@ pub fn all_timers(alloc: Global, state: &State) -> Result<Timers, NoMemory>
 
 /// Gives session n its deadlines, if it is accessing.
 fn put_accessing(state: &State, timers: &mut Timers, n: u32) -> Result<(), NoMemory>
-    requires hidden { HiddenBelow (wheel_of timers.old) (shown state.now).tables.tick }
-    requires below { AfterEach (shown state.now) (AreTimedBelow n (wheel_of timers.old)) }
-    ensures timed { OnOk result (AfterEach (shown state.now) (AreTimedBelow (n + 1) (wheel_of timers.new))) }
-    ensures hidden { HidesNoMore (wheel_of timers.old) (wheel_of timers.new) }
+    requires { AfterEach (shown state.now) (AreTimedBelow n (deadlines_in timers.old)) }
+    ensures { OnOk result (AfterEach (shown state.now) (AreTimedBelow (n + 1) (deadlines_in timers.new))) }
 {
     readings_that_agree_are_one();
     tables_keep_what_is_followed();

@@ -1,7 +1,7 @@
 //! The cascade of revocations by a list of work: only who is in it is rechecked, least first. Of each list of sessions that are judged
 //! alike at most the first is in it, and is judged for all.
 
-ghost use Rattle.std.specs.Prelude.{◌≡◌, ◌≢◌, ◌↔◌, ◌⊎◌, ◌+◌, ◌≤◌, ◌∷◌, [], ◌++◌, ℕ, false, Some, IfNone, IfOk, IfSome, OnOk, List};
+ghost use Rattle.std.specs.Prelude.{◌≡◌, ◌≢◌, ◌↔◌, ◌⊎◌, ◌+◌, ◌≤◌, ◌∷◌, [], ◌++◌, ℕ, ℤ, false, Option, Some, IfNone, IfOk, IfSome, OnOk, List};
 ghost use Rattle.std.specs.List.{Contains};
 ghost use Rattle.ucon_model.specs.Action.{extended};
 ghost use Rattle.ucon_model.specs.Settle.{fails_at, least_failing, revocation, settle, revoked_in};
@@ -15,8 +15,7 @@ ghost use Rattle.ucon_readers.specs.Readers.{UndoGives, first_of, readers_at};
 ghost use Rattle.ucon_cascade.specs.Paid.{CostsItsTouches, StayPaid, StayPaidRevoking};
 ghost use Rattle.ucon_model.specs.Readings.{is_accessing};
 ghost use Rattle.ucon_cascade.specs.Timely.{AreTimely};
-ghost use Rattle.ucon_readers.specs.Timers.{UndoGives as TimersGive, wheel_of};
-ghost use Rattle.ucon_wheel.specs.Deadlines.{Deadlines};
+ghost use Rattle.ucon_readers.specs.Timers.{UndoGives as TimersGive, deadlines_in};
 ghost use Rattle.ucon_model.specs.Plain.{PlainPolicy};
 ghost use Rattle.ucon_model.specs.Action.{Trace};
 ghost use Rattle.ucon_state.specs.Following.{Follows};
@@ -123,9 +122,9 @@ fn revoke_next(
     ensures work { OnOk result (IsWork (shown state.new) (first_of readers.new) work.new.members) }
     ensures exact { OnOk result (IsExact (shown state.new) (readers_at readers.new)) }
     ensures undo { (standing : ℕ → List ℕ) (first : ℕ → ℕ) → UndoGives readers.old standing first → UndoGives readers.new standing first }
-    ensures timed { OnOk result ((P : PlainPolicy) (T : Trace) → Follows (shown state.old) P T → AreTimely (wheel_of timers.old) P T
-        → AreTimely (wheel_of timers.new) P (extended T (revocation P T (n, label)))) }
-    ensures timers_undo { (before : Deadlines) → TimersGive timers.old before → TimersGive timers.new before }
+    ensures timed { OnOk result ((P : PlainPolicy) (T : Trace) → Follows (shown state.old) P T → AreTimely (deadlines_in timers.old) P T
+        → AreTimely (deadlines_in timers.new) P (extended T (revocation P T (n, label)))) }
+    ensures timers_undo { (before : List (Option ℤ)) → TimersGive timers.old before → TimersGive timers.new before }
     ensures fewer { OnOk result ((m : ℕ) → GoesOn (shown state.new) m → GoesOn (shown state.old) m) }
     ensures paid { OnOk result (StayPaidRevoking (shown state.old) (n, label)
         (first_of readers.old) work.old.members (first_of readers.new) work.new.members) }
@@ -168,9 +167,9 @@ pub fn settle(
     ensures grouped { OnOk result (AreGrouped (shown state.new) (first_of readers.new)) }
     ensures undo { (standing : ℕ → List ℕ) (first : ℕ → ℕ) → UndoGives readers.old standing first → UndoGives readers.new standing first }
     ensures done { OnOk result (work.new.members ≡ []) }
-    ensures timed { OnOk result ((P : PlainPolicy) (T : Trace) → Follows (shown state.old) P T → AreTimely (wheel_of timers.old) P T
-        → AreTimely (wheel_of timers.new) P (extended T (settle P T))) }
-    ensures timers_undo { (before : Deadlines) → TimersGive timers.old before → TimersGive timers.new before }
+    ensures timed { OnOk result ((P : PlainPolicy) (T : Trace) → Follows (shown state.old) P T → AreTimely (deadlines_in timers.old) P T
+        → AreTimely (deadlines_in timers.new) P (extended T (settle P T))) }
+    ensures timers_undo { (before : List (Option ℤ)) → TimersGive timers.old before → TimersGive timers.new before }
     ensures cost { CostsItsTouches (shown state.old) (first_of readers.old) work.old.members steps.old steps.new }
     ensures limit { work.new.limit ≡ work.old.limit }
     ensures base { KeepsBase (shown state.old) (shown state.new) }

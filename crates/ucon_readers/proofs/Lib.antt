@@ -3,7 +3,6 @@ pub mod Listed
 pub mod Leading
 pub mod Founding
 pub mod Walking
-pub mod Gaining
-pub mod Showing
+pub mod First
 pub mod Undoing
 pub mod Placed

@@ -1,4 +1,5 @@
 pub mod Joining
+pub mod Limits
 pub mod Timers
 pub mod Lists
 pub mod Listing

@@ -1,13 +1,14 @@
 //! Up to which tick the timed parts of what a right reads hold for a session.
 
-ghost use Rattle.std.specs.Prelude.{◌≡◌, ◌∷◌, [], None, Some, Option, ℤ};
+ghost use Rattle.std.specs.Prelude.{◌≡◌, ◌∷◌, [], None, Some};
 ghost use Rattle.ucon_model.specs.declared.session.SessionRow.{SessionRow};
-ghost use Rattle.ucon_model.specs.Deadlines.{form_limit};
-ghost use Rattle.ucon_model.specs.Reach.{formula_timed, test_timed, timed_of};
+ghost use Rattle.ucon_model.specs.Deadlines.{form_limit, limit_of};
+ghost use Rattle.ucon_model.specs.Reach.{Timed, formula_timed, test_timed, timed_of};
+ghost use Rattle.ucon_model.specs.Truth.{Readings};
 ghost use Rattle.ucon_model.specs.Views.{formula_of, predicate_of, test_of};
+ghost use Rattle.ucon_readers.specs.Limits.{GivesWay, IsFirstLimit, timed_parts};
 ghost use Rattle.ucon_state.specs.Shown.{shown};
 ghost use Rattle.ucon_state.specs.Tables.{readings_in, session_in};
-ghost use Rattle.ucon_readers.specs.Limits.{IsFirstLimit, first_limit, timed_parts};
 
 use ucon_base::Int;
 use ucon_model::{Form, Formula, Predicate, Test, View};
@@ -24,18 +25,25 @@ fn form_limit(start: Int, form: Form, last: Option<Int>) -> Option<i64>
     }
 }
 
-/// The earlier of a limit and the first so far, if the tick isn't above it.
-fn earlier(now: Int, first: Option<i64>, limit: i64) -> Option<i64> {
+/// The earlier of the first limit so far and this one, which counts if the tick isn't above it.
+fn earlier(now: Int, first: Option<i64>, limit: i64) -> Option<i64>
+    ensures { (R : Readings) (row : SessionRow) (part : Timed) → R.now ≡ now → limit_of R row part ≡ Some limit
+        → GivesWay R row (part ∷ []) first result }
+{
     if limit < now.get() {
         return first;
     }
     match first {
-        Some(first) if first <= limit => Some(first),
-        _ => Some(limit),
+        Some(so_far) => Some(so_far.min(limit)),
+        None => Some(limit),
     }
 }
 
-fn first_of_formula(now: Int, start: Int, first: Option<i64>, f: &Formula) -> Option<i64> {
+/// The first limit so far and with a formula, of a usage that began at `start`.
+fn first_of_formula(now: Int, start: Int, first: Option<i64>, f: &Formula) -> Option<i64>
+    ensures { (R : Readings) (row : SessionRow) → R.now ≡ now → row.start ≡ start
+        → GivesWay R row (formula_timed (formula_of f.now)) first result }
+{
     match f {
         Formula::And(f, g) => {
             let first = first_of_formula(now, start, first, f);
@@ -51,7 +59,11 @@ fn first_of_formula(now: Int, start: Int, first: Option<i64>, f: &Formula) -> Op
     }
 }
 
-fn first_of_test(state: &State, n: u32, start: Int, first: Option<i64>, test: &Test) -> Option<i64> {
+/// The first limit so far and with a test of session n, whose usage began at `start`.
+fn first_of_test(state: &State, n: u32, start: Int, first: Option<i64>, test: &Test) -> Option<i64>
+    ensures { (row : SessionRow) → session_in (shown state.now).tables n ≡ Some row → row.start ≡ start
+        → GivesWay (readings_in (shown state.now).policy (shown state.now).tables) row (test_timed (test_of test.now)) first result }
+{
     match test {
         Test::A(f) => first_of_formula(state.tick(), start, first, f),
         Test::B(o) => match form_limit(start, o.form, state.done_at(n, o)) {
@@ -62,15 +74,35 @@ fn first_of_test(state: &State, n: u32, start: Int, first: Option<i64>, test: &T
     }
 }
 
-/// The first tick, of those that the tick isn't above, up to which a timed part of session n's right holds.
-pub fn first_limit(state: &State, n: u32) -> Option<i64> {
+/// The first limit so far and with a predicate of session n's right, which counts if it is ongoing.
+fn first_of_predicate(
+    state: &State,
+    n: u32,
+    start: Int,
+    first: Option<i64>,
+    p: &Predicate,
+) -> Option<i64>
+    ensures { (row : SessionRow) → session_in (shown state.now).tables n ≡ Some row → row.start ≡ start
+        → GivesWay (readings_in (shown state.now).policy (shown state.now).tables) row (timed_parts (predicate_of p.now ∷ [])) first result }
+{
+    if !p.is_ongoing() {
+        return first;
+    }
+    first_of_test(state, n, start, first, &p.test)
+}
+
+/// The first of the ticks up to which a timed part of session n's right holds, of those that the tick isn't above. None where there is no
+/// such session.
+pub fn first_limit(state: &State, n: u32) -> Option<i64>
+    ensures first { (row : SessionRow) → session_in (shown state.now).tables n ≡ Some row
+        → IsFirstLimit (readings_in (shown state.now).policy (shown state.now).tables) row (timed_of (shown state.now).policy row) result }
+    ensures none { session_in (shown state.now).tables n ≡ None → result ≡ None }
+{
     let right = state.right(n)?;
     let start = state.start(n)?;
     let mut first = None;
     for p in right.preds.slice() {
-        if p.is_ongoing() {
-            first = first_of_test(state, n, start, first, &p.test);
-        }
+        first = first_of_predicate(state, n, start, first, p);
     }
     first
 }

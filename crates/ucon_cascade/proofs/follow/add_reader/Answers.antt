@@ -1,13 +1,6 @@
-use Rattle.std.proofs.Common.{◌≡◌, [], ℕ, List, None, Some, ap, inl, inr, refl, subst, sym}
-use Rattle.std.specs.Prelude.{Option}
-use Rattle.std.specs.Option.{option_map_or}
-use Rattle.ucon_model.specs.declared.session.SessionRow.{SessionRow}
-use Rattle.ucon_model.specs.Places.{places_read}
-use Rattle.ucon_model.specs.Plain.{PlainRight}
-use Rattle.ucon_model.specs.Reach.{places_of}
+use Rattle.std.proofs.Common.{ℕ, List, None, Some, ap, inl, inr, refl, subst, sym}
 use Rattle.ucon_model.specs.Views.{right_of}
 use Rattle.ucon_state.specs.Shown.{shown}
-use Rattle.ucon_state.specs.Tables.{session_in}
 use Rattle.ucon_readers.specs.Listing.{ComesTo}
 use Rattle.ucon_cascade.specs.Grouping.{GetsFirst}
 use Rattle.ucon_cascade.specs.Numbering.{HaveNumbers, numbers_of, place_numbers}
@@ -15,7 +8,7 @@ use Rattle.ucon_readers.specs.Readers.{first_of, readers_at}
 use Rattle.ucon_cascade.proofs.Asking.{no_places_there, right_by_row}
 use Rattle.ucon_cascade.proofs.Begun.{joined_comes}
 use Rattle.ucon_cascade.proofs.Kindred.{may_lead}
-use Rattle.ucon_cascade.proofs.Outcomes.{on_ok, ok_both, ok_then}
+use Rattle.ucon_cascade.proofs.Outcomes.{on_ok, ok_then}
 use Rattle.ucon_cascade.proofs.follow.add_reader.Goals as goal
 
 pub returns-in_default-clause-comes : goal.returns-in_default-clause-comes

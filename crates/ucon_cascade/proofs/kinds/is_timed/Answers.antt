@@ -2,8 +2,8 @@ use Rattle.std.proofs.Common.{◌≡◌, ◌∙◌, ◌∷◌, [], List, map, ap
 use Rattle.std.proofs.lemmas.List.{take_all}
 use Rattle.ucon_model.specs.declared.policy.Predicate.{Predicate}
 use Rattle.ucon_model.specs.Views.{predicate_of}
-use Rattle.ucon_readers.specs.Timers.{timed_parts}
-use Rattle.ucon_cascade.proofs.Gaining.{untimed_more}
+use Rattle.ucon_readers.specs.Limits.{timed_parts}
+use Rattle.ucon_cascade.proofs.Untimed.{untimed_more}
 use Rattle.ucon_cascade.proofs.kinds.is_timed.Goals as goal
 
 pub loop-p-init : goal.loop-p-init

@@ -1,6 +1,6 @@
 use Rattle.std.proofs.Common.{◌≡◌, [], map, take}
 use Rattle.ucon_model.specs.Views.{predicate_of}
-use Rattle.ucon_readers.specs.Timers.{timed_parts}
+use Rattle.ucon_readers.specs.Limits.{timed_parts}
 use Rattle.ucon_cascade.proofs.kinds.is_timed.Given as goal
 
 -- no predicate so far has timed parts

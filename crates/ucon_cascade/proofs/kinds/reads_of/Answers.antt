@@ -1,4 +1,4 @@
-use Rattle.std.proofs.Common.{◌≡◌, ◌∙◌, List, false, filter, map, ap, sym}
+use Rattle.std.proofs.Common.{◌∙◌, List, filter, map, ap, sym}
 use Rattle.std.specs.List.{flat_map, list_any}
 use Rattle.ucon_model.specs.declared.policy.Predicate.{Predicate}
 use Rattle.ucon_model.specs.Decision.{ongoing}

@@ -3,6 +3,7 @@ use Rattle.ucon_model.specs.declared.command.Command.{Command}
 use Rattle.ucon_model.specs.declared.command.Command.TheVariants.{Tick, Amend}
 use Rattle.ucon_model.specs.Action.{extended}
 use Rattle.ucon_state.specs.Shown.{shown}
+use Rattle.ucon_readers.specs.Timers.{deadlines_in}
 use Rattle.ucon_cascade.specs.Passing.{WereMade}
 use Rattle.ucon_cascade.proofs.Monitored.{ok_then, on_ok}
 use Rattle.ucon_cascade.proofs.Ticked.{due_ticked, may_pass, nobody_in, not_amendment, not_tick, timely_ticked, touched_ticked}
@@ -19,37 +20,34 @@ returns-in-Amend-clause-due c = on_ok c.time_anew.result (λ P T caller t action
 pub returns-in-Amend-clause-touched : goal.returns-in-Amend-clause-touched
 returns-in-Amend-clause-touched c = on_ok c.time_anew.result (λ P T caller actions were n has. absurd (nobody_in c.args.work.now.members c.requires.no_work n has))
 
-pub pass_deadlines-requires-clause-hidden : goal.pass_deadlines-requires-clause-hidden
-pass_deadlines-requires-clause-hidden c = λ m d hidden. absurd (c.requires.kept.nothing_hidden.none_hidden m d hidden)
-
 pub pass_deadlines-requires-clause-may : goal.pass_deadlines-requires-clause-may
 pass_deadlines-requires-clause-may c =
     let s = shown c.args.state.now in
-    let v = c.args.timers.now.wheel in
+    let ds = deadlines_in c.args.timers.now in
     let made = c.requires.made in
-    may_pass s v c.args.work.now.members made.policy made.trace made.caller c.args.head.now c.in-Tick.field-0 made.actions
-    (subst (λ (command : Command). WereMade s v made.policy made.trace made.caller command c.args.head.now made.actions) c.in-Tick.is made.were) c.requires.no_work
+    may_pass s ds c.args.work.now.members made.policy made.trace made.caller c.args.head.now c.in-Tick.field-0 made.actions
+    (subst (λ (command : Command). WereMade s ds made.policy made.trace made.caller command c.args.head.now made.actions) c.in-Tick.is made.were) c.requires.no_work
 
 pub returns-in-Tick-clause-timely : goal.returns-in-Tick-clause-timely
 returns-in-Tick-clause-timely c =
     ok_then c.pass_deadlines.result (λ passes P T caller actions were.
-    timely_ticked (shown c.args.state.now) c.args.timers.now.wheel c.pass_deadlines.new.timers.wheel c.args.work.now.members c.pass_deadlines.new.work.members P T caller c.args.command.now
+    timely_ticked (shown c.args.state.now) (deadlines_in c.args.timers.now) (deadlines_in c.pass_deadlines.new.timers) c.args.work.now.members c.pass_deadlines.new.work.members P T caller c.args.command.now
     c.args.head.now c.in-Tick.field-0 actions c.in-Tick.is c.requires.no_work were passes) c.pass_deadlines.ensures.passed
 
 pub returns-in-Tick-clause-due : goal.returns-in-Tick-clause-due
 returns-in-Tick-clause-due c =
     ok_then c.pass_deadlines.result (λ passes P T caller t actions is were n on due.
-    due_ticked (shown c.args.state.now) c.args.timers.now.wheel c.pass_deadlines.new.timers.wheel c.args.work.now.members c.pass_deadlines.new.work.members P T caller c.args.command.now
+    due_ticked (shown c.args.state.now) (deadlines_in c.args.timers.now) (deadlines_in c.pass_deadlines.new.timers) c.args.work.now.members c.pass_deadlines.new.work.members P T caller c.args.command.now
     c.args.head.now c.in-Tick.field-0 actions c.in-Tick.is c.requires.no_work were passes t is n on due) c.pass_deadlines.ensures.passed
 
 pub returns-in-Tick-clause-touched : goal.returns-in-Tick-clause-touched
 returns-in-Tick-clause-touched c =
     ok_then c.pass_deadlines.result (λ passes P T caller actions were n has.
-    touched_ticked (shown c.args.state.now) c.args.timers.now.wheel c.pass_deadlines.new.timers.wheel c.args.work.now.members c.pass_deadlines.new.work.members P T caller c.args.command.now
+    touched_ticked (shown c.args.state.now) (deadlines_in c.args.timers.now) (deadlines_in c.pass_deadlines.new.timers) c.args.work.now.members c.pass_deadlines.new.work.members P T caller c.args.command.now
     c.args.head.now c.in-Tick.field-0 actions c.in-Tick.is c.requires.no_work were passes n has) c.pass_deadlines.ensures.passed
 
 pub returns-in-Tick-clause-undo : goal.returns-in-Tick-clause-undo
-returns-in-Tick-clause-undo c = c.pass_deadlines.ensures.undo c.args.timers.now.wheel (c.undoing_gives_what_is_kept.ensures.timers c.args.timers.now c.requires.kept)
+returns-in-Tick-clause-undo c = c.pass_deadlines.ensures.undo (deadlines_in c.args.timers.now) (c.undoing_gives_what_is_kept.ensures.timers c.args.timers.now c.requires.kept)
 
 pub returns-in_default-clause-timely : goal.returns-in_default-clause-timely
 returns-in_default-clause-timely c =
@@ -63,4 +61,4 @@ pub returns-in_default-clause-touched : goal.returns-in_default-clause-touched
 returns-in_default-clause-touched c = on_ok c.follow_usage.result (λ P T caller actions were n has. absurd (nobody_in c.args.work.now.members c.requires.no_work n has))
 
 pub returns-in_default-clause-undo : goal.returns-in_default-clause-undo
-returns-in_default-clause-undo c = c.follow_usage.ensures.undo c.args.timers.now.wheel (c.undoing_gives_what_is_kept.ensures.timers c.args.timers.now c.requires.kept)
+returns-in_default-clause-undo c = c.follow_usage.ensures.undo (deadlines_in c.args.timers.now) (c.undoing_gives_what_is_kept.ensures.timers c.args.timers.now c.requires.kept)

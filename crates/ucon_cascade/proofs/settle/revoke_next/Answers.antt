@@ -5,6 +5,7 @@ use Rattle.ucon_model.specs.Settle.{revocation}
 use Rattle.ucon_model.specs.Usages.{going_on}
 use Rattle.ucon_state.specs.Shown.{shown}
 use Rattle.ucon_readers.specs.Readers.{first_of, readers_at}
+use Rattle.ucon_readers.specs.Timers.{deadlines_in}
 use Rattle.ucon_cascade.proofs.Costing.{fewer_go_on}
 use Rattle.ucon_cascade.proofs.Putting.{all_below}
 use Rattle.ucon_cascade.proofs.Revoking.{is_revoked, left_exactly, revoking_is_paid, work_after}
@@ -96,5 +97,5 @@ returns-clause-paid c =
 pub returns-clause-timed : goal.returns-clause-timed
 returns-clause-timed c = λ P T h timely.
     let f : ℕ × Bytes = (c.args.n, c.args.label) in
-    timely_without c.args.timers.now.wheel c.hide_all.new.self.wheel P T (extended T (revocation P T f)) (revocations_take_no_time P T f) c.args.n c.in_ok-hide_all.ensures.loses
+    timely_without (deadlines_in c.args.timers.now) (deadlines_in c.set.new.self) P T (extended T (revocation P T f)) (revocations_take_no_time P T f) c.args.n c.in_ok-set.ensures.gives
     (c.heads_tell_whose_usage_begins_or_ends.ensures.revoked P T f) (λ m other. ap going_on (c.heads_tell_whose_usage_begins_or_ends.ensures.others P T f m other)) timely

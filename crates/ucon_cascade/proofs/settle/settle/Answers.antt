@@ -8,6 +8,7 @@ use Rattle.ucon_model.specs.Settle.{least_failing, settled_to, revoked_in}
 use Rattle.ucon_state.specs.Following.{Follows}
 use Rattle.ucon_state.specs.Shown.{shown}
 use Rattle.ucon_readers.specs.Readers.{first_of}
+use Rattle.ucon_readers.specs.Timers.{deadlines_in}
 use Rattle.ucon_cascade.specs.Timely.{AreTimely}
 use Rattle.ucon_cascade.proofs.Costing.{cost_is_paid, found_is_paid, paid_on, paid_turn}
 use Rattle.ucon_cascade.proofs.Monitored.{base_on}
@@ -59,7 +60,7 @@ turns-preserved c =
       exact = c.in_ok-revoke_next-in-Some.ensures.exact;
       undo = λ standing first gives. c.in_ok-revoke_next-in-Some.ensures.undo standing first (c.turns.invariant.undo standing first gives);
       timed = λ P T h timely.
-          subst (λ (U : Trace). AreTimely c.revoke_next.new.timers.wheel P U) (sym (c.turns_follow_each_other.ensures.trace i P T (found.0, found.1) (least P T h)))
+          subst (λ (U : Trace). AreTimely (deadlines_in c.revoke_next.new.timers) P U) (sym (c.turns_follow_each_other.ensures.trace i P T (found.0, found.1) (least P T h)))
           (c.in_ok-revoke_next-in-Some.ensures.timed P (settled_to i P T) (c.turns.invariant.leads P T h) (c.turns.invariant.timed P T h timely));
       timers_undo = λ before gives. c.in_ok-revoke_next-in-Some.ensures.timers_undo before (c.turns.invariant.timers_undo before gives);
       paid =
@@ -129,13 +130,13 @@ returns-in-None-clause-timed c = λ P T h timely.
     let none : least_failing P (settled_to c.turns.counter P T) ≡ None =
     c.next_failing.ensures.least P (settled_to c.turns.counter P T) (c.turns.invariant.leads P T h) ∙ c.in-None.is in
     let le : c.turns.counter ≤ accessing T = omega (arith, c.turns-test.true, c.accessing-usages.ensures.trace P T h) in
-    subst (λ (actions : List Action). AreTimely c.turns.timers.wheel P (extended T actions)) (sym (c.turns_follow_each_other.ensures.done c.turns.counter (accessing T) P T le none))
+    subst (λ (actions : List Action). AreTimely (deadlines_in c.turns.timers) P (extended T actions)) (sym (c.turns_follow_each_other.ensures.done c.turns.counter (accessing T) P T le none))
     (c.turns.invariant.timed P T h timely)
 
 pub returns-clause-timed : goal.returns-clause-timed
 returns-clause-timed c = λ P T h timely.
     let all : c.turns.counter ≡ accessing T = omega (arith, c.turns-test.false, c.turns.auto.counter-end, c.accessing-usages.ensures.trace P T h) in
-    subst (λ (k : ℕ). AreTimely c.turns.timers.wheel P (settled_to k P T)) all (c.turns.invariant.timed P T h timely)
+    subst (λ (k : ℕ). AreTimely (deadlines_in c.turns.timers) P (settled_to k P T)) all (c.turns.invariant.timed P T h timely)
 
 pub returns-in_err-revoke_next-in-Some-clause-timers_undo : goal.returns-in_err-revoke_next-in-Some-clause-timers_undo
 returns-in_err-revoke_next-in-Some-clause-timers_undo c = λ before gives. c.revoke_next.ensures.timers_undo before (c.turns.invariant.timers_undo before gives)

@@ -1,4 +1,5 @@
-use Rattle.std.proofs.Common.{◌≡◌, ℕ, List}
+use Rattle.std.proofs.Common.{◌≡◌, ℕ, ℤ, List}
+use Rattle.std.specs.Prelude.{Option}
 use Rattle.ucon_model.specs.Plain.{PlainPolicy}
 use Rattle.ucon_model.specs.Action.{Trace}
 use Rattle.ucon_model.specs.Settle.{settle_within, settled_to, revoked_in}
@@ -9,8 +10,7 @@ use Rattle.ucon_cascade.specs.Cascading.{IsWork}
 use Rattle.ucon_cascade.specs.Numbering.{IsExact}
 use Rattle.ucon_readers.specs.Readers.{UndoGives, first_of, readers_at}
 use Rattle.ucon_cascade.specs.Timely.{AreTimely}
-use Rattle.ucon_readers.specs.Timers.{UndoGives as TimersGive}
-use Rattle.ucon_wheel.specs.Deadlines.{Deadlines}
+use Rattle.ucon_readers.specs.Timers.{UndoGives as TimersGive, deadlines_in}
 use Rattle.ucon_cascade.proofs.Costing.{ArePaidAfter, FewerGoOn}
 use Rattle.ucon_cascade.proofs.settle.settle.Given as goal
 
@@ -22,8 +22,8 @@ invariant-turns l = record {
   work : IsWork (shown l.state) (first_of l.readers) l.work.members;
   exact : IsExact (shown l.state) (readers_at l.readers);
   undo : (standing : ℕ → List ℕ) (first : ℕ → ℕ) → UndoGives l.fn.readers standing first → UndoGives l.readers standing first;
-  timed : (P : PlainPolicy) (T : Trace) → Follows (shown l.fn.state) P T → AreTimely l.fn.timers.wheel P T → AreTimely l.timers.wheel P (settled_to l.counter P T);
-  timers_undo : (before : Deadlines) → TimersGive l.fn.timers before → TimersGive l.timers before;
+  timed : (P : PlainPolicy) (T : Trace) → Follows (shown l.fn.state) P T → AreTimely (deadlines_in l.fn.timers) P T → AreTimely (deadlines_in l.timers) P (settled_to l.counter P T);
+  timers_undo : (before : List (Option ℤ)) → TimersGive l.fn.timers before → TimersGive l.timers before;
   paid : ArePaidAfter (shown l.fn.state) (first_of l.fn.readers) l.fn.work.members l.counter (first_of l.readers) l.work.members l.fn.steps l.steps;
   fewer : FewerGoOn (shown l.fn.state) (shown l.state);
   limit : l.work.limit ≡ l.fn.work.limit;

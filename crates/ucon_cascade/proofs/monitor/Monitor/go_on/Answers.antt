@@ -2,6 +2,7 @@ use Rattle.std.proofs.Common.{arith, ◌<◌, ◌∙◌, inl, inr, subst, sym}
 use Rattle.ucon_model.specs.Action.{extended}
 use Rattle.ucon_model.specs.OwnActions.{own}
 use Rattle.ucon_state.specs.Shown.{shown}
+use Rattle.ucon_readers.specs.Timers.{deadlines_in}
 use Rattle.ucon_cascade.specs.Cascading.{work_of}
 use Rattle.ucon_cascade.specs.Passing.{WereMade}
 use Rattle.ucon_readers.specs.Readers.{first_of, readers_at}
@@ -58,7 +59,7 @@ settle-requires-clause-work c =
     let members = c.put_own_work.new.work.members in
     let first = first_of c.follow_actions.new.readers in
     let grouped = c.in_ok-follow_actions.ensures.grouped in
-    let were : WereMade s1 c.args.self.now.timers.wheel m.policy m.trace m.caller c.args.command.now c.args.head.now done.0 =
+    let were : WereMade s1 (deadlines_in c.args.self.now.timers) m.policy m.trace m.caller c.args.command.now c.args.head.now done.0 =
     record { sound = h.sound; nobody = m.stood.nobody; made = done.1; follows = done.2; timely = m.stood.timely } in
     record {
       grouped = grouped;
@@ -101,7 +102,7 @@ pub returns-clause-undo : goal.returns-clause-undo
 returns-clause-undo c = c.settle.ensures.undo (readers_at c.args.self.now.readers) (first_of c.args.self.now.readers) c.follow_actions.ensures.undo
 
 pub returns-clause-timers_undo : goal.returns-clause-timers_undo
-returns-clause-timers_undo c = c.settle.ensures.timers_undo c.args.self.now.timers.wheel c.in_ok-follow_time.ensures.undo
+returns-clause-timers_undo c = c.settle.ensures.timers_undo (deadlines_in c.args.self.now.timers) c.in_ok-follow_time.ensures.undo
 
 pub returns-clause-timely : goal.returns-clause-timely
 returns-clause-timely c =

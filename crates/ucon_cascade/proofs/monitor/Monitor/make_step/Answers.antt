@@ -7,6 +7,7 @@ use Rattle.ucon_model.specs.Settle.{fails_at}
 use Rattle.ucon_state.specs.Following.{Follows}
 use Rattle.ucon_state.specs.Shown.{shown}
 use Rattle.ucon_readers.specs.Readers.{first_of, readers_at}
+use Rattle.ucon_readers.specs.Timers.{deadlines_in}
 use Rattle.ucon_cascade.proofs.Monitored.{made_actions, made_after, made_reply, on_err, opening_on, stands_before}
 use Rattle.ucon_cascade.specs.Timely.{AreTimely}
 use Rattle.ucon_cascade.proofs.monitor.Monitor.make_step.Goals as goal
@@ -35,9 +36,9 @@ returns-in-Err-NoMemory-clause-err c = λ P T h.
       stood = readers_at r;
       first = first_of r;
       undone = c.undoing_gives_what_is_kept.ensures.readers r h.kept;
-      was = c.args.self.now.timers.wheel;
+      was = deadlines_in c.args.self.now.timers;
       timers_undone = c.undoing_gives_what_is_kept.ensures.timers c.args.self.now.timers h.timers_kept;
-      stands = stands_before (shown c.args.self.now.state) (shown c.own_actions.new.state) (readers_at r) (first_of r) c.args.self.now.timers.wheel P T c.own_actions.ensures.opening h.settled h.stands;
+      stands = stands_before (shown c.args.self.now.state) (shown c.own_actions.new.state) (readers_at r) (first_of r) (deadlines_in c.args.self.now.timers) P T c.own_actions.ensures.opening h.settled h.stands;
       limit = h.limit;
     }
 
@@ -50,9 +51,9 @@ returns-in_err-revoked-in-Ok-Made-clause-err c = on_err c.from_residual.result (
       stood = readers_at c.args.self.now.readers;
       first = first_of c.args.self.now.readers;
       undone = c.go_on.ensures.undo;
-      was = c.args.self.now.timers.wheel;
+      was = deadlines_in c.args.self.now.timers;
       timers_undone = c.go_on.ensures.timers_undo;
-      stands = stands_before s s2 (readers_at c.args.self.now.readers) (first_of c.args.self.now.readers) c.args.self.now.timers.wheel P T (opening_on s s1 s2 c.own_actions.ensures.opening c.go_on.ensures.base) h.settled h.stands;
+      stands = stands_before s s2 (readers_at c.args.self.now.readers) (first_of c.args.self.now.readers) (deadlines_in c.args.self.now.timers) P T (opening_on s s1 s2 c.own_actions.ensures.opening c.go_on.ensures.base) h.settled h.stands;
       limit = c.go_on.ensures.limit ∙ h.limit;
     })
 
@@ -77,7 +78,7 @@ returns-in_ok-revoked-in-Ok-Made-clause-pending c _ = λ P T h.
         nobody = λ n. subst (λ (U : Trace). fails_at P U n ≡ None) after_it (c.nobody_fails_after_settling.ensures.nobody P (extended T done.0) n done.2.sound.numbered);
         exact = c.in_ok-revoked-in-Ok-Made.ensures.exact;
         grouped = c.in_ok-revoked-in-Ok-Made.ensures.grouped;
-        timely = subst (λ (U : Trace). AreTimely c.go_on.new.self.timers.wheel P U) after_it
+        timely = subst (λ (U : Trace). AreTimely (deadlines_in c.go_on.new.self.timers) P U) after_it
             (c.in_ok-revoked-in-Ok-Made.ensures.timely P T c.args.caller done.0
             (record { sound = h.stands.follows.sound; nobody = h.stands.nobody; made = done.1; follows = done.2; timely = h.stands.timely }));
       };
@@ -85,9 +86,9 @@ returns-in_ok-revoked-in-Ok-Made-clause-pending c _ = λ P T h.
         stood = readers_at c.args.self.now.readers;
         first = first_of c.args.self.now.readers;
         undone = c.go_on.ensures.undo;
-        was = c.args.self.now.timers.wheel;
+        was = deadlines_in c.args.self.now.timers;
         timers_undone = c.go_on.ensures.timers_undo;
-        stands = stands_before s s2 (readers_at c.args.self.now.readers) (first_of c.args.self.now.readers) c.args.self.now.timers.wheel P T (opening_on s s1 s2 c.own_actions.ensures.opening c.go_on.ensures.base) h.settled h.stands;
+        stands = stands_before s s2 (readers_at c.args.self.now.readers) (first_of c.args.self.now.readers) (deadlines_in c.args.self.now.timers) P T (opening_on s s1 s2 c.own_actions.ensures.opening c.go_on.ensures.base) h.settled h.stands;
         limit = c.go_on.ensures.limit ∙ h.limit;
       };
       no_work = c.in_ok-revoked-in-Ok-Made.ensures.done;

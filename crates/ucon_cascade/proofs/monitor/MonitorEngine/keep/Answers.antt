@@ -1,6 +1,9 @@
-use Rattle.std.proofs.Common.{◌≡◌, ◌∙◌, ap, subst, sym}
+use Rattle.std.proofs.Common.{◌≡◌, ◌∙◌, ℤ, List, ap, subst, sym}
+use Rattle.std.specs.Prelude.{Option}
 use Rattle.ucon_model.specs.Block.{after}
 use Rattle.ucon_state.specs.Shown.{Shown, kept, shown}
+use Rattle.ucon_readers.specs.Timers.{deadlines_in}
+use Rattle.ucon_wheel.specs.Deadlines.{deadline_of}
 use Rattle.ucon_cascade.specs.Monitor.{Stands}
 use Rattle.ucon_readers.specs.Readers.{first_of, readers_at}
 use Rattle.ucon_cascade.proofs.Monitored.{stands_kept, stands_like}
@@ -11,14 +14,14 @@ returns-clause-follows c = λ P T e h.
     let s = shown c.args.self.now.state in
     let r = c.args.self.now.readers in
     let r' = c.keep-2.new.self in
-    let v = c.args.self.now.timers.wheel in
-    let w = c.keep-3.new.self.wheel in
+    let ds = deadlines_in c.args.self.now.timers in
+    let es = deadlines_in c.keep-3.new.self in
     let U = after P T e.caller e.command in
     let is : shown c.keep.new.self ≡ kept s = c.keep.ensures in
     record {
-      stands = subst (λ (x : Shown). Stands x (readers_at r') (first_of r') w P U) (sym is)
-          (stands_like (kept s) (readers_at r) (readers_at r') (first_of r) (first_of r') v w P U c.keep-2.ensures.read c.keep-2.ensures.firsts c.keep-3.ensures.wheel
-          (stands_kept s (readers_at r) (first_of r) v P U h.stands));
+      stands = subst (λ (x : Shown). Stands x (readers_at r') (first_of r') es P U) (sym is)
+          (stands_like (kept s) (readers_at r) (readers_at r') (first_of r) (first_of r') ds es P U c.keep-2.ensures.read c.keep-2.ensures.firsts (λ n. ap (λ (ds : List (Option ℤ)). deadline_of ds n) c.keep-3.ensures.deadlines)
+          (stands_kept s (readers_at r) (first_of r) ds P U h.stands));
       settled = record {
         policy = ap (λ (x : Shown). x.opening_policy) is ∙ sym (ap (λ (x : Shown). x.policy) is);
         tables = ap (λ (x : Shown). x.opening) is ∙ sym (ap (λ (x : Shown). x.tables) is);
