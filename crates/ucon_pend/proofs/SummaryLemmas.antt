@@ -54,6 +54,12 @@ module _ (lower upper : List ℕ) (sums : Summarizes lower upper) where
     pub Summarizes-clear : SetsBit lower lower' n 0 → get_or lower' (n / 64) 0 ≡ 0 → SetsBit upper upper' (n / 64) 0 → Summarizes lower' upper'
     Summarizes-clear down none = told-change 0 0 down (omega arith)
 
+  -- where the word below had a bit, the upper row tells of one more
+  pub Summarizes-more : (lower' : List ℕ) (n : ℕ) → get_or lower (n / 64) 0 ≢ 0 → SetsBit lower lower' n 1 → Summarizes lower' upper
+  Summarizes-more lower' n had down =
+      told-change lower' upper n 1 1 down (omega (arith, some_from_bit lower' n down.changed))
+      (record { same_length = refl; changed = omega (arith, sums.told (n / 64)); others = λ _ _. refl; other_words = λ _ _. refl })
+
   -- where the word below has another bit, the upper row stays as it is
   pub Summarizes-left : (lower' : List ℕ) (n : ℕ) → bit lower n ≡ 1 → SetsBit lower lower' n 0 → get_or lower' (n / 64) 0 ≢ 0 → Summarizes lower' upper
   Summarizes-left lower' n set down some =

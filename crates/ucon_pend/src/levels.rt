@@ -62,17 +62,20 @@ impl Levels {
         Some(self.numbers.least_in(word))
     }
 
-    /// Sets a bit, and the bits above that tell of it.
+    /// Sets a bit, and where its word had none the bits above that tell of it.
     pub(crate) fn set(&mut self, n: usize)
         requires { n / 64 < length self.old }
         ensures { SetsBit self.old self.new n 1 }
     {
         let word = n / WORD;
-        let block = word / WORD;
+        let had_none = self.numbers.is_clear(word);
         self.numbers.set(n);
-        self.words.set(word);
-        self.blocks.set(block);
-        self.top.set(block / WORD);
+        if had_none {
+            let block = word / WORD;
+            self.words.set(word);
+            self.blocks.set(block);
+            self.top.set(block / WORD);
+        }
     }
 
     /// Clears a bit that is set, and goes up as long as a word is left with no bit.
