@@ -7,7 +7,7 @@ use Rattle.ucon_wheel.specs.Deadlines.{AreAlike, deadline_of}
 use Rattle.ucon_wheel.specs.Owned.{undone}
 use Rattle.ucon_wheel.specs.declared.owned.Change.{Change}
 
-pub length-undone : (cs : List Change) (ds : List (Option ℤ)) → length (undone cs ds) ≡ length ds
+length-undone : (cs : List Change) (ds : List (Option ℤ)) → length (undone cs ds) ≡ length ds
 length-undone [] ds = refl
 length-undone (c ∷ cs) ds = length-set (undone cs ds) c.session c.before ∙ length-undone cs ds
 
