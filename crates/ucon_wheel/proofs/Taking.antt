@@ -59,6 +59,13 @@ session_of d x n m same = ap (λ (e : Entry). e.0.1) same
 deadline_in : (d x : ℤ) (n m : ℕ) → entry d n ≡ entry x m → d ≡ x
 deadline_in d x n m same = ap (λ (e : Entry). e.0.0) same
 
+-- what changes no deadline and no entry
+pub kept_sound : (owned after : Deadlines) (old new : Queued) → IsSound owned old → AreAlike owned.now after.now → AreAlike owned.opening after.opening → new.waiting ≡ old.waiting → new.taken ≡ old.taken → IsSound after new
+kept_sound owned after old new s now opening waiting taken = record {
+  now = λ m x is. rw waiting (s.now m x (sym (now m) ∙ is));
+  opening = λ m x is. rw (waiting, taken) (s.opening m x (sym (opening m) ∙ is));
+}
+
 -- the entry of a session that then has no deadline
 pub due_taken : (owned after : Deadlines) (old new : Queued) (d : ℤ) (n : ℕ) → IsSound owned old → Takes (entry d n) old new → Gives owned.now after.now n None → AreAlike owned.opening after.opening → IsSound after new
 due_taken owned after old new d n s t gives alike = record {

@@ -5,7 +5,7 @@ use mir.Val.{SFits}
 use Rattle.ucon_wheel.specs.Deadlines.{deadline_of, passed}
 use Rattle.ucon_wheel.specs.Entries.{entry}
 use Rattle.ucon_wheel.proofs.Counting.{passed-below}
-use Rattle.ucon_wheel.proofs.Taking.{due_taken, nobodys_taken, shorter, takes_first}
+use Rattle.ucon_wheel.proofs.Taking.{due_taken, kept_sound, nobodys_taken, shorter, takes_first}
 use Rattle.ucon_wheel.proofs.wheel.Wheel.take_due.Goals as goal
 
 pub invariant_of-self-then-has : goal.invariant_of-self-then-has
@@ -15,6 +15,12 @@ invariant_of-self-then-has c =
     let e = entry c.in-Some.deadline c.in-Some.session in
     let takes = takes_first e before.queue c.make_room.new.self c.take_first.new.self room.waiting room.taken c.in-Some.ensures.first c.take_first.ensures.taken c.take_first.ensures.rest in
     due_taken before.owned c.set.new.self before.queue c.take_first.new.self c.in-Some.deadline c.in-Some.session c.loop-deadline.invariant.sound takes c.in_ok-set.ensures.gives c.set.ensures.opening
+
+pub invariant_of-self-in_err-set : goal.invariant_of-self-in_err-set
+invariant_of-self-in_err-set c =
+    let before = c.loop-deadline.self-inside in
+    let room = c.make_room.ensures in
+    kept_sound before.owned c.set.new.self before.queue c.make_room.new.self c.loop-deadline.invariant.sound c.in_err-set.ensures.err c.set.ensures.opening room.waiting room.taken
 
 pub returns-then-has-clause-fewer : goal.returns-then-has-clause-fewer
 returns-then-has-clause-fewer c =
