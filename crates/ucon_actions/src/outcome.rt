@@ -7,7 +7,7 @@ use ucon_base::{NoMemory, Value};
 use ucon_model::{Head, Refusal, SessionState};
 
 /// The command reads, or it made actions.
-#[derive(Debug, Drop)]
+#[derive(Drop)]
 pub enum Outcome {
     Value(Value),
     Status(u32, SessionState),

@@ -1,6 +1,6 @@
 -- Lines that amend: their first word, their length, and their cuts.
 use Rattle.std.proofs.Common.{◌≡◌, ℕ, ◌+◌, ◌≤◌, Bool, true, false, cond, List, [], ◌∷◌, ◌++◌, length, drop, map, Some, None, Ok, Err, subst, refl, sym, ap, ◌∙◌}
-use Rattle.std.specs.Prelude.{Option, Result, IfSome, IsOk, codes, nat_eq, option_map}
+use Rattle.std.specs.Prelude.{Option, Result, IfSome, codes, nat_eq, option_map}
 use Rattle.std.specs.List.{starts_with}
 use Rattle.std.specs.Str.{bytes_eq}
 use Rattle.std.proofs.lemmas.Bool.{false≢true, le-leb}
@@ -97,10 +97,6 @@ amend_said line w at is =
     let f = first_at line at in
     ap (amend_words accepted line) (is ∙ ap (λ (ws : List Word). w ∷ ws) f.1.1)
 
-ok_is : {A : Type 0} (r : Result A LineRefusal) → IsOk r → (x : A) × (r ≡ Ok x)
-ok_is (Ok x) h = (x, refl)
-ok_is (Err f) h = absurd (false≢true h)
-
 made_refused : (r : Result Amendment LineRefusal) (f : LineFault) → IsRefusal r f → IsRefusal (made Amend r) f
 made_refused r (faults.TooLong n) h = ap (made Amend) h
 made_refused r faults.NoWord h = ap (made Amend) h
@@ -119,11 +115,10 @@ module _ (line : Bytes) (second : Option ℕ) (at : ℕ) (rest : Word) (is : IsS
   within : at ≤ length line
   within = let Within : Option ℕ → Type 0 = λ o. IfSome o (λ i. i ≤ length line) in subst Within here is.within
 
-  pub amend_cut : IsOk (said (amendment_in accepted) rest) → AreCuts (cuts.Amend at) line (amend_words accepted line (words_of line))
-  amend_cut policy =
-      let told = ok_is _ policy in
-      cuts_give (cuts.Amend at) line _ (Amend told.0) (amend_rest ∙ ap (made Amend) told.1)
-      (ap (option_map Amend) (sym (ap (λ (w : Word). amendment_in accepted w.text) same) ∙ said_is (amendment_in accepted rest.text) (bad_word rest.at) told.0 told.1))
+  pub amend_cut : (a : Amendment) → said (amendment_in accepted) rest ≡ Ok a → AreCuts (cuts.Amend at) line (amend_words accepted line (words_of line))
+  amend_cut a told =
+      cuts_give (cuts.Amend at) line _ (Amend a) (amend_rest ∙ ap (made Amend) told)
+      (ap (option_map Amend) (sym (ap (λ (w : Word). amendment_in accepted w.text) same) ∙ said_is (amendment_in accepted rest.text) (bad_word rest.at) a told))
       (le-leb at (length line) within)
 
   pub amend_refused : (f : LineFault) → IsRefusal (said (amendment_in accepted) rest) f → IsRefusal (amend_words accepted line (words_of line)) f

@@ -17,7 +17,7 @@ use ucon_model::Command;
 
 /// A line that is known to spell a command, and where the command's words stand in it. It takes 24 bytes of memory, and not the room of the longest
 /// command.
-#[derive(Clone, Copy, Debug)]
+#[derive(Clone, Copy)]
 pub struct CommandLine<'a> {
     pub text: &'a [u8],
     cuts: Cuts,
@@ -36,10 +36,8 @@ impl<'a> CommandLine<'a> {
         ensures sure { IsFalse (amends text.now) → IfErr result (IsSure (line_read accepted text.now)) }
         ensures long { most_bytes text.now < length text.now → result ≡ Err (LineFault.TooLong (length text.now)) }
     {
-        match cuts_of(alloc, text) {
-            Ok(cuts) => Ok(CommandLine { text, cuts }),
-            Err(fault) => Err(fault),
-        }
+        let cuts = cuts_of(alloc, text)?;
+        Ok(CommandLine { text, cuts })
     }
 
     /// The command. It is built where it is used, and not copied there.

@@ -250,10 +250,8 @@ pub fn amend_words(alloc: Global, line: &[u8], second: Option<usize>) -> Result<
     let Some(policy) = second else {
         return Err(LineFault::WrongCount(word_count(line)));
     };
-    match amendment_word(alloc, &last_word(line, policy)) {
-        Ok(()) => Ok(Cuts::Amend {
-            policy: policy as u32,
-        }),
-        Err(fault) => Err(fault),
-    }
+    amendment_word(alloc, &last_word(line, policy))?;
+    Ok(Cuts::Amend {
+        policy: policy as u32,
+    })
 }

@@ -1,6 +1,6 @@
 //! What a word of a command says, by its kind.
 
-ghost use Rattle.std.specs.Prelude.{◌≡◌, IfOk, IsOk, IsTrue, MatchResult};
+ghost use Rattle.std.specs.Prelude.{◌≡◌, IfOk, IsTrue, MatchResult};
 ghost use Rattle.ucon_base.specs.NameBytes.{is_name};
 ghost use Rattle.ucon_model.specs.CommandLine.{side_in, name_in, value_in, integer_in, number_in, amendment_in, said};
 ghost use Rattle.ucon_syntax.specs.Policies.{accepted};
@@ -11,6 +11,7 @@ use crate::amendment::amendment_in;
 use crate::line_fault::LineFault;
 use std::alloc::Global;
 use ucon_base::{Int, Side, Value};
+use ucon_model::Amend;
 use ucon_reply::{Word, integer_in, is_name, number_in, value_in};
 
 fn side_in(bytes: &[u8]) -> Option<Side>
@@ -74,14 +75,11 @@ pub fn number_word(alloc: Global, w: &Word<'_>) -> Result<u32, LineFault>
     number_in(alloc, w.text).ok_or(LineFault::BadWord(w.at))
 }
 
-/// That a word spells an amendment's policy.
-pub fn amendment_word(alloc: Global, w: &Word<'_>) -> Result<(), LineFault>
+/// The amendment whose policy a word spells.
+pub fn amendment_word(alloc: Global, w: &Word<'_>) -> Result<Amend, LineFault>
     ensures { MatchResult result
-        (λ _. IsOk (said (amendment_in accepted) (word_of w.now)))
+        (λ a. said (amendment_in accepted) (word_of w.now) ≡ Ok a)
         (IsRefusal (said (amendment_in accepted) (word_of w.now))) }
 {
-    match amendment_in(alloc, w.text)? {
-        Some(_) => Ok(()),
-        None => Err(LineFault::BadWord(w.at)),
-    }
+    amendment_in(alloc, w.text)?.ok_or(LineFault::BadWord(w.at))
 }

@@ -11,7 +11,7 @@ use ucon_base::{Int, Text, TextSet, Value};
 use ucon_model::Op;
 
 /// A value that is read where it lies.
-#[derive(Debug, Drop)]
+#[derive(Drop)]
 pub enum Worth<'a> {
     Int(Int),
     Text(&'a Text),

@@ -10,7 +10,7 @@ use std::marker::Model;
 use ucon_base::NoMemory;
 
 /// What a draft has done to the lists.
-#[derive(Clone, Copy, Debug)]
+#[derive(Clone, Copy)]
 pub enum Change {
     /// A list was joined that nobody had joined before: that of this leader.
     Founded(u32),

@@ -8,7 +8,7 @@ ghost use Rattle.ucon_lists.specs.Table.{IsSound, after, before, gap_of, linked,
 use ucon_base::NoMemory;
 
 /// A session that is in the list of a leader, with its neighbours there. One without a leader is in no list.
-#[derive(Clone, Copy, Debug)]
+#[derive(Clone, Copy)]
 pub struct Member {
     pub leader: Option<u32>,
     pub previous: Option<u32>,
@@ -16,14 +16,14 @@ pub struct Member {
 }
 
 /// A gap in a list between neighbours, where none stands for the list's end on that side.
-#[derive(Clone, Copy, Debug)]
+#[derive(Clone, Copy)]
 pub struct Gap {
     pub previous: Option<u32>,
     pub next: Option<u32>,
 }
 
 /// The ends of a leader's list. Of one that wasn't joined nothing is kept.
-#[derive(Clone, Copy, Debug)]
+#[derive(Clone, Copy)]
 pub struct Ends {
     pub is_joined: bool,
     pub first: Option<u32>,

@@ -11,7 +11,7 @@ use ucon_base::NoMemory;
 pub(crate) const WORD: usize = 64;
 
 /// A row of bits, seen as its words.
-#[derive(Debug, Drop)]
+#[derive(Drop)]
 pub(crate) struct Level {
     words: Vec<u64>,
 }

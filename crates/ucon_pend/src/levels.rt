@@ -12,7 +12,7 @@ use ucon_base::NoMemory;
 /// A row of at most 64 * 64 * 64 words, seen as its words. `numbers` is the row, `words` has a
 /// bit for each word of `numbers`, `blocks` for each of `words`, and `top`, which is one word,
 /// for each of `blocks`.
-#[derive(Debug, Drop)]
+#[derive(Drop)]
 pub(crate) struct Levels {
     numbers: Level,
     words: Level,

@@ -12,7 +12,7 @@ use ucon_base::NoMemory;
 ///
 /// `put` and `pop_least` read and write at most one word in each of four levels. Once the set
 /// is made nothing takes memory.
-#[derive(Debug, Drop)]
+#[derive(Drop)]
 pub struct Pend {
     limit: u32,
     levels: Levels,

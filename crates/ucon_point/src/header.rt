@@ -19,7 +19,7 @@ use ucon_syntax::{SyntaxFault, read_policy};
 const MOST_BYTES: u64 = 65536;
 
 /// A policy, and its text.
-#[derive(Debug, Drop)]
+#[derive(Drop)]
 pub struct PolicyText {
     pub text: Rows<u8>,
     pub policy: Checked,

@@ -1,7 +1,7 @@
 //! By what lists of sessions that may be judged alike are found.
 
 /// What sessions that share a judgement have in common, by number: their right and, on each side that it reads, their entity.
-#[derive(Clone, Copy, Debug, PartialEq, Eq, Hash)]
+#[derive(Clone, Copy, PartialEq, Eq, Hash)]
 pub struct Kind {
     /// The number of their right.
     pub right: u32,

@@ -10,7 +10,7 @@ use ucon_base::{Kind, Name, Side, Value};
 use ucon_model::{AttrDecl, EnvDecl, Policy};
 
 /// The sorts of rows, in the order in which they come. The values of an entity's attributes are of its sort.
-#[derive(Clone, Copy, Debug, PartialEq, Eq)]
+#[derive(Clone, Copy)]
 pub enum Stage {
     Variables,
     Subjects,
@@ -20,7 +20,7 @@ pub enum Stage {
 }
 
 /// How far the rows have come.
-#[derive(Clone, Copy, Debug, PartialEq, Eq)]
+#[derive(Clone, Copy)]
 pub struct Reached {
     /// The sort of the last row.
     pub stage: Stage,

@@ -4,7 +4,7 @@ use ucon_base::{Int, Name, Side, Value};
 use ucon_model::SessionRow;
 
 /// What one line behind the tick says.
-#[derive(Debug, Drop)]
+#[derive(Drop)]
 pub enum Row {
     /// A variable of the policy in force, and its value.
     Variable(Name, Value),

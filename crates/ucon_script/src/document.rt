@@ -4,7 +4,7 @@ use ucon_base::Rows;
 use ucon_model::{Caller, Command};
 
 /// A command line.
-#[derive(Debug, Drop)]
+#[derive(Drop)]
 pub struct Line {
     /// Its number in the document, whose first line has number 1.
     pub number: u32,
@@ -13,7 +13,7 @@ pub struct Line {
 }
 
 /// The command lines of a document, in order.
-#[derive(Debug, Drop)]
+#[derive(Drop)]
 pub struct Document {
     pub lines: Rows<Line>,
 }

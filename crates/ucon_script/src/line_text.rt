@@ -10,7 +10,7 @@ use ucon_model::Caller;
 
 /// A command line that was judged where it stands, below a heading of one of at most 64 clients. It takes 32 bytes of memory, and not the room of the
 /// longest command.
-#[derive(Clone, Copy, Debug)]
+#[derive(Clone, Copy)]
 pub struct LineText<'a> {
     /// The line, without its newline.
     pub command: CommandLine<'a>,
@@ -37,7 +37,7 @@ impl<'a> LineText<'a> {
 }
 
 /// The command lines of a document, in order, where they stand in its bytes.
-#[derive(Debug, Drop)]
+#[derive(Drop)]
 pub struct Script<'a> {
     pub lines: Rows<LineText<'a>>,
 }

@@ -19,7 +19,7 @@ use ucon_model::Caller;
 const MOST_LINES: u32 = 262_144;
 
 /// Reads a script's lines one by one, in their order.
-#[derive(Debug, Drop)]
+#[derive(Drop)]
 pub struct ScriptReader {
     /// The number of the next line in the document, whose first line has number 1.
     pub number: u32,

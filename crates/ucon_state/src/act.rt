@@ -3,7 +3,7 @@
 use ucon_base::Name;
 
 /// Who did what to which object.
-#[derive(Clone, Copy, Debug, PartialEq, Eq, Hash)]
+#[derive(Clone, Copy, PartialEq, Eq, Hash)]
 pub struct Act {
     pub subject: Name,
     pub action: Name,

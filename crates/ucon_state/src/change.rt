@@ -8,7 +8,7 @@ use ucon_base::{Int, Side, Value};
 use ucon_model::SessionState;
 
 /// One change, by what it wrote over or how much was there before.
-#[derive(Debug, Drop)]
+#[derive(Drop)]
 pub enum Change {
     /// An entity of the side was added last, when there were so many cells.
     Entity(Side, usize),

@@ -1,7 +1,7 @@
 //! How much a state holds.
 
 /// How many there are of each sort.
-#[derive(Clone, Copy, Debug, PartialEq, Eq)]
+#[derive(Clone, Copy)]
 pub struct Counts {
     pub subjects: u32,
     pub objects: u32,

@@ -20,7 +20,7 @@ use ucon_base::{NoMemory, Steps};
 use ucon_model::{Caller, Checked, Command, Reply, SessionState};
 
 /// The reply to a command, and whether a change is now pending.
-#[derive(Debug, Drop)]
+#[derive(Drop)]
 pub struct Drafted {
     pub reply: Reply,
     pub changes: bool,

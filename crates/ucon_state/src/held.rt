@@ -11,7 +11,7 @@ use crate::state::State;
 use ucon_base::{Int, Name, Side};
 
 /// An act, and the tick at which it was last done.
-#[derive(Clone, Copy, Debug, PartialEq, Eq)]
+#[derive(Clone, Copy)]
 pub struct ActRow {
     pub subject: Name,
     pub action: Name,

@@ -8,7 +8,7 @@ ghost use Rattle.ucon_state.specs.Tables.{session_in};
 use crate::state::State;
 
 /// The numbers of a session's right, its subject and its object.
-#[derive(Clone, Copy, Debug, PartialEq, Eq)]
+#[derive(Clone, Copy)]
 pub struct Numbers {
     pub right: u32,
     pub subject: u32,

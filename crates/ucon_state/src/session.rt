@@ -4,7 +4,7 @@ use ucon_base::Int;
 use ucon_model::{Caller, SessionState};
 
 /// A session by the numbers of its right, its subject and its object.
-#[derive(Clone, Copy, Debug, PartialEq, Eq)]
+#[derive(Clone, Copy)]
 pub struct Session {
     pub caller: Caller,
     pub state: SessionState,

@@ -1,9 +1,11 @@
+ghost use Rattle.std.specs.Prelude.{◌≤◌, length};
+
 use std::alloc::Global;
 use std::process::Abort;
 use std::test::Fail;
 use ucon_command::LineFault;
 use ucon_model::{Caller, Command};
-use ucon_script::{DocFault, Document, Line, Script, policy_part, read_document, read_script};
+use ucon_script::{DocFault, Line, policy_part, read_document, read_script};
 
 /// What a document may have.
 const MOST_BYTES: usize = 4_194_304;
@@ -40,7 +42,11 @@ fn seen(line: &Line) -> (u32, u8, u32) {
     }
 }
 
-fn all_seen(alloc: Global, document: &Document) -> Result<Vec<(u32, u8, u32)>, Fail> {
+/// The lines of a document as it is read whole.
+fn all_seen(alloc: Global, text: &[u8]) -> Result<Vec<(u32, u8, u32)>, Fail>
+    requires { length text.now ≤ 4194304 }
+{
+    let document = read_document(alloc, text)?;
     let mut all = Vec::new(alloc);
     for line in document.lines.slice() {
         all.push(seen(line))?;
@@ -48,7 +54,11 @@ fn all_seen(alloc: Global, document: &Document) -> Result<Vec<(u32, u8, u32)>, F
     Ok(all)
 }
 
-fn all_seen_in_place(alloc: Global, script: &Script<'_>) -> Result<Vec<(u32, u8, u32)>, Fail> {
+/// The lines of a document where they stand.
+fn all_seen_in_place(alloc: Global, text: &[u8]) -> Result<Vec<(u32, u8, u32)>, Fail>
+    requires { length text.now ≤ 4194304 }
+{
+    let script = read_script(alloc, text)?;
     let mut all = Vec::new(alloc);
     for text in script.lines.slice() {
         all.push(seen(&text.line(alloc)?))?;
@@ -59,18 +69,14 @@ fn all_seen_in_place(alloc: Global, script: &Script<'_>) -> Result<Vec<(u32, u8,
 #[test]
 fn lines_stand_where_they_are(rt: HostRuntime) -> Result<(), Fail> {
     let text = b"right r {}\n%%\n\nclient 3\nlook 7\n# look 8\nend 1".as_slice();
-    match read_script(rt.alloc(), text) {
-        Ok(script) => match script.lines.slice() {
-            [first, second] => {
-                assert!(rt; first.command.text == b"look 7".as_slice());
-                assert!(rt; second.command.text == b"end 1".as_slice());
-                assert_eq!(rt; (first.number, second.number), (5, 7));
-                assert_eq!(rt; (first.caller, second.caller), (Caller(3), Caller(3)));
-            }
-            lines => assert!(rt; false, "{lines:?}"),
-        },
-        Err(fault) => assert!(rt; false, "{fault:?}"),
-    }
+    let script = read_script(rt.alloc(), text)?;
+    let [first, second] = script.lines.slice() else {
+        return Err("two lines".into());
+    };
+    assert!(rt; first.command.text == b"look 7".as_slice());
+    assert!(rt; second.command.text == b"end 1".as_slice());
+    assert!(rt; first.number == 5 && second.number == 7);
+    assert!(rt; first.caller == Caller(3) && second.caller == Caller(3));
     Ok(())
 }
 
@@ -102,21 +108,9 @@ fn lines_have_their_numbers_and_clients(rt: HostRuntime) -> Result<(), Fail> {
     let alloc = rt.alloc();
     for &(text, lines) in SEEN {
         assert!(rt; text.len() <= MOST_BYTES);
-        match read_document(alloc, text) {
-            Ok(document) => {
-                assert!(rt; all_seen(alloc, &document)?.as_slice() == lines, "{text:?}");
-            }
-            Err(fault) => assert!(rt; false, "{text:?} {fault:?}"),
-        }
-        match read_script(alloc, text) {
-            Ok(script) => {
-                assert!(rt;
-                    all_seen_in_place(alloc, &script)?.as_slice() == lines,
-                    "{text:?}"
-                );
-            }
-            Err(fault) => assert!(rt; false, "{text:?} {fault:?}"),
-        }
+        assert!(rt; all_seen(alloc, text)?.as_slice() == lines, "{text:?}");
+        let in_place = all_seen_in_place(alloc, text)?;
+        assert!(rt; in_place.as_slice() == lines, "{text:?}");
     }
     Ok(())
 }
@@ -208,22 +202,16 @@ fn as_many_lines_and_bytes_as_there_may_be(rt: HostRuntime) -> Result<(), Fail> 
     for _ in 0..262_144 {
         text.extend_from_slice(b"look 1\n")?;
     }
-    assert_eq!(rt; fault(alloc, &rt, &text), None);
+    assert!(rt; fault(alloc, &rt, &text).is_none());
     text.extend_from_slice(b"#\nclient 2\n\nfly\nclient 64\n")?;
-    assert_eq!(rt;
-        fault(alloc, &rt, &text),
-        Some(DocFault::TooManyLines(262_150))
-    );
+    assert!(rt; fault(alloc, &rt, &text) == Some(DocFault::TooManyLines(262_150)));
 
     let mut text = Vec::from_slice(alloc, b"%%\n")?;
     for _ in 0..4_194_292 {
         text.push(b'\n')?;
     }
     text.extend_from_slice(b"client 64")?;
-    assert_eq!(rt; text.len(), MOST_BYTES);
-    assert_eq!(rt;
-        fault(alloc, &rt, &text),
-        Some(DocFault::TooManyClients(4_194_294))
-    );
+    assert!(rt; text.len() == MOST_BYTES);
+    assert!(rt; fault(alloc, &rt, &text) == Some(DocFault::TooManyClients(4_194_294)));
     Ok(())
 }

@@ -6,7 +6,7 @@ ghost use Rattle.ucon_token.specs.Tokens.{code, is_symbol, is_word, is_joined, w
 
 use ucon_base::{Int, Name, Text};
 
-#[derive(Clone, Copy, Debug)]
+#[derive(Clone, Copy)]
 pub enum Symbol {
     Colon,
     Semicolon,
@@ -31,7 +31,7 @@ pub enum Symbol {
 }
 
 /// Why bytes are no token.
-#[derive(Clone, Copy, Debug)]
+#[derive(Clone, Copy)]
 pub enum Flaw {
     /// A byte that may not stand there.
     Unknown,
@@ -41,7 +41,7 @@ pub enum Flaw {
     Misplaced,
 }
 
-#[derive(Clone, Copy, Debug)]
+#[derive(Clone, Copy)]
 pub enum Token {
     Word(Name),
     Number(Int),

@@ -8,7 +8,7 @@ use ucon_base::{Int, Name, Rows, Value};
 use ucon_model::{Ref, Test, Verdict};
 
 /// What a predicate decides by: an authorisation (A), an obligation (B) or a condition (C).
-#[derive(Clone, Copy, Debug, PartialEq, Eq)]
+#[derive(Clone, Copy)]
 pub enum Factor {
     Authorisation,
     Obligation,
@@ -16,7 +16,7 @@ pub enum Factor {
 }
 
 /// One thing that a predicate reads.
-#[derive(Debug, Drop)]
+#[derive(Drop)]
 pub enum Fact {
     /// What a place holds.
     Value {
@@ -35,7 +35,7 @@ pub enum Fact {
 }
 
 /// A predicate before the usage, with what it comes to.
-#[derive(Debug, Drop)]
+#[derive(Drop)]
 pub struct Why {
     /// Its number among all predicates of the right, from 0.
     pub pred: u32,
@@ -47,7 +47,7 @@ pub struct Why {
 }
 
 /// What the try of a right by a subject on an object would meet: each predicate before the usage in written order, and the verdict.
-#[derive(Debug, Drop)]
+#[derive(Drop)]
 pub struct Explanation {
     pub subject: Name,
     pub right: Name,

@@ -7,7 +7,7 @@ use ucon_base::NoMemory;
 use ucon_journal::TakeFault;
 
 /// Why a record was not taken.
-#[derive(Clone, Copy, Debug, PartialEq, Eq)]
+#[derive(Clone, Copy)]
 pub enum RecordFault {
     /// It is too long, or gone since it was passed: its number, from 0, and the place of its gate, in bytes.
     Damaged { number: u64, place: u64 },
