@@ -35,9 +35,11 @@ use Rattle.ucon_model.specs.contracts.policy.Test as Test
 use Rattle.ucon_model.specs.contracts.policy.Update as Update
 use Rattle.ucon_state.proofs.change.Change.TheSendSync as change
 use Rattle.ucon_state.proofs.layout.Layout.TheSendSync as layout
+use Rattle.ucon_state.proofs.planned.Plans.TheSendSync as plans
 use Rattle.ucon_state.proofs.tables.Tables.TheSendSync as tables
 use Rattle.ucon_state.specs.contracts.change.Before as Before
 use Rattle.ucon_state.specs.contracts.change.Undo as Undo
+use Rattle.ucon_state.specs.contracts.planned.Planned as Planned
 use Rattle.ucon_state.specs.contracts.state.State as State
 
 expr_field_sync : IsSync (Expr.the_field).row
@@ -73,8 +75,11 @@ policy_field_sync = struct_sync (structs.shape Policy.the_type) (rows.the_sync A
 checked_field_sync : IsSync (Checked.the_field).row
 checked_field_sync = struct_sync (structs.shape Checked.the_type) (policy_field_sync, tt)
 
+planned_field_sync : IsSync (Planned.the_field).row
+planned_field_sync = struct_sync (structs.shape Planned.the_type) (checked_field_sync, (plans.the_field_sync, tt))
+
 before_field_sync : IsSync (Before.the_field).row
-before_field_sync = struct_sync (structs.shape Before.the_type) (checked_field_sync, (layout.the_field_sync, tt))
+before_field_sync = struct_sync (structs.shape Before.the_type) (planned_field_sync, (layout.the_field_sync, tt))
 
 before_sync : IsSync Before.the_row
 before_sync = recorded_sync (Before.the_field).row _ _ (Before.the_type).to_one before_field_sync
@@ -86,7 +91,7 @@ undo_sync : IsSync Undo.the_row
 undo_sync = recorded_sync (Undo.the_field).row _ _ (Undo.the_type).to_one undo_field_sync
 
 state_field_sync : IsSync (State.the_field).row
-state_field_sync = struct_sync (structs.shape State.the_type) (global.the_field_sync, (checked_field_sync, (tables.the_field_sync, (vec.the_sync Name.the_row Global.the_row ghosts name.the_sync global.the_sync, (search (crosses, sendable) depth 30 fits 4000, (vec.the_sync Undo.the_row Global.the_row ghosts undo_sync global.the_sync, tt))))))
+state_field_sync = struct_sync (structs.shape State.the_type) (global.the_field_sync, (planned_field_sync, (tables.the_field_sync, (vec.the_sync Name.the_row Global.the_row ghosts name.the_sync global.the_sync, (search (crosses, sendable) depth 30 fits 4000, (vec.the_sync Undo.the_row Global.the_row ghosts undo_sync global.the_sync, tt))))))
 
 pub state_sync : IsSync State.the_row
 state_sync = recorded_sync (State.the_field).row _ _ (State.the_type).to_one state_field_sync

@@ -4,6 +4,8 @@ pub mod Entities
 pub mod Acts
 pub mod Sounds
 pub mod Places
+mod Planning
+mod Meeting
 pub mod Moves
 pub mod Numbered
 pub mod Following

@@ -6,6 +6,7 @@ pub mod Sound
 pub mod Views
 pub mod Shown
 pub mod Numbers
+pub mod Planned
 pub mod Following
 pub mod Engine
 pub mod Held

@@ -1,5 +1,4 @@
 -- The names that a session's numbers stand for.
-use Rattle.std.specs.Prelude.{List}
 use Rattle.ucon_model.specs.declared.session.SessionRow.{SessionRow}
 use Rattle.ucon_model.specs.Plain.{Bytes}
 use Rattle.ucon_state.specs.declared.numbers.Numbers.{Numbers}

@@ -33,7 +33,7 @@ abbrev pub right_names : State → List Bytes
 right_names s = s.rights.items
 
 abbrev pub shown : State → Shown
-shown s = showing (checked_policy s.checked) (right_names s) (lists_of s.tables) s.changes.items
+shown s = showing (checked_policy s.planned.checked) (right_names s) (lists_of s.tables) s.changes.items
 
 -- the name of the right, the subject or the object with this number
 abbrev pub right_name : State → ℕ → Bytes

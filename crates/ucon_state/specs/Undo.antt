@@ -38,7 +38,7 @@ tables_before (Replaced b) t = with_layout b.value.layout t
 -- the policy before
 abbrev pub policy_before : Undo → PlainPolicy → PlainPolicy
 policy_before (Changed c) P = P
-policy_before (Replaced b) P = checked_policy b.value.checked
+policy_before (Replaced b) P = checked_policy b.value.planned.checked
 
 -- the tables before all of these, the oldest of which is the first: the newest is undone first
 abbrev pub all_undone : List Undo → Stored → Stored

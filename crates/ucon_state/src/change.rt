@@ -1,10 +1,11 @@
 //! What is needed to undo a change.
 
 use crate::layout::Layout;
+use crate::planned::Planned;
 use crate::tables::Tables;
 use std::mem;
 use ucon_base::{Int, Side, Value};
-use ucon_model::{Checked, SessionState};
+use ucon_model::SessionState;
 
 /// One change, by what it wrote over or how much was there before.
 #[derive(Debug, Drop)]
@@ -26,7 +27,7 @@ pub enum Change {
 /// A policy that was replaced, and how entities and values were laid under it.
 #[derive(Drop)]
 pub struct Before {
-    pub checked: Checked,
+    pub planned: Planned,
     pub layout: Layout,
 }
 
@@ -43,13 +44,13 @@ impl Before {
     ghost use Rattle.ucon_state.specs.Views.{lists_of, with_layout};
 
     /// The policy and the layout that are held stand there now, and those that stood there are held.
-    pub fn swap(&mut self, checked: &mut Checked, tables: &mut Tables)
-        ensures policy { checked_policy checked.new ≡ checked_policy self.old.checked }
+    pub fn swap(&mut self, planned: &mut Planned, tables: &mut Tables)
+        ensures policy { checked_policy planned.new.checked ≡ checked_policy self.old.planned.checked }
         ensures tables { lists_of tables.new ≡ with_layout self.old.layout (lists_of tables.old) }
-        ensures policy_held { checked_policy self.new.checked ≡ checked_policy checked.old }
+        ensures policy_held { checked_policy self.new.planned.checked ≡ checked_policy planned.old.checked }
         ensures layout_held { with_layout self.new.layout (lists_of tables.new) ≡ lists_of tables.old }
     {
-        mem::swap(&mut self.checked, checked);
+        mem::swap(&mut self.planned, planned);
         tables.swap_layout(&mut self.layout);
     }
 }
@@ -61,8 +62,8 @@ impl Undo {
     ghost use Rattle.ucon_state.specs.Views.{lists_of};
 
     /// Undoes the change.
-    pub fn run(self, checked: &mut Checked, tables: &mut Tables)
-        ensures policy { checked_policy checked.new ≡ policy_before self (checked_policy checked.old) }
+    pub fn run(self, checked: &mut Planned, tables: &mut Tables)
+        ensures policy { checked_policy checked.new.checked ≡ policy_before self (checked_policy checked.old.checked) }
         ensures tables { lists_of tables.new ≡ tables_before self (lists_of tables.old) }
     {
         match self {

@@ -10,6 +10,7 @@ mod held;
 mod laws;
 mod layout;
 mod numbers;
+mod planned;
 mod putting;
 mod restore_fault;
 mod session;

@@ -22,6 +22,7 @@ use crate::counts::Counts;
 use crate::defaults::{attr_defaults, env_defaults, right_names};
 use crate::held::ActRow;
 use crate::layout::Layout;
+use crate::planned::Planned;
 use crate::session::Session;
 use crate::tables::Tables;
 use std::alloc::{AllocError, Global};
@@ -35,16 +36,16 @@ pub type CellId = u32;
 #[derive(Drop)]
 pub struct State {
     alloc: Global,
-    pub(crate) checked: Checked,
+    pub(crate) planned: Planned,
     pub(crate) tables: Tables,
     /// The names of the rights that sessions may have, each at the place that is its number.
     pub(crate) rights: Vec<Name>,
     /// Whether the rights of the policy in force stand first among them, in its order: then each is at its number there, too.
     pub(crate) is_in_order: bool,
     changes: Vec<Undo>,
-    ghost sound: { AllSound (checked_policy checked) rights.items changes.items (lists_of tables) },
-    ghost has_rights: { HasRights (checked_policy checked) rights.items },
-    ghost in_order: { is_in_order ≡ true → StandFirst (checked_policy checked).rights rights.items },
+    ghost sound: { AllSound (checked_policy planned.checked) rights.items changes.items (lists_of tables) },
+    ghost has_rights: { HasRights (checked_policy planned.checked) rights.items },
+    ghost in_order: { is_in_order ≡ true → StandFirst (checked_policy planned.checked).rights rights.items },
 }
 
 impl State {
@@ -65,9 +66,10 @@ impl State {
             return Err(NoMemory::from(AllocError));
         }
         let variables = env_defaults(alloc, &checked)?;
+        let planned = Planned::new(alloc, checked)?;
         Ok(State {
             alloc,
-            checked,
+            planned,
             tables: Tables::new(alloc, variables),
             rights,
             is_in_order: true,
@@ -104,7 +106,13 @@ impl State {
         ensures declared { is_some result ≡ is_some (declared_attr (shown self.now).policy.attrs side attr.now) }
         ensures there { IfSome result (λ c. c < length (shown self.now).tables.cells) }
     {
-        let cell = cell_number(&self.checked, &self.tables, side, entity as usize, attr)?;
+        let cell = cell_number(
+            &self.planned.checked,
+            &self.tables,
+            side,
+            entity as usize,
+            attr,
+        )?;
         Some(cell as u32)
     }
 
@@ -126,7 +134,7 @@ impl State {
         ensures err { OnErr result (shown self.new ≡ shown self.old) }
     {
         let number = self.tables.entities(side).len() as u32;
-        let defaults = attr_defaults(self.alloc, &self.checked, side)?;
+        let defaults = attr_defaults(self.alloc, &self.planned.checked, side)?;
         self.changes.reserve(1)?;
         let change = self.tables.add_entity(side, name, defaults)?;
         self.changes.push_reserved(Undo::Changed(change));
@@ -151,7 +159,7 @@ impl State {
         ensures ok { OnOk result (shown self.new ≡ changed_by (shown self.old) (actions.env name.now value)) }
         ensures err { OnErr result (shown self.new ≡ shown self.old) }
     {
-        let place = self.checked.policy().env_position(name).unwrap();
+        let place = self.planned.policy().env_position(name).unwrap();
         self.changes.reserve(1)?;
         let change = self.tables.set_variable(place, value);
         self.changes.push_reserved(Undo::Changed(change));
@@ -331,10 +339,11 @@ impl State {
     {
         self.add_rights(checked.policy())?;
         let is_in_order = are_in_order(&checked, &self.rights);
-        let layout = Layout::amended(self.alloc, &self.tables, &self.checked, &checked)?;
-        let mut before = Box::new(self.alloc, Before { checked, layout })?;
+        let layout = Layout::amended(self.alloc, &self.tables, &self.planned.checked, &checked)?;
+        let planned = Planned::new(self.alloc, checked)?;
+        let mut before = Box::new(self.alloc, Before { planned, layout })?;
         self.changes.reserve(1)?;
-        before.swap(&mut self.checked, &mut self.tables);
+        before.swap(&mut self.planned, &mut self.tables);
         self.is_in_order = is_in_order;
         self.changes.push_reserved(Undo::Replaced(before));
         Ok(())
@@ -388,9 +397,9 @@ impl State {
     {
         self.is_in_order = false;
         while let Some(undo) = self.changes.pop() {
-            undo.run(&mut self.checked, &mut self.tables);
+            undo.run(&mut self.planned, &mut self.tables);
         }
-        self.is_in_order = are_in_order(&self.checked, &self.rights);
+        self.is_in_order = are_in_order(&self.planned.checked, &self.rights);
     }
 
     /// From here on undoing gives what is there now.

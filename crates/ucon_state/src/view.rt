@@ -1,16 +1,20 @@
 //! What a state gives to read.
 
-ghost use Rattle.std.specs.Prelude.{◌≡◌, ◌<◌, IsSome, is_some, length, option_and_then, option_copied, option_map, slice_get, unwrap_or};
+ghost use Rattle.std.specs.Prelude.{◌≡◌, ◌<◌, ◌≤ℤ◌, IfSome, IsSome, IsTrue, None, Some, is_some, length, option_and_then, option_copied, option_map, slice_get, unwrap_or};
+ghost use Rattle.std.specs.List.{All};
 ghost use Rattle.ucon_model.specs.Checked.{checked_policy};
-ghost use Rattle.ucon_model.specs.Decision.{right_named};
-ghost use Rattle.ucon_model.specs.Readings.{declared_attr};
+ghost use Rattle.ucon_model.specs.Decision.{failing, right_named};
+ghost use Rattle.ucon_model.specs.Plain.{Bytes};
+ghost use Rattle.ucon_model.specs.Readings.{attr_position, declared_attr};
 ghost use Rattle.ucon_model.specs.Updates.{entity_of};
 ghost use Rattle.ucon_model.specs.Views.{right_of};
 ghost use Rattle.ucon_state.specs.Views.{lists_of};
-ghost use Rattle.ucon_state.specs.Tables.{attribute_in, cell_at, cell_of, readings_in, session_in, variable_in};
+ghost use Rattle.ucon_state.specs.Planned.{IsMet, StandsAt};
+ghost use Rattle.ucon_state.specs.Tables.{attribute_in, cell_at, cell_of, place_in, readings_in, session_in, variable_in};
 ghost use Rattle.ucon_state.specs.Shown.{right_name, right_names, shown};
 ghost use Rattle.ucon_state.specs.Stored.{NumbersAreBelow, row_of};
 
+use crate::planned::Check;
 use crate::session::Session;
 use crate::state::{CellId, State, cell_number};
 use ucon_base::{Int, Name, Side, Value};
@@ -29,9 +33,15 @@ impl State {
     #[inline(always)]
     fn attribute_at(&self, side: Side, entity: u32, attr: &Name) -> Option<&Value>
         ensures { option_copied result ≡ option_and_then (slice_get (lists_of self.now.tables).cells)
-            (cell_at (checked_policy self.now.checked) (lists_of self.now.tables) side entity attr.now) }
+            (cell_at (checked_policy self.now.planned.checked) (lists_of self.now.tables) side entity attr.now) }
     {
-        let cell = cell_number(&self.checked, &self.tables, side, entity as usize, attr)?;
+        let cell = cell_number(
+            &self.planned.checked,
+            &self.tables,
+            side,
+            entity as usize,
+            attr,
+        )?;
         self.tables.cells.get(cell)
     }
 
@@ -54,7 +64,7 @@ impl State {
     pub fn variable(&self, name: &Name) -> Option<&Value>
         ensures { option_copied result ≡ variable_in (shown self.now).policy (shown self.now).tables name.now }
     {
-        let place = self.checked.policy().env_position(name)?;
+        let place = self.planned.policy().env_position(name)?;
         self.tables.variables.get(place)
     }
 
@@ -80,13 +90,95 @@ impl State {
         ensures { option_map right_of (option_copied result)
             ≡ right_named (shown self.now).policy.rights (right_name self.now number) }
     {
-        let policy = self.checked.policy();
+        let policy = self.planned.policy();
         if self.is_in_order {
             if let Some(right) = policy.rights.at(number as usize) {
                 return Some(right);
             }
         }
         policy.right(self.right_name(number))
+    }
+
+    /// Whether all that session's right asks while the usage goes on holds, so far as that is seen at once: where it answers no, all may
+    /// hold yet.
+    #[inline(always)]
+    pub fn surely_goes_on(&self, session: u32) -> bool
+        ensures { IsTrue result → failing (shown self.now).policy (readings_in (shown self.now).policy (shown self.now).tables) session ≡ None }
+    {
+        let Some(session) = self.tables.session(session) else {
+            return false;
+        };
+        if !self.is_in_order {
+            return false;
+        }
+        match self.planned.plan(session.right as usize) {
+            Some(checks) => self.are_met(session, checks),
+            None => false,
+        }
+    }
+
+    /// Whether all these checks are met for a session.
+    #[inline(always)]
+    fn are_met(&self, session: &Session, checks: &[Check]) -> bool
+        requires { NumbersAreBelow (length (right_names self.now)) (length (shown self.now).tables.subjects)
+            (length (shown self.now).tables.objects) session.now }
+        ensures { IsTrue result → All (IsMet (shown self.now).policy (readings_in (shown self.now).policy (shown self.now).tables)
+            (row_of (right_names self.now) (shown self.now).tables.subjects (shown self.now).tables.objects session.now)) checks.now }
+    {
+        for check in checks {
+            if !self.is_met(session, check) {
+                return false;
+            }
+        }
+        true
+    }
+
+    /// Whether a check is met for a session.
+    #[inline(always)]
+    fn is_met(&self, session: &Session, check: &Check) -> bool
+        requires { NumbersAreBelow (length (right_names self.now)) (length (shown self.now).tables.subjects)
+            (length (shown self.now).tables.objects) session.now }
+        ensures { IsTrue result → IsMet (shown self.now).policy (readings_in (shown self.now).policy (shown self.now).tables)
+            (row_of (right_names self.now) (shown self.now).tables.subjects (shown self.now).tables.objects session.now) check.now }
+    {
+        match check {
+            Check::Between {
+                side,
+                position,
+                low,
+                high,
+            } => match self.own_value(session, *side, *position) {
+                Some(Value::Int(n)) => is_between(*low, *high, *n),
+                _ => false,
+            },
+            Check::Lasts(n) => self.tables.tick.get() <= session.start.get() + n.get(),
+        }
+    }
+
+    /// The value of the attribute at a position among those of a session's own subject or object.
+    #[inline(always)]
+    fn own_value(&self, session: &Session, side: Side, position: usize) -> Option<&Value>
+        requires { NumbersAreBelow (length (right_names self.now)) (length (shown self.now).tables.subjects)
+            (length (shown self.now).tables.objects) session.now }
+        ensures { IfSome (option_copied result) (λ v. (place : Ref) → StandsAt (shown self.now).policy place side position
+            → place_in (shown self.now).policy (shown self.now).tables
+            (row_of (right_names self.now) (shown self.now).tables.subjects (shown self.now).tables.objects session.now) place ≡ Some v) }
+    {
+        match side {
+            Side::Subject => self.value_at(Side::Subject, session.subject, position),
+            Side::Object => self.value_at(Side::Object, session.object, position),
+        }
+    }
+
+    /// The value of the attribute at a position among those of the entity with this number.
+    #[inline(always)]
+    fn value_at(&self, side: Side, entity: u32, position: usize) -> Option<&Value>
+        ensures { IfSome (option_copied result) (λ v. (attr : Bytes) → attr_position (shown self.now).policy side attr ≡ Some position
+            → option_and_then (slice_get (shown self.now).tables.cells)
+            (cell_at (shown self.now).policy (shown self.now).tables side entity attr) ≡ Some v) }
+    {
+        let first = self.tables.first_cell(side, entity as usize)?;
+        self.tables.cells.get(first.checked_add(position)?)
     }
 
     /// A session with its names.
@@ -112,7 +204,7 @@ impl View for State {
     ghost readings = { λ s. readings_in (shown s).policy (shown s).tables };
 
     fn checked(&self) -> &Checked {
-        &self.checked
+        &self.planned.checked
     }
 
     fn session(&self, session: u32) -> Option<SessionRow> {
@@ -156,6 +248,15 @@ impl View for State {
         let object = name_or(&duty.on_object, own_object);
         self.tables.moment(subject, &duty.action, object)
     }
+}
+
+/// Whether an integer is from `low` to `high`.
+#[inline(always)]
+fn is_between(low: Int, high: Int, n: Int) -> bool
+    ensures from { IsTrue result → low ≤ℤ n }
+    ensures to { IsTrue result → n ≤ℤ high }
+{
+    low.is_at_most(n) && n.is_at_most(high)
 }
 
 /// The name that is given, or else this one.

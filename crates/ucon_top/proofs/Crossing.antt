@@ -39,9 +39,11 @@ use Rattle.ucon_model.specs.contracts.policy.Test as Test
 use Rattle.ucon_model.specs.contracts.policy.Update as Update
 use Rattle.ucon_state.proofs.change.Change.TheSendSync as change
 use Rattle.ucon_state.proofs.layout.Layout.TheSendSync as layout
+use Rattle.ucon_state.proofs.planned.Plans.TheSendSync as plans
 use Rattle.ucon_state.proofs.tables.Tables.TheSendSync as tables
 use Rattle.ucon_state.specs.contracts.change.Before as Before
 use Rattle.ucon_state.specs.contracts.change.Undo as Undo
+use Rattle.ucon_state.specs.contracts.planned.Planned as Planned
 use Rattle.ucon_state.specs.contracts.state.State as State
 
 expr_field_send : IsSend (Expr.the_field).row
@@ -77,8 +79,11 @@ policy_field_send = struct_send (structs.shape Policy.the_type) (rows.the_send A
 checked_field_send : IsSend (Checked.the_field).row
 checked_field_send = struct_send (structs.shape Checked.the_type) (policy_field_send, tt)
 
+planned_field_send : IsSend (Planned.the_field).row
+planned_field_send = struct_send (structs.shape Planned.the_type) (checked_field_send, (plans.the_field_send, tt))
+
 before_field_send : IsSend (Before.the_field).row
-before_field_send = struct_send (structs.shape Before.the_type) (checked_field_send, (layout.the_field_send, tt))
+before_field_send = struct_send (structs.shape Before.the_type) (planned_field_send, (layout.the_field_send, tt))
 
 before_send : IsSend Before.the_row
 before_send = recorded_send (Before.the_field).row _ _ (Before.the_type).to_one before_field_send
@@ -90,7 +95,7 @@ undo_send : IsSend Undo.the_row
 undo_send = recorded_send (Undo.the_field).row _ _ (Undo.the_type).to_one undo_field_send
 
 state_field_send : IsSend (State.the_field).row
-state_field_send = struct_send (structs.shape State.the_type) (global.the_field_send, (checked_field_send, (tables.the_field_send, (vec.the_send Name.the_row Global.the_row ghosts name.the_send global.the_send the_frees, (search (crosses, sendable) depth 30 fits 4000, (vec.the_send Undo.the_row Global.the_row ghosts undo_send global.the_send the_frees, tt))))))
+state_field_send = struct_send (structs.shape State.the_type) (global.the_field_send, (planned_field_send, (tables.the_field_send, (vec.the_send Name.the_row Global.the_row ghosts name.the_send global.the_send the_frees, (search (crosses, sendable) depth 30 fits 4000, (vec.the_send Undo.the_row Global.the_row ghosts undo_send global.the_send the_frees, tt))))))
 
 monitor_field_send : IsSend (Monitor.the_field).row
 monitor_field_send = struct_send (structs.shape Monitor.the_type) (global.the_field_send, (state_field_send, (readers.the_field_send, (timers.the_field_send, (search (crosses, sendable) depth 30 fits 4000, tt)))))

@@ -11,5 +11,5 @@ pub returns : goal.returns
 returns c = λ s.
     let R = right_names s in
     let t = lists_of s.tables in
-    let now = sound_now (checked_policy s.checked) R s.changes.items t s.sound in
+    let now = sound_now (checked_policy s.planned.checked) R s.changes.items t s.sound in
     subst (λ n. n ≤ 1048576) (sym (length-map t.sessions (row_of R t.subjects t.objects))) now.sessions

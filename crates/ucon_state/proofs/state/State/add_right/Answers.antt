@@ -13,7 +13,7 @@ use Rattle.ucon_state.proofs.state.State.add_right.Goals as goal
 pub invariant_of-self-2 : goal.invariant_of-self-2
 invariant_of-self-2 c =
     let s = c.args.self.now in
-    let P = checked_policy s.checked in
+    let P = checked_policy s.planned.checked in
     let R = right_names s in
     let t = lists_of s.tables in
     let few : length (R ++ c.args.name ∷ []) < 2 ^ 32 = omega (arith, length_push R c.args.name, c.if-len.false, c.len.ensures) in
@@ -27,7 +27,7 @@ invariant_of-self-2 c =
 pub returns-clause-shown : goal.returns-clause-shown
 returns-clause-shown c =
     let s = c.args.self.now in
-    let P = checked_policy s.checked in
+    let P = checked_policy s.planned.checked in
     let R = right_names s in
     let t = lists_of s.tables in
     let added = c.push_reserved.ensures.items ∙ ap (λ (names : List Bytes). names ++ c.args.name ∷ []) c.reserve.ensures.items in

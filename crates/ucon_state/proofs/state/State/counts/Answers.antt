@@ -9,7 +9,7 @@ use Rattle.ucon_state.proofs.state.State.counts.Goals as goal
 
 pub overflow_cast-result : goal.overflow_cast-result
 overflow_cast-result c =
-    let P = checked_policy c.args.self.now.checked in
+    let P = checked_policy c.args.self.now.planned.checked in
     let R = right_names c.args.self.now in
     let t = lists_of c.args.self.now.tables in
     let now = sound_now P R c.args.self.now.changes.items t c.args.self.now.sound in
@@ -18,7 +18,7 @@ overflow_cast-result c =
 
 pub overflow_cast-result-2 : goal.overflow_cast-result-2
 overflow_cast-result-2 c =
-    let P = checked_policy c.args.self.now.checked in
+    let P = checked_policy c.args.self.now.planned.checked in
     let R = right_names c.args.self.now in
     let t = lists_of c.args.self.now.tables in
     let now = sound_now P R c.args.self.now.changes.items t c.args.self.now.sound in
@@ -27,7 +27,7 @@ overflow_cast-result-2 c =
 
 pub overflow_cast-result-3 : goal.overflow_cast-result-3
 overflow_cast-result-3 c =
-    let P = checked_policy c.args.self.now.checked in
+    let P = checked_policy c.args.self.now.planned.checked in
     let R = right_names c.args.self.now in
     let t = lists_of c.args.self.now.tables in
     let now = sound_now P R c.args.self.now.changes.items t c.args.self.now.sound in
@@ -36,7 +36,7 @@ overflow_cast-result-3 c =
 
 pub overflow_cast-result-4 : goal.overflow_cast-result-4
 overflow_cast-result-4 c =
-    let P = checked_policy c.args.self.now.checked in
+    let P = checked_policy c.args.self.now.planned.checked in
     let R = right_names c.args.self.now in
     let t = lists_of c.args.self.now.tables in
     let now = sound_now P R c.args.self.now.changes.items t c.args.self.now.sound in
@@ -45,7 +45,7 @@ overflow_cast-result-4 c =
 
 pub overflow_cast-result-5 : goal.overflow_cast-result-5
 overflow_cast-result-5 c =
-    let P = checked_policy c.args.self.now.checked in
+    let P = checked_policy c.args.self.now.planned.checked in
     let R = right_names c.args.self.now in
     let t = lists_of c.args.self.now.tables in
     let now = sound_now P R c.args.self.now.changes.items t c.args.self.now.sound in

@@ -8,7 +8,7 @@ use Rattle.ucon_state.proofs.state.State.find.Goals as goal
 
 pub overflow_cast-result : goal.overflow_cast-result
 overflow_cast-result c =
-    let P = checked_policy c.args.self.now.checked in
+    let P = checked_policy c.args.self.now.planned.checked in
     let R = right_names c.args.self.now in
     let t = lists_of c.args.self.now.tables in
     let few = few_entities P t (sound_now P R c.args.self.now.changes.items t c.args.self.now.sound) c.args.side in

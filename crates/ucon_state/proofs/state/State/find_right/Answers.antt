@@ -18,12 +18,12 @@ pub returns-in_err-number-clause-there : goal.returns-in_err-number-clause-there
 returns-in_err-number-clause-there c =
     let name = c.args.name.now in
     ap is_some c.from_residual.ensures
-    ∙ sym (none_has_it (checked_policy c.args.self.now.checked) (right_names c.args.self.now) name c.args.self.now.has_rights
+    ∙ sym (none_has_it (checked_policy c.args.self.now.planned.checked) (right_names c.args.self.now) name c.args.self.now.has_rights
     (sym (c.in_err-number.ensures ∙ ap (position (bytes_eq name)) c.deref.ensures.value)))
 
 pub returns-in_err-right_numbered-clause-there : goal.returns-in_err-right_numbered-clause-there
 returns-in_err-right_numbered-clause-there c =
-    let P = checked_policy c.args.self.now.checked in
+    let P = checked_policy c.args.self.now.planned.checked in
     let R = right_names c.args.self.now in
     let name = c.args.name.now in
     let at = sym (c.in_ok-number.ensures ∙ ap (position (bytes_eq name)) c.deref.ensures.value) in
@@ -32,7 +32,7 @@ returns-in_err-right_numbered-clause-there c =
 
 pub returns-clause-there : goal.returns-clause-there
 returns-clause-there c =
-    let P = checked_policy c.args.self.now.checked in
+    let P = checked_policy c.args.self.now.planned.checked in
     let R = right_names c.args.self.now in
     let name = c.args.name.now in
     let at = sym (c.in_ok-number.ensures ∙ ap (position (bytes_eq name)) c.deref.ensures.value) in

@@ -11,7 +11,7 @@ use Rattle.ucon_state.proofs.state.State.own_cell.Goals as goal
 
 pub cell-requires : goal.cell-requires
 cell-requires c =
-    let P = checked_policy c.args.self.now.checked in
+    let P = checked_policy c.args.self.now.planned.checked in
     let R = right_names c.args.self.now in
     let t = lists_of c.args.self.now.tables in
     let numbered = numbered_now P R c.args.self.now.changes.items t c.args.self.now.sound in
@@ -19,7 +19,7 @@ cell-requires c =
 
 pub cell-requires-in-Object : goal.cell-requires-in-Object
 cell-requires-in-Object c =
-    let P = checked_policy c.args.self.now.checked in
+    let P = checked_policy c.args.self.now.planned.checked in
     let R = right_names c.args.self.now in
     let t = lists_of c.args.self.now.tables in
     let numbered = numbered_now P R c.args.self.now.changes.items t c.args.self.now.sound in
@@ -27,7 +27,7 @@ cell-requires-in-Object c =
 
 pub returns-in-Subject-clause-cell : goal.returns-in-Subject-clause-cell
 returns-in-Subject-clause-cell c =
-    let P = checked_policy c.args.self.now.checked in
+    let P = checked_policy c.args.self.now.planned.checked in
     let R = right_names c.args.self.now in
     let t = lists_of c.args.self.now.tables in
     let numbered = numbered_now P R c.args.self.now.changes.items t c.args.self.now.sound in
@@ -37,7 +37,7 @@ returns-in-Subject-clause-cell c =
 
 pub returns-in-Object-clause-cell : goal.returns-in-Object-clause-cell
 returns-in-Object-clause-cell c =
-    let P = checked_policy c.args.self.now.checked in
+    let P = checked_policy c.args.self.now.planned.checked in
     let R = right_names c.args.self.now in
     let t = lists_of c.args.self.now.tables in
     let numbered = numbered_now P R c.args.self.now.changes.items t c.args.self.now.sound in

@@ -17,13 +17,13 @@ use Rattle.ucon_state.proofs.state.State.set_env.Goals as goal
 
 pub unwrap-place-requires : goal.unwrap-place-requires
 unwrap-place-requires c =
-    let P = checked_policy c.args.self.now.checked in
+    let P = checked_policy c.args.self.now.planned.checked in
     let found = found_place (λ d. bytes_eq c.args.name.now d.name) P.envs _ c.requires in
     ap is_some ((c.env_position.ensures ∙ ap (λ (Q : PlainPolicy). env_position Q c.args.name.now) c.policy.ensures.policy) ∙ found.place)
 
 pub set_variable-change-requires : goal.set_variable-change-requires
 set_variable-change-requires c =
-    let P = checked_policy c.args.self.now.checked in
+    let P = checked_policy c.args.self.now.planned.checked in
     let R = right_names c.args.self.now in
     let before = sound_now P R c.args.self.now.changes.items (lists_of c.args.self.now.tables) c.args.self.now.sound in
     let within = position_within (λ d. bytes_eq c.args.name.now d.name) P.envs c.unwrap-place.result (sym (c.env_position.ensures ∙ ap (λ (Q : PlainPolicy). env_position Q c.args.name.now) c.policy.ensures.policy) ∙ c.unwrap-place.ensures) in
@@ -31,7 +31,7 @@ set_variable-change-requires c =
 
 pub invariant_of-self-2 : goal.invariant_of-self-2
 invariant_of-self-2 c =
-    let P = checked_policy c.args.self.now.checked in
+    let P = checked_policy c.args.self.now.planned.checked in
     let R = right_names c.args.self.now in
     let t = lists_of c.args.self.now.tables in
     let added = c.push_reserved.ensures.items ∙ ap (λ cs. cs ++ Changed c.set_variable-change.result ∷ []) c.reserve.ensures.items in
@@ -41,7 +41,7 @@ invariant_of-self-2 c =
 
 pub returns-clause-ok : goal.returns-clause-ok
 returns-clause-ok c =
-    let P = checked_policy c.args.self.now.checked in
+    let P = checked_policy c.args.self.now.planned.checked in
     let R = right_names c.args.self.now in
     let t = lists_of c.args.self.now.tables in
     let added = c.push_reserved.ensures.items ∙ ap (λ cs. cs ++ Changed c.set_variable-change.result ∷ []) c.reserve.ensures.items in

@@ -11,7 +11,7 @@ use Rattle.ucon_state.proofs.state.State.undo_all.Goals as goal
 
 pub invariant_of-self-in-Some : goal.invariant_of-self-in-Some
 invariant_of-self-in-Some c =
-    let P = checked_policy c.loop-undo.self.checked in
+    let P = checked_policy c.loop-undo.self.planned.checked in
     let R = right_names c.loop-undo.self in
     let t = lists_of c.loop-undo.self.tables in
     let left = c.pop.new.self.items in
@@ -19,11 +19,11 @@ invariant_of-self-in-Some c =
     let all = subst (λ cs. AllSound P R cs t) c.in-Some.ensures.items c.loop-undo.self.sound in
     let back = subst (AllSound (policy_before u P) R left) (sym c.run.ensures.tables) (sound_without_one R P left u t all) in
     let sound = subst (λ (Q : PlainPolicy). AllSound Q R left (lists_of c.run.new.tables)) (sym c.run.ensures.policy) back in
-    record { sound = sound; has_rights = (holds_now (checked_policy c.run.new.checked) R left (lists_of c.run.new.tables) sound).1; in_order = λ so. (let no = c.loop-undo.invariant.in_no_order in absurd cc) }
+    record { sound = sound; has_rights = (holds_now (checked_policy c.run.new.checked.checked) R left (lists_of c.run.new.tables) sound).1; in_order = λ so. (let no = c.loop-undo.invariant.in_no_order in absurd cc) }
 
 pub loop-undo-preserved : goal.loop-undo-preserved
 loop-undo-preserved c =
-    let P = checked_policy c.loop-undo.self.checked in
+    let P = checked_policy c.loop-undo.self.planned.checked in
     let R = right_names c.loop-undo.self in
     let t = lists_of c.loop-undo.self.tables in
     let left = c.pop.new.self.items in

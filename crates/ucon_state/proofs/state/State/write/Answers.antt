@@ -12,7 +12,7 @@ use Rattle.ucon_state.proofs.state.State.write.Goals as goal
 
 pub set_cell-change-requires : goal.set_cell-change-requires
 set_cell-change-requires c =
-    let P = checked_policy c.args.self.now.checked in
+    let P = checked_policy c.args.self.now.planned.checked in
     let R = right_names c.args.self.now in
     let t = lists_of c.args.self.now.tables in
     let now = sound_now P R c.args.self.now.changes.items t c.args.self.now.sound in
@@ -20,7 +20,7 @@ set_cell-change-requires c =
 
 pub invariant_of-self-2 : goal.invariant_of-self-2
 invariant_of-self-2 c =
-    let P = checked_policy c.args.self.now.checked in
+    let P = checked_policy c.args.self.now.planned.checked in
     let R = right_names c.args.self.now in
     let t = lists_of c.args.self.now.tables in
     let added = c.push_reserved.ensures.items ∙ ap (λ cs. cs ++ Changed c.set_cell-change.result ∷ []) c.reserve.ensures.items in
@@ -30,7 +30,7 @@ invariant_of-self-2 c =
 
 pub returns-clause-ok : goal.returns-clause-ok
 returns-clause-ok c =
-    let P = checked_policy c.args.self.now.checked in
+    let P = checked_policy c.args.self.now.planned.checked in
     let R = right_names c.args.self.now in
     let t = lists_of c.args.self.now.tables in
     let added = c.push_reserved.ensures.items ∙ ap (λ cs. cs ++ Changed c.set_cell-change.result ∷ []) c.reserve.ensures.items in

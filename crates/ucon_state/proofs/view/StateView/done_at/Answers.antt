@@ -10,7 +10,7 @@ use Rattle.ucon_state.proofs.view.StateView.done_at.Goals as goal
 
 pub name-own_subject-requires : goal.name-own_subject-requires
 name-own_subject-requires c =
-    let P = checked_policy c.args.self.now.checked in
+    let P = checked_policy c.args.self.now.planned.checked in
     let R = right_names c.args.self.now in
     let t = lists_of c.args.self.now.tables in
     let numbered = numbered_now P R c.args.self.now.changes.items t c.args.self.now.sound in
@@ -18,7 +18,7 @@ name-own_subject-requires c =
 
 pub name-own_object-requires : goal.name-own_object-requires
 name-own_object-requires c =
-    let P = checked_policy c.args.self.now.checked in
+    let P = checked_policy c.args.self.now.planned.checked in
     let R = right_names c.args.self.now in
     let t = lists_of c.args.self.now.tables in
     let numbered = numbered_now P R c.args.self.now.changes.items t c.args.self.now.sound in

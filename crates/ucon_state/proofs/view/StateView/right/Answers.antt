@@ -9,7 +9,7 @@ use Rattle.ucon_state.proofs.view.StateView.right.Goals as goal
 
 pub right_numbered-requires : goal.right_numbered-requires
 right_numbered-requires c =
-    let P = checked_policy c.args.self.now.checked in
+    let P = checked_policy c.args.self.now.planned.checked in
     let R = right_names c.args.self.now in
     let t = lists_of c.args.self.now.tables in
     let numbered = numbered_now P R c.args.self.now.changes.items t c.args.self.now.sound in
@@ -17,7 +17,7 @@ right_numbered-requires c =
 
 pub returns : goal.returns
 returns c =
-    let P = checked_policy c.args.self.now.checked in
+    let P = checked_policy c.args.self.now.planned.checked in
     let R = right_names c.args.self.now in
     let t = lists_of c.args.self.now.tables in
     c.right_numbered.ensures

@@ -8,7 +8,7 @@ use Rattle.ucon_state.proofs.view.StateView.session.Goals as goal
 
 pub row-requires : goal.row-requires
 row-requires c =
-    let P = checked_policy c.args.self.now.checked in
+    let P = checked_policy c.args.self.now.planned.checked in
     let R = right_names c.args.self.now in
     let t = lists_of c.args.self.now.tables in
     let numbered = numbered_now P R c.args.self.now.changes.items t c.args.self.now.sound in

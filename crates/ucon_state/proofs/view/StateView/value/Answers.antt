@@ -12,7 +12,7 @@ use Rattle.ucon_state.proofs.view.StateView.value.Goals as goal
 
 pub returns-in-Subject : goal.returns-in-Subject
 returns-in-Subject c =
-    let P = checked_policy c.args.self.now.checked in
+    let P = checked_policy c.args.self.now.planned.checked in
     let R = right_names c.args.self.now in
     let t = lists_of c.args.self.now.tables in
     let numbered = numbered_now P R c.args.self.now.changes.items t c.args.self.now.sound in
@@ -22,7 +22,7 @@ returns-in-Subject c =
 
 pub returns-in-Object : goal.returns-in-Object
 returns-in-Object c =
-    let P = checked_policy c.args.self.now.checked in
+    let P = checked_policy c.args.self.now.planned.checked in
     let R = right_names c.args.self.now in
     let t = lists_of c.args.self.now.tables in
     let numbered = numbered_now P R c.args.self.now.changes.items t c.args.self.now.sound in
@@ -32,7 +32,7 @@ returns-in-Object c =
 
 pub returns-in-Env : goal.returns-in-Env
 returns-in-Env c =
-    let P = checked_policy c.args.self.now.checked in
+    let P = checked_policy c.args.self.now.planned.checked in
     let R = right_names c.args.self.now in
     let t = lists_of c.args.self.now.tables in
     c.variable.ensures
