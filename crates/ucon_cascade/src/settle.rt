@@ -42,6 +42,7 @@ use ucon_state::{
 };
 
 /// The label by which session n fails, if it is accessing. Only then it is judged.
+#[inline(always)]
 pub fn fails_at(state: &State, n: u32, steps: &mut Steps) -> Option<Name>
     requires { IsFollowing (shown state.now) }
     ensures label { AfterEach (shown state.now) (λ P T. fails_at P T n ≡ result) }
@@ -52,6 +53,10 @@ pub fn fails_at(state: &State, n: u32, steps: &mut Steps) -> Option<Name>
     tables_keep_what_is_followed();
     typed_tests_make_no_set();
     if !is_accessing(session_state(state, n)?) {
+        return None;
+    }
+    if state.surely_goes_on(n) {
+        steps.tick();
         return None;
     }
     failing(state, n, steps)
