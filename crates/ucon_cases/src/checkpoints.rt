@@ -1,7 +1,7 @@
 //! Histories that are played in parts over one journal, with checkpoints between them.
 
 /// A form over the journal that the part before left, its document, and what it prints.
-#[derive(Clone, Copy, Debug)]
+#[derive(Clone, Copy)]
 pub struct Part {
     /// `play` or `point`.
     pub form: &'static str,
@@ -10,11 +10,10 @@ pub struct Part {
 }
 
 /// A use that has to be acted on every 30 ticks, with a checkpoint between the act and the ticks that ask for the next one.
-pub fn ticks_around_a_checkpoint() -> [Part; 3] {
-    [
-        Part {
-            form: "play",
-            document: b"right watch { on b ads: every 30 click; }
+pub const TICKS_AROUND_A_CHECKPOINT: &[Part] = &[
+    Part {
+        form: "play",
+        document: b"right watch { on b ads: every 30 click; }
 %%
 client 0
 subject a
@@ -23,32 +22,31 @@ try a watch x
 tick 30
 act a click x
 ",
-            output: b"0 1 ok
+        output: b"0 1 ok
 0 2 ok
 0 3 permitted 1
 0 4 ok
 0 5 ok
 ",
-        },
-        Part {
-            form: "point",
-            document: b"right watch { on b ads: every 30 click; }\n",
-            output: b"point 5\n",
-        },
-        Part {
-            form: "play",
-            document: b"right watch { on b ads: every 30 click; }
+    },
+    Part {
+        form: "point",
+        document: b"right watch { on b ads: every 30 click; }\n",
+        output: b"point 5\n",
+    },
+    Part {
+        form: "play",
+        document: b"right watch { on b ads: every 30 click; }
 %%
 client 0
 tick 60
 tick 61
 ",
-            output: b"0 6 ok
+        output: b"0 6 ok
 0 7 ok revoked 1 ads
 ",
-        },
-    ]
-}
+    },
+];
 
 /// Two rights: one that is always permitted, and one that waits for an act.
 pub const WAITING: &[u8] = b"right use {}

@@ -3,7 +3,7 @@
 use ucon_vectors::CAPPED;
 
 /// What is played first, what is served then, and the outputs of which one is printed.
-#[derive(Clone, Copy, Debug)]
+#[derive(Clone, Copy)]
 pub struct Meeting {
     pub policy: &'static [u8],
     /// What stands behind the divider of the document that is played.

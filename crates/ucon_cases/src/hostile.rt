@@ -1,23 +1,19 @@
 //! Hostile input, as bytes with how the program ends: documents at a limit and one above it, and files that were cut off or changed.
 
 use crate::Played;
+use crate::journals::PLAY;
 
-/// Bytes that repeat a part so often.
-#[derive(Clone, Copy, Debug)]
-pub struct Repeated {
-    pub front: &'static [u8],
-    pub part: &'static [u8],
-    pub times: u32,
-    pub back: &'static [u8],
-}
-
-/// A document at a limit, or above it, and what a form makes of it.
-#[derive(Clone, Copy, Debug)]
+/// A document at a limit, or above it, which repeats a part between a front and a back, and what a form makes of it.
+#[derive(Clone, Copy)]
 pub struct Limit {
     /// What is at the limit.
     pub name: &'static str,
     pub form: &'static str,
-    pub document: Repeated,
+    pub front: &'static [u8],
+    pub part: &'static [u8],
+    /// How often the part stands.
+    pub times: u32,
+    pub back: &'static [u8],
     pub status: u8,
     /// With status 0 each line of the output, else the line of the fault.
     pub line: &'static [u8],
@@ -38,207 +34,229 @@ const A_TEXT_ON_A_LINE: &[u8] =
 /// A comment of 64 bytes.
 const COMMENT: &[u8] = b"###############################################################\n";
 
-const fn made_of(
-    front: &'static [u8],
-    part: &'static [u8],
-    times: u32,
-    back: &'static [u8],
-) -> Repeated {
-    Repeated {
-        front,
-        part,
-        times,
-        back,
-    }
-}
+/// A document of no bytes that `check` accepts, and of which it prints nothing.
+const CHECK: Limit = Limit {
+    name: "",
+    form: "check",
+    front: b"",
+    part: b"",
+    times: 0,
+    back: b"",
+    status: 0,
+    line: b"",
+    lines: 0,
+};
 
-/// A document that a form runs or checks to its end.
-const fn accepted(
-    name: &'static str,
-    form: &'static str,
-    document: Repeated,
-    line: &'static [u8],
-    lines: u32,
-) -> Limit {
-    Limit {
-        name,
-        form,
-        document,
-        status: 0,
-        line,
-        lines,
-    }
-}
-
-/// A document that is refused.
-const fn refused(name: &'static str, document: Repeated, status: u8, line: &'static [u8]) -> Limit {
-    Limit {
-        name,
-        form: "trial",
-        document,
-        status,
-        line,
-        lines: 0,
-    }
-}
+/// The same with `trial`.
+const TRIAL: Limit = Limit {
+    form: "trial",
+    ..CHECK
+};
 
 /// Documents at each limit, and one above it.
-pub fn hostile_documents() -> [Limit; 22] {
-    [
-        accepted(
-            "a policy of 65,536 bytes",
-            "check",
-            made_of(b"", b" ", 65_536, b""),
-            b"",
-            0,
-        ),
-        refused(
-            "a policy of 65,537 bytes",
-            made_of(b"", b" ", 65_537, b""),
-            2,
-            b"ucon: policy: too long at 65536\n",
-        ),
-        accepted(
-            "32 times not",
-            "check",
-            made_of(b"right r { pre a t: ", b"not ", 32, b"1 = 1; }"),
-            b"right r preA0\n",
-            1,
-        ),
-        refused(
-            "33 times not",
-            made_of(b"right r { pre a t: ", b"not ", 33, b"1 = 1; }"),
-            2,
-            b"ucon: policy: too deep at 147\n",
-        ),
-        accepted(
-            "32 operands",
-            "check",
-            made_of(b"right r { pre a t: 1", b" + 1", 31, b" = 1; }"),
-            b"right r preA0\n",
-            1,
-        ),
-        refused(
-            "33 operands",
-            made_of(b"right r { pre a t: 1", b" + 1", 32, b" = 1; }"),
-            2,
-            b"ucon: policy: too many at 145\n",
-        ),
-        accepted(
-            "a text of 64 bytes",
-            "check",
-            made_of(b"attr s a : text = \"", b"x", 64, b"\";"),
-            b"",
-            0,
-        ),
-        refused(
-            "a text of 64 bytes without its last quote",
-            made_of(b"attr s a : text = \"", b"x", 64, b""),
-            2,
-            b"ucon: policy: unexpected at 83\n",
-        ),
-        refused(
-            "a text of 65 bytes without its last quote",
-            made_of(b"attr s a : text = \"", b"x", 65, b""),
-            2,
-            b"ucon: policy: too long at 18\n",
-        ),
-        refused(
-            "a text of 64 bytes without its last quote on a line",
-            made_of(A_TEXT_ON_A_LINE, b"x", 64, b"\n"),
-            3,
-            b"ucon: script: bad word at line 5\n",
-        ),
-        refused(
-            "a text of 65 bytes without its last quote on a line",
-            made_of(A_TEXT_ON_A_LINE, b"x", 65, b"\n"),
-            3,
-            b"ucon: script: bad word at line 5\n",
-        ),
-        accepted(
-            "a set of 64 texts",
-            "check",
-            made_of(A_SET_OF_64, b"", 0, b"};"),
-            b"",
-            0,
-        ),
-        refused(
-            "a set of 65 texts",
-            made_of(A_SET_OF_64, b",\"b\"", 1, b"};"),
-            2,
-            b"ucon: policy: too many at 402\n",
-        ),
-        refused(
-            "a value of 65 texts",
-            made_of(A_VALUE_OF_64, b",\"b\"", 1, b"}\n"),
-            3,
-            b"ucon: script: bad word at line 5\n",
-        ),
-        accepted(
-            "1,025 headings",
-            "trial",
-            made_of(b"%%\n", b"client 0\n", 1_025, b""),
-            b"",
-            0,
-        ),
-        refused(
-            "a client of 40 digits",
-            made_of(b"%%\nclient 1", b"0", 39, b"\nlook 1\n"),
-            3,
-            b"ucon: script: too many clients at line 2\n",
-        ),
-        refused(
-            "a client of 40 digits, of which the first is 0",
-            made_of(b"%%\nclient 0", b"1", 39, b"\nlook 1\n"),
-            3,
-            b"ucon: script: bad heading at line 2\n",
-        ),
-        accepted(
-            "262,144 lines",
-            "trial",
-            made_of(b"%%\nclient 1\n", b"look 1\n", 262_144, b""),
-            b"1 0 no session\n",
-            262_144,
-        ),
-        refused(
-            "262,145 lines",
-            made_of(b"%%\nclient 1\n", b"look 1\n", 262_145, b""),
-            3,
-            b"ucon: script: too many lines at line 262147\n",
-        ),
-        accepted(
-            "4,194,304 bytes",
-            "trial",
-            made_of(
-                b"%%\n",
-                COMMENT,
-                65_535,
-                b"client 1\nlook 1\n############################################\n",
-            ),
-            b"1 0 no session\n",
-            1,
-        ),
-        refused(
-            "4,194,305 bytes",
-            made_of(
-                b"%%\n",
-                COMMENT,
-                65_535,
-                b"client 1\nlook 1\n#############################################\n",
-            ),
-            11,
-            b"ucon: input too long\n",
-        ),
-        refused(
-            "4,194,305 bytes, of which the first begins no policy",
-            made_of(b"?", COMMENT, 65_536, b""),
-            11,
-            b"ucon: input too long\n",
-        ),
-    ]
-}
+pub const HOSTILE_DOCUMENTS: &[Limit] = &[
+    Limit {
+        name: "a policy of 65,536 bytes",
+        part: b" ",
+        times: 65_536,
+        ..CHECK
+    },
+    Limit {
+        name: "a policy of 65,537 bytes",
+        part: b" ",
+        times: 65_537,
+        status: 2,
+        line: b"ucon: policy: too long at 65536\n",
+        ..TRIAL
+    },
+    Limit {
+        name: "32 times not",
+        front: b"right r { pre a t: ",
+        part: b"not ",
+        times: 32,
+        back: b"1 = 1; }",
+        line: b"right r preA0\n",
+        lines: 1,
+        ..CHECK
+    },
+    Limit {
+        name: "33 times not",
+        front: b"right r { pre a t: ",
+        part: b"not ",
+        times: 33,
+        back: b"1 = 1; }",
+        status: 2,
+        line: b"ucon: policy: too deep at 147\n",
+        ..TRIAL
+    },
+    Limit {
+        name: "32 operands",
+        front: b"right r { pre a t: 1",
+        part: b" + 1",
+        times: 31,
+        back: b" = 1; }",
+        line: b"right r preA0\n",
+        lines: 1,
+        ..CHECK
+    },
+    Limit {
+        name: "33 operands",
+        front: b"right r { pre a t: 1",
+        part: b" + 1",
+        times: 32,
+        back: b" = 1; }",
+        status: 2,
+        line: b"ucon: policy: too many at 145\n",
+        ..TRIAL
+    },
+    Limit {
+        name: "a text of 64 bytes",
+        front: b"attr s a : text = \"",
+        part: b"x",
+        times: 64,
+        back: b"\";",
+        ..CHECK
+    },
+    Limit {
+        name: "a text of 64 bytes without its last quote",
+        front: b"attr s a : text = \"",
+        part: b"x",
+        times: 64,
+        status: 2,
+        line: b"ucon: policy: unexpected at 83\n",
+        ..TRIAL
+    },
+    Limit {
+        name: "a text of 65 bytes without its last quote",
+        front: b"attr s a : text = \"",
+        part: b"x",
+        times: 65,
+        status: 2,
+        line: b"ucon: policy: too long at 18\n",
+        ..TRIAL
+    },
+    Limit {
+        name: "a text of 64 bytes without its last quote on a line",
+        front: A_TEXT_ON_A_LINE,
+        part: b"x",
+        times: 64,
+        back: b"\n",
+        status: 3,
+        line: b"ucon: script: bad word at line 5\n",
+        ..TRIAL
+    },
+    Limit {
+        name: "a text of 65 bytes without its last quote on a line",
+        front: A_TEXT_ON_A_LINE,
+        part: b"x",
+        times: 65,
+        back: b"\n",
+        status: 3,
+        line: b"ucon: script: bad word at line 5\n",
+        ..TRIAL
+    },
+    Limit {
+        name: "a set of 64 texts",
+        front: A_SET_OF_64,
+        back: b"};",
+        ..CHECK
+    },
+    Limit {
+        name: "a set of 65 texts",
+        front: A_SET_OF_64,
+        part: b",\"b\"",
+        times: 1,
+        back: b"};",
+        status: 2,
+        line: b"ucon: policy: too many at 402\n",
+        ..TRIAL
+    },
+    Limit {
+        name: "a value of 65 texts",
+        front: A_VALUE_OF_64,
+        part: b",\"b\"",
+        times: 1,
+        back: b"}\n",
+        status: 3,
+        line: b"ucon: script: bad word at line 5\n",
+        ..TRIAL
+    },
+    Limit {
+        name: "1,025 headings",
+        front: b"%%\n",
+        part: b"client 0\n",
+        times: 1_025,
+        ..TRIAL
+    },
+    Limit {
+        name: "a client of 40 digits",
+        front: b"%%\nclient 1",
+        part: b"0",
+        times: 39,
+        back: b"\nlook 1\n",
+        status: 3,
+        line: b"ucon: script: too many clients at line 2\n",
+        ..TRIAL
+    },
+    Limit {
+        name: "a client of 40 digits, of which the first is 0",
+        front: b"%%\nclient 0",
+        part: b"1",
+        times: 39,
+        back: b"\nlook 1\n",
+        status: 3,
+        line: b"ucon: script: bad heading at line 2\n",
+        ..TRIAL
+    },
+    Limit {
+        name: "262,144 lines",
+        front: b"%%\nclient 1\n",
+        part: b"look 1\n",
+        times: 262_144,
+        line: b"1 0 no session\n",
+        lines: 262_144,
+        ..TRIAL
+    },
+    Limit {
+        name: "262,145 lines",
+        front: b"%%\nclient 1\n",
+        part: b"look 1\n",
+        times: 262_145,
+        status: 3,
+        line: b"ucon: script: too many lines at line 262147\n",
+        ..TRIAL
+    },
+    Limit {
+        name: "4,194,304 bytes",
+        front: b"%%\n",
+        part: COMMENT,
+        times: 65_535,
+        back: b"client 1\nlook 1\n############################################\n",
+        line: b"1 0 no session\n",
+        lines: 1,
+        ..TRIAL
+    },
+    Limit {
+        name: "4,194,305 bytes",
+        front: b"%%\n",
+        part: COMMENT,
+        times: 65_535,
+        back: b"client 1\nlook 1\n#############################################\n",
+        status: 11,
+        line: b"ucon: input too long\n",
+        ..TRIAL
+    },
+    Limit {
+        name: "4,194,305 bytes, of which the first begins no policy",
+        front: b"?",
+        part: COMMENT,
+        times: 65_536,
+        status: 11,
+        line: b"ucon: input too long\n",
+        ..TRIAL
+    },
+];
 
-const POLICY_ALONE: &[u8] = b"right r {}\n";
 /// The policy is the record of a journal without entries.
 pub const WITHOUT_ENTRIES: &[u8] = b"UCONJR02\x01\x00\x00\x00\x0bright r {}\n\x00";
 /// The empty policy is the record.
@@ -257,95 +275,66 @@ const EMPTY_RECORD: &[u8] = b"UCONJR02\x01\x00\x00\x00\x0bright r {}\n\x01\x00\x
 /// Two records have no byte, of which the first is the empty policy.
 const EMPTY_RECORDS: &[u8] = b"UCONJR02\x01\x00\x00\x00\x00\x01\x00\x00\x00\x00\x00";
 
-/// A policy without lines that is played over a file. Nothing is written to the output.
-const fn opened(
-    name: &'static str,
-    file: &'static [u8],
-    policy: &'static [u8],
-    status: u8,
-    told: &'static [u8],
-    left: &'static [u8],
-) -> Played {
-    Played {
-        name,
-        form: "play",
-        file,
-        document: policy,
-        disk_faults: &[],
-        sink_faults: &[],
-        status,
-        output: b"",
-        told,
-        left,
-    }
-}
-
 /// Files that nobody's `play` left so. What is refused is left as it was.
-pub fn hostile_journals() -> [Played; 8] {
-    [
-        opened(
-            "two foreign bytes",
-            b"hi",
-            POLICY_ALONE,
-            0,
-            b"",
-            WITHOUT_ENTRIES,
-        ),
-        opened(
-            "a length of ffffffff",
-            GREATEST_LENGTH,
-            POLICY_ALONE,
-            0,
-            b"",
-            WITHOUT_ENTRIES,
-        ),
-        opened(
-            "a wrong payload byte",
-            WRONG_PAYLOAD,
-            POLICY_ALONE,
-            7,
-            b"ucon: damaged record 1 at 24\n",
-            WRONG_PAYLOAD,
-        ),
-        opened(
-            "a wrong policy byte",
-            WRONG_POLICY,
-            POLICY_ALONE,
-            7,
-            b"ucon: damaged record 0 at 8\n",
-            WRONG_POLICY,
-        ),
-        opened(
-            "a record of length 0",
-            EMPTY_RECORD,
-            POLICY_ALONE,
-            7,
-            b"ucon: damaged record 1 at 24\n",
-            EMPTY_RECORD,
-        ),
-        opened(
-            "a policy of length 0",
-            EMPTY_POLICY,
-            b"",
-            0,
-            b"",
-            EMPTY_POLICY,
-        ),
-        opened(
-            "a record of length 0 behind a policy of length 0",
-            EMPTY_RECORDS,
-            b"",
-            7,
-            b"ucon: damaged record 1 at 13\n",
-            EMPTY_RECORDS,
-        ),
-        opened(
-            "a policy of length 0 under another",
-            EMPTY_POLICY,
-            POLICY_ALONE,
-            10,
-            b"ucon: other policy at 0\n",
-            EMPTY_POLICY,
-        ),
-    ]
-}
+pub const HOSTILE_JOURNALS: &[Played] = &[
+    Played {
+        name: "two foreign bytes",
+        file: b"hi",
+        left: WITHOUT_ENTRIES,
+        ..PLAY
+    },
+    Played {
+        name: "a length of ffffffff",
+        file: GREATEST_LENGTH,
+        left: WITHOUT_ENTRIES,
+        ..PLAY
+    },
+    Played {
+        name: "a wrong payload byte",
+        file: WRONG_PAYLOAD,
+        status: 7,
+        told: b"ucon: damaged record 1 at 24\n",
+        left: WRONG_PAYLOAD,
+        ..PLAY
+    },
+    Played {
+        name: "a wrong policy byte",
+        file: WRONG_POLICY,
+        status: 7,
+        told: b"ucon: damaged record 0 at 8\n",
+        left: WRONG_POLICY,
+        ..PLAY
+    },
+    Played {
+        name: "a record of length 0",
+        file: EMPTY_RECORD,
+        status: 7,
+        told: b"ucon: damaged record 1 at 24\n",
+        left: EMPTY_RECORD,
+        ..PLAY
+    },
+    Played {
+        name: "a policy of length 0",
+        file: EMPTY_POLICY,
+        document: b"",
+        left: EMPTY_POLICY,
+        ..PLAY
+    },
+    Played {
+        name: "a record of length 0 behind a policy of length 0",
+        file: EMPTY_RECORDS,
+        document: b"",
+        status: 7,
+        told: b"ucon: damaged record 1 at 13\n",
+        left: EMPTY_RECORDS,
+        ..PLAY
+    },
+    Played {
+        name: "a policy of length 0 under another",
+        file: EMPTY_POLICY,
+        status: 10,
+        told: b"ucon: other policy at 0\n",
+        left: EMPTY_POLICY,
+        ..PLAY
+    },
+];

@@ -2,7 +2,7 @@
 
 /// A document that is played over a file, or under which a checkpoint is written to it, with the calls of the disk and of the sink that fail, by
 /// their numbers from 0; what the program ends with, writes and tells; and the file behind it.
-#[derive(Clone, Copy, Debug)]
+#[derive(Clone, Copy)]
 pub struct Played {
     pub name: &'static str,
     /// `play` or `point`.
@@ -98,7 +98,7 @@ const POINTED: &[u8] =
 
 const FOREIGN: &[u8] = b"0123456789";
 
-const NO_LINES: &[u8] = b"right r {}\n";
+pub const NO_LINES: &[u8] = b"right r {}\n";
 
 const SUBJECT_A: &[u8] = b"right r {}\n%%\nclient 0\nsubject a\n";
 
@@ -111,353 +111,386 @@ pub const LOOKING: &[u8] = b"right r {}\n%%\nclient 0\nlook 1\n";
 
 const OTHER_POLICY: &[u8] = b"right q {}\n";
 
-/// A whole run over a disk that doesn't fail.
-const fn whole(
-    name: &'static str,
-    file: &'static [u8],
-    document: &'static [u8],
-    output: &'static [u8],
-    left: &'static [u8],
-) -> Played {
-    Played {
-        name,
-        form: "play",
-        file,
-        document,
-        disk_faults: &[],
-        sink_faults: &[],
-        status: 0,
-        output,
-        told: b"",
-        left,
-    }
-}
-
-/// A file that isn't opened, and stays as it is.
-const fn unopened(
-    name: &'static str,
-    file: &'static [u8],
-    document: &'static [u8],
-    status: u8,
-    told: &'static [u8],
-) -> Played {
-    Played {
-        name,
-        form: "play",
-        file,
-        document,
-        disk_faults: &[],
-        sink_faults: &[],
-        status,
-        output: b"",
-        told,
-        left: file,
-    }
-}
+/// `play` of a policy without lines, over a disk that doesn't fail.
+pub const PLAY: Played = Played {
+    name: "",
+    form: "play",
+    file: b"",
+    document: NO_LINES,
+    disk_faults: &[],
+    sink_faults: &[],
+    status: 0,
+    output: b"",
+    told: b"",
+    left: b"",
+};
 
 /// Two lines over a journal of one record, on a disk of which a call fails.
-const fn stopped(
-    name: &'static str,
-    disk_faults: &'static [u64],
-    output: &'static [u8],
-    left: &'static [u8],
-) -> Played {
-    Played {
-        name,
-        form: "play",
-        file: WITH_A,
-        document: SUBJECTS_B_AND_C,
-        disk_faults,
-        sink_faults: &[],
-        status: 6,
-        output,
-        told: b"ucon: disk fault\n",
-        left,
-    }
-}
+const STOPPED: Played = Played {
+    file: WITH_A,
+    document: SUBJECTS_B_AND_C,
+    status: 6,
+    told: b"ucon: disk fault\n",
+    left: WITH_A,
+    ..PLAY
+};
 
 /// Each line that changes something is a record; a torn record doesn't count; what is wrong, foreign or another's isn't written.
-pub fn played_rows() -> [Played; 16] {
-    [
-        whole("a first journal", b"", SUBJECT_A, b"0 1 ok\n", WITH_A),
-        whole("a torn record", TORN, SUBJECT_B, b"0 1 ok\n", WITH_B),
-        whole("nine bytes", b"012345678", NO_LINES, b"", MADE),
-        whole(
-            "what is there",
-            WITH_A,
-            SUBJECT_A,
-            b"0 1 already there\n",
-            WITH_A,
-        ),
-        whole(
-            "version 1",
-            OLD_WITH_A,
-            SUBJECT_B,
-            b"0 2 ok\n",
-            OLD_WITH_A_AND_B,
-        ),
-        unopened(
-            "a wrong reply",
-            WRONG_REPLY,
-            NO_LINES,
-            7,
-            b"ucon: damaged record 1 at 24\n",
-        ),
-        unopened(
-            "a reply that isn't the serial run's",
-            WRONG_CALLER,
-            NO_LINES,
-            7,
-            b"ucon: damaged record 1 at 24\n",
-        ),
-        unopened("ten bytes", FOREIGN, NO_LINES, 8, b"ucon: not a journal\n"),
-        unopened(
-            "another policy",
-            WITH_A,
-            OTHER_POLICY,
-            10,
-            b"ucon: other policy at 6\n",
-        ),
-        unopened(
-            "a refused policy",
-            WITH_A,
-            b"right r {",
-            2,
-            b"ucon: policy: unexpected at 9\n",
-        ),
-        Played {
-            sink_faults: &[2],
-            status: 5,
-            output: b"0 ",
-            told: b"ucon: sink fault\n",
-            ..whole("a failing sink", b"", SUBJECT_A, b"", WITH_A)
-        },
-        stopped(
-            "a disk that fails, or is full, at a record",
-            &[11],
-            b"0 - disk fault\n0 - stopped\n",
-            WITH_A,
-        ),
-        stopped("a failing sync at the opening", &[0], b"", WITH_A),
-        stopped("a failing read at the opening", &[3], b"", WITH_A),
-        stopped(
-            "a failing sync before the gate",
-            &[12],
-            b"0 - disk fault\n0 - stopped\n",
-            WITH_A_THEN_B,
-        ),
-        stopped(
-            "a failing sync behind the gate",
-            &[14],
-            b"0 - disk fault\n0 - stopped\n",
-            WITH_A_AND_B,
-        ),
-    ]
-}
-
-/// A checkpoint that is written.
-const fn pointed(
-    name: &'static str,
-    file: &'static [u8],
-    document: &'static [u8],
-    output: &'static [u8],
-    left: &'static [u8],
-) -> Played {
+pub const PLAYED_ROWS: &[Played] = &[
     Played {
-        form: "point",
-        ..whole(name, file, document, output, left)
-    }
-}
-
-/// A checkpoint that isn't written, over a file that stays as it is.
-const fn unpointed(
-    name: &'static str,
-    file: &'static [u8],
-    document: &'static [u8],
-    status: u8,
-    told: &'static [u8],
-) -> Played {
+        name: "a first journal",
+        document: SUBJECT_A,
+        output: b"0 1 ok\n",
+        left: WITH_A,
+        ..PLAY
+    },
     Played {
-        form: "point",
-        ..unopened(name, file, document, status, told)
-    }
-}
+        name: "a torn record",
+        file: TORN,
+        document: SUBJECT_B,
+        output: b"0 1 ok\n",
+        left: WITH_B,
+        ..PLAY
+    },
+    Played {
+        name: "nine bytes",
+        file: b"012345678",
+        left: MADE,
+        ..PLAY
+    },
+    Played {
+        name: "what is there",
+        file: WITH_A,
+        document: SUBJECT_A,
+        output: b"0 1 already there\n",
+        left: WITH_A,
+        ..PLAY
+    },
+    Played {
+        name: "version 1",
+        file: OLD_WITH_A,
+        document: SUBJECT_B,
+        output: b"0 2 ok\n",
+        left: OLD_WITH_A_AND_B,
+        ..PLAY
+    },
+    Played {
+        name: "a wrong reply",
+        file: WRONG_REPLY,
+        status: 7,
+        told: b"ucon: damaged record 1 at 24\n",
+        left: WRONG_REPLY,
+        ..PLAY
+    },
+    Played {
+        name: "a reply that isn't the serial run's",
+        file: WRONG_CALLER,
+        status: 7,
+        told: b"ucon: damaged record 1 at 24\n",
+        left: WRONG_CALLER,
+        ..PLAY
+    },
+    Played {
+        name: "ten bytes",
+        file: FOREIGN,
+        status: 8,
+        told: b"ucon: not a journal\n",
+        left: FOREIGN,
+        ..PLAY
+    },
+    Played {
+        name: "another policy",
+        file: WITH_A,
+        document: OTHER_POLICY,
+        status: 10,
+        told: b"ucon: other policy at 6\n",
+        left: WITH_A,
+        ..PLAY
+    },
+    Played {
+        name: "a refused policy",
+        file: WITH_A,
+        document: b"right r {",
+        status: 2,
+        told: b"ucon: policy: unexpected at 9\n",
+        left: WITH_A,
+        ..PLAY
+    },
+    Played {
+        name: "a failing sink",
+        document: SUBJECT_A,
+        left: WITH_A,
+        sink_faults: &[2],
+        status: 5,
+        output: b"0 ",
+        told: b"ucon: sink fault\n",
+        ..PLAY
+    },
+    Played {
+        name: "a disk that fails, or is full, at a record",
+        disk_faults: &[11],
+        output: b"0 - disk fault\n0 - stopped\n",
+        ..STOPPED
+    },
+    Played {
+        name: "a failing sync at the opening",
+        disk_faults: &[0],
+        ..STOPPED
+    },
+    Played {
+        name: "a failing read at the opening",
+        disk_faults: &[3],
+        ..STOPPED
+    },
+    Played {
+        name: "a failing sync before the gate",
+        disk_faults: &[12],
+        output: b"0 - disk fault\n0 - stopped\n",
+        left: WITH_A_THEN_B,
+        ..STOPPED
+    },
+    Played {
+        name: "a failing sync behind the gate",
+        disk_faults: &[14],
+        output: b"0 - disk fault\n0 - stopped\n",
+        left: WITH_A_AND_B,
+        ..STOPPED
+    },
+];
+
+/// A checkpoint, over a disk that doesn't fail.
+const POINT: Played = Played {
+    form: "point",
+    ..PLAY
+};
 
 /// A checkpoint of a journal of one record, on a disk of which a call fails.
-const fn half_pointed(
-    name: &'static str,
-    disk_faults: &'static [u64],
-    left: &'static [u8],
-) -> Played {
-    Played {
-        form: "point",
-        document: NO_LINES,
-        ..stopped(name, disk_faults, b"", left)
-    }
-}
+const HALF_POINTED: Played = Played {
+    form: "point",
+    document: NO_LINES,
+    ..STOPPED
+};
 
 /// A checkpoint stands behind all entries, and changes no place and no reply. Opening begins at the last one, which has to hold a state, and
 /// looks at no record before it.
-pub fn pointed_rows() -> [Played; 27] {
-    [
-        pointed(
-            "a checkpoint behind one entry",
-            WITH_A,
-            NO_LINES,
-            b"point 1\n",
-            WITH_A_AND_POINT,
-        ),
-        pointed(
-            "lines that are not run",
-            WITH_A,
-            SUBJECT_B,
-            b"point 1\n",
-            WITH_A_AND_POINT,
-        ),
-        pointed(
-            "a second checkpoint",
-            WITH_A_AND_POINT,
-            NO_LINES,
-            b"point 1\n",
-            WITH_A_AND_TWO_POINTS,
-        ),
-        pointed("a first journal", b"", NO_LINES, b"point 0\n", POINTED),
-        unpointed(
-            "version 1",
-            OLD_WITH_A,
-            NO_LINES,
-            14,
-            b"ucon: old journal\n",
-        ),
-        unpointed("ten bytes", FOREIGN, NO_LINES, 8, b"ucon: not a journal\n"),
-        unpointed(
-            "another policy",
-            WITH_A,
-            OTHER_POLICY,
-            10,
-            b"ucon: other policy at 6\n",
-        ),
-        unpointed(
-            "a refused policy",
-            WITH_A,
-            b"right r {",
-            2,
-            b"ucon: policy: unexpected at 9\n",
-        ),
-        unpointed(
-            "a refused line",
-            WITH_A,
-            b"right r {}\n%%\nclient 0\nsubject\n",
-            3,
-            b"ucon: script: wrong count at line 4\n",
-        ),
-        Played {
-            sink_faults: &[2],
-            status: 5,
-            output: b"po",
-            told: b"ucon: sink fault\n",
-            ..pointed("a failing sink", WITH_A, NO_LINES, b"", WITH_A_AND_POINT)
-        },
-        half_pointed("a failing read at the opening", &[3], WITH_A),
-        half_pointed("a failing sync before the gate", &[12], WITH_A_THEN_POINT),
-        half_pointed("a failing sync behind the gate", &[14], WITH_A_AND_POINT),
-        whole(
-            "what is there, with a checkpoint",
-            WITH_A_AND_POINT,
-            SUBJECT_A,
-            b"0 1 already there\n",
-            WITH_A_AND_POINT,
-        ),
-        whole(
-            "a step behind a checkpoint",
-            WITH_A_AND_POINT,
-            SUBJECT_B,
-            b"0 2 ok\n",
-            WITH_A_AND_POINT_AND_B,
-        ),
-        whole(
-            "a checkpoint whose gate is closed",
-            WITH_A_THEN_POINT,
-            SUBJECT_A,
-            b"0 1 already there\n",
-            WITH_A,
-        ),
-        unopened(
-            "a checkpoint with a subject of no name",
-            WRONG_SUBJECT,
-            SUBJECT_A,
-            7,
-            b"ucon: damaged record 2 at 43\n",
-        ),
-        whole(
-            "a record changed before a checkpoint",
-            CHANGED_BEFORE_POINT,
-            SUBJECT_A,
-            b"0 1 already there\n",
-            CHANGED_BEFORE_POINT,
-        ),
-        whole(
-            "a wrong checkpoint before the last one",
-            WRONG_POINT_BEFORE_POINT,
-            SUBJECT_A,
-            b"0 1 already there\n",
-            WRONG_POINT_BEFORE_POINT,
-        ),
-        unopened(
-            "a record changed behind a checkpoint",
-            CHANGED_BEHIND_POINT,
-            SUBJECT_A,
-            7,
-            b"ucon: damaged record 3 at 95\n",
-        ),
-        unopened(
-            "a checkpoint with one subject twice",
-            SUBJECT_TWICE,
-            SUBJECT_A,
-            7,
-            b"ucon: damaged record 2 at 43\n",
-        ),
-        unopened(
-            "a checkpoint with a session of no object",
-            NO_OBJECT,
-            SUBJECT_A,
-            7,
-            b"ucon: damaged record 2 at 43\n",
-        ),
-        unopened(
-            "a checkpoint in which a use fails",
-            UNSETTLED,
-            SUBJECT_A,
-            7,
-            b"ucon: damaged record 2 at 43\n",
-        ),
-        unopened(
-            "a checkpoint with a value of no attribute",
-            NO_ATTRIBUTE,
-            SUBJECT_A,
-            7,
-            b"ucon: damaged record 2 at 43\n",
-        ),
-        unopened(
-            "a checkpoint under no policy",
-            POLICY_IN_PART,
-            SUBJECT_A,
-            7,
-            b"ucon: damaged record 2 at 43\n",
-        ),
-        unopened(
-            "a checkpoint whose last line has no end",
-            POINT_IN_PART,
-            SUBJECT_A,
-            7,
-            b"ucon: damaged record 2 at 43\n",
-        ),
-        unopened(
-            "a checkpoint of another number of entries",
-            WRONG_NUMBER,
-            SUBJECT_A,
-            7,
-            b"ucon: damaged record 2 at 43\n",
-        ),
-    ]
-}
+pub const POINTED_ROWS: &[Played] = &[
+    Played {
+        name: "a checkpoint behind one entry",
+        file: WITH_A,
+        output: b"point 1\n",
+        left: WITH_A_AND_POINT,
+        ..POINT
+    },
+    Played {
+        name: "lines that are not run",
+        file: WITH_A,
+        document: SUBJECT_B,
+        output: b"point 1\n",
+        left: WITH_A_AND_POINT,
+        ..POINT
+    },
+    Played {
+        name: "a second checkpoint",
+        file: WITH_A_AND_POINT,
+        output: b"point 1\n",
+        left: WITH_A_AND_TWO_POINTS,
+        ..POINT
+    },
+    Played {
+        name: "a first journal",
+        output: b"point 0\n",
+        left: POINTED,
+        ..POINT
+    },
+    Played {
+        name: "version 1",
+        file: OLD_WITH_A,
+        status: 14,
+        told: b"ucon: old journal\n",
+        left: OLD_WITH_A,
+        ..POINT
+    },
+    Played {
+        name: "ten bytes",
+        file: FOREIGN,
+        status: 8,
+        told: b"ucon: not a journal\n",
+        left: FOREIGN,
+        ..POINT
+    },
+    Played {
+        name: "another policy",
+        file: WITH_A,
+        document: OTHER_POLICY,
+        status: 10,
+        told: b"ucon: other policy at 6\n",
+        left: WITH_A,
+        ..POINT
+    },
+    Played {
+        name: "a refused policy",
+        file: WITH_A,
+        document: b"right r {",
+        status: 2,
+        told: b"ucon: policy: unexpected at 9\n",
+        left: WITH_A,
+        ..POINT
+    },
+    Played {
+        name: "a refused line",
+        file: WITH_A,
+        document: b"right r {}\n%%\nclient 0\nsubject\n",
+        status: 3,
+        told: b"ucon: script: wrong count at line 4\n",
+        left: WITH_A,
+        ..POINT
+    },
+    Played {
+        name: "a failing sink",
+        file: WITH_A,
+        left: WITH_A_AND_POINT,
+        sink_faults: &[2],
+        status: 5,
+        output: b"po",
+        told: b"ucon: sink fault\n",
+        ..POINT
+    },
+    Played {
+        name: "a failing read at the opening",
+        disk_faults: &[3],
+        ..HALF_POINTED
+    },
+    Played {
+        name: "a failing sync before the gate",
+        disk_faults: &[12],
+        left: WITH_A_THEN_POINT,
+        ..HALF_POINTED
+    },
+    Played {
+        name: "a failing sync behind the gate",
+        disk_faults: &[14],
+        left: WITH_A_AND_POINT,
+        ..HALF_POINTED
+    },
+    Played {
+        name: "what is there, with a checkpoint",
+        file: WITH_A_AND_POINT,
+        document: SUBJECT_A,
+        output: b"0 1 already there\n",
+        left: WITH_A_AND_POINT,
+        ..PLAY
+    },
+    Played {
+        name: "a step behind a checkpoint",
+        file: WITH_A_AND_POINT,
+        document: SUBJECT_B,
+        output: b"0 2 ok\n",
+        left: WITH_A_AND_POINT_AND_B,
+        ..PLAY
+    },
+    Played {
+        name: "a checkpoint whose gate is closed",
+        file: WITH_A_THEN_POINT,
+        document: SUBJECT_A,
+        output: b"0 1 already there\n",
+        left: WITH_A,
+        ..PLAY
+    },
+    Played {
+        name: "a checkpoint with a subject of no name",
+        file: WRONG_SUBJECT,
+        document: SUBJECT_A,
+        status: 7,
+        told: b"ucon: damaged record 2 at 43\n",
+        left: WRONG_SUBJECT,
+        ..PLAY
+    },
+    Played {
+        name: "a record changed before a checkpoint",
+        file: CHANGED_BEFORE_POINT,
+        document: SUBJECT_A,
+        output: b"0 1 already there\n",
+        left: CHANGED_BEFORE_POINT,
+        ..PLAY
+    },
+    Played {
+        name: "a wrong checkpoint before the last one",
+        file: WRONG_POINT_BEFORE_POINT,
+        document: SUBJECT_A,
+        output: b"0 1 already there\n",
+        left: WRONG_POINT_BEFORE_POINT,
+        ..PLAY
+    },
+    Played {
+        name: "a record changed behind a checkpoint",
+        file: CHANGED_BEHIND_POINT,
+        document: SUBJECT_A,
+        status: 7,
+        told: b"ucon: damaged record 3 at 95\n",
+        left: CHANGED_BEHIND_POINT,
+        ..PLAY
+    },
+    Played {
+        name: "a checkpoint with one subject twice",
+        file: SUBJECT_TWICE,
+        document: SUBJECT_A,
+        status: 7,
+        told: b"ucon: damaged record 2 at 43\n",
+        left: SUBJECT_TWICE,
+        ..PLAY
+    },
+    Played {
+        name: "a checkpoint with a session of no object",
+        file: NO_OBJECT,
+        document: SUBJECT_A,
+        status: 7,
+        told: b"ucon: damaged record 2 at 43\n",
+        left: NO_OBJECT,
+        ..PLAY
+    },
+    Played {
+        name: "a checkpoint in which a use fails",
+        file: UNSETTLED,
+        document: SUBJECT_A,
+        status: 7,
+        told: b"ucon: damaged record 2 at 43\n",
+        left: UNSETTLED,
+        ..PLAY
+    },
+    Played {
+        name: "a checkpoint with a value of no attribute",
+        file: NO_ATTRIBUTE,
+        document: SUBJECT_A,
+        status: 7,
+        told: b"ucon: damaged record 2 at 43\n",
+        left: NO_ATTRIBUTE,
+        ..PLAY
+    },
+    Played {
+        name: "a checkpoint under no policy",
+        file: POLICY_IN_PART,
+        document: SUBJECT_A,
+        status: 7,
+        told: b"ucon: damaged record 2 at 43\n",
+        left: POLICY_IN_PART,
+        ..PLAY
+    },
+    Played {
+        name: "a checkpoint whose last line has no end",
+        file: POINT_IN_PART,
+        document: SUBJECT_A,
+        status: 7,
+        told: b"ucon: damaged record 2 at 43\n",
+        left: POINT_IN_PART,
+        ..PLAY
+    },
+    Played {
+        name: "a checkpoint of another number of entries",
+        file: WRONG_NUMBER,
+        document: SUBJECT_A,
+        status: 7,
+        told: b"ucon: damaged record 2 at 43\n",
+        left: WRONG_NUMBER,
+        ..PLAY
+    },
+];

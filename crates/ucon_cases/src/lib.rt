@@ -6,9 +6,9 @@ mod clients;
 mod hostile;
 mod journals;
 
-pub use checkpoints::{FILLED, Part, WAITED, WAITED_OUTPUT, WAITING, ticks_around_a_checkpoint};
+pub use checkpoints::{FILLED, Part, TICKS_AROUND_A_CHECKPOINT, WAITED, WAITED_OUTPUT, WAITING};
 pub use clients::{Meeting, two_clients};
-pub use hostile::{Limit, Repeated, WITHOUT_ENTRIES, hostile_documents, hostile_journals};
+pub use hostile::{HOSTILE_DOCUMENTS, HOSTILE_JOURNALS, Limit, WITHOUT_ENTRIES};
 pub use journals::{
-    LOOKING, Played, SUBJECTS_B_AND_C, WITH_A, WITH_A_AND_POINT, played_rows, pointed_rows,
+    LOOKING, PLAYED_ROWS, POINTED_ROWS, Played, SUBJECTS_B_AND_C, WITH_A, WITH_A_AND_POINT,
 };

@@ -7,7 +7,7 @@ use std::str;
 use std::sync::Wait;
 use std::test::Fail;
 use std::thread::Threads;
-use ucon_cases::{LOOKING, SUBJECTS_B_AND_C, WITH_A, WITH_A_AND_POINT, played_rows};
+use ucon_cases::{LOOKING, PLAYED_ROWS, SUBJECTS_B_AND_C, WITH_A, WITH_A_AND_POINT};
 use ucon_client::OpenGate;
 use ucon_disk::MemDisk;
 use ucon_top::Outcome;
@@ -44,6 +44,9 @@ fn may_be_found(before: u64, output: &[u8]) -> Result<(u64, u64), Fail> {
     ))
 }
 
+/// What a file's open places are filled with.
+const FILLS: &[u8] = &[0, 1, 255];
+
 /// A run over a file on a disk that stops after so many calls: whatever a crash leaves then, each step that was answered is found.
 fn hold_images<R: Abort + Threads + Wait + Sync>(
     rt: &R,
@@ -57,7 +60,7 @@ fn hold_images<R: Abort + Threads + Wait + Sync>(
     let disk = stopping(alloc, file, Some(calls))?;
     let end = over(rt, alloc, form, document, disk, &OpenGate)?;
     let (least, most) = may_be_found(before, &end.output)?;
-    for fill in [0u8, 1, 255] {
+    for &fill in FILLS {
         let mut fills = Vec::new(alloc);
         fills.resize(100, fill)?;
         for len in 0..100u64 {
@@ -78,7 +81,7 @@ fn hold_images<R: Abort + Threads + Wait + Sync>(
 fn crashes_leave_what_was_answered(rt: HostRuntime) -> Result<(), Fail> {
     for calls in 0..32u64 {
         hold_images(&rt, rt.alloc(), "play", WITH_A, SUBJECTS_B_AND_C, calls)?;
-        for row in played_rows() {
+        for row in PLAYED_ROWS {
             if row.status == 0 {
                 hold_images(&rt, rt.alloc(), row.form, row.file, row.document, calls)?;
             }
@@ -87,11 +90,13 @@ fn crashes_leave_what_was_answered(rt: HostRuntime) -> Result<(), Fail> {
     Ok(())
 }
 
+const FILES: &[&[u8]] = &[WITH_A, WITH_A_AND_POINT];
+
 /// A checkpoint under way changes nothing of what is found.
 #[test]
 fn crashes_of_a_checkpoint_leave_the_history(rt: HostRuntime) -> Result<(), Fail> {
     for calls in 0..32u64 {
-        for file in [WITH_A, WITH_A_AND_POINT] {
+        for &file in FILES {
             hold_images(&rt, rt.alloc(), "point", file, LOOKING, calls)?;
         }
     }
@@ -172,7 +177,7 @@ fn hold_cascade<R: Abort + Threads + Wait + Sync>(
     )?;
     let (least, greatest) = (before.len() as u64, whole.disk.contents().len() as u64);
     let is_answered = end.output == whole.output;
-    for fill in [0u8, 1, 255] {
+    for &fill in FILLS {
         let mut fills = Vec::new(alloc);
         fills.resize(greatest as usize, fill)?;
         for len in [least, least.saturating_add(greatest) / 2, greatest] {

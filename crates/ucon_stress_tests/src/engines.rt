@@ -14,7 +14,7 @@ use ucon_state::{Drafted, Engine, RestoreFault, State};
 use ucon_syntax::read_policy;
 use ucon_top::Outcome;
 use ucon_trial::trial_output;
-use ucon_vectors::{Row, amended_rows, document, timed_rows, worked_rows};
+use ucon_vectors::{AMENDED_ROWS, Row, TIMED_ROWS, WORKED_ROWS, document};
 
 /// Drafts each step and undoes it, before it drafts it again.
 #[derive(Drop)]
@@ -108,9 +108,9 @@ fn first_wrong(alloc: Global, rows: &[Row]) -> Result<Option<&'static str>, Fail
 #[test]
 fn steps_are_drafted_again(rt: HostRuntime) -> Result<(), Fail> {
     let alloc = rt.alloc();
-    assert_eq!(rt; first_wrong(alloc, &worked_rows())?, None);
-    assert_eq!(rt; first_wrong(alloc, &amended_rows())?, None);
-    assert_eq!(rt; first_wrong(alloc, &timed_rows())?, None);
+    assert_eq!(rt; first_wrong(alloc, WORKED_ROWS)?, None);
+    assert_eq!(rt; first_wrong(alloc, AMENDED_ROWS)?, None);
+    assert_eq!(rt; first_wrong(alloc, TIMED_ROWS)?, None);
     Ok(())
 }
 

@@ -6,7 +6,7 @@ use std::str;
 use std::sync::Wait;
 use std::test::Fail;
 use std::thread::Threads;
-use ucon_cases::{FILLED, WAITED, WAITED_OUTPUT, WAITING, ticks_around_a_checkpoint};
+use ucon_cases::{FILLED, TICKS_AROUND_A_CHECKPOINT, WAITED, WAITED_OUTPUT, WAITING};
 use ucon_flow::{MemSink, MemSource};
 use ucon_vectors::{CAPPED, document};
 
@@ -38,7 +38,7 @@ fn over<R: Threads + Wait + Sync>(
 #[test]
 fn ticks_are_counted_over_a_checkpoint(rt: HostRuntime) -> Result<(), Fail> {
     let mut file = Vec::new(rt.alloc());
-    for part in ticks_around_a_checkpoint() {
+    for part in TICKS_AROUND_A_CHECKPOINT {
         let (output, left) = over(&rt, rt.alloc(), part.form, part.document, &file)?;
         assert_eq!(rt; output.as_slice(), part.output);
         file = left;

@@ -6,16 +6,16 @@ use std::alloc::Global;
 use std::sync::Wait;
 use std::test::Fail;
 use std::thread::Threads;
-use ucon_cases::{Limit, Repeated, WITH_A, WITHOUT_ENTRIES, hostile_documents, hostile_journals};
+use ucon_cases::{HOSTILE_DOCUMENTS, HOSTILE_JOURNALS, Limit, WITH_A, WITHOUT_ENTRIES};
 use ucon_flow::{MemSink, MemSource};
-use ucon_vectors::{Row, document, worked_rows};
+use ucon_vectors::{Row, WORKED_ROWS, document};
 
-fn bytes_of(alloc: Global, document: &Repeated) -> Result<Vec<u8>, Fail> {
-    let mut bytes = Vec::from_slice(alloc, document.front)?;
-    for _ in 0..document.times {
-        bytes.extend_from_slice(document.part)?;
+fn document_of(alloc: Global, row: &Limit) -> Result<Vec<u8>, Fail> {
+    let mut bytes = Vec::from_slice(alloc, row.front)?;
+    for _ in 0..row.times {
+        bytes.extend_from_slice(row.part)?;
     }
-    bytes.extend_from_slice(document.back)?;
+    bytes.extend_from_slice(row.back)?;
     Ok(bytes)
 }
 
@@ -34,7 +34,7 @@ fn wrong_part<R: Threads + Wait + Sync>(
     alloc: Global,
     row: &Limit,
 ) -> Result<Option<&'static str>, Fail> {
-    let source = MemSource::new(bytes_of(alloc, &row.document)?, 4096, Vec::new(alloc));
+    let source = MemSource::new(document_of(alloc, row)?, 4096, Vec::new(alloc));
     let sink = MemSink::new(alloc, 4096, Vec::new(alloc));
     let end = ran(rt, alloc, &[row.form], source, sink, no_disk(alloc))?;
     let told = if row.status == 0 {
@@ -58,8 +58,8 @@ fn wrong_part<R: Threads + Wait + Sync>(
 /// `rt try`.
 #[test]
 fn limits_are_met_exactly(rt: HostRuntime) -> Result<(), Fail> {
-    for row in hostile_documents() {
-        let wrong = wrong_part(&rt, rt.alloc(), &row)?;
+    for row in HOSTILE_DOCUMENTS {
+        let wrong = wrong_part(&rt, rt.alloc(), row)?;
         assert_eq!(rt; wrong, None, "{}", row.name);
     }
     Ok(())
@@ -91,7 +91,7 @@ fn is_emptied<R: Threads + Wait + Sync>(rt: &R, alloc: Global, len: usize) -> Re
 #[test]
 fn files_are_judged_by_what_they_hold(rt: HostRuntime) -> Result<(), Fail> {
     let alloc = rt.alloc();
-    let wrong = first_wrong(&rt, alloc, &hostile_journals())?;
+    let wrong = first_wrong(&rt, alloc, HOSTILE_JOURNALS)?;
     assert_eq!(rt; wrong, None);
     for len in 0..44usize {
         assert!(rt; is_emptied(&rt, alloc, len)?, "cut to {len} bytes");
@@ -137,7 +137,7 @@ fn is_unwritten<R: Threads + Wait + Sync>(
 #[test]
 fn each_call_may_fail(rt: HostRuntime) -> Result<(), Fail> {
     let alloc = rt.alloc();
-    let music = worked_rows()[0];
+    let music = WORKED_ROWS.first().ok_or("a row")?;
     let whole = document(alloc, music.policy, music.script)?;
     for call in 0..=whole.len() {
         assert!(rt; is_unread(&rt, alloc, &whole, call as u64)?, "read {call}");
@@ -148,7 +148,7 @@ fn each_call_may_fail(rt: HostRuntime) -> Result<(), Fail> {
     let left = end.disk.contents();
     for call in 0..music.output.len() {
         assert!(rt;
-            is_unwritten(&rt, alloc, &music, left, call)?,
+            is_unwritten(&rt, alloc, music, left, call)?,
             "write {call}"
         );
     }

@@ -5,9 +5,9 @@ use std::alloc::Global;
 use std::sync::Wait;
 use std::test::Fail;
 use std::thread::Threads;
-use ucon_cases::{Played, played_rows, pointed_rows};
+use ucon_cases::{PLAYED_ROWS, POINTED_ROWS, Played};
 use ucon_flow::{MemSink, MemSource};
-use ucon_vectors::{Row, amended_rows, document};
+use ucon_vectors::{AMENDED_ROWS, Row, document};
 
 /// How a row's form ends over its document and its file.
 fn played<R: Threads + Wait + Sync>(rt: &R, alloc: Global, row: &Played) -> Result<End, Fail> {
@@ -44,7 +44,7 @@ pub fn first_wrong<R: Threads + Wait + Sync>(
 
 #[test]
 fn journals_hold_what_was_acknowledged(rt: HostRuntime) -> Result<(), Fail> {
-    let wrong = first_wrong(&rt, rt.alloc(), &played_rows())?;
+    let wrong = first_wrong(&rt, rt.alloc(), PLAYED_ROWS)?;
     assert_eq!(rt; wrong, None);
     Ok(())
 }
@@ -52,7 +52,7 @@ fn journals_hold_what_was_acknowledged(rt: HostRuntime) -> Result<(), Fail> {
 /// Checkpoints that are written to a journal, and documents that are played over a journal that has some.
 #[test]
 fn journals_hold_their_checkpoints(rt: HostRuntime) -> Result<(), Fail> {
-    let wrong = first_wrong(&rt, rt.alloc(), &pointed_rows())?;
+    let wrong = first_wrong(&rt, rt.alloc(), POINTED_ROWS)?;
     assert_eq!(rt; wrong, None);
     Ok(())
 }
@@ -89,8 +89,8 @@ fn is_found_again<R: Threads + Wait + Sync>(
 /// Over a new journal policies are replaced as in `trial`.
 #[test]
 fn amended_rows_are_found_again(rt: HostRuntime) -> Result<(), Fail> {
-    for row in amended_rows() {
-        assert!(rt; is_found_again(&rt, rt.alloc(), &row)?, "{}", row.name);
+    for row in AMENDED_ROWS {
+        assert!(rt; is_found_again(&rt, rt.alloc(), row)?, "{}", row.name);
     }
     Ok(())
 }

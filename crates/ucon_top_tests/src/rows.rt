@@ -8,8 +8,8 @@ use std::thread::Threads;
 use ucon_flow::{MemSink, MemSource};
 use ucon_script::{generate, read_script};
 use ucon_vectors::{
-    CAPPED, Example, Row, amended_rows, document, generated_rows, guide_examples,
-    language_examples, timed_rows, typing_faults, well_typed_policies, worked_rows,
+    AMENDED_ROWS, CAPPED, Example, GENERATED_ROWS, GUIDE_EXAMPLES, LANGUAGE_EXAMPLES, Row,
+    TIMED_ROWS, TYPING_FAULTS, WELL_TYPED_POLICIES, WORKED_ROWS, document,
 };
 
 /// Whether a form ends with this status over a document and prints this: the output, or with another status than 0 the line of the fault.
@@ -48,7 +48,7 @@ fn first_wrong_row<R: Threads + Wait + Sync>(
 /// With ample memory. The first run is what refuses a program that answers `no memory` to every line: no clause can.
 #[test]
 fn worked_rows_print_what_they_say(rt: HostRuntime) -> Result<(), Fail> {
-    let wrong = first_wrong_row(&rt, rt.alloc(), &worked_rows())?;
+    let wrong = first_wrong_row(&rt, rt.alloc(), WORKED_ROWS)?;
     assert_eq!(rt; wrong, None);
     Ok(())
 }
@@ -56,7 +56,7 @@ fn worked_rows_print_what_they_say(rt: HostRuntime) -> Result<(), Fail> {
 /// Uses that time ends.
 #[test]
 fn timed_rows_print_what_they_say(rt: HostRuntime) -> Result<(), Fail> {
-    let wrong = first_wrong_row(&rt, rt.alloc(), &timed_rows())?;
+    let wrong = first_wrong_row(&rt, rt.alloc(), TIMED_ROWS)?;
     assert_eq!(rt; wrong, None);
     Ok(())
 }
@@ -64,7 +64,7 @@ fn timed_rows_print_what_they_say(rt: HostRuntime) -> Result<(), Fail> {
 /// Policies that are replaced while uses go on.
 #[test]
 fn amended_rows_print_what_they_say(rt: HostRuntime) -> Result<(), Fail> {
-    let wrong = first_wrong_row(&rt, rt.alloc(), &amended_rows())?;
+    let wrong = first_wrong_row(&rt, rt.alloc(), AMENDED_ROWS)?;
     assert_eq!(rt; wrong, None);
     Ok(())
 }
@@ -86,7 +86,7 @@ fn first_wrong_example<R: Threads + Wait + Sync>(
 /// The user's page of the policy language tells the truth.
 #[test]
 fn the_language_page_tells_what_is_printed(rt: HostRuntime) -> Result<(), Fail> {
-    let wrong = first_wrong_example(&rt, rt.alloc(), &language_examples())?;
+    let wrong = first_wrong_example(&rt, rt.alloc(), LANGUAGE_EXAMPLES)?;
     assert_eq!(rt; wrong, None);
     Ok(())
 }
@@ -94,7 +94,7 @@ fn the_language_page_tells_what_is_printed(rt: HostRuntime) -> Result<(), Fail> 
 /// So do the pages of commands and errors, and the examples to begin with.
 #[test]
 fn the_other_pages_tell_what_is_printed(rt: HostRuntime) -> Result<(), Fail> {
-    let wrong = first_wrong_example(&rt, rt.alloc(), &guide_examples())?;
+    let wrong = first_wrong_example(&rt, rt.alloc(), GUIDE_EXAMPLES)?;
     assert_eq!(rt; wrong, None);
     Ok(())
 }
@@ -124,28 +124,30 @@ fn first_misjudged<R: Threads + Wait + Sync>(
 
 #[test]
 fn typing_faults_come_in_order(rt: HostRuntime) -> Result<(), Fail> {
-    let wrong = first_misjudged(&rt, rt.alloc(), 2, &typing_faults())?;
+    let wrong = first_misjudged(&rt, rt.alloc(), 2, TYPING_FAULTS)?;
     assert_eq!(rt; wrong, None);
     Ok(())
 }
 
 #[test]
 fn core_models_are_told(rt: HostRuntime) -> Result<(), Fail> {
-    let wrong = first_misjudged(&rt, rt.alloc(), 0, &well_typed_policies())?;
+    let wrong = first_misjudged(&rt, rt.alloc(), 0, WELL_TYPED_POLICIES)?;
     assert_eq!(rt; wrong, None);
     Ok(())
 }
 
+const SIDES: &[&str] = &["s", "o"];
+
 /// A right whose ongoing predicates read all sixteen attributes of each side, and more predicates.
 fn reading_all(alloc: Global, more: &str) -> Result<Vec<u8>, Fail> {
     let mut text = String::new(alloc);
-    for side in ["s", "o"] {
+    for side in SIDES {
         for i in 0..16u32 {
             text.push_str(format!(in alloc; "attr {side} a{i} : int 0..9 = 0; ")?.as_str())?;
         }
     }
     text.push_str("env e : int 0..9 = 0; right r { ")?;
-    for side in ["s", "o"] {
+    for side in SIDES {
         text.push_str(format!(in alloc; "on a {side}: {side}.a0 = {side}.a1")?.as_str())?;
         for i in 2..16u32 {
             text.push_str(format!(in alloc; " and {side}.a{i} = {side}.a0")?.as_str())?;
@@ -160,7 +162,7 @@ fn reading_all(alloc: Global, more: &str) -> Result<Vec<u8>, Fail> {
 const TOO_MANY: &[u8] = b"ucon: policy: too many cells r 33\n";
 
 /// 32 places, and one more.
-const PLACES: [(&str, u8, &[u8]); 4] = [
+const PLACES: &[(&str, u8, &[u8])] = &[
     ("", 0, b"right r onA0\n"),
     ("pre c e: env.e = 1;", 0, b"right r onA0 preC0\n"),
     ("on c e: env.e = 1;", 2, TOO_MANY),
@@ -169,7 +171,7 @@ const PLACES: [(&str, u8, &[u8]); 4] = [
 
 #[test]
 fn places_are_counted(rt: HostRuntime) -> Result<(), Fail> {
-    for (more, status, line) in PLACES {
+    for &(more, status, line) in PLACES {
         let policy = reading_all(rt.alloc(), more)?;
         assert!(rt;
             prints(&rt, rt.alloc(), "check", &policy, status, line)?,
@@ -180,18 +182,19 @@ fn places_are_counted(rt: HostRuntime) -> Result<(), Fail> {
 }
 
 /// Core models, and a second refusal of each sort.
+const JUDGED: &[(&[u8], u8, &[u8])] = &[
+    (CAPPED, 0, b"right use onA1 onA3\n"),
+    (b"right r {", 2, b"ucon: policy: unexpected at 9\n"),
+    (
+        b"%%\nclient 1\nlook\n",
+        3,
+        b"ucon: script: wrong count at line 3\n",
+    ),
+];
+
 #[test]
 fn other_documents(rt: HostRuntime) -> Result<(), Fail> {
-    let cases: [(&[u8], u8, &[u8]); 3] = [
-        (CAPPED, 0, b"right use onA1 onA3\n"),
-        (b"right r {", 2, b"ucon: policy: unexpected at 9\n"),
-        (
-            b"%%\nclient 1\nlook\n",
-            3,
-            b"ucon: script: wrong count at line 3\n",
-        ),
-    ];
-    for (document, status, text) in cases {
+    for &(document, status, text) in JUDGED {
         assert!(rt;
             prints(&rt, rt.alloc(), "check", document, status, text)?,
             "{text:?}"
@@ -211,7 +214,7 @@ type Case = (
 );
 
 /// Faults outside the document.
-const CASES: [Case; 5] = [
+const CASES: &[Case] = &[
     (&["trial"], &[], &[], 0, b"0 1 ok\n", b""),
     (&["trial"], &[1], &[], 4, b"", b"ucon: source fault\n"),
     (&["trial"], &[], &[2], 5, b"0 ", b"ucon: sink fault\n"),
@@ -232,7 +235,7 @@ fn ends_so<R: Threads + Wait + Sync>(rt: &R, alloc: Global, case: &Case) -> Resu
 #[test]
 fn other_ends(rt: HostRuntime) -> Result<(), Fail> {
     for case in CASES {
-        assert!(rt; ends_so(&rt, rt.alloc(), &case)?, "{:?}", case.5);
+        assert!(rt; ends_so(&rt, rt.alloc(), case)?, "{:?}", case.5);
     }
     Ok(())
 }
@@ -264,13 +267,9 @@ fn generated<R: Threads + Wait + Sync>(
 
 #[test]
 fn generated_documents_are_summed(rt: HostRuntime) -> Result<(), Fail> {
-    for row in generated_rows() {
-        let (status, output) = generated(&rt, rt.alloc(), row.words)?;
-        assert!(rt;
-            status == row.status && same(&output, row.output),
-            "{:?}",
-            row.output
-        );
+    for &(words, status, text) in GENERATED_ROWS {
+        let (ended, output) = generated(&rt, rt.alloc(), words)?;
+        assert!(rt; ended == status && same(&output, text), "{words:?}");
     }
     Ok(())
 }

@@ -11,12 +11,11 @@ right read { on a rich: s.credit > 0; during s.credit = s.credit - 1; }
 ";
 
 /// The rows.
-pub fn amended_rows() -> [Row; 6] {
-    [
-        Row {
-            name: "a_right_taken_away",
-            policy: CAPPED,
-            script: b"client 0
+pub const AMENDED_ROWS: &[Row] = &[
+    Row {
+        name: "a_right_taken_away",
+        policy: CAPPED,
+        script: b"client 0
 subject a
 object x
 try a use x
@@ -33,7 +32,7 @@ client 0
 amend right r {}
 value o x users
 ",
-            output: b"0 1 ok
+        output: b"0 1 ok
 0 2 ok
 0 3 permitted 1
 0 4 ok revoked 1 no_right
@@ -47,13 +46,13 @@ value o x users
 0 6 ok
 0 6 no attribute
 ",
-        },
-        // An attribute and a variable that were dropped come back with their new defaults and not with their old values; what stays keeps
-        // its value, also where its default is new, and an entity that is made later has the new default.
-        Row {
-            name: "dropped_and_brought_back",
-            policy: LENT,
-            script: b"client 0
+    },
+    // An attribute and a variable that were dropped come back with their new defaults and not with their old values; what stays keeps
+    // its value, also where its default is new, and an entity that is made later has the new default.
+    Row {
+        name: "dropped_and_brought_back",
+        policy: LENT,
+        script: b"client 0
 subject ann
 object book
 set s ann credit 50
@@ -76,7 +75,7 @@ value s ann credit
 value s bob credit
 value o book name
 ",
-            output: b"0 1 ok
+        output: b"0 1 ok
 0 2 ok
 0 3 ok
 0 4 ok
@@ -98,13 +97,13 @@ value o book name
 0 11 value 1
 0 11 no attribute
 ",
-        },
-        // A session that waits is decided by its right as it comes back; one that is accessing is revoked by a right that goes, and by the
-        // new predicates of one that stays, in the one order; one that ended stays ended.
-        Row {
-            name: "sessions_under_a_right_that_goes_and_comes_back",
-            policy: LENT,
-            script: b"client 0
+    },
+    // A session that waits is decided by its right as it comes back; one that is accessing is revoked by a right that goes, and by the
+    // new predicates of one that stays, in the one order; one that ended stays ended.
+    Row {
+        name: "sessions_under_a_right_that_goes_and_comes_back",
+        policy: LENT,
+        script: b"client 0
 subject ann
 object book
 try ann borrow book
@@ -131,7 +130,7 @@ end 3
 client 0
 again 1
 ",
-            output: b"0 1 ok
+        output: b"0 1 ok
 0 2 ok
 0 3 waiting 1 sign
 1 4 permitted 2
@@ -153,12 +152,12 @@ again 1
 1 11 not accessing
 0 11 no right
 ",
-        },
-        // Each way in which a kind may change, and what is no change.
-        Row {
-            name: "kinds_that_change",
-            policy: LENT,
-            script: b"client 0
+    },
+    // Each way in which a kind may change, and what is no change.
+    Row {
+        name: "kinds_that_change",
+        policy: LENT,
+        script: b"client 0
 amend attr s credit : int 0..101 = 5;
 amend attr s credit : int 1..100 = 5;
 amend attr s credit : text = \"5\";
@@ -168,7 +167,7 @@ amend attr s name : set = {}; attr o credit : text = \"5\"; env credit : set = {
 amend attr s name : set = {\"a\"}; attr s credit : text = \"5\"; attr o name : int 0..1 = 1; env hour : text = \"\";
 amend attr s credit : int 0..100 = 5; attr o name : int 0..2 = 1;
 ",
-            output: b"0 0 kind changed
+        output: b"0 0 kind changed
 0 0 kind changed
 0 0 kind changed
 0 0 kind changed
@@ -177,13 +176,13 @@ amend attr s credit : int 0..100 = 5; attr o name : int 0..2 = 1;
 0 2 ok
 0 2 kind changed
 ",
-        },
-        // An empty policy, written with one space and nothing behind it, takes all away; a comment reaches to the end of the line. Acts stay:
-        // what was told counts again when an obligation names it again.
-        Row {
-            name: "an_empty_policy",
-            policy: LENT,
-            script: b"client 0
+    },
+    // An empty policy, written with one space and nothing behind it, takes all away; a comment reaches to the end of the line. Acts stay:
+    // what was told counts again when an obligation names it again.
+    Row {
+        name: "an_empty_policy",
+        policy: LENT,
+        script: b"client 0
 subject ann
 object book
 act ann sign_up book
@@ -196,7 +195,7 @@ try ann borrow book
 amend right borrow { pre b sign: done sign_up; }
 try ann borrow book
 ",
-            output: b"0 1 ok
+        output: b"0 1 ok
 0 2 ok
 0 3 ok
 0 4 ok
@@ -208,12 +207,12 @@ try ann borrow book
 0 6 ok
 0 7 permitted 1
 ",
-        },
-        // What was brought and dropped in between is as if it had never been there; its default is that of the last amendment that brings it.
-        Row {
-            name: "the_last_that_brings_it",
-            policy: b"",
-            script: b"client 0
+    },
+    // What was brought and dropped in between is as if it had never been there; its default is that of the last amendment that brings it.
+    Row {
+        name: "the_last_that_brings_it",
+        policy: b"",
+        script: b"client 0
 subject ann
 amend attr s k : int 0..9 = 1; env v : int 0..9 = 1;
 set s ann k 5
@@ -226,7 +225,7 @@ amend attr s k : int 0..9 = 3; env v : int 0..9 = 3; right r { pre a t: s.k = 3;
 value s ann k
 try ann r x
 ",
-            output: b"0 1 ok
+        output: b"0 1 ok
 0 2 ok
 0 3 ok
 0 4 ok
@@ -238,6 +237,5 @@ try ann r x
 0 9 value 3
 0 10 permitted 2
 ",
-        },
-    ]
-}
+    },
+];

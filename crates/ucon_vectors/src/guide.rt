@@ -3,12 +3,11 @@
 use crate::Example;
 
 /// The examples, in the order of the pages.
-pub fn guide_examples() -> [Example; 19] {
-    [
-        Example {
-            name: "commands 1",
-            form: "trial",
-            document: b"attr o seats : int 0..9 = 1;
+pub const GUIDE_EXAMPLES: &[Example] = &[
+    Example {
+        name: "commands 1",
+        form: "trial",
+        document: b"attr o seats : int 0..9 = 1;
 attr o taken : int 0..9 = 0;
 right sit {
   on a room: o.taken <= o.seats;
@@ -31,8 +30,8 @@ client 2
 end 2
 value o bench taken
 ",
-            status: 0,
-            text: b"0 1 ok
+        status: 0,
+        text: b"0 1 ok
 0 2 ok
 0 3 ok
 1 4 permitted 1
@@ -41,11 +40,11 @@ value o bench taken
 2 6 ended 2
 2 6 value 0
 ",
-        },
-        Example {
-            name: "commands 2",
-            form: "trial",
-            document: b"attr s age : int 0..150 = 0;
+    },
+    Example {
+        name: "commands 2",
+        form: "trial",
+        document: b"attr s age : int 0..150 = 0;
 env hour : int 0..23 = 9;
 right buy { pre b sign: done sign_up; }
 %%
@@ -79,8 +78,8 @@ act ann sign_up wine
 again 1
 again 1
 ",
-            status: 0,
-            text: b"1 0 not admin
+        status: 0,
+        text: b"1 0 not admin
 0 1 ok
 0 1 already there
 0 2 ok
@@ -106,11 +105,11 @@ again 1
 0 6 permitted 1
 0 6 not requesting
 ",
-        },
-        Example {
-            name: "commands 3",
-            form: "trial",
-            document: b"right borrow { pre b sign: done sign_up; }
+    },
+    Example {
+        name: "commands 3",
+        form: "trial",
+        document: b"right borrow { pre b sign: done sign_up; }
 %%
 client 0
 subject ann
@@ -130,8 +129,8 @@ amend right sell {}
 client 0
 amend right sell {}
 ",
-            status: 0,
-            text: b"0 1 ok
+        status: 0,
+        text: b"0 1 ok
 0 2 ok
 1 3 waiting 1 sign
 0 4 ok
@@ -142,127 +141,127 @@ amend right sell {}
 1 7 not admin
 0 8 ok revoked 1 no_right
 ",
-        },
-        Example {
-            name: "errors 1",
-            form: "trial",
-            document: b"right r {
+    },
+    Example {
+        name: "errors 1",
+        form: "trial",
+        document: b"right r {
 ",
-            status: 2,
-            text: b"ucon: policy: unexpected at 10
+        status: 2,
+        text: b"ucon: policy: unexpected at 10
 ",
-        },
-        Example {
-            name: "errors 2",
-            form: "trial",
-            document: b"right r { pre a t: 1 = 1; } ?
+    },
+    Example {
+        name: "errors 2",
+        form: "trial",
+        document: b"right r { pre a t: 1 = 1; } ?
 ",
-            status: 2,
-            text: b"ucon: policy: unknown byte at 28
+        status: 2,
+        text: b"ucon: policy: unknown byte at 28
 ",
-        },
-        Example {
-            name: "errors 3",
-            form: "trial",
-            document: b"right r { pre a t: \"a = \"b\"; }
+    },
+    Example {
+        name: "errors 3",
+        form: "trial",
+        document: b"right r { pre a t: \"a = \"b\"; }
 ",
-            status: 2,
-            text: b"ucon: policy: unexpected at 25
+        status: 2,
+        text: b"ucon: policy: unexpected at 25
 ",
-        },
-        Example {
-            name: "errors 4",
-            form: "trial",
-            document: b"right r { pre a a_name_of_more_than_thirty_two_bytes: 1 = 1; }
+    },
+    Example {
+        name: "errors 4",
+        form: "trial",
+        document: b"right r { pre a a_name_of_more_than_thirty_two_bytes: 1 = 1; }
 ",
-            status: 2,
-            text: b"ucon: policy: too long at 16
+        status: 2,
+        text: b"ucon: policy: too long at 16
 ",
-        },
-        Example {
-            name: "errors 5",
-            form: "trial",
-            document: b"right r { pre a t: s.x = 1; }
+    },
+    Example {
+        name: "errors 5",
+        form: "trial",
+        document: b"right r { pre a t: s.x = 1; }
 ",
-            status: 2,
-            text: b"ucon: policy: no name x at item 2
+        status: 2,
+        text: b"ucon: policy: no name x at item 2
 ",
-        },
-        Example {
-            name: "errors 6",
-            form: "trial",
-            document: b"attr s n : int 5..3 = 4;
+    },
+    Example {
+        name: "errors 6",
+        form: "trial",
+        document: b"attr s n : int 5..3 = 4;
 ",
-            status: 2,
-            text: b"ucon: policy: wrong kind at item 1
+        status: 2,
+        text: b"ucon: policy: wrong kind at item 1
 ",
-        },
-        Example {
-            name: "errors 7",
-            form: "trial",
-            document: b"right r { pre a t: 1 = 1; on a t: 2 = 2; }
+    },
+    Example {
+        name: "errors 7",
+        form: "trial",
+        document: b"right r { pre a t: 1 = 1; on a t: 2 = 2; }
 ",
-            status: 2,
-            text: b"ucon: policy: twice t at item 3
+        status: 2,
+        text: b"ucon: policy: twice t at item 3
 ",
-        },
-        Example {
-            name: "errors 8",
-            form: "trial",
-            document: b"%%
+    },
+    Example {
+        name: "errors 8",
+        form: "trial",
+        document: b"%%
 client 0
 fly a
 ",
-            status: 3,
-            text: b"ucon: script: unknown word at line 3
+        status: 3,
+        text: b"ucon: script: unknown word at line 3
 ",
-        },
-        Example {
-            name: "errors 9",
-            form: "trial",
-            document: b"%%
+    },
+    Example {
+        name: "errors 9",
+        form: "trial",
+        document: b"%%
 client 64
 ",
-            status: 3,
-            text: b"ucon: script: too many clients at line 2
+        status: 3,
+        text: b"ucon: script: too many clients at line 2
 ",
-        },
-        Example {
-            name: "errors 10",
-            form: "trial",
-            document: b"%%
+    },
+    Example {
+        name: "errors 10",
+        form: "trial",
+        document: b"%%
 tick 1
 ",
-            status: 3,
-            text: b"ucon: script: bad heading at line 2
+        status: 3,
+        text: b"ucon: script: bad heading at line 2
 ",
-        },
-        Example {
-            name: "errors 11",
-            form: "trial",
-            document: b"%%
+    },
+    Example {
+        name: "errors 11",
+        form: "trial",
+        document: b"%%
 client 0
 look
 ",
-            status: 3,
-            text: b"ucon: script: wrong count at line 3
+        status: 3,
+        text: b"ucon: script: wrong count at line 3
 ",
-        },
-        Example {
-            name: "errors 12",
-            form: "trial",
-            document: b"%%
+    },
+    Example {
+        name: "errors 12",
+        form: "trial",
+        document: b"%%
 client 0
 tick 01
 ",
-            status: 3,
-            text: b"ucon: script: bad word at line 3
+        status: 3,
+        text: b"ucon: script: bad word at line 3
 ",
-        },
-        Example {
-            name: "examples data_room",
-            form: "trial",
-            document: b"# A shared data room.
+    },
+    Example {
+        name: "examples data_room",
+        form: "trial",
+        document: b"# A shared data room.
 #
 # A reader who has signed the agreement may open a file of a matter that they are cleared for, in opening hours. At most two read
 # one file at a time; when one more opens it, the reader who asked first is shown out. A reader whose clearance is withdrawn is shown
@@ -322,8 +321,8 @@ value o offer readers
 client 1
 try ada read offer
 ",
-            status: 0,
-            text: b"0 1 ok
+        status: 0,
+        text: b"0 1 ok
 0 2 ok
 0 3 ok
 0 4 ok
@@ -345,11 +344,11 @@ try ada read offer
 0 18 value 0
 1 19 denied 4 open
 ",
-        },
-        Example {
-            name: "examples first",
-            form: "trial",
-            document: b"attr s credit : int 0..100 = 0;
+    },
+    Example {
+        name: "examples first",
+        form: "trial",
+        document: b"attr s credit : int 0..100 = 0;
 attr o price : int 0..100 = 5;
 right play {
   pre a funds: s.credit >= o.price;
@@ -364,18 +363,18 @@ set s ann credit 5
 try ann play song
 value s ann credit
 ",
-            status: 0,
-            text: b"0 1 ok
+        status: 0,
+        text: b"0 1 ok
 0 2 ok
 0 3 ok
 0 4 permitted 1 revoked 1 left
 0 4 value 0
 ",
-        },
-        Example {
-            name: "examples music",
-            form: "trial",
-            document: b"# A pay-per-use music service.
+    },
+    Example {
+        name: "examples music",
+        form: "trial",
+        document: b"# A pay-per-use music service.
 #
 # A listener pays the price of a song when a use begins, and one credit more at each beat. Nobody begins without having accepted the
 # terms, and whoever listens has to click at an advertisement every 30 ticks.
@@ -428,8 +427,8 @@ value o song plays
 client 1
 try ann play song
 ",
-            status: 0,
-            text: b"0 1 ok
+        status: 0,
+        text: b"0 1 ok
 0 2 ok
 0 3 ok
 1 4 waiting 1 terms
@@ -441,11 +440,11 @@ try ann play song
 0 8 value 1
 1 9 denied 2 funds
 ",
-        },
-        Example {
-            name: "examples rights",
-            form: "trial",
-            document: b"# A rights service for films.
+    },
+    Example {
+        name: "examples rights",
+        form: "trial",
+        document: b"# A rights service for films.
 #
 # A licence is a number of plays of a film, and each play ends 180 ticks after it began. A household watches on so many devices at once.
 # Whoever shares an account is asked for the code at least every 60 ticks, by the account's owner.
@@ -508,8 +507,8 @@ tick 121
 tick 181
 value s owner devices
 ",
-            status: 0,
-            text: b"0 1 ok
+        status: 0,
+        text: b"0 1 ok
 0 2 ok
 0 3 ok
 0 4 ok
@@ -529,6 +528,5 @@ value s owner devices
 0 17 ok revoked 2 evening revoked 3 evening
 0 17 value 0
 ",
-        },
-    ]
-}
+    },
+];

@@ -3,12 +3,11 @@
 use crate::Example;
 
 /// The examples, in the order of the pages.
-pub fn language_examples() -> [Example; 15] {
-    [
-        Example {
-            name: "policy-language 1",
-            form: "trial",
-            document: b"attr s credit : int 0..100 = 20;
+pub const LANGUAGE_EXAMPLES: &[Example] = &[
+    Example {
+        name: "policy-language 1",
+        form: "trial",
+        document: b"attr s credit : int 0..100 = 20;
 attr s member : text = \"none\";
 attr o tags : set = {\"loud\", \"new\"};
 %%
@@ -20,19 +19,19 @@ value s ann member
 value o song tags
 set s ann credit 101
 ",
-            status: 0,
-            text: b"0 1 ok
+        status: 0,
+        text: b"0 1 ok
 0 2 ok
 0 2 value 20
 0 2 value \"none\"
 0 2 value {\"loud\",\"new\"}
 0 2 bad value
 ",
-        },
-        Example {
-            name: "policy-language 2",
-            form: "trial",
-            document: b"env hour : int 0..23 = 9;
+    },
+    Example {
+        name: "policy-language 2",
+        form: "trial",
+        document: b"env hour : int 0..23 = 9;
 right enter { pre c open: env.hour >= 8 and env.hour < 18; }
 %%
 client 0
@@ -42,18 +41,18 @@ try ann enter hall
 env hour 20
 try ann enter hall
 ",
-            status: 0,
-            text: b"0 1 ok
+        status: 0,
+        text: b"0 1 ok
 0 2 ok
 0 3 permitted 1
 0 4 ok
 0 5 denied 2 open
 ",
-        },
-        Example {
-            name: "policy-language 3",
-            form: "trial",
-            document: b"attr s age : int 0..150 = 0;
+    },
+    Example {
+        name: "policy-language 3",
+        form: "trial",
+        document: b"attr s age : int 0..150 = 0;
 right watch {
   pre a adult: s.age >= 18;
   pre a alive: s.age < 150;
@@ -66,17 +65,17 @@ object film
 try ann watch film
 try ann listen film
 ",
-            status: 0,
-            text: b"0 1 ok
+        status: 0,
+        text: b"0 1 ok
 0 2 ok
 0 3 denied 1 adult
 0 4 permitted 2
 ",
-        },
-        Example {
-            name: "policy-language 4",
-            form: "trial",
-            document: b"attr s age : int 0..150 = 0;
+    },
+    Example {
+        name: "policy-language 4",
+        form: "trial",
+        document: b"attr s age : int 0..150 = 0;
 right buy {
   pre b sign: done sign_up;
   pre a adult: s.age >= 18;
@@ -92,8 +91,8 @@ act ann sign_up wine
 again 2
 again 1
 ",
-            status: 0,
-            text: b"0 1 ok
+        status: 0,
+        text: b"0 1 ok
 0 2 ok
 0 3 denied 1 adult
 0 4 ok
@@ -102,11 +101,11 @@ again 1
 0 7 permitted 2
 0 7 not requesting
 ",
-        },
-        Example {
-            name: "policy-language 5",
-            form: "trial",
-            document: b"attr o users : int 0..1000 = 0;
+    },
+    Example {
+        name: "policy-language 5",
+        form: "trial",
+        document: b"attr o users : int 0..1000 = 0;
 attr o most : int 0..1000 = 3;
 right use {
   on a cap: o.users <= o.most;
@@ -125,8 +124,8 @@ set o hall most 1
 look 1
 look 2
 ",
-            status: 0,
-            text: b"0 1 ok
+        status: 0,
+        text: b"0 1 ok
 0 2 ok
 0 3 ok
 0 4 permitted 1
@@ -135,11 +134,11 @@ look 2
 0 6 status 1 revoked
 0 6 status 2 accessing
 ",
-        },
-        Example {
-            name: "policy-language 6",
-            form: "trial",
-            document: b"attr s credit : int 0..10 = 10;
+    },
+    Example {
+        name: "policy-language 6",
+        form: "trial",
+        document: b"attr s credit : int 0..10 = 10;
 attr o plays : int 0..1000 = 0;
 right play {
   pre a any: s.credit > 0;
@@ -159,8 +158,8 @@ value s ann credit
 end 1
 value o song plays
 ",
-            status: 0,
-            text: b"0 1 ok
+        status: 0,
+        text: b"0 1 ok
 0 2 ok
 0 3 permitted 1
 0 3 value 6
@@ -169,11 +168,11 @@ value o song plays
 0 5 ended 1
 0 5 value 1
 ",
-        },
-        Example {
-            name: "policy-language 7",
-            form: "trial",
-            document: b"attr s n : int 0..1000 = 0;
+    },
+    Example {
+        name: "policy-language 7",
+        form: "trial",
+        document: b"attr s n : int 0..1000 = 0;
 attr s tags : set = {\"new\"};
 right count {
   pre a few: size(s.tags) <= 2;
@@ -189,18 +188,18 @@ try ann count song
 value s ann n
 value s ann tags
 ",
-            status: 0,
-            text: b"0 1 ok
+        status: 0,
+        text: b"0 1 ok
 0 2 ok
 0 3 permitted 1
 0 3 value 15
 0 3 value {\"old\"}
 ",
-        },
-        Example {
-            name: "policy-language 8",
-            form: "trial",
-            document: b"attr s role : text = \"guest\";
+    },
+    Example {
+        name: "policy-language 8",
+        form: "trial",
+        document: b"attr s role : text = \"guest\";
 attr s tags : set = {};
 attr o level : int 0..9 = 3;
 right open {
@@ -216,8 +215,8 @@ try ann open door
 set s ann role \"banned\"
 try ann open door
 ",
-            status: 0,
-            text: b"0 1 ok
+        status: 0,
+        text: b"0 1 ok
 0 2 ok
 0 3 denied 1 allowed
 0 4 ok
@@ -225,11 +224,11 @@ try ann open door
 0 6 ok
 0 7 denied 3 allowed
 ",
-        },
-        Example {
-            name: "policy-language 9",
-            form: "trial",
-            document: b"right visit {
+    },
+    Example {
+        name: "policy-language 9",
+        form: "trial",
+        document: b"right visit {
   pre b seen: within 5 check by \"guard\" on \"door\";
   on b here: every 30 click;
 }
@@ -247,8 +246,8 @@ act ann click hall
 tick 35
 tick 36
 ",
-            status: 0,
-            text: b"0 1 ok
+        status: 0,
+        text: b"0 1 ok
 0 2 ok
 0 3 ok
 0 4 ok
@@ -260,11 +259,11 @@ tick 36
 0 10 ok
 0 11 ok revoked 1 here
 ",
-        },
-        Example {
-            name: "policy-language 10",
-            form: "trial",
-            document: b"right visit { on c short: lasts 10; }
+    },
+    Example {
+        name: "policy-language 10",
+        form: "trial",
+        document: b"right visit { on c short: lasts 10; }
 %%
 client 0
 subject ann
@@ -273,37 +272,37 @@ try ann visit hall
 tick 10
 tick 11
 ",
-            status: 0,
-            text: b"0 1 ok
+        status: 0,
+        text: b"0 1 ok
 0 2 ok
 0 3 permitted 1
 0 4 ok
 0 5 ok revoked 1 short
 ",
-        },
-        Example {
-            name: "policy-language 11",
-            form: "trial",
-            document: b"right r { pre c t: lasts 5; }
+    },
+    Example {
+        name: "policy-language 11",
+        form: "trial",
+        document: b"right r { pre c t: lasts 5; }
 ",
-            status: 2,
-            text: b"ucon: policy: wrong reader at item 2
+        status: 2,
+        text: b"ucon: policy: wrong reader at item 2
 ",
-        },
-        Example {
-            name: "policy-language 12",
-            form: "trial",
-            document: b"attr s n : int 0..9 = 0;
+    },
+    Example {
+        name: "policy-language 12",
+        form: "trial",
+        document: b"attr s n : int 0..9 = 0;
 right r { pre c t: 1 = 1; before s.n = 1; }
 ",
-            status: 2,
-            text: b"ucon: policy: not core r
+        status: 2,
+        text: b"ucon: policy: not core r
 ",
-        },
-        Example {
-            name: "policy-language 13",
-            form: "check",
-            document: b"attr o users : int 0..1000 = 0;
+    },
+    Example {
+        name: "policy-language 13",
+        form: "check",
+        document: b"attr o users : int 0..1000 = 0;
 right use {
   on a cap: o.users <= 3;
   on c short: lasts 100;
@@ -312,15 +311,15 @@ right use {
 }
 right look {}
 ",
-            status: 0,
-            text: b"right use onA1 onA3 onC0
+        status: 0,
+        text: b"right use onA1 onA3 onC0
 right look
 ",
-        },
-        Example {
-            name: "policy-language 14",
-            form: "trial",
-            document: b"attr s on : int 0..1 = 1;   # an attribute named on
+    },
+    Example {
+        name: "policy-language 14",
+        form: "trial",
+        document: b"attr s on : int 0..1 = 1;   # an attribute named on
 right right { pre a a: s.on = 1; }
 %%
 # a comment of the script
@@ -329,16 +328,16 @@ subject s
 object o
 try s right o
 ",
-            status: 0,
-            text: b"0 1 ok
+        status: 0,
+        text: b"0 1 ok
 0 2 ok
 0 3 permitted 1
 ",
-        },
-        Example {
-            name: "policy-language 15",
-            form: "trial",
-            document: b"attr s credit : int 0..100 = 5;
+    },
+    Example {
+        name: "policy-language 15",
+        form: "trial",
+        document: b"attr s credit : int 0..100 = 5;
 attr o name : text = \"none\";
 right read {
   on a paid: s.credit > 0;
@@ -359,8 +358,8 @@ amend attr s credit : int 0..9 = 0;
 amend right lend {}
 try ann read book
 ",
-            status: 0,
-            text: b"0 1 ok
+        status: 0,
+        text: b"0 1 ok
 0 2 ok
 0 3 ok
 0 4 permitted 1
@@ -374,6 +373,5 @@ try ann read book
 0 7 ok revoked 1 no_right
 0 7 no right
 ",
-        },
-    ]
-}
+    },
+];

@@ -11,14 +11,14 @@ mod timed;
 mod typing;
 mod worked;
 
-pub use amended::amended_rows;
-pub use generated::{Words, generated_rows};
-pub use guide::guide_examples;
-pub use language::language_examples;
+pub use amended::AMENDED_ROWS;
+pub use generated::{GENERATED_ROWS, Generated};
+pub use guide::GUIDE_EXAMPLES;
+pub use language::LANGUAGE_EXAMPLES;
 use std::alloc::{AllocError, Global};
-pub use timed::timed_rows;
-pub use typing::{typing_faults, well_typed_policies};
-pub use worked::{CAPPED, PAY_PER_USE, worked_rows};
+pub use timed::TIMED_ROWS;
+pub use typing::{TYPING_FAULTS, WELL_TYPED_POLICIES};
+pub use worked::{CAPPED, PAY_PER_USE, WORKED_ROWS};
 
 /// A document of a policy and a script, with the divider between them.
 pub fn document(alloc: Global, policy: &[u8], script: &[u8]) -> Result<Vec<u8>, AllocError>
@@ -31,7 +31,7 @@ pub fn document(alloc: Global, policy: &[u8], script: &[u8]) -> Result<Vec<u8>, 
 }
 
 /// A document and what `trial` prints of it.
-#[derive(Clone, Copy, Debug)]
+#[derive(Clone, Copy)]
 pub struct Row {
     /// What the row shows.
     pub name: &'static str,
@@ -42,7 +42,7 @@ pub struct Row {
 }
 
 /// A whole document, and what a form makes of it.
-#[derive(Clone, Copy, Debug)]
+#[derive(Clone, Copy)]
 pub struct Example {
     pub name: &'static str,
     pub form: &'static str,

@@ -20,12 +20,11 @@ const OFTEN: &[u8] = b"right often { on b t: every 4 ping; on c u: lasts 4; }
 ";
 
 /// The rows.
-pub fn timed_rows() -> [Row; 5] {
-    [
-        Row {
-            name: "a_use_that_lasts",
-            policy: SHORT,
-            script: b"client 0
+pub const TIMED_ROWS: &[Row] = &[
+    Row {
+        name: "a_use_that_lasts",
+        policy: SHORT,
+        script: b"client 0
 subject a
 object x
 tick 2
@@ -37,7 +36,7 @@ tick 6
 tick 8
 tick 9
 ",
-            output: b"0 1 ok
+        output: b"0 1 ok
 0 2 ok
 0 3 ok
 0 4 permitted 1
@@ -48,12 +47,12 @@ tick 9
 0 9 ok
 0 10 ok revoked 2 t
 ",
-        },
-        // The act at tick 3 moves the limit to 6. A use that is tried at 7 may begin, and may not go on.
-        Row {
-            name: "an_act_moves_a_limit",
-            policy: FRESH,
-            script: b"client 0
+    },
+    // The act at tick 3 moves the limit to 6. A use that is tried at 7 may begin, and may not go on.
+    Row {
+        name: "an_act_moves_a_limit",
+        policy: FRESH,
+        script: b"client 0
 subject a
 object x
 try a fresh x
@@ -66,7 +65,7 @@ tick 6
 tick 7
 try a fresh x
 ",
-            output: b"0 1 ok
+        output: b"0 1 ok
 0 2 ok
 0 3 waiting 1 p
 0 4 ok
@@ -78,12 +77,12 @@ try a fresh x
 0 10 ok revoked 1 t
 0 11 permitted 2 revoked 2 t
 ",
-        },
-        // Acts by another subject or on another object move nothing; where the use began after the act, its start counts.
-        Row {
-            name: "an_act_by_others_on_others",
-            policy: WATCHED_BY_GUARDS,
-            script: b"client 0
+    },
+    // Acts by another subject or on another object move nothing; where the use began after the act, its start counts.
+    Row {
+        name: "an_act_by_others_on_others",
+        policy: WATCHED_BY_GUARDS,
+        script: b"client 0
 subject a
 subject g
 object x
@@ -101,7 +100,7 @@ tick 7
 tick 9
 tick 10
 ",
-            output: b"0 1 ok
+        output: b"0 1 ok
 0 2 ok
 0 3 ok
 0 4 ok
@@ -118,12 +117,12 @@ tick 10
 0 15 ok
 0 16 ok revoked 2 t
 ",
-        },
-        // Where both parts have become false the first label is told; a tick passes the limits of many uses, and those of one use at once.
-        Row {
-            name: "parts_that_share_a_limit",
-            policy: OFTEN,
-            script: b"client 0
+    },
+    // Where both parts have become false the first label is told; a tick passes the limits of many uses, and those of one use at once.
+    Row {
+        name: "parts_that_share_a_limit",
+        policy: OFTEN,
+        script: b"client 0
 subject a
 object x
 try a often x
@@ -140,7 +139,7 @@ tick 12
 act a ping x
 tick 99
 ",
-            output: b"0 1 ok
+        output: b"0 1 ok
 0 2 ok
 0 3 permitted 1
 0 4 ok
@@ -156,12 +155,12 @@ tick 99
 0 14 ok
 0 15 ok revoked 4 t
 ",
-        },
-        // A use that ended has no limit any more; a policy that replaces another sets the limits anew.
-        Row {
-            name: "limits_of_a_new_policy",
-            policy: SHORT,
-            script: b"client 0
+    },
+    // A use that ended has no limit any more; a policy that replaces another sets the limits anew.
+    Row {
+        name: "limits_of_a_new_policy",
+        policy: SHORT,
+        script: b"client 0
 subject a
 object x
 try a short x
@@ -178,7 +177,7 @@ amend right short { on c t: lasts 0; }
 tick 7
 tick 8
 ",
-            output: b"0 1 ok
+        output: b"0 1 ok
 0 2 ok
 0 3 permitted 1
 0 4 permitted 2
@@ -194,6 +193,5 @@ tick 8
 0 14 ok
 0 15 ok revoked 3 t
 ",
-        },
-    ]
-}
+    },
+];

@@ -78,12 +78,11 @@ pub const TAGGED: &[u8] =
 ";
 
 /// The rows: those of the page that works them out, in its order, and two in which each command comes.
-pub fn worked_rows() -> [Row; 16] {
-    [
-        Row {
-            name: "pay_per_use_music",
-            policy: MUSIC,
-            script: b"client 0
+pub const WORKED_ROWS: &[Row] = &[
+    Row {
+        name: "pay_per_use_music",
+        policy: MUSIC,
+        script: b"client 0
 subject ann
 subject bob
 subject cat
@@ -103,7 +102,7 @@ client 0
 tick 31
 value o song plays
 ",
-            output: b"0 1 ok
+        output: b"0 1 ok
 0 2 ok
 0 3 ok
 0 4 ok
@@ -119,34 +118,34 @@ value o song plays
 0 12 ok revoked 1 ads
 0 12 value 1
 ",
-        },
-        Row {
-            name: "nothing",
-            policy: b"",
-            script: b"",
-            output: b"",
-        },
-        Row {
-            name: "the_first_run",
-            policy: PAY_PER_USE,
-            script: b"client 0
+    },
+    Row {
+        name: "nothing",
+        policy: b"",
+        script: b"",
+        output: b"",
+    },
+    Row {
+        name: "the_first_run",
+        policy: PAY_PER_USE,
+        script: b"client 0
 subject ann
 object song
 set s ann credit 5
 try ann play song
 value s ann credit
 ",
-            output: b"0 1 ok
+        output: b"0 1 ok
 0 2 ok
 0 3 ok
 0 4 permitted 1 revoked 1 left
 0 4 value 0
 ",
-        },
-        Row {
-            name: "three_users_at_most",
-            policy: CAPPED,
-            script: b"client 0
+    },
+    Row {
+        name: "three_users_at_most",
+        policy: CAPPED,
+        script: b"client 0
 subject a
 subject b
 subject c
@@ -159,7 +158,7 @@ try c use x
 try d use x
 value o x users
 ",
-            output: b"0 1 ok
+        output: b"0 1 ok
 0 2 ok
 0 3 ok
 0 4 ok
@@ -170,11 +169,11 @@ value o x users
 1 9 permitted 4 revoked 1 cap
 1 9 value 3
 ",
-        },
-        Row {
-            name: "usages_go_on_and_end",
-            policy: CAPPED,
-            script: b"client 0
+    },
+    Row {
+        name: "usages_go_on_and_end",
+        policy: CAPPED,
+        script: b"client 0
 subject a
 subject b
 subject c
@@ -202,7 +201,7 @@ client 1
 value o x users
 look 4
 ",
-            output: b"0 1 ok
+        output: b"0 1 ok
 0 2 ok
 0 3 ok
 0 4 ok
@@ -224,11 +223,11 @@ look 4
 1 12 value 1
 1 12 status 4 accessing
 ",
-        },
-        Row {
-            name: "each_call_once",
-            policy: ASKED,
-            script: b"client 0
+    },
+    Row {
+        name: "each_call_once",
+        policy: ASKED,
+        script: b"client 0
 subject ann
 object song
 value s ann credit
@@ -248,7 +247,7 @@ look 1
 end 2
 look 2
 ",
-            output: b"0 1 ok
+        output: b"0 1 ok
 0 2 ok
 0 2 value 0
 0 3 denied 1 late
@@ -267,45 +266,45 @@ look 2
 0 10 ended 2
 0 10 status 2 ended
 ",
-        },
-        Row {
-            name: "a_cap_of_zero",
-            policy: CAPPED,
-            script: b"client 0
+    },
+    Row {
+        name: "a_cap_of_zero",
+        policy: CAPPED,
+        script: b"client 0
 subject a
 object x
 set o x most 0
 try a use x
 value o x users
 ",
-            output: b"0 1 ok
+        output: b"0 1 ok
 0 2 ok
 0 3 ok
 0 4 permitted 1 revoked 1 cap
 0 4 value 0
 ",
-        },
-        Row {
-            name: "a_higher_session_pulls_a_lower_one",
-            policy: PULLED,
-            script: b"client 0
+    },
+    Row {
+        name: "a_higher_session_pulls_a_lower_one",
+        policy: PULLED,
+        script: b"client 0
 subject a
 object x
 try a ra x
 try a rb x
 set s a good 0
 ",
-            output: b"0 1 ok
+        output: b"0 1 ok
 0 2 ok
 0 3 permitted 1
 0 4 permitted 2
 0 5 ok revoked 2 lb revoked 1 la
 ",
-        },
-        Row {
-            name: "a_revocation_saves_the_next",
-            policy: CAPPED,
-            script: b"client 0
+    },
+    Row {
+        name: "a_revocation_saves_the_next",
+        policy: CAPPED,
+        script: b"client 0
 subject a
 subject b
 subject c
@@ -321,7 +320,7 @@ look 1
 look 2
 look 3
 ",
-            output: b"0 1 ok
+        output: b"0 1 ok
 0 2 ok
 0 3 ok
 0 4 ok
@@ -334,11 +333,11 @@ look 3
 0 9 status 2 accessing
 0 9 status 3 accessing
 ",
-        },
-        Row {
-            name: "order_of_predicates_and_waiting",
-            policy: SALE,
-            script: b"client 0
+    },
+    Row {
+        name: "order_of_predicates_and_waiting",
+        policy: SALE,
+        script: b"client 0
 subject a
 object x
 try a buy x
@@ -353,7 +352,7 @@ look 3
 look 4
 again 1
 ",
-            output: b"0 1 ok
+        output: b"0 1 ok
 0 2 ok
 0 3 denied 1 late
 0 4 ok
@@ -367,11 +366,11 @@ again 1
 0 9 no session
 0 9 not requesting
 ",
-        },
-        Row {
-            name: "every_thirty_with_an_act",
-            policy: WATCHED,
-            script: b"client 0
+    },
+    Row {
+        name: "every_thirty_with_an_act",
+        policy: WATCHED,
+        script: b"client 0
 subject a
 object x
 try a watch x
@@ -380,7 +379,7 @@ act a click x
 tick 60
 tick 61
 ",
-            output: b"0 1 ok
+        output: b"0 1 ok
 0 2 ok
 0 3 permitted 1
 0 4 ok
@@ -388,28 +387,28 @@ tick 61
 0 6 ok
 0 7 ok revoked 1 ads
 ",
-        },
-        Row {
-            name: "every_thirty_without_an_act",
-            policy: WATCHED,
-            script: b"client 0
+    },
+    Row {
+        name: "every_thirty_without_an_act",
+        policy: WATCHED,
+        script: b"client 0
 subject a
 object x
 try a watch x
 tick 30
 tick 31
 ",
-            output: b"0 1 ok
+        output: b"0 1 ok
 0 2 ok
 0 3 permitted 1
 0 4 ok
 0 5 ok revoked 1 ads
 ",
-        },
-        Row {
-            name: "clamps",
-            policy: CLAMPED,
-            script: b"client 0
+    },
+    Row {
+        name: "clamps",
+        policy: CLAMPED,
+        script: b"client 0
 subject a
 object x
 try a r x
@@ -419,7 +418,7 @@ set s a k 10
 set s a k \"x\"
 value s a k
 ",
-            output: b"0 1 ok
+        output: b"0 1 ok
 0 2 ok
 0 3 permitted 1
 0 3 value 1000000000000000
@@ -428,11 +427,11 @@ value s a k
 0 3 bad value
 0 3 value 0
 ",
-        },
-        Row {
-            name: "a_full_set",
-            policy: TAGGED,
-            script: b"client 0
+    },
+    Row {
+        name: "a_full_set",
+        policy: TAGGED,
+        script: b"client 0
 subject a
 object x
 set s a tags {\"a00\",\"a01\",\"a02\",\"a03\",\"a04\",\"a05\",\"a06\",\"a07\",\"a08\",\"a09\",\"a10\",\"a11\",\"a12\",\"a13\",\"a14\",\"a15\",\"a16\",\"a17\",\"a18\",\"a19\",\"a20\",\"a21\",\"a22\",\"a23\",\"a24\",\"a25\",\"a26\",\"a27\",\"a28\",\"a29\",\"a30\",\"a31\",\"a32\",\"a33\",\"a34\",\"a35\",\"a36\",\"a37\",\"a38\",\"a39\",\"a40\",\"a41\",\"a42\",\"a43\",\"a44\",\"a45\",\"a46\",\"a47\",\"a48\",\"a49\",\"a50\",\"a51\",\"a52\",\"a53\",\"a54\",\"a55\",\"a56\",\"a57\",\"a58\",\"a59\",\"a60\",\"a61\",\"a62\",\"a63\"}
@@ -442,7 +441,7 @@ set s a tags {\"zz\"}
 try a r x
 value s a tags
 ",
-            output: b"0 1 ok
+        output: b"0 1 ok
 0 2 ok
 0 3 ok
 0 4 permitted 1
@@ -451,11 +450,11 @@ value s a tags
 0 6 permitted 2
 0 6 value {\"zz\"}
 ",
-        },
-        Row {
-            name: "not_yours",
-            policy: CAPPED,
-            script: b"client 0
+    },
+    Row {
+        name: "not_yours",
+        policy: CAPPED,
+        script: b"client 0
 subject a
 object x
 client 1
@@ -467,7 +466,7 @@ end 1
 end 1
 subject z
 ",
-            output: b"0 1 ok
+        output: b"0 1 ok
 0 2 ok
 1 3 permitted 1
 2 3 not yours
@@ -475,21 +474,20 @@ subject z
 1 4 not accessing
 1 4 not admin
 ",
-        },
-        Row {
-            name: "ticks",
-            policy: b"",
-            script: b"client 0
+    },
+    Row {
+        name: "ticks",
+        policy: b"",
+        script: b"client 0
 tick 0
 tick 5
 tick 4
 tick 1000000000000000
 ",
-            output: b"0 1 ok
+        output: b"0 1 ok
 0 2 ok
 0 2 tick back
 0 3 ok
 ",
-        },
-    ]
-}
+    },
+];
