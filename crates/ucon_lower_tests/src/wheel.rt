@@ -1,21 +1,23 @@
-//! A pair that is moved.
+//! Deadlines that are over, the earliest first.
 
 use std::test::Fail;
 use ucon_base::Int;
 use ucon_wheel::Wheel;
 
 #[test]
-fn a_moved_pair_is_due_at_its_new_deadline(rt: HostRuntime) -> Result<(), Fail> {
+fn the_earliest_is_due_first_and_an_undo_gives_all_back(rt: HostRuntime) -> Result<(), Fail> {
     let nine = Int::new(9).ok_or("in range")?;
-    let mut wheel = Wheel::new(rt.alloc())?;
-    wheel.put(1, 5)?;
-    wheel.put(2, 4)?;
-    assert_eq!(rt; wheel.due(nine, None), Some((4, 2)));
-    wheel.move_to(2, 4, 9)?;
-    assert_eq!(rt; wheel.due(nine, None), Some((5, 1)));
-    assert_eq!(rt; wheel.due(nine, Some((5, 1))), None);
-    assert_eq!(rt; wheel.first_of(2), Some(9));
-    wheel.unhide_last();
-    assert_eq!(rt; wheel.first_of(2), Some(4));
+    let mut wheel = Wheel::new(rt.alloc());
+    wheel.set(1, Some(5))?;
+    wheel.set(2, Some(4))?;
+    wheel.keep();
+    wheel.set(2, Some(8))?;
+    assert_eq!(rt; wheel.take_due(nine)?, Some(1));
+    assert_eq!(rt; wheel.take_due(nine)?, Some(2));
+    assert_eq!(rt; wheel.take_due(nine)?, None);
+    wheel.undo();
+    assert_eq!(rt; wheel.deadline(1), Some(5));
+    assert_eq!(rt; wheel.take_due(nine)?, Some(2));
+    assert_eq!(rt; wheel.take_due(nine)?, Some(1));
     Ok(())
 }

@@ -1,13 +1,14 @@
 -- What undoing does behind one more place, and behind one more change.
 use Rattle.std.proofs.Common.{◌≡◌, ◌∙◌, ◌<◌, ℕ, zero, suc, ℤ, List, [], ◌∷◌, ◌++◌, Option, None, length, set, get_or, refl, ap, arith}
+use Rattle.std.proofs.lemmas.Bool.Decides.{nat_tests}
 use Rattle.std.proofs.lemmas.List.{length-set, set-append_left, set-get_or, set-set}
 use Rattle.std.proofs.lemmas.List.Elements.{All-head, All-tail}
 use Rattle.std.specs.List.{All}
-use Rattle.ucon_wheel.specs.Deadlines.{AreAlike, deadline_of}
+use Rattle.ucon_wheel.specs.Deadlines.{AreAlike, Gives, deadline_of}
 use Rattle.ucon_wheel.specs.Owned.{undone}
 use Rattle.ucon_wheel.specs.declared.owned.Change.{Change}
 
-pub length-undone : (cs : List Change) (ds : List (Option ℤ)) → length (undone cs ds) ≡ length ds
+length-undone : (cs : List Change) (ds : List (Option ℤ)) → length (undone cs ds) ≡ length ds
 length-undone [] ds = refl
 length-undone (c ∷ cs) ds = length-set (undone cs ds) c.session c.before ∙ length-undone cs ds
 
@@ -39,3 +40,11 @@ alike-place (d ∷ ds) (suc n) = alike-place ds n
 
 pub undone-place : (cs : List Change) (ds : List (Option ℤ)) → All (λ c. c.session < length ds) cs → AreAlike (undone cs ds) (undone cs (ds ++ None ∷ []))
 undone-place cs ds h n = ap (λ es. deadline_of es n) (undone-append cs ds (None ∷ []) h) ∙ alike-place (undone cs ds) n
+
+-- one place is changed, and no other
+pub gives-set : (ds : List (Option ℤ)) (n : ℕ) (deadline : Option ℤ) → n < length ds → Gives ds (set ds n deadline) n deadline
+gives-set [] n deadline h m = absurd (omega arith)
+gives-set (d ∷ ds) zero deadline h zero = refl
+gives-set (d ∷ ds) zero deadline h (suc m) = grind (arith, nat_tests)
+gives-set (d ∷ ds) (suc n) deadline h zero = grind (arith, nat_tests)
+gives-set (d ∷ ds) (suc n) deadline h (suc m) = let rest = gives-set ds n deadline (omega arith) m in grind (arith, nat_tests)

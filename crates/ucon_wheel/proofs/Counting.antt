@@ -1,9 +1,8 @@
 -- How many deadlines are below a tick, where one of them changes.
-use Rattle.std.proofs.Common.{◌≡◌, ◌∙◌, ◌+◌, ◌<◌, ℕ, ℤ, List, Option, Some, None, true, length, set, cond, get_or, filter, ap, arith, ◌<ℤ◌}
+use Rattle.std.proofs.Common.{◌≡◌, ◌+◌, ◌<◌, ℕ, ℤ, List, Option, Some, None, length, set, get_or, ap, arith, ◌<ℤ◌}
 use Rattle.std.proofs.lemmas.Int.{ints}
 use Rattle.std.proofs.lemmas.List.Sums.{length-filter, sum_by-set}
 use Rattle.std.proofs.lemmas.Option.{slice_get-get_or}
-use Rattle.std.specs.List.{count_by}
 use Rattle.ucon_wheel.specs.Deadlines.{count_below, deadline_of, is_passed, or_none, passed}
 
 pub count_below-set : (ds : List (Option ℤ)) (n : ℕ) (deadline : Option ℤ) (tick : ℤ) → n < length ds → count_below (set ds n deadline) tick + passed tick (deadline_of ds n) ≡ count_below ds tick + passed tick deadline

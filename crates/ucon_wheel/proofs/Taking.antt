@@ -1,9 +1,9 @@
 -- What is still in the queue, where the first is taken off.
-use Rattle.std.proofs.Common.{◌≡◌, ◌≢◌, ◌⊎◌, inl, inr, ℕ, zero, suc, ◌+◌, ◌<◌, ℤ, List, ◌∷◌, ◌++◌, [], Option, Some, None, nat_eq, if◌then◌else◌, length, get_or, sym, ap, ◌∙◌, subst, arith}
+use Rattle.std.proofs.Common.{◌≡◌, ◌≢◌, ◌⊎◌, inl, inr, ℕ, zero, suc, ◌<◌, ℤ, List, ◌∷◌, ◌++◌, [], Option, Some, None, nat_eq, if◌then◌else◌, length, get_or, sym, ap, ◌∙◌, arith}
 use Rattle.std.proofs.lemmas.Bool.Decides.{nat_tests}
 use Rattle.std.proofs.lemmas.List.Elements.{Contains-append_left, Contains-append_right, Contains-push, Contains-push_cases}
-use Rattle.std.proofs.lemmas.List.Sorted.{Contains-permutation}
-use Rattle.std.specs.List.{Contains}
+use Rattle.std.proofs.lemmas.List.Sorted.{Contains-permutation, length_permutation}
+use Rattle.std.specs.List.{Contains, slice_get}
 use Rattle.std.specs.List.Sorted.{IsPermutation}
 use Rattle.ucon_wheel.specs.Deadlines.{AreAlike, Deadlines, Gives, deadline_of}
 use Rattle.ucon_wheel.specs.Entries.{Entry, Queued, entry}
@@ -13,6 +13,17 @@ use Rattle.ucon_wheel.specs.Wheel.{IsSound}
 pub record Takes (e : Entry) (old new : Queued) : Type 0 where
   pub taken : new.taken ≡ old.taken ++ e ∷ []
   pub rest : IsPermutation old.waiting (e ∷ new.waiting)
+
+-- it is so where room was made before
+pub takes_first : (e : Entry) (old roomy new : Queued) → roomy.waiting ≡ old.waiting → roomy.taken ≡ old.taken → slice_get old.waiting 0 ≡ Some e
+    → ((x : Entry) → slice_get roomy.waiting 0 ≡ Some x → new.taken ≡ roomy.taken ++ x ∷ [])
+    → ((x : Entry) → slice_get roomy.waiting 0 ≡ Some x → IsPermutation roomy.waiting (x ∷ new.waiting)) → Takes e old new
+takes_first e old roomy new waiting taken is moved rest =
+    let first = ap (λ es. slice_get es 0) waiting ∙ is in
+    record { taken = rw (← taken) (moved e first); rest = rw (← waiting) (rest e first) }
+
+pub shorter : (e : Entry) (old new : Queued) → Takes e old new → length new.waiting < length old.waiting
+shorter e old new t = omega (arith, length_permutation old.waiting (e ∷ new.waiting) t.rest)
 
 first_or_rest : (e : Entry) (es : List Entry) (x : Entry) (k : ℕ) → k < length (e ∷ es) → get_or (e ∷ es) k x ≡ x → (e ≡ x) ⊎ Contains es x
 first_or_rest e es x zero h is = inl is
@@ -47,6 +58,13 @@ session_of d x n m same = ap (λ (e : Entry). e.0.1) same
 
 deadline_in : (d x : ℤ) (n m : ℕ) → entry d n ≡ entry x m → d ≡ x
 deadline_in d x n m same = ap (λ (e : Entry). e.0.0) same
+
+-- what changes no deadline and no entry
+pub kept_sound : (owned after : Deadlines) (old new : Queued) → IsSound owned old → AreAlike owned.now after.now → AreAlike owned.opening after.opening → new.waiting ≡ old.waiting → new.taken ≡ old.taken → IsSound after new
+kept_sound owned after old new s now opening waiting taken = record {
+  now = λ m x is. rw waiting (s.now m x (sym (now m) ∙ is));
+  opening = λ m x is. rw (waiting, taken) (s.opening m x (sym (opening m) ∙ is));
+}
 
 -- the entry of a session that then has no deadline
 pub due_taken : (owned after : Deadlines) (old new : Queued) (d : ℤ) (n : ℕ) → IsSound owned old → Takes (entry d n) old new → Gives owned.now after.now n None → AreAlike owned.opening after.opening → IsSound after new

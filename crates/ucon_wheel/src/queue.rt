@@ -112,6 +112,7 @@ impl Queue {
     }
 }
 
+/// A deadline of a session, as the queue has it.
 fn entry_of(session: u32, deadline: i64) -> Reverse<(i64, u32)>
     ensures { result ≡ entry deadline session }
 {

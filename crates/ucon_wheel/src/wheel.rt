@@ -12,6 +12,7 @@ use ucon_base::{Int, NoMemory};
 /// At most one deadline a session. What a draft changes can be undone until it is kept.
 #[derive(Drop)]
 pub struct Wheel {
+    /// The deadline of each session, and what the draft has changed of them.
     owned: Owned,
     /// Each session's deadline, and such as a session had before it was given another.
     queue: Queue,

@@ -1,7 +1,12 @@
 use Rattle.std.proofs.Common.{◌≡◌, ◌<◌, get_or, length}
-use Rattle.ucon_wheel.proofs.Changing.{undone-change}
+use Rattle.ucon_wheel.proofs.Changing.{gives-set, undone-change}
 use Rattle.ucon_wheel.proofs.Counting.{count_below-set}
 use Rattle.ucon_wheel.proofs.owned.Owned.change.Goals as goal
+
+pub returns-clause-gives : goal.returns-clause-gives
+returns-clause-gives c =
+    let place : c.args.session < length c.self.inside.deadlines.items = rw (← c.self.view_is) at c.requires in
+    rw (c.replace-before.ensures.after, ← c.self.view_is) (gives-set c.self.inside.deadlines.items c.args.session c.args.deadline place)
 
 pub returns-clause-count : goal.returns-clause-count
 returns-clause-count c =

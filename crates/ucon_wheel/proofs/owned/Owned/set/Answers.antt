@@ -1,6 +1,6 @@
 use Rattle.std.proofs.Common.{◌∙◌, ◌+◌, ap}
 use Rattle.std.proofs.lemmas.Result.{on_ok_weaker}
-use Rattle.ucon_wheel.specs.Deadlines.{count_below, passed}
+use Rattle.ucon_wheel.specs.Deadlines.{passed}
 use Rattle.ucon_wheel.proofs.owned.Owned.set.Goals as goal
 
 pub returns-clause-count : goal.returns-clause-count

@@ -1,4 +1,4 @@
-use Rattle.std.proofs.Common.{inl, inr, arith, ◌∙◌, sym}
+use Rattle.std.proofs.Common.{inl, inr, arith}
 use Rattle.ucon_wheel.proofs.Taking.{given_back}
 use Rattle.ucon_wheel.proofs.queue.Queue.undo.Goals as goal
 
