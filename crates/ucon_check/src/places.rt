@@ -10,14 +10,16 @@ use std::alloc::Global;
 use ucon_base::{Name, NoMemory, Rows, Side};
 use ucon_model::{Checked, Expr, Formula, Ref, Right, Test};
 
-/// Adds the places that an expression reads.
+/// Adds each place that an expression reads and that isn't there yet.
 fn put_expr(e: &Expr, places: &mut Vec<Ref>) -> Result<(), NoMemory>
-    ensures { OnOk result (places.new.items ≡ places.old.items ++ expr_places (expr_of e.now)) }
+    ensures { OnOk result (places.new.items ≡ fold with_place places.old.items (expr_places (expr_of e.now))) }
 {
     match e {
         Expr::Lit(_) => Ok(()),
         Expr::Read(place) => {
-            places.push(*place)?;
+            if !is_among(place, places) {
+                places.push(*place)?;
+            }
             Ok(())
         }
         Expr::Add(a, b) => {
@@ -36,9 +38,9 @@ fn put_expr(e: &Expr, places: &mut Vec<Ref>) -> Result<(), NoMemory>
     }
 }
 
-/// Adds the places that a formula reads.
+/// Adds each place that a formula reads and that isn't there yet.
 fn put_formula(f: &Formula, places: &mut Vec<Ref>) -> Result<(), NoMemory>
-    ensures { OnOk result (places.new.items ≡ places.old.items ++ formula_places (formula_of f.now)) }
+    ensures { OnOk result (places.new.items ≡ fold with_place places.old.items (formula_places (formula_of f.now))) }
 {
     match f {
         Formula::And(f, g) => {
@@ -58,17 +60,15 @@ fn put_formula(f: &Formula, places: &mut Vec<Ref>) -> Result<(), NoMemory>
     }
 }
 
-/// The places that a test reads.
-fn test_places(alloc: Global, test: &Test) -> Result<Vec<Ref>, NoMemory>
-    ensures { IfOk result (λ places. places.items ≡ test_places (test_of test.now)) }
+/// Adds each place that a test reads and that isn't there yet.
+fn put_test(test: &Test, places: &mut Vec<Ref>) -> Result<(), NoMemory>
+    ensures { OnOk result (places.new.items ≡ fold with_place places.old.items (test_places (test_of test.now))) }
 {
-    let mut places = Vec::new(alloc);
     match test {
-        Test::A(f) => put_formula(f, &mut places)?,
-        Test::B(_) => {}
-        Test::C(f) => put_formula(f, &mut places)?,
+        Test::A(f) => put_formula(f, places),
+        Test::B(_) => Ok(()),
+        Test::C(f) => put_formula(f, places),
     }
-    Ok(places)
 }
 
 /// The place of an attribute of a side.
@@ -98,18 +98,6 @@ fn is_among(place: &Ref, places: &[Ref]) -> bool
     places.iter().any(|p| same_place(place, p))
 }
 
-/// Adds each place that isn't there yet.
-fn put_new(found: &[Ref], places: &mut Vec<Ref>) -> Result<(), NoMemory>
-    ensures { OnOk result (places.new.items ≡ fold with_place places.old.items found.now) }
-{
-    for place in found {
-        if !is_among(place, places) {
-            places.push(*place)?;
-        }
-    }
-    Ok(())
-}
-
 /// The distinct places that a right's ongoing predicates read, in the order of their first reading.
 pub fn places_read(alloc: Global, right: &Right) -> Result<Rows<Ref>, NoMemory>
     ensures { IfOk result (λ rows. rows.items ≡ places_read (right_of right.now)) }
@@ -117,7 +105,7 @@ pub fn places_read(alloc: Global, right: &Right) -> Result<Rows<Ref>, NoMemory>
     let mut places = Vec::new(alloc);
     for p in right.preds.slice() {
         if p.is_ongoing() {
-            put_new(&test_places(alloc, &p.test)?, &mut places)?;
+            put_test(&p.test, &mut places)?;
         }
     }
     Ok(Rows::from(places))

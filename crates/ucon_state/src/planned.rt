@@ -12,7 +12,7 @@ ghost use Rattle.ucon_state.specs.Planned.{ArePlans, AreEnough, IsEnough, Stands
 
 use std::alloc::Global;
 use ucon_base::{Int, NoMemory, Side, Value};
-use ucon_model::{Checked, Expr, Formula, Op, Policy, Predicate, Ref, Right, Test};
+use ucon_model::{Checked, Expr, Formula, Op, Policy, Ref, Right, Test};
 
 /// The greatest integer, and without its sign the least.
 const LIMIT: i64 = 1_000_000_000_000_000;
