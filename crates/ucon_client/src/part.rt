@@ -10,7 +10,7 @@ use ucon_base::{NoMemory, Rows};
 use ucon_script::Line;
 
 /// One client's lines, and the answers to the first of them, with room for the others.
-#[derive(Debug, Drop)]
+#[derive(Drop)]
 pub struct Part {
     /// The client.
     pub number: u8,

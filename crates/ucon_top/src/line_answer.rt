@@ -15,7 +15,7 @@ use ucon_script::LineText;
 use ucon_trial::{put_reply, put_unplaced};
 
 /// A command line with its answer.
-#[derive(Debug, Drop)]
+#[derive(Drop)]
 pub struct AnsweredLine<'a> {
     pub line: LineText<'a>,
     pub answer: Answer,
