@@ -48,7 +48,7 @@ pub fn do_act(
     )?;
     require(has_entity(state, Side::Object, object), Refusal::NoObject)?;
     require(names_act(state, action), Refusal::NoAct)?;
-    let room = moment(state, subject, action, object).is_some() || acts(state) < 1_048_576;
+    let room = acts(state) < 1_048_576 || moment(state, subject, action, object).is_some();
     require(room, Refusal::FullActs)?;
     perform(state, subject, action, object)?;
     Ok(Outcome::Made(Head::Ok))
