@@ -10,7 +10,7 @@ use std::marker::Model;
 use ucon_base::{NoMemory, Rows};
 
 /// A checked policy, and the one line that spells it.
-#[derive(Debug, Drop)]
+#[derive(Drop)]
 pub struct Amend {
     text: Rows<u8>,
     checked: Checked,

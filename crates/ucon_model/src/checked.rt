@@ -10,7 +10,7 @@ use std::alloc::Global;
 use ucon_base::NoMemory;
 
 /// A policy that is well typed, with at most 16 attributes of each side.
-#[derive(Debug, Drop)]
+#[derive(Drop)]
 pub struct Checked {
     policy: Policy,
     ghost typed: { IsTyped (policy_of policy) },

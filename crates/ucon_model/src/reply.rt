@@ -29,7 +29,7 @@ pub enum Refusal {
     FullAccessing,
 }
 
-#[derive(Clone, Copy, Debug, PartialEq, Eq)]
+#[derive(Clone, Copy, PartialEq, Eq)]
 pub enum Head {
     Ok,
     Permitted(u32),
@@ -38,13 +38,13 @@ pub enum Head {
     Ended(u32),
 }
 
-#[derive(Clone, Copy, Debug, PartialEq, Eq)]
+#[derive(Clone, Copy, PartialEq, Eq)]
 pub struct Revoked {
     pub session: u32,
     pub label: Name,
 }
 
-#[derive(Debug, Drop)]
+#[derive(Drop)]
 pub enum Reply {
     Refused(Refusal),
     Made { head: Head, revoked: Rows<Revoked> },
