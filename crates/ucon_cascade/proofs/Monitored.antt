@@ -17,7 +17,7 @@ use Rattle.ucon_model.specs.Readings.{session}
 use Rattle.ucon_model.specs.Settle.{settle, revoked_in}
 use Rattle.ucon_model.specs.Sound.{IsNumbered}
 use Rattle.ucon_model.specs.Usages.{IsUsageTold, going_on}
-use Rattle.ucon_state.specs.Engine.{state_of}
+use Rattle.ucon_engine.specs.Engine.{state_of}
 use Rattle.ucon_state.specs.Following.{Follows}
 use Rattle.ucon_state.specs.Shown.{Shown, given_back, kept}
 use Rattle.ucon_state.specs.Tables.{Tables, session_in}

@@ -17,7 +17,8 @@ ghost use Rattle.ucon_model.specs.Plain.{PlainPolicy};
 ghost use Rattle.ucon_model.specs.Settle.{revoked_in, settle};
 ghost use Rattle.ucon_model.specs.Views.{reply_of};
 ghost use Rattle.ucon_model.specs.Work.{NobodyFails};
-ghost use Rattle.ucon_state.specs.Engine.{FollowsLike, HasNothingToUndo, IsIdle};
+ghost use Rattle.ucon_engine.specs.Engine.{FollowsLike, IsIdle};
+ghost use Rattle.ucon_state.specs.TakingUp.{HasNothingToUndo};
 ghost use Rattle.ucon_state.specs.Shown.{shown};
 
 use crate::follow::{all_readers, follow_actions};
@@ -28,6 +29,7 @@ use crate::settle::settle;
 use std::alloc::Global;
 use ucon_actions::{ActionFault, Outcome, own_actions};
 use ucon_base::{NoMemory, Rows, Steps};
+use ucon_engine::{Drafted, Engine, RestoreFault};
 use ucon_model::{
     Caller, Checked, Command, Head, Reply, Revoked, SessionState, View, actions_are_done_in_order,
     drafts_are_blocks, firsts_go_on_covering, heads_tell_whose_usage_begins_or_ends,
@@ -38,8 +40,8 @@ use ucon_model::{
 use ucon_pend::Pend;
 use ucon_readers::{Readers, Timers, undoing_gives_what_is_kept};
 use ucon_state::{
-    Drafted, Engine, RestoreFault, State, cells_are_of_one_attribute, each_action_is_followed,
-    sessions_are_few, tables_keep_what_is_followed,
+    State, cells_are_of_one_attribute, each_action_is_followed, sessions_are_few,
+    tables_keep_what_is_followed,
 };
 
 /// After each change it rechecks the sessions that read what was changed, and no others but, at a tick, those of whom it passed a deadline,

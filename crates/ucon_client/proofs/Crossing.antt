@@ -42,7 +42,7 @@ use Rattle.ucon_model.specs.contracts.policy.Right as Right
 use Rattle.ucon_model.specs.contracts.policy.Test as Test
 use Rattle.ucon_model.specs.contracts.policy.Update as Update
 use Rattle.ucon_script.specs.contracts.document.Line as Line
-use Rattle.ucon_state.specs.declared.engine.Engine as engine
+use Rattle.ucon_engine.specs.declared.engine.Engine as engine
 use Rattle.ucon_store.proofs.beginning.Beginning.TheSendSync as beginning
 use Rattle.ucon_store.specs.contracts.event.Base as Base
 use Rattle.ucon_store.specs.contracts.event.Event as Event

@@ -11,7 +11,7 @@ use crate::step::Step;
 use std::alloc::Global;
 use std::sync::Wait;
 use ucon_disk::Disk;
-use ucon_state::Engine;
+use ucon_engine::Engine;
 use ucon_store::Store;
 use ucon_turn::{Seat, Turn};
 

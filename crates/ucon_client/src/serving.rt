@@ -25,7 +25,7 @@ use std::thread;
 use std::thread::Threads;
 use ucon_base::NoMemory;
 use ucon_disk::Disk;
-use ucon_state::Engine;
+use ucon_engine::Engine;
 use ucon_store::Store;
 use ucon_turn::{Seat, Turn};
 

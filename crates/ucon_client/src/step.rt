@@ -10,9 +10,9 @@ ghost use Rattle.ucon_client.specs.Clients.{Steps};
 use crate::answer::Answer;
 use std::alloc::Global;
 use ucon_disk::Disk;
+use ucon_engine::Engine;
 use ucon_runs::texts_tell_changes;
 use ucon_script::Line;
-use ucon_state::Engine;
 use ucon_store::Store;
 use ucon_turn::Job;
 

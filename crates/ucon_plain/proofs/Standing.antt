@@ -12,7 +12,7 @@ use Rattle.ucon_model.specs.OwnActions.{Own, refuse, tell, make, own}
 use Rattle.ucon_model.specs.Settle.{settle, revoked_in}
 use Rattle.ucon_model.specs.Block.{own_block, own_reply, after, reply}
 use Rattle.ucon_model.specs.History.{changes}
-use Rattle.ucon_state.specs.Engine.{state_of}
+use Rattle.ucon_engine.specs.Engine.{state_of}
 use Rattle.ucon_state.specs.Following.{Follows}
 use Rattle.ucon_state.specs.Shown.{Shown}
 use Rattle.ucon_state.specs.Tables.{session_in}

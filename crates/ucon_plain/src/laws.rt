@@ -4,7 +4,7 @@ ghost use Rattle.ucon_model.specs.Plain.{PlainPolicy};
 ghost use Rattle.ucon_model.specs.History.{History, StandsFor as ModelStandsFor};
 ghost use Rattle.ucon_plain.specs.declared.monitor.PlainMonitor.{PlainMonitor};
 ghost use Rattle.ucon_plain.specs.Monitor.{IsReady};
-ghost use Rattle.ucon_state.specs.Engine.{StandsFor};
+ghost use Rattle.ucon_engine.specs.Engine.{StandsFor};
 ghost use Rattle.ucon_state.specs.Shown.{shown};
 ghost use Rattle.ucon_state.specs.Tables.{readings_in};
 

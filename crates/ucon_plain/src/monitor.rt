@@ -10,17 +10,18 @@ ghost use Rattle.ucon_model.specs.Plain.{PlainPolicy};
 ghost use Rattle.ucon_model.specs.Typing.{IsTyped};
 ghost use Rattle.ucon_model.specs.Views.{reply_of};
 ghost use Rattle.ucon_plain.specs.Cascading.{AreActionsOf};
-ghost use Rattle.ucon_state.specs.Engine.{FollowsLike, IsIdle};
+ghost use Rattle.ucon_engine.specs.Engine.{FollowsLike, IsIdle};
 
 use crate::settle::least_failing;
 use crate::step::take_step;
 use std::alloc::Global;
 use ucon_base::{NoMemory, Steps};
+use ucon_engine::{Drafted, Engine, RestoreFault};
 use ucon_model::{
     Caller, Checked, Command, Reply, SessionState, blocks_are_legal, settling_is_the_only_cascade,
     the_least_failing_is_found,
 };
-use ucon_state::{Drafted, Engine, RestoreFault, State, each_action_is_followed};
+use ucon_state::{State, each_action_is_followed};
 
 /// It rechecks every accessing session after each change, as the definitions do.
 #[derive(Drop)]

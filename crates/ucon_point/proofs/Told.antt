@@ -3,7 +3,7 @@ use Rattle.std.proofs.Common.{◌≡◌, ℕ, Ok, Err, Some, is_ok, sym, ap, ap�
 use Rattle.std.specs.Prelude.{IfErr, IfOk, MatchResult, Result}
 use Rattle.std.proofs.lemmas.Bool.{false≢true}
 use Rattle.ucon_model.specs.Plain.{Bytes}
-use Rattle.ucon_state.specs.Engine.{CanBeTakenUp}
+use Rattle.ucon_state.specs.TakingUp.{CanBeTakenUp}
 use Rattle.ucon_state.specs.Following.{IsFollowing}
 use Rattle.ucon_state.specs.Held.{Held, held, held_in}
 use Rattle.ucon_state.specs.Shown.{Shown, shown}

@@ -2,7 +2,7 @@
 use Rattle.std.specs.Prelude.{◌≡◌, ℕ, List, Some, Result, Ok}
 use Rattle.ucon_model.specs.Plain.{PlainPolicy}
 use Rattle.ucon_state.specs.declared.state.State.{State}
-use Rattle.ucon_state.specs.Engine.{HasNothingToUndo}
+use Rattle.ucon_state.specs.TakingUp.{HasNothingToUndo}
 use Rattle.ucon_state.specs.Shown.{shown}
 use Rattle.ucon_point.specs.declared.point.Point.{Point}
 use Rattle.ucon_row.specs.declared.row.Row.{Row}

@@ -9,7 +9,7 @@ ghost use Rattle.ucon_row.specs.Order.{awaited, beginning};
 ghost use Rattle.ucon_point.specs.PointRead.{point_behind, point_read, row_at, rows_from};
 ghost use Rattle.ucon_point.specs.PointText.{point_text};
 ghost use Rattle.ucon_point.specs.Standing.{HasLast, standing, start};
-ghost use Rattle.ucon_state.specs.Engine.{CanBeTakenUp};
+ghost use Rattle.ucon_state.specs.TakingUp.{CanBeTakenUp};
 ghost use Rattle.ucon_state.specs.Held.{held};
 ghost use Rattle.ucon_state.specs.Shown.{shown};
 ghost use Rattle.ucon_syntax.specs.Policies.{accepted};

@@ -8,6 +8,6 @@ pub mod Shown
 pub mod Numbers
 pub mod Planned
 pub mod Following
-pub mod Engine
+pub mod TakingUp
 pub mod Held
 pub mod Putting

@@ -5,21 +5,18 @@ mod act;
 mod change;
 mod counts;
 mod defaults;
-mod engine;
 mod held;
 mod laws;
 mod layout;
 mod numbers;
 mod planned;
 mod putting;
-mod restore_fault;
 mod session;
 mod state;
 mod tables;
 mod view;
 
 pub use counts::Counts;
-pub use engine::{Drafted, Engine};
 pub use held::{ActRow, states_hold_what_they_follow};
 pub use laws::{
     cells_are_of_one_attribute, changes_add_up, each_action_is_followed, legal_traces_go_on,
@@ -27,5 +24,4 @@ pub use laws::{
     tables_keep_what_is_followed, traces_of_histories_are_legal, what_is_put_is_followed,
 };
 pub use numbers::Numbers;
-pub use restore_fault::RestoreFault;
 pub use state::{CellId, State};

@@ -18,7 +18,7 @@ use ucon_model::{Checked, Expr, Formula, Op, Policy, Ref, Right, Test};
 const LIMIT: i64 = 1_000_000_000_000_000;
 
 /// What is enough for a predicate to hold.
-#[derive(Clone, Copy, Debug, PartialEq, Eq)]
+#[derive(Clone, Copy)]
 pub enum Check {
     /// The attribute at this position among those of its side is an integer from `low` to `high`.
     Between {

@@ -15,17 +15,11 @@ impl State {
     pub fn may_put_act(&self, row: &ActRow) -> bool
         ensures { IsTrue result ↔ MayPutAct (shown self.now).tables row.now }
     {
-        if self.counts().acts >= 1_048_576 {
-            return false;
-        }
-        if !self.are_there(&row.subject, &row.object) {
-            return false;
-        }
-        if !self.is_past(row.moment) {
-            return false;
-        }
         let last = self.tables.moment(&row.subject, &row.action, &row.object);
-        last.is_none()
+        self.counts().acts < 1_048_576
+            && self.are_there(&row.subject, &row.object)
+            && self.is_past(row.moment)
+            && last.is_none()
     }
 
     /// Whether the session can be put behind the others.
@@ -52,20 +46,14 @@ impl State {
     fn are_there(&self, subject: &Name, object: &Name) -> bool
         ensures { IsTrue result ↔ EntitiesAreThere (shown self.now).tables subject.now object.now }
     {
-        if self.find(Side::Subject, subject).is_none() {
-            return false;
-        }
-        self.find(Side::Object, object).is_some()
+        self.find(Side::Subject, subject).is_some() && self.find(Side::Object, object).is_some()
     }
 
     /// Whether the moment isn't before the beginning, and not after now.
     fn is_past(&self, moment: Int) -> bool
         ensures { IsTrue result ↔ IsPast (shown self.now).tables moment }
     {
-        if !Int::zero().is_at_most(moment) {
-            return false;
-        }
-        moment.is_at_most(self.tables.tick)
+        Int::zero().is_at_most(moment) && moment.is_at_most(self.tables.tick)
     }
 }
 
@@ -84,8 +72,7 @@ fn starts_at_zero(state: SessionState, start: Int) -> bool
     ensures { IsTrue result ↔ StartsAtZero state start }
 {
     match state {
-        SessionState::Requesting => start == Int::zero(),
-        SessionState::Denied => start == Int::zero(),
+        SessionState::Requesting | SessionState::Denied => start == Int::zero(),
         _ => true,
     }
 }

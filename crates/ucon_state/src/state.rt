@@ -1,19 +1,18 @@
 //! The state of a policy, and its changes.
 
-ghost use Rattle.std.specs.Prelude.{◌≡◌, true, map, [], ◌∷◌, ◌++◌, ◌≤ℤ◌, ◌<◌, ◌+◌, ◌⊎◌, length, position, slice_get, Some, None, OnOk, OnErr, IfOk, IfSome, IsSome, IsSomeAnd, IsTrue, is_some};
+ghost use Rattle.std.specs.Prelude.{◌≡◌, true, map, [], ◌∷◌, ◌++◌, ◌≤ℤ◌, ◌<◌, ◌+◌, ◌⊎◌, length, position, Some, None, OnOk, OnErr, IfOk, IfSome, IsSome, IsSomeAnd, IsTrue, is_some};
 ghost use Rattle.std.specs.Str.{bytes_eq};
 ghost use Rattle.ucon_base.specs.Admits.{admits};
-ghost use Rattle.ucon_base.specs.declared.value.Side.TheVariants as sides;
 ghost use Rattle.ucon_model.specs.Action as actions;
 ghost use Rattle.ucon_model.specs.Checked.{checked_policy};
 ghost use Rattle.ucon_model.specs.Decision.{right_named};
 ghost use Rattle.ucon_model.specs.Plain.{Bytes};
 ghost use Rattle.ucon_model.specs.Readings.{declared_attr, declared_env, env_position};
 ghost use Rattle.ucon_model.specs.Views.{policy_of, right_of};
-ghost use Rattle.ucon_state.specs.Applied.{amended, opening_tables, with_entity, with_cell, with_state, may_become};
+ghost use Rattle.ucon_state.specs.Applied.{opening_tables, with_entity, with_cell, with_new_session, with_state, may_become};
 ghost use Rattle.ucon_state.specs.Sound.{AllSound, HasRights, IsSound, StandFirst};
-ghost use Rattle.ucon_state.specs.Stored.{name_at, start_in};
-ghost use Rattle.ucon_state.specs.Tables.{entities_of, entity_number, cell_at, CellAdmits, attribute_in, counts_in, moment_in, session_in};
+ghost use Rattle.ucon_state.specs.Stored.{name_at, row_of, start_in};
+ghost use Rattle.ucon_state.specs.Tables.{entities_of, entity_number, cell_at, CellAdmits, counts_in, moment_in, session_in};
 ghost use Rattle.ucon_state.specs.Views.{lists_of, with_layout};
 
 use crate::act::Act;
@@ -49,9 +48,7 @@ pub struct State {
 }
 
 impl State {
-    ghost use Rattle.ucon_state.specs.Applied.{with_new_session};
     ghost use Rattle.ucon_state.specs.Putting.{MayPutAct, MayPutSession, with_act_row};
-    ghost use Rattle.ucon_state.specs.Stored.{row_of};
     ghost use Rattle.ucon_state.specs.Shown.{shown, changed_by, changed_to, given_back, kept, right_names, right_name, subject_name, object_name, AreThere};
 
     /// No entities, each variable at its default, tick 0.
@@ -114,14 +111,6 @@ impl State {
             attr,
         )?;
         Some(cell as u32)
-    }
-
-    /// The value of a cell.
-    pub fn cell_value(&self, cell: CellId) -> &Value
-        requires { cell < length (shown self.now).tables.cells }
-        ensures { slice_get (shown self.now).tables.cells cell ≡ Some result.now }
-    {
-        &self.tables.cells[cell as usize]
     }
 
     /// Adds an entity, and gives its number. Its attributes have their defaults.
@@ -191,35 +180,6 @@ impl State {
         })?;
         self.changes.push_reserved(Undo::Changed(change));
         Ok(())
-    }
-
-    /// Adds a session that is requesting, and gives its number, from 1.
-    pub fn add_session(
-        &mut self,
-        caller: Caller,
-        right: Name,
-        subject: Name,
-        object: Name,
-    ) -> Result<u32, NoMemory>
-        requires few { length (shown self.old).tables.sessions < 1048576 }
-        requires right { IsSome (right_named (shown self.old).policy.rights right) }
-        requires subject { IsSome (entity_number (shown self.old).tables sides.Subject subject) }
-        requires object { IsSome (entity_number (shown self.old).tables sides.Object object) }
-        ensures ok { OnOk result (shown self.new
-            ≡ changed_by (shown self.old) (actions.tries (length (shown self.old).tables.sessions + 1) caller subject right object)) }
-        ensures number { IfOk result (λ n. n ≡ length (shown self.old).tables.sessions + 1) }
-        ensures err { OnErr result (shown self.new ≡ shown self.old) }
-    {
-        let Some(right) = self.find_right(&right) else {
-            unreachable!()
-        };
-        let Some(subject) = self.find(Side::Subject, &subject) else {
-            unreachable!()
-        };
-        let Some(object) = self.find(Side::Object, &object) else {
-            unreachable!()
-        };
-        self.add_numbered_session(caller, right, subject, object)
     }
 
     /// Adds a session that is requesting, by the numbers of its right, its subject and its object, and gives its own, from 1.

@@ -21,8 +21,8 @@ use crate::loading::Loaded;
 use crate::starting::{start, start_first};
 use std::alloc::Global;
 use ucon_disk::Disk;
+use ucon_engine::Engine;
 use ucon_journal::{Journal, MAX_PAYLOAD};
-use ucon_state::Engine;
 use ucon_walk::{LastPoint, last_point};
 
 /// Reads the journal to its end, and mends it. A journal without a record gets this policy as record 0. Nothing is written before all that is

@@ -17,10 +17,10 @@ use crate::fault::PointRefusal;
 use std::alloc::Global;
 use ucon_base::{NoMemory, Rows};
 use ucon_disk::Disk;
+use ucon_engine::Engine;
 use ucon_journal::{Journal, MAX_PAYLOAD};
 use ucon_model::{Command, Entry};
 use ucon_point::point_text;
-use ucon_state::Engine;
 use ucon_walk::has_points;
 
 /// The checkpoint of an engine, which is after so many entries, of which these are the last ones, or all. Before these the policy in force has this

@@ -15,16 +15,16 @@ ghost use Rattle.ucon_model.specs.Payload.{revocations_in};
 ghost use Rattle.ucon_model.specs.Plain.{PlainPolicy};
 ghost use Rattle.ucon_model.specs.Views.{reply_of};
 ghost use Rattle.ucon_model.specs.Work.{NobodyFails};
-ghost use Rattle.ucon_state.specs.Engine.{IsPending};
+ghost use Rattle.ucon_engine.specs.Engine.{IsPending};
 ghost use Rattle.ucon_syntax.specs.Policies.{accepted};
 
 use std::alloc::Global;
 use ucon_base::{NoMemory, Rows};
 use ucon_command::{put_payload, steps_are_taken_as_spelled};
 use ucon_disk::Disk;
+use ucon_engine::Engine;
 use ucon_journal::{Journal, MAX_PAYLOAD};
 use ucon_model::{Caller, Command, Entry, Reply};
-use ucon_state::Engine;
 
 /// Takes all the memory that a step needs, before anything is written: the payload of its record, and its entry.
 pub(crate) fn prepare<D: Disk>(

@@ -6,11 +6,10 @@ ghost use Rattle.ucon_store.specs.Loading.{IsOfNone, TakesUp};
 use crate::beginning::Beginning;
 use std::alloc::Global;
 use ucon_base::NoMemory;
+use ucon_engine::{Engine, RestoreFault};
 use ucon_model::usages_stay_few;
 use ucon_point::{PointFault, points_are_read_back, read_point, rows_make_what_they_say};
-use ucon_state::{
-    Engine, RestoreFault, states_follow_what_reads_alike, tables_keep_what_is_followed,
-};
+use ucon_state::{states_follow_what_reads_alike, tables_keep_what_is_followed};
 
 /// An engine at a checkpoint.
 #[derive(Drop)]

@@ -21,9 +21,9 @@ use crate::restoring::take_up;
 use std::alloc::Global;
 use ucon_base::{NoMemory, Rows};
 use ucon_disk::Disk;
+use ucon_engine::Engine;
 use ucon_journal::{Journal, MAX_PAYLOAD};
 use ucon_model::{no_usage_goes_on_failing, revocations_are_few};
-use ucon_state::Engine;
 use ucon_walk::{LastPoint, take_point};
 
 /// The place of record 0's gate.

@@ -10,7 +10,7 @@ ghost use Rattle.ucon_model.specs.History.{History, changes};
 ghost use Rattle.ucon_model.specs.Plain.{PlainPolicy};
 ghost use Rattle.ucon_model.specs.Views.{reply_of};
 ghost use Rattle.ucon_model.specs.Work.{NobodyFails};
-ghost use Rattle.ucon_state.specs.Engine.{state_of};
+ghost use Rattle.ucon_engine.specs.Engine.{state_of};
 ghost use Rattle.ucon_state.specs.Following.{Follows};
 ghost use Rattle.ucon_state.specs.Shown.{shown};
 ghost use Rattle.ucon_turn.specs.Lists.{Continues};
@@ -39,10 +39,11 @@ use std::alloc::Global;
 use std::marker::Model;
 use ucon_base::{Rows, Steps};
 use ucon_disk::Disk;
+use ucon_engine::Engine;
 use ucon_journal::{Journal, MAX_PAYLOAD};
 use ucon_model::{Caller, Command, Entry, SessionState};
 use ucon_runs::payloads_are_found_one_by_one;
-use ucon_state::{Engine, State};
+use ucon_state::State;
 
 /// The history of a journal under its policy: in memory by the engine, on the disk by the journal.
 #[derive(Drop)]

@@ -7,7 +7,7 @@ ghost use Rattle.ucon_store.specs.Stays.{Stays, stays_same, stays_again};
 use crate::event::{Base, Event};
 use crate::store::Store;
 use ucon_disk::Disk;
-use ucon_state::Engine;
+use ucon_engine::Engine;
 use ucon_turn::Turned;
 
 impl<E: Engine, D: Disk> Turned for Store<E, D> {

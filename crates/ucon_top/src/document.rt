@@ -13,10 +13,10 @@ use crate::form::Form;
 use std::alloc::Global;
 use ucon_base::NoMemory;
 use ucon_check::check;
+use ucon_engine::Engine;
 use ucon_model::Checked;
 use ucon_outcome::Refused;
 use ucon_script::{Script, policy_part, read_script};
-use ucon_state::Engine;
 use ucon_syntax::read_policy;
 use ucon_trial::{models_text, trial_output, trial_summary};
 

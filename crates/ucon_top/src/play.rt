@@ -16,10 +16,10 @@ use crate::form::Form;
 use crate::stepping::steps_text;
 use std::alloc::Global;
 use ucon_disk::Disk;
+use ucon_engine::Engine;
 use ucon_flow::{Sink, write_all};
 use ucon_outcome::{Ended, Outcome};
 use ucon_script::{LineText, policy_part};
-use ucon_state::Engine;
 use ucon_store::Store;
 use ucon_syntax::accepted_texts_spell_typed_policies;
 

@@ -15,10 +15,10 @@ ghost use Rattle.ucon_top.specs.Pointed.{HasPointed, point_line};
 use crate::document::read_accepted;
 use std::alloc::Global;
 use ucon_disk::Disk;
+use ucon_engine::Engine;
 use ucon_flow::Sink;
 use ucon_outcome::{Ended, Outcome, put_point_line};
 use ucon_script::policy_part;
-use ucon_state::Engine;
 use ucon_store::Store;
 use ucon_syntax::accepted_texts_spell_typed_policies;
 

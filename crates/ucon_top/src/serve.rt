@@ -28,11 +28,11 @@ use std::sync::Wait;
 use std::thread::Threads;
 use ucon_client::{Gate, Part, divide};
 use ucon_disk::Disk;
+use ucon_engine::Engine;
 use ucon_flow::Sink;
 use ucon_outcome::{Ended, Outcome};
 use ucon_runs::{outputs_are_read_back, runs_over_a_store_are_legal};
 use ucon_script::{LineText, policy_part};
-use ucon_state::Engine;
 use ucon_store::Store;
 use ucon_syntax::accepted_texts_spell_typed_policies;
 

@@ -16,9 +16,9 @@ use std::alloc::Global;
 use ucon_base::{NoMemory, Rows};
 use ucon_client::Answer;
 use ucon_disk::Disk;
+use ucon_engine::Engine;
 use ucon_runs::{outputs_are_read_back, runs_over_a_store_are_legal, texts_tell_changes};
 use ucon_script::LineText;
-use ucon_state::Engine;
 use ucon_store::Store;
 
 /// Answers all lines, in their order, and then gives their output. Where there is no memory for that, the store is still one that some

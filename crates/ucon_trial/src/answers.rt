@@ -5,16 +5,16 @@ ghost use Rattle.ucon_model.specs.declared.command.Entry.{Entry};
 ghost use Rattle.ucon_model.specs.History.{History, grown, said, trace};
 ghost use Rattle.ucon_model.specs.History as histories;
 ghost use Rattle.ucon_model.specs.Plain.{PlainPolicy};
-ghost use Rattle.ucon_state.specs.Engine.{IsIdle, IsPending, StandsFor};
+ghost use Rattle.ucon_engine.specs.Engine.{IsIdle, IsPending, StandsFor};
 ghost use Rattle.ucon_trial.specs.Hearing.{HasHeard, HearsMore, replied};
 ghost use Rattle.ucon_trial.specs.OneAnswer.{Answers, entry_of};
 
 use crate::hearer::Hearer;
 use std::alloc::Global;
 use ucon_base::{NoMemory, Steps};
+use ucon_engine::Engine;
 use ucon_model::{Command, grown_histories_go_on};
 use ucon_script::LineText;
-use ucon_state::Engine;
 
 /// A run of the lines from the empty history: each is answered in their order, and its answer is told to the hearer, who has heard
 /// nothing before.

@@ -11,10 +11,10 @@ use crate::summary::Tally;
 use crate::transcript::Transcript;
 use std::alloc::Global;
 use ucon_base::NoMemory;
+use ucon_engine::Engine;
 use ucon_model::Checked;
 use ucon_runs::{outputs_are_read_back, serial_runs_are_legal, texts_tell_changes};
 use ucon_script::Script;
-use ucon_state::Engine;
 
 /// One line for each answer.
 pub fn trial_output<E: Engine>(

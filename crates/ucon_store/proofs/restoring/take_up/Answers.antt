@@ -3,8 +3,8 @@ use Rattle.ucon_model.specs.Plain.{Bytes}
 use Rattle.ucon_model.specs.Settle.{least_failing}
 use Rattle.ucon_model.specs.Work.{NobodyFails}
 use Rattle.ucon_point.specs.PointRead.{point_read}
-use Rattle.ucon_state.specs.declared.restore_fault.RestoreFault.{RestoreFault}
-use Rattle.ucon_state.specs.Engine.{IsCause}
+use Rattle.ucon_engine.specs.declared.restore_fault.RestoreFault.{RestoreFault}
+use Rattle.ucon_engine.specs.Engine.{IsCause}
 use Rattle.ucon_state.specs.Following.{AfterEach}
 use Rattle.ucon_state.specs.Shown.{Shown, shown}
 use Rattle.ucon_store.proofs.Restored.{shown_read, takes_up, unsettled}

@@ -5,7 +5,7 @@ use Rattle.ucon_model.specs.declared.command.Entry.{Entry}
 use Rattle.ucon_model.specs.History.{changes, said, trace}
 use Rattle.ucon_model.specs.Plain.{PlainReply}
 use Rattle.ucon_model.specs.Views.{reply_of}
-use Rattle.ucon_state.specs.Engine.{StandsFor}
+use Rattle.ucon_engine.specs.Engine.{StandsFor}
 use Rattle.ucon_trial.specs.Hearing.{HearsMore, replied}
 use Rattle.ucon_trial.specs.OneAnswer.{Answers, entry_of}
 use Rattle.ucon_trial.proofs.answers.answer.Goals as goal

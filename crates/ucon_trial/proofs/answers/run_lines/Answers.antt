@@ -1,7 +1,7 @@
 use Rattle.std.proofs.Common.{◌≡◌, map, get_or, sym, ◌∙◌, ap, arith}
 use Rattle.std.proofs.lemmas.List.{length-map}
 use Rattle.std.proofs.Math.ListN.{get_or-map}
-use Rattle.ucon_state.specs.Engine.{StandsFor}
+use Rattle.ucon_engine.specs.Engine.{StandsFor}
 use Rattle.ucon_trial.specs.OneAnswer.{entry_of}
 use Rattle.ucon_trial.proofs.Along.{begun, one_more, finished}
 use Rattle.ucon_trial.proofs.answers.run_lines.Goals as goal

@@ -1,6 +1,6 @@
 use Rattle.std.proofs.Common.{[], map}
 use Rattle.ucon_model.specs.Plain.{PlainPolicy}
-use Rattle.ucon_state.specs.Engine.{IsIdle, StandsFor}
+use Rattle.ucon_engine.specs.Engine.{IsIdle, StandsFor}
 use Rattle.ucon_trial.specs.OneAnswer.{entry_of}
 use Rattle.ucon_trial.proofs.Along.{Along}
 use Rattle.ucon_trial.proofs.answers.run_lines.Given as goal

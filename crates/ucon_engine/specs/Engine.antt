@@ -8,9 +8,9 @@ use Rattle.ucon_model.specs.Readings.{session}
 use Rattle.ucon_model.specs.History.{History, trace}
 use Rattle.ucon_model.specs.Settle.{least_failing}
 use Rattle.ucon_model.specs.Work.{NobodyFails}
-use Rattle.ucon_state.specs.declared.restore_fault.RestoreFault.{RestoreFault}
-use Rattle.ucon_state.specs.declared.restore_fault.RestoreFault.TheVariants.{Unsettled, NoMemory}
-use Rattle.ucon_state.specs.Following.{AfterEach, IsFollowing}
+use Rattle.ucon_engine.specs.declared.restore_fault.RestoreFault.{RestoreFault}
+use Rattle.ucon_engine.specs.declared.restore_fault.RestoreFault.TheVariants.{Unsettled, NoMemory}
+use Rattle.ucon_state.specs.Following.{AfterEach}
 use Rattle.ucon_state.specs.Shown.{Shown}
 
 -- the engine follows some trace under some policy: nothing is pending
@@ -39,16 +39,6 @@ abbrev pub state_of : Trace → ℕ → Option SessionState
 state_of T n = option_map (λ row. row.state) (session T n)
 
 -- ---- taking up a state
-
--- undoing gives the policy and the tables that are there now
-pub record HasNothingToUndo (s : Shown) : Type 0 where
-  pub same_policy : s.opening_policy ≡ s.policy
-  pub same_tables : s.opening ≡ s.tables
-
--- An engine can take up the state: the state follows some trace, and has nothing to undo.
-pub record CanBeTakenUp (s : Shown) : Type 0 where
-  pub following : IsFollowing s
-  pub settled : HasNothingToUndo s
 
 -- Why a state isn't taken up: after each trace that it follows this is the least accessing session that fails, with its label; or memory is
 -- wanting. There nobody fails, so that the first is told exactly where somebody does.

@@ -1,4 +1,4 @@
-//! What every engine does, whichever way it finds who is to be revoked.
+//! The trait that every engine meets.
 
 ghost use Rattle.std.specs.Prelude.{◌≡◌, [], ℕ, None, IsTrue, IsFalse, IfOk, OnErr};
 ghost use Rattle.ucon_model.specs.declared.command.Entry.{Entry};
@@ -9,15 +9,16 @@ ghost use Rattle.ucon_model.specs.Plain.{PlainPolicy};
 ghost use Rattle.ucon_model.specs.History.{changes};
 ghost use Rattle.ucon_model.specs.Settle.{fails_at};
 ghost use Rattle.ucon_model.specs.Views.{reply_of};
-ghost use Rattle.ucon_state.specs.Engine.{CanBeTakenUp, FollowsLike, HasNothingToUndo, IsIdle, IsPending, TakesUp, state_of};
+ghost use Rattle.ucon_engine.specs.Engine.{FollowsLike, IsIdle, IsPending, TakesUp, state_of};
 ghost use Rattle.ucon_state.specs.Following.{Follows};
 ghost use Rattle.ucon_state.specs.Shown.{shown};
+ghost use Rattle.ucon_state.specs.TakingUp.{CanBeTakenUp, HasNothingToUndo};
 
 use crate::restore_fault::RestoreFault;
-use crate::state::State;
 use std::alloc::Global;
 use ucon_base::{NoMemory, Steps};
 use ucon_model::{Caller, Checked, Command, Reply, SessionState};
+use ucon_state::State;
 
 /// The reply to a command, and whether a change is now pending.
 #[derive(Drop)]

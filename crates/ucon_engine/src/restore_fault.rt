@@ -1,7 +1,7 @@
 //! Why an engine doesn't take up a state.
 
 ghost use Rattle.std.specs.Prelude.{◌≡◌};
-ghost use Rattle.ucon_state.specs.declared.restore_fault.RestoreFault.TheVariants as faults;
+ghost use Rattle.ucon_engine.specs.declared.restore_fault.RestoreFault.TheVariants as faults;
 
 use ucon_base::{Name, NoMemory};
 
