@@ -2,12 +2,12 @@ pub mod CutOff
 pub mod Decimals
 pub mod Integers
 pub mod Passing
+pub mod PlainNumbers
 pub mod Products
 pub mod Rising
 pub mod Runs
 pub mod SameArrays
 pub mod SameLanes
-pub mod Saturated
 pub mod SetsFound
 pub mod SetsRead
 pub mod SetsSpelled

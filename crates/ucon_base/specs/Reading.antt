@@ -1,6 +1,7 @@
 -- How a value is read from bytes, and where bytes stop being the beginning of a spelling.
-use Rattle.std.specs.Prelude.{◌≡◌, ℕ, ◌+◌, ◌*◌, ◌-◌, ℤ, pos, neg_ℤ, Bool, true, false, not, ◌&&◌, ◌||◌, ◌==◌, nat_lt, nat_le, List, [], ◌∷◌, ◌++◌, length, take, drop, map, position, Option, Some, None, option_map, Result, Ok, Err, ⊤, if◌then◌else◌}
+use Rattle.std.specs.Prelude.{◌≡◌, ℕ, ◌+◌, ◌*◌, ◌-◌, ℤ, pos, neg_ℤ, Bool, true, false, not, ◌&&◌, ◌||◌, ◌==◌, nat_lt, nat_le, List, [], ◌∷◌, ◌++◌, length, take, drop, map, position, is_none, Option, Some, None, option_map, option_and_then, unwrap_or, Result, Ok, Err, ⊤, if◌then◌else◌}
 use Rattle.std.specs.List.{prefix_len}
+use Rattle.std.specs.Result.{result_ok}
 use Rattle.std.specs.Ordering.{nat_cmp, is_lt}
 use Rattle.std.specs.Cmp.Lexicographic.{slice_cmp}
 use Rattle.ucon_base.specs.declared.value.Value.{Value}
@@ -37,6 +38,10 @@ number_from n (d ∷ ds) = number_from (n * 10 + (d - 48)) ds
 abbrev pub number_of : List ℕ → ℕ
 number_of ds = number_from 0 ds
 
+-- the number from 1 to 10^15 that bytes spell
+abbrev pub number_read : List ℕ → Option ℕ
+number_read bs = if is_none (bad_number_place bs) && nat_le (number_of bs) 1000000000000000 then Some (number_of bs) else None
+
 -- an integer of this size, if it is in range
 abbrev pub sized : (ℕ → ℤ) → ℕ → Result Value ValueFault
 sized sign n = if nat_le n 1000000000000000 then Ok (Int (sign n)) else Err OutOfRange
@@ -54,6 +59,10 @@ unless_bad (Some p) r = Err (BadSpelling p)
 -- the integer whose spelling these bytes are
 abbrev pub integer_read : List ℕ → Result Value ValueFault
 integer_read bs = unless_bad (bad_integer_place bs) (spelled_integer bs)
+
+-- why bytes that spell no integer spell none
+abbrev pub integer_fault : List ℕ → ValueFault
+integer_fault bs = unwrap_or (option_map (λ p. BadSpelling p) (bad_integer_place bs)) OutOfRange
 
 -- ---- texts
 
@@ -157,6 +166,15 @@ set_read bs = set_of (members None opened 1 bs)
 abbrev pub value_read : List ℕ → Result Value ValueFault
 value_read [] = integer_read []
 value_read (b ∷ bs) = if b == 34 then text_read bs else if b == 123 then set_read bs else integer_read (b ∷ bs)
+
+-- the integer that a value is
+abbrev pub integer_of : Value → Option ℤ
+integer_of (Int n) = Some n
+integer_of v = None
+
+-- the integer that bytes spell
+abbrev pub integer_in : List ℕ → Option ℤ
+integer_in bs = option_and_then integer_of (result_ok (value_read bs))
 
 -- whether a set is spelled
 abbrev pub spells_set : Result Value ValueFault → Bool

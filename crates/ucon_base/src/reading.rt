@@ -1,20 +1,31 @@
 //! Integers and lone texts, read from their one spelling.
 
-ghost use Rattle.std.specs.Prelude.{◌≡◌, ◌≤◌, ◌<◌, pos, min, not, length, position, IfSome};
+ghost use Rattle.std.specs.Prelude.{◌≡◌, ◌≤◌, ◌<◌, not, length, position, IfSome};
 ghost use Rattle.std.specs.List.{prefix_len};
 ghost use Rattle.ucon_base.specs.TextBytes.{is_text_byte};
-ghost use Rattle.ucon_base.specs.Reading.{is_digit, bad_number_place, bad_integer_place, number_of, spelled_integer, integer_read, text_len, bad_close, text_read};
+ghost use Rattle.ucon_base.specs.Reading.{is_digit, bad_number_place, bad_integer_place, integer_fault, integer_read, text_len, bad_close, text_read};
 
 use crate::bytes::{is_digit, is_text_byte};
 use crate::{Int, Text, Value, ValueFault};
 
-/// The integer that the bytes spell.
+/// The integer that the bytes spell, or the first fault.
+#[tactic(auto, using(crate::proofs::PlainNumbers::read_none))]
 pub fn read_integer(bytes: &[u8]) -> Result<Value, ValueFault>
     ensures { result ≡ integer_read bytes.now }
 {
+    match Int::read(bytes) {
+        Some(n) => Ok(Value::Int(n)),
+        None => Err(integer_fault(bytes)),
+    }
+}
+
+/// Why the bytes spell no integer.
+fn integer_fault(bytes: &[u8]) -> ValueFault
+    ensures { result ≡ integer_fault bytes.now }
+{
     match bad_integer_place(bytes) {
-        Some(at) => Err(ValueFault::BadSpelling(at)),
-        None => spelled_integer(bytes),
+        Some(at) => ValueFault::BadSpelling(at),
+        None => ValueFault::OutOfRange,
     }
 }
 
@@ -22,10 +33,7 @@ fn bad_integer_place(bytes: &[u8]) -> Option<usize>
     ensures { result ≡ bad_integer_place bytes.now }
 {
     match bytes {
-        [b'-', digits @ ..] => match bad_number_place(digits) {
-            Some(i) => Some(i + 1),
-            None => None,
-        },
+        [b'-', digits @ ..] => Some(bad_number_place(digits)? + 1),
         [b'0'] => None,
         [b'0', ..] => Some(1),
         _ => bad_number_place(bytes),
@@ -37,10 +45,7 @@ fn bad_number_place(bytes: &[u8]) -> Option<usize>
     ensures within { IfSome result (λ i. i ≤ length bytes.now) }
 {
     match bytes {
-        [first, digits @ ..] if *first >= b'1' && *first <= b'9' => match no_digit(digits) {
-            Some(i) => Some(i + 1),
-            None => None,
-        },
+        [b'1'..=b'9', digits @ ..] => Some(no_digit(digits)? + 1),
         _ => Some(0),
     }
 }
@@ -50,27 +55,6 @@ fn no_digit(bytes: &[u8]) -> Option<usize>
     ensures within { IfSome result (λ i. i < length bytes.now) }
 {
     bytes.iter().position(|d| !is_digit(*d))
-}
-
-fn spelled_integer(bytes: &[u8]) -> Result<Value, ValueFault>
-    ensures { result ≡ spelled_integer bytes.now }
-{
-    let n = match bytes {
-        [b'-', digits @ ..] => Int::new(-number(digits)),
-        _ => Int::new(number(bytes)),
-    };
-    Ok(Value::Int(n.ok_or(ValueFault::OutOfRange)?))
-}
-
-/// The number that digits write, or the first out of range where it is above it.
-fn number(digits: &[u8]) -> i64
-    ensures { result ≡ pos (min (number_of digits.now) 1000000000000001) }
-{
-    let mut n: u64 = 0;
-    for d in digits {
-        n = (n * 10 + d.saturating_sub(b'0') as u64).min(1_000_000_000_000_001);
-    }
-    n as i64
 }
 
 /// The text whose bytes these are behind its opening quote.

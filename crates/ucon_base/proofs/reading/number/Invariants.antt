@@ -1,9 +1,0 @@
-use Rattle.std.proofs.Common.{◌≡◌, ◌≤◌, drop, min}
-use Rattle.ucon_base.specs.Reading.{number_from, number_of}
-use Rattle.ucon_base.proofs.reading.number.Given as goal
-
-abbrev pub invariant-loop-d : goal.invariant-loop-d
-invariant-loop-d l = record {
-  value : min (number_from l.n (drop l.d-index l.digits)) 1000000000000001 ≡ min (number_of l.fn.digits) 1000000000000001;
-  small : l.n ≤ 1000000000000001;
-}
