@@ -3,12 +3,12 @@ use Rattle.std.proofs.Common.{◌≡◌, ℕ, suc, ◌+◌, ◌*◌, ◌-◌, �
 use Rattle.std.specs.Prelude.{ℤ, pos, neg_ℤ, ◌==◌, ◌&&◌, nat_le, nat_lt, option_map, option_and_then, unwrap_or, position, Result, Ok, Err, take, if◌then◌else◌}
 use Rattle.std.specs.Result.{result_ok}
 use Rattle.std.specs.List.{list_all}
-use Rattle.std.proofs.lemmas.Bool.{and_from, and_right, cases_Bool, le-leb, lt-leb, eqb-true, ne_eqb, true≢false, false≢true}
+use Rattle.std.proofs.lemmas.Bool.{and_right, cases_Bool, le-leb, lt-leb, eqb-true, true≢false, false≢true}
 use Rattle.ucon_base.specs.declared.value.Value.TheVariants.{Int, Text}
 use Rattle.ucon_base.specs.declared.value_fault.ValueFault.{ValueFault}
 use Rattle.ucon_base.specs.declared.value_fault.ValueFault.TheVariants.{BadSpelling, TooLong, OutOfRange}
-use Rattle.ucon_base.specs.Reading.{Member, is_digit, bad_number_place, number_from, number_of, number_read, sized, unless_bad, integer_read, integer_fault, integer_of, integer_in, bad_integer_place, text_len, bad_close, opened, members, first_long, unless_long, set_of}
-use Rattle.ucon_base.proofs.Passing.{position_none, all_pass, none_from}
+use Rattle.ucon_base.specs.Reading.{Member, is_digit, bad_number_place, number_from, number_of, number_read, sized, unless_bad, integer_read, integer_of, integer_in, bad_integer_place, text_len, bad_close, opened, members, first_long, unless_long, set_of}
+use Rattle.ucon_base.proofs.Passing.{position_none, all_pass}
 
 -- the number that digits write behind those of n, if these are digits and it is in range
 abbrev pub told : ℕ → List ℕ → Option ℕ
@@ -136,6 +136,10 @@ none_if false bad m n h = sized_none pos bad n h
 pub read_one : (bs : List ℕ) (z : ℤ) → option_and_then integer_of (result_ok (integer_read bs)) ≡ Some z → integer_read bs ≡ Ok (Int z)
 read_one [] z h = cc
 read_one (b ∷ bs) z h = one_if (b == 45) (bad_integer_place (b ∷ bs)) (number_of bs) (number_of (b ∷ bs)) z h
+
+-- why bytes that spell no integer spell none
+abbrev pub integer_fault : List ℕ → ValueFault
+integer_fault bs = unwrap_or (option_map (λ p. BadSpelling p) (bad_integer_place bs)) OutOfRange
 
 -- where none is told, its fault is
 pub read_none : (bs : List ℕ) → option_and_then integer_of (result_ok (integer_read bs)) ≡ None → integer_read bs ≡ Err (integer_fault bs)

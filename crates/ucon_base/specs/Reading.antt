@@ -1,5 +1,5 @@
 -- How a value is read from bytes, and where bytes stop being the beginning of a spelling.
-use Rattle.std.specs.Prelude.{◌≡◌, ℕ, ◌+◌, ◌*◌, ◌-◌, ℤ, pos, neg_ℤ, Bool, true, false, not, ◌&&◌, ◌||◌, ◌==◌, nat_lt, nat_le, List, [], ◌∷◌, ◌++◌, length, take, drop, map, position, is_none, Option, Some, None, option_map, option_and_then, unwrap_or, Result, Ok, Err, ⊤, if◌then◌else◌}
+use Rattle.std.specs.Prelude.{◌≡◌, ℕ, ◌+◌, ◌*◌, ◌-◌, ℤ, pos, neg_ℤ, Bool, true, false, not, ◌&&◌, ◌||◌, ◌==◌, nat_lt, nat_le, List, [], ◌∷◌, ◌++◌, length, take, drop, map, position, is_none, Option, Some, None, option_map, option_and_then, Result, Ok, Err, ⊤, if◌then◌else◌}
 use Rattle.std.specs.List.{prefix_len}
 use Rattle.std.specs.Result.{result_ok}
 use Rattle.std.specs.Ordering.{nat_cmp, is_lt}
@@ -59,10 +59,6 @@ unless_bad (Some p) r = Err (BadSpelling p)
 -- the integer whose spelling these bytes are
 abbrev pub integer_read : List ℕ → Result Value ValueFault
 integer_read bs = unless_bad (bad_integer_place bs) (spelled_integer bs)
-
--- why bytes that spell no integer spell none
-abbrev pub integer_fault : List ℕ → ValueFault
-integer_fault bs = unwrap_or (option_map (λ p. BadSpelling p) (bad_integer_place bs)) OutOfRange
 
 -- ---- texts
 

@@ -23,7 +23,7 @@ pub fn is_digit(b: u8) -> bool
 pub fn is_word_byte(b: u8) -> bool
     ensures { result ≡ is_word_byte b }
 {
-    WORD_BYTES[b as usize]
+    WORD_BYTES[b as usize] == b'w'
 }
 
 /// A byte that may stand in a text: printable, and not `"`.
@@ -33,26 +33,9 @@ pub fn is_text_byte(b: u8) -> bool
     b >= 0x20 && b <= 0x7e && !(b == b'"')
 }
 
-/// Of each byte, whether it may stand in a name.
-static WORD_BYTES: [bool; 256] = [
-    false, false, false, false, false, false, false, false, false, false, false, false, false,
-    false, false, false, false, false, false, false, false, false, false, false, false, false,
-    false, false, false, false, false, false, false, false, false, false, false, false, false,
-    false, false, false, false, false, false, false, false, false, true, true, true, true, true,
-    true, true, true, true, true, false, false, false, false, false, false, false, false, false,
-    false, false, false, false, false, false, false, false, false, false, false, false, false,
-    false, false, false, false, false, false, false, false, false, false, false, false, false,
-    false, false, true, false, true, true, true, true, true, true, true, true, true, true, true,
-    true, true, true, true, true, true, true, true, true, true, true, true, true, true, true,
-    false, false, false, false, false, false, false, false, false, false, false, false, false,
-    false, false, false, false, false, false, false, false, false, false, false, false, false,
-    false, false, false, false, false, false, false, false, false, false, false, false, false,
-    false, false, false, false, false, false, false, false, false, false, false, false, false,
-    false, false, false, false, false, false, false, false, false, false, false, false, false,
-    false, false, false, false, false, false, false, false, false, false, false, false, false,
-    false, false, false, false, false, false, false, false, false, false, false, false, false,
-    false, false, false, false, false, false, false, false, false, false, false, false, false,
-    false, false, false, false, false, false, false, false, false, false, false, false, false,
-    false, false, false, false, false, false, false, false, false, false, false, false, false,
-    false, false, false,
-];
+/// A `w` for each byte that may stand in a name.
+static WORD_BYTES: [u8; 256] = *b"\
+    ................................................wwwwwwwwww......\
+    ...............................w.wwwwwwwwwwwwwwwwwwwwwwwwww.....\
+    ................................................................\
+    ................................................................";

@@ -1,10 +1,8 @@
 //! Sets, read from their one spelling.
 
 ghost use Rattle.std.specs.Prelude.{◌≡◌, ◌+◌, ◌≤◌, ◌<◌, ◌++◌, ◌∷◌, List, ℕ, [], map, length, None, option_copied, IfOk, IfSome, MatchResult, Option, Ok, Err, Some, false};
-ghost use Rattle.std.specs.Ordering.{nat_cmp, is_lt};
-ghost use Rattle.std.specs.Cmp.Lexicographic.{slice_cmp};
 ghost use Rattle.ucon_base.specs.declared.value.Value.TheVariants.{Set};
-ghost use Rattle.ucon_base.specs.Reading.{Member, rises, can_rise, begins_with, inside, opened, behind, awaiting, before, members, IsCause, set_read, spells_set};
+ghost use Rattle.ucon_base.specs.Reading.{Member, rises, can_rise, inside, opened, behind, awaiting, before, members, IsCause, set_read, spells_set};
 ghost use Rattle.ucon_base.specs.Members.{Holds, IsFound, texts_seen, long_at, after_quote, awaited, EachIsText};
 
 use crate::reading::text_len;
@@ -73,12 +71,8 @@ fn spelled<'a>(bytes: &'a [u8]) -> Result<Found<'a>, ValueFault>
     let found = members(bytes)?;
     match found.long {
         Some(at) => Err(ValueFault::TooLong(at)),
-        None => {
-            if found.count > MOST_TEXTS {
-                return Err(ValueFault::TooMany(found.count));
-            }
-            Ok(found)
-        }
+        None if found.count > MOST_TEXTS => Err(ValueFault::TooMany(found.count)),
+        None => Ok(found),
     }
 }
 
@@ -152,12 +146,8 @@ fn member<'a>(
     }
     match after_quote(rest) {
         None => Err(ValueFault::BadSpelling(at + 1 + text.len())),
-        Some(after) => {
-            if !rises(last, text) {
-                return Err(ValueFault::BadSpelling(at));
-            }
-            Ok((text, after))
-        }
+        Some(_) if !rises(last, text) => Err(ValueFault::BadSpelling(at)),
+        Some(after) => Ok((text, after)),
     }
 }
 
@@ -193,29 +183,17 @@ fn rises(last: Option<&[u8]>, text: &[u8]) -> bool
 {
     match last {
         None => true,
-        Some(u) => is_below(u, text),
+        Some(u) => u.cmp(text).is_lt(),
     }
 }
 
-fn is_below(a: &[u8], b: &[u8]) -> bool
-    ensures { result ≡ is_lt (slice_cmp nat_cmp a.now b.now) }
-{
-    a.cmp(b).is_lt()
-}
-
 /// Whether a text that begins so can stand above the last.
+#[tactic(auto, using(crate::proofs::Runs::starts_is))]
 fn can_rise(last: Option<&[u8]>, text: &[u8]) -> bool
     ensures { result ≡ can_rise (option_copied last.entry) text.now }
 {
     match last {
         None => true,
-        Some(u) => is_below(u, text) || begins_with(u, text),
+        Some(u) => u.cmp(text).is_lt() || u.starts_with(text),
     }
-}
-
-#[tactic(auto, using(crate::proofs::Runs::starts_is))]
-fn begins_with(bytes: &[u8], front: &[u8]) -> bool
-    ensures { result ≡ begins_with bytes.now front.now }
-{
-    bytes.starts_with(front)
 }

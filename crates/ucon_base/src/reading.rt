@@ -3,7 +3,7 @@
 ghost use Rattle.std.specs.Prelude.{◌≡◌, ◌≤◌, ◌<◌, not, length, position, IfSome};
 ghost use Rattle.std.specs.List.{prefix_len};
 ghost use Rattle.ucon_base.specs.TextBytes.{is_text_byte};
-ghost use Rattle.ucon_base.specs.Reading.{is_digit, bad_number_place, bad_integer_place, integer_fault, integer_read, text_len, bad_close, text_read};
+ghost use Rattle.ucon_base.specs.Reading.{is_digit, bad_number_place, bad_integer_place, integer_read, text_len, bad_close, text_read};
 
 use crate::bytes::{is_digit, is_text_byte};
 use crate::{Int, Text, Value, ValueFault};
@@ -13,19 +13,12 @@ use crate::{Int, Text, Value, ValueFault};
 pub fn read_integer(bytes: &[u8]) -> Result<Value, ValueFault>
     ensures { result ≡ integer_read bytes.now }
 {
-    match Int::read(bytes) {
-        Some(n) => Ok(Value::Int(n)),
-        None => Err(integer_fault(bytes)),
+    if let Some(n) = Int::read(bytes) {
+        return Ok(Value::Int(n));
     }
-}
-
-/// Why the bytes spell no integer.
-fn integer_fault(bytes: &[u8]) -> ValueFault
-    ensures { result ≡ integer_fault bytes.now }
-{
     match bad_integer_place(bytes) {
-        Some(at) => ValueFault::BadSpelling(at),
-        None => ValueFault::OutOfRange,
+        Some(at) => Err(ValueFault::BadSpelling(at)),
+        None => Err(ValueFault::OutOfRange),
     }
 }
 

@@ -8,10 +8,10 @@ use Rattle.std.specs.Str.{bytes_eq}
 use Rattle.ucon_base.specs.declared.value.Side.{Side}
 use Rattle.ucon_base.specs.declared.value.Side.TheVariants as sides
 use Rattle.ucon_base.specs.declared.value.Value.{Value}
-use Rattle.ucon_base.specs.declared.value.Value.TheVariants as values
 use Rattle.ucon_base.specs.NameBytes.{is_name}
 use Rattle.ucon_base.specs.Numbers.{InRange}
 use Rattle.ucon_base.specs.Reading.{value_read}
+pub use Rattle.ucon_base.specs.Reading.{integer_of, integer_in}
 use Rattle.ucon_base.specs.Spelling.{side_word, value_spelling, IsValue}
 use Rattle.ucon_model.specs.declared.command.Command.{Command}
 use Rattle.ucon_model.specs.declared.command.Command.TheVariants.{Subject, Object, Set, Env, Tick, Act, Try, Again, Beat, End, Look, Value as Value', Amend}
@@ -102,15 +102,6 @@ name_in bs = if is_name bs then Some bs else None
 -- the value that a word spells
 abbrev pub value_in : Bytes → Option Value
 value_in bs = result_ok (value_read bs)
-
--- the integer that a value is
-abbrev pub integer_of : Value → Option ℤ
-integer_of (values.Int n) = Some n
-integer_of v = None
-
--- the integer that a word spells
-abbrev pub integer_in : Bytes → Option ℤ
-integer_in bs = option_and_then integer_of (value_in bs)
 
 -- 0 to 4294967295
 abbrev pub number_of : ℤ → Option ℕ

@@ -1,10 +1,7 @@
 -- The reading of a value never says want of memory, and only a set takes any.
 use Rattle.std.proofs.Common.{◌≡◌, ℕ, ◌+◌, Bool, true, false, List, [], ◌∷◌, ◌++◌, length, take, drop, Option, Some, None, Result, Ok, Err, refl, sym, ap, subst, ◌∙◌}
-use Rattle.std.specs.Prelude.{ℤ, pos, neg_ℤ, ⊤, IsSome, ◌==◌, nat_eq, nat_le, nat_lt, codes, if◌then◌else◌, option_and_then}
-use Rattle.std.specs.List.{starts_with}
+use Rattle.std.specs.Prelude.{ℤ, pos, neg_ℤ, ⊤, IsSome, ◌==◌, nat_le, nat_lt, if◌then◌else◌}
 use Rattle.std.specs.Result.{result_ok}
-use Rattle.std.proofs.lemmas.Bool.Decides.{Decides-eqb}
-use Rattle.std.proofs.lemmas.Slice.Eq.{starts_is}
 use Rattle.ucon_base.specs.declared.value.Value.{Value}
 use Rattle.ucon_base.specs.declared.value.Value.TheVariants as values
 use Rattle.ucon_base.specs.declared.value_fault.ValueFault.{ValueFault}
@@ -12,7 +9,7 @@ use Rattle.ucon_base.specs.declared.value_fault.ValueFault.TheVariants as faults
 use Rattle.ucon_base.specs.declared.no_memory.NoMemory.{NoMemory}
 use Rattle.ucon_base.specs.TextBytes.{is_text_byte}
 use Rattle.ucon_base.specs.Reading.{Member, Stage, opened, inside, behind, awaiting, closed, number_of, sized, spelled_integer, unless_bad, bad_integer_place, text_len, bad_close, rises, can_rise, before, members, first_long, unless_long, set_of, value_read, spells_set}
-use Rattle.ucon_model.specs.CommandLine.{integer_of, integer_in, value_in}
+use Rattle.ucon_model.specs.CommandLine.{value_in}
 
 abbrev IsOther : ValueFault → Type 0
 IsOther (faults.NoMemory e) = ⊥
@@ -86,39 +83,3 @@ wants_value bs f e wants sure = by (value_read bs) refl
     by (Err g) is =
         let same : value_read bs ≡ Err (faults.NoMemory e) = sym (sure (ap spells_set is)) ∙ ap (λ (h : ValueFault). Err h) wants in
         absurd (subst IsSaid same (value_said bs))
-
--- ---- what begins a set is no integer
-
--- what is said is no integer
-abbrev IsNoInteger : Result Value ValueFault → Type 0
-IsNoInteger r = option_and_then integer_of (result_ok r) ≡ None
-
-no_integer_if : (b : Bool) (r s : Result Value ValueFault) → IsNoInteger r → IsNoInteger s → IsNoInteger (if b then r else s)
-no_integer_if true r s h k = h
-no_integer_if false r s h k = k
-
-no_integer_long : (o : Option ℕ) (ms : List Member) → IsNoInteger (unless_long o ms)
-no_integer_long (Some p) ms = refl
-no_integer_long None ms = no_integer_if (nat_lt 64 (length ms)) _ _ refl refl
-
-no_integer_set : (r : Result (List Member) ValueFault) → IsNoInteger (set_of r)
-no_integer_set (Ok ms) = no_integer_long (first_long ms) ms
-no_integer_set (Err f) = refl
-
-pub no_integer : (bs : List ℕ) → starts_with nat_eq bs (codes "{") ≡ true → integer_in bs ≡ None
-no_integer bs e =
-    let whole : bs ≡ codes "{" ++ drop 1 bs = (starts_is Decides-eqb bs (codes "{") true (sym e)).0 refl in
-    ap integer_in whole ∙ no_integer_set (members None opened 1 (drop 1 bs))
-
--- where the reading of a value failed, no integer is spelled: want of memory is told of a set alone
-pub no_integer_err : (bs : List ℕ) (f : ValueFault) → (spells_set (value_read bs) ≡ false → Err f ≡ value_read bs) → integer_in bs ≡ None
-no_integer_err bs f sure = by (value_read bs) sure
-  where
-    never : (v : Value) (g : ValueFault) → Err g ≡ Ok v → ⊥
-    never v g e = cc
-
-    by : (said : Result Value ValueFault) → (spells_set said ≡ false → Err f ≡ said) → IsNoInteger said
-    by (Ok (values.Int n)) is = absurd (never (values.Int n) f (is refl))
-    by (Ok (values.Text t)) is = refl
-    by (Ok (values.Set ts)) is = refl
-    by (Err g) is = refl

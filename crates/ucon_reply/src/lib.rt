@@ -11,7 +11,7 @@ mod reply_fault;
 mod spelling;
 
 pub use in_form::{integer_in_form, name_in_form, number_in_form, reply_in_form, value_in_form};
-pub use kinds::{integer_in, is_name, name_in, number_in, value_in};
+pub use kinds::{is_name, name_in, number_in, value_in};
 pub use laws::{replies_are_read_back, values_fit_lines, words_are_read_back};
 pub use line_words::{Word, last_word, name_then, next_word, word_between, word_count, words};
 pub use reading::read_reply;

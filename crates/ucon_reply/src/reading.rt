@@ -109,7 +109,7 @@ fn told<'a>(alloc: Global, bytes: &'a [u8], words: &[Word<'a>]) -> Result<Reply,
             } else if first == b"value".as_slice() {
                 value_reply(alloc, bytes, rest)
             } else if first == b"status".as_slice() {
-                status_reply(alloc, rest)
+                status_reply(rest)
             } else {
                 Err(ReplyFault::BadReply)
             }
@@ -132,7 +132,7 @@ fn permitted(alloc: Global, words: &[Word<'_>]) -> Result<Reply, ReplyFault>
 {
     match words {
         [number, behind @ ..] => {
-            let n = number_in(alloc, number.text).ok_or(ReplyFault::BadReply)?;
+            let n = number_in(number.text).ok_or(ReplyFault::BadReply)?;
             made(alloc, Head::Permitted(n), behind)
         }
         [] => Err(ReplyFault::BadReply),
@@ -145,7 +145,7 @@ fn denied(alloc: Global, words: &[Word<'_>]) -> Result<Reply, ReplyFault>
 {
     match words {
         [number, label, behind @ ..] => {
-            let (n, label) = labelled(alloc, number, label)?;
+            let (n, label) = labelled(number, label)?;
             made(alloc, Head::Denied(n, label), behind)
         }
         _ => Err(ReplyFault::BadReply),
@@ -158,7 +158,7 @@ fn waiting(alloc: Global, words: &[Word<'_>]) -> Result<Reply, ReplyFault>
 {
     match words {
         [number, label, behind @ ..] => {
-            let (n, label) = labelled(alloc, number, label)?;
+            let (n, label) = labelled(number, label)?;
             made(alloc, Head::Waiting(n, label), behind)
         }
         _ => Err(ReplyFault::BadReply),
@@ -171,7 +171,7 @@ fn ended(alloc: Global, words: &[Word<'_>]) -> Result<Reply, ReplyFault>
 {
     match words {
         [number, behind @ ..] => {
-            let n = number_in(alloc, number.text).ok_or(ReplyFault::BadReply)?;
+            let n = number_in(number.text).ok_or(ReplyFault::BadReply)?;
             made(alloc, Head::Ended(n), behind)
         }
         [] => Err(ReplyFault::BadReply),
@@ -179,10 +179,10 @@ fn ended(alloc: Global, words: &[Word<'_>]) -> Result<Reply, ReplyFault>
 }
 
 #[tactic(auto, unfolding(ucon_model::specs::ReplyText::labelled_read))]
-fn labelled(alloc: Global, number: &Word<'_>, label: &Word<'_>) -> Result<(u32, Name), ReplyFault>
+fn labelled(number: &Word<'_>, label: &Word<'_>) -> Result<(u32, Name), ReplyFault>
     ensures { Gives result (labelled_read (word_of number.now) (word_of label.now)) }
 {
-    let n = number_in(alloc, number.text).ok_or(ReplyFault::BadReply)?;
+    let n = number_in(number.text).ok_or(ReplyFault::BadReply)?;
     let label = name_in(label.text).ok_or(ReplyFault::BadReply)?;
     Ok((n, label))
 }
@@ -194,7 +194,7 @@ fn revoked(alloc: Global, words: &[Word<'_>]) -> Result<Rows<Revoked>, ReplyFaul
     let mut rows = Vec::new(alloc);
     let mut rest = words;
     while let [word, number, label, behind @ ..] = rest {
-        rows.push(one_revoked(alloc, word, number, label)?)?;
+        rows.push(one_revoked(word, number, label)?)?;
         rest = behind;
     }
     if rest.is_empty() {
@@ -205,16 +205,11 @@ fn revoked(alloc: Global, words: &[Word<'_>]) -> Result<Rows<Revoked>, ReplyFaul
 }
 
 #[tactic(auto, unfolding(ucon_model::specs::ReplyText::one_revoked))]
-fn one_revoked(
-    alloc: Global,
-    word: &Word<'_>,
-    number: &Word<'_>,
-    label: &Word<'_>,
-) -> Result<Revoked, ReplyFault>
+fn one_revoked(word: &Word<'_>, number: &Word<'_>, label: &Word<'_>) -> Result<Revoked, ReplyFault>
     ensures { Gives result (one_revoked (word_of word.now) (word_of number.now) (word_of label.now)) }
 {
     if word.text == b"revoked".as_slice() {
-        let (session, label) = labelled(alloc, number, label)?;
+        let (session, label) = labelled(number, label)?;
         Ok(Revoked { session, label })
     } else {
         Err(ReplyFault::BadReply)
@@ -238,21 +233,21 @@ fn value_reply<'a>(alloc: Global, bytes: &'a [u8], words: &[Word<'a>]) -> Result
 }
 
 #[tactic(auto, unfolding(ucon_model::specs::ReplyText::status_of))]
-fn status_of(alloc: Global, number: &Word<'_>, state: &Word<'_>) -> Result<Reply, ReplyFault>
+fn status_of(number: &Word<'_>, state: &Word<'_>) -> Result<Reply, ReplyFault>
     ensures { GivesReply result (status_of (word_of number.now) (word_of state.now)) }
 {
-    let n = number_in(alloc, number.text).ok_or(ReplyFault::BadReply)?;
+    let n = number_in(number.text).ok_or(ReplyFault::BadReply)?;
     let state = state_in(state.text).ok_or(ReplyFault::BadReply)?;
     Ok(Reply::Status(n, state))
 }
 
 /// A session's number and its state.
 #[tactic(auto, unfolding(ucon_model::specs::ReplyText::status_reply))]
-fn status_reply(alloc: Global, words: &[Word<'_>]) -> Result<Reply, ReplyFault>
+fn status_reply(words: &[Word<'_>]) -> Result<Reply, ReplyFault>
     ensures { GivesReply result (status_reply (map word_of words.now)) }
 {
     match words {
-        [number, state] => status_of(alloc, number, state),
+        [number, state] => status_of(number, state),
         _ => Err(ReplyFault::BadReply),
     }
 }

@@ -8,9 +8,9 @@ ghost use Rattle.ucon_row.specs.declared.row.Row.TheVariants.{Attribute, Entity,
 ghost use Rattle.ucon_row.specs.RowText.{act_read, front, names_front, row_read, row_told, session_read, valued};
 
 use crate::row::Row;
-use crate::words::{caller_in, cut_at, integer_in, name_in, state_in, value_in};
+use crate::words::{caller_in, cut_at, name_in, state_in, value_in};
 use std::alloc::Global;
-use ucon_base::{Name, NoMemory, Side, Value};
+use ucon_base::{Int, Name, NoMemory, Side, Value};
 use ucon_model::{Caller, SessionRow, SessionState};
 
 /// The row of which the line is the spelling.
@@ -42,10 +42,10 @@ fn row_told(alloc: Global, word: &[u8], rest: &[u8]) -> Result<Option<Row>, NoMe
         return attribute(alloc, rest);
     }
     if word == b"act".as_slice() {
-        return act(alloc, rest);
+        return Ok(act(rest));
     }
     if word == b"session".as_slice() {
-        return session(alloc, rest);
+        return Ok(session(rest));
     }
     Ok(None)
 }
@@ -97,49 +97,45 @@ fn valued(alloc: Global, bytes: &[u8]) -> Result<Option<(Name, Value)>, NoMemory
 /// Three names and a moment.
 #[inline(never)]
 #[tactic(auto, unfolding(crate::specs::RowText::act_read))]
-fn act(alloc: Global, bytes: &[u8]) -> Result<Option<Row>, NoMemory>
-    ensures { IfOk result (λ row. row ≡ act_read bytes.now) }
+fn act(bytes: &[u8]) -> Option<Row>
+    ensures { result ≡ act_read bytes.now }
 {
     let Some((names, rest)) = names_front(bytes) else {
-        return Ok(None);
+        return None;
     };
-    let Some(moment) = integer_in(alloc, rest)? else {
-        return Ok(None);
-    };
-    Ok(Some(Row::Act {
+    let moment = Int::read(rest)?;
+    Some(Row::Act {
         subject: names.0,
         action: names.1,
         object: names.2,
         moment,
-    }))
+    })
 }
 
 /// A client, three names, a state and a start.
 #[inline(never)]
 #[tactic(auto, unfolding(crate::specs::RowText::session_read))]
-fn session(alloc: Global, bytes: &[u8]) -> Result<Option<Row>, NoMemory>
-    ensures { IfOk result (λ row. row ≡ session_read bytes.now) }
+fn session(bytes: &[u8]) -> Option<Row>
+    ensures { result ≡ session_read bytes.now }
 {
     let Some((caller, rest)) = caller_front(bytes) else {
-        return Ok(None);
+        return None;
     };
     let Some((names, rest)) = names_front(rest) else {
-        return Ok(None);
+        return None;
     };
     let Some((state, rest)) = state_front(rest) else {
-        return Ok(None);
+        return None;
     };
-    let Some(start) = integer_in(alloc, rest)? else {
-        return Ok(None);
-    };
-    Ok(Some(Row::Session(SessionRow {
+    let start = Int::read(rest)?;
+    Some(Row::Session(SessionRow {
         caller,
         right: names.0,
         subject: names.1,
         object: names.2,
         state,
         start,
-    })))
+    }))
 }
 
 /// Three names, each with a space behind it, and what stands behind them.

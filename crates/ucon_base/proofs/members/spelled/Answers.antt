@@ -7,10 +7,10 @@ pub returns-in-Some-clause-read : goal.returns-in-Some-clause-read
 returns-in-Some-clause-read c =
     told_long (members None opened 1 c.args.bytes.now) c.in_ok-found.found c.in-Some.at c.in_ok-found.ensures c.in-Some.is
 
-pub returns-then-found-gt-MOST_TEXTS-clause-read : goal.returns-then-found-gt-MOST_TEXTS-clause-read
-returns-then-found-gt-MOST_TEXTS-clause-read c =
+pub returns-in-None-clause-read : goal.returns-in-None-clause-read
+returns-in-None-clause-read c =
     told_many (members None opened 1 c.args.bytes.now) c.in_ok-found.found c.in_ok-found.ensures c.in-None.is c.if-found-gt-MOST_TEXTS.true
 
-pub returns-else-found-gt-MOST_TEXTS-clause-read : goal.returns-else-found-gt-MOST_TEXTS-clause-read
-returns-else-found-gt-MOST_TEXTS-clause-read c =
-    told_found (members None opened 1 c.args.bytes.now) c.in_ok-found.found c.in_ok-found.ensures c.in-None.is c.if-found-gt-MOST_TEXTS.false
+pub returns-in-None-2-clause-read : goal.returns-in-None-2-clause-read
+returns-in-None-2-clause-read c =
+    told_found (members None opened 1 c.args.bytes.now) c.in_ok-found.found c.in_ok-found.ensures c.in-None-2.is c.if-found-gt-MOST_TEXTS.false

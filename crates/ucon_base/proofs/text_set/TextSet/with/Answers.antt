@@ -6,8 +6,8 @@ use Rattle.ucon_base.specs.Arithmetic.{in_place}
 use Rattle.ucon_base.proofs.Rising.{is_set-in_place}
 use Rattle.ucon_base.proofs.text_set.TextSet.with.Goals as goal
 
-pub invariant_of-result : goal.invariant_of-result
-invariant_of-result c =
+pub of_rising-requires : goal.of_rising-requires
+of_rising-requires c =
     let t = c.args.t.now in
     let view : c.args.self.now ≡ c.self.inside.texts.items = sym c.self.view_is in
     let other : list_any (bytes_eq t) c.self.inside.texts.items ≡ false = ap (list_any (bytes_eq t)) (sym view) ∙ sym c.has.ensures ∙ c.if-has.false in
