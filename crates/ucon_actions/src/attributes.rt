@@ -20,6 +20,7 @@ use ucon_readings::{attr_admits, attribute, find_entity, has_entity};
 use ucon_state::{State, each_action_is_followed, tables_keep_what_is_followed};
 
 /// Writes a value to an attribute of the entity with this number, which has this name.
+#[inline(always)]
 fn write(
     state: &mut State,
     side: Side,
