@@ -1,6 +1,6 @@
 //! Attributes are written and told: `set` and `value`.
 
-ghost use Rattle.std.specs.Prelude.{◌≡◌, ◌∷◌, IfErr, IfOk, OnOk, IsSome, Some};
+ghost use Rattle.std.specs.Prelude.{◌≡◌, ◌<◌, ◌∷◌, length, IfErr, IfOk, OnOk, IsSome, Some};
 ghost use Rattle.ucon_model.specs.declared.session.SessionRow.{SessionRow};
 ghost use Rattle.ucon_model.specs.Action.{write};
 ghost use Rattle.ucon_model.specs.Fitting.{AttributeAdmits};
@@ -9,34 +9,34 @@ ghost use Rattle.ucon_model.specs.Updates.{entity_of};
 ghost use Rattle.ucon_actions.specs.Gives.{Gives, Refuses, Unchanged};
 ghost use Rattle.ucon_actions.specs.Leads.{KeepsBase, Leads};
 ghost use Rattle.ucon_state.specs.Shown.{shown};
-ghost use Rattle.ucon_state.specs.Tables.{entity_number, session_in};
+ghost use Rattle.ucon_state.specs.Tables.{entities_of, entity_number, session_in};
 
 use crate::entities::{is_admin, no_entity};
 use crate::outcome::{ActionFault, Outcome, require};
 use std::alloc::Global;
 use ucon_base::{Name, NoMemory, Side, Value};
 use ucon_model::{Caller, Head, Refusal};
-use ucon_readings::{attr_admits, attribute, has_entity};
+use ucon_readings::{attr_admits, attribute, find_entity, has_entity};
 use ucon_state::{State, each_action_is_followed, tables_keep_what_is_followed};
 
-/// Writes a value to an attribute.
-pub fn write(
+/// Writes a value to an attribute of the entity with this number, which has this name.
+#[inline(always)]
+fn write(
     state: &mut State,
     side: Side,
     name: &Name,
+    entity: u32,
     attr: &Name,
     value: Value,
 ) -> Result<(), NoMemory>
-    requires there { IsSome (entity_number (shown state.old).tables side name.now) }
+    requires there { entity_number (shown state.old).tables side name.now ≡ Some entity }
+    requires within { entity < length (entities_of side (shown state.old).tables) }
     requires admitted { AttributeAdmits (shown state.old).policy side attr.now value }
     ensures leads { OnOk result (Leads (shown state.old) (shown state.new) (λ P T. write side name.now attr.now value ∷ T)) }
     ensures base { KeepsBase (shown state.old) (shown state.new) }
 {
     tables_keep_what_is_followed();
     each_action_is_followed();
-    let Some(entity) = state.find(side, name) else {
-        unreachable!()
-    };
     let Some(cell) = state.cell(side, entity, attr) else {
         unreachable!()
     };
@@ -83,10 +83,10 @@ pub fn set_attribute(
     ensures base { KeepsBase (shown state.old) (shown state.new) }
 {
     require(is_admin(caller), Refusal::NotAdmin)?;
-    require(has_entity(state, side, name), no_entity(side))?;
+    let entity = find_entity(state, side, name).ok_or(no_entity(side))?;
     let admitted = attr_admits(state, side, attr, value).ok_or(Refusal::NoAttribute)?;
     require(admitted, Refusal::BadValue)?;
-    write(state, side, name, attr, value.copy(alloc)?)?;
+    write(state, side, name, entity, attr, value.copy(alloc)?)?;
     Ok(Outcome::Made(Head::Ok))
 }
 

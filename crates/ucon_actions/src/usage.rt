@@ -1,6 +1,6 @@
 //! Usages: sessions are tried, go on, end and are revoked.
 
-ghost use Rattle.std.specs.Prelude.{◌≡◌, ◌+◌, ◌<◌, ◌∷◌, [], ◌++◌, length, IfErr, IfOk, OnOk, IsSome, Some};
+ghost use Rattle.std.specs.Prelude.{◌≡◌, ◌+◌, ◌<◌, ◌∷◌, [], ◌++◌, length, is_none, IfErr, IfOk, OnOk, IsSome, Some};
 ghost use Rattle.ucon_base.specs.declared.value.Side.TheVariants as sides;
 ghost use Rattle.ucon_model.specs.declared.policy.When.TheVariants.{Before};
 ghost use Rattle.ucon_model.specs.declared.session.SessionRow.{SessionRow};
@@ -8,6 +8,7 @@ ghost use Rattle.ucon_model.specs.declared.session.SessionState.TheVariants.{Req
 ghost use Rattle.ucon_model.specs.Readings.{is_accessing_state, session};
 ghost use Rattle.ucon_model.specs.Action.{permit, deny, extended};
 ghost use Rattle.ucon_model.specs.Decision.{right_named, verdict};
+ghost use Rattle.ucon_model.specs.Lookup.{right_read};
 ghost use Rattle.ucon_model.specs.OwnActions.{Own, with_own, with_usage, end_usage, is_requesting, decide, lacks_right, try_right, try_again};
 ghost use Rattle.ucon_model.specs.Settle.{least_failing, revocation};
 ghost use Rattle.ucon_model.specs.Updates.{session_writes};
@@ -24,8 +25,9 @@ use ucon_asked::typed_tests_make_no_set;
 use ucon_base::{Name, NoMemory, Side};
 use ucon_eval::verdict;
 use ucon_model::{
-    Caller, Head, Refusal, SessionRow, SessionState, Verdict, When, actions_are_done_in_order,
-    the_least_failing_is_found, updates_write_their_targets, writes_leave_sessions,
+    Caller, Head, Refusal, SessionRow, SessionState, Verdict, View, When,
+    actions_are_done_in_order, the_least_failing_is_found, updates_write_their_targets,
+    writes_leave_sessions,
 };
 use ucon_readings::{accessing, find_entity, find_right, session, sessions};
 use ucon_state::{State, each_action_is_followed, tables_keep_what_is_followed};
@@ -174,9 +176,16 @@ fn lacks_right(state: &State, n: u32) -> bool
     ensures { AfterEach (shown state.now) (λ P T. lacks_right P T n ≡ result) }
 {
     match session(state, n) {
-        Some(row) => find_right(state, &row.right).is_none(),
+        Some(_) => has_no_right(state, n),
         None => false,
     }
+}
+
+/// Whether the right of session n, if it is there, is not in the policy in force. It is found by its number.
+fn has_no_right(state: &State, n: u32) -> bool
+    ensures { result ≡ is_none (right_read (shown state.now).policy (readings_in (shown state.now).policy (shown state.now).tables) n) }
+{
+    state.right(n).is_none()
 }
 
 /// Decides afresh on a session that is requesting, whose right is in the policy in force.
