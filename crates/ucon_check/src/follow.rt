@@ -10,7 +10,7 @@ use ucon_base::{Kind, Name};
 use ucon_model::{AttrDecl, Checked, EnvDecl, Policy};
 
 /// Why a policy may not follow another.
-#[derive(Clone, Copy, Debug, PartialEq, Eq)]
+#[derive(Clone, Copy, PartialEq, Eq)]
 pub enum AmendFault {
     /// The first name, in the old policy's written order and attributes before variables, that both declare with different kinds.
     KindChanged(Name),

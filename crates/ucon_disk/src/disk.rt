@@ -7,7 +7,7 @@ ghost use Rattle.ucon_disk.specs.Image.{Change, looked, wrote, cut_to, synced_al
 ghost use Rattle.ucon_disk.specs.Disk.{overwritten, HasPlace, Reads, Torn, Shortened, Follows, Reaches, SameImages, NoneNew, Only, Elapses};
 
 /// A call failed, and the disk has counted it.
-#[derive(Clone, Copy, Debug, PartialEq, Eq)]
+#[derive(Clone, Copy)]
 pub struct Failed;
 
 /// A file on a disk. Places and lengths are in bytes, places from 0.

@@ -12,7 +12,7 @@ mod Removing
 mod Adding
 mod Growing
 mod Several
-mod Walks
+pub mod Walks
 mod WhoStands
 mod Added
 mod There

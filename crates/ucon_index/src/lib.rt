@@ -4,8 +4,6 @@
 mod index;
 mod laws;
 mod newest;
-#[cfg(test)]
-mod tests;
 
 pub use index::Index;
 pub use laws::walks_meet_who_stands;

@@ -10,7 +10,7 @@ use ucon_base::NoMemory;
 use ucon_disk::Failed;
 
 /// The disk failed.
-#[derive(Clone, Copy, Debug, PartialEq, Eq)]
+#[derive(Clone, Copy, Debug)]
 pub struct DiskFault;
 
 impl From<Failed> for DiskFault {
@@ -20,7 +20,7 @@ impl From<Failed> for DiskFault {
 }
 
 /// Why a journal could not be opened. Opening takes no memory.
-#[derive(Clone, Copy, Debug, PartialEq, Eq)]
+#[derive(Clone, Copy, Debug)]
 pub enum OpenFault {
     NotJournal,
     DiskFault,
@@ -35,7 +35,7 @@ impl From<Failed> for OpenFault {
 }
 
 /// Why the next record could not be taken.
-#[derive(Clone, Copy, Debug, PartialEq, Eq)]
+#[derive(Clone, Copy, Debug)]
 pub enum TakeFault {
     /// A whole record is too long. It has the place of its gate.
     TooLong(u64),

@@ -4,8 +4,6 @@
 mod laws;
 mod links;
 mod table;
-#[cfg(test)]
-mod tests;
 
 pub use laws::nodes_stand_where_listed;
 pub use links::{Links, NodeId};

@@ -88,15 +88,12 @@ fn worked_bytes_are_written_and_read(rt: HostRuntime) -> Result<(), Fail> {
     let alloc = rt.alloc();
     let (disk, done) = run(alloc, at_rest(alloc, b"", None)?);
     assert!(rt; done);
-    assert_eq!(rt; disk.contents(), BYTES);
-    assert_eq!(rt;
-        found(alloc, BYTES)?.as_slice(),
-        b"right r {}\n|0 subject a\nok|".as_slice()
-    );
+    assert!(rt; disk.contents() == BYTES);
+    assert!(rt; found(alloc, BYTES)?.as_slice() == b"right r {}\n|0 subject a\nok|".as_slice());
     for len in 10..44 {
         let got = found(alloc, &BYTES[..len])?;
         let want: &[u8] = if len < 25 { b"" } else { b"right r {}\n|" };
-        assert_eq!(rt; got.as_slice(), want, "at {len}");
+        assert!(rt; got.as_slice() == want, "at {len}");
     }
     let mut long = BYTES.to_vec(alloc)?;
     for byte in &mut long.as_mut_slice()[9..13] {
@@ -126,7 +123,7 @@ fn small(alloc: Global, disk: MemDisk) -> Result<MemDisk, DiskFault> {
 fn an_empty_file_gets_one_record(rt: HostRuntime) -> Result<(), Fail> {
     let alloc = rt.alloc();
     let disk = small(alloc, at_rest(alloc, b"", None)?)?;
-    assert_eq!(rt; disk.contents(), b"UCONJR02\x01\0\0\0\x03abc\0".as_slice());
+    assert!(rt; disk.contents() == b"UCONJR02\x01\0\0\0\x03abc\0".as_slice());
     Ok(())
 }
 
@@ -170,20 +167,24 @@ fn refusal(alloc: Global, disk: MemDisk) -> Option<OpenFault> {
 fn refusals(rt: HostRuntime) -> Result<(), Fail> {
     let alloc = rt.alloc();
     assert!(rt; found(alloc, b"foreigner")?.is_empty());
-    assert_eq!(rt;
-        refusal(alloc, at_rest(alloc, b"foreigners", None)?),
-        Some(OpenFault::NotJournal)
+    assert!(rt;
+        matches!(
+            refusal(alloc, at_rest(alloc, b"foreigners", None)?),
+            Some(OpenFault::NotJournal)
+        )
     );
-    assert_eq!(rt;
-        refusal(alloc, at_rest(alloc, b"", Some(0))?),
-        Some(OpenFault::DiskFault)
+    assert!(rt;
+        matches!(
+            refusal(alloc, at_rest(alloc, b"", Some(0))?),
+            Some(OpenFault::DiskFault)
+        )
     );
     let mut long = b"UCONJR02\x01\x01\0\0\0".to_vec(alloc)?;
     long.resize(16_777_216 + 14, 0)?;
     match Journal::open(alloc, at_rest(alloc, &long, None)?) {
         Ok(mut journal) => {
             let fault = read_all(alloc, &mut journal).err();
-            assert_eq!(rt; fault, Some(TakeFault::TooLong(8)));
+            assert!(rt; matches!(fault, Some(TakeFault::TooLong(8))));
         }
         Err((_disk, fault)) => return Err(Fail::from(fault)),
     }

@@ -13,7 +13,11 @@ mod feed;
 #[cfg(test)]
 mod flow;
 #[cfg(test)]
+mod index;
+#[cfg(test)]
 mod journal;
+#[cfg(test)]
+mod links;
 #[cfg(test)]
 mod pend;
 #[cfg(test)]

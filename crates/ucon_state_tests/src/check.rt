@@ -40,7 +40,7 @@ right use {}",
         ),
     ];
     for (text, expected) in cases {
-        assert_eq!(rt; fault(rt.alloc(), text)?, Some(expected));
+        assert!(rt; fault(rt.alloc(), text)? == Some(expected));
     }
     Ok(())
 }
@@ -75,18 +75,18 @@ fn names_of_cores(alloc: Global, checked: &Checked) -> Result<Vec<Vec<u8>>, Fail
 fn three_users_at_most(rt: HostRuntime) -> Result<(), Fail> {
     let alloc = rt.alloc();
     let checked = accepted(alloc, CAPPED)?;
-    assert_eq!(rt; checked.policy().rights.len(), 1);
+    assert!(rt; checked.policy().rights.len() == 1);
     let names = names_of_cores(alloc, &checked)?;
     let wanted: [&[u8]; 2] = [b"onA1", b"onA3"];
-    assert_eq!(rt; names.len(), 2);
+    assert!(rt; names.len() == 2);
     for (name, text) in names.iter().zip(wanted.iter()) {
-        assert_eq!(rt; name.as_slice(), *text);
+        assert!(rt; name.as_slice() == *text);
     }
     let expected = [
         Ref::Object(Name::read(b"users")?),
         Ref::Object(Name::read(b"most")?),
     ];
-    assert_eq!(rt; reads(alloc, &checked, 0)?.slice(), expected.as_slice());
+    assert!(rt; reads(alloc, &checked, 0)?.slice() == expected.as_slice());
     Ok(())
 }
 
@@ -107,7 +107,7 @@ fn kinds_are_kept(rt: HostRuntime) -> Result<(), Fail> {
         (b"attr o a : set = {}; env v : int 0..9 = 0;", attr),
     ];
     for (new, expected) in cases {
-        assert_eq!(rt; refusal(rt.alloc(), old, new)?, expected);
+        assert!(rt; refusal(rt.alloc(), old, new)? == expected);
     }
     Ok(())
 }

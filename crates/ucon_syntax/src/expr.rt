@@ -6,6 +6,8 @@ ghost use Rattle.ucon_model.specs.Views.{expr_of};
 ghost use Rattle.ucon_token.specs.Reading.{Gives};
 ghost use Rattle.ucon_syntax.specs.Expressions.{place_at, factor_at, round_at, term_at, expr_at, signed};
 
+use crate::closing::closed;
+use crate::operands::boxed;
 use crate::starts::{FactorStart, SumSign, factor_start, sum_sign};
 use std::alloc::Global;
 use ucon_base::{Name, NoMemory};
@@ -80,23 +82,20 @@ fn round(reader: &mut Reader, room: usize) -> Result<Expr, Stop>
 {
     reader.expect(Symbol::OpenRound)?;
     let e = expr(reader, room)?;
-    reader.expect(Symbol::CloseRound)?;
-    Ok(e)
+    closed(reader, e, Symbol::CloseRound)
 }
 
 fn product(alloc: Global, a: Expr, b: Expr) -> Result<Expr, NoMemory>
     ensures { IfOk result (λ e. expr_of e ≡ times (expr_of a) (expr_of b)) }
 {
-    let left = Box::new(alloc, a)?;
-    let right = Box::new(alloc, b)?;
+    let (left, right) = boxed(alloc, a, b)?;
     Ok(Expr::Mul(left, right))
 }
 
 fn signed(alloc: Global, sign: SumSign, a: Expr, b: Expr) -> Result<Expr, NoMemory>
     ensures { IfOk result (λ e. expr_of e ≡ signed (Some sign) (expr_of a) (expr_of b)) }
 {
-    let left = Box::new(alloc, a)?;
-    let right = Box::new(alloc, b)?;
+    let (left, right) = boxed(alloc, a, b)?;
     match sign {
         SumSign::Plus => Ok(Expr::Add(left, right)),
         SumSign::Minus => Ok(Expr::Sub(left, right)),

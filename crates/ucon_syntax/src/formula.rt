@@ -9,7 +9,9 @@ ghost use Rattle.ucon_token.specs.Seen.{token_of};
 ghost use Rattle.ucon_syntax.specs.Starts.{op_of, is_late};
 ghost use Rattle.ucon_syntax.specs.Formulas.{compare_at, unit_at, conj_at, formula_at, square_at};
 
+use crate::closing::closed;
 use crate::expr::read_expr;
+use crate::operands::boxed;
 use crate::starts::{UnitStart, op_of, unit_start};
 use std::alloc::Global;
 use ucon_base::NoMemory;
@@ -53,16 +55,14 @@ fn negated(alloc: Global, f: Formula) -> Result<Formula, NoMemory>
 fn conjoined(alloc: Global, f: Formula, g: Formula) -> Result<Formula, NoMemory>
     ensures { IfOk result (λ h. formula_of h ≡ both (formula_of f) (formula_of g)) }
 {
-    let left = Box::new(alloc, f)?;
-    let right = Box::new(alloc, g)?;
+    let (left, right) = boxed(alloc, f, g)?;
     Ok(Formula::And(left, right))
 }
 
 fn disjoined(alloc: Global, f: Formula, g: Formula) -> Result<Formula, NoMemory>
     ensures { IfOk result (λ h. formula_of h ≡ either (formula_of f) (formula_of g)) }
 {
-    let left = Box::new(alloc, f)?;
-    let right = Box::new(alloc, g)?;
+    let (left, right) = boxed(alloc, f, g)?;
     Ok(Formula::Or(left, right))
 }
 
@@ -105,8 +105,7 @@ fn square(reader: &mut Reader, room: usize) -> Result<Formula, Stop>
 {
     reader.expect(Symbol::OpenSquare)?;
     let f = formula(reader, room)?;
-    reader.expect(Symbol::CloseSquare)?;
-    Ok(f)
+    closed(reader, f, Symbol::CloseSquare)
 }
 
 /// Whether the word would join one operand too many, also directly behind a number.

@@ -7,6 +7,7 @@ ghost use Rattle.ucon_token.specs.Tokens.{first};
 ghost use Rattle.ucon_syntax.specs.Starts.{side_of, phase_of, test_sort, when_of};
 ghost use Rattle.ucon_syntax.specs.Items.{take, counted, range_at, kind_at, attr_at, env_at, form_at, party_at, duty_at, test_from, pred_at, update_at};
 
+use crate::closing::closed;
 use crate::expr::read_expr;
 use crate::formula::read_formula;
 use crate::room::{Room, Sort};
@@ -77,14 +78,13 @@ pub fn attr(reader: &mut Reader, room: Room) -> Result<(AttrDecl, Room), Stop>
     let kind = kind(reader)?;
     reader.expect(Symbol::Equal)?;
     let start = reader.literal()?;
-    reader.expect(Symbol::Semicolon)?;
     let attr = AttrDecl {
         side,
         name,
         kind,
         start,
     };
-    Ok((attr, left))
+    closed(reader, (attr, left), Symbol::Semicolon)
 }
 
 #[tactic(auto, unfolding(crate::specs::Items::env_at))]
@@ -98,8 +98,7 @@ pub fn env(reader: &mut Reader) -> Result<EnvDecl, Stop>
     let kind = kind(reader)?;
     reader.expect(Symbol::Equal)?;
     let start = reader.literal()?;
-    reader.expect(Symbol::Semicolon)?;
-    Ok(EnvDecl { name, kind, start })
+    closed(reader, EnvDecl { name, kind, start }, Symbol::Semicolon)
 }
 
 #[tactic(auto, unfolding(crate::specs::Items::form_at))]
@@ -203,8 +202,8 @@ pub fn pred(reader: &mut Reader, room: Room) -> Result<(Predicate, Room), Stop>
     let label = reader.name()?;
     reader.expect(Symbol::Colon)?;
     let test = test(reader, sort)?;
-    reader.expect(Symbol::Semicolon)?;
-    Ok((Predicate { phase, label, test }, left))
+    let pred = Predicate { phase, label, test };
+    closed(reader, (pred, left), Symbol::Semicolon)
 }
 
 fn side(reader: &mut Reader) -> Result<Side, Stop>
@@ -231,12 +230,11 @@ pub fn update(reader: &mut Reader, room: Room) -> Result<(Update, Room), Stop>
     let attr = reader.name()?;
     reader.expect(Symbol::Equal)?;
     let value = read_expr(reader, MOST_LEVELS)?;
-    reader.expect(Symbol::Semicolon)?;
     let update = Update {
         when,
         side,
         attr,
         value,
     };
-    Ok((update, left))
+    closed(reader, (update, left), Symbol::Semicolon)
 }

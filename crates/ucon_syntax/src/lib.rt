@@ -1,10 +1,12 @@
 //! The policy language, read.
 #![tactic(auto)]
 
+mod closing;
 mod expr;
 mod formula;
 mod items;
 mod laws;
+mod operands;
 mod policy;
 mod read;
 mod room;

@@ -1,11 +1,13 @@
+//! Tests of `ucon_links`: six hidden nodes go back where they stood, and new lists are empty.
+
 ghost use Rattle.std.specs.Prelude.{◌≡◌, ◌<◌, ◌≤◌, length, IfSome, OnOk};
 ghost use Rattle.ucon_links.specs.Lists.{IsListed};
 
-use crate::{Links, NodeId};
 use std::alloc::Global;
 use std::process::Abort;
 use std::test::Fail;
 use ucon_base::NoMemory;
+use ucon_links::{Links, NodeId};
 
 // The owners along a list.
 fn owners(alloc: Global, links: &Links, list: u32) -> Result<Vec<u32>, NoMemory>
@@ -45,18 +47,52 @@ fn assert_lists(
 ) -> Result<(), NoMemory>
     requires { 2 ≤ length links.now.lists }
 {
-    assert_eq!(rt; owners(alloc, links, 0)?.as_slice(), expected[0]);
-    assert_eq!(rt; owners(alloc, links, 1)?.as_slice(), expected[1]);
+    assert!(rt; owners(alloc, links, 0)?.as_slice() == expected[0]);
+    assert!(rt; owners(alloc, links, 1)?.as_slice() == expected[1]);
     Ok(())
 }
 
 // A node to hide, and what stands in the lists once it is hidden.
-#[derive(Drop)]
+#[derive(Clone, Copy)]
 struct Step {
     list: u32,
     owner: u32,
     left: [&'static [u32]; 2],
 }
+
+/// Six nodes that are hidden in this order.
+const STEPS: &[Step] = &[
+    Step {
+        list: 0,
+        owner: 2,
+        left: [&[1, 3, 4, 5], &[1, 2, 3, 4, 5]],
+    },
+    Step {
+        list: 0,
+        owner: 1,
+        left: [&[3, 4, 5], &[1, 2, 3, 4, 5]],
+    },
+    Step {
+        list: 1,
+        owner: 5,
+        left: [&[3, 4, 5], &[1, 2, 3, 4]],
+    },
+    Step {
+        list: 0,
+        owner: 4,
+        left: [&[3, 5], &[1, 2, 3, 4]],
+    },
+    Step {
+        list: 0,
+        owner: 3,
+        left: [&[5], &[1, 2, 3, 4]],
+    },
+    Step {
+        list: 0,
+        owner: 5,
+        left: [&[], &[1, 2, 3, 4]],
+    },
+];
 
 // Hides nodes in this order, and puts them back in reverse order.
 fn hide_and_restore(
@@ -90,43 +126,11 @@ fn six_hidden_nodes_go_back_in_reverse_order(rt: HostRuntime) -> Result<(), Fail
         links.link(0, 5 - i);
         links.link(1, 5 - i);
     }
-    let steps = [
-        Step {
-            list: 0,
-            owner: 2,
-            left: [&[1, 3, 4, 5], &[1, 2, 3, 4, 5]],
-        },
-        Step {
-            list: 0,
-            owner: 1,
-            left: [&[3, 4, 5], &[1, 2, 3, 4, 5]],
-        },
-        Step {
-            list: 1,
-            owner: 5,
-            left: [&[3, 4, 5], &[1, 2, 3, 4]],
-        },
-        Step {
-            list: 0,
-            owner: 4,
-            left: [&[3, 5], &[1, 2, 3, 4]],
-        },
-        Step {
-            list: 0,
-            owner: 3,
-            left: [&[5], &[1, 2, 3, 4]],
-        },
-        Step {
-            list: 0,
-            owner: 5,
-            left: [&[], &[1, 2, 3, 4]],
-        },
-    ];
     hide_and_restore(
         &rt,
         rt.alloc(),
         &mut links,
-        &steps,
+        STEPS,
         &[&[1, 2, 3, 4, 5], &[1, 2, 3, 4, 5]],
     )?;
     Ok(())
@@ -139,11 +143,8 @@ fn new_lists_are_empty_and_a_new_node_is_first(rt: HostRuntime) -> Result<(), Fa
     links.reserve(2)?;
     links.link(0, 9);
     links.link(0, 8);
-    assert_eq!(rt;
-        owners(rt.alloc(), &links, 0)?.as_slice(),
-        [8, 9].as_slice()
-    );
-    assert_eq!(rt; links.first(1), None);
-    assert_eq!(rt; links.first(2), None);
+    assert!(rt; owners(rt.alloc(), &links, 0)?.as_slice() == [8, 9].as_slice());
+    assert!(rt; links.first(1).is_none());
+    assert!(rt; links.first(2).is_none());
     Ok(())
 }

@@ -1,6 +1,6 @@
 use Rattle.std.proofs.Common.{subst, sym, arith}
 use Rattle.ucon_links.proofs.Walking.{IsOnTheWay, next_on_the_way, way_from_first, listed_has_owner}
-use Rattle.ucon_links.proofs.tests.owners.Goals as goal
+use Rattle.ucon_lower_tests.proofs.links.owners.Goals as goal
 
 pub loop-at-init : goal.loop-at-init
 loop-at-init c = record {

@@ -1,10 +1,12 @@
+//! Tests of `ucon_index`: a session is added, walked to, hidden and put back.
+
 ghost use Rattle.std.specs.Prelude.{◌≡◌, ◌<◌, length, map, IfOk};
 ghost use Rattle.ucon_index.specs.Dependents.{place_at};
 
-use crate::Index;
 use std::alloc::Global;
 use std::test::Fail;
 use ucon_base::NoMemory;
+use ucon_index::Index;
 use ucon_links::nodes_stand_where_listed;
 
 // The sessions of a place, as a walk meets them.
@@ -28,11 +30,11 @@ fn one_growth_and_one_reserve_let_a_session_be_added(rt: HostRuntime) -> Result<
     index.grow(2)?;
     index.reserve(2)?;
     index.add(1, &[0, 1]);
-    assert_eq!(rt; walk(rt.alloc(), &index, 1)?.as_slice(), [1].as_slice());
-    assert_eq!(rt; index.place_count(), 2);
-    assert_eq!(rt; index.session_count(), 2);
-    assert_eq!(rt; index.node_count(), 2);
-    assert_eq!(rt; index.spare(), 0);
+    assert!(rt; walk(rt.alloc(), &index, 1)?.as_slice() == [1].as_slice());
+    assert!(rt; index.place_count() == 2);
+    assert!(rt; index.session_count() == 2);
+    assert!(rt; index.node_count() == 2);
+    assert!(rt; index.spare() == 0);
     Ok(())
 }
 
@@ -42,13 +44,13 @@ fn a_place_has_the_sessions_that_are_added_and_not_hidden(rt: HostRuntime) -> Re
     index.grow(2)?;
     index.reserve(3)?;
     index.add(1, &[0, 1]);
-    assert_eq!(rt; walk(rt.alloc(), &index, 1)?.as_slice(), [1].as_slice());
+    assert!(rt; walk(rt.alloc(), &index, 1)?.as_slice() == [1].as_slice());
     index.add(2, &[1]);
     index.hide(1);
-    assert_eq!(rt; walk(rt.alloc(), &index, 0)?.as_slice(), [].as_slice());
-    assert_eq!(rt; walk(rt.alloc(), &index, 1)?.as_slice(), [2].as_slice());
+    assert!(rt; walk(rt.alloc(), &index, 0)?.as_slice() == [].as_slice());
+    assert!(rt; walk(rt.alloc(), &index, 1)?.as_slice() == [2].as_slice());
     index.unhide_last();
-    assert_eq!(rt; walk(rt.alloc(), &index, 0)?.as_slice(), [1].as_slice());
-    assert_eq!(rt; walk(rt.alloc(), &index, 1)?.as_slice(), [2, 1].as_slice());
+    assert!(rt; walk(rt.alloc(), &index, 0)?.as_slice() == [1].as_slice());
+    assert!(rt; walk(rt.alloc(), &index, 1)?.as_slice() == [2, 1].as_slice());
     Ok(())
 }

@@ -1,7 +1,7 @@
 use Rattle.std.proofs.Common.{vec_len, length, ◌-◌}
 use Rattle.ucon_links.specs.Lists.{list_at, nodes_of, IsDistinct}
 use Rattle.ucon_links.proofs.Walking.{IsOnTheWay}
-use Rattle.ucon_links.proofs.tests.owners.Given as goal
+use Rattle.ucon_lower_tests.proofs.links.owners.Given as goal
 
 abbrev pub invariant-loop-at : goal.invariant-loop-at
 invariant-loop-at l = record {

@@ -1,6 +1,6 @@
 use Rattle.std.proofs.Common.{subst, ◌+◌}
 use Rattle.ucon_links.proofs.Walking.{IsOnTheWay, next_on_the_way, way_from_first, listed_has_owner}
-use Rattle.ucon_links.proofs.tests.find.Goals as goal
+use Rattle.ucon_lower_tests.proofs.links.find.Goals as goal
 
 pub loop-init : goal.loop-init
 loop-init c = record {

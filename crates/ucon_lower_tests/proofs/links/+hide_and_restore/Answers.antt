@@ -1,7 +1,7 @@
 use Rattle.std.proofs.Common.{rules, ◌≡◌, ◌∙◌, subst, sym, ap, IfSome}
 use Rattle.ucon_links.specs.Lists.{nodes_of, unhide, IsListed, IsDistinct, CanUnhide}
 use Rattle.ucon_links.proofs.Restoring.{can_unhide-hide, unhide-hide}
-use Rattle.ucon_links.proofs.tests.+hide_and_restore.Goals as goal
+use Rattle.ucon_lower_tests.proofs.links.+hide_and_restore.Goals as goal
 
 pub unhide-requires : goal.unhide-requires
 unhide-requires g t c =
