@@ -171,7 +171,8 @@ impl<D: Disk> Journal<D> {
     /// Goes on to a gate that a walk has passed, whose record `next` takes then. None of the records before it is read.
     pub fn go_to(&mut self, gate: u64)
         requires reading { IsReading D.contents self.old }
-        requires leads { IfSome (D.contents (disk_of self.old)) (λ file. (ps : List (List ℕ)) × (qs : List (List ℕ)) × LeadTo file (gate_of self.old) ps gate qs) }
+        requires leads { IfSome (D.contents (disk_of self.old)) (λ file. (ps : List (List ℕ)) × (qs : List (List ℕ))
+            × LeadTo file (gate_of self.old) ps gate qs) }
         requires small { gate < 2 ^ 63 }
         ensures reading { IsReading D.contents self.new }
         ensures gate { gate_of self.new ≡ gate }

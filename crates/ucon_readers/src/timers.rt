@@ -54,6 +54,7 @@ impl Timers {
         ensures gives { OnOk result (Gives (deadlines_in self.old) (deadlines_in self.new) session deadline) }
         ensures count { OnOk result ((tick : ℤ) → count_below (deadlines_in self.new) tick + passed tick (deadline_of (deadlines_in self.old) session)
             ≡ count_below (deadlines_in self.old) tick + passed tick deadline) }
+        ensures err { OnErr result (AreAlike (deadlines_in self.old) (deadlines_in self.new)) }
         ensures undo { (before : List (Option ℤ)) → UndoGives self.old before → UndoGives self.new before }
     {
         self.wheel.set(session, deadline)
@@ -68,6 +69,7 @@ impl Timers {
         ensures rest { IfOk result (λ o. IfNone o ((n : ℕ) (deadline : ℤ)
             → deadline_of (deadlines_in self.old) n ≡ Some deadline → tick ≤ℤ deadline)) }
         ensures none { IfOk result (λ o. IfNone o (AreAlike (deadlines_in self.old) (deadlines_in self.new))) }
+        ensures err { OnErr result (AreAlike (deadlines_in self.old) (deadlines_in self.new)) }
         ensures undo { (before : List (Option ℤ)) → UndoGives self.old before → UndoGives self.new before }
     {
         self.wheel.take_due(tick)

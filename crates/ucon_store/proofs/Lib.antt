@@ -1,3 +1,4 @@
+pub mod Adding
 pub mod Accepted
 pub mod After
 pub mod Begun

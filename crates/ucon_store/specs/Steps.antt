@@ -1,12 +1,14 @@
 -- What a step answers and does.
-use Rattle.std.specs.Prelude.{◌≡◌, ℕ, ◌+◌, [], ◌∷◌, ◌++◌, length, true, Some, None, if◌then◌else◌}
+use Rattle.std.specs.Prelude.{◌≡◌, ◌⊎◌, ℕ, ◌+◌, List, [], ◌∷◌, ◌++◌, length, take, true, Some, None, if◌then◌else◌}
 use Rattle.ucon_model.specs.declared.command.Entry.{Entry}
 use Rattle.ucon_model.specs.Action.{Trace}
 use Rattle.ucon_model.specs.Block.{reply as reply_to}
 use Rattle.ucon_model.specs.History.{History, said, changes, grown, trace_from}
-use Rattle.ucon_model.specs.Plain.{PlainPolicy}
+use Rattle.ucon_model.specs.Payload.{told, payload_spelling}
+use Rattle.ucon_model.specs.Plain.{Bytes, PlainPolicy}
 use Rattle.ucon_model.specs.Views.{reply_of}
 use Rattle.ucon_disk.specs.Causes.{raised}
+use Rattle.ucon_journal.specs.Found.{counted}
 use Rattle.ucon_store.specs.declared.placed.Placed.{Placed}
 use Rattle.ucon_store.specs.Kept.{Kept}
 
@@ -46,3 +48,14 @@ pub record HasFailedBehind {D : Type 0} (faults : D → ℕ) (P : PlainPolicy) (
   pub rose : faults new.disk ≡ raised (faults old.disk)
   pub mark : new.mark ≡ Some e
   pub entries : new.entries ≡ old.entries
+
+-- ---- in the file, whatever it is found as
+
+-- what the record of an entry's step says: the entry, and the reply to it after a trace and the entries behind that
+abbrev pub step_payload : PlainPolicy → Trace → History → Entry → Bytes
+step_payload P T H e = payload_spelling (told e (reply_to P (trace_from P T H) e.caller e.command))
+
+-- it begins with the file's magic, and what counts in it are the file's payloads, or those and one more
+pub record AddsAtMost (payload file c : Bytes) : Type 0 where
+  pub magic : take 8 c ≡ take 8 file
+  pub payloads : (counted c ≡ counted file) ⊎ (counted c ≡ counted file ++ payload ∷ [])

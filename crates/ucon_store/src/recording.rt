@@ -11,7 +11,8 @@ ghost use Rattle.ucon_model.specs.Action.{Trace};
 ghost use Rattle.ucon_model.specs.Block.{after};
 ghost use Rattle.ucon_model.specs.Found.{taken};
 ghost use Rattle.ucon_model.specs.History.{History, said, changes};
-ghost use Rattle.ucon_model.specs.Payload.{revocations_in};
+ghost use Rattle.ucon_command.specs.Payloads.{told_of};
+ghost use Rattle.ucon_model.specs.Payload.{payload_spelling, revocations_in};
 ghost use Rattle.ucon_model.specs.Plain.{PlainPolicy};
 ghost use Rattle.ucon_model.specs.Views.{reply_of};
 ghost use Rattle.ucon_model.specs.Work.{NobodyFails};
@@ -46,6 +47,7 @@ pub(crate) fn prepare<D: Disk>(
     ensures taken { IfOk result (λ e. (P : PlainPolicy) (H : History)
         → reply_of reply.now ≡ said P H caller command.now → changes (reply_of reply.now) ≡ true
         → taken accepted P H payload.new.items ≡ Some (H ++ e ∷ [])) }
+    ensures spelled { OnOk result (payload.new.items ≡ payload_spelling (told_of caller command.now reply.now)) }
     ensures short { OnOk result (length payload.new.items ≤ MAX_PAYLOAD) }
     ensures room { OnOk result (HasRoomFor journal.new (length payload.new.items)) }
     ensures spare { OnOk result (1 ≤ entries.new.spare) }

@@ -5,6 +5,8 @@ ghost use Rattle.ucon_base.specs.Memory.{out_of_memory};
 ghost use Rattle.ucon_disk.specs.Causes.{raised};
 ghost use Rattle.ucon_disk.specs.Disk.{Only};
 ghost use Rattle.ucon_disk.specs.Run.{LeavesAfter, LeavesOnly};
+ghost use Rattle.ucon_journal.specs.Found.{counted};
+ghost use Rattle.ucon_journal.specs.Journal.{told_payloads};
 ghost use Rattle.ucon_model.specs.Action.{Trace};
 ghost use Rattle.ucon_model.specs.History.{History, changes};
 ghost use Rattle.ucon_model.specs.Plain.{PlainPolicy};
@@ -24,7 +26,7 @@ ghost use Rattle.ucon_store.specs.Pointing.{IsFoundPointed, IsSameStore, IsUnpoi
 ghost use Rattle.ucon_store.specs.Points.{IsOld, SamePlaces, has_points, point_places};
 ghost use Rattle.ucon_store.specs.Starts.{BeginsAt, IsBeforeAll, IsStart, checkpoint_behind};
 ghost use Rattle.ucon_store.specs.Stays.{Stays};
-ghost use Rattle.ucon_store.specs.Steps.{IsPlaced, IsPlacedBehind, HasFailed, HasFailedBehind};
+ghost use Rattle.ucon_store.specs.Steps.{AddsAtMost, IsPlaced, IsPlacedBehind, HasFailed, HasFailedBehind, step_payload};
 ghost use Rattle.ucon_store.specs.Whole.{GoesOnFrom, IsFounded, IsFront, trace_behind, whole};
 
 use crate::beginning::Beginning;
@@ -172,6 +174,14 @@ impl<E: Engine, D: Disk> Store<E, D> {
         ensures inside { (P : PlainPolicy) (G : History) → IsFounded D.contents D.images P self.old G → IsSome (D.contents self.old.disk)
             → LeavesOnly D.moment D.images_since self.old.disk self.new.disk
             (IsFoundWith self.old.policy (G ++ self.old.entries) (Some (record { caller = caller; command = command.now }))) }
+        ensures adds { (P : PlainPolicy) (T : Trace) (file : List ℕ) → accepted self.old.policy ≡ Some P
+            → IsStart P self.old.point self.old.before T → self.old.mark ≡ None → D.contents self.old.disk ≡ Some file
+            → LeavesOnly D.moment D.images_since self.old.disk self.new.disk
+            (AddsAtMost (step_payload P T self.old.entries (record { caller = caller; command = command.now })) file) }
+        ensures added { IfOk result (λ p. changes (reply_of p.reply) ≡ true → (P : PlainPolicy) (T : Trace) (file : List ℕ)
+            → accepted self.old.policy ≡ Some P → IsStart P self.old.point self.old.before T → D.contents self.old.disk ≡ Some file
+            → told_payloads (D.contents self.new.disk)
+            ≡ counted file ++ step_payload P T self.old.entries (record { caller = caller; command = command.now }) ∷ []) }
         ensures at_rest { OnOk result (Only (D.contents self.new.disk) (D.images self.new.disk)) }
         ensures founded { OnOk result ((P : PlainPolicy) (G : History) → IsFounded D.contents D.images P self.old G
             → IsFounded D.contents D.images P self.new G) }

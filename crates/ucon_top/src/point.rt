@@ -36,7 +36,8 @@ pub fn point<E: Engine, K: Sink, D: Disk>(
     ensures refused { IsRefusedBy result.outcome bytes.now }
     ensures accepted { IsOfAccepted result.outcome → IsAccepted bytes.now }
     ensures sink { IsCounted result.outcome Outcome.SinkFault (K.faults out.old) (K.faults out.new) }
-    ensures pointed { HasPointed D.contents D.images D.moment D.images_since D.faults K.contents result.outcome bytes.now disk result.disk out.old out.new }
+    ensures pointed { HasPointed D.contents D.images D.moment D.images_since D.faults K.contents
+        result.outcome bytes.now disk result.disk out.old out.new }
     ensures fault { result.outcome ≡ Outcome.DiskFault → D.faults result.disk ≡ raised (D.faults disk) }
     ensures untouched { IsUntouched result.outcome → result.disk ≡ disk }
     ensures unaccepted { (result.disk ≡ disk) ⊎ IsAccepted bytes.now }

@@ -2,8 +2,10 @@ use Rattle.std.proofs.Common.{rules, ◌≡◌, ◌∷◌, [], ◌++◌, ◌+◌
 use Rattle.std.specs.Prelude.{is_some, IsSome}
 use Rattle.ucon_disk.specs.Causes.{raised}
 use Rattle.ucon_disk.specs.Run.{LeavesOnly}
-use Rattle.ucon_journal.specs.Journal.{disk_of}
+use Rattle.ucon_journal.specs.Found.{counted}
+use Rattle.ucon_journal.specs.Journal.{disk_of, told_payloads}
 use Rattle.ucon_model.specs.declared.command.Entry.{Entry}
+use Rattle.ucon_model.specs.Action.{Trace}
 use Rattle.ucon_model.specs.Found.{taken}
 use Rattle.ucon_model.specs.History.{History, said, trace, trace_from, changes}
 use Rattle.ucon_model.specs.Payload.{revocations_in}
@@ -14,8 +16,11 @@ use Rattle.ucon_turn.specs.Lists.{Continues}
 use Rattle.ucon_store.specs.Events.{events, events_of, number_of}
 use Rattle.ucon_store.specs.Found.{IsFoundWith}
 use Rattle.ucon_store.specs.Kept.{Kept, IsKept}
+use Rattle.ucon_store.specs.Starts.{IsStart}
 use Rattle.ucon_store.specs.Stays.{Stays, stays_same}
+use Rattle.ucon_store.specs.Steps.{AddsAtMost, step_payload}
 use Rattle.ucon_store.specs.Whole.{IsFounded}
+use Rattle.ucon_store.proofs.Adding.{Adds, adds_nothing, adds_record, added_record}
 use Rattle.ucon_store.proofs.Placing.{failed_whole, placed_whole}
 use Rattle.ucon_store.proofs.Recorded.{OneByOne, stays_more, stays_marked, events_more, events_marked, unbegun}
 use Rattle.ucon_store.proofs.Stepped.{parts, run_founded, founded_more}
@@ -301,3 +306,74 @@ returns-in-Err-record-clause-failed_behind g c = search rules
 pub returns-in-Err-record-clause-failed : goal.returns-in-Err-record-clause-failed
 returns-in-Err-record-clause-failed g c = λ is P G accepts front.
     failed_whole P G _ _ _ g.D.Disk.faults (returns-in-Err-record-clause-failed_behind g c is P (trace P G) accepts front.starts)
+
+-- ---- what a step puts into the file, whatever that is found as
+
+pub returns-clause-adds : goal.returns-clause-adds
+returns-clause-adds g c =
+    let contents = g.D.Disk.contents in
+    let text = c.self.inside.policy.items in
+    let point = c.self.inside.point in
+    let before = c.self.inside.before in
+    let opening = c.self.inside.opening in
+    let H = c.self.inside.entries.items in
+    let mark = c.self.inside.mark in
+    let e : Entry = record { caller = c.args.caller; command = c.args.command.now } in
+    let here = adds_record g.E.Engine.follows contents g.D.Disk.images g.D.Disk.moment g.D.Disk.images_since c.self.inside.engine c.self.inside.journal text point before H mark
+    c.self.invariant e c.prepare.new.journal c.prepare.ensures.disk (reply_of c.in_ok-drafted.drafted.reply) c.deref.result.now
+    (c.deref.ensures.value ∙ c.in-Ok.ensures.spelled) c.in_ok-drafted.ensures.reply (disk_of c.record.new.journal) c.record.ensures.images in
+    subst (λ (x : Kept g.row.D.Denot). (P : PlainPolicy) (T : Trace) (file : List ℕ) → accepted x.policy ≡ Some P → IsStart P x.point x.before T → x.mark ≡ None
+    → contents x.disk ≡ Some file
+    → LeavesOnly g.D.Disk.moment g.D.Disk.images_since x.disk (disk_of c.record.new.journal) (AddsAtMost (step_payload P T x.entries e) file))
+    c.self.view_is here
+
+pub returns-in-Err-record-clause-adds : goal.returns-in-Err-record-clause-adds
+returns-in-Err-record-clause-adds g c =
+    let contents = g.D.Disk.contents in
+    let text = c.self.inside.policy.items in
+    let point = c.self.inside.point in
+    let before = c.self.inside.before in
+    let H = c.self.inside.entries.items in
+    let mark = c.self.inside.mark in
+    let e : Entry = record { caller = c.args.caller; command = c.args.command.now } in
+    let here = adds_record g.E.Engine.follows contents g.D.Disk.images g.D.Disk.moment g.D.Disk.images_since c.self.inside.engine c.self.inside.journal text point before H mark
+    c.self.invariant e c.prepare.new.journal c.prepare.ensures.disk (reply_of c.in_ok-drafted.drafted.reply) c.deref.result.now
+    (c.deref.ensures.value ∙ c.in-Ok.ensures.spelled) c.in_ok-drafted.ensures.reply (disk_of c.record.new.journal) c.record.ensures.images in
+    subst (λ (x : Kept g.row.D.Denot). (P : PlainPolicy) (T : Trace) (file : List ℕ) → accepted x.policy ≡ Some P → IsStart P x.point x.before T → x.mark ≡ None
+    → contents x.disk ≡ Some file
+    → LeavesOnly g.D.Disk.moment g.D.Disk.images_since x.disk (disk_of c.record.new.journal) (AddsAtMost (step_payload P T x.entries e) file))
+    c.self.view_is here
+
+pub returns-in-Err-clause-adds : goal.returns-in-Err-clause-adds
+returns-in-Err-clause-adds g c =
+    let contents = g.D.Disk.contents in
+    let text = c.self.inside.policy.items in
+    let point = c.self.inside.point in
+    let before = c.self.inside.before in
+    let H = c.self.inside.entries.items in
+    let mark = c.self.inside.mark in
+    let e : Entry = record { caller = c.args.caller; command = c.args.command.now } in
+    let here = adds_nothing g.E.Engine.follows contents g.D.Disk.images g.D.Disk.moment g.D.Disk.images_since c.self.inside.engine c.self.inside.journal text point before H mark
+    c.self.invariant e g.met.D.Disk.only_now in
+    subst (λ (x : Kept g.row.D.Denot). (P : PlainPolicy) (T : Trace) (file : List ℕ) → accepted x.policy ≡ Some P → IsStart P x.point x.before T → x.mark ≡ None
+    → contents x.disk ≡ Some file
+    → LeavesOnly g.D.Disk.moment g.D.Disk.images_since x.disk (disk_of c.prepare.new.journal) (AddsAtMost (step_payload P T x.entries e) file))
+    c.self.view_is
+    (subst (λ (d : g.row.D.Denot). Adds g.E.Engine.follows contents g.D.Disk.images g.D.Disk.moment g.D.Disk.images_since c.self.inside.engine c.self.inside.journal text point before H mark
+    c.self.invariant e d) (sym c.prepare.ensures.disk) here)
+
+pub returns-clause-added : goal.returns-clause-added
+returns-clause-added g c = λ changes.
+    let contents = g.D.Disk.contents in
+    let text = c.self.inside.policy.items in
+    let point = c.self.inside.point in
+    let before = c.self.inside.before in
+    let H = c.self.inside.entries.items in
+    let mark = c.self.inside.mark in
+    let e : Entry = record { caller = c.args.caller; command = c.args.command.now } in
+    let here = added_record g.E.Engine.follows contents g.D.Disk.images g.D.Disk.moment g.D.Disk.images_since c.self.inside.engine c.self.inside.journal text point before H mark
+    c.self.invariant e c.prepare.new.journal c.prepare.ensures.disk (reply_of c.in_ok-drafted.drafted.reply) c.deref.result.now
+    (c.deref.ensures.value ∙ c.in-Ok.ensures.spelled) c.in_ok-drafted.ensures.reply (disk_of c.record.new.journal) c.in_default.ensures.payloads in
+    subst (λ (x : Kept g.row.D.Denot). (P : PlainPolicy) (T : Trace) (file : List ℕ) → accepted x.policy ≡ Some P → IsStart P x.point x.before T
+    → contents x.disk ≡ Some file → told_payloads (contents (disk_of c.record.new.journal)) ≡ counted file ++ step_payload P T x.entries e ∷ [])
+    c.self.view_is here
