@@ -1,4 +1,5 @@
 pub mod Amended
+pub mod Begun
 pub mod Histories
 pub mod InLine
 pub mod Judged
@@ -7,8 +8,8 @@ pub mod Lengths
 pub mod LowerLaws
 pub mod Payloads
 pub mod Placed
+pub mod Plain
 pub mod Proper
 pub mod ReadLines
 pub mod Refusals
 pub mod SpelledLines
-pub mod Tried

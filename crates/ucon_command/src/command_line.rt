@@ -29,6 +29,7 @@ pub struct CommandLine<'a> {
 impl<'a> CommandLine<'a> {
     /// The line, if it spells a command, or the first refusal. Only a value that is a set, and an amendment's
     /// policy, take memory while it is judged; so but for an amendment each refusal is told whatever memory there is.
+    #[inline(always)]
     pub fn judge(alloc: Global, text: &'a [u8]) -> Result<CommandLine<'a>, LineFault>
         ensures judged { MatchResult result
             (λ l. (l.text.now ≡ text.now) × IsOk (line_read accepted text.now))

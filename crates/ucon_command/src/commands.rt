@@ -27,6 +27,8 @@ pub fn command_text(alloc: Global, command: &Command) -> Result<Vec<u8>, NoMemor
     Ok(text)
 }
 
+/// Adds the one line that reads as the command, without a newline, as [`command_text`] gives it. Where there is no memory, some of it may stand
+/// there: a caller gives the text up.
 #[tactic(auto, unfolding(ucon_model::specs::CommandLine::command_spelling))]
 pub fn put_command(alloc: Global, out: &mut Vec<u8>, command: &Command) -> Result<(), NoMemory>
     ensures { OnOk result (out.new.items ≡ out.old.items ++ command_spelling command.now) }

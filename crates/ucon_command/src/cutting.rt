@@ -9,6 +9,7 @@ ghost use Rattle.ucon_reply.specs.Words.{between};
 
 use crate::amendment::amendment_in;
 use crate::cuts::Cuts;
+use crate::kinds::digits_in;
 use std::alloc::Global;
 use ucon_base::{Int, Name, NoMemory, Side, Value, ValueFault};
 use ucon_model::{Amend, Command};
@@ -259,7 +260,11 @@ fn last_value(alloc: Global, line: &[u8], at: u16) -> Result<Value, NoMemory>
     requires value { IsSome (value_in (drop at line.now)) }
     ensures { IfOk result (λ v. value_in (drop at line.now) ≡ Some v) }
 {
-    match Value::read(alloc, &line[at as usize..]) {
+    let bytes = &line[at as usize..];
+    if let Some(n) = digits_in(alloc, bytes) {
+        return Ok(Value::Int(n));
+    }
+    match Value::read(alloc, bytes) {
         Ok(value) => Ok(value),
         Err(ValueFault::NoMemory(refused)) => Err(refused),
         Err(_) => unreachable!(),

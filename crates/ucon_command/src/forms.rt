@@ -85,20 +85,44 @@ fn env_places(line: &[u8], second: Option<usize>) -> Option<(usize, usize)>
     Some((a, b))
 }
 
-/// Where a side, an entity's name, an attribute's and its value begin, which takes the rest of the line.
-fn set_places(line: &[u8], second: Option<usize>) -> Option<(usize, usize, usize, usize)>
+/// Where a side, an entity's name, an attribute's and its value begin, which takes the rest of the line, and whether the two are names.
+#[inline(always)]
+fn set_places(line: &[u8], second: Option<usize>) -> Option<SetPlaces>
     requires { IfSome second (λ at. at ≤ length line.now) }
     ensures none { IfNone result (length (words_from second line.now) < 4) }
     ensures words { IfSome result (λ p. words_from second line.now
-        ≡ record { at = p.0; text = between p.0 p.1 line.now } ∷ record { at = p.1; text = between p.1 p.2 line.now }
-        ∷ record { at = p.2; text = between p.2 p.3 line.now } ∷ words_at p.3 line.now) }
-    ensures within { IfSome result (λ p. (p.0 < p.1) × (p.1 < p.2) × (p.2 < p.3) × (p.3 ≤ length line.now) × (0 < length (words_at p.3 line.now))) }
+        ≡ record { at = p.side; text = between p.side p.name line.now } ∷ record { at = p.name; text = between p.name p.attr line.now }
+        ∷ record { at = p.attr; text = between p.attr p.value line.now } ∷ words_at p.value line.now) }
+    ensures named { IfSome result (λ p. p.named ≡ is_name (between p.name p.attr line.now)) }
+    ensures attr_named { IfSome result (λ p. p.attr_named ≡ is_name (between p.attr p.value line.now)) }
+    ensures within { IfSome result (λ p. (p.side < p.name) × (p.name < p.attr) × (p.attr < p.value) × (p.value ≤ length line.now)
+        × (0 < length (words_at p.value line.now))) }
 {
-    let a = second?;
-    let b = next_word(line, a)?;
-    let c = next_word(line, b)?;
-    let d = next_word(line, c)?;
-    Some((a, b, c, d))
+    let side = second?;
+    let name = next_word(line, side)?;
+    let (attr, named) = name_then(line, name);
+    let attr = attr?;
+    let (value, attr_named) = name_then(line, attr);
+    let value = value?;
+    Some(SetPlaces {
+        side,
+        name,
+        named,
+        attr,
+        attr_named,
+        value,
+    })
+}
+
+/// Where the words of a `set` begin, and whether those that are to be names are some.
+#[derive(Clone, Copy)]
+struct SetPlaces {
+    side: usize,
+    name: usize,
+    named: bool,
+    attr: usize,
+    attr_named: bool,
+    value: usize,
 }
 
 /// `subject N` and `object N`: where the name begins.
@@ -164,16 +188,25 @@ pub fn three_names(line: &[u8], second: Option<usize>) -> Result<(u16, u16, u16)
     Ok((w.a as u16, w.b as u16, w.c as u16))
 }
 
-/// The side that an entity and its attribute are of.
+/// The side that an entity and its attribute are of, of whose names it is known whether they are some.
+#[inline(always)]
 #[tactic(auto, unfolding(ucon_model::specs::CommandLine::place_of))]
-fn place_of(side: &Word<'_>, name: &Word<'_>, attr: &Word<'_>) -> Result<Side, LineFault>
+fn place_of(
+    side: &Word<'_>,
+    name: &Word<'_>,
+    named: bool,
+    attr: &Word<'_>,
+    attr_named: bool,
+) -> Result<Side, LineFault>
+    requires named { named ≡ is_name name.now.text.now }
+    requires attr_named { attr_named ≡ is_name attr.now.text.now }
     ensures read { GivesTold result (place_of (word_of side.now) (word_of name.now) (word_of attr.now))
         (λ s. (s, name.now.text.now, attr.now.text.now)) }
     ensures names { IfOk result (λ _. IsTrue (is_name name.now.text.now) × IsTrue (is_name attr.now.text.now)) }
 {
     let side = side_word(side)?;
-    name_word(name)?;
-    name_word(attr)?;
+    seen_name(name, named)?;
+    seen_name(attr, attr_named)?;
     Ok(side)
 }
 
@@ -191,7 +224,9 @@ pub fn value_words(line: &[u8], second: Option<usize>) -> Result<(Side, u16, u16
     let side = place_of(
         &word_between(line, w.a, w.b),
         &word_between(line, w.b, w.c),
+        w.b_named,
         &last_word(line, w.c),
+        w.c_named,
     )?;
     Ok((side, w.b as u16, w.c as u16))
 }
@@ -203,20 +238,22 @@ pub fn set_words(alloc: Global, line: &[u8], second: Option<usize>) -> Result<Cu
     requires second { IsSecond second line.now }
     ensures { GivesCuts result line.now (set_words line.now (words_of line.now)) }
 {
-    let Some((a, b, c, d)) = set_places(line, second) else {
+    let Some(p) = set_places(line, second) else {
         return Err(LineFault::WrongCount(word_count(line)));
     };
     let side = place_of(
-        &word_between(line, a, b),
-        &word_between(line, b, c),
-        &word_between(line, c, d),
+        &word_between(line, p.side, p.name),
+        &word_between(line, p.name, p.attr),
+        p.named,
+        &word_between(line, p.attr, p.value),
+        p.attr_named,
     )?;
-    value_word(alloc, &last_word(line, d))?;
+    value_word(alloc, &last_word(line, p.value))?;
     Ok(Cuts::Set {
         side,
-        name: b as u16,
-        attr: c as u16,
-        value: d as u16,
+        name: p.name as u16,
+        attr: p.attr as u16,
+        value: p.value as u16,
     })
 }
 

@@ -1,6 +1,6 @@
 //! Judges a line: by its form, where its words stand, or why it spells no command.
 
-ghost use Rattle.std.specs.Prelude.{◌≡◌, ◌<◌, ◌≤◌, ◌-◌, length, nat_lt, codes, Ok, Err, IfErr, IsFalse, IsTrue, MatchResult};
+ghost use Rattle.std.specs.Prelude.{◌≡◌, ◌<◌, ◌≤◌, ◌-◌, ◌++◌, length, nat_lt, codes, Ok, Err, IfErr, IfSome, IsFalse, IsTrue, MatchResult};
 ghost use Rattle.std.specs.Str.{bytes_eq};
 ghost use Rattle.ucon_model.specs.CommandLine.{command_read, line_read, most_bytes, words_of};
 ghost use Rattle.ucon_syntax.specs.Policies.{accepted};
@@ -12,13 +12,17 @@ use crate::cuts::Cuts;
 use crate::forms::{
     amend_words, env_words, one_integer, one_name, one_number, set_words, three_names, value_words,
 };
+use crate::laws::commands_are_read_back;
 use crate::line_fault::LineFault;
 use std::alloc::Global;
-use ucon_reply::next_word;
+use ucon_reply::{
+    integer_in, integer_in_form, next_word, number_in, number_in_form, words_are_read_back,
+};
 
 /// Where the words of a line's command stand, or the first refusal. A line of too many bytes is refused before any memory is taken,
 /// and of another line than an amendment each refusal is told whatever memory there is.
-#[tactic(auto, unfolding(ucon_model::specs::CommandLine::line_read), using(crate::proofs::Tried::second, crate::proofs::Tried::short, crate::proofs::Tried::read, crate::proofs::Refusals::sure_refused))]
+#[inline(always)]
+#[tactic(auto, unfolding(ucon_model::specs::CommandLine::line_read), using(crate::proofs::Begun::try_second, crate::proofs::Begun::try_short, crate::proofs::Begun::try_read, crate::proofs::Begun::act_second, crate::proofs::Begun::act_short, crate::proofs::Begun::act_read, crate::proofs::Begun::set_second, crate::proofs::Begun::set_short, crate::proofs::Begun::set_read, crate::proofs::Refusals::sure_refused))]
 pub fn cuts_of(alloc: Global, line: &[u8]) -> Result<Cuts, LineFault>
     ensures long { most_bytes line.now < length line.now → result ≡ Err (LineFault.TooLong (length line.now)) }
     ensures cuts { MatchResult result (λ k. AreCuts k line.now (line_read accepted line.now)) (IsRefusal (line_read accepted line.now)) }
@@ -30,7 +34,88 @@ pub fn cuts_of(alloc: Global, line: &[u8]) -> Result<Cuts, LineFault>
     if line.starts_with(b"try ") {
         return try_cuts(line, Some(4));
     }
-    form_of(alloc, line)
+    if line.starts_with(b"act ") {
+        return act_cuts(line, Some(4));
+    }
+    if line.starts_with(b"set ") {
+        return set_cuts(alloc, line, Some(4));
+    }
+    match plain_cuts(alloc, line) {
+        Some(cuts) => Ok(cuts),
+        None => form_of(alloc, line),
+    }
+}
+
+/// The cuts of a line of `beat`, `again`, `end` or `tick` behind which a number is read: it is that command's text, and isn't cut at words. None says
+/// nothing of the line.
+#[inline(always)]
+fn plain_cuts(alloc: Global, line: &[u8]) -> Option<Cuts>
+    ensures { IfSome result (λ k. AreCuts k line.now (line_read accepted line.now)) }
+{
+    commands_are_read_back();
+    words_are_read_back();
+    if let Some(number) = behind_beat(line) {
+        let n = number_in(alloc, number)?;
+        number_in_form(n);
+        return Some(Cuts::Beat(n));
+    }
+    if let Some(number) = behind_again(line) {
+        let n = number_in(alloc, number)?;
+        number_in_form(n);
+        return Some(Cuts::Again(n));
+    }
+    if let Some(number) = behind_end(line) {
+        let n = number_in(alloc, number)?;
+        number_in_form(n);
+        return Some(Cuts::End(n));
+    }
+    let t = integer_in(alloc, behind_tick(line)?)?;
+    integer_in_form(t);
+    Some(Cuts::Tick { tick: 5 })
+}
+
+/// What stands behind `beat` and a space.
+#[inline(always)]
+fn behind_beat(line: &[u8]) -> Option<&[u8]>
+    ensures { IfSome result (λ rest. line.now ≡ codes "beat " ++ rest.now) }
+{
+    match line {
+        [b'b', b'e', b'a', b't', b' ', rest @ ..] => Some(rest),
+        _ => None,
+    }
+}
+
+/// What stands behind `again` and a space.
+#[inline(always)]
+fn behind_again(line: &[u8]) -> Option<&[u8]>
+    ensures { IfSome result (λ rest. line.now ≡ codes "again " ++ rest.now) }
+{
+    match line {
+        [b'a', b'g', b'a', b'i', b'n', b' ', rest @ ..] => Some(rest),
+        _ => None,
+    }
+}
+
+/// What stands behind `end` and a space.
+#[inline(always)]
+fn behind_end(line: &[u8]) -> Option<&[u8]>
+    ensures { IfSome result (λ rest. line.now ≡ codes "end " ++ rest.now) }
+{
+    match line {
+        [b'e', b'n', b'd', b' ', rest @ ..] => Some(rest),
+        _ => None,
+    }
+}
+
+/// What stands behind `tick` and a space.
+#[inline(always)]
+fn behind_tick(line: &[u8]) -> Option<&[u8]>
+    ensures { IfSome result (λ rest. line.now ≡ codes "tick " ++ rest.now) }
+{
+    match line {
+        [b't', b'i', b'c', b'k', b' ', rest @ ..] => Some(rest),
+        _ => None,
+    }
 }
 
 /// `try`: most lines are of this form.
@@ -46,6 +131,31 @@ fn try_cuts(line: &[u8], second: Option<usize>) -> Result<Cuts, LineFault>
         right,
         object,
     })
+}
+
+/// `act`.
+#[inline(always)]
+#[tactic(auto, unfolding(ucon_model::specs::CommandLine::command_read))]
+fn act_cuts(line: &[u8], second: Option<usize>) -> Result<Cuts, LineFault>
+    requires short { length line.now ≤ 8192 }
+    requires second { IsSecond second line.now }
+    ensures { GivesCuts result line.now (command_read accepted line.now (codes "act") (words_of line.now)) }
+{
+    three_names(line, second).map(|(subject, action, object)| Cuts::Act {
+        subject,
+        action,
+        object,
+    })
+}
+
+/// `set`.
+#[tactic(auto, unfolding(ucon_model::specs::CommandLine::command_read))]
+fn set_cuts(alloc: Global, line: &[u8], second: Option<usize>) -> Result<Cuts, LineFault>
+    requires short { length line.now ≤ 8192 }
+    requires second { IsSecond second line.now }
+    ensures { GivesCuts result line.now (command_read accepted line.now (codes "set") (words_of line.now)) }
+{
+    set_words(alloc, line, second)
 }
 
 /// The form of a line that isn't too long.
@@ -144,11 +254,7 @@ fn other_cuts(
         return one_integer(alloc, line, second).map(|tick| Cuts::Tick { tick });
     }
     if first == b"act".as_slice() {
-        return three_names(line, second).map(|(subject, action, object)| Cuts::Act {
-            subject,
-            action,
-            object,
-        });
+        return act_cuts(line, second);
     }
     if first == b"try".as_slice() {
         return try_cuts(line, second);

@@ -1,6 +1,6 @@
 //! What a word of a command says, by its kind.
 
-ghost use Rattle.std.specs.Prelude.{◌≡◌, IfOk, IsTrue, MatchResult};
+ghost use Rattle.std.specs.Prelude.{◌≡◌, IfOk, IfSome, IsTrue, MatchResult, Some};
 ghost use Rattle.ucon_base.specs.NameBytes.{is_name};
 ghost use Rattle.ucon_model.specs.CommandLine.{side_in, name_in, value_in, integer_in, number_in, amendment_in, said};
 ghost use Rattle.ucon_syntax.specs.Policies.{accepted};
@@ -54,10 +54,26 @@ pub fn seen_name(w: &Word<'_>, seen: bool) -> Result<(), LineFault>
     }
 }
 
-/// The value that a word spells.
+/// The integer that the bytes spell, if a digit begins them. None says nothing of the bytes.
+#[inline(always)]
+#[tactic(auto, using(crate::proofs::Plain::integer_value))]
+pub fn digits_in(alloc: Global, bytes: &[u8]) -> Option<Int>
+    ensures { IfSome result (λ n. value_in bytes.now ≡ Some (Value.Int n)) }
+{
+    match bytes {
+        [b'0'..=b'9', ..] => integer_in(alloc, bytes),
+        _ => None,
+    }
+}
+
+/// The value that a word spells. An integer is read as one: that needs no room for a value of any kind.
+#[inline(always)]
 pub fn value_word(alloc: Global, w: &Word<'_>) -> Result<Value, LineFault>
     ensures { MatchResult result (λ v. said value_in (word_of w.now) ≡ Ok v) (IsSure (said value_in (word_of w.now))) }
 {
+    if let Some(n) = digits_in(alloc, w.text) {
+        return Ok(Value::Int(n));
+    }
     value_in(alloc, w.text)?.ok_or(LineFault::BadWord(w.at))
 }
 

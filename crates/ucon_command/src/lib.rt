@@ -18,7 +18,7 @@ mod payload_fault;
 
 pub use amendment::read_accepted;
 pub use command_line::CommandLine;
-pub use commands::command_text;
+pub use commands::{command_text, put_command};
 pub use cuts::Cuts;
 pub use laws::{
     commands_are_read_back, histories_are_found, payloads_are_read_back,

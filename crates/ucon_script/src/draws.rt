@@ -9,7 +9,7 @@ ghost use Rattle.ucon_script.specs.Generator.{HasRoom, generator_of};
 
 use std::alloc::Global;
 use ucon_base::{Int, Name, NoMemory, Side, Value};
-use ucon_command::command_text;
+use ucon_command::put_command;
 use ucon_model::{Caller, Command, Entry};
 
 /// What stands before the lines that are drawn: the policy, and the opening lines of client 0.
@@ -79,8 +79,7 @@ fn put_entry(alloc: Global, out: &mut Vec<u8>, entry: &Entry) -> Result<(), NoMe
     out.extend_from_slice(b"client ")?;
     out.push(b'0' + entry.caller.0)?;
     out.push(b'\n')?;
-    let line = command_text(alloc, &entry.command)?;
-    out.extend_from_slice(&line)?;
+    put_command(alloc, out, &entry.command)?;
     out.push(b'\n')?;
     Ok(())
 }
