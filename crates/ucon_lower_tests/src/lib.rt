@@ -21,4 +21,6 @@ mod links;
 #[cfg(test)]
 mod pend;
 #[cfg(test)]
+mod turn;
+#[cfg(test)]
 mod wheel;

@@ -6,8 +6,6 @@ mod plays;
 mod seat;
 mod steps;
 mod table;
-#[cfg(test)]
-mod tests;
 mod turn;
 mod value;
 

@@ -1,6 +1,6 @@
 use Rattle.std.proofs.Common.{◌+◌, ◌<◌, sym, subst, arith}
 use Rattle.ucon_base.specs.Elements.{Each, each_map}
-use Rattle.ucon_turn.proofs.tests.adders.next_seat.Goals as goal
+use Rattle.ucon_lower_tests.proofs.turn.adders.next_seat.Goals as goal
 
 pub returns-clause-above : goal.returns-clause-above
 returns-clause-above c =

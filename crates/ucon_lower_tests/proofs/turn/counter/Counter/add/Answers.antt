@@ -1,7 +1,7 @@
 use Rattle.std.proofs.Common.{rules, ap, sym, ◌∙◌, ◌≡◌, ◌+◌, ◌∷◌, [], ◌++◌}
-use Rattle.ucon_turn.specs.Additions.{total_of}
-use Rattle.ucon_turn.proofs.Additions.{total_more}
-use Rattle.ucon_turn.proofs.tests.counter.Counter.add.Goals as goal
+use Rattle.ucon_lower_tests.specs.Additions.{total_of}
+use Rattle.ucon_lower_tests.proofs.Additions.{total_more}
+use Rattle.ucon_lower_tests.proofs.turn.counter.Counter.add.Goals as goal
 
 pub invariant_of-self-2 : goal.invariant_of-self-2
 invariant_of-self-2 c =

@@ -1,9 +1,9 @@
 use Rattle.std.proofs.Common.{◌≢◌, ℕ, List, [], ◌∷◌, ap, sym, ◌∙◌, subst}
 use Rattle.ucon_base.specs.Elements.{Each}
 use Rattle.ucon_turn.specs.Lists.{Has, Continues, ByOthers}
-use Rattle.ucon_turn.specs.Additions.{serial}
-use Rattle.ucon_turn.proofs.Additions.{serial_on, only_two}
-use Rattle.ucon_turn.proofs.tests.adders.two_adders.Goals as goal
+use Rattle.ucon_lower_tests.specs.Additions.{serial}
+use Rattle.ucon_lower_tests.proofs.Additions.{serial_on, only_two}
+use Rattle.ucon_lower_tests.proofs.turn.adders.two_adders.Goals as goal
 
 pub returns-clause-callers : goal.returns-clause-callers
 returns-clause-callers g c =

@@ -4,14 +4,14 @@ ghost use denote.Param.Send.{IsSync};
 ghost use Rattle.ucon_base.specs.Elements.{Each};
 ghost use Rattle.ucon_turn.specs.Lists.{Has};
 ghost use Rattle.ucon_turn.specs.Turns.{IsSeatOf};
-ghost use Rattle.ucon_turn.specs.Additions.{serial};
+ghost use Rattle.ucon_lower_tests.specs.Additions.{serial};
 
 use super::counter::{Add, Counter, Hold, Told};
-use crate::{Seat, Turn};
 use std::alloc::Global;
 use std::sync::Wait;
 use std::thread::{Threads, join};
 use std::time::Clock;
+use ucon_turn::{Seat, Turn};
 
 #[derive(Drop)]
 pub struct Adder {

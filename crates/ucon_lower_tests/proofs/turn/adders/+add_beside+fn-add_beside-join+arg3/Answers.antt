@@ -1,6 +1,6 @@
 use Rattle.std.proofs.Common.{◌≡◌, ℕ, List, ◌∷◌, ◌⊎◌, ap, sym, ◌∙◌, subst, inl, inr, ⊎_elim}
 use Rattle.ucon_turn.specs.Lists.{Has}
-use Rattle.ucon_turn.proofs.tests.adders.+add_beside+fn-add_beside-join+arg3.Goals as goal
+use Rattle.ucon_lower_tests.proofs.turn.adders.+add_beside+fn-add_beside-join+arg3.Goals as goal
 
 pub returns-clause-back : goal.returns-clause-back
 returns-clause-back g t c = λ k h.

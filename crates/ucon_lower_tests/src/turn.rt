@@ -1,33 +1,30 @@
-//! A counter in a turn: one value, two threads with a contract over both, and eight threads at once.
+//! Tests of `ucon_turn`: a counter in a turn: one value, two threads with a contract over both, and eight threads at once.
 
 mod adders;
 mod counter;
 
-use crate::Turn;
 use adders::{many_adders, two_adders};
 use counter::Counter;
 use std::test::Fail;
+use ucon_turn::Turn;
 
 #[test]
 fn the_value_that_was_handed_in_comes_back(rt: HostRuntime) -> Result<(), Fail> {
     let mut counter = Counter::new(rt.alloc());
-    assert_eq!(rt; counter.add(7, 5), Some((1, 5)));
+    assert!(rt; counter.add(7, 5) == Some((1, 5)));
     let (turn, seat) = Turn::open(rt.alloc(), counter).ok().ok_or("memory")?;
-    assert_eq!(rt; seat.number(), 0);
+    assert!(rt; seat.number() == 0);
     let counter = turn.close(seat);
-    assert_eq!(rt; counter.additions.as_slice(), [(7, 5)].as_slice());
+    assert!(rt; counter.additions.as_slice() == [(7, 5)].as_slice());
     Ok(())
 }
 
 #[test]
 fn two_threads_are_answered_as_one_would_be(rt: HostRuntime) -> Result<(), Fail> {
     let (counter, one, two) = two_adders(&rt, rt.alloc(), 100, 200).ok_or("memory")?;
-    assert_eq!(rt;
-        (counter.additions.len(), one.len(), two.len()),
-        (300, 100, 200)
-    );
+    assert!(rt; (counter.additions.len(), one.len(), two.len()) == (300, 100, 200));
     let last = one[99].max(two[199]);
-    assert_eq!(rt; last, (300, 4950 + 19900));
+    assert!(rt; last == (300, 4950 + 19900));
     Ok(())
 }
 
@@ -41,12 +38,11 @@ fn eight_threads_lose_no_call(rt: HostRuntime) -> Result<(), Fail> {
         let slot = next
             .get_mut(*by as usize)
             .ok_or("a number that nobody has")?;
-        assert_eq!(rt; *slot, *amount);
+        assert!(rt; *slot == *amount);
         *slot = slot.wrapping_add(1);
     }
-    assert_eq!(rt;
-        next,
-        [
+    assert!(rt;
+        next == [
             0, 10_000, 10_000, 10_000, 10_000, 10_000, 10_000, 10_000, 10_000
         ]
     );

@@ -1,7 +1,7 @@
 use Rattle.std.proofs.Common.{ap, sym, ◌∙◌, ◌∷◌, [], ◌++◌}
-use Rattle.ucon_turn.specs.Additions.{serial}
-use Rattle.ucon_turn.proofs.Additions.{stays, grows}
-use Rattle.ucon_turn.proofs.tests.adders.Adder.add.Goals as goal
+use Rattle.ucon_lower_tests.specs.Additions.{serial}
+use Rattle.ucon_lower_tests.proofs.Additions.{stays, grows}
+use Rattle.ucon_lower_tests.proofs.turn.adders.Adder.add.Goals as goal
 
 pub returns-in_err-told-clause-serial : goal.returns-in_err-told-clause-serial
 returns-in_err-told-clause-serial g c =

@@ -1,7 +1,7 @@
 use Rattle.std.proofs.Common.{◌≡◌}
 use Rattle.ucon_turn.specs.Turns.{IsSeatOf}
-use Rattle.ucon_turn.specs.Additions.{serial}
-use Rattle.ucon_turn.proofs.tests.adders.Adder.add_times.Given as goal
+use Rattle.ucon_lower_tests.specs.Additions.{serial}
+use Rattle.ucon_lower_tests.proofs.turn.adders.Adder.add_times.Given as goal
 
 abbrev pub invariant-loop-amount : goal.invariant-loop-amount
 invariant-loop-amount g l = record {

@@ -1,11 +1,11 @@
 //! A counter that stands for the list of its additions, and the job of adding to it.
 ghost use Rattle.std.specs.Prelude.{◌≡◌, [], ⊤};
-ghost use Rattle.ucon_turn.specs.Additions.{Adds, total_of};
+ghost use Rattle.ucon_lower_tests.specs.Additions.{Adds, total_of};
 
-use crate::{Job, Turned};
 use std::alloc::Global;
 use std::thread;
 use std::time::{Clock, Duration};
+use ucon_turn::{Job, Turned};
 
 /// The number of the caller, and the amount.
 pub type Addition = (u32, u64);

@@ -3,7 +3,7 @@ use Rattle.std.proofs.Common.{◌≡◌, ◌≢◌, ℕ, ◌+◌, ◌==◌, Bool
 use Rattle.std.proofs.lemmas.List.{append-nil}
 use Rattle.ucon_base.specs.Elements.{Each, each_map, each_both}
 use Rattle.ucon_turn.specs.Lists.{Has, Continues, ByOthers, continues_trans}
-use Rattle.ucon_turn.specs.Additions.{total_of, serial_from, serial}
+use Rattle.ucon_lower_tests.specs.Additions.{total_of, serial_from, serial}
 use Rattle.ucon_turn.proofs.Lists.{continues_map}
 
 abbrev Addition : Type 0
