@@ -38,7 +38,7 @@ pub fn command_into(
             value,
         } => set_into(alloc, line, side, name, attr, value, out)?,
         Cuts::Env { name, value } => env_into(alloc, line, name, value, out)?,
-        Cuts::Tick { tick } => tick_into(alloc, line, tick, out)?,
+        Cuts::Tick { tick } => tick_into(line, tick, out),
         Cuts::Act {
             subject,
             action,
@@ -121,14 +121,12 @@ fn env_into(
 }
 
 /// `tick`, by where its integer begins.
-fn tick_into(alloc: Global, line: &[u8], tick: u16, out: &mut Command) -> Result<(), NoMemory>
+fn tick_into(line: &[u8], tick: u16, out: &mut Command)
     requires within { tick ≤ length line.now }
     requires integer { IsSome (integer_in (drop tick line.now)) }
-    ensures ok { OnOk result (command_cut (Cuts.Tick tick) line.now ≡ Some out.new) }
-    ensures err { OnErr result (out.new ≡ out.old) }
+    ensures { command_cut (Cuts.Tick tick) line.now ≡ Some out.new }
 {
-    *out = Command::Tick(last_integer(alloc, line, tick)?);
-    Ok(())
+    *out = Command::Tick(last_integer(line, tick));
 }
 
 /// `act`, by where its names begin.
@@ -272,14 +270,14 @@ fn last_value(alloc: Global, line: &[u8], at: u16) -> Result<Value, NoMemory>
 }
 
 /// The integer that takes the rest of the line.
-fn last_integer(alloc: Global, line: &[u8], at: u16) -> Result<Int, NoMemory>
+fn last_integer(line: &[u8], at: u16) -> Int
     requires within { at ≤ length line.now }
     requires integer { IsSome (integer_in (drop at line.now)) }
-    ensures { IfOk result (λ n. integer_in (drop at line.now) ≡ Some n) }
+    ensures { integer_in (drop at line.now) ≡ Some result }
 {
-    match last_value(alloc, line, at)? {
-        Value::Int(n) => Ok(n),
-        _ => unreachable!(),
+    match Int::read(&line[at as usize..]) {
+        Some(n) => n,
+        None => unreachable!(),
     }
 }
 

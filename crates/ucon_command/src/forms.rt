@@ -142,7 +142,7 @@ pub fn one_name(line: &[u8], second: Option<usize>) -> Result<u16, LineFault>
 
 /// `tick T`: where the integer begins.
 #[tactic(auto, unfolding(ucon_model::specs::CommandLine::one_word), using(crate::proofs::Placed::one_miscounted))]
-pub fn one_integer(alloc: Global, line: &[u8], second: Option<usize>) -> Result<u16, LineFault>
+pub fn one_integer(line: &[u8], second: Option<usize>) -> Result<u16, LineFault>
     requires short { length line.now ≤ 8192 }
     requires second { IsSecond second line.now }
     ensures { MatchResult result
@@ -153,19 +153,19 @@ pub fn one_integer(alloc: Global, line: &[u8], second: Option<usize>) -> Result<
     let Some(tick) = one_word(line, second) else {
         return Err(LineFault::WrongCount(word_count(line)));
     };
-    integer_word(alloc, &last_word(line, tick))?;
+    integer_word(&last_word(line, tick))?;
     Ok(tick as u16)
 }
 
 /// `again n`, `beat n`, `end n` and `look n`: the session's number.
 #[tactic(auto, unfolding(ucon_model::specs::CommandLine::one_word), using(crate::proofs::Placed::one_miscounted))]
-pub fn one_number(alloc: Global, line: &[u8], second: Option<usize>) -> Result<u32, LineFault>
+pub fn one_number(line: &[u8], second: Option<usize>) -> Result<u32, LineFault>
     requires short { length line.now ≤ 8192 }
     requires second { IsSecond second line.now }
     ensures { GivesTold result (one_word number_in (words_of line.now)) (λ n. n) }
 {
     match one_word(line, second) {
-        Some(session) => number_word(alloc, &last_word(line, session)),
+        Some(session) => number_word(&last_word(line, session)),
         None => Err(LineFault::WrongCount(word_count(line))),
     }
 }

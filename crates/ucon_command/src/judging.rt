@@ -251,7 +251,7 @@ fn other_cuts(
         return env_words(alloc, line, second);
     }
     if first == b"tick".as_slice() {
-        return one_integer(alloc, line, second).map(|tick| Cuts::Tick { tick });
+        return one_integer(line, second).map(|tick| Cuts::Tick { tick });
     }
     if first == b"act".as_slice() {
         return act_cuts(line, second);
@@ -260,16 +260,16 @@ fn other_cuts(
         return try_cuts(line, second);
     }
     if first == b"again".as_slice() {
-        return one_number(alloc, line, second).map(Cuts::Again);
+        return one_number(line, second).map(Cuts::Again);
     }
     if first == b"beat".as_slice() {
-        return one_number(alloc, line, second).map(Cuts::Beat);
+        return one_number(line, second).map(Cuts::Beat);
     }
     if first == b"end".as_slice() {
-        return one_number(alloc, line, second).map(Cuts::End);
+        return one_number(line, second).map(Cuts::End);
     }
     if first == b"look".as_slice() {
-        return one_number(alloc, line, second).map(Cuts::Look);
+        return one_number(line, second).map(Cuts::Look);
     }
     if first == b"value".as_slice() {
         return value_words(line, second).map(|(side, name, attr)| Cuts::Value { side, name, attr });

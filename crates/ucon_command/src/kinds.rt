@@ -12,7 +12,7 @@ use crate::line_fault::LineFault;
 use std::alloc::Global;
 use ucon_base::{Int, Side, Value};
 use ucon_model::Amend;
-use ucon_reply::{Word, integer_in, is_name, number_in, value_in};
+use ucon_reply::{Word, is_name, number_in, value_in};
 
 fn side_in(bytes: &[u8]) -> Option<Side>
     ensures { result ≡ side_in bytes.now }
@@ -78,17 +78,17 @@ pub fn value_word(alloc: Global, w: &Word<'_>) -> Result<Value, LineFault>
 }
 
 /// The integer that a word spells.
-pub fn integer_word(alloc: Global, w: &Word<'_>) -> Result<Int, LineFault>
+pub fn integer_word(w: &Word<'_>) -> Result<Int, LineFault>
     ensures { MatchResult result (λ n. said integer_in (word_of w.now) ≡ Ok n) (IsTold (said integer_in (word_of w.now))) }
 {
-    integer_in(alloc, w.text).ok_or(LineFault::BadWord(w.at))
+    Int::read(w.text).ok_or(LineFault::BadWord(w.at))
 }
 
 /// The number that a word spells.
-pub fn number_word(alloc: Global, w: &Word<'_>) -> Result<u32, LineFault>
+pub fn number_word(w: &Word<'_>) -> Result<u32, LineFault>
     ensures { MatchResult result (λ n. said number_in (word_of w.now) ≡ Ok n) (IsTold (said number_in (word_of w.now))) }
 {
-    number_in(alloc, w.text).ok_or(LineFault::BadWord(w.at))
+    number_in(w.text).ok_or(LineFault::BadWord(w.at))
 }
 
 /// The amendment whose policy a word spells.
