@@ -259,7 +259,7 @@ fn last_value(alloc: Global, line: &[u8], at: u16) -> Result<Value, NoMemory>
     ensures { IfOk result (λ v. value_in (drop at line.now) ≡ Some v) }
 {
     let bytes = &line[at as usize..];
-    if let Some(n) = digits_in(alloc, bytes) {
+    if let Some(n) = digits_in(bytes) {
         return Ok(Value::Int(n));
     }
     match Value::read(alloc, bytes) {

@@ -15,9 +15,8 @@ use crate::forms::{
 use crate::laws::commands_are_read_back;
 use crate::line_fault::LineFault;
 use std::alloc::Global;
-use ucon_reply::{
-    integer_in, integer_in_form, next_word, number_in, number_in_form, words_are_read_back,
-};
+use ucon_base::Int;
+use ucon_reply::{integer_in_form, next_word, number_in, number_in_form, words_are_read_back};
 
 /// Where the words of a line's command stand, or the first refusal. A line of too many bytes is refused before any memory is taken,
 /// and of another line than an amendment each refusal is told whatever memory there is.
@@ -40,7 +39,7 @@ pub fn cuts_of(alloc: Global, line: &[u8]) -> Result<Cuts, LineFault>
     if line.starts_with(b"set ") {
         return set_cuts(alloc, line, Some(4));
     }
-    match plain_cuts(alloc, line) {
+    match plain_cuts(line) {
         Some(cuts) => Ok(cuts),
         None => form_of(alloc, line),
     }
@@ -49,27 +48,27 @@ pub fn cuts_of(alloc: Global, line: &[u8]) -> Result<Cuts, LineFault>
 /// The cuts of a line of `beat`, `again`, `end` or `tick` behind which a number is read: it is that command's text, and isn't cut at words. None says
 /// nothing of the line.
 #[inline(always)]
-fn plain_cuts(alloc: Global, line: &[u8]) -> Option<Cuts>
+fn plain_cuts(line: &[u8]) -> Option<Cuts>
     ensures { IfSome result (λ k. AreCuts k line.now (line_read accepted line.now)) }
 {
     commands_are_read_back();
     words_are_read_back();
     if let Some(number) = behind_beat(line) {
-        let n = number_in(alloc, number)?;
+        let n = number_in(number)?;
         number_in_form(n);
         return Some(Cuts::Beat(n));
     }
     if let Some(number) = behind_again(line) {
-        let n = number_in(alloc, number)?;
+        let n = number_in(number)?;
         number_in_form(n);
         return Some(Cuts::Again(n));
     }
     if let Some(number) = behind_end(line) {
-        let n = number_in(alloc, number)?;
+        let n = number_in(number)?;
         number_in_form(n);
         return Some(Cuts::End(n));
     }
-    let t = integer_in(alloc, behind_tick(line)?)?;
+    let t = Int::read(behind_tick(line)?)?;
     integer_in_form(t);
     Some(Cuts::Tick { tick: 5 })
 }

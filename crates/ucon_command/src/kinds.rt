@@ -57,11 +57,11 @@ pub fn seen_name(w: &Word<'_>, seen: bool) -> Result<(), LineFault>
 /// The integer that the bytes spell, if a digit begins them. None says nothing of the bytes.
 #[inline(always)]
 #[tactic(auto, using(crate::proofs::Plain::integer_value))]
-pub fn digits_in(alloc: Global, bytes: &[u8]) -> Option<Int>
+pub fn digits_in(bytes: &[u8]) -> Option<Int>
     ensures { IfSome result (λ n. value_in bytes.now ≡ Some (Value.Int n)) }
 {
     match bytes {
-        [b'0'..=b'9', ..] => integer_in(alloc, bytes),
+        [b'0'..=b'9', ..] => Int::read(bytes),
         _ => None,
     }
 }
@@ -71,7 +71,7 @@ pub fn digits_in(alloc: Global, bytes: &[u8]) -> Option<Int>
 pub fn value_word(alloc: Global, w: &Word<'_>) -> Result<Value, LineFault>
     ensures { MatchResult result (λ v. said value_in (word_of w.now) ≡ Ok v) (IsSure (said value_in (word_of w.now))) }
 {
-    if let Some(n) = digits_in(alloc, w.text) {
+    if let Some(n) = digits_in(w.text) {
         return Ok(Value::Int(n));
     }
     value_in(alloc, w.text)?.ok_or(LineFault::BadWord(w.at))

@@ -20,4 +20,4 @@ returns-in-Some-behind_end c =
 pub returns : goal.returns
 returns c =
     tick c.commands_are_read_back.ensures.written c.words_are_read_back.ensures.integers_read c.args.line.now _ c.in_ok-t.t
-    c.in_ok-behind_tick.ensures (sym c.in_ok-t.ensures) c.integer_in_form.ensures
+    c.in_ok-behind_tick.ensures (sym c.in_ok-t.ensures.value) c.integer_in_form.ensures
