@@ -6,7 +6,7 @@ ghost use Rattle.ucon_client.specs.Answers.{answered_by};
 use ucon_store::{Placed, StepFault};
 
 /// What a line is answered: a reply with its place, or why its step was not taken.
-#[derive(Debug, Drop)]
+#[derive(Drop)]
 pub enum Answer {
     Placed(Placed),
     NoMemory,
