@@ -23,7 +23,7 @@ use ucon_told::{
 };
 
 /// What is wrong with an explanation.
-#[derive(Clone, Copy, Debug, PartialEq, Eq)]
+#[derive(Clone, Copy, Debug)]
 pub enum Wrong {
     /// The try that it speaks of would be refused so.
     Names(Refusal),

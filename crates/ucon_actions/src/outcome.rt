@@ -15,7 +15,7 @@ pub enum Outcome {
 }
 
 /// Why a command neither reads nor makes actions.
-#[derive(Clone, Copy, Debug, PartialEq, Eq)]
+#[derive(Clone, Copy, Debug)]
 pub enum ActionFault {
     Refused(Refusal),
     NoMemory(NoMemory),

@@ -9,7 +9,7 @@ use sha2::{Digest, Sha256};
 use ucon_base::Rows;
 
 /// The head that a journal had after so many records, as somebody kept it.
-#[derive(Clone, Copy, Debug, PartialEq, Eq)]
+#[derive(Clone, Copy)]
 pub struct Kept {
     pub records: u64,
     pub head: [u8; 32],

@@ -16,7 +16,7 @@ use ucon_model::{Verdict, View};
 const SHARE: usize = 1_024;
 
 /// A session that wouldn't be permitted now, and why.
-#[derive(Clone, Copy, Debug, PartialEq, Eq)]
+#[derive(Clone, Copy, PartialEq, Eq)]
 pub struct Changed {
     pub session: u32,
     pub verdict: Verdict,

@@ -6,7 +6,7 @@ ghost use Rattle.ucon_board.specs.declared.mark_fault.MarkFault.TheVariants as f
 use ucon_base::NoMemory;
 
 /// Why a reply was not published, and never will be.
-#[derive(Clone, Copy, Debug, PartialEq, Eq)]
+#[derive(Clone, Copy)]
 pub enum MarkFault {
     NoMemory(NoMemory),
     /// An earlier step found no memory, so the board stays at its place.

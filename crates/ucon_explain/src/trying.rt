@@ -18,7 +18,7 @@ use ucon_state::{State, each_action_is_followed, tables_keep_what_is_followed};
 use ucon_told::Explanation;
 
 /// Why there is no explanation.
-#[derive(Clone, Copy, Debug, PartialEq, Eq)]
+#[derive(Clone, Copy, Debug)]
 pub enum ExplainFault {
     /// The try would be refused so: no right, no subject, no object, full sessions or full accessing.
     Refused(Refusal),

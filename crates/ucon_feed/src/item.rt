@@ -1,7 +1,7 @@
 //! What goes through an inbox.
 
 /// A line, or the end word, behind which nothing is fed.
-#[derive(Debug, Drop, PartialEq, Eq)]
+#[derive(Drop)]
 pub enum Item<T> {
     Line(T),
     End,

@@ -30,7 +30,7 @@ pub trait Sink {
 }
 
 /// The sink failed.
-#[derive(Clone, Copy, Debug, PartialEq, Eq, Error)]
+#[derive(Clone, Copy, Debug, Error)]
 #[error("the sink failed")]
 pub struct SinkFault;
 

@@ -13,7 +13,7 @@ use thiserror::Error;
 use ucon_base::NoMemory;
 
 /// A call failed, and its object has counted it.
-#[derive(Clone, Copy, Debug, PartialEq, Eq)]
+#[derive(Clone, Copy)]
 pub struct Failed;
 
 pub trait Source {

@@ -40,11 +40,11 @@ fn names_and_texts_are_read(rt: HostRuntime) -> Result<(), Fail> {
 
 #[test]
 fn integers_are_clamped(rt: HostRuntime) -> Result<(), Fail> {
-    assert_eq!(rt; Int::new(1_000_000_000_000_001), None);
+    assert!(rt; Int::new(1_000_000_000_000_001).is_none());
     let limit = Int::new(1_000_000_000_000_000).ok_or("in range")?;
     let minus = Int::new(-7).ok_or("in range")?;
     let product = limit.add(limit).sub(minus).mul(minus);
-    assert_eq!(rt; product.get(), -1_000_000_000_000_000);
+    assert!(rt; product.get() == -1_000_000_000_000_000);
     assert!(rt; minus.is_below(limit) && minus.is_at_most(minus));
     Ok(())
 }
@@ -70,10 +70,10 @@ fn rows_and_steps(rt: HostRuntime) -> Result<(), Fail> {
     rows.reserve(2)?;
     assert!(rt; rows.len() == 1 && rows.at(0) == Some(&1) && rows.at(1).is_none());
     let rows = Rows::from(rows.into_vec());
-    assert_eq!(rt; rows.slice(), [1].as_slice());
+    assert!(rt; rows.slice() == [1].as_slice());
     let mut steps = Steps::new();
     steps.tick();
-    assert_eq!(rt; steps.count(), 1);
+    assert!(rt; steps.count() == 1);
     Ok(())
 }
 
@@ -82,7 +82,7 @@ fn sets_grow_and_shrink(rt: HostRuntime) -> Result<(), Fail> {
     let a = Text::read(b"a")?;
     let one = TextSet::empty(rt.alloc()).with(rt.alloc(), &a)?;
     assert!(rt; one.size() == 1 && one.at(0) == Some(&a));
-    assert_eq!(rt; one.without(rt.alloc(), &a)?.size(), 0);
+    assert!(rt; one.without(rt.alloc(), &a)?.size() == 0);
     assert!(rt; one.copy(rt.alloc())?.has(&a));
     Ok(())
 }

@@ -45,7 +45,7 @@ fn images(alloc: Global, rt: &impl Abort, ops: &[Op], failing: &[u64]) -> Result
             }
         }
     }
-    assert_eq!(rt; disk.short(), 0);
+    assert!(rt; disk.short() == 0);
     Ok(all)
 }
 
@@ -86,7 +86,7 @@ fn an_image_of_one_unsynced_byte(rt: HostRuntime) -> Result<(), Fail> {
     let mut disk = MemDisk::new(alloc, Vec::new(alloc), Vec::new(alloc), None);
     assert!(rt; disk.write_at(0, b"x").is_ok());
     let image = disk.image(1, &[7])?.ok_or("no image")?;
-    assert_eq!(rt; image.as_slice(), [7].as_slice());
+    assert!(rt; image.as_slice() == [7].as_slice());
     assert!(rt; disk.image(2, &[])?.is_none());
     Ok(())
 }
@@ -96,13 +96,13 @@ fn calls_fail_as_planned(rt: HostRuntime) -> Result<(), Fail> {
     let alloc = rt.alloc();
     let mut disk = MemDisk::new(alloc, b"ab".to_vec(alloc)?, [1].to_vec(alloc)?, Some(4));
     let mut buf = [0; 3];
-    assert_eq!(rt; disk.len().ok(), Some(2));
-    assert_eq!(rt; disk.read_at(0, &mut buf).ok(), None);
-    assert_eq!(rt; disk.read_at(1, &mut buf).ok(), Some(1));
-    assert_eq!(rt; buf[0], b'b');
-    assert_eq!(rt; disk.read_at(9, &mut buf).ok(), Some(0));
+    assert!(rt; disk.len().ok() == Some(2));
+    assert!(rt; disk.read_at(0, &mut buf).ok().is_none());
+    assert!(rt; disk.read_at(1, &mut buf).ok() == Some(1));
+    assert!(rt; buf[0] == b'b');
+    assert!(rt; disk.read_at(9, &mut buf).ok() == Some(0));
     assert!(rt; disk.sync().is_err() && disk.len().is_err());
-    assert_eq!(rt; disk.short(), 0);
+    assert!(rt; disk.short() == 0);
     Ok(())
 }
 
@@ -120,9 +120,9 @@ fn a_real_file_is_kept(rt: HostRuntime) -> Result<(), Fail> {
     assert!(rt; disk.cut(4).is_ok() && disk.sync().is_ok());
     let mut again = FileDisk::new(rt.clone()?, path.clone()?);
     let mut buf = [0; 9];
-    assert_eq!(rt; again.len().ok(), Some(4));
-    assert_eq!(rt; again.read_at(1, &mut buf).ok(), Some(3));
-    assert_eq!(rt; &buf[..3], b"bcd".as_slice());
+    assert!(rt; again.len().ok() == Some(4));
+    assert!(rt; again.read_at(1, &mut buf).ok() == Some(3));
+    assert!(rt; &buf[..3] == b"bcd".as_slice());
     assert!(rt; again.write_at(1 << 63, b"x").is_err());
     fs::remove_file(&rt, path.as_str())?;
     let mut nowhere = FileDisk::new(

@@ -8,9 +8,9 @@ fn least_first(rt: HostRuntime) -> Result<(), Fail> {
     let mut set = Pend::new(rt.alloc(), 100)?;
     set.put(70);
     set.put(3);
-    assert_eq!(rt; set.pop_least(), Some(3));
-    assert_eq!(rt; set.pop_least(), Some(70));
-    assert_eq!(rt; set.pop_least(), None);
+    assert!(rt; set.pop_least() == Some(3));
+    assert!(rt; set.pop_least() == Some(70));
+    assert!(rt; set.pop_least().is_none());
     Ok(())
 }
 
@@ -29,13 +29,13 @@ fn borders_of_the_levels(rt: HostRuntime) -> Result<(), Fail> {
     let mut set = Pend::new(rt.alloc(), Pend::MAX_LIMIT)?;
     put_all(&mut set, &borders);
     for n in borders {
-        assert_eq!(rt; set.pop_least(), Some(n));
+        assert!(rt; set.pop_least() == Some(n));
     }
-    assert_eq!(rt; set.pop_least(), None);
+    assert!(rt; set.pop_least().is_none());
     put_all(&mut set, &borders);
     set.clear();
     put_all(&mut set, &[4096]);
-    assert_eq!(rt; set.pop_least(), Some(4096));
-    assert_eq!(rt; set.pop_least(), None);
+    assert!(rt; set.pop_least() == Some(4096));
+    assert!(rt; set.pop_least().is_none());
     Ok(())
 }

@@ -13,14 +13,14 @@ use ucon_store::{PointRefusal, StoreFault};
 use ucon_syntax::SyntaxFault;
 
 /// Why a policy is refused: it is no policy, or it is not well typed.
-#[derive(Clone, Copy, Debug, PartialEq, Eq)]
+#[derive(Clone, Copy)]
 pub enum PolicyFault {
     Syntax(SyntaxFault),
     Typing(CheckFault),
 }
 
 /// Why there is no output of a document.
-#[derive(Clone, Copy, Debug, PartialEq, Eq)]
+#[derive(Clone, Copy)]
 pub enum Refused {
     Policy(PolicyFault),
     Script(DocFault),
@@ -28,7 +28,7 @@ pub enum Refused {
 }
 
 /// How a run ended.
-#[derive(Clone, Copy, Debug, PartialEq, Eq)]
+#[derive(Clone, Copy)]
 pub enum Outcome {
     /// All lines were answered, and the output is whole.
     Done,

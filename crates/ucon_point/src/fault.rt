@@ -5,7 +5,7 @@ ghost use Rattle.std.specs.Prelude.{◌≡◌};
 use ucon_base::NoMemory;
 
 /// Why bytes are no text of a checkpoint.
-#[derive(Clone, Copy, Debug, PartialEq, Eq)]
+#[derive(Clone, Copy, Debug)]
 pub enum PointFault {
     /// The place, from 0, of the first line such that no such text begins with the bytes up to its end; or the length of the bytes, where
     /// they end too soon.

@@ -11,7 +11,7 @@ use ucon_journal::{DiskFault, OpenFault, TakeFault};
 use ucon_walk::RecordFault;
 
 /// Why a store could not be opened.
-#[derive(Clone, Copy, Debug, PartialEq, Eq)]
+#[derive(Clone, Copy)]
 pub enum StoreFault {
     /// The file has ten bytes or more, and no journal's magic.
     NotJournal,
@@ -70,7 +70,7 @@ pub(crate) fn at_record(number: u64, fault: TakeFault) -> StoreFault
 }
 
 /// Why no checkpoint was written, and nothing else either.
-#[derive(Clone, Copy, Debug, PartialEq, Eq)]
+#[derive(Clone, Copy)]
 pub enum PointRefusal {
     /// The disk failed at an earlier step.
     Stopped,
@@ -90,7 +90,7 @@ impl From<NoMemory> for PointRefusal {
 }
 
 /// Why a step was not taken.
-#[derive(Clone, Copy, Debug, PartialEq, Eq)]
+#[derive(Clone, Copy)]
 pub enum StepFault {
     /// The disk failed. Whether the step's record is in the file shows at the next opening.
     DiskFault,

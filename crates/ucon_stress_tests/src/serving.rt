@@ -109,11 +109,11 @@ fn two_clients_meet(rt: HostRuntime) -> Result<(), Fail> {
         stopping(alloc, b"", None)?,
         &OpenGate,
     )?;
-    assert_eq!(rt; first.outcome, Outcome::Done);
+    assert!(rt; matches!(first.outcome, Outcome::Done));
     let served = document(alloc, meeting.policy, meeting.served)?;
     let gate = MeetingGate::new();
     let end = over(&rt, alloc, "serve", &served, first.disk, &gate)?;
-    assert_eq!(rt; end.outcome, Outcome::Done);
+    assert!(rt; matches!(end.outcome, Outcome::Done));
     assert!(rt; !gate.missed.came());
     assert!(rt;
         meeting
@@ -276,15 +276,15 @@ fn next_place<R: Threads + Wait + Sync>(
 fn eight_clients_have_one_history(rt: HostRuntime) -> Result<(), Fail> {
     let alloc = rt.alloc();
     let end = eight_served(&rt, alloc, &[])?;
-    assert_eq!(rt; end.outcome, Outcome::Done);
+    assert!(rt; matches!(end.outcome, Outcome::Done));
     let script = eight_clients(alloc)?;
     let text = str::from_utf8(&end.output).map_err(|_| "text")?;
     let answers = told_lines(alloc, script.as_str(), text)?;
-    assert_eq!(rt; answers.len(), 1600);
+    assert!(rt; answers.len() == 1600);
     assert!(rt; are_in_order(&answers));
     let steps = answers.iter().filter(|one| one.changes()).count();
     assert!(rt; are_a_serial_run(alloc, entities(alloc)?.as_str(), answers)?);
-    assert_eq!(rt; next_place(&rt, alloc, end.disk)?, steps.saturating_add(17));
+    assert!(rt; next_place(&rt, alloc, end.disk)? == steps.saturating_add(17));
     Ok(())
 }
 
@@ -308,14 +308,14 @@ fn stays_stopped(output: &str) -> bool {
 fn one_disk_fault_stops_everybody(rt: HostRuntime) -> Result<(), Fail> {
     let alloc = rt.alloc();
     let end = eight_served(&rt, alloc, &[700])?;
-    assert_eq!(rt; end.outcome, Outcome::DiskFault);
+    assert!(rt; matches!(end.outcome, Outcome::DiskFault));
     let text = str::from_utf8(&end.output).map_err(|_| "text")?;
-    assert_eq!(rt; text.lines().count(), 1600);
-    assert_eq!(rt;
+    assert!(rt; text.lines().count() == 1600);
+    assert!(rt;
         text.lines()
             .filter(|line| line.ends_with("- disk fault"))
-            .count(),
-        1
+            .count()
+            == 1
     );
     assert!(rt; text.lines().any(|line| line.ends_with("- stopped")));
     assert!(rt; stays_stopped(text));

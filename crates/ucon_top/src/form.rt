@@ -7,7 +7,7 @@ ghost use Rattle.ucon_top.specs.Form.{HasSize, asks_for_threads, form_of, gen_fo
 use ucon_script::number_spelled;
 
 /// A form of words.
-#[derive(Clone, Copy, Debug, PartialEq, Eq)]
+#[derive(Clone, Copy)]
 pub enum Form {
     /// `trial`: runs the document from the empty history, in the order of its lines, without a journal.
     Trial,

@@ -40,7 +40,7 @@ fn ticks_are_counted_over_a_checkpoint(rt: HostRuntime) -> Result<(), Fail> {
     let mut file = Vec::new(rt.alloc());
     for part in TICKS_AROUND_A_CHECKPOINT {
         let (output, left) = over(&rt, rt.alloc(), part.form, part.document, &file)?;
-        assert_eq!(rt; output.as_slice(), part.output);
+        assert!(rt; output.as_slice() == part.output);
         file = left;
     }
     Ok(())
@@ -75,9 +75,9 @@ fn a_cascade_goes_back_over_a_checkpoint(rt: HostRuntime) -> Result<(), Fail> {
     let without = repeated(&rt, alloc, &first, "client 0\n", 503)?;
     let one = over(&rt, alloc, "play", &revoking, &with)?.0;
     let other = over(&rt, alloc, "play", &revoking, &without)?.0;
-    assert_eq!(rt; told.as_slice(), b"point 500\n".as_slice());
+    assert!(rt; told.as_slice() == b"point 500\n".as_slice());
     assert!(rt; one.starts_with(b"0 1004 ok revoked 1 cap revoked 2 cap ".as_slice()));
-    assert_eq!(rt; one, other);
+    assert!(rt; one == other);
     Ok(())
 }
 
@@ -95,7 +95,7 @@ fn a_full_state_is_checkpointed(rt: HostRuntime) -> Result<(), Fail> {
     let (told, pointed) = over(&rt, alloc, "point", WAITING, &file)?;
     let waited = document(alloc, WAITING, WAITED)?;
     let output = over(&rt, alloc, "play", &waited, &pointed)?.0;
-    assert_eq!(rt; told.as_slice(), b"point 65541\n".as_slice());
-    assert_eq!(rt; output.as_slice(), WAITED_OUTPUT);
+    assert!(rt; told.as_slice() == b"point 65541\n".as_slice());
+    assert!(rt; output.as_slice() == WAITED_OUTPUT);
     Ok(())
 }

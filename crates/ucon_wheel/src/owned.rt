@@ -9,7 +9,7 @@ use std::mem;
 use ucon_base::NoMemory;
 
 /// A session whose deadline was changed, and the one that it had before.
-#[derive(Clone, Copy, Debug)]
+#[derive(Clone, Copy)]
 pub struct Change {
     session: u32,
     before: Option<i64>,
