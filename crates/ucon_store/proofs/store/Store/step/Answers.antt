@@ -1,4 +1,4 @@
-use Rattle.std.proofs.Common.{rules, ◌≡◌, ◌∷◌, [], ◌++◌, ◌+◌, ◌≤◌, List, length, length-append, true, Option, None, Some, refl, sym, ap, ◌∙◌, subst, arith}
+use Rattle.std.proofs.Common.{rules, ◌≡◌, ℕ, ◌∷◌, [], ◌++◌, ◌+◌, ◌≤◌, List, length, length-append, true, Option, None, Some, refl, sym, ap, ◌∙◌, subst, arith}
 use Rattle.std.specs.Prelude.{is_some, IsSome}
 use Rattle.ucon_disk.specs.Causes.{raised}
 use Rattle.ucon_disk.specs.Run.{LeavesOnly}
@@ -376,4 +376,36 @@ returns-clause-added g c = λ changes.
     (c.deref.ensures.value ∙ c.in-Ok.ensures.spelled) c.in_ok-drafted.ensures.reply (disk_of c.record.new.journal) c.in_default.ensures.payloads in
     subst (λ (x : Kept g.row.D.Denot). (P : PlainPolicy) (T : Trace) (file : List ℕ) → accepted x.policy ≡ Some P → IsStart P x.point x.before T
     → contents x.disk ≡ Some file → told_payloads (contents (disk_of c.record.new.journal)) ≡ counted file ++ step_payload P T x.entries e ∷ [])
+    c.self.view_is here
+
+pub returns-then-not-drafted-clause-adds : goal.returns-then-not-drafted-clause-adds
+returns-then-not-drafted-clause-adds g c =
+    let contents = g.D.Disk.contents in
+    let text = c.self.inside.policy.items in
+    let point = c.self.inside.point in
+    let before = c.self.inside.before in
+    let H = c.self.inside.entries.items in
+    let mark = c.self.inside.mark in
+    let e : Entry = record { caller = c.args.caller; command = c.args.command.now } in
+    let here = adds_nothing g.E.Engine.follows contents g.D.Disk.images g.D.Disk.moment g.D.Disk.images_since c.self.inside.engine c.self.inside.journal text point before H mark
+    c.self.invariant e g.met.D.Disk.only_now in
+    subst (λ (x : Kept g.row.D.Denot). (P : PlainPolicy) (T : Trace) (file : List ℕ) → accepted x.policy ≡ Some P → IsStart P x.point x.before T → x.mark ≡ None
+    → contents x.disk ≡ Some file
+    → LeavesOnly g.D.Disk.moment g.D.Disk.images_since x.disk (disk_of c.self.inside.journal) (AddsAtMost (step_payload P T x.entries e) file))
+    c.self.view_is here
+
+pub returns-in_err-drafted-clause-adds : goal.returns-in_err-drafted-clause-adds
+returns-in_err-drafted-clause-adds g c =
+    let contents = g.D.Disk.contents in
+    let text = c.self.inside.policy.items in
+    let point = c.self.inside.point in
+    let before = c.self.inside.before in
+    let H = c.self.inside.entries.items in
+    let mark = c.self.inside.mark in
+    let e : Entry = record { caller = c.args.caller; command = c.args.command.now } in
+    let here = adds_nothing g.E.Engine.follows contents g.D.Disk.images g.D.Disk.moment g.D.Disk.images_since c.self.inside.engine c.self.inside.journal text point before H mark
+    c.self.invariant e g.met.D.Disk.only_now in
+    subst (λ (x : Kept g.row.D.Denot). (P : PlainPolicy) (T : Trace) (file : List ℕ) → accepted x.policy ≡ Some P → IsStart P x.point x.before T → x.mark ≡ None
+    → contents x.disk ≡ Some file
+    → LeavesOnly g.D.Disk.moment g.D.Disk.images_since x.disk (disk_of c.self.inside.journal) (AddsAtMost (step_payload P T x.entries e) file))
     c.self.view_is here
