@@ -251,9 +251,8 @@ fn each_refusal_has_its_text(rt: HostRuntime) -> Result<(), Fail> {
 
 /// A reply that denies a session and tells that another one was revoked.
 fn denied_and_revoked(alloc: Global) -> Result<Reply, Fail> {
-    let mut revoked = Rows::new(alloc);
     let label = Name::read(b"lb")?;
-    revoked.push(Revoked { session: 2, label })?;
+    let revoked = Rows::from(Vec::from_slice(alloc, &[Revoked { session: 2, label }])?);
     let head = Head::Denied(1, Name::read(b"cap")?);
     Ok(Reply::Made { head, revoked })
 }
