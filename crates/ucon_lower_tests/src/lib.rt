@@ -13,14 +13,8 @@ mod feed;
 #[cfg(test)]
 mod flow;
 #[cfg(test)]
-mod index;
-#[cfg(test)]
 mod journal;
 #[cfg(test)]
-mod links;
-#[cfg(test)]
 mod pend;
-#[cfg(test)]
-mod turn;
 #[cfg(test)]
 mod wheel;
