@@ -26,7 +26,7 @@ fn perform(state: &mut State, subject: &Name, action: &Name, object: &Name) -> R
 {
     tables_keep_what_is_followed();
     each_action_is_followed();
-    state.add_act(*subject, *action, *object)
+    state.add_act(subject, action, object)
 }
 
 /// Anybody does an act that an obligation names.

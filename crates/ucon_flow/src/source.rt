@@ -81,7 +81,7 @@ pub fn read_all<S: Source>(
     ensures reads { S.reads source.new ≤ S.reads source.old + limit + 1 }
 {
     let mut bytes = Vec::new(alloc);
-    let mut buf = [0u8; 4096];
+    let mut buf = [0u8; 65536];
     while bytes.len() <= limit {
         let n = source.read(&mut buf)?;
         if n == 0 {

@@ -1,10 +1,12 @@
 -- Lists that are changed and changed back.
-use Rattle.std.proofs.Common.{◌≡◌, ◌∙◌, ◌-◌, ◌+◌, IsSome, is_some, cond, if◌then◌else◌, true, false, ◌≤◌, Bool, map, None, unwrap_or, position, ℕ, zero, suc, refl, sym, ap, List, [], ◌∷◌, ◌++◌, length, take, slice_get, slice_set, get_or, Some, arith}
+use Rattle.std.proofs.Common.{◌≡◌, ◌∙◌, ◌-◌, ◌+◌, IsSome, is_some, cond, if◌then◌else◌, not, true, false, ◌≤◌, Bool, None, unwrap_or, position, ℕ, zero, suc, refl, sym, ap, List, [], ◌∷◌, ◌++◌, length, take, slice_set, get_or, Some, arith}
 use Rattle.std.proofs.lemmas.List.{length-append, set-set, set-get_or}
+use Rattle.std.proofs.lemmas.Option.{none-some}
+use Rattle.std.specs.List.{position_or_len}
 use Rattle.std.proofs.Math.Seq.{take-append_seam}
 use Rattle.std.specs.Map.{keys_of, lookup}
 use Rattle.indexmap.specs.IndexMap.{insert_entry}
-use Rattle.indexmap.proofs.MapLemmas.{Found-position, Missing-position, insert_entry-first, insert_entry-absent}
+use Rattle.indexmap.proofs.MapLemmas.{Missing-position, insert_entry-absent}
 use Rattle.indexmap.specs.Layout.{set_value_at}
 use Rattle.ucon_state.specs.Undo.{front}
 use Rattle.ucon_state.proofs.Following.Names.{not_placed}
@@ -26,22 +28,32 @@ written_past [] i x past = refl
 written_past (e ∷ es) zero x past = absurd (omega (arith, past))
 written_past (e ∷ es) (suc i) x past = ap (λ rest. e ∷ rest) (written_past es i x (omega (arith, past)))
 
--- what stood in a row is written back
-pub row_written_back : {K X : Type 0} (es : List (K × X)) (i : ℕ) (x before : X) → slice_get (map (λ e. e.1) es) i ≡ Some before → set_value_at (set_value_at es i x) i before ≡ es
-row_written_back [] i x before at = refl
-row_written_back (e ∷ es) zero x before at = ap (λ b. (e.0, unwrap_or b x) ∷ es) (sym at)
-row_written_back (e ∷ es) (suc i) x before at = ap (λ rest. e ∷ rest) (row_written_back es i x before at)
-
--- a row that is there is written in its place
-pub inserted_at : {K X : Type 0} (eq : K → K → Bool) (es : List (K × X)) (k : K) (x : X) (i : ℕ) → position (eq k) (keys_of es) ≡ Some i → insert_entry eq es k x ≡ set_value_at es i x
-inserted_at eq es k x i at = insert_entry-first eq k x es i (Found-position (eq k) es i at).first
-
--- and one that isn't comes behind the others
+-- a row that isn't there comes behind the others
 pub inserted_last : {K X : Type 0} (eq : K → K → Bool) (es : List (K × X)) (k : K) (x : X) → position (eq k) (keys_of es) ≡ None → insert_entry eq es k x ≡ es ++ (k, x) ∷ []
 inserted_last eq es k x none = insert_entry-absent eq k x es (Missing-position (eq k) es none).absent
 
 pub added_last : {K X : Type 0} (eq : K → K → Bool) (es : List (K × X)) (k : K) (x : X) → lookup (eq k) es ≡ None → insert_entry eq es k x ≡ es ++ (k, x) ∷ []
 added_last eq es k x none = inserted_last eq es k x (not_placed (position (eq k) (keys_of es)) (placed_where_found (eq k) es ∙ ap is_some none))
+
+one_more : (n : ℕ) → 1 + n ≡ suc n
+one_more n = omega arith
+
+-- the value that was written over is written back
+pub value_given_back : {K X : Type 0} (eq : K → K → Bool) (es : List (K × X)) (k : K) (x before : X) → lookup (eq k) es ≡ Some before
+    → set_value_at (insert_entry eq es k x) (position_or_len (eq k) (keys_of es)) before ≡ es
+value_given_back eq [] k x before was = absurd (none-some before was)
+value_given_back eq (e ∷ es) k x before was = by (eq k e.0) (value_given_back eq es k x before) was
+  where
+    by : (b : Bool)
+        → (lookup (eq k) es ≡ Some before → set_value_at (insert_entry eq es k x) (position_or_len (eq k) (keys_of es)) before ≡ es)
+        → cond b (Some e.1) (lookup (eq k) es) ≡ Some before
+        → set_value_at (if b then (e.0, x) ∷ es else e ∷ insert_entry eq es k x) (if not b then 1 + position_or_len (eq k) (keys_of es) else 0) before ≡ e ∷ es
+    by true rest was = ap (λ v. (e.0, v) ∷ es) (sym (ap (λ v. unwrap_or v before) was))
+    by false rest was = ap (λ n. set_value_at (e ∷ insert_entry eq es k x) n before) (one_more (position_or_len (eq k) (keys_of es))) ∙ ap (λ es. e ∷ es) (rest was)
+
+-- and without the row that was added behind the others they are as before
+pub row_taken_back : {K X : Type 0} (eq : K → K → Bool) (es : List (K × X)) (k : K) (x : X) → lookup (eq k) es ≡ None → front (insert_entry eq es k x) ≡ es
+row_taken_back eq es k x none = ap front (added_last eq es k x none) ∙ front_of_push es (k, x)
 
 -- a row that is there keeps its place, and one that isn't is one more
 pub inserted_length : {K X : Type 0} (eq : K → K → Bool) (es : List (K × X)) (k : K) (x : X) → length (insert_entry eq es k x) ≤ length es + 1

@@ -167,16 +167,16 @@ impl State {
     }
 
     /// An act is done now: its moment is the tick.
-    pub fn add_act(&mut self, subject: Name, action: Name, object: Name) -> Result<(), NoMemory>
-        requires { IsSome (moment_in (shown self.old).tables subject action object) ⊎ (length (shown self.old).tables.acts < 1048576) }
-        ensures ok { OnOk result (shown self.new ≡ changed_by (shown self.old) (actions.act subject action object)) }
+    pub fn add_act(&mut self, subject: &Name, action: &Name, object: &Name) -> Result<(), NoMemory>
+        requires { IsSome (moment_in (shown self.old).tables subject.now action.now object.now) ⊎ (length (shown self.old).tables.acts < 1048576) }
+        ensures ok { OnOk result (shown self.new ≡ changed_by (shown self.old) (actions.act subject.now action.now object.now)) }
         ensures err { OnErr result (shown self.new ≡ shown self.old) }
     {
         self.changes.reserve(1)?;
         let change = self.tables.set_act(Act {
-            subject,
-            action,
-            object,
+            subject: *subject,
+            action: *action,
+            object: *object,
         })?;
         self.changes.push_reserved(Undo::Changed(change));
         Ok(())

@@ -181,22 +181,16 @@ impl Tables {
     }
 
     /// An act is done now.
-    #[tactic(auto, using(crate::proofs::Lists::row_written_back, crate::proofs::Lists::inserted_at, crate::proofs::Lists::inserted_last, crate::proofs::Lists::front_of_push))]
+    #[tactic(auto, using(crate::proofs::Lists::row_taken_back))]
     pub fn set_act(&mut self, act: Act) -> Result<Change, NoMemory>
         ensures ok { OnOk result (lists_of self.new ≡ with_act (lists_of self.old) act) }
         ensures undone { IfOk result (λ c. undone c (lists_of self.new) ≡ lists_of self.old) }
         ensures err { OnErr result (lists_of self.new ≡ lists_of self.old) }
     {
-        let now = self.tick;
-        match self.acts.get_index_of(&act) {
-            Some(place) => {
-                let before = mem::replace(&mut self.acts[place], now);
-                Ok(Change::Moment(place, before))
-            }
-            None => {
-                self.acts.insert(act, now)?;
-                Ok(Change::Act)
-            }
+        let (place, before) = self.acts.insert_full(act, self.tick)?;
+        match before {
+            Some(before) => Ok(Change::Moment(place, before)),
+            None => Ok(Change::Act),
         }
     }
 

@@ -16,7 +16,7 @@ invariant_of-self-2 c =
     let t = lists_of c.args.self.now.tables in
     let added = c.push_reserved.ensures.items ∙ ap (λ cs. cs ++ Changed c.in_ok-change.change ∷ []) c.reserve.ensures.items in
     let before = sound_now P R c.args.self.now.changes.items t c.args.self.now.sound in
-    let now = act_sound P t before (record { subject = c.args.subject; action = c.args.action; object = c.args.object }) c.requires in
+    let now = act_sound P t before (record { subject = c.args.subject.now; action = c.args.action.now; object = c.args.object.now }) c.requires in
     let numbered = numbered_now P R c.args.self.now.changes.items t c.args.self.now.sound in
     record { sound = noted_sound P R _ _ c.in_ok-change.change t _ added c.in_ok-change.ensures.undone c.args.self.now.sound (subst (IsKept P R) (sym c.in_ok-change.ensures.ok) (now, numbered)); has_rights = c.args.self.now.has_rights; in_order = c.args.self.now.in_order }
 

@@ -1,15 +1,19 @@
-use Rattle.std.proofs.Common.{◌∙◌, sym, ap, position}
-use Rattle.std.specs.Map.{keys_of}
+use Rattle.std.proofs.Common.{◌∙◌, ◌&&◌, Bool, sym, ap}
+use Rattle.std.specs.Str.{bytes_eq}
+use Rattle.ucon_state.specs.declared.act.Act.{Act}
 use Rattle.indexmap.specs.Layout.{set_value_at}
-use Rattle.ucon_state.specs.Tables.{same_act}
+use Rattle.indexmap.specs.IndexMap.{insert_entry}
 use Rattle.ucon_state.specs.Views.{lists_of}
-use Rattle.ucon_state.proofs.Acts.{same_test}
-use Rattle.ucon_state.proofs.Lists.{inserted_at}
+use Rattle.ucon_state.proofs.Lists.{value_given_back}
 use Rattle.ucon_state.proofs.tables.Tables.set_act.Goals as goal
 
-pub returns-in-Some-clause-ok : goal.returns-in-Some-clause-ok
-returns-in-Some-clause-ok c =
+pub returns-in-Some-clause-undone : goal.returns-in-Some-clause-undone
+returns-in-Some-clause-undone c =
     let t = lists_of c.args.self.now in
-    let there = ap (λ test. position test (keys_of t.acts)) (same_test c.args.act) ∙ sym c.get_index_of.ensures.index ∙ c.in-Some.is in
-    ap (λ now. record t { acts = set_value_at t.acts c.in-Some.place now }) c.replace-before.ensures.after
-    ∙ ap (λ acts. record t { acts = acts }) (sym (inserted_at (same_act) t.acts c.args.act t.tick c.in-Some.place there))
+    let before = c.in-Some.before in
+    let eq : Act → Act → Bool = λ a b. bytes_eq a.subject b.subject && (bytes_eq a.action b.action && bytes_eq a.object b.object) in
+    let written = insert_entry eq t.acts c.args.act t.tick in
+    ap (λ acts. record t { acts = acts })
+    (ap (λ es. set_value_at es c.in_ok-place.place before) c.in_ok-place.ensures.entries
+    ∙ ap (λ i. set_value_at written i before) c.in_ok-place.ensures.index
+    ∙ value_given_back eq t.acts c.args.act t.tick before (sym c.in_ok-place.ensures.old ∙ c.in-Some.is))
