@@ -6,7 +6,7 @@ use Rattle.std.proofs.lemmas.Bool.{ltb-false}
 use Rattle.std.proofs.lemmas.Bool.Decides.{Decides-eqb}
 use Rattle.std.proofs.lemmas.Slice.Eq.{starts_is}
 use Rattle.ucon_command.specs.Cuts.{IsSecond}
-use Rattle.ucon_model.specs.CommandLine.{Word, placed, words_of, words_read, command_read, line_read, line_too_long, most_bytes}
+use Rattle.ucon_model.specs.CommandLine.{Word, placed, words_of, words_read, set_words, command_read, line_read, line_too_long, most_bytes}
 use Rattle.ucon_model.specs.Plain.{Bytes}
 use Rattle.ucon_reply.specs.Joined.{split, split_first}
 use Rattle.ucon_reply.specs.Words.{words_at}
@@ -73,5 +73,6 @@ module _ (line : Bytes) where
   pub set_short : starts_with nat_eq line (codes "set ") ≡ true → nat_lt (most_bytes line) (length line) ≡ false → length line ≤ 8192
   set_short = short 115 101 116 (refl, refl, refl) (λ rest. refl) line
 
-  pub set_read : starts_with nat_eq line (codes "set ") ≡ true → nat_lt (most_bytes line) (length line) ≡ false → line_read accepted line ≡ command_read accepted line (codes "set") (words_of line)
+  pub set_read : starts_with nat_eq line (codes "set ") ≡ true → nat_lt (most_bytes line) (length line) ≡ false → line_read accepted line ≡ set_words line (words_of line)
+  unfolding command_read
   set_read = read 115 101 116 (refl, refl, refl) (λ rest. refl) line

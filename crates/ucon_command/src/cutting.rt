@@ -9,10 +9,10 @@ ghost use Rattle.ucon_reply.specs.Words.{between};
 
 use crate::amendment::amendment_in;
 use crate::cuts::Cuts;
-use crate::kinds::digits_in;
 use std::alloc::Global;
 use ucon_base::{Int, Name, NoMemory, Side, Value, ValueFault};
 use ucon_model::{Amend, Command};
+use ucon_reply::digits_in;
 
 /// Writes the command that these cuts of a line give over another one. A command is large, and isn't moved so.
 #[inline(always)]

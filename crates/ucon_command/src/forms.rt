@@ -1,13 +1,13 @@
 //! What the words of a line say, by its form.
 
-ghost use Rattle.std.specs.Prelude.{◌≡◌, ◌≤◌, ◌<◌, [], ◌∷◌, length, drop, None, IfErr, IfNone, IfOk, IfSome, IsOk, IsTrue, Ok, MatchOption, MatchResult};
+ghost use Rattle.std.specs.Prelude.{◌≡◌, ◌≤◌, length, drop, None, IfErr, IfOk, IsOk, IsTrue, Ok, MatchResult};
 ghost use Rattle.std.specs.Result.{result_ok};
 ghost use Rattle.ucon_base.specs.NameBytes.{is_name};
 ghost use Rattle.ucon_model.specs.CommandLine.{name_in, integer_in, number_in, one_word, three_names, place_of, value_words, set_words, env_words, amend_words, words_of};
 ghost use Rattle.ucon_syntax.specs.Policies.{accepted};
 ghost use Rattle.ucon_command.specs.Cuts.{AreCuts, GivesCuts, IsSecond, ends_in_name, has_name};
 ghost use Rattle.ucon_command.specs.Faults.{GivesTold, IsRefusal, IsTold};
-ghost use Rattle.ucon_reply.specs.Words.{between, word_of, words_at, words_from};
+ghost use Rattle.ucon_reply.specs.Words.{between, word_of};
 
 use crate::cuts::Cuts;
 use crate::kinds::{
@@ -16,114 +16,9 @@ use crate::kinds::{
 use crate::line_fault::LineFault;
 use std::alloc::Global;
 use ucon_base::Side;
-use ucon_reply::{Word, last_word, name_then, next_word, word_between, word_count};
-
-/// Where a line's second word begins, if it has no third.
-fn one_word(line: &[u8], second: Option<usize>) -> Option<usize>
-    requires { IfSome second (λ at. at ≤ length line.now) }
-    ensures { MatchOption result (length (words_from second line.now) ≡ 1 → ⊥)
-        (λ a. (a ≤ length line.now) × (words_from second line.now ≡ record { at = a; text = drop a line.now } ∷ [])) }
-{
-    let a = second?;
-    match next_word(line, a) {
-        None => Some(a),
-        Some(_) => None,
-    }
-}
-
-/// Where the three words behind a line's first begin, if there are no more, and whether each is a name.
-#[inline(always)]
-fn three_words(line: &[u8], second: Option<usize>) -> Option<ThreeWords>
-    requires { IfSome second (λ at. at ≤ length line.now) }
-    ensures none { IfNone result (length (words_from second line.now) ≡ 3 → ⊥) }
-    ensures words { IfSome result (λ w. words_from second line.now
-        ≡ record { at = w.a; text = between w.a w.b line.now } ∷ record { at = w.b; text = between w.b w.c line.now }
-        ∷ record { at = w.c; text = drop w.c line.now } ∷ []) }
-    ensures a_named { IfSome result (λ w. w.a_named ≡ is_name (between w.a w.b line.now)) }
-    ensures b_named { IfSome result (λ w. w.b_named ≡ is_name (between w.b w.c line.now)) }
-    ensures c_named { IfSome result (λ w. w.c_named ≡ is_name (drop w.c line.now)) }
-    ensures within { IfSome result (λ w. (w.a < w.b) × (w.b < w.c) × (w.c ≤ length line.now)) }
-{
-    let a = second?;
-    let (b, a_named) = name_then(line, a);
-    let b = b?;
-    let (c, b_named) = name_then(line, b);
-    let c = c?;
-    match name_then(line, c) {
-        (None, c_named) => Some(ThreeWords {
-            a,
-            a_named,
-            b,
-            b_named,
-            c,
-            c_named,
-        }),
-        (Some(_), _) => None,
-    }
-}
-
-/// Where three words begin, and whether each is a name.
-#[derive(Clone, Copy)]
-struct ThreeWords {
-    a: usize,
-    a_named: bool,
-    b: usize,
-    b_named: bool,
-    c: usize,
-    c_named: bool,
-}
-
-/// Where a variable's name and its value begin, which takes the rest of the line.
-fn env_places(line: &[u8], second: Option<usize>) -> Option<(usize, usize)>
-    requires { IfSome second (λ at. at ≤ length line.now) }
-    ensures none { IfNone result (length (words_from second line.now) < 2) }
-    ensures words { IfSome result (λ p. words_from second line.now ≡ record { at = p.0; text = between p.0 p.1 line.now } ∷ words_at p.1 line.now) }
-    ensures within { IfSome result (λ p. (p.0 < p.1) × (p.1 ≤ length line.now) × (0 < length (words_at p.1 line.now))) }
-{
-    let a = second?;
-    let b = next_word(line, a)?;
-    Some((a, b))
-}
-
-/// Where a side, an entity's name, an attribute's and its value begin, which takes the rest of the line, and whether the two are names.
-#[inline(always)]
-fn set_places(line: &[u8], second: Option<usize>) -> Option<SetPlaces>
-    requires { IfSome second (λ at. at ≤ length line.now) }
-    ensures none { IfNone result (length (words_from second line.now) < 4) }
-    ensures words { IfSome result (λ p. words_from second line.now
-        ≡ record { at = p.side; text = between p.side p.name line.now } ∷ record { at = p.name; text = between p.name p.attr line.now }
-        ∷ record { at = p.attr; text = between p.attr p.value line.now } ∷ words_at p.value line.now) }
-    ensures named { IfSome result (λ p. p.named ≡ is_name (between p.name p.attr line.now)) }
-    ensures attr_named { IfSome result (λ p. p.attr_named ≡ is_name (between p.attr p.value line.now)) }
-    ensures within { IfSome result (λ p. (p.side < p.name) × (p.name < p.attr) × (p.attr < p.value) × (p.value ≤ length line.now)
-        × (0 < length (words_at p.value line.now))) }
-{
-    let side = second?;
-    let name = next_word(line, side)?;
-    let (attr, named) = name_then(line, name);
-    let attr = attr?;
-    let (value, attr_named) = name_then(line, attr);
-    let value = value?;
-    Some(SetPlaces {
-        side,
-        name,
-        named,
-        attr,
-        attr_named,
-        value,
-    })
-}
-
-/// Where the words of a `set` begin, and whether those that are to be names are some.
-#[derive(Clone, Copy)]
-struct SetPlaces {
-    side: usize,
-    name: usize,
-    named: bool,
-    attr: usize,
-    attr_named: bool,
-    value: usize,
-}
+use ucon_reply::{
+    Word, env_places, last_word, only_word, set_places, three_words, word_between, word_count,
+};
 
 /// `subject N` and `object N`: where the name begins.
 #[tactic(auto, unfolding(ucon_model::specs::CommandLine::one_word), using(crate::proofs::Placed::one_miscounted))]
@@ -133,7 +28,7 @@ pub fn one_name(line: &[u8], second: Option<usize>) -> Result<u16, LineFault>
     ensures { MatchResult result (λ n. (one_word name_in (words_of line.now) ≡ Ok (drop n line.now)) × IsTrue (ends_in_name n line.now))
         (IsTold (one_word name_in (words_of line.now))) }
 {
-    let Some(name) = one_word(line, second) else {
+    let Some(name) = only_word(line, second) else {
         return Err(LineFault::WrongCount(word_count(line)));
     };
     name_word(&last_word(line, name))?;
@@ -150,7 +45,7 @@ pub fn one_integer(line: &[u8], second: Option<usize>) -> Result<u16, LineFault>
         × (result_ok (one_word integer_in (words_of line.now)) ≡ integer_in (drop t line.now)) × (t ≤ length line.now))
         (IsTold (one_word integer_in (words_of line.now))) }
 {
-    let Some(tick) = one_word(line, second) else {
+    let Some(tick) = only_word(line, second) else {
         return Err(LineFault::WrongCount(word_count(line)));
     };
     integer_word(&last_word(line, tick))?;
@@ -164,7 +59,7 @@ pub fn one_number(line: &[u8], second: Option<usize>) -> Result<u32, LineFault>
     requires second { IsSecond second line.now }
     ensures { GivesTold result (one_word number_in (words_of line.now)) (λ n. n) }
 {
-    match one_word(line, second) {
+    match only_word(line, second) {
         Some(session) => number_word(&last_word(line, session)),
         None => Err(LineFault::WrongCount(word_count(line))),
     }

@@ -1,8 +1,8 @@
 //! Judges a line: by its form, where its words stand, or why it spells no command.
 
-ghost use Rattle.std.specs.Prelude.{◌≡◌, ◌<◌, ◌≤◌, ◌-◌, ◌++◌, length, nat_lt, codes, Ok, Err, IfErr, IfSome, IsFalse, IsTrue, MatchResult};
+ghost use Rattle.std.specs.Prelude.{◌≡◌, ◌<◌, ◌≤◌, ◌^◌, length, nat_lt, codes, Err, IfErr, IfSome, IsFalse, MatchResult, Some};
 ghost use Rattle.std.specs.Str.{bytes_eq};
-ghost use Rattle.ucon_model.specs.CommandLine.{command_read, line_read, most_bytes, words_of};
+ghost use Rattle.ucon_model.specs.CommandLine.{command_read, line_read, most_bytes, number_in, words_of};
 ghost use Rattle.ucon_syntax.specs.Policies.{accepted};
 ghost use Rattle.ucon_command.specs.Cuts.{AreCuts, GivesCuts, IsSecond};
 ghost use Rattle.ucon_command.specs.Faults.{IsRefusal, IsSure, amends};
@@ -37,7 +37,7 @@ pub fn cuts_of(alloc: Global, line: &[u8]) -> Result<Cuts, LineFault>
         return act_cuts(line, Some(4));
     }
     if line.starts_with(b"set ") {
-        return set_cuts(alloc, line, Some(4));
+        return set_words(alloc, line, Some(4));
     }
     match plain_cuts(line) {
         Some(cuts) => Ok(cuts),
@@ -53,68 +53,30 @@ fn plain_cuts(line: &[u8]) -> Option<Cuts>
 {
     commands_are_read_back();
     words_are_read_back();
-    if let Some(number) = behind_beat(line) {
-        let n = number_in(number)?;
-        number_in_form(n);
-        return Some(Cuts::Beat(n));
+    if line.starts_with(b"beat ") {
+        return Some(Cuts::Beat(session_in(&line[5..])?));
     }
-    if let Some(number) = behind_again(line) {
-        let n = number_in(number)?;
-        number_in_form(n);
-        return Some(Cuts::Again(n));
+    if line.starts_with(b"again ") {
+        return Some(Cuts::Again(session_in(&line[6..])?));
     }
-    if let Some(number) = behind_end(line) {
-        let n = number_in(number)?;
-        number_in_form(n);
-        return Some(Cuts::End(n));
+    if line.starts_with(b"end ") {
+        return Some(Cuts::End(session_in(&line[4..])?));
     }
-    let t = Int::read(behind_tick(line)?)?;
-    integer_in_form(t);
-    Some(Cuts::Tick { tick: 5 })
+    if line.starts_with(b"tick ") {
+        integer_in_form(Int::read(&line[5..])?);
+        return Some(Cuts::Tick { tick: 5 });
+    }
+    None
 }
 
-/// What stands behind `beat` and a space.
+/// The session's number that the bytes spell, which is below 2^32.
 #[inline(always)]
-fn behind_beat(line: &[u8]) -> Option<&[u8]>
-    ensures { IfSome result (λ rest. line.now ≡ codes "beat " ++ rest.now) }
+fn session_in(bytes: &[u8]) -> Option<u32>
+    ensures { IfSome result (λ n. (number_in bytes.now ≡ Some n) × (n < 2 ^ 32)) }
 {
-    match line {
-        [b'b', b'e', b'a', b't', b' ', rest @ ..] => Some(rest),
-        _ => None,
-    }
-}
-
-/// What stands behind `again` and a space.
-#[inline(always)]
-fn behind_again(line: &[u8]) -> Option<&[u8]>
-    ensures { IfSome result (λ rest. line.now ≡ codes "again " ++ rest.now) }
-{
-    match line {
-        [b'a', b'g', b'a', b'i', b'n', b' ', rest @ ..] => Some(rest),
-        _ => None,
-    }
-}
-
-/// What stands behind `end` and a space.
-#[inline(always)]
-fn behind_end(line: &[u8]) -> Option<&[u8]>
-    ensures { IfSome result (λ rest. line.now ≡ codes "end " ++ rest.now) }
-{
-    match line {
-        [b'e', b'n', b'd', b' ', rest @ ..] => Some(rest),
-        _ => None,
-    }
-}
-
-/// What stands behind `tick` and a space.
-#[inline(always)]
-fn behind_tick(line: &[u8]) -> Option<&[u8]>
-    ensures { IfSome result (λ rest. line.now ≡ codes "tick " ++ rest.now) }
-{
-    match line {
-        [b't', b'i', b'c', b'k', b' ', rest @ ..] => Some(rest),
-        _ => None,
-    }
+    let n = number_in(bytes)?;
+    number_in_form(n);
+    Some(n)
 }
 
 /// `try`: most lines are of this form.
@@ -145,16 +107,6 @@ fn act_cuts(line: &[u8], second: Option<usize>) -> Result<Cuts, LineFault>
         action,
         object,
     })
-}
-
-/// `set`.
-#[tactic(auto, unfolding(ucon_model::specs::CommandLine::command_read))]
-fn set_cuts(alloc: Global, line: &[u8], second: Option<usize>) -> Result<Cuts, LineFault>
-    requires short { length line.now ≤ 8192 }
-    requires second { IsSecond second line.now }
-    ensures { GivesCuts result line.now (command_read accepted line.now (codes "set") (words_of line.now)) }
-{
-    set_words(alloc, line, second)
 }
 
 /// The form of a line that isn't too long.

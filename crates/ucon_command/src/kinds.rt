@@ -1,6 +1,6 @@
 //! What a word of a command says, by its kind.
 
-ghost use Rattle.std.specs.Prelude.{◌≡◌, IfOk, IfSome, IsTrue, MatchResult, Some};
+ghost use Rattle.std.specs.Prelude.{◌≡◌, IfOk, IsTrue, MatchResult};
 ghost use Rattle.ucon_base.specs.NameBytes.{is_name};
 ghost use Rattle.ucon_model.specs.CommandLine.{side_in, name_in, value_in, integer_in, number_in, amendment_in, said};
 ghost use Rattle.ucon_syntax.specs.Policies.{accepted};
@@ -12,19 +12,7 @@ use crate::line_fault::LineFault;
 use std::alloc::Global;
 use ucon_base::{Int, Side, Value};
 use ucon_model::Amend;
-use ucon_reply::{Word, is_name, number_in, value_in};
-
-fn side_in(bytes: &[u8]) -> Option<Side>
-    ensures { result ≡ side_in bytes.now }
-{
-    if bytes == b"s".as_slice() {
-        Some(Side::Subject)
-    } else if bytes == b"o".as_slice() {
-        Some(Side::Object)
-    } else {
-        None
-    }
-}
+use ucon_reply::{Word, digits_in, is_name, number_in, side_in, value_in};
 
 /// The side that a word names.
 pub fn side_word(w: &Word<'_>) -> Result<Side, LineFault>
@@ -51,18 +39,6 @@ pub fn seen_name(w: &Word<'_>, seen: bool) -> Result<(), LineFault>
         Ok(())
     } else {
         Err(LineFault::BadWord(w.at))
-    }
-}
-
-/// The integer that the bytes spell, if a digit begins them. None says nothing of the bytes.
-#[inline(always)]
-#[tactic(auto, using(crate::proofs::Plain::integer_value))]
-pub fn digits_in(bytes: &[u8]) -> Option<Int>
-    ensures { IfSome result (λ n. value_in bytes.now ≡ Some (Value.Int n)) }
-{
-    match bytes {
-        [b'0'..=b'9', ..] => Int::read(bytes),
-        _ => None,
     }
 }
 

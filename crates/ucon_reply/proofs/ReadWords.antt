@@ -45,6 +45,10 @@ integer_from (Some (values.Int n)) z h = ap (λ x. Some (values.Int (unwrap_or x
 integer_from (Some (values.Text t)) z h = absurd (nothing h)
 integer_from (Some (values.Set ts)) z h = absurd (nothing h)
 
+-- where an integer is read the value is that
+pub integer_value : (bytes : Bytes) (n : ℤ) → integer_in bytes ≡ Some n → value_in bytes ≡ Some (values.Int n)
+integer_value bytes n said = integer_from (value_in bytes) n said
+
 number_from : (o : Option ℤ) (n : ℕ) → option_and_then number_of o ≡ Some n → o ≡ Some (pos n)
 number_from None n h = absurd (nothing h)
 number_from (Some (pos m)) n h = ap (λ x. Some (pos x)) (kept (nat_lt m (2 ^ 32)) m n h)

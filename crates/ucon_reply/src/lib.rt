@@ -5,15 +5,17 @@ mod in_form;
 mod kinds;
 mod laws;
 mod line_words;
+mod placing;
 mod reading;
 mod replies;
 mod reply_fault;
 mod spelling;
 
 pub use in_form::{integer_in_form, name_in_form, number_in_form, reply_in_form, value_in_form};
-pub use kinds::{is_name, name_in, number_in, value_in};
+pub use kinds::{digits_in, is_name, name_in, number_in, side_in, value_in};
 pub use laws::{replies_are_read_back, values_fit_lines, words_are_read_back};
 pub use line_words::{Word, last_word, name_then, next_word, word_between, word_count, words};
+pub use placing::{SetPlaces, ThreeWords, env_places, only_word, set_places, three_words};
 pub use reading::read_reply;
 pub use replies::{put_reply, put_spelling, reply_text};
 pub use reply_fault::ReplyFault;

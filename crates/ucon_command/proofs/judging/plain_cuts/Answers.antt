@@ -1,23 +1,25 @@
-use Rattle.std.proofs.Common.{sym}
+use Rattle.std.proofs.Common.{sym, ap, ◌∙◌}
+use Rattle.std.proofs.lemmas.List.{take_rest}
+use Rattle.ucon_model.specs.CommandLine.{integer_in, number_in}
 use Rattle.ucon_command.proofs.Plain.{again, beat, end_, tick}
 use Rattle.ucon_command.proofs.judging.plain_cuts.Goals as goal
 
-pub returns-in-Some : goal.returns-in-Some
-returns-in-Some c =
-    beat c.commands_are_read_back.ensures.written c.words_are_read_back.ensures.numbers_read c.args.line.now c.in-Some.number.now c.in_ok-n.n
-    c.in-Some.ensures (sym c.in_ok-n.ensures) c.number_in_form.ensures
+pub returns-then-starts_with : goal.returns-then-starts_with
+returns-then-starts_with c =
+    beat c.commands_are_read_back.ensures.written c.words_are_read_back.ensures.numbers_read c.args.line.now c.in_ok-session_in.field-0
+    (sym c.starts_with.ensures.value ∙ c.if-starts_with.true) (ap number_in (sym (take_rest c.args.line.now 5)) ∙ c.in_ok-session_in.ensures.0) c.in_ok-session_in.ensures.1
 
-pub returns-in-Some-behind_again : goal.returns-in-Some-behind_again
-returns-in-Some-behind_again c =
-    again c.commands_are_read_back.ensures.written c.words_are_read_back.ensures.numbers_read c.args.line.now c.in-Some-behind_again.number.now c.in_ok-n-2.n
-    c.in-Some-behind_again.ensures (sym c.in_ok-n-2.ensures) c.number_in_form-in-Some-behind_again.ensures
+pub returns-then-starts_with-2 : goal.returns-then-starts_with-2
+returns-then-starts_with-2 c =
+    again c.commands_are_read_back.ensures.written c.words_are_read_back.ensures.numbers_read c.args.line.now c.in_ok-session_in-2.field-0
+    (sym c.starts_with-2.ensures.value ∙ c.if-starts_with-2.true) (ap number_in (sym (take_rest c.args.line.now 6)) ∙ c.in_ok-session_in-2.ensures.0) c.in_ok-session_in-2.ensures.1
 
-pub returns-in-Some-behind_end : goal.returns-in-Some-behind_end
-returns-in-Some-behind_end c =
-    end_ c.commands_are_read_back.ensures.written c.words_are_read_back.ensures.numbers_read c.args.line.now c.in-Some-behind_end.number.now c.in_ok-n-3.n
-    c.in-Some-behind_end.ensures (sym c.in_ok-n-3.ensures) c.number_in_form-in-Some-behind_end.ensures
+pub returns-then-starts_with-3 : goal.returns-then-starts_with-3
+returns-then-starts_with-3 c =
+    end_ c.commands_are_read_back.ensures.written c.words_are_read_back.ensures.numbers_read c.args.line.now c.in_ok-session_in-3.field-0
+    (sym c.starts_with-3.ensures.value ∙ c.if-starts_with-3.true) (ap number_in (sym (take_rest c.args.line.now 4)) ∙ c.in_ok-session_in-3.ensures.0) c.in_ok-session_in-3.ensures.1
 
-pub returns : goal.returns
-returns c =
-    tick c.commands_are_read_back.ensures.written c.words_are_read_back.ensures.integers_read c.args.line.now _ c.in_ok-t.t
-    c.in_ok-behind_tick.ensures (sym c.in_ok-t.ensures.value) c.integer_in_form.ensures
+pub returns-then-starts_with-4 : goal.returns-then-starts_with-4
+returns-then-starts_with-4 c =
+    tick c.commands_are_read_back.ensures.written c.words_are_read_back.ensures.integers_read c.args.line.now c.in_ok-read.field-0
+    (sym c.starts_with-4.ensures.value ∙ c.if-starts_with-4.true) (ap integer_in (sym (take_rest c.args.line.now 5)) ∙ sym c.in_ok-read.ensures.value) c.integer_in_form.ensures
