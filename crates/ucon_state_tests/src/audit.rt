@@ -34,52 +34,76 @@ fn the_digest_is_the_standards(rt: HostRuntime) -> Result<(), Fail> {
     Ok(())
 }
 
+const PAYLOADS: &[&[u8]] = &[b"right r {}\n", b"0 subject a\nok"];
+
+/// The first so many of the payloads.
+fn front(alloc: Global, count: usize) -> Result<Vec<Rows<u8>>, Fail> {
+    let mut payloads = Vec::new(alloc);
+    for payload in PAYLOADS.iter().take(count) {
+        payloads.push(rows(alloc, *payload)?)?;
+    }
+    Ok(payloads)
+}
+
+/// How many records there are, and the text of the head after them.
+const HEADS: &[(usize, &[u8])] = &[
+    (
+        0,
+        b"663036308aa65cf86873b0e5df3e462335cc43ee6157575411030542e2ecfb52",
+    ),
+    (
+        1,
+        b"5ab67da621ecb0946395d494638e9658d0b526586b49f271a23fb3d530f089ad",
+    ),
+    (
+        2,
+        b"2f2ade13745aed79bf0433cc068791a267842ecd9a84a6cd1972c62f45adcebd",
+    ),
+];
+
+/// Whether both payloads extend what is kept, and none of another first word or with more records than there are.
+fn is_extended(alloc: Global, records: u64, head: [u8; 32]) -> Result<bool, Fail> {
+    let payloads = front(alloc, 2)?;
+    let kept = Kept { records, head };
+    let later = Kept { records: 3, head };
+    Ok(
+        extends(&kept, b"UCONJR02", &payloads)
+            && !extends(&kept, b"UCONJR01", &payloads)
+            && !extends(&later, b"UCONJR02", &payloads),
+    )
+}
+
+/// Whether this is the text of the head after the first so many payloads, and reads as that head.
+fn is_head(head: [u8; 32], text: &[u8]) -> bool {
+    head_text(&head).as_slice() == text && read_head(text) == Some(head)
+}
+
 /// Python's hashlib: h = sha256(b"UCONJR02"); then h = sha256(h + p), digest by digest, for p of b"right r {}\n", b"0 subject a\nok".
 #[test]
 fn the_head_of_a_small_journal(rt: HostRuntime) -> Result<(), Fail> {
-    let alloc = rt.alloc();
-    let mut payloads = Vec::new(alloc);
-    payloads.push(rows(alloc, b"right r {}\n")?)?;
-    payloads.push(rows(alloc, b"0 subject a\nok")?)?;
-    let wanted: [(usize, &[u8]); 3] = [
-        (
-            0,
-            b"663036308aa65cf86873b0e5df3e462335cc43ee6157575411030542e2ecfb52",
-        ),
-        (
-            1,
-            b"5ab67da621ecb0946395d494638e9658d0b526586b49f271a23fb3d530f089ad",
-        ),
-        (
-            2,
-            b"2f2ade13745aed79bf0433cc068791a267842ecd9a84a6cd1972c62f45adcebd",
-        ),
-    ];
-    for (records, text) in wanted {
-        let head = head_after(b"UCONJR02", &payloads[..records.min(payloads.len())]);
-        assert!(rt; head_text(&head).as_slice() == text);
-        assert!(rt; read_head(text) == Some(head));
-        let kept = Kept {
-            records: records as u64,
-            head,
-        };
-        assert!(rt; extends(&kept, b"UCONJR02", &payloads));
-        assert!(rt; !extends(&kept, b"UCONJR01", &payloads));
-        let later = Kept { records: 3, head };
-        assert!(rt; !extends(&later, b"UCONJR02", &payloads));
+    for &(records, text) in HEADS {
+        let head = head_after(b"UCONJR02", &front(rt.alloc(), records)?);
+        assert!(rt; is_head(head, text));
+        assert!(rt; is_extended(rt.alloc(), records as u64, head)?);
     }
     Ok(())
 }
 
+/// Bytes that are no head's text.
+const NO_HEADS: &[&[u8]] = &[
+    &[b'A'; 64],
+    &[b'g'; 64],
+    &[b'a'; 63],
+    &[b'a'; 62],
+    &[b'a'; 66],
+];
+
 #[test]
 fn a_head_has_one_text(rt: HostRuntime) -> Result<(), Fail> {
-    let lower = [b'a'; 64];
-    assert!(rt; read_head(&lower) == Some([0xaa; 32]));
-    assert!(rt; read_head(&[b'A'; 64]).is_none());
-    assert!(rt; read_head(&[b'g'; 64]).is_none());
-    assert!(rt; read_head(&lower[..63]).is_none());
-    assert!(rt; read_head(&lower[..62]).is_none());
-    assert!(rt; read_head(&[b'a'; 66]).is_none());
+    assert!(rt; read_head(&[b'a'; 64]) == Some([0xaa; 32]));
+    for &bytes in NO_HEADS {
+        assert!(rt; read_head(bytes).is_none(), "{bytes:?}");
+    }
     Ok(())
 }
 
@@ -89,7 +113,7 @@ right play { pre a funds: s.credit >= 5; pre b terms: done accept; }
 ";
 
 /// A song and ten subjects, of which those with an even number accept the terms.
-const MADE: [&[u8]; 16] = [
+const MADE: &[&[u8]] = &[
     b"object song",
     b"subject s0",
     b"act s0 accept song",
@@ -109,7 +133,7 @@ const MADE: [&[u8]; 16] = [
 ];
 
 /// Each subject tries the song.
-const TRIES: [&[u8]; 10] = [
+const TRIES: &[&[u8]] = &[
     b"try s0 play song",
     b"try s1 play song",
     b"try s2 play song",
@@ -123,18 +147,18 @@ const TRIES: [&[u8]; 10] = [
 ];
 
 /// Two subjects are left with a credit of 1.
-const SPENT: [&[u8]; 2] = [b"set s s0 credit 1", b"set s s5 credit 1"];
+const SPENT: &[&[u8]] = &[b"set s s0 credit 1", b"set s s5 credit 1"];
 
 /// The subjects try the song in turn, so many times each. Then the credit of two is spent.
 fn played(alloc: Global, times: u32) -> Result<State, Fail>
     ensures { IfOk result (λ s. IsFollowing (shown s)) }
 {
     let mut state = opening(alloc, PLAYING)?;
-    steps(alloc, &mut state, &MADE)?;
+    steps(alloc, &mut state, MADE)?;
     'turns: for _ in 0..times {
-        steps(alloc, &mut state, &TRIES)?;
+        steps(alloc, &mut state, TRIES)?;
     }
-    steps(alloc, &mut state, &SPENT)?;
+    steps(alloc, &mut state, SPENT)?;
     Ok(state)
 }
 

@@ -16,30 +16,50 @@ fn fault(alloc: Global, text: &[u8]) -> Result<Option<CheckFault>, Fail> {
     Ok(check(read_policy(alloc, text)?).err())
 }
 
-#[test]
-fn first_faults_are_told(rt: HostRuntime) -> Result<(), Fail> {
-    let (users, most, right) = (
-        Name::read(b"users")?,
-        Name::read(b"most")?,
-        Name::read(b"use")?,
-    );
-    let cases: [(&[u8], CheckFault); 3] = [
-        (
-            b"attr o users : int 0..9 = 0; attr o users : int 0..9 = 3; right use { on a cap: o.users <= o.most; }",
-            CheckFault::Twice(users, 2),
-        ),
-        (
-            b"attr o users : int 0..9 = 0; attr o use : int 0..9 = 3; right use { on a cap: o.users <= o.most; }",
-            CheckFault::NoName(most, 4),
-        ),
-        (
-            b"attr o users : int 0..9 = 0; attr o most : int 0..9 = 3; \
+/// Policies, the name in the first fault of each, whether it stands twice or isn't declared, and its place.
+const FAULTS: &[(&[u8], &[u8], Named, u32)] = &[
+    (
+        b"attr o users : int 0..9 = 0; attr o users : int 0..9 = 3; right use { on a cap: o.users <= o.most; }",
+        b"users",
+        Named::Twice,
+        2,
+    ),
+    (
+        b"attr o users : int 0..9 = 0; attr o use : int 0..9 = 3; right use { on a cap: o.users <= o.most; }",
+        b"most",
+        Named::Nowhere,
+        4,
+    ),
+    (
+        b"attr o users : int 0..9 = 0; attr o most : int 0..9 = 3; \
 right use { on a cap: o.users <= o.most; before o.users = o.users + 1; after_end o.users = o.users + 1; after_revoke o.users = o.users + 1; } \
 right use {}",
-            CheckFault::Twice(right, 8),
-        ),
-    ];
-    for (text, expected) in cases {
+        b"use",
+        Named::Twice,
+        8,
+    ),
+];
+
+/// How often a name is declared that makes a fault.
+#[derive(Clone, Copy)]
+enum Named {
+    Twice,
+    Nowhere,
+}
+
+/// The fault of a name at its place.
+fn fault_of(name: &[u8], named: Named, item: u32) -> Result<CheckFault, Fail> {
+    let name = Name::read(name)?;
+    Ok(match named {
+        Named::Twice => CheckFault::Twice(name, item),
+        Named::Nowhere => CheckFault::NoName(name, item),
+    })
+}
+
+#[test]
+fn first_faults_are_told(rt: HostRuntime) -> Result<(), Fail> {
+    for &(text, name, named, item) in FAULTS {
+        let expected = fault_of(name, named, item)?;
         assert!(rt; fault(rt.alloc(), text)? == Some(expected));
     }
     Ok(())
@@ -60,33 +80,37 @@ right use {
 }
 ";
 
-/// The names of the core models of a policy's first right.
-fn names_of_cores(alloc: Global, checked: &Checked) -> Result<Vec<Vec<u8>>, Fail>
+/// Whether these are the names of the core models of a policy's first right.
+fn are_cores(alloc: Global, checked: &Checked, wanted: &[&[u8]]) -> Result<bool, Fail>
     requires { 0 < length (checked_policy checked.now).rights }
 {
-    let mut names = Vec::new(alloc);
-    for core in core_models(alloc, checked, 0)?.slice() {
-        names.push(core_name(alloc, *core)?)?;
+    let cores = core_models(alloc, checked, 0)?;
+    let mut names = wanted.iter();
+    let mut are_same = cores.len() == wanted.len();
+    for core in cores.slice() {
+        let name = core_name(alloc, *core)?;
+        are_same = are_same && names.next() == Some(&name.as_slice());
     }
-    Ok(names)
+    Ok(are_same)
 }
 
-#[test]
-fn three_users_at_most(rt: HostRuntime) -> Result<(), Fail> {
-    let alloc = rt.alloc();
-    let checked = accepted(alloc, CAPPED)?;
-    assert!(rt; checked.policy().rights.len() == 1);
-    let names = names_of_cores(alloc, &checked)?;
-    let wanted: [&[u8]; 2] = [b"onA1", b"onA3"];
-    assert!(rt; names.len() == 2);
-    for (name, text) in names.iter().zip(wanted.iter()) {
-        assert!(rt; name.as_slice() == *text);
-    }
+/// Whether the first right reads the users of an object and the most of them.
+fn are_users_and_most_read(alloc: Global, checked: &Checked) -> Result<bool, Fail>
+    requires { 0 < length (checked_policy checked.now).rights }
+{
     let expected = [
         Ref::Object(Name::read(b"users")?),
         Ref::Object(Name::read(b"most")?),
     ];
-    assert!(rt; reads(alloc, &checked, 0)?.slice() == expected.as_slice());
+    Ok(reads(alloc, checked, 0)?.slice() == expected.as_slice())
+}
+
+#[test]
+fn three_users_at_most(rt: HostRuntime) -> Result<(), Fail> {
+    let checked = accepted(rt.alloc(), CAPPED)?;
+    assert!(rt; checked.policy().rights.len() == 1);
+    assert!(rt; are_cores(rt.alloc(), &checked, &[b"onA1", b"onA3"])?);
+    assert!(rt; are_users_and_most_read(rt.alloc(), &checked)?);
     Ok(())
 }
 
@@ -95,19 +119,29 @@ fn refusal(alloc: Global, old: &[u8], new: &[u8]) -> Result<Option<AmendFault>, 
     Ok(may_follow(&accepted(alloc, old)?, &accepted(alloc, new)?).err())
 }
 
+const KINDS: &[u8] = b"attr o a : int 0..9 = 0; env v : text = \"\";";
+
+/// Policies, and the name of which the kind is not the old one.
+const CHANGED: &[(&[u8], Option<&[u8]>)] = &[
+    (b"attr o a : int 0..9 = 0; env v : text = \"\";", None),
+    (b"attr o a : int 0..8 = 0; env v : text = \"\";", Some(b"a")),
+    (b"attr o a : int 0..9 = 0; env v : set = {};", Some(b"v")),
+    (b"attr o a : set = {}; env v : int 0..9 = 0;", Some(b"a")),
+];
+
+/// Why a policy of changed kind is refused.
+fn kind_changed(name: Option<&[u8]>) -> Result<Option<AmendFault>, Fail> {
+    match name {
+        Some(name) => Ok(Some(AmendFault::KindChanged(Name::read(name)?))),
+        None => Ok(None),
+    }
+}
+
 #[test]
 fn kinds_are_kept(rt: HostRuntime) -> Result<(), Fail> {
-    let old = b"attr o a : int 0..9 = 0; env v : text = \"\";";
-    let attr = Some(AmendFault::KindChanged(Name::read(b"a")?));
-    let env = Some(AmendFault::KindChanged(Name::read(b"v")?));
-    let cases: [(&[u8], Option<AmendFault>); 4] = [
-        (b"attr o a : int 0..9 = 0; env v : text = \"\";", None),
-        (b"attr o a : int 0..8 = 0; env v : text = \"\";", attr),
-        (b"attr o a : int 0..9 = 0; env v : set = {};", env),
-        (b"attr o a : set = {}; env v : int 0..9 = 0;", attr),
-    ];
-    for (new, expected) in cases {
-        assert!(rt; refusal(rt.alloc(), old, new)? == expected);
+    for &(new, name) in CHANGED {
+        let expected = kind_changed(name)?;
+        assert!(rt; refusal(rt.alloc(), KINDS, new)? == expected);
     }
     Ok(())
 }

@@ -1,5 +1,5 @@
 //! Explanations of worked rows: the state is made by lines, the text is the one that was worked out by hand.
-ghost use Rattle.std.specs.Prelude.{OnOk};
+ghost use Rattle.std.specs.Prelude.{IfOk, OnOk};
 ghost use Rattle.ucon_actions.specs.Leads.{IsFollowing};
 ghost use Rattle.ucon_state.specs.Shown.{shown};
 
@@ -13,24 +13,19 @@ use ucon_model::{Refusal, Verdict};
 use ucon_state::State;
 use ucon_told::Explanation;
 
-/// The explanation of a try by this subject on `x`.
-fn explained(
-    alloc: Global,
-    state: &State,
-    subject: &[u8],
-    right: &[u8],
-) -> Result<Result<Explanation, ExplainFault>, Fail>
+/// The explanation of a try by `a` on `x`.
+fn explained(alloc: Global, state: &State, right: &[u8]) -> Result<Explanation, Fail>
     requires { IsFollowing (shown state.now) }
 {
-    let (subject, right) = (Name::read(subject)?, Name::read(right)?);
-    Ok(explain(alloc, state, &subject, &right, &Name::read(b"x")?))
+    let (subject, object) = (Name::read(b"a")?, Name::read(b"x")?);
+    Ok(explain(alloc, state, &subject, &Name::read(right)?, &object)?)
 }
 
 /// The text of the explanation of a try by `a` on `x`, which the checker accepts.
 fn told(alloc: Global, state: &State, right: &[u8]) -> Result<Vec<u8>, Fail>
     requires { IsFollowing (shown state.now) }
 {
-    let e = explained(alloc, state, b"a", right)??;
+    let e = explained(alloc, state, right)?;
     accept(state, &e)?;
     Ok(explanation_text(alloc, &e)?)
 }
@@ -58,7 +53,7 @@ env hour : int 0..23 = 9;
 right buy { pre b sign: done sign_up; pre c late: env.hour >= 10; pre a adult: s.age >= 18; }
 ";
 
-const DENIED_BY_THE_HOUR: [Row; 1] = [(
+const DENIED_BY_THE_HOUR: &[Row] = &[(
     &[b"subject a", b"object x"],
     b"pre sign b false
   act a sign_up x never
@@ -87,39 +82,47 @@ fn turned(e: Explanation) -> Explanation {
     }
 }
 
-/// What the checker says of the explanation with another second truth.
-fn with_turned_truth(alloc: Global, state: &State) -> Result<Result<(), Wrong>, Fail>
+/// Whether the checker refuses the explanation with another second truth, at its line.
+fn is_line_refused(alloc: Global, state: &State) -> Result<bool, Fail>
     requires { IsFollowing (shown state.now) }
 {
-    let e = explained(alloc, state, b"a", b"buy")??;
-    Ok(accept(state, &turned(e)))
+    let e = turned(explained(alloc, state, b"buy")?);
+    Ok(matches!(accept(state, &e), Err(Wrong::Line(1))))
 }
 
-/// What the checker says of the explanation with the verdict to wait.
-fn with_waiting_verdict(alloc: Global, state: &State) -> Result<Result<(), Wrong>, Fail>
+/// Whether the checker refuses the explanation with the verdict to wait.
+fn is_verdict_refused(alloc: Global, state: &State) -> Result<bool, Fail>
     requires { IsFollowing (shown state.now) }
 {
-    let mut e = explained(alloc, state, b"a", b"buy")??;
+    let mut e = explained(alloc, state, b"buy")?;
     e.verdict = Verdict::Wait(Name::read(b"sign")?);
-    Ok(accept(state, &e))
+    Ok(matches!(accept(state, &e), Err(Wrong::Verdict)))
 }
 
 /// Whether a try by `b` is explained as refused, since there is no such subject.
 fn is_no_subject(alloc: Global, state: &State) -> Result<bool, Fail>
     requires { IsFollowing (shown state.now) }
 {
-    let refused = explained(alloc, state, b"b", b"buy")?;
+    let (subject, right, object) = (Name::read(b"b")?, Name::read(b"buy")?, Name::read(b"x")?);
+    let refused = explain(alloc, state, &subject, &right, &object);
     Ok(matches!(&refused, Err(ExplainFault::Refused(Refusal::NoSubject))))
+}
+
+/// A state in which each row's text was told after its lines.
+fn told_state(alloc: Global, policy: &[u8], right: &[u8], rows: &[Row]) -> Result<State, Fail>
+    ensures { IfOk result (λ s. IsFollowing (shown s)) }
+{
+    let mut state = opening(alloc, policy)?;
+    tell_each(alloc, &mut state, right, rows)?;
+    Ok(state)
 }
 
 #[test]
 fn a_purchase_is_denied_by_the_hour(rt: HostRuntime) -> Result<(), Fail> {
-    let alloc = rt.alloc();
-    let mut state = opening(alloc, PURCHASE)?;
-    tell_each(alloc, &mut state, b"buy", &DENIED_BY_THE_HOUR)?;
-    assert!(rt; is_no_subject(alloc, &state)?);
-    assert!(rt; matches!(with_turned_truth(alloc, &state)?, Err(Wrong::Line(1))));
-    assert!(rt; matches!(with_waiting_verdict(alloc, &state)?, Err(Wrong::Verdict)));
+    let state = told_state(rt.alloc(), PURCHASE, b"buy", DENIED_BY_THE_HOUR)?;
+    assert!(rt; is_no_subject(rt.alloc(), &state)?);
+    assert!(rt; is_line_refused(rt.alloc(), &state)?);
+    assert!(rt; is_verdict_refused(rt.alloc(), &state)?);
     Ok(())
 }
 
@@ -139,7 +142,7 @@ right lend {
 ";
 
 /// An act by and on others, and one that was never done, in time, and too late.
-const LENDING: [Row; 3] = [
+const LENDING: &[Row] = &[
     (
         &[
             b"subject a",
@@ -209,7 +212,6 @@ verdict wait soon
 /// All three kinds, over integers, texts and sets.
 #[test]
 fn each_kind_is_explained(rt: HostRuntime) -> Result<(), Fail> {
-    let alloc = rt.alloc();
-    let mut state = opening(alloc, LOAN)?;
-    tell_each(alloc, &mut state, b"lend", &LENDING)
+    told_state(rt.alloc(), LOAN, b"lend", LENDING)?;
+    Ok(())
 }

@@ -18,8 +18,8 @@ fn place(alloc: Global, bytes: &[u8]) -> Result<Option<usize>, Fail> {
 
 const SMALL: &[u8] = b"point 1\npolicy 11\nright r {}\n\ntick 0\nsubject a\n";
 
-/// Lines that are no point's, at their places.
-const LINES: &[(&[u8], Option<usize>)] = &[
+/// Points, and where the others are refused: lines that are no point's, and rows that can't be put.
+const PLACES: &[(&[u8], Option<usize>)] = &[
     (SMALL, None),
     (
         b"point 2\npolicy 11\nright r {}\n\ntick 0\nsubject a\n",
@@ -80,10 +80,6 @@ const LINES: &[(&[u8], Option<usize>)] = &[
         b"point 0\npolicy 0\n\ntick 0\nsession 64 r a b ended 0\n",
         Some(25),
     ),
-];
-
-/// Rows that can't be put.
-const PUT: &[(&[u8], Option<usize>)] = &[
     (
         b"point 0\npolicy 0\n\ntick 5\nsubject a\nobject c\nact a b c 5\nsession 63 r a c ended 5\n",
         None,
@@ -116,34 +112,51 @@ const PUT: &[(&[u8], Option<usize>)] = &[
 
 #[test]
 fn what_is_no_point_is_refused_at_its_place(rt: HostRuntime) -> Result<(), Fail> {
-    for &(bytes, wanted) in LINES {
-        assert!(rt; place(rt.alloc(), bytes)? == wanted, "{bytes:?}");
-    }
-    for &(bytes, wanted) in PUT {
+    for &(bytes, wanted) in PLACES {
         assert!(rt; place(rt.alloc(), bytes)? == wanted, "{bytes:?}");
     }
     Ok(())
 }
 
+/// Whether a point has this policy and so many entries, and is written as it was read.
+fn is_written(
+    alloc: Global,
+    point: &Point,
+    bytes: &[u8],
+    entries: u64,
+    policy: &[u8],
+) -> Result<bool, Fail> {
+    let text = point_text(alloc, entries, policy, &point.state)?;
+    let is_told = point.entries == entries && point.policy.slice() == policy;
+    Ok(is_told && text.as_slice() == bytes)
+}
+
 /// A point that is read has this policy and so many entries, and is written as it was.
 fn is_kept(alloc: Global, bytes: &[u8], entries: u64, policy: &[u8]) -> Result<bool, Fail> {
     let point = read_point(alloc, bytes)?;
-    if point.entries != entries || point.policy.slice() != policy {
-        return Ok(false);
-    }
-    Ok(point_text(alloc, entries, policy, &point.state)?.as_slice() == bytes)
+    is_written(alloc, &point, bytes, entries, policy)
+}
+
+/// Whether this is the text of a checkpoint after these lines under the policy.
+fn is_made(alloc: Global, policy: &[u8], lines: &[&[u8]], text: &[u8]) -> Result<bool, Fail> {
+    let mut state = opening(alloc, policy)?;
+    steps(alloc, &mut state, lines)?;
+    let made = point_text(alloc, lines.len() as u64, policy, &state)?;
+    Ok(made.as_slice() == text)
+}
+
+/// The place of a subject in what is read.
+fn place_of_subject(alloc: Global, bytes: &[u8], name: &[u8]) -> Result<Option<u32>, Fail> {
+    let point = read_point(alloc, bytes)?;
+    Ok(point.state.find(Side::Subject, &Name::read(name)?))
 }
 
 #[test]
 fn one_subject_is_written_and_read(rt: HostRuntime) -> Result<(), Fail> {
-    let alloc = rt.alloc();
     let policy = b"right r {}\n".as_slice();
-    let mut state = opening(alloc, policy)?;
-    steps(alloc, &mut state, &[b"subject a"])?;
-    assert!(rt; point_text(alloc, 1, policy, &state)?.as_slice() == SMALL);
-    assert!(rt; is_kept(alloc, SMALL, 1, policy)?);
-    let read = read_point(alloc, SMALL)?.state;
-    assert!(rt; read.find(Side::Subject, &Name::read(b"a")?) == Some(0));
+    assert!(rt; is_made(rt.alloc(), policy, &[b"subject a"], SMALL)?);
+    assert!(rt; is_kept(rt.alloc(), SMALL, 1, policy)?);
+    assert!(rt; place_of_subject(rt.alloc(), SMALL, b"a")? == Some(0));
     Ok(())
 }
 
@@ -206,14 +219,20 @@ fn times_of(point: &Point) -> Option<(i64, i64)> {
     Some((point.state.tick().get(), act.moment.get()))
 }
 
+/// Whether tick, act and sessions of what is read are these.
+fn is_full(alloc: Global, bytes: &[u8]) -> Result<bool, Fail> {
+    let point = read_point(alloc, bytes)?;
+    let mut is_seen = true;
+    for &session in SESSIONS {
+        is_seen = is_seen && seen(&point, session.0) == Some(session);
+    }
+    Ok(is_seen && times_of(&point) == Some((5, 2)))
+}
+
 #[test]
 fn all_sorts_of_rows_are_read(rt: HostRuntime) -> Result<(), Fail> {
     assert!(rt; is_kept(rt.alloc(), FULL, 7, POLICY)?);
-    let point = read_point(rt.alloc(), FULL)?;
-    assert!(rt; times_of(&point) == Some((5, 2)));
-    for &session in SESSIONS {
-        assert!(rt; seen(&point, session.0) == Some(session));
-    }
+    assert!(rt; is_full(rt.alloc(), FULL)?);
     Ok(())
 }
 
@@ -227,7 +246,7 @@ right q { pre a no: s.n = 0; }
 right w { pre b d: done go; }
 ";
 
-const TRIES: [&[u8]; 10] = [
+const TRIES: &[&[u8]] = &[
     b"subject a",
     b"object b",
     b"try a q b",
@@ -266,9 +285,6 @@ session 0 r a b accessing 5
 
 #[test]
 fn what_lines_made_is_written(rt: HostRuntime) -> Result<(), Fail> {
-    let alloc = rt.alloc();
-    let mut state = opening(alloc, STRICT)?;
-    steps(alloc, &mut state, &TRIES)?;
-    assert!(rt; point_text(alloc, 10, STRICT, &state)?.as_slice() == TRIED);
+    assert!(rt; is_made(rt.alloc(), STRICT, TRIES, TRIED)?);
     Ok(())
 }

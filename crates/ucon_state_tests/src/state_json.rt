@@ -21,7 +21,7 @@ right play { pre b terms: done accept; on a left: s.credit > 0; after_end s.cred
 /// Lines, how many entries there were, and the state after them.
 type Row = (&'static [&'static [u8]], u64, &'static [u8]);
 
-const ROWS: [Row; 4] = [
+const ROWS: &[Row] = &[
     (
         &[],
         0,
@@ -91,5 +91,5 @@ fn tell_each(alloc: Global, state: &mut State, rows: &[Row]) -> Result<(), Fail>
 fn states_are_told_as_json(rt: HostRuntime) -> Result<(), Fail> {
     let alloc = rt.alloc();
     let mut state = opening(alloc, POLICY)?;
-    tell_each(alloc, &mut state, &ROWS)
+    tell_each(alloc, &mut state, ROWS)
 }
