@@ -1,7 +1,7 @@
 //! Tests of `ucon_index`: a session is added, walked to, hidden and put back.
 
-ghost use Rattle.std.specs.Prelude.{◌≡◌, ◌<◌, length, map, IfOk};
-ghost use Rattle.ucon_index.specs.Dependents.{place_at};
+ghost use Rattle.std.specs.Prelude.{◌≡◌, ◌<◌, true, length, map, IfOk};
+ghost use Rattle.ucon_index.specs.Dependents.{is_there, place_at};
 
 use std::alloc::Global;
 use std::test::Fail;
@@ -24,33 +24,63 @@ fn walk(alloc: Global, index: &Index, place: u32) -> Result<Vec<u32>, NoMemory>
     Ok(sessions)
 }
 
+/// Whether these are the sessions of a place.
+fn has(alloc: Global, index: &Index, place: u32, sessions: &[u32]) -> Result<bool, Fail>
+    requires { place < length index.now.places }
+{
+    Ok(walk(alloc, index, place)?.as_slice() == sessions)
+}
+
+/// Whether these are the sessions of the two places.
+fn have(alloc: Global, index: &Index, first: &[u32], second: &[u32]) -> Result<bool, Fail>
+    requires { length index.now.places ≡ 2 }
+{
+    Ok(has(alloc, index, 0, first)? && has(alloc, index, 1, second)?)
+}
+
+/// How many places, sessions and nodes there are, and for how many more nodes there is room.
+fn counts(index: &Index) -> [u32; 4] {
+    [
+        index.place_count(),
+        index.session_count(),
+        index.node_count(),
+        index.spare(),
+    ]
+}
+
 #[test]
 fn one_growth_and_one_reserve_let_a_session_be_added(rt: HostRuntime) -> Result<(), Fail> {
     let mut index = Index::new(rt.alloc())?;
     index.grow(2)?;
     index.reserve(2)?;
     index.add(1, &[0, 1]);
-    assert!(rt; walk(rt.alloc(), &index, 1)?.as_slice() == [1].as_slice());
-    assert!(rt; index.place_count() == 2);
-    assert!(rt; index.session_count() == 2);
-    assert!(rt; index.node_count() == 2);
-    assert!(rt; index.spare() == 0);
+    assert!(rt; has(rt.alloc(), &index, 1, &[1])?);
+    assert!(rt; counts(&index) == [2, 2, 2, 0]);
     Ok(())
+}
+
+/// Two places that have session 1, and then session 2 in the second.
+fn both_added(alloc: Global) -> Result<Index, Fail>
+    ensures places { IfOk result (λ index. length index.places ≡ 2) }
+    ensures there { IfOk result (λ index. is_there 1 index.places ≡ true) }
+{
+    let mut index = Index::new(alloc)?;
+    index.grow(2)?;
+    index.reserve(3)?;
+    index.add(1, &[0, 1]);
+    if !has(alloc, &index, 1, &[1])? {
+        return Err("session 1 is not alone".into());
+    }
+    index.add(2, &[1]);
+    Ok(index)
 }
 
 #[test]
 fn a_place_has_the_sessions_that_are_added_and_not_hidden(rt: HostRuntime) -> Result<(), Fail> {
-    let mut index = Index::new(rt.alloc())?;
-    index.grow(2)?;
-    index.reserve(3)?;
-    index.add(1, &[0, 1]);
-    assert!(rt; walk(rt.alloc(), &index, 1)?.as_slice() == [1].as_slice());
-    index.add(2, &[1]);
+    let mut index = both_added(rt.alloc())?;
     index.hide(1);
-    assert!(rt; walk(rt.alloc(), &index, 0)?.as_slice() == [].as_slice());
-    assert!(rt; walk(rt.alloc(), &index, 1)?.as_slice() == [2].as_slice());
+    assert!(rt; have(rt.alloc(), &index, &[], &[2])?);
     index.unhide_last();
-    assert!(rt; walk(rt.alloc(), &index, 0)?.as_slice() == [1].as_slice());
-    assert!(rt; walk(rt.alloc(), &index, 1)?.as_slice() == [2, 1].as_slice());
+    assert!(rt; have(rt.alloc(), &index, &[1], &[2, 1])?);
     Ok(())
 }

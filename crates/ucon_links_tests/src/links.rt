@@ -22,6 +22,13 @@ fn owners(alloc: Global, links: &Links, list: u32) -> Result<Vec<u32>, NoMemory>
     Ok(owners)
 }
 
+// Whether these are the owners along a list.
+fn has(alloc: Global, links: &Links, list: u32, expected: &[u32]) -> Result<bool, NoMemory>
+    requires { list < length links.now.lists }
+{
+    Ok(owners(alloc, links, list)?.as_slice() == expected)
+}
+
 // The first node of an owner in a list.
 fn find(links: &Links, list: u32, owner: u32) -> Option<NodeId>
     requires { list < length links.now.lists }
@@ -47,8 +54,8 @@ fn assert_lists(
 ) -> Result<(), NoMemory>
     requires { 2 ≤ length links.now.lists }
 {
-    assert!(rt; owners(alloc, links, 0)?.as_slice() == expected[0]);
-    assert!(rt; owners(alloc, links, 1)?.as_slice() == expected[1]);
+    assert!(rt; has(alloc, links, 0, expected[0])?);
+    assert!(rt; has(alloc, links, 1, expected[1])?);
     Ok(())
 }
 
@@ -143,7 +150,7 @@ fn new_lists_are_empty_and_a_new_node_is_first(rt: HostRuntime) -> Result<(), Fa
     links.reserve(2)?;
     links.link(0, 9);
     links.link(0, 8);
-    assert!(rt; owners(rt.alloc(), &links, 0)?.as_slice() == [8, 9].as_slice());
+    assert!(rt; has(rt.alloc(), &links, 0, &[8, 9])?);
     assert!(rt; links.first(1).is_none());
     assert!(rt; links.first(2).is_none());
     Ok(())

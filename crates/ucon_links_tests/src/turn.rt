@@ -4,7 +4,7 @@ mod adders;
 mod counter;
 
 use adders::{many_adders, two_adders};
-use counter::Counter;
+use counter::{Addition, Counter};
 use std::test::Fail;
 use ucon_turn::Turn;
 
@@ -28,23 +28,29 @@ fn two_threads_are_answered_as_one_would_be(rt: HostRuntime) -> Result<(), Fail>
     Ok(())
 }
 
+/// How many additions there are of each number, where the amounts of each are 0, 1, 2 and so on.
+fn counted(additions: &[Addition]) -> Option<[u64; 9]> {
+    let mut next = [0u64; 9];
+    for (by, amount) in additions {
+        let slot = next.get_mut(*by as usize)?;
+        if *slot != *amount {
+            return None;
+        }
+        *slot = slot.wrapping_add(1);
+    }
+    Some(next)
+}
+
+/// None of number 0, and all of the eight threads.
+const EACH: [u64; 9] = [
+    0, 10_000, 10_000, 10_000, 10_000, 10_000, 10_000, 10_000, 10_000,
+];
+
 /// Each call books one entry, so `LENGTH` reads as `NOW` does: a seat that sleeps on `LENGTH` in place of `NOW`, or is woken on another
 /// word, sleeps for ever, and the test runs out of its time.
 #[test]
 fn eight_threads_lose_no_call(rt: HostRuntime) -> Result<(), Fail> {
     let counter = many_adders(&rt, rt.alloc(), 8, 10_000).ok_or("memory")?;
-    let mut next = [0u64; 9];
-    for (by, amount) in &counter.additions {
-        let slot = next
-            .get_mut(*by as usize)
-            .ok_or("a number that nobody has")?;
-        assert!(rt; *slot == *amount);
-        *slot = slot.wrapping_add(1);
-    }
-    assert!(rt;
-        next == [
-            0, 10_000, 10_000, 10_000, 10_000, 10_000, 10_000, 10_000, 10_000
-        ]
-    );
+    assert!(rt; counted(counter.additions.as_slice()) == Some(EACH));
     Ok(())
 }
