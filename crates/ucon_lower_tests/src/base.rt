@@ -63,17 +63,31 @@ fn kinds_admit_their_values(rt: HostRuntime) -> Result<(), Fail> {
     Ok(())
 }
 
-#[test]
-fn rows_and_steps(rt: HostRuntime) -> Result<(), Fail> {
-    let mut rows = Rows::new(rt.alloc());
+/// One row, and room for two more.
+fn one_row(alloc: Global) -> Result<Rows<u8>, Fail> {
+    let mut rows = Rows::new(alloc);
     rows.push(1)?;
     rows.reserve(2)?;
-    assert!(rt; rows.len() == 1 && rows.at(0) == Some(&1) && rows.at(1).is_none());
-    let rows = Rows::from(rows.into_vec());
-    assert!(rt; rows.slice() == [1].as_slice());
+    Ok(rows)
+}
+
+fn has_one(rows: &Rows<u8>) -> bool {
+    rows.len() == 1 && rows.at(0) == Some(&1) && rows.at(1).is_none()
+}
+
+/// How many steps there are after one.
+fn counted() -> u64 {
     let mut steps = Steps::new();
     steps.tick();
-    assert!(rt; steps.count() == 1);
+    steps.count()
+}
+
+#[test]
+fn rows_and_steps(rt: HostRuntime) -> Result<(), Fail> {
+    let rows = one_row(rt.alloc())?;
+    assert!(rt; has_one(&rows));
+    assert!(rt; Rows::from(rows.into_vec()).slice() == [1].as_slice());
+    assert!(rt; counted() == 1);
     Ok(())
 }
 

@@ -80,55 +80,87 @@ fn images_after_short_sequences(rt: HostRuntime) -> Result<(), Fail> {
     Ok(())
 }
 
+/// Whether the image of a length has these bytes, where they are in its open places.
+fn is_filled(disk: &MemDisk, len: u64, bytes: &[u8]) -> Result<bool, Fail> {
+    match disk.image(len, bytes)? {
+        Some(image) => Ok(image.as_slice() == bytes),
+        None => Ok(false),
+    }
+}
+
 #[test]
 fn an_image_of_one_unsynced_byte(rt: HostRuntime) -> Result<(), Fail> {
     let alloc = rt.alloc();
     let mut disk = MemDisk::new(alloc, Vec::new(alloc), Vec::new(alloc), None);
     assert!(rt; disk.write_at(0, b"x").is_ok());
-    let image = disk.image(1, &[7])?.ok_or("no image")?;
-    assert!(rt; image.as_slice() == [7].as_slice());
+    assert!(rt; is_filled(&disk, 1, &[7])?);
     assert!(rt; disk.image(2, &[])?.is_none());
     Ok(())
+}
+
+/// Whether two reads are answered so behind one that fails.
+fn is_read(disk: &mut MemDisk) -> bool {
+    let mut buf = [0; 3];
+    disk.read_at(0, &mut buf).ok().is_none()
+        && disk.read_at(1, &mut buf).ok() == Some(1)
+        && buf[0] == b'b'
+        && disk.read_at(9, &mut buf).ok() == Some(0)
 }
 
 #[test]
 fn calls_fail_as_planned(rt: HostRuntime) -> Result<(), Fail> {
     let alloc = rt.alloc();
     let mut disk = MemDisk::new(alloc, b"ab".to_vec(alloc)?, [1].to_vec(alloc)?, Some(4));
-    let mut buf = [0; 3];
     assert!(rt; disk.len().ok() == Some(2));
-    assert!(rt; disk.read_at(0, &mut buf).ok().is_none());
-    assert!(rt; disk.read_at(1, &mut buf).ok() == Some(1));
-    assert!(rt; buf[0] == b'b');
-    assert!(rt; disk.read_at(9, &mut buf).ok() == Some(0));
+    assert!(rt; is_read(&mut disk));
     assert!(rt; disk.sync().is_err() && disk.len().is_err());
     assert!(rt; disk.short() == 0);
     Ok(())
 }
 
+/// A path that no other process has.
+fn own_path(rt: &HostRuntime) -> Result<String, Fail> {
+    let folder = env::temp_dir(rt)?;
+    let number = process::id(rt.process());
+    Ok(format!(in rt.alloc(); "{}/ucon_disk_{number}", folder.as_str())?)
+}
+
+fn file_at(rt: &HostRuntime, path: &str) -> Result<FileDisk<HostRuntime>, Fail> {
+    let path = String::from_str(rt.alloc(), path)?;
+    Ok(FileDisk::new(rt.clone()?, path))
+}
+
+/// Whether the calls succeed that leave four bytes.
+fn leaves_four(disk: &mut FileDisk<HostRuntime>) -> bool {
+    disk.write_at(0, b"abcdef").is_ok()
+        && disk.sync().is_ok()
+        && disk.cut(4).is_ok()
+        && disk.sync().is_ok()
+}
+
+/// Whether the four bytes are there, and no place is too far.
+fn has_four(disk: &mut FileDisk<HostRuntime>) -> bool {
+    let mut buf = [0; 9];
+    disk.len().ok() == Some(4)
+        && disk.read_at(1, &mut buf).ok() == Some(3)
+        && &buf[..3] == b"bcd".as_slice()
+        && disk.write_at(1 << 63, b"x").is_err()
+}
+
 #[test]
 fn a_real_file_is_kept(rt: HostRuntime) -> Result<(), Fail> {
-    let alloc = rt.alloc();
-    let folder = env::temp_dir(&rt)?;
-    let path = format!(in alloc;
-        "{}/ucon_disk_{}",
-        folder.as_str(),
-        process::id(rt.process())
-    )?;
-    let mut disk = FileDisk::new(rt.clone()?, path.clone()?);
-    assert!(rt; disk.write_at(0, b"abcdef").is_ok() && disk.sync().is_ok());
-    assert!(rt; disk.cut(4).is_ok() && disk.sync().is_ok());
-    let mut again = FileDisk::new(rt.clone()?, path.clone()?);
-    let mut buf = [0; 9];
-    assert!(rt; again.len().ok() == Some(4));
-    assert!(rt; again.read_at(1, &mut buf).ok() == Some(3));
-    assert!(rt; &buf[..3] == b"bcd".as_slice());
-    assert!(rt; again.write_at(1 << 63, b"x").is_err());
+    let path = own_path(&rt)?;
+    let mut first = file_at(&rt, path.as_str())?;
+    assert!(rt; leaves_four(&mut first));
+    assert!(rt; has_four(&mut file_at(&rt, path.as_str())?));
     fs::remove_file(&rt, path.as_str())?;
-    let mut nowhere = FileDisk::new(
-        rt.clone()?,
-        format!(in alloc; "{}/none/none", path.as_str())?,
-    );
-    assert!(rt; nowhere.len().is_err());
+    Ok(())
+}
+
+#[test]
+fn a_file_in_no_folder_has_no_length(rt: HostRuntime) -> Result<(), Fail> {
+    let path = own_path(&rt)?;
+    let nowhere = format!(in rt.alloc(); "{}/none/none", path.as_str())?;
+    assert!(rt; file_at(&rt, nowhere.as_str())?.len().is_err());
     Ok(())
 }
