@@ -1,6 +1,6 @@
 //! A disk that stops after each of its calls, and what is found in the files that a crash may leave then.
 
-use crate::runs::{End, over, stopping};
+use crate::runs::{End, over, place_before, played, stopping};
 use std::alloc::Global;
 use std::process::Abort;
 use std::str;
@@ -19,12 +19,8 @@ fn entries_found<R: Threads + Wait + Sync>(
     alloc: Global,
     file: &[u8],
 ) -> Result<u64, Fail> {
-    let disk = stopping(alloc, file, None)?;
-    let end = over(rt, alloc, "play", LOOKING, disk, &OpenGate)?;
-    let text = str::from_utf8(&end.output).map_err(|_| "text")?;
-    let place = text.strip_prefix("0 ").ok_or("client")?;
-    let place = place.strip_suffix(" no session\n").ok_or("reply")?;
-    Ok(place.parse::<u64>().map_err(|_| "place")?)
+    let end = played(rt, alloc, LOOKING, file, None)?;
+    place_before(&end.output, " no session\n")
 }
 
 /// How many entries may be found behind so many and the steps that were answered: all of these, and where a step met a disk fault perhaps
@@ -47,6 +43,27 @@ fn may_be_found(before: u64, output: &[u8]) -> Result<(u64, u64), Fail> {
 /// What a file's open places are filled with.
 const FILLS: &[u8] = &[0, 1, 255];
 
+/// The length of the first image with this in its open places in which neither number of entries is found.
+fn first_other<R: Threads + Wait + Sync>(
+    rt: &R,
+    alloc: Global,
+    disk: &MemDisk,
+    fill: u8,
+    may_be: (u64, u64),
+) -> Result<Option<u64>, Fail> {
+    let mut fills = Vec::new(alloc);
+    fills.resize(100, fill)?;
+    for len in 0..100u64 {
+        if let Some(image) = disk.image(len, &fills)? {
+            let found = entries_found(rt, alloc, &image)?;
+            if found != may_be.0 && found != may_be.1 {
+                return Ok(Some(len));
+            }
+        }
+    }
+    Ok(None)
+}
+
 /// A run over a file on a disk that stops after so many calls: whatever a crash leaves then, each step that was answered is found.
 fn hold_images<R: Abort + Threads + Wait + Sync>(
     rt: &R,
@@ -59,19 +76,13 @@ fn hold_images<R: Abort + Threads + Wait + Sync>(
     let before = entries_found(rt, alloc, file)?;
     let disk = stopping(alloc, file, Some(calls))?;
     let end = over(rt, alloc, form, document, disk, &OpenGate)?;
-    let (least, most) = may_be_found(before, &end.output)?;
+    let may_be = may_be_found(before, &end.output)?;
     for &fill in FILLS {
-        let mut fills = Vec::new(alloc);
-        fills.resize(100, fill)?;
-        for len in 0..100u64 {
-            if let Some(image) = end.disk.image(len, &fills)? {
-                let found = entries_found(rt, alloc, &image)?;
-                assert!(rt;
-                    found == least || found == most,
-                    "stopped after {calls} calls, {len} bytes, filled with {fill}"
-                );
-            }
-        }
+        let other = first_other(rt, alloc, &end.disk, fill, may_be)?;
+        assert!(rt;
+            other.is_none(),
+            "stopped after {calls} calls, {other:?} bytes, filled with {fill}"
+        );
     }
     Ok(())
 }
@@ -110,8 +121,7 @@ fn thousand_uses<R: Threads + Wait + Sync>(rt: &R, alloc: Global) -> Result<Vec<
         script.push_str("try a use x\n")?;
     }
     let uses = document(alloc, CAPPED, script.as_bytes())?;
-    let disk = stopping(alloc, b"", None)?;
-    let end = over(rt, alloc, "play", &uses, disk, &OpenGate)?;
+    let end = played(rt, alloc, &uses, b"", None)?;
     Ok(Vec::from_slice(alloc, end.disk.contents())?)
 }
 
@@ -120,13 +130,12 @@ fn calls_of_opening<R: Threads + Wait + Sync>(
     rt: &R,
     alloc: Global,
     file: &[u8],
-    document: &[u8],
 ) -> Result<u64, Fail> {
+    let asking = document(alloc, CAPPED, ASKING)?;
     let (mut low, mut high) = (0u64, 16_384u64);
     for _ in 0..14u32 {
         let calls = low.saturating_add(high) / 2;
-        let disk = stopping(alloc, file, Some(calls))?;
-        match over(rt, alloc, "play", document, disk, &OpenGate)?.outcome {
+        match played(rt, alloc, &asking, file, Some(calls))?.outcome {
             Outcome::Done => high = calls,
             _ => low = calls,
         }
@@ -135,14 +144,9 @@ fn calls_of_opening<R: Threads + Wait + Sync>(
 }
 
 /// The number of entries that are found in a file of many uses, behind which the first use goes on or is revoked.
-fn uses_found<R: Threads + Wait + Sync>(
-    rt: &R,
-    alloc: Global,
-    file: Vec<u8>,
-    document: &[u8],
-) -> Result<u64, Fail> {
-    let disk = MemDisk::new(alloc, file, Vec::new(alloc), None);
-    let end = over(rt, alloc, "play", document, disk, &OpenGate)?;
+fn uses_found<R: Threads + Wait + Sync>(rt: &R, alloc: Global, file: &[u8]) -> Result<u64, Fail> {
+    let asking = document(alloc, CAPPED, ASKING)?;
+    let end = played(rt, alloc, &asking, file, None)?;
     if end.output.as_slice() == b"0 1003 status 1 accessing\n".as_slice() {
         Ok(1003)
     } else if end.output.as_slice() == b"0 1004 status 1 revoked\n".as_slice() {
@@ -156,6 +160,28 @@ const REVOKING: &[u8] = b"client 0\nset o x most 0\n";
 
 const ASKING: &[u8] = b"client 0\nlook 1\n";
 
+/// The length of the first image with this in its open places in which the step isn't found. Each is of a history with the step or without.
+fn first_lost<R: Threads + Wait + Sync>(
+    rt: &R,
+    alloc: Global,
+    disk: &MemDisk,
+    fill: u8,
+    least: u64,
+    greatest: u64,
+) -> Result<Option<u64>, Fail> {
+    let mut lost = None;
+    let mut fills = Vec::new(alloc);
+    fills.resize(greatest as usize, fill)?;
+    for len in [least, least.saturating_add(greatest) / 2, greatest] {
+        if let Some(image) = disk.image(len, &fills)? {
+            if uses_found(rt, alloc, &image)? != 1004 {
+                lost = lost.or(Some(len));
+            }
+        }
+    }
+    Ok(lost)
+}
+
 /// What a crash leaves of the step that revokes 1,000 uses, on a disk that stops after so many calls: all of it or nothing, and all of it once
 /// it was answered.
 fn hold_cascade<R: Abort + Threads + Wait + Sync>(
@@ -166,29 +192,15 @@ fn hold_cascade<R: Abort + Threads + Wait + Sync>(
     calls: u64,
 ) -> Result<(), Fail> {
     let step = document(alloc, CAPPED, REVOKING)?;
-    let asking = document(alloc, CAPPED, ASKING)?;
-    let end = over(
-        rt,
-        alloc,
-        "play",
-        &step,
-        stopping(alloc, before, Some(calls))?,
-        &OpenGate,
-    )?;
+    let end = played(rt, alloc, &step, before, Some(calls))?;
     let (least, greatest) = (before.len() as u64, whole.disk.contents().len() as u64);
     let is_answered = end.output == whole.output;
     for &fill in FILLS {
-        let mut fills = Vec::new(alloc);
-        fills.resize(greatest as usize, fill)?;
-        for len in [least, least.saturating_add(greatest) / 2, greatest] {
-            if let Some(image) = end.disk.image(len, &fills)? {
-                let found = uses_found(rt, alloc, image, &asking)?;
-                assert!(rt;
-                    found == 1004 || !is_answered,
-                    "stopped after {calls} calls, {len} bytes, filled with {fill}"
-                );
-            }
-        }
+        let lost = first_lost(rt, alloc, &end.disk, fill, least, greatest)?;
+        assert!(rt;
+            lost.is_none() || !is_answered,
+            "stopped after {calls} calls, {lost:?} bytes, filled with {fill}"
+        );
     }
     Ok(())
 }
@@ -199,14 +211,13 @@ fn a_large_cascade_is_found_whole_or_not_at_all(rt: HostRuntime) -> Result<(), F
     let alloc = rt.alloc();
     let before = thousand_uses(&rt, alloc)?;
     let step = document(alloc, CAPPED, REVOKING)?;
-    let disk = stopping(alloc, &before, None)?;
-    let whole = over(&rt, alloc, "play", &step, disk, &OpenGate)?;
+    let whole = played(&rt, alloc, &step, &before, None)?;
     assert!(rt;
         whole
             .output
             .starts_with(b"0 1004 ok revoked 1 cap revoked 2 cap ".as_slice())
     );
-    let opening = calls_of_opening(&rt, alloc, &before, &document(alloc, CAPPED, ASKING)?)?;
+    let opening = calls_of_opening(&rt, alloc, &before)?;
     for calls in opening..opening.saturating_add(6) {
         hold_cascade(&rt, alloc, &before, &whole, calls)?;
     }

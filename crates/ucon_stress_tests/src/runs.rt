@@ -1,10 +1,11 @@
 //! Runs of the top call over a journal.
 
 use std::alloc::Global;
+use std::str;
 use std::sync::Wait;
 use std::test::Fail;
 use std::thread::Threads;
-use ucon_client::Gate;
+use ucon_client::{Gate, OpenGate};
 use ucon_disk::MemDisk;
 use ucon_flow::{MemSink, MemSource};
 use ucon_top::{Outcome, run};
@@ -45,4 +46,24 @@ pub fn over<R: Threads + Wait + Sync, G: Gate + Sync>(
 pub fn stopping(alloc: Global, file: &[u8], calls: Option<u64>) -> Result<MemDisk, Fail> {
     let file = Vec::from_slice(alloc, file)?;
     Ok(MemDisk::new(alloc, file, Vec::new(alloc), calls))
+}
+
+/// How `play` ends over a document and a file, on a disk that stops after so many calls.
+pub fn played<R: Threads + Wait + Sync>(
+    rt: &R,
+    alloc: Global,
+    document: &[u8],
+    file: &[u8],
+    calls: Option<u64>,
+) -> Result<End, Fail> {
+    let disk = stopping(alloc, file, calls)?;
+    over(rt, alloc, "play", document, disk, &OpenGate)
+}
+
+/// The place of the only answer that went out, which is client 0's and ends with this.
+pub fn place_before(output: &[u8], reply: &str) -> Result<u64, Fail> {
+    let text = str::from_utf8(output).map_err(|_| "text")?;
+    let place = text.strip_prefix("0 ").ok_or("client")?;
+    let place = place.strip_suffix(reply).ok_or("reply")?;
+    Ok(place.parse::<u64>().map_err(|_| "place")?)
 }

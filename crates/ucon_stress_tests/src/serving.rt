@@ -1,7 +1,7 @@
 //! Clients that are served at once, each in a thread of its own.
 
 use crate::engines::printed_by;
-use crate::runs::{End, over, stopping};
+use crate::runs::{End, over, place_before, played};
 use std::alloc::Global;
 use std::sync::Wait;
 use std::sync::atomic::{AtomicU64, Ordering};
@@ -9,7 +9,7 @@ use std::test::Fail;
 use std::thread::Threads;
 use std::{str, thread};
 use ucon_cascade::Monitor;
-use ucon_cases::two_clients;
+use ucon_cases::{Meeting, two_clients};
 use ucon_client::{Gate, OpenGate};
 use ucon_disk::MemDisk;
 use ucon_top::Outcome;
@@ -95,24 +95,28 @@ impl Gate for MeetingGate {
     }
 }
 
+/// How two clients are served at this gate, behind what client 0 made for them.
+fn served_at<R: Threads + Wait + Sync>(
+    rt: &R,
+    alloc: Global,
+    meeting: &Meeting,
+    gate: &MeetingGate,
+) -> Result<End, Fail> {
+    let made = document(alloc, meeting.policy, meeting.played)?;
+    let first = played(rt, alloc, &made, b"", None)?;
+    if !matches!(first.outcome, Outcome::Done) {
+        return Err("client 0 is not served".into());
+    }
+    let served = document(alloc, meeting.policy, meeting.served)?;
+    over(rt, alloc, "serve", &served, first.disk, gate)
+}
+
 /// One thread for all clients never gets past the first lines: the gate's turns run out.
 #[test]
 fn two_clients_meet(rt: HostRuntime) -> Result<(), Fail> {
-    let alloc = rt.alloc();
     let meeting = two_clients();
-    let played = document(alloc, meeting.policy, meeting.played)?;
-    let first = over(
-        &rt,
-        alloc,
-        "play",
-        &played,
-        stopping(alloc, b"", None)?,
-        &OpenGate,
-    )?;
-    assert!(rt; matches!(first.outcome, Outcome::Done));
-    let served = document(alloc, meeting.policy, meeting.served)?;
     let gate = MeetingGate::new();
-    let end = over(&rt, alloc, "serve", &served, first.disk, &gate)?;
+    let end = served_at(&rt, rt.alloc(), &meeting, &gate)?;
     assert!(rt; matches!(end.outcome, Outcome::Done));
     assert!(rt; !gate.missed.came());
     assert!(rt;
@@ -259,32 +263,34 @@ fn eight_served<R: Threads + Wait + Sync>(
 }
 
 /// The place of one step more over a journal, which is one above the number of its entries.
-fn next_place<R: Threads + Wait + Sync>(
-    rt: &R,
-    alloc: Global,
-    disk: MemDisk,
-) -> Result<usize, Fail> {
+fn next_place<R: Threads + Wait + Sync>(rt: &R, alloc: Global, disk: MemDisk) -> Result<u64, Fail> {
     let more = document(alloc, CAPPED, b"client 0\nsubject z\n")?;
     let end = over(rt, alloc, "play", &more, disk, &OpenGate)?;
-    let text = str::from_utf8(&end.output).map_err(|_| "text")?;
-    let place = text.strip_prefix("0 ").ok_or("client")?;
-    let place = place.strip_suffix(" ok\n").ok_or("reply")?;
-    Ok(place.parse::<usize>().map_err(|_| "place")?)
+    place_before(&end.output, " ok\n")
+}
+
+/// How many of the eight clients' lines changed something, where each has its answer, each client's answers are in order, and all are those
+/// of one serial run.
+fn serial_steps(alloc: Global, output: &[u8]) -> Result<u64, Fail> {
+    let script = eight_clients(alloc)?;
+    let text = str::from_utf8(output).map_err(|_| "text")?;
+    let answers = told_lines(alloc, script.as_str(), text)?;
+    if answers.len() != 1600 || !are_in_order(&answers) {
+        return Err("other lines, or not in order".into());
+    }
+    let steps = answers.iter().filter(|one| one.changes()).count();
+    if !are_a_serial_run(alloc, entities(alloc)?.as_str(), answers)? {
+        return Err("no serial run".into());
+    }
+    Ok(steps as u64)
 }
 
 #[test]
 fn eight_clients_have_one_history(rt: HostRuntime) -> Result<(), Fail> {
-    let alloc = rt.alloc();
-    let end = eight_served(&rt, alloc, &[])?;
+    let end = eight_served(&rt, rt.alloc(), &[])?;
     assert!(rt; matches!(end.outcome, Outcome::Done));
-    let script = eight_clients(alloc)?;
-    let text = str::from_utf8(&end.output).map_err(|_| "text")?;
-    let answers = told_lines(alloc, script.as_str(), text)?;
-    assert!(rt; answers.len() == 1600);
-    assert!(rt; are_in_order(&answers));
-    let steps = answers.iter().filter(|one| one.changes()).count();
-    assert!(rt; are_a_serial_run(alloc, entities(alloc)?.as_str(), answers)?);
-    assert!(rt; next_place(&rt, alloc, end.disk)? == steps.saturating_add(17));
+    let steps = serial_steps(rt.alloc(), &end.output)?;
+    assert!(rt; next_place(&rt, rt.alloc(), end.disk)? == steps.saturating_add(17));
     Ok(())
 }
 
@@ -303,24 +309,30 @@ fn stays_stopped(output: &str) -> bool {
     true
 }
 
+/// How many lines end so.
+fn ending(text: &str, end: &str) -> usize {
+    text.lines().filter(|line| line.ends_with(end)).count()
+}
+
+/// How many lines are changing replies, where one line met the fault and all behind it are stopped.
+fn steps_until_the_fault(output: &[u8]) -> Result<u64, Fail> {
+    let text = str::from_utf8(output).map_err(|_| "text")?;
+    if text.lines().count() != 1600 || ending(text, "- disk fault") != 1 {
+        return Err("other lines, or another number of faults".into());
+    }
+    if ending(text, "- stopped") == 0 || !stays_stopped(text) {
+        return Err("not all are stopped".into());
+    }
+    Ok(text.lines().filter(|line| is_step(line)).count() as u64)
+}
+
 /// The disk fails in the midst of the lines. Whether the step that met it counts shows at the next opening.
 #[test]
 fn one_disk_fault_stops_everybody(rt: HostRuntime) -> Result<(), Fail> {
-    let alloc = rt.alloc();
-    let end = eight_served(&rt, alloc, &[700])?;
+    let end = eight_served(&rt, rt.alloc(), &[700])?;
     assert!(rt; matches!(end.outcome, Outcome::DiskFault));
-    let text = str::from_utf8(&end.output).map_err(|_| "text")?;
-    assert!(rt; text.lines().count() == 1600);
-    assert!(rt;
-        text.lines()
-            .filter(|line| line.ends_with("- disk fault"))
-            .count()
-            == 1
-    );
-    assert!(rt; text.lines().any(|line| line.ends_with("- stopped")));
-    assert!(rt; stays_stopped(text));
-    let placed = text.lines().filter(|line| is_step(line)).count();
-    let next = next_place(&rt, alloc, end.disk)?;
+    let placed = steps_until_the_fault(&end.output)?;
+    let next = next_place(&rt, rt.alloc(), end.disk)?;
     assert!(rt; next == placed.saturating_add(17) || next == placed.saturating_add(18));
     Ok(())
 }
