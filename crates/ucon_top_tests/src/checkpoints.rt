@@ -64,38 +64,56 @@ fn repeated<R: Threads + Wait + Sync>(
 
 const THREE: &str = "client 0\nsubject a\nobject x\nset o x most 1000\n";
 
+/// The file that a checkpoint of a file leaves, of which this is told.
+fn pointed<R: Threads + Wait + Sync>(
+    rt: &R,
+    alloc: Global,
+    policy: &[u8],
+    file: &[u8],
+    told: &[u8],
+) -> Result<Vec<u8>, Fail> {
+    let (output, left) = over(rt, alloc, "point", policy, file)?;
+    if output.as_slice() != told {
+        return Err("another checkpoint is told".into());
+    }
+    Ok(left)
+}
+
+/// What is answered where one step revokes all uses, behind 503 more of them.
+fn revoked<R: Threads + Wait + Sync>(rt: &R, alloc: Global, file: &[u8]) -> Result<Vec<u8>, Fail> {
+    let more = repeated(rt, alloc, file, "client 0\n", 503)?;
+    let revoking = document(alloc, CAPPED, b"client 0\nset o x most 0\n")?;
+    Ok(over(rt, alloc, "play", &revoking, &more)?.0)
+}
+
 /// A thousand uses are revoked by one step, whether a checkpoint stands behind the first 500 entries or not.
 #[test]
 fn a_cascade_goes_back_over_a_checkpoint(rt: HostRuntime) -> Result<(), Fail> {
-    let alloc = rt.alloc();
-    let first = repeated(&rt, alloc, b"", THREE, 497)?;
-    let (told, pointed) = over(&rt, alloc, "point", CAPPED, &first)?;
-    let revoking = document(alloc, CAPPED, b"client 0\nset o x most 0\n")?;
-    let with = repeated(&rt, alloc, &pointed, "client 0\n", 503)?;
-    let without = repeated(&rt, alloc, &first, "client 0\n", 503)?;
-    let one = over(&rt, alloc, "play", &revoking, &with)?.0;
-    let other = over(&rt, alloc, "play", &revoking, &without)?.0;
-    assert!(rt; told.as_slice() == b"point 500\n".as_slice());
-    assert!(rt; one.starts_with(b"0 1004 ok revoked 1 cap revoked 2 cap ".as_slice()));
-    assert!(rt; one == other);
+    let first = repeated(&rt, rt.alloc(), b"", THREE, 497)?;
+    let behind = pointed(&rt, rt.alloc(), CAPPED, &first, b"point 500\n")?;
+    let with = revoked(&rt, rt.alloc(), &behind)?;
+    assert!(rt; with.starts_with(b"0 1004 ok revoked 1 cap revoked 2 cap ".as_slice()));
+    assert!(rt; with == revoked(&rt, rt.alloc(), &first)?);
     Ok(())
 }
 
-/// As many uses go on as may, and one with a higher number waits.
-#[test]
-fn a_full_state_is_checkpointed(rt: HostRuntime) -> Result<(), Fail> {
-    let alloc = rt.alloc();
+/// A document in which one use waits and then as many go on as may.
+fn full_document(alloc: Global) -> Result<Vec<u8>, Fail> {
     let mut script = String::from_str(alloc, "client 0\nsubject a\nobject x\ntry a wait x\n")?;
     for _ in 0..65_535u32 {
         script.push_str("try a use x\n")?;
     }
     script.push_str(str::from_utf8(FILLED).map_err(|_| "text")?)?;
-    let full = document(alloc, WAITING, script.as_bytes())?;
-    let file = over(&rt, alloc, "play", &full, b"")?.1;
-    let (told, pointed) = over(&rt, alloc, "point", WAITING, &file)?;
-    let waited = document(alloc, WAITING, WAITED)?;
-    let output = over(&rt, alloc, "play", &waited, &pointed)?.0;
-    assert!(rt; told.as_slice() == b"point 65541\n".as_slice());
+    Ok(document(alloc, WAITING, script.as_bytes())?)
+}
+
+/// As many uses go on as may, and one with a higher number waits.
+#[test]
+fn a_full_state_is_checkpointed(rt: HostRuntime) -> Result<(), Fail> {
+    let file = over(&rt, rt.alloc(), "play", &full_document(rt.alloc())?, b"")?.1;
+    let behind = pointed(&rt, rt.alloc(), WAITING, &file, b"point 65541\n")?;
+    let waited = document(rt.alloc(), WAITING, WAITED)?;
+    let output = over(&rt, rt.alloc(), "play", &waited, &behind)?.0;
     assert!(rt; output.as_slice() == WAITED_OUTPUT);
     Ok(())
 }

@@ -28,6 +28,25 @@ fn lines_of(alloc: Global, line: &[u8], times: u32) -> Result<Vec<u8>, Fail> {
     Ok(bytes)
 }
 
+/// What of an end isn't as a row says, which has this output.
+fn wrong_end(end: &End, row: &Limit, output: &[u8]) -> Option<&'static str> {
+    let told = if row.status == 0 {
+        b"".as_slice()
+    } else {
+        row.line
+    };
+    if end.status != row.status {
+        return Some("status");
+    }
+    if !same(&end.output, output) {
+        return Some("output");
+    }
+    if !same(&end.told, told) || !end.disk.contents().is_empty() {
+        return Some("told or left");
+    }
+    None
+}
+
 /// What doesn't come out as a row says.
 fn wrong_part<R: Threads + Wait + Sync>(
     rt: &R,
@@ -37,21 +56,8 @@ fn wrong_part<R: Threads + Wait + Sync>(
     let source = MemSource::new(document_of(alloc, row)?, 4096, Vec::new(alloc));
     let sink = MemSink::new(alloc, 4096, Vec::new(alloc));
     let end = ran(rt, alloc, &[row.form], source, sink, no_disk(alloc))?;
-    let told = if row.status == 0 {
-        b"".as_slice()
-    } else {
-        row.line
-    };
-    if end.status != row.status {
-        return Ok(Some("status"));
-    }
-    if end.output != lines_of(alloc, row.line, row.lines)? {
-        return Ok(Some("output"));
-    }
-    if !same(&end.told, told) || !end.disk.contents().is_empty() {
-        return Ok(Some("told or left"));
-    }
-    Ok(None)
+    let output = lines_of(alloc, row.line, row.lines)?;
+    Ok(wrong_end(&end, row, &output))
 }
 
 /// What is at a limit is accepted, and one more is refused at its place. The longest documents want minutes where each step is checked, as by

@@ -18,6 +18,23 @@ fn played<R: Threads + Wait + Sync>(rt: &R, alloc: Global, row: &Played) -> Resu
     ran(rt, alloc, &[row.form, "j"], source, sink, disk)
 }
 
+/// What of an end isn't as its row says.
+fn wrong_part(end: &End, row: &Played) -> Option<&'static str> {
+    if end.status != row.status {
+        return Some("status");
+    }
+    if !same(&end.output, row.output) {
+        return Some("output");
+    }
+    if !same(&end.told, row.told) {
+        return Some("told");
+    }
+    if !same(end.disk.contents(), row.left) {
+        return Some("left");
+    }
+    None
+}
+
 /// What doesn't come out as the first wrong row says, and this row.
 pub fn first_wrong<R: Threads + Wait + Sync>(
     rt: &R,
@@ -26,17 +43,8 @@ pub fn first_wrong<R: Threads + Wait + Sync>(
 ) -> Result<Option<(&'static str, &'static str)>, Fail> {
     for row in rows {
         let end = played(rt, alloc, row)?;
-        if end.status != row.status {
-            return Ok(Some(("status", row.name)));
-        }
-        if !same(&end.output, row.output) {
-            return Ok(Some(("output", row.name)));
-        }
-        if !same(&end.told, row.told) {
-            return Ok(Some(("told", row.name)));
-        }
-        if !same(end.disk.contents(), row.left) {
-            return Ok(Some(("left", row.name)));
+        if let Some(part) = wrong_part(&end, row) {
+            return Ok(Some((part, row.name)));
         }
     }
     Ok(None)
