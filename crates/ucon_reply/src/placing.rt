@@ -1,4 +1,4 @@
-//! Where the words of a line begin, by how many a reader wants. He knows where the second one begins, if there is one. Each place is a byte's, from 0 at
+//! Where the words of a line begin, by how many a reader wants, who knows where the second one begins, if there is one. Each place is a byte's, from 0 at
 //! the line's first.
 
 ghost use Rattle.std.specs.Prelude.{◌≡◌, ◌≤◌, ◌<◌, [], ◌∷◌, length, drop, IfNone, IfSome, MatchOption};

@@ -163,25 +163,16 @@ fn long_line(alloc: Global, word: &[u8], byte: u8, more: usize) -> Result<Vec<u8
     Ok(line)
 }
 
-/// Whether a word with so many bytes behind it is refused as a line of this length.
-fn is_too_long(
-    alloc: Global,
-    word: &[u8],
-    byte: u8,
-    more: usize,
-    len: usize,
-) -> Result<bool, Fail> {
-    let line = long_line(alloc, word, byte, more)?;
-    Ok(is_refused(alloc, &line, LineFault::TooLong(len)))
-}
-
 /// An amendment's line may have 65,542 bytes, and no other line that begins so.
 #[test]
 fn amendments_may_be_long(rt: HostRuntime) -> Result<(), Fail> {
-    let longest = long_line(rt.alloc(), b"amend ", b' ', 65536)?;
-    assert!(rt; read_command(rt.alloc(), &longest).is_ok());
-    assert!(rt; is_too_long(rt.alloc(), b"amend ", b' ', 65537, 65543)?);
-    assert!(rt; is_too_long(rt.alloc(), b"amend", b'x', 8188, 8193)?);
+    let alloc = rt.alloc();
+    let longest = long_line(alloc, b"amend ", b' ', 65536)?;
+    assert!(rt; read_command(alloc, &longest).is_ok());
+    let longer = long_line(alloc, b"amend ", b' ', 65537)?;
+    assert!(rt; is_refused(alloc, &longer, LineFault::TooLong(65543)));
+    let other = long_line(alloc, b"amend", b'x', 8188)?;
+    assert!(rt; is_refused(alloc, &other, LineFault::TooLong(8193)));
     Ok(())
 }
 
