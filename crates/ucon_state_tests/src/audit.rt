@@ -1,5 +1,5 @@
 //! Digests and heads against values that were worked out elsewhere, and sessions rechecked by several threads beside a plain loop.
-ghost use Rattle.std.specs.Prelude.{◌<◌, All, IfOk, IsSome};
+ghost use Rattle.std.specs.Prelude.{◌<◌, All, IfOk, IsSome, OnOk};
 ghost use Rattle.ucon_actions.specs.Leads.{IsFollowing};
 ghost use Rattle.ucon_state.specs.Shown.{shown};
 ghost use Rattle.ucon_state.specs.Tables.{session_in};
@@ -150,15 +150,23 @@ const TRIES: &[&[u8]] = &[
 const SPENT: &[&[u8]] = &[b"set s s0 credit 1", b"set s s5 credit 1"];
 
 /// The subjects try the song in turn, so many times each. Then the credit of two is spent.
+fn play(alloc: Global, state: &mut State, times: u32) -> Result<(), Fail>
+    requires { IsFollowing (shown state.old) }
+    ensures { OnOk result (IsFollowing (shown state.new)) }
+{
+    steps(alloc, state, MADE)?;
+    'turns: for _ in 0..times {
+        steps(alloc, state, TRIES)?;
+    }
+    steps(alloc, state, SPENT)
+}
+
+/// The state in which they have done so.
 fn played(alloc: Global, times: u32) -> Result<State, Fail>
     ensures { IfOk result (λ s. IsFollowing (shown s)) }
 {
     let mut state = opening(alloc, PLAYING)?;
-    steps(alloc, &mut state, MADE)?;
-    'turns: for _ in 0..times {
-        steps(alloc, &mut state, TRIES)?;
-    }
-    steps(alloc, &mut state, SPENT)?;
+    play(alloc, &mut state, times)?;
     Ok(state)
 }
 
@@ -196,53 +204,88 @@ fn found_in_turn(alloc: Global, state: &State, sessions: &[u32]) -> Result<Vec<C
     Ok(found)
 }
 
-/// How many sessions, how many of them changed, and the first and the last of these.
-type Found = (usize, usize, Option<Changed>, Option<Changed>);
+/// How many sessions are rechecked, how many of them changed, and the first and the last of these.
+#[derive(Clone, Copy)]
+struct Found {
+    sessions: usize,
+    changed: usize,
+    first: Changed,
+    last: Changed,
+}
 
-/// What the threads found, where the plain loop found the same.
-fn found_alike(sessions: usize, changed: &[Changed], plain: &[Changed]) -> Result<Found, Fail> {
+/// Whether the threads found this, where the plain loop found the same.
+fn is_found(
+    wanted: &Found,
+    sessions: usize,
+    changed: &[Changed],
+    plain: &[Changed],
+) -> Result<bool, Fail> {
     if changed != plain {
         return Err("a plain loop finds others".into());
     }
-    let first = changed.first().copied();
-    let last = changed.last().copied();
-    Ok((sessions, changed.len(), first, last))
+    let is_counted = sessions == wanted.sessions && changed.len() == wanted.changed;
+    let is_first = changed.first() == Some(&wanted.first);
+    Ok(is_counted && is_first && changed.last() == Some(&wanted.last))
 }
 
-fn found_of_all<R: Threads + Sync>(rt: &R, alloc: Global, state: &State) -> Result<Found, Fail>
+/// Whether this is found of all sessions.
+fn is_found_of_all<R: Threads + Sync>(
+    rt: &R,
+    alloc: Global,
+    state: &State,
+    wanted: &Found,
+) -> Result<bool, Fail>
     requires { IsFollowing (shown state.now) }
 {
     let sessions = sessions_there(alloc, state, 10_000)?;
     let changed = changed_sessions(rt, alloc, state, &sessions)?;
     let plain = found_in_turn(alloc, state, &sessions)?;
-    found_alike(sessions.len(), changed.slice(), plain.as_slice())
+    is_found(wanted, sessions.len(), changed.slice(), plain.as_slice())
 }
 
-fn found_of_usages<R: Threads + Sync>(rt: &R, alloc: Global, state: &State) -> Result<Found, Fail>
+/// Whether this is found of the uses that go on.
+fn is_found_of_usages<R: Threads + Sync>(
+    rt: &R,
+    alloc: Global,
+    state: &State,
+    wanted: &Found,
+) -> Result<bool, Fail>
     requires { IsFollowing (shown state.now) }
 {
     let sessions = usages(alloc, state)?;
     let changed = changed_usages(rt, alloc, state)?;
     let plain = found_in_turn(alloc, state, sessions.slice())?;
-    found_alike(sessions.len(), changed.slice(), plain.as_slice())
+    is_found(wanted, sessions.len(), changed.slice(), plain.as_slice())
 }
 
-/// Of all sessions, and of the uses that go on.
-fn found<R: Threads + Sync>(rt: &R, alloc: Global) -> Result<(Found, Found), Fail> {
+fn are_found<R: Threads + Sync>(
+    rt: &R,
+    alloc: Global,
+    all: &Found,
+    going_on: &Found,
+) -> Result<bool, Fail> {
     let state = played(alloc, 1_000)?;
-    let all = found_of_all(rt, alloc, &state)?;
-    let going_on = found_of_usages(rt, alloc, &state)?;
-    Ok((all, going_on))
+    Ok(is_found_of_all(rt, alloc, &state, all)? && is_found_of_usages(rt, alloc, &state, going_on)?)
 }
 
 /// Of each ten sessions the first and the sixth are denied, four of the others wait, and four are permitted. Who waits has no use that goes on.
 #[test]
 fn ten_thousand_sessions_are_rechecked_as_in_a_plain_loop(rt: HostRuntime) -> Result<(), Fail> {
-    let (all, going_on) = found(&rt, rt.alloc())?;
     let deny = Verdict::Deny(Name::read(b"funds")?);
     let wait = Verdict::Wait(Name::read(b"terms")?);
-    let at = |session: u32, verdict: Verdict| Some(Changed { session, verdict });
-    assert!(rt; all == (10_000, 6_000, at(1, deny), at(10_000, wait)));
-    assert!(rt; going_on == (5_000, 1_000, at(1, deny), at(9_991, deny)));
+    let at = |session: u32, verdict: Verdict| Changed { session, verdict };
+    let all = Found {
+        sessions: 10_000,
+        changed: 6_000,
+        first: at(1, deny),
+        last: at(10_000, wait),
+    };
+    let going_on = Found {
+        sessions: 5_000,
+        changed: 1_000,
+        first: at(1, deny),
+        last: at(9_991, deny),
+    };
+    assert!(rt; are_found(&rt, rt.alloc(), &all, &going_on)?);
     Ok(())
 }
