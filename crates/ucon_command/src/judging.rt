@@ -54,13 +54,13 @@ fn plain_cuts(line: &[u8]) -> Option<Cuts>
     commands_are_read_back();
     words_are_read_back();
     if line.starts_with(b"beat ") {
-        return Some(Cuts::Beat(session_in(&line[5..])?));
+        return Some(Cuts::Beat(session_number(&line[5..])?));
     }
     if line.starts_with(b"again ") {
-        return Some(Cuts::Again(session_in(&line[6..])?));
+        return Some(Cuts::Again(session_number(&line[6..])?));
     }
     if line.starts_with(b"end ") {
-        return Some(Cuts::End(session_in(&line[4..])?));
+        return Some(Cuts::End(session_number(&line[4..])?));
     }
     if line.starts_with(b"tick ") {
         integer_in_form(Int::read(&line[5..])?);
@@ -71,7 +71,7 @@ fn plain_cuts(line: &[u8]) -> Option<Cuts>
 
 /// The session's number that the bytes spell, which is below 2^32.
 #[inline(always)]
-fn session_in(bytes: &[u8]) -> Option<u32>
+fn session_number(bytes: &[u8]) -> Option<u32>
     ensures { IfSome result (λ n. (number_in bytes.now ≡ Some n) × (n < 2 ^ 32)) }
 {
     let n = number_in(bytes)?;

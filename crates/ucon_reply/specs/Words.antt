@@ -1,6 +1,7 @@
 -- The words of a line: where they stand in it, and as its reader keeps them.
-use Rattle.std.specs.Prelude.{ℕ, ◌-◌, ◌≤◌, ◌==◌, List, [], ◌∷◌, Option, None, Some, drop, length, slice_range, ⊤}
+use Rattle.std.specs.Prelude.{ℕ, ℤ, ◌-◌, ◌≤◌, ◌==◌, List, [], ◌∷◌, Option, None, Some, drop, get_or, length, slice_range, if◌then◌else◌, ⊤}
 use Rattle.std.specs.List.{slice_split}
+use Rattle.ucon_base.specs.Reading.{is_digit, integer_in}
 use Rattle.ucon_reply.specs.declared.line_words.Word.{Word}
 use Rattle.ucon_model.specs.CommandLine as model
 use Rattle.ucon_model.specs.Plain.{Bytes}
@@ -31,3 +32,7 @@ word_of w = record { at = w.at; text = w.text.now }
 abbrev pub BeginWithin : Bytes → List Word → Type 0
 BeginWithin line [] = ⊤
 BeginWithin line (w ∷ ws) = (w.at ≤ length line) × BeginWithin line ws
+
+-- the integer that the bytes spell, if a digit begins them
+abbrev pub digits_in : Bytes → Option ℤ
+digits_in bytes = if is_digit (get_or bytes 0 0) then integer_in bytes else None

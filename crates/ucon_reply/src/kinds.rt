@@ -3,6 +3,7 @@
 ghost use Rattle.std.specs.Prelude.{◌≡◌, IfErr, IfOk, IfSome, IsSome, Some};
 ghost use Rattle.ucon_base.specs.NameBytes.{is_name};
 ghost use Rattle.ucon_model.specs.CommandLine.{name_in, side_in, value_in, number_of, number_in};
+ghost use Rattle.ucon_reply.specs.Words.{digits_in};
 
 use std::alloc::Global;
 use ucon_base::{Int, Name, NoMemory, Side, Value, ValueFault};
@@ -46,11 +47,12 @@ pub fn value_in(alloc: Global, bytes: &[u8]) -> Result<Option<Value>, NoMemory>
     }
 }
 
-/// The integer that the bytes spell, if a digit begins them. None says nothing of the bytes.
+/// The integer that the bytes spell, if a digit begins them.
 #[inline(always)]
 #[tactic(auto, using(crate::proofs::ReadWords::integer_value))]
 pub fn digits_in(bytes: &[u8]) -> Option<Int>
-    ensures { IfSome result (λ n. value_in bytes.now ≡ Some (Value.Int n)) }
+    ensures digits { result ≡ digits_in bytes.now }
+    ensures value { IfSome result (λ n. value_in bytes.now ≡ Some (Value.Int n)) }
 {
     match bytes {
         [b'0'..=b'9', ..] => Int::read(bytes),

@@ -1,5 +1,5 @@
-//! Where the words of a line begin, by how many a reader wants, who knows where the second one begins, if there is one. Each place is a byte's, from 0 at
-//! the line's first.
+//! Where the words of a line begin, by how many a reader wants, who knows where the second one begins, if there is one.
+//! Each place is a byte's, from 0 at the line's first.
 
 ghost use Rattle.std.specs.Prelude.{◌≡◌, ◌≤◌, ◌<◌, [], ◌∷◌, length, drop, IfNone, IfSome, MatchOption};
 ghost use Rattle.ucon_base.specs.NameBytes.{is_name};
@@ -56,12 +56,15 @@ pub fn three_words(line: &[u8], second: Option<usize>) -> Option<ThreeWords>
 pub struct ThreeWords {
     /// The place of the first of them.
     pub a: usize,
+    /// Whether the first is a name.
     pub a_named: bool,
     /// The place of the second.
     pub b: usize,
+    /// Whether the second is a name.
     pub b_named: bool,
     /// The place of the third, which ends with the line.
     pub c: usize,
+    /// Whether the third is a name.
     pub c_named: bool,
 }
 
@@ -69,7 +72,8 @@ pub struct ThreeWords {
 pub fn env_places(line: &[u8], second: Option<usize>) -> Option<(usize, usize)>
     requires { IfSome second (λ at. at ≤ length line.now) }
     ensures none { IfNone result (length (words_from second line.now) < 2) }
-    ensures words { IfSome result (λ p. words_from second line.now ≡ record { at = p.0; text = between p.0 p.1 line.now } ∷ words_at p.1 line.now) }
+    ensures words { IfSome result (λ p. words_from second line.now
+        ≡ record { at = p.0; text = between p.0 p.1 line.now } ∷ words_at p.1 line.now) }
     ensures within { IfSome result (λ p. (p.0 < p.1) × (p.1 ≤ length line.now) × (0 < length (words_at p.1 line.now))) }
 {
     let a = second?;
@@ -106,9 +110,10 @@ pub fn set_places(line: &[u8], second: Option<usize>) -> Option<SetPlaces>
     })
 }
 
-/// Where the words of a place and its value begin, and whether those that are to be names are some.
+/// Where the words of an attribute's cell and its value begin, and whether those that are to be names are some.
 #[derive(Clone, Copy)]
 pub struct SetPlaces {
+    /// The place of the side's letter.
     pub side: usize,
     /// The place of the entity's name.
     pub name: usize,
@@ -116,6 +121,7 @@ pub struct SetPlaces {
     pub named: bool,
     /// The place of the attribute's name.
     pub attr: usize,
+    /// Whether that word is a name.
     pub attr_named: bool,
     /// The place of the value, which takes the rest of the line, with its spaces.
     pub value: usize,

@@ -6,18 +6,18 @@ use Rattle.ucon_command.proofs.judging.plain_cuts.Goals as goal
 
 pub returns-then-starts_with : goal.returns-then-starts_with
 returns-then-starts_with c =
-    beat c.commands_are_read_back.ensures.written c.words_are_read_back.ensures.numbers_read c.args.line.now c.in_ok-session_in.field-0
-    (sym c.starts_with.ensures.value ∙ c.if-starts_with.true) (ap number_in (sym (take_rest c.args.line.now 5)) ∙ c.in_ok-session_in.ensures.0) c.in_ok-session_in.ensures.1
+    beat c.commands_are_read_back.ensures.written c.words_are_read_back.ensures.numbers_read c.args.line.now c.in_ok-session_number.field-0
+    (sym c.starts_with.ensures.value ∙ c.if-starts_with.true) (ap number_in (sym (take_rest c.args.line.now 5)) ∙ c.in_ok-session_number.ensures.0) c.in_ok-session_number.ensures.1
 
 pub returns-then-starts_with-2 : goal.returns-then-starts_with-2
 returns-then-starts_with-2 c =
-    again c.commands_are_read_back.ensures.written c.words_are_read_back.ensures.numbers_read c.args.line.now c.in_ok-session_in-2.field-0
-    (sym c.starts_with-2.ensures.value ∙ c.if-starts_with-2.true) (ap number_in (sym (take_rest c.args.line.now 6)) ∙ c.in_ok-session_in-2.ensures.0) c.in_ok-session_in-2.ensures.1
+    again c.commands_are_read_back.ensures.written c.words_are_read_back.ensures.numbers_read c.args.line.now c.in_ok-session_number-2.field-0
+    (sym c.starts_with-2.ensures.value ∙ c.if-starts_with-2.true) (ap number_in (sym (take_rest c.args.line.now 6)) ∙ c.in_ok-session_number-2.ensures.0) c.in_ok-session_number-2.ensures.1
 
 pub returns-then-starts_with-3 : goal.returns-then-starts_with-3
 returns-then-starts_with-3 c =
-    end_ c.commands_are_read_back.ensures.written c.words_are_read_back.ensures.numbers_read c.args.line.now c.in_ok-session_in-3.field-0
-    (sym c.starts_with-3.ensures.value ∙ c.if-starts_with-3.true) (ap number_in (sym (take_rest c.args.line.now 4)) ∙ c.in_ok-session_in-3.ensures.0) c.in_ok-session_in-3.ensures.1
+    end_ c.commands_are_read_back.ensures.written c.words_are_read_back.ensures.numbers_read c.args.line.now c.in_ok-session_number-3.field-0
+    (sym c.starts_with-3.ensures.value ∙ c.if-starts_with-3.true) (ap number_in (sym (take_rest c.args.line.now 4)) ∙ c.in_ok-session_number-3.ensures.0) c.in_ok-session_number-3.ensures.1
 
 pub returns-then-starts_with-4 : goal.returns-then-starts_with-4
 returns-then-starts_with-4 c =
