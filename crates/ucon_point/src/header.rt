@@ -12,7 +12,7 @@ use std::alloc::Global;
 use ucon_base::{Int, NoMemory, Rows};
 use ucon_check::check;
 use ucon_model::Checked;
-use ucon_row::{count_in, cut_at, integer_in};
+use ucon_row::{count_in, cut_at};
 use ucon_syntax::{SyntaxFault, read_policy};
 
 /// No text of a policy has more.
@@ -49,7 +49,7 @@ pub fn count_at<'a>(
 
 /// The tick in the first line, and what stands behind the line. The bytes are the last of so many.
 #[tactic(auto, unfolding(crate::specs::PointRead::line_at))]
-pub fn tick_at(alloc: Global, total: usize, bytes: &[u8]) -> Result<(Int, &[u8]), PointFault>
+pub fn tick_at(total: usize, bytes: &[u8]) -> Result<(Int, &[u8]), PointFault>
     requires { length bytes.now ≤ total }
     ensures read { MatchResult result (λ p. line_at tick_read total bytes.now ≡ Ok (p.0, p.1.now)) (IsBadAt (line_at tick_read total bytes.now)) }
     ensures since { IfOk result (λ p. pos 0 ≤ℤ p.0) }
@@ -58,7 +58,7 @@ pub fn tick_at(alloc: Global, total: usize, bytes: &[u8]) -> Result<(Int, &[u8])
     let Some((line, rest)) = cut_at(b'\n', bytes) else {
         return Err(PointFault::BadPlace(total));
     };
-    match tick_in(alloc, line)? {
+    match tick_in(line) {
         Some(tick) => Ok((tick, rest)),
         None => Err(PointFault::BadPlace(total - bytes.len())),
     }
@@ -178,17 +178,11 @@ fn counted(word: &[u8], line: &[u8]) -> Option<u64>
 }
 
 /// The tick, of 0 or more, that a line tells.
-fn tick_in(alloc: Global, line: &[u8]) -> Result<Option<Int>, NoMemory>
-    ensures read { IfOk result (λ tick. tick ≡ tick_read line.now) }
-    ensures since { IfOk result (λ tick. IfSome tick (λ t. pos 0 ≤ℤ t)) }
+fn tick_in(line: &[u8]) -> Option<Int>
+    ensures read { result ≡ tick_read line.now }
+    ensures since { IfSome result (λ t. pos 0 ≤ℤ t) }
 {
-    let Some(rest) = behind(b"tick", line) else {
-        return Ok(None);
-    };
-    match integer_in(alloc, rest)? {
-        Some(tick) => Ok(from_zero(tick)),
-        None => Ok(None),
-    }
+    from_zero(Int::read(behind(b"tick", line)?)?)
 }
 
 fn from_zero(tick: Int) -> Option<Int>

@@ -67,7 +67,7 @@ fn point_behind(
     ensures { MatchResult result (IsRead (point_behind total entries policy.text.items (checked_policy policy.policy) bytes.now))
         (IsBadAt (point_behind total entries policy.text.items (checked_policy policy.policy) bytes.now)) }
 {
-    match tick_at(alloc, total, bytes) {
+    match tick_at(total, bytes) {
         Ok((tick, rest)) => {
             let mut state = opening(alloc, policy.policy, tick)?;
             put_rows(alloc, total, &mut state, rest)?;

@@ -13,4 +13,4 @@ pub use lines::{put_act, put_entity, put_session, put_value};
 pub use order::{Reached, Stage, after, awaited, beginning};
 pub use row::Row;
 pub use rows::row_in;
-pub use words::{count_in, cut_at, integer_in};
+pub use words::{count_in, cut_at};

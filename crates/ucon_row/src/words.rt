@@ -3,7 +3,7 @@
 ghost use Rattle.std.specs.Prelude.{◌≡◌, ◌<◌, ◌≤◌, ◌+◌, ◌-◌, ◌*◌, ◌^◌, ◌==◌, ◌↔◌, IsTrue, length, position, IfOk, IfSome, MatchOption, None, Some};
 ghost use Rattle.std.specs.Fmt.{decimal};
 ghost use Rattle.ucon_base.specs.Reading.{number_of};
-ghost use Rattle.ucon_model.specs.CommandLine.{integer_in, integer_of, name_in, value_in};
+ghost use Rattle.ucon_model.specs.CommandLine.{name_in, value_in};
 ghost use Rattle.ucon_model.specs.Output.{cut_at};
 ghost use Rattle.ucon_model.specs.Payload.{caller_read};
 ghost use Rattle.ucon_model.specs.ReplyText.{state_read};
@@ -12,7 +12,7 @@ ghost use Rattle.ucon_row.specs.Numbers.{count_read};
 use crate::lines::state_word;
 use itoa::Buffer;
 use std::alloc::Global;
-use ucon_base::{Int, Name, NoMemory, Value, ValueFault};
+use ucon_base::{Name, NoMemory, Value, ValueFault};
 use ucon_model::{Caller, SessionState};
 
 const STATES: [SessionState; 5] = [
@@ -56,25 +56,6 @@ pub fn value_in(alloc: Global, bytes: &[u8]) -> Result<Option<Value>, NoMemory>
         Ok(v) => Ok(Some(v)),
         Err(ValueFault::NoMemory(refused)) => Err(refused),
         Err(_) => Ok(None),
-    }
-}
-
-fn integer_of(v: &Value) -> Option<Int>
-    ensures { result ≡ integer_of v.now }
-{
-    match v {
-        Value::Int(n) => Some(*n),
-        _ => None,
-    }
-}
-
-/// The integer that the bytes spell.
-pub fn integer_in(alloc: Global, bytes: &[u8]) -> Result<Option<Int>, NoMemory>
-    ensures { IfOk result (λ n. n ≡ integer_in bytes.now) }
-{
-    match value_in(alloc, bytes)? {
-        Some(v) => Ok(integer_of(&v)),
-        None => Ok(None),
     }
 }
 
