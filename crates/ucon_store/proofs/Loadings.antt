@@ -4,7 +4,7 @@ use Rattle.std.specs.Prelude.{IfSome}
 use Rattle.ucon_journal.specs.declared.journal.Journal.{Journal}
 use Rattle.ucon_journal.specs.Found as journal
 use Rattle.ucon_journal.specs.Found.{StandsAt, counted, payloads_from}
-use Rattle.ucon_journal.specs.Journal.{gate_of, version_of, told_payloads}
+use Rattle.ucon_journal.specs.Journal.{disk_of, gate_of, version_of, told_payloads, HasEnded, IsClosed}
 use Rattle.ucon_journal.specs.JournalBytes.{record_bytes, records}
 use Rattle.ucon_model.specs.Found as model
 use Rattle.ucon_model.specs.Found.{Finding, found_in}
@@ -18,7 +18,7 @@ use Rattle.ucon_store.specs.Loading.{IsRead, IsReadWhole}
 use Rattle.ucon_store.specs.Opened as opened
 use Rattle.ucon_store.specs.Opened.{Seen, Sees, first_long}
 use Rattle.ucon_store.specs.Opening.{HasOtherPolicy, IsForeign, KeepsFound, first_difference}
-use Rattle.ucon_store.specs.Points.{has_points, takes_with}
+use Rattle.ucon_store.specs.Points.{SameKind, SamePlaces, has_points, points_of, takes_with}
 use Rattle.ucon_store.specs.Starts.{IsBeforeAll, IsStart}
 use Rattle.ucon_walk.specs.declared.walking.LastPoint.{LastPoint}
 use Rattle.ucon_walk.specs.Walking.{IsWalked}
@@ -26,8 +26,10 @@ use Rattle.ucon_store.proofs.Fronts.{held_as}
 use Rattle.ucon_store.proofs.Openings.{found_counted, found_fresh}
 use Rattle.ucon_store.proofs.Reading.{sees_read, some_counted}
 use Rattle.ucon_store.proofs.Runs.{IsAtHome}
+use Rattle.ucon_store.proofs.SamePlaces.{same_kind, same_told}
 use Rattle.ucon_store.proofs.Stepping.{one_policy}
 use Rattle.ucon_store.proofs.Taking.{long_here, long_seen}
+use Rattle.ucon_store.proofs.Versions.{closed_kind, ended_kind}
 
 -- these payloads may stand in the file, where the disk tells
 abbrev pub IsOfKind : Bool → Bytes → Type 0
@@ -92,20 +94,44 @@ pub read_told : (o : Option Bytes) (text t : Bytes) (P Q : PlainPolicy) (point :
 read_told None text t P Q point before H same one whole = tt
 read_told (Some file) text t P Q point before H same one whole = inr (subst (λ (z : Bytes × PlainPolicy). IsReadWhole z.0 z.1 point before H file) (λ i. (same i, one i)) whole)
 
+-- a journal that was mended holds the payloads that it held, in a file of the same kind
+pub record IsMended (points : Bool) (o n : Option Bytes) : Type 0 where
+  pub same : told_payloads n ≡ told_payloads o
+  pub was : IfSome o (IsOfKind points)
+  pub now : IfSome n (IsOfKind points)
+
+pub mended_told : {D : Type 0} (contents : D → Option (List ℕ)) (ended mended : Journal D) {o : Option Bytes} → contents (disk_of ended) ≡ o
+    → HasEnded contents ended → IsClosed contents mended → version_of mended ≡ version_of ended
+    → told_payloads (contents (disk_of mended)) ≡ told_payloads (contents (disk_of ended))
+    → IsMended (points_of (version_of ended)) o (contents (disk_of mended))
+mended_told contents ended mended told ends closed version same =
+    subst (λ (x : Option Bytes). IsMended (points_of (version_of ended)) x (contents (disk_of mended))) told (record {
+      same = same;
+      was = ended_kind contents ended ends;
+      now = subst (λ (v : ℕ). IfSome (contents (disk_of mended)) (IsOfKind (points_of v))) version (closed_kind contents mended closed);
+    })
+
 -- mending leaves what was found
 pub kept_mended : (o n : Option Bytes) (points : Bool) (text t : Bytes) (P : PlainPolicy) (point : Option Bytes) (before : ℕ) (H : History) → IfSome o (IsReadWhole text P point before H)
-    → told_payloads n ≡ told_payloads o → IfSome o (IsOfKind points) → IfSome n (IsOfKind points) → KeepsFound t o n
-kept_mended None n points text t P point before H whole same was now = tt
-kept_mended (Some file) None points text t P point before H whole same was now = tt
-kept_mended (Some file) (Some c) points text t P point before H whole same was now = λ Q G accepts found_so.
+    → IsMended points o n → KeepsFound t o n
+kept_mended None n points text t P point before H whole mended = tt
+kept_mended (Some file) None points text t P point before H whole mended = tt
+kept_mended (Some file) (Some c) points text t P point before H whole mended = λ Q G accepts found_so.
     let r = whole.1 in
-    let counts : counted c ≡ text ∷ r.payloads = same ∙ r.counts in
+    let counts : counted c ≡ text ∷ r.payloads = mended.same ∙ r.counts in
     let there = found_counted c (some_counted (journal.found c) text r.payloads counts) in
     let here = found_counted file (some_counted (journal.found file) text r.payloads r.counts) in
     let alike : found c ≡ found file =
-    there ∙ ((λ i. found_in accepted (takes_with ((now ∙ sym was) i)) (same i)) ∙ sym here) in
+    there ∙ ((λ i. found_in accepted (takes_with ((mended.now ∙ sym mended.was) i)) (mended.same i)) ∙ sym here) in
     let held = held_as file text r.payloads r.counts t G found_so in
     record { gate = held.gate; is = alike ∙ held.is ∙ ap (λ (R : PlainPolicy). model.holds t R G held.gate) (one_policy t held.Q Q held.accepts accepts) }
+
+-- and the checkpoints where they stood
+pub places_mended : {points : Bool} {o n : Option Bytes} → IsMended points o n → SamePlaces o n
+places_mended {points} {o} {n} m = same_told o n points m.same m.was m.now
+
+pub kind_mended : {points : Bool} {o n : Option Bytes} → IsMended points o n → SameKind o n
+kind_mended {points} {o} {n} m = same_kind o n points m.was m.now
 
 -- ---- how many payloads there are
 

@@ -11,31 +11,30 @@ use Rattle.ucon_model.specs.History.{History, trace, trace_from}
 use Rattle.ucon_model.specs.Payload.{most_payload}
 use Rattle.ucon_model.specs.Plain.{Bytes, PlainPolicy}
 use Rattle.ucon_disk.specs.Causes.{HasCause}
-use Rattle.ucon_disk.specs.Disk.{Only}
 use Rattle.ucon_disk.specs.Run.{LeavesOnly, LeavesAfter, weaker}
 use Rattle.ucon_journal.specs.declared.journal.Journal.{Journal}
-use Rattle.ucon_journal.specs.Journal.{disk_of, version_of, told_payloads, IsClosed}
+use Rattle.ucon_journal.specs.Journal.{disk_of, version_of, IsClosed}
 use Rattle.ucon_journal.specs.Found as journalled
 use Rattle.ucon_journal.specs.Opened.{StillHolds, PerhapsAdded}
 use Rattle.ucon_point.specs.PointText.{point_text}
 use Rattle.ucon_state.specs.Held.{held_after}
-use Rattle.ucon_turn.specs.Lists.{Begins, begins_refl}
+use Rattle.ucon_turn.specs.Lists.{begins_refl}
 use Rattle.ucon_syntax.specs.Policies.{accepted}
-use Rattle.ucon_store.specs.Found.{Holds, IsFoundAs, found_as}
+use Rattle.ucon_store.specs.Found.{Holds, found_as}
 use Rattle.ucon_store.specs.declared.beginning.Beginning.{Beginning}
-use Rattle.ucon_store.specs.Kept.{Kept, IsKept, text_in}
+use Rattle.ucon_store.specs.Kept.{Kept, IsKept, payload_in, text_in}
 use Rattle.ucon_store.specs.declared.fault.PointRefusal.{PointRefusal}
 use Rattle.ucon_store.specs.declared.fault.PointRefusal.TheVariants.{Stopped, OldJournal, TooLarge, NoMemory}
 use Rattle.ucon_store.specs.Pointing.{IsFoundPointed, IsUnpointed, IsUnprepared}
 use Rattle.ucon_store.specs.Points.{checkpoint, has_points, is_point, places_in, point_places, point_taken, points_of, steps_and_points, takes_with, text_behind, text_in_force}
-use Rattle.ucon_store.specs.Starts.{checkpoint_behind, point_behind}
+use Rattle.ucon_store.specs.Starts.{IsStart, checkpoint_behind, point_behind, text_at_start}
 use Rattle.ucon_store.specs.Stays.{Stays}
 use Rattle.ucon_store.specs.Whole.{IsFounded, left_founded}
 use Rattle.ucon_store.proofs.Finding.{counted_hold, holds_more, holds_same, takes_of}
 use Rattle.ucon_store.proofs.Versions.{closed_kind, takes_as}
 use Rattle.ucon_store.proofs.Places.{place_added}
 use Rattle.ucon_store.proofs.SamePlaces.{places_same}
-use Rattle.ucon_store.proofs.Recorded.{HoldsAtRest, OneByOne, at_rest_as, holds_now, same_kind, some_told, told_file}
+use Rattle.ucon_store.proofs.Recorded.{HoldsAtRest, IsAppended, OneByOne, at_rest_as, counted_then, holds_now, kind_now, kind_then, rest_with, same_kind, told_file}
 use Rattle.ucon_store.proofs.Stepped.{holds_founded, parts}
 use Rattle.ucon_store.proofs.Stepping.{stands_as, trace_append}
 
@@ -87,46 +86,29 @@ module _ (one : OneByOne) (text : Bytes) (P : PlainPolicy) (H : History) (payloa
       (found_as text P H c (holds_point file c points h kind more.payloads), inr (places_more file c points h kind more.payloads)))
       perhaps
 
-  module _ {D : Type 0} (contents : D → Option (List ℕ)) (images : D → List ℕ → Type 0) (journal : Journal D) (rest : HoldsAtRest contents images journal text P H)
+  module _ {D : Type 0} {contents : D → Option (List ℕ)} {images : D → List ℕ → Type 0} {journal : Journal D}
+      (rest : HoldsAtRest contents images journal text P H)
       (second : points_of (version_of journal) ≡ true) where
     kind_of : (file : Bytes) → contents (disk_of journal) ≡ Some file → has_points file ≡ true
-    kind_of file told = some_told (λ f. has_points f ≡ points_of (version_of journal)) (contents (disk_of journal)) file told (closed_kind contents journal rest.closed) ∙ second
+    kind_of file told = kind_now rest file told ∙ second
 
     -- each image inside the call is found as the history, with the checkpoint or without
     pub run_pointed : (moment : D → ℕ) (images_since : D → ℕ → List ℕ → Type 0) (new : D) → LeavesAfter contents images moment images_since (disk_of journal) new (PerhapsAdded payload)
         → (file : Bytes) → contents (disk_of journal) ≡ Some file → LeavesOnly moment images_since (disk_of journal) new (IsFoundPointed text H (point_places file))
     run_pointed moment images_since new run file told =
         weaker moment images_since (disk_of journal) new (PerhapsAdded payload file) (IsFoundPointed text H (point_places file))
-        (λ c. pointed_perhaps file c (kind_of file told) (holds_now contents images journal text P H rest file told)) (run.each file (at_rest_as contents images journal text P H rest file told))
+        (λ c. pointed_perhaps file c (kind_of file told) (holds_now rest file told)) (run.each file (at_rest_as rest file told))
 
-    module _ (next : Journal D) (version : version_of next ≡ version_of journal) (closed : IsClosed contents next)
-        (added : IfSome (contents (disk_of journal)) (λ file. told_payloads (contents (disk_of next)) ≡ told_payloads (contents (disk_of journal)) ++ payload ∷ [])) where
-      same_kinds : (file c : Bytes) → contents (disk_of journal) ≡ Some file → contents (disk_of next) ≡ Some c → has_points c ≡ has_points file
-      same_kinds file c was now =
-          some_told (λ f. has_points f ≡ points_of (version_of next)) (contents (disk_of next)) c now (closed_kind contents next closed)
-          ∙ (ap points_of version ∙ (second ∙ sym (kind_of file was)))
-
-      counted_more : (file c : Bytes) → contents (disk_of journal) ≡ Some file → contents (disk_of next) ≡ Some c → journalled.counted c ≡ journalled.counted file ++ payload ∷ []
-      counted_more file c was now =
-          let more = some_told (λ _. told_payloads (contents (disk_of next)) ≡ told_payloads (contents (disk_of journal)) ++ payload ∷ []) (contents (disk_of journal)) file was added in
-          sym (ap told_payloads now) ∙ (more ∙ ap (λ (x : Option Bytes). told_payloads x ++ payload ∷ []) was)
-
+    module _ {next : Journal D} (appended : IsAppended contents images journal next payload) where
       -- where the checkpoints stand then
       pub added_places : (file c : Bytes) → contents (disk_of journal) ≡ Some file → contents (disk_of next) ≡ Some c → point_places c ≡ point_places file ++ length H ∷ []
       added_places file c was now =
-          places_more file c (kind_of file was) (holds_now contents images journal text P H rest file was) (same_kinds file c was now) (counted_more file c was now)
+          places_more file c (kind_of file was) (holds_now rest file was) (kind_then rest appended file c was now)
+          (counted_then rest appended file c was now)
 
       -- the journal is at rest with the same entries
-      pub rest_pointed : Only (contents (disk_of next)) (images (disk_of next)) → is_some (contents (disk_of next)) ≡ is_some (contents (disk_of journal))
-          → HoldsAtRest contents images next text P H
-      rest_pointed only tells = record { closed = closed; only = only; holds = each (contents (disk_of journal)) (contents (disk_of next)) refl refl }
-        where
-          each : (o n : Option Bytes) → contents (disk_of journal) ≡ o → contents (disk_of next) ≡ n → IfSome n (Holds text P H)
-          each None None was now = tt
-          each (Some file) None was now = tt
-          each None (Some c) was now = absurd (let bad : true ≡ false = sym (ap is_some now) ∙ (tells ∙ ap is_some was) in cc bad)
-          each (Some file) (Some c) was now =
-              holds_point file c (kind_of file was) (holds_now contents images journal text P H rest file was) (same_kinds file c was now) (counted_more file c was now)
+      pub rest_pointed : HoldsAtRest contents images next text P H
+      rest_pointed = rest_with rest appended one H (λ file told. takes file (kind_of file told))
 
 -- ---- behind a history that a store is founded on
 
@@ -143,80 +125,160 @@ checkpoint_whole text start before P G H is count =
     let traces : trace_from P (trace P G) H ≡ trace P (G ++ H) = sym (trace_append P [] G H) in
     λ i. point_text (number i) (in_force i) (held_after P (traces i))
 
-module _ {D : Type 0} (contents : D → Option (List ℕ)) (images : D → List ℕ → Type 0) (j k : Journal D) (text : Bytes) (point : Option Beginning) (before opening : ℕ) (H : History)
-    (mark : Option Entry) (closed : IsClosed contents k) (same : disk_of k ≡ disk_of j) (one : OneByOne) (payload : Bytes) (short : length payload ≤ most_payload)
-    (second : points_of (version_of k) ≡ true) {E : Type 0} (follows : E → PlainPolicy → Trace → Type 0) (engine : E)
+-- A checkpoint of a store is ready for the disk: no step has failed, the journal is closed over the store's disk, and may have checkpoints, and the
+-- payload isn't too long, and is the store's checkpoint behind each trace that leads to its beginning.
+pub record IsPointReady {D : Type 0} (contents : D → Option (List ℕ)) (x : Kept D) (k : Journal D) (payload : Bytes) : Type 0 where
+  pub unmarked : x.mark ≡ None
+  pub closed : IsClosed contents k
+  pub same : disk_of k ≡ x.disk
+  pub second : points_of (version_of k) ≡ true
+  pub short : length payload ≤ most_payload
+  pub writes : (P : PlainPolicy) (T : Trace) → accepted x.policy ≡ Some P → IsStart P x.point x.before T
+      → payload ≡ checkpoint_behind x.policy x.point x.before P T x.entries
+
+same_points : (o : Option Bytes) (points b : Bool) → points ≡ b → IfSome o (λ file. has_points file ≡ points)
+    → IfSome o (λ file. has_points file ≡ b)
+same_points o points b is kind = subst (λ (x : Bool). IfSome o (λ file. has_points file ≡ x)) is kind
+
+-- why a checkpoint wasn't prepared is why the store has none more
+unpointed : {D : Type 0} (contents : D → Option Bytes) (P : PlainPolicy) (T : Trace) (store : Kept D) (refusal : PointRefusal) (points : Bool)
+    (payload : Bytes)
+    → IsUnprepared points payload refusal → payload ≡ checkpoint_behind store.policy store.point store.before P T store.entries → IfSome (contents store.disk) (λ file. has_points file ≡ points)
+    → IsUnpointed contents P T store refusal
+unpointed contents P T store Stopped points payload h is kind = absurd h
+unpointed contents P T store OldJournal points payload h is kind = same_points (contents store.disk) points false h kind
+unpointed contents P T store (TooLarge size) points payload h is kind = (same_points (contents store.disk) points true h.0 kind, h.1 ∙ ap (λ (l : Bytes). length l) is, h.2)
+unpointed contents P T store (NoMemory e) points payload h is kind = tt
+
+module _ {E D : Type 0} {follows : E → PlainPolicy → Trace → Type 0} {contents : D → Option (List ℕ)} {images : D → List ℕ → Type 0} {engine : E}
+    {j : Journal D} {text : Bytes}
+    {point : Option Beginning} {before opening : ℕ} {H : History} {mark : Option Entry}
     (kept : IsKept follows contents images engine j text point before H mark)
-    (writes : (P : PlainPolicy) (T : Trace) → follows engine P (trace_from P T H) → payload ≡ point_behind (text_in text point) before P T H) where
-  module _ (P : PlainPolicy) (G : History) (f : IsFounded contents images P (parts text point before opening H mark (disk_of j)) G) where
-    is_checkpoint : payload ≡ checkpoint text P (G ++ H)
+    {x : Kept D} (is : parts text point before opening H mark (disk_of j) ≡ x) (none : mark ≡ None) {start : Bytes}
+    (begins_as : start ≡ text_in text point) where
+  point_is : (P : PlainPolicy) (T : Trace) → point_behind start before P T H ≡ checkpoint_behind text (payload_in point) before P T H
+  point_is P T = ap (λ (t : Bytes). point_behind t before P T H) (begins_as ∙ kept.in_force)
+
+  -- a store's checkpoint is ready where it was written after what the engine follows
+  pub point_ready : {k : Journal D} → (IsClosed contents j → IsClosed contents k) → disk_of k ≡ disk_of j → version_of k ≡ version_of j
+      → points_of (version_of j) ≡ true
+      → {payload written : Bytes} → payload ≡ written → length written ≤ most_payload
+      → ((P : PlainPolicy) (T : Trace) → follows engine P (trace_from P T H) → written ≡ point_behind start before P T H)
+      → IsPointReady contents x k payload
+  point_ready {k} closed same version second {payload} is_written short writes =
+      subst (λ (s : Kept D). IsPointReady contents s k payload) is (record {
+        unmarked = none;
+        closed = closed (kept.rests none).closed;
+        same = same;
+        second = ap points_of version ∙ second;
+        short = subst (λ (l : Bytes). length l ≤ most_payload) (sym is_written) short;
+        writes = λ P T accepts leads. is_written ∙ (writes P T (stands_as kept P accepts T leads) ∙ point_is P T);
+      })
+
+  -- and why it wasn't prepared is why the store has none more
+  pub point_refused : (refusal : PointRefusal)
+      → ((P : PlainPolicy) (T : Trace) → follows engine P (trace_from P T H)
+      → IsUnprepared (points_of (version_of j)) (point_behind start before P T H) refusal)
+      → (P : PlainPolicy) (T : Trace) → accepted x.policy ≡ Some P → IsStart P x.point x.before T → IsUnpointed contents P T x refusal
+  point_refused refusal refused =
+      subst (λ (s : Kept D). (P : PlainPolicy) (T : Trace) → accepted s.policy ≡ Some P → IsStart P s.point s.before T
+      → IsUnpointed contents P T s refusal) is
+      (λ P T accepts leads.
+      unpointed contents P T (parts text point before opening H mark (disk_of j)) refusal (points_of (version_of j))
+      (point_behind start before P T H)
+      (refused P T (stands_as kept P accepts T leads)) (point_is P T) (closed_kind contents j (kept.rests none).closed))
+
+-- the store on this disk
+abbrev pub on_disk : {D : Type 0} → Kept D → D → Kept D
+on_disk x disk = record x { disk = disk }
+
+-- a crash leaves what a store is founded on, with its entries, and its checkpoints with one more, behind all entries, or without
+abbrev pub LeavesPoint : {D : Type 0} → (D → Option (List ℕ)) → (D → List ℕ → Type 0) → (D → ℕ) → (D → ℕ → List ℕ → Type 0) → Kept D → D → Type 0
+LeavesPoint contents images moment images_since x new = (P : PlainPolicy) (G : History) (file : List ℕ) → IsFounded contents images P x G
+    → contents x.disk ≡ Some file
+    → LeavesOnly moment images_since x.disk new (IsFoundPointed x.policy (G ++ x.entries) (point_places file))
+
+module _ {D : Type 0} {contents : D → Option (List ℕ)} {x : Kept D} {k : Journal D} {payload : Bytes}
+    (ready : IsPointReady contents x k payload) where
+  -- the file may have checkpoints
+  pub points_ready : IfSome (contents x.disk) (λ file. has_points file ≡ true)
+  points_ready =
+      subst (λ (d : D). IfSome (contents d) (λ file. has_points file ≡ true)) ready.same
+      (same_points (contents (disk_of k)) (points_of (version_of k)) true ready.second (closed_kind contents k ready.closed))
+
+  -- the checkpoint isn't too long
+  pub fits_ready : (P : PlainPolicy) (T : Trace) → accepted x.policy ≡ Some P → IsStart P x.point x.before T
+      → length (checkpoint_behind x.policy x.point x.before P T x.entries) ≤ most_payload
+  fits_ready P T accepts leads = subst (λ (l : Bytes). length l ≤ most_payload) (ready.writes P T accepts leads) ready.short
+
+  module _ {images : D → List ℕ → Type 0} (P : PlainPolicy) (G : History) (f : IsFounded contents images P x G) where
+    is_checkpoint : payload ≡ checkpoint x.policy P (G ++ x.entries)
     is_checkpoint =
-        writes P (trace P G) (stands_as follows contents images engine j text point before H mark kept P f.accepts (trace P G) f.front.starts)
-        ∙ checkpoint_whole text (text_in text point) before P G H (kept.in_force ∙ sym f.front.text) f.front.count
+        ready.writes P (trace P G) f.accepts f.front.starts
+        ∙ checkpoint_whole x.policy (text_at_start x.policy x.point) x.before P G x.entries (sym f.front.text) f.front.count
 
-    rest : HoldsAtRest contents images k text P (G ++ H)
-    rest = holds_founded contents images j k text point before opening H mark closed same P G f
+    rest : HoldsAtRest contents images k x.policy P (G ++ x.entries)
+    rest = holds_founded contents images x k ready.closed ready.same P G f
 
-  -- what a crash inside leaves
-  pub run_point : (moment : D → ℕ) (images_since : D → ℕ → List ℕ → Type 0) (new : D) → LeavesAfter contents images moment images_since (disk_of k) new (PerhapsAdded payload)
-      → (P : PlainPolicy) (G : History) (file : Bytes) → IsFounded contents images P (parts text point before opening H mark (disk_of j)) G → contents (disk_of j) ≡ Some file
-      → LeavesOnly moment images_since (disk_of j) new (IsFoundPointed text (G ++ H) (point_places file))
-  run_point moment images_since new run P G file f told =
-      subst (λ (d : D). contents d ≡ Some file → LeavesOnly moment images_since d new (IsFoundPointed text (G ++ H) (point_places file))) same
-      (run_pointed one text P (G ++ H) payload (is_checkpoint P G f) short contents images k (rest P G f) second moment images_since new run file) told
+  module _ (one : OneByOne) where
+    -- what a crash inside leaves
+    pub leaves_point : {images : D → List ℕ → Type 0} {moment : D → ℕ} {images_since : D → ℕ → List ℕ → Type 0} {new : D}
+        → LeavesAfter contents images moment images_since (disk_of k) new (PerhapsAdded payload)
+        → LeavesPoint contents images moment images_since x new
+    leaves_point {images} {moment} {images_since} {new} run P G file f told =
+        subst (λ (d : D). contents d ≡ Some file
+        → LeavesOnly moment images_since d new (IsFoundPointed x.policy (G ++ x.entries) (point_places file))) ready.same
+        (run_pointed one x.policy P (G ++ x.entries) payload (is_checkpoint P G f) ready.short
+        (rest P G f) ready.second moment images_since new run file) told
 
-  module _ (next : Journal D) (version : version_of next ≡ version_of k) (shut : IsClosed contents next)
-      (added : IfSome (contents (disk_of k)) (λ file. told_payloads (contents (disk_of next)) ≡ told_payloads (contents (disk_of k)) ++ payload ∷ [])) where
-    -- where the checkpoints stand then
-    pub places_point : (P : PlainPolicy) (G : History) (was file : Bytes) → IsFounded contents images P (parts text point before opening H mark (disk_of j)) G
-        → contents (disk_of j) ≡ Some was → contents (disk_of next) ≡ Some file → point_places file ≡ point_places was ++ length (G ++ H) ∷ []
-    places_point P G was file f told now =
-        added_places one text P (G ++ H) payload (is_checkpoint P G f) short contents images k (rest P G f) second next version shut added was file
-        (ap (λ (d : D). contents d) same ∙ told) now
+    module _ {images : D → List ℕ → Type 0} {next : Journal D} (appended : IsAppended contents images k next payload) where
+      -- where the checkpoints stand then
+      pub places_point : (P : PlainPolicy) (G : History) (was file : Bytes) → IsFounded contents images P x G → contents x.disk ≡ Some was
+          → contents (disk_of next) ≡ Some file
+          → point_places file ≡ point_places was ++ length (G ++ x.entries) ∷ []
+      places_point P G was file f told now =
+          added_places one x.policy P (G ++ x.entries) payload (is_checkpoint P G f) ready.short (rest P G f) ready.second appended was file
+          (ap contents ready.same ∙ told) now
 
-    -- the store is founded still
-    pub founded_point : Only (contents (disk_of next)) (images (disk_of next)) → is_some (contents (disk_of next)) ≡ is_some (contents (disk_of k))
-        → (P : PlainPolicy) (G : History) → IsFounded contents images P (parts text point before opening H mark (disk_of j)) G
-        → IsFounded contents images P (parts text point before opening H mark (disk_of next)) G
-    founded_point only tells P G f =
-        let now = rest_pointed one text P (G ++ H) payload (is_checkpoint P G f) short contents images k (rest P G f) second next version shut added only tells in record {
-          accepts = f.accepts;
-          front = record { starts = f.front.starts; count = f.front.count; text = f.front.text };
-          unmarked = f.unmarked;
-          holds = now.holds;
-          only = only;
-        }
+      -- the store is founded still
+      pub founded_point : {y : Kept D} → y ≡ on_disk x (disk_of next) → (P : PlainPolicy) (G : History) → IsFounded contents images P x G
+          → IsFounded contents images P y G
+      founded_point is P G f =
+          let now = rest_pointed one x.policy P (G ++ x.entries) payload (is_checkpoint P G f) ready.short (rest P G f) ready.second appended in
+          subst (λ (s : Kept D). IsFounded contents images P s G) (sym is) (record {
+            accepts = f.accepts;
+            front = record { starts = f.front.starts; count = f.front.count; text = f.front.text };
+            unmarked = f.unmarked;
+            holds = now.holds;
+            only = now.only;
+          })
 
--- a store stays across a checkpoint
-pub stays_pointed : {D : Type 0} (contents : D → Option (List ℕ)) (images : D → List ℕ → Type 0) (moment : D → ℕ) (images_since : D → ℕ → List ℕ → Type 0) (faults : D → ℕ) (x y : Kept D)
-    → x.mark ≡ None → y.mark ≡ None → y.policy ≡ x.policy → y.point ≡ x.point → y.before ≡ x.before → y.opening ≡ x.opening → y.entries ≡ x.entries → faults y.disk ≡ faults x.disk
-    → is_some (contents y.disk) ≡ is_some (contents x.disk)
-    → ((P : PlainPolicy) (G : History) (file : Bytes) → IsFounded contents images P x G → contents x.disk ≡ Some file
-    → LeavesOnly moment images_since x.disk y.disk (IsFoundPointed x.policy (G ++ x.entries) (point_places file)))
-    → ((P : PlainPolicy) (G : History) → IsFounded contents images P x G → IsFounded contents images P y G)
-    → Stays contents images moment images_since faults x y
-stays_pointed contents images moment images_since faults x y none unmarked policy point before opening entries unfailed tells run founded = record {
-  policy = policy;
-  point = point;
-  before = before;
-  opening = opening;
-  entries = subst (Begins x.entries) (sym entries) (begins_refl x.entries);
-  mark = λ e some. absurd (let no : None ≡ Some e = sym none ∙ some in cc no);
-  unfailed = λ _. unfailed;
-  failed = λ _ e some. absurd (let no : None ≡ Some e = sym unmarked ∙ some in cc no);
-  tells = λ told. tells ∙ told;
-  left = λ P G f told.
-      let file = told_file (contents x.disk) told in
-      weaker moment images_since x.disk y.disk (IsFoundPointed x.policy (G ++ x.entries) (point_places file.0)) _
-      (λ c h. inr (record {
-        history = G ++ x.entries;
-        found = subst (λ (t : Bytes). IsFoundAs t c (G ++ x.entries)) (sym policy) h.0;
-        begun = begins_refl (G ++ x.entries);
-        within = inl (subst (λ (l : History). Begins (G ++ x.entries) (G ++ l)) (sym entries) (begins_refl (G ++ x.entries)));
-      })) (run P G file.0 f file.1);
-  founded = λ P G f _. founded P G f;
-  left_now = λ P G f. left_founded contents images P y G (founded P G f);
-}
+      -- and it stays
+      pub stays_point : (faults : D → ℕ) {moment : D → ℕ} {images_since : D → ℕ → List ℕ → Type 0}
+          → LeavesAfter contents images moment images_since (disk_of k) (disk_of next) (PerhapsAdded payload)
+          → faults (disk_of next) ≡ faults (disk_of k)
+          → {y : Kept D} → y ≡ on_disk x (disk_of next) → Stays contents images moment images_since faults x y
+      stays_point faults {moment} {images_since} run unfailed is =
+          subst (Stays contents images moment images_since faults x) (sym is) (record {
+            policy = refl;
+            point = refl;
+            before = refl;
+            opening = refl;
+            entries = begins_refl x.entries;
+            mark = λ e some. let no : None ≡ Some e = sym ready.unmarked ∙ some in absurd (cc no);
+            unfailed = λ _. unfailed ∙ ap faults ready.same;
+            failed = λ _ e some. let no : None ≡ Some e = sym ready.unmarked ∙ some in absurd (cc no);
+            tells = λ told. appended.tells ∙ (ap (λ (d : D). is_some (contents d)) ready.same ∙ told);
+            left = λ P G f told.
+                let file = told_file (contents x.disk) told in
+                weaker moment images_since x.disk (disk_of next) (IsFoundPointed x.policy (G ++ x.entries) (point_places file.0)) _
+                (λ c h.
+                let all = begins_refl (G ++ x.entries) in
+                inr (record { history = G ++ x.entries; found = h.0; begun = all; within = inl all }))
+                (leaves_point run P G file.0 f file.1);
+            founded = λ P G f _. founded_point refl P G f;
+            left_now = λ P G f. left_founded contents images P (on_disk x (disk_of next)) G (founded_point refl P G f);
+          })
 
 -- ---- what a call that failed, or didn't, tells
 
@@ -229,15 +291,3 @@ module _ {T E : Type 0} where
   pub no_cause : (before now : ℕ) (r : Result T E) → is_err r ≡ false → HasCause before now r → now ≡ before
   no_cause before now (Ok x) is h = h
   no_cause before now (Err e) is h = absurd (cc is)
-
-pub same_points : (o : Option Bytes) (points b : Bool) → points ≡ b → IfSome o (λ file. has_points file ≡ points) → IfSome o (λ file. has_points file ≡ b)
-same_points o points b is kind = subst (λ (x : Bool). IfSome o (λ file. has_points file ≡ x)) is kind
-
--- why a checkpoint wasn't prepared is why the store has none more
-pub unpointed : {D : Type 0} (contents : D → Option Bytes) (P : PlainPolicy) (T : Trace) (store : Kept D) (refusal : PointRefusal) (points : Bool) (payload : Bytes)
-    → IsUnprepared points payload refusal → payload ≡ checkpoint_behind store.policy store.point store.before P T store.entries → IfSome (contents store.disk) (λ file. has_points file ≡ points)
-    → IsUnpointed contents P T store refusal
-unpointed contents P T store Stopped points payload h is kind = absurd h
-unpointed contents P T store OldJournal points payload h is kind = same_points (contents store.disk) points false h kind
-unpointed contents P T store (TooLarge size) points payload h is kind = (same_points (contents store.disk) points true h.0 kind, h.1 ∙ ap (λ (l : Bytes). length l) is, h.2)
-unpointed contents P T store (NoMemory e) points payload h is kind = tt

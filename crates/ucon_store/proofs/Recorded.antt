@@ -10,20 +10,20 @@ use Rattle.ucon_model.specs.Found.{Takes, taken, found_in, found_on}
 use Rattle.ucon_disk.specs.Disk.{Only}
 use Rattle.ucon_disk.specs.Run.{IsAtRest, LeavesOnly, LeavesAfter, started, weaker}
 use Rattle.ucon_journal.specs.declared.journal.Journal.{Journal}
-use Rattle.ucon_journal.specs.Journal.{disk_of, version_of, told_payloads, IsClosed}
+use Rattle.ucon_journal.specs.Journal.{disk_of, gate_of, version_of, told_payloads, IsClosed}
 use Rattle.ucon_journal.specs.JournalBytes.{magic}
 use Rattle.ucon_journal.specs.Found as journalled
 use Rattle.ucon_journal.specs.Opened.{StillHolds, PerhapsAdded}
 use Rattle.ucon_turn.specs.Lists.{Begins, Continues, begins_refl}
 use Rattle.ucon_store.specs.declared.event.Event.TheVariants.{Done, Failed}
-use Rattle.ucon_store.specs.Events.{events, number_of}
+use Rattle.ucon_store.specs.Events.{events, events_of, number_of}
 use Rattle.ucon_syntax.specs.Policies.{accepted}
 use Rattle.ucon_store.specs.Found.{Holds, IsFoundAs, IsFoundWith, found_as}
 use Rattle.ucon_store.specs.Kept.{Kept}
 use Rattle.ucon_store.specs.Stays.{Stays, IsFoundBetween}
 use Rattle.ucon_store.specs.Whole.{IsFounded, found_founded, left_founded, whole}
 use Rattle.ucon_store.specs.Points.{has_points, points_of}
-use Rattle.ucon_store.proofs.Finding.{holds_same, holds_more}
+use Rattle.ucon_store.proofs.Finding.{holds_same, holds_more, takes_of}
 use Rattle.ucon_store.proofs.Versions.{closed_kind, steps_taken}
 use Rattle.ucon_disk.specs.Causes.{raised}
 
@@ -32,6 +32,18 @@ pub record HoldsAtRest {D : Type 0} (contents : D → Option (List ℕ)) (images
   pub closed : IsClosed contents journal
   pub only : Only (contents (disk_of journal)) (images (disk_of journal))
   pub holds : IfSome (contents (disk_of journal)) (Holds text P H)
+
+-- The record of a payload is on the disk: the journal is closed again, at the same version, its next gate is five bytes further at least, and where
+-- the disk tells, the payload counts behind those of before, and a crash leaves nothing else.
+pub record IsAppended {D : Type 0} (contents : D → Option (List ℕ)) (images : D → List ℕ → Type 0) (old new : Journal D)
+    (payload : Bytes) : Type 0 where
+  pub closed : IsClosed contents new
+  pub version : version_of new ≡ version_of old
+  pub gate : gate_of old + 5 ≤ gate_of new
+  pub only : Only (contents (disk_of new)) (images (disk_of new))
+  pub tells : is_some (contents (disk_of new)) ≡ is_some (contents (disk_of old))
+  pub added : IfSome (contents (disk_of old))
+      (λ file. told_payloads (contents (disk_of new)) ≡ told_payloads (contents (disk_of old)) ++ payload ∷ [])
 
 abbrev pub OneByOne : Type 0
 OneByOne = (takes : Takes) (front rest : List Bytes) → found_in accepted takes (front ++ rest) ≡ found_on accepted takes (found_in accepted takes front) (length front) rest
@@ -55,147 +67,177 @@ found_perhaps one text P H e payload file c takes h perhaps = ⊎_elim
     (λ (more : StillHolds file (journalled.counted file ++ payload ∷ []) c). inr (e, refl, found_as text P (H ++ e ∷ []) c (holds_more one text P H (H ++ e ∷ []) payload file c (steps_taken (has_points file) text P H (H ++ e ∷ []) payload takes) h (same_kind file c more.magic) more.payloads)))
     perhaps
 
-module _ {D : Type 0} (contents : D → Option (List ℕ)) (images : D → List ℕ → Type 0) where
-  module _ (journal : Journal D) (text : Bytes) (P : PlainPolicy) (H : History) (rest : HoldsAtRest contents images journal text P H) where
-    pub at_rest_as : (file : Bytes) → contents (disk_of journal) ≡ Some file → IsAtRest (contents (disk_of journal)) (images (disk_of journal)) file
-    at_rest_as file is = record { told = is; only = subst (λ (o : Option Bytes). Only o (images (disk_of journal))) is rest.only }
+module _ {D : Type 0} {contents : D → Option (List ℕ)} {images : D → List ℕ → Type 0} {journal : Journal D} {text : Bytes} {P : PlainPolicy}
+    {H : History}
+    (rest : HoldsAtRest contents images journal text P H) where
+  pub at_rest_as : (file : Bytes) → contents (disk_of journal) ≡ Some file → IsAtRest (contents (disk_of journal)) (images (disk_of journal)) file
+  at_rest_as file is = record { told = is; only = subst (λ (o : Option Bytes). Only o (images (disk_of journal))) is rest.only }
 
-    pub holds_now : (file : Bytes) → contents (disk_of journal) ≡ Some file → Holds text P H file
-    holds_now file is = some_told (Holds text P H) (contents (disk_of journal)) file is rest.holds
+  pub holds_now : (file : Bytes) → contents (disk_of journal) ≡ Some file → Holds text P H file
+  holds_now file is = some_told (Holds text P H) (contents (disk_of journal)) file is rest.holds
 
-    module _ (one : OneByOne) (e : Entry) (payload : Bytes) (takes : taken accepted P H payload ≡ Some (H ++ e ∷ [])) where
-      -- each image inside the call is found as the history, or as it with the step
-      pub run_perhaps : (moment : D → ℕ) (images_since : D → ℕ → List ℕ → Type 0) (new : D) → LeavesAfter contents images moment images_since (disk_of journal) new (PerhapsAdded payload) → IsSome (contents (disk_of journal))
-          → LeavesOnly moment images_since (disk_of journal) new (IsFoundWith text H (Some e))
-      run_perhaps moment images_since new run told =
-          let f = told_file (contents (disk_of journal)) told in
-          weaker moment images_since (disk_of journal) new (PerhapsAdded payload f.0) (IsFoundWith text H (Some e))
-          (λ c. found_perhaps one text P H e payload f.0 c takes (holds_now f.0 f.1)) (run.each f.0 (at_rest_as f.0 f.1))
+  pub kind_now : (file : Bytes) → contents (disk_of journal) ≡ Some file → has_points file ≡ points_of (version_of journal)
+  kind_now file is =
+      some_told (λ f. has_points f ≡ points_of (version_of journal)) (contents (disk_of journal)) file is (closed_kind contents journal rest.closed)
 
-      -- at Ok the journal is at rest with the step
-      pub at_rest_with : (next : Journal D) → version_of next ≡ version_of journal → IsClosed contents next → Only (contents (disk_of next)) (images (disk_of next)) → is_some (contents (disk_of next)) ≡ is_some (contents (disk_of journal))
-          → IfSome (contents (disk_of journal)) (λ file. told_payloads (contents (disk_of next)) ≡ told_payloads (contents (disk_of journal)) ++ payload ∷ [])
-          → HoldsAtRest contents images next text P (H ++ e ∷ [])
-      at_rest_with next version closed only tells added = record { closed = closed; only = only; holds = each (contents (disk_of journal)) (contents (disk_of next)) refl refl }
-        where
-          each : (o n : Option Bytes) → contents (disk_of journal) ≡ o → contents (disk_of next) ≡ n → IfSome n (Holds text P (H ++ e ∷ []))
-          each None None is now = tt
-          each (Some file) None is now = tt
-          each None (Some c) is now = absurd (let bad : true ≡ false = sym (ap is_some now) ∙ (tells ∙ ap is_some is) in cc bad)
-          each (Some file) (Some c) is now =
-              let more = some_told (λ _. told_payloads (contents (disk_of next)) ≡ told_payloads (contents (disk_of journal)) ++ payload ∷ []) (contents (disk_of journal)) file is added in
-              let more' : journalled.counted c ≡ journalled.counted file ++ payload ∷ [] = sym (ap told_payloads now) ∙ (more ∙ ap (λ (x : Option Bytes). told_payloads x ++ payload ∷ []) is) in
-              let was : has_points file ≡ points_of (version_of journal) = some_told (λ f. has_points f ≡ points_of (version_of journal)) (contents (disk_of journal)) file is (closed_kind contents journal rest.closed) in
-              let here : has_points c ≡ points_of (version_of next) = some_told (λ f. has_points f ≡ points_of (version_of next)) (contents (disk_of next)) c now (closed_kind contents next closed) in
-              holds_more one text P H (H ++ e ∷ []) payload file c (steps_taken (has_points file) text P H (H ++ e ∷ []) payload takes) (holds_now file is)
-              (here ∙ (ap points_of version ∙ sym was)) more'
+  -- each image inside the call is found as the history, or as it with the step
+  pub run_perhaps : OneByOne → (e : Entry) (payload : Bytes) → taken accepted P H payload ≡ Some (H ++ e ∷ [])
+      → (moment : D → ℕ) (images_since : D → ℕ → List ℕ → Type 0) (new : D)
+      → LeavesAfter contents images moment images_since (disk_of journal) new (PerhapsAdded payload) → IsSome (contents (disk_of journal))
+      → LeavesOnly moment images_since (disk_of journal) new (IsFoundWith text H (Some e))
+  run_perhaps one e payload takes moment images_since new run told =
+      let f = told_file (contents (disk_of journal)) told in
+      weaker moment images_since (disk_of journal) new (PerhapsAdded payload f.0) (IsFoundWith text H (Some e))
+      (λ c. found_perhaps one text P H e payload f.0 c takes (holds_now f.0 f.1)) (run.each f.0 (at_rest_as f.0 f.1))
 
-module _ {D : Type 0} (contents : D → Option (List ℕ)) (images : D → List ℕ → Type 0) (moment : D → ℕ) (images_since : D → ℕ → List ℕ → Type 0) (faults : D → ℕ) (x y : Kept D) (e : Entry) where
+  -- ---- once the record of a payload is there
+
+  module _ {payload : Bytes} {next : Journal D} (appended : IsAppended contents images journal next payload) where
+    -- the file is of the kind that it was
+    pub kind_then : (file c : Bytes) → contents (disk_of journal) ≡ Some file → contents (disk_of next) ≡ Some c → has_points c ≡ has_points file
+    kind_then file c was now =
+        some_told (λ f. has_points f ≡ points_of (version_of next)) (contents (disk_of next)) c now (closed_kind contents next appended.closed)
+        ∙ (ap points_of appended.version ∙ sym (kind_now file was))
+
+    -- its payloads are those of before and this one
+    pub counted_then : (file c : Bytes) → contents (disk_of journal) ≡ Some file → contents (disk_of next) ≡ Some c
+        → journalled.counted c ≡ journalled.counted file ++ payload ∷ []
+    counted_then file c was now =
+        sym (ap told_payloads now)
+        ∙ (some_told (λ _. told_payloads (contents (disk_of next)) ≡ told_payloads (contents (disk_of journal)) ++ payload ∷ [])
+        (contents (disk_of journal)) file was appended.added
+        ∙ ap (λ (x : Option Bytes). told_payloads x ++ payload ∷ []) was)
+
+    -- and where it is taken, the journal is at rest with what it is taken as
+    pub rest_with : OneByOne → (later : History)
+        → ((file : Bytes) → contents (disk_of journal) ≡ Some file → takes_of file text P H payload ≡ Some later)
+        → HoldsAtRest contents images next text P later
+    rest_with one later takes =
+        record { closed = appended.closed; only = appended.only; holds = each (contents (disk_of journal)) (contents (disk_of next)) refl refl }
+      where
+        each : (o n : Option Bytes) → contents (disk_of journal) ≡ o → contents (disk_of next) ≡ n → IfSome n (Holds text P later)
+        each None None was now = tt
+        each (Some file) None was now = tt
+        each None (Some c) was now = absurd (let bad : true ≡ false = sym (ap is_some now) ∙ (appended.tells ∙ ap is_some was) in cc bad)
+        each (Some file) (Some c) was now =
+            holds_more one text P H later payload file c (takes file was) (holds_now file was) (kind_then file c was now)
+            (counted_then file c was now)
+
+-- ---- what becomes of a store
+
+-- the store with this entry more, on this disk
+abbrev pub with_entry : {D : Type 0} → Kept D → Entry → D → Kept D
+with_entry x e disk = record x { entries = x.entries ++ e ∷ []; mark = None; disk = disk }
+
+-- the store with this entry's mark, on this disk
+abbrev pub with_mark : {D : Type 0} → Kept D → Entry → D → Kept D
+with_mark x e disk = record x { mark = Some e; disk = disk }
+
+module _ {D : Type 0} (contents : D → Option (List ℕ)) (images : D → List ℕ → Type 0) (moment : D → ℕ) (images_since : D → ℕ → List ℕ → Type 0)
+    (x : Kept D) (e : Entry) where
   -- a crash inside a step of x leaves the history that x is founded on with x's entries, or with the step's entry behind them
-  abbrev pub LeavesStep : Type 0
-  LeavesStep = (P : PlainPolicy) (G : History) → IsFounded contents images P x G → IsSome (contents x.disk) → LeavesOnly moment images_since x.disk y.disk (IsFoundWith x.policy (G ++ x.entries) (Some e))
+  abbrev pub LeavesStep : D → Type 0
+  LeavesStep new = (P : PlainPolicy) (G : History) → IsFounded contents images P x G → IsSome (contents x.disk)
+      → LeavesOnly moment images_since x.disk new (IsFoundWith x.policy (G ++ x.entries) (Some e))
 
-  -- what a step did that put a record on the disk, or met a fault there
-  goes : x.mark ≡ None → y.policy ≡ x.policy → y.point ≡ x.point → y.before ≡ x.before → y.opening ≡ x.opening → Begins x.entries y.entries
-      → (is_some y.mark ≡ is_some x.mark → faults y.disk ≡ faults x.disk) → ((a : Entry) → y.mark ≡ Some a → faults y.disk ≡ raised (faults x.disk))
-      → is_some (contents y.disk) ≡ is_some (contents x.disk)
-      → ((G : History) (c : Bytes) → IsFoundWith x.policy (G ++ x.entries) (Some e) c → IsFoundBetween (whole G x) (whole G y) c)
-      → LeavesStep
-      → ((P : PlainPolicy) (G : History) → IsFounded contents images P x G → y.mark ≡ None → IsFounded contents images P y G)
-      → ((P : PlainPolicy) (G : History) → IsFounded contents images P x G → IsSome (contents y.disk) → (c : Bytes) → images y.disk c → IsFoundWith y.policy (G ++ y.entries) y.mark c)
-      → Stays contents images moment images_since faults x y
-  goes none policy point before opening entries unfailed failed tells found run founded now = record {
-    policy = policy;
-    point = point;
-    before = before;
-    opening = opening;
-    entries = entries;
-    mark = λ a some. let no : None ≡ Some a = sym none ∙ some in absurd (cc no);
-    unfailed = unfailed;
-    failed = λ _. failed;
-    tells = λ told. tells ∙ told;
-    left = λ P G f told. weaker moment images_since x.disk y.disk (IsFoundWith x.policy (G ++ x.entries) (Some e)) _ (λ c h. inr (found G c h)) (run P G f told);
-    founded = founded;
-    left_now = now;
-  }
+  -- before a call of the disk
+  pub unbegun : ((d : D) (c : List ℕ) → images_since d (moment d) c → images d c) → (new : D) → new ≡ x.disk → LeavesStep new
+  unbegun only new same P G f told =
+      subst (λ (d : D). LeavesOnly moment images_since x.disk d (IsFoundWith x.policy (G ++ x.entries) (Some e))) (sym same)
+      (started moment images_since x.disk (IsFoundWith x.policy (G ++ x.entries) (Some e))
+      (λ c since. inl (found_founded contents images P x G f told c (only x.disk c since))))
 
-  -- an entry more
-  pub stays_more : x.mark ≡ None → y.mark ≡ None → y.policy ≡ x.policy → y.point ≡ x.point → y.before ≡ x.before → y.opening ≡ x.opening → y.entries ≡ x.entries ++ e ∷ []
-      → faults y.disk ≡ faults x.disk → is_some (contents y.disk) ≡ is_some (contents x.disk) → LeavesStep
-      → ((P : PlainPolicy) (G : History) → IsFounded contents images P x G → IsFounded contents images P y G) → Stays contents images moment images_since faults x y
-  stays_more none unmarked policy point before opening grown unfailed tells run founded =
-      goes none policy point before opening (e ∷ [], sym grown) (λ _. unfailed) (λ a some. let no : None ≡ Some a = sym unmarked ∙ some in absurd (cc no)) tells found run
-      (λ P G f _. founded P G f) (λ P G f. left_founded contents images P y G (founded P G f))
-    where
-      longer : (G : History) → (G ++ x.entries) ++ e ∷ [] ≡ G ++ y.entries
-      longer G = append_assoc G x.entries (e ∷ []) ∙ ap (λ (l : History). G ++ l) (sym grown)
+  module _ (faults : D → ℕ) where
+    -- what a step did that put a record on the disk, or met a fault there
+    goes : (y : Kept D) → x.mark ≡ None → y.policy ≡ x.policy → y.point ≡ x.point → y.before ≡ x.before → y.opening ≡ x.opening
+        → Begins x.entries y.entries
+        → (is_some y.mark ≡ is_some x.mark → faults y.disk ≡ faults x.disk) → ((a : Entry) → y.mark ≡ Some a → faults y.disk ≡ raised (faults x.disk))
+        → is_some (contents y.disk) ≡ is_some (contents x.disk)
+        → ((G : History) (c : Bytes) → IsFoundWith x.policy (G ++ x.entries) (Some e) c → IsFoundBetween (whole G x) (whole G y) c)
+        → LeavesStep y.disk
+        → ((P : PlainPolicy) (G : History) → IsFounded contents images P x G → y.mark ≡ None → IsFounded contents images P y G)
+        → ((P : PlainPolicy) (G : History) → IsFounded contents images P x G → IsSome (contents y.disk) → (c : Bytes) → images y.disk c → IsFoundWith y.policy (G ++ y.entries) y.mark c)
+        → Stays contents images moment images_since faults x y
+    goes y none policy point before opening entries unfailed failed tells found run founded now = record {
+      policy = policy;
+      point = point;
+      before = before;
+      opening = opening;
+      entries = entries;
+      mark = λ a some. let no : None ≡ Some a = sym none ∙ some in absurd (cc no);
+      unfailed = unfailed;
+      failed = λ _. failed;
+      tells = λ told. tells ∙ told;
+      left = λ P G f told. weaker moment images_since x.disk y.disk (IsFoundWith x.policy (G ++ x.entries) (Some e)) _ (λ c h. inr (found G c h)) (run P G f told);
+      founded = founded;
+      left_now = now;
+    }
 
-      found : (G : History) (c : Bytes) → IsFoundWith x.policy (G ++ x.entries) (Some e) c → IsFoundBetween (whole G x) (whole G y) c
-      found G c h = ⊎_elim
-          (λ (old : IsFoundAs x.policy c (G ++ x.entries)).
-          record {
-            history = G ++ x.entries;
-            found = subst (λ (t : Bytes). IsFoundAs t c (G ++ x.entries)) (sym policy) old;
-            begun = begins_refl (G ++ x.entries);
-            within = inl (e ∷ [], longer G);
-          })
-          (λ (new : (a : Entry) × (Some e ≡ Some a) × IsFoundAs x.policy c ((G ++ x.entries) ++ a ∷ [])).
-          let is : new.0 ≡ e = cc (new.1) in
-          let all : (G ++ x.entries) ++ new.0 ∷ [] ≡ G ++ y.entries = ap (λ (a : Entry). (G ++ x.entries) ++ a ∷ []) is ∙ longer G in
-          record {
-            history = (G ++ x.entries) ++ new.0 ∷ [];
-            found = subst (λ (t : Bytes). IsFoundAs t c ((G ++ x.entries) ++ new.0 ∷ [])) (sym policy) new.2;
-            begun = (new.0 ∷ [], refl);
-            within = inl (subst (Begins ((G ++ x.entries) ++ new.0 ∷ [])) all (begins_refl ((G ++ x.entries) ++ new.0 ∷ [])));
-          })
-          h
+    -- a store stays with the entry of a step more
+    pub stays_more : {y : Kept D} (new : D) → y ≡ with_entry x e new → x.mark ≡ None → faults new ≡ faults x.disk
+        → is_some (contents new) ≡ is_some (contents x.disk)
+        → LeavesStep new → ((P : PlainPolicy) (G : History) → IsFounded contents images P x G → IsFounded contents images P (with_entry x e new) G)
+        → Stays contents images moment images_since faults x y
+    stays_more new is none unfailed tells run founded =
+        subst (Stays contents images moment images_since faults x) (sym is)
+        (goes (with_entry x e new) none refl refl refl refl (e ∷ [], refl) (λ _. unfailed)
+        (λ a some. let no : None ≡ Some a = some in absurd (cc no)) tells found run
+        (λ P G f _. founded P G f) (λ P G f. left_founded contents images P (with_entry x e new) G (founded P G f)))
+      where
+        found : (G : History) (c : Bytes) → IsFoundWith x.policy (G ++ x.entries) (Some e) c
+            → IsFoundBetween (whole G x) (whole G (with_entry x e new)) c
+        found G c h = ⊎_elim
+            (λ (old : IsFoundAs x.policy c (G ++ x.entries)).
+            record {
+              history = G ++ x.entries;
+              found = old;
+              begun = begins_refl (G ++ x.entries);
+              within = inl (e ∷ [], append_assoc G x.entries (e ∷ []));
+            })
+            (λ (more : (a : Entry) × (Some e ≡ Some a) × IsFoundAs x.policy c ((G ++ x.entries) ++ a ∷ [])).
+            let same : more.0 ≡ e = cc (more.1) in
+            let all : (G ++ x.entries) ++ more.0 ∷ [] ≡ G ++ (x.entries ++ e ∷ []) =
+            ap (λ (a : Entry). (G ++ x.entries) ++ a ∷ []) same ∙ append_assoc G x.entries (e ∷ []) in
+            record {
+              history = (G ++ x.entries) ++ more.0 ∷ [];
+              found = more.2;
+              begun = (more.0 ∷ [], refl);
+              within = inl (subst (Begins ((G ++ x.entries) ++ more.0 ∷ [])) all (begins_refl ((G ++ x.entries) ++ more.0 ∷ [])));
+            })
+            h
 
-  -- the mark of an entry
-  pub stays_marked : x.mark ≡ None → y.mark ≡ Some e → y.policy ≡ x.policy → y.point ≡ x.point → y.before ≡ x.before → y.opening ≡ x.opening → y.entries ≡ x.entries
-      → faults y.disk ≡ raised (faults x.disk) → is_some (contents y.disk) ≡ is_some (contents x.disk)
-      → ((d : D) (t : ℕ) (c : List ℕ) → t ≤ moment d → images d c → images_since d t c) → LeavesStep → Stays contents images moment images_since faults x y
-  stays_marked none marked policy point before opening same failed tells counts run =
-      goes none policy point before opening (subst (Begins x.entries) (sym same) (begins_refl x.entries))
-      (λ alike. absurd (let bad : true ≡ false = sym (ap is_some marked) ∙ (alike ∙ ap is_some none) in cc bad)) (λ _ _. failed) tells found run
-      (λ P G f unmarked. absurd (let no : None ≡ Some e = sym unmarked ∙ marked in cc no)) now
-    where
-      found : (G : History) (c : Bytes) → IsFoundWith x.policy (G ++ x.entries) (Some e) c → IsFoundBetween (whole G x) (whole G y) c
-      found G c h = ⊎_elim
-          (λ (old : IsFoundAs x.policy c (G ++ x.entries)).
-          record {
-            history = G ++ x.entries;
-            found = subst (λ (t : Bytes). IsFoundAs t c (G ++ x.entries)) (sym policy) old;
-            begun = begins_refl (G ++ x.entries);
-            within = inl (subst (λ (l : History). Begins (G ++ x.entries) (G ++ l)) (sym same) (begins_refl (G ++ x.entries)));
-          })
-          (λ (new : (a : Entry) × (Some e ≡ Some a) × IsFoundAs x.policy c ((G ++ x.entries) ++ a ∷ [])).
-          record {
-            history = (G ++ x.entries) ++ new.0 ∷ [];
-            found = subst (λ (t : Bytes). IsFoundAs t c ((G ++ x.entries) ++ new.0 ∷ [])) (sym policy) new.2;
-            begun = (new.0 ∷ [], refl);
-            within = inr (new.0, marked ∙ new.1, ap (λ (l : History). (G ++ l) ++ new.0 ∷ []) (sym same));
-          })
-          h
-
-      -- the images now are among those since the step began
-      now : (P : PlainPolicy) (G : History) → IsFounded contents images P x G → IsSome (contents y.disk) → (c : Bytes) → images y.disk c → IsFoundWith y.policy (G ++ y.entries) y.mark c
-      now P G f told c image =
-          let left = run P G f (sym tells ∙ told) in
-          let here : IsFoundWith x.policy (G ++ x.entries) (Some e) c = left.each c (counts y.disk (moment x.disk) c left.later image) in
-          subst (λ (z : Bytes × History × Option Entry). IsFoundWith z.0 (G ++ z.1) z.2 c) (λ i. (sym policy i, sym same i, sym marked i)) here
-
--- before a call of the disk a crash leaves the history that a store is founded on, with its entries
-pub unbegun : {D : Type 0} (contents : D → Option (List ℕ)) (images : D → List ℕ → Type 0) (moment : D → ℕ) (images_since : D → ℕ → List ℕ → Type 0)
-    → ((d : D) (c : List ℕ) → images_since d (moment d) c → images d c) → (P : PlainPolicy) (s : Kept D) (G : History) (e : Entry) → IsFounded contents images P s G → IsSome (contents s.disk)
-    → LeavesOnly moment images_since s.disk s.disk (IsFoundWith s.policy (G ++ s.entries) (Some e))
-unbegun contents images moment images_since only P s G e f told =
-    started moment images_since s.disk (IsFoundWith s.policy (G ++ s.entries) (Some e)) (λ c since. inl (found_founded contents images P s G f told c (only s.disk c since)))
+    -- and with the mark of its entry
+    pub stays_marked : {y : Kept D} (new : D) → y ≡ with_mark x e new → x.mark ≡ None → faults new ≡ raised (faults x.disk)
+        → is_some (contents new) ≡ is_some (contents x.disk)
+        → ((d : D) (t : ℕ) (c : List ℕ) → t ≤ moment d → images d c → images_since d t c) → LeavesStep new
+        → Stays contents images moment images_since faults x y
+    stays_marked new is none failed tells counts run =
+        subst (Stays contents images moment images_since faults x) (sym is)
+        (goes (with_mark x e new) none refl refl refl refl (begins_refl x.entries)
+        (λ alike. absurd (let bad : true ≡ false = alike ∙ ap is_some none in cc bad)) (λ _ _. failed) tells found run
+        (λ P G f unmarked. absurd (let no : None ≡ Some e = sym unmarked in cc no))
+        (λ P G f told c image. let left = run P G f (sym tells ∙ told) in left.each c (counts new (moment x.disk) c left.later image)))
+      where
+        found : (G : History) (c : Bytes) → IsFoundWith x.policy (G ++ x.entries) (Some e) c
+            → IsFoundBetween (whole G x) (whole G (with_mark x e new)) c
+        found G c h = ⊎_elim
+            (λ (old : IsFoundAs x.policy c (G ++ x.entries)).
+            record { history = G ++ x.entries; found = old; begun = begins_refl (G ++ x.entries); within = inl (begins_refl (G ++ x.entries)) })
+            (λ (more : (a : Entry) × (Some e ≡ Some a) × IsFoundAs x.policy c ((G ++ x.entries) ++ a ∷ [])).
+            record { history = (G ++ x.entries) ++ more.0 ∷ []; found = more.2; begun = (more.0 ∷ [], refl); within = inr (more.0, more.1, refl) })
+            h
 
 -- ---- the list of a turn's store
 
-module _ (H : History) (e : Entry) where
-  pub events_more : Continues (λ v. number_of v ≡ e.caller.0 + 1) (events H None) (events (H ++ e ∷ []) None)
-  events_more = (Done e ∷ [], sym (map-append Done H (e ∷ [])), (refl, tt))
+module _ {D : Type 0} (x : Kept D) (e : Entry) (none : x.mark ≡ None) (new : D) where
+  pub events_more : {y : Kept D} → y ≡ with_entry x e new → Continues (λ v. number_of v ≡ e.caller.0 + 1) (events_of x) (events_of y)
+  events_more is =
+      subst (λ (z : Option Entry × Kept D). Continues (λ v. number_of v ≡ e.caller.0 + 1) (events x.entries z.0) (events_of z.1))
+      (λ i. (sym none i, sym is i))
+      (Done e ∷ [], sym (map-append Done x.entries (e ∷ [])), (refl, tt))
 
-  pub events_marked : Continues (λ v. number_of v ≡ e.caller.0 + 1) (events H None) (events H (Some e))
-  events_marked = (Failed e ∷ [], refl, (refl, tt))
+  pub events_marked : {y : Kept D} → y ≡ with_mark x e new → Continues (λ v. number_of v ≡ e.caller.0 + 1) (events_of x) (events_of y)
+  events_marked is =
+      subst (λ (z : Option Entry × Kept D). Continues (λ v. number_of v ≡ e.caller.0 + 1) (events x.entries z.0) (events_of z.1))
+      (λ i. (sym none i, sym is i))
+      (Failed e ∷ [], refl, (refl, tt))

@@ -1,69 +1,141 @@
--- What a step that changes something puts on the disk of a founded store.
-use Rattle.std.proofs.Common.{◌≡◌, ℕ, List, [], ◌∷◌, ◌++◌, append_assoc, Option, Some, true, sym, ◌∙◌, subst}
+-- What a step that changes something puts on a store's disk, and what it leaves of the store.
+use Rattle.std.proofs.Common.{◌≡◌, ℕ, ◌≤◌, List, [], ◌∷◌, ◌++◌, append_assoc, Option, Some, None, true, refl, sym, ap, ◌∙◌, subst}
 use Rattle.std.specs.Prelude.{is_some, IsSome, IfSome}
 use Rattle.ucon_model.specs.declared.command.Entry.{Entry}
 use Rattle.ucon_model.specs.Action.{Trace}
 use Rattle.ucon_model.specs.Block.{reply as reply_to}
 use Rattle.ucon_model.specs.Found.{taken}
 use Rattle.ucon_model.specs.History.{History, said, changes, trace, trace_from}
+use Rattle.ucon_model.specs.Payload.{told, payload_spelling}
 use Rattle.ucon_model.specs.Plain.{Bytes, PlainPolicy, PlainReply}
+use Rattle.ucon_disk.specs.Causes.{raised}
 use Rattle.ucon_disk.specs.Disk.{Only}
 use Rattle.ucon_disk.specs.Run.{LeavesAfter, LeavesOnly}
 use Rattle.ucon_journal.specs.declared.journal.Journal.{Journal}
-use Rattle.ucon_journal.specs.Journal.{disk_of, version_of, told_payloads, IsClosed}
+use Rattle.ucon_journal.specs.Journal.{disk_of, IsClosed}
 use Rattle.ucon_journal.specs.Opened.{PerhapsAdded}
 use Rattle.ucon_syntax.specs.Policies.{accepted}
 use Rattle.ucon_store.specs.declared.beginning.Beginning.{Beginning}
 use Rattle.ucon_store.specs.Found.{Holds, IsFoundWith}
 use Rattle.ucon_store.specs.Kept.{Kept, IsKept, payload_in}
+use Rattle.ucon_store.specs.Points.{has_points}
+use Rattle.ucon_store.specs.Starts.{IsStart}
+use Rattle.ucon_store.specs.Stays.{Stays}
+use Rattle.ucon_store.specs.Steps.{step_payload}
 use Rattle.ucon_store.specs.Whole.{IsFounded}
-use Rattle.ucon_store.proofs.Recorded.{HoldsAtRest, OneByOne, run_perhaps, at_rest_with}
+use Rattle.ucon_store.proofs.Recorded.{HoldsAtRest, IsAppended, LeavesStep, OneByOne, rest_with, run_perhaps, stays_marked, stays_more, with_entry, with_mark}
 use Rattle.ucon_store.proofs.Stepping.{said_behind, stands_as}
+use Rattle.ucon_store.proofs.Versions.{steps_taken}
 
 -- a store of these parts
 abbrev pub parts : {D : Type 0} → Bytes → Option Beginning → (before opening : ℕ) → History → Option Entry → D → Kept D
 parts text point before opening H mark disk =
     record { policy = text; point = payload_in point; before = before; opening = opening; entries = H; mark = mark; disk = disk }
 
--- a store is founded still where its disk is the same
-module _ {D : Type 0} (contents : D → Option (List ℕ)) (images : D → List ℕ → Type 0) (j k : Journal D) (text : Bytes) (point : Option Beginning) (before opening : ℕ) (H : History)
-    (mark : Option Entry) (closed : IsClosed contents k) (same : disk_of k ≡ disk_of j) where
-  pub holds_founded : (P : PlainPolicy) (G : History) → IsFounded contents images P (parts text point before opening H mark (disk_of j)) G → HoldsAtRest contents images k text P (G ++ H)
-  holds_founded P G f = record {
-    closed = closed;
-    only = subst (λ (d : D). Only (contents d) (images d)) (sym same) f.only;
-    holds = subst (λ (d : D). IfSome (contents d) (Holds text P (G ++ H))) (sym same) f.holds;
-  }
+-- with an entry more, and with the mark of one
+module _ {D : Type 0} {text : Bytes} (point : Option Beginning) {before opening : ℕ} {H : History} {mark : Option Entry} {d : D} {x : Kept D}
+    (is : parts text point before opening H mark d ≡ x) (e : Entry) (new : D) where
+  pub more_parts : mark ≡ None → {items : History} → items ≡ H ++ e ∷ [] → parts text point before opening items mark new ≡ with_entry x e new
+  more_parts none grown = (λ i. parts text point before opening (grown i) (none i) new) ∙ ap (λ (s : Kept D). with_entry s e new) is
 
-  module _ {E : Type 0} (follows : E → PlainPolicy → Trace → Type 0) (engine : E) (kept : IsKept follows contents images engine j text point before H mark)
-      (one : OneByOne) (said_reply : PlainReply) (e : Entry) (payload : Bytes) (changing : changes said_reply ≡ true)
-      (says : (P : PlainPolicy) (T : Trace) → follows engine P T → said_reply ≡ reply_to P T e.caller e.command)
-      (told : (P : PlainPolicy) (K : History) → said_reply ≡ said P K e.caller e.command → changes said_reply ≡ true → taken accepted P K payload ≡ Some (K ++ e ∷ [])) where
-    -- the step's record is taken behind the history
-    takes : (P : PlainPolicy) (G : History) → IsFounded contents images P (parts text point before opening H mark (disk_of j)) G → taken accepted P (G ++ H) payload ≡ Some ((G ++ H) ++ e ∷ [])
-    takes P G f =
-        let stands = stands_as follows contents images engine j text point before H mark kept P f.accepts (trace P G) f.front.starts in
-        told P (G ++ H) (says P (trace_from P (trace P G) H) stands ∙ sym (said_behind P G H e.caller e.command)) changing
+  pub marked_parts : {items : History} → items ≡ H → {failed : Entry} → failed ≡ e
+      → parts text point before opening items (Some failed) new ≡ with_mark x e new
+  marked_parts same failed_is = (λ i. parts text point before opening (same i) (Some (failed_is i)) new) ∙ ap (λ (s : Kept D). with_mark s e new) is
 
-    -- what a crash inside leaves
-    pub run_founded : (moment : D → ℕ) (images_since : D → ℕ → List ℕ → Type 0) (new : D) → LeavesAfter contents images moment images_since (disk_of k) new (PerhapsAdded payload)
-        → (P : PlainPolicy) (G : History) → IsFounded contents images P (parts text point before opening H mark (disk_of j)) G → IsSome (contents (disk_of j))
-        → LeavesOnly moment images_since (disk_of j) new (IsFoundWith text (G ++ H) (Some e))
-    run_founded moment images_since new run P G f =
-        subst (λ (d : D). IsSome (contents d) → LeavesOnly moment images_since d new (IsFoundWith text (G ++ H) (Some e))) same
-        (run_perhaps contents images k text P (G ++ H) (holds_founded P G f) one e payload (takes P G f) moment images_since new run)
+-- A store is ready for the record of a step: no step has failed, its journal is closed over its disk, of which a crash leaves nothing but the file,
+-- and the payload is the step's, behind each trace that leads to the store's beginning, and is taken so.
+pub record IsReady {D : Type 0} (contents : D → Option (List ℕ)) (images : D → List ℕ → Type 0) (x : Kept D) (k : Journal D) (e : Entry)
+    (payload : Bytes) : Type 0 where
+  pub unmarked : x.mark ≡ None
+  pub closed : IsClosed contents k
+  pub same : disk_of k ≡ x.disk
+  pub only : Only (contents x.disk) (images x.disk)
+  pub spelled : (P : PlainPolicy) (T : Trace) → accepted x.policy ≡ Some P → IsStart P x.point x.before T → payload ≡ step_payload P T x.entries e
+  pub takes : (P : PlainPolicy) (G : History) → accepted x.policy ≡ Some P → IsStart P x.point x.before (trace P G)
+      → taken accepted P (G ++ x.entries) payload ≡ Some ((G ++ x.entries) ++ e ∷ [])
 
-    -- at Ok the store is founded on the same history, with the entry more
-    pub founded_more : (next : Journal D) → version_of next ≡ version_of k → IsClosed contents next → Only (contents (disk_of next)) (images (disk_of next))
-        → is_some (contents (disk_of next)) ≡ is_some (contents (disk_of k))
-        → IfSome (contents (disk_of k)) (λ file. told_payloads (contents (disk_of next)) ≡ told_payloads (contents (disk_of k)) ++ payload ∷ [])
-        → (P : PlainPolicy) (G : History) → IsFounded contents images P (parts text point before opening H mark (disk_of j)) G
-        → IsFounded contents images P (parts text point before opening (H ++ e ∷ []) mark (disk_of next)) G
-    founded_more next version shut only tells added P G f =
-        let rest = at_rest_with contents images k text P (G ++ H) (holds_founded P G f) one e payload (takes P G f) next version shut only tells added in record {
-          accepts = f.accepts;
-          front = record { starts = f.front.starts; count = f.front.count; text = f.front.text };
-          unmarked = f.unmarked;
-          holds = subst (λ (l : History). IfSome (contents (disk_of next)) (Holds text P l)) (append_assoc G H (e ∷ [])) rest.holds;
-          only = only;
-        }
+module _ {E D : Type 0} {follows : E → PlainPolicy → Trace → Type 0} {contents : D → Option (List ℕ)} {images : D → List ℕ → Type 0} {engine : E}
+    {j : Journal D} {text : Bytes}
+    {point : Option Beginning} {before opening : ℕ} {H : History} {mark : Option Entry}
+    (kept : IsKept follows contents images engine j text point before H mark)
+    {x : Kept D} (is : parts text point before opening H mark (disk_of j) ≡ x) where
+  -- without a mark a crash leaves nothing but the file of a store
+  pub only_kept : x.mark ≡ None → Only (contents x.disk) (images x.disk)
+  only_kept = subst (λ (s : Kept D). s.mark ≡ None → Only (contents s.disk) (images s.disk)) is (λ none. (kept.rests none).only)
+
+  -- a store is ready for a step's record where the engine has drafted its reply, and the payload is spelled of it
+  pub ready_for : mark ≡ None → {k : Journal D} → (IsClosed contents j → IsClosed contents k) → disk_of k ≡ disk_of j → (e : Entry) (r : PlainReply)
+      → changes r ≡ true
+      → ((P : PlainPolicy) (T : Trace) → follows engine P T → r ≡ reply_to P T e.caller e.command)
+      → {payload spelled : Bytes} → payload ≡ spelled → spelled ≡ payload_spelling (told e r) → {made : Entry} → made ≡ e
+      → ((P : PlainPolicy) (G : History) → r ≡ said P G e.caller e.command → changes r ≡ true → taken accepted P G spelled ≡ Some (G ++ made ∷ []))
+      → IsReady contents images x k e payload
+  ready_for none {k} closed same e r changing says {payload} is_spelled spelling made_is taking =
+      subst (λ (s : Kept D). IsReady contents images s k e payload) is (record {
+        unmarked = none;
+        closed = closed (kept.rests none).closed;
+        same = same;
+        only = (kept.rests none).only;
+        spelled = λ P T accepts start.
+            is_spelled ∙ (spelling ∙ ap (λ (a : PlainReply). payload_spelling (told e a))
+            (says P (trace_from P T H) (stands_as kept P accepts T start)));
+        takes = λ P G accepts start.
+            let here : r ≡ said P (G ++ H) e.caller e.command =
+            says P (trace_from P (trace P G) H) (stands_as kept P accepts (trace P G) start) ∙ sym (said_behind P G H e.caller e.command) in
+            ap (taken accepted P (G ++ H)) is_spelled ∙ (taking P (G ++ H) here changing ∙ ap (λ (a : Entry). Some ((G ++ H) ++ a ∷ [])) made_is);
+      })
+
+-- a journal closed over a store's disk holds what the store is founded on, with its entries behind that
+pub holds_founded : {D : Type 0} (contents : D → Option (List ℕ)) (images : D → List ℕ → Type 0) (x : Kept D) (k : Journal D) → IsClosed contents k
+    → disk_of k ≡ x.disk
+    → (P : PlainPolicy) (G : History) → IsFounded contents images P x G → HoldsAtRest contents images k x.policy P (G ++ x.entries)
+holds_founded {D} contents images x k closed same P G f = record {
+  closed = closed;
+  only = subst (λ (d : D). Only (contents d) (images d)) (sym same) f.only;
+  holds = subst (λ (d : D). IfSome (contents d) (Holds x.policy P (G ++ x.entries))) (sym same) f.holds;
+}
+
+module _ {D : Type 0} {contents : D → Option (List ℕ)} {images : D → List ℕ → Type 0} {x : Kept D} {k : Journal D} {e : Entry} {payload : Bytes}
+    (ready : IsReady contents images x k e payload) (one : OneByOne) where
+  -- what a crash leaves, once the record's making has begun
+  pub leaves_ready : {moment : D → ℕ} {images_since : D → ℕ → List ℕ → Type 0} {new : D}
+      → LeavesAfter contents images moment images_since (disk_of k) new (PerhapsAdded payload)
+      → LeavesStep contents images moment images_since x e new
+  leaves_ready {moment} {images_since} {new} run P G f =
+      subst (λ (d : D). IsSome (contents d) → LeavesOnly moment images_since d new (IsFoundWith x.policy (G ++ x.entries) (Some e))) ready.same
+      (run_perhaps (holds_founded contents images x k ready.closed ready.same P G f) one e payload
+      (ready.takes P G f.accepts f.front.starts) moment images_since new run)
+
+  -- at Ok the store is founded on the same history, with the entry more
+  pub founded_ready : {next : Journal D} → IsAppended contents images k next payload → {y : Kept D} → y ≡ with_entry x e (disk_of next)
+      → (P : PlainPolicy) (G : History) → IsFounded contents images P x G → IsFounded contents images P y G
+  founded_ready {next} appended is P G f =
+      let rest = rest_with (holds_founded contents images x k ready.closed ready.same P G f) appended one ((G ++ x.entries) ++ e ∷ [])
+      (λ file _. steps_taken (has_points file) x.policy P (G ++ x.entries) ((G ++ x.entries) ++ e ∷ []) payload
+      (ready.takes P G f.accepts f.front.starts)) in
+      subst (λ (s : Kept D). IsFounded contents images P s G) (sym is) (record {
+        accepts = f.accepts;
+        front = record { starts = f.front.starts; count = f.front.count; text = f.front.text };
+        unmarked = refl;
+        holds = subst (λ (l : History). IfSome (contents (disk_of next)) (Holds x.policy P l)) (append_assoc G x.entries (e ∷ [])) rest.holds;
+        only = appended.only;
+      })
+
+  -- and it stays
+  pub stays_ready : (faults : D → ℕ) {moment : D → ℕ} {images_since : D → ℕ → List ℕ → Type 0} {next : Journal D}
+      → LeavesAfter contents images moment images_since (disk_of k) (disk_of next) (PerhapsAdded payload) → IsAppended contents images k next payload
+      → faults (disk_of next) ≡ faults (disk_of k) → {y : Kept D} → y ≡ with_entry x e (disk_of next)
+      → Stays contents images moment images_since faults x y
+  stays_ready faults {moment} {images_since} {next} run appended unfailed is =
+      stays_more contents images moment images_since x e faults (disk_of next) is ready.unmarked (unfailed ∙ ap faults ready.same)
+      (appended.tells ∙ ap (λ (d : D). is_some (contents d)) ready.same) (leaves_ready run) (founded_ready appended refl)
+
+  -- as it does at Err, with the entry's mark
+  pub stays_failed : (faults : D → ℕ) {moment : D → ℕ} {images_since : D → ℕ → List ℕ → Type 0} {new : D}
+      → LeavesAfter contents images moment images_since (disk_of k) new (PerhapsAdded payload)
+      → is_some (contents new) ≡ is_some (contents (disk_of k))
+      → faults new ≡ raised (faults (disk_of k)) → ((d : D) (t : ℕ) (c : List ℕ) → t ≤ moment d → images d c → images_since d t c)
+      → {y : Kept D} → y ≡ with_mark x e new → Stays contents images moment images_since faults x y
+  stays_failed faults {moment} {images_since} {new} run tells failed counts is =
+      stays_marked contents images moment images_since x e faults new is ready.unmarked (failed ∙ ap (λ (d : D). raised (faults d)) ready.same)
+      (tells ∙ ap (λ (d : D). is_some (contents d)) ready.same) counts (leaves_ready run)

@@ -1,12 +1,12 @@
 -- What holds of a store after a step.
-use Rattle.std.proofs.Common.{◌≡◌, ℕ, ◌+◌, ◌*◌, ◌<◌, ◌^◌, List, [], ◌∷◌, ◌++◌, length, Option, Some, None, refl, sym, ap, ◌∙◌, subst, false, true, arith}
-use Rattle.std.specs.Prelude.{is_some, if◌then◌else◌}
+use Rattle.std.proofs.Common.{◌≡◌, ℕ, ◌+◌, ◌*◌, ◌<◌, ◌≤◌, ◌^◌, List, [], ◌∷◌, ◌++◌, length, length-append, Option, Some, None, refl, sym, ap, ◌∙◌, subst, false, arith}
+use Rattle.std.specs.Prelude.{is_some}
 use Rattle.ucon_model.specs.declared.command.Caller.{Caller}
 use Rattle.ucon_model.specs.declared.command.Command.{Command}
 use Rattle.ucon_model.specs.declared.command.Entry.{Entry}
 use Rattle.ucon_model.specs.Action.{Trace}
 use Rattle.ucon_model.specs.Block.{after, reply}
-use Rattle.ucon_model.specs.History.{History, trace, trace_from, said, changes}
+use Rattle.ucon_model.specs.History.{History, trace, trace_from, said}
 use Rattle.ucon_model.specs.Plain.{Bytes, PlainPolicy}
 use Rattle.ucon_model.specs.Work.{NobodyFails}
 use Rattle.ucon_journal.specs.declared.journal.Journal.{Journal}
@@ -15,7 +15,7 @@ use Rattle.ucon_syntax.specs.Policies.{accepted}
 use Rattle.ucon_store.specs.declared.beginning.Beginning.{Beginning}
 use Rattle.ucon_store.specs.Kept.{IsKept, IsAtRestWith, RevokesFew, payload_in}
 use Rattle.ucon_store.specs.Starts.{IsStart}
-use Rattle.ucon_store.specs.Steps.{grown_behind}
+use Rattle.ucon_store.proofs.Recorded.{IsAppended}
 
 pub unmarked : {A : Type 0} (o : Option A) → is_some o ≡ false → o ≡ None
 unmarked None e = refl
@@ -34,65 +34,86 @@ trace_longer P T H e = trace_append P T H (e ∷ [])
 pub one_policy : (text : Bytes) (P Q : PlainPolicy) → accepted text ≡ Some P → accepted text ≡ Some Q → P ≡ Q
 one_policy text P Q p q = let e : Some P ≡ Some Q = sym p ∙ q in cc (e)
 
--- behind a trace, and entries behind that
-pub grown_behind_more : (P : PlainPolicy) (T : Trace) (H : History) (e : Entry) → changes (reply P (trace_from P T H) e.caller e.command) ≡ true → grown_behind P T H e ≡ H ++ e ∷ []
-grown_behind_more P T H e does = ap (λ b. if b then H ++ e ∷ [] else H) does
-
-pub grown_behind_same : (P : PlainPolicy) (T : Trace) (H : History) (e : Entry) → changes (reply P (trace_from P T H) e.caller e.command) ≡ false → grown_behind P T H e ≡ H
-grown_behind_same P T H e doesnt = ap (λ b. if b then H ++ e ∷ [] else H) doesnt
-
 -- the reply after a history in two parts is the one after the trace of the first part and the entries of the second
 pub said_behind : (P : PlainPolicy) (G H : History) (caller : Caller) (c : Command) → said P (G ++ H) caller c ≡ reply P (trace_from P (trace P G) H) caller c
 said_behind P G H caller c = ap (λ (T : Trace). reply P T caller c) (trace_append P [] G H)
 
-module _ {E D : Type 0} (follows : E → PlainPolicy → Trace → Type 0) (contents : D → Option (List ℕ)) (images : D → List ℕ → Type 0) (engine : E) (journal : Journal D) (text : Bytes)
-    (point : Option Beginning) (before : ℕ) (H : History) (mark : Option Entry) (kept : IsKept follows contents images engine journal text point before H mark) where
-  module _ (P : PlainPolicy) (accepts : accepted text ≡ Some P) where
-    one : kept.P ≡ P
-    one = one_policy text kept.P P kept.accepts accepts
+module _ {E D : Type 0} {follows : E → PlainPolicy → Trace → Type 0} {contents : D → Option (List ℕ)} {images : D → List ℕ → Type 0} {engine : E}
+    {journal : Journal D} {text : Bytes}
+    {point : Option Beginning} {before : ℕ} {H : History} {mark : Option Entry}
+    (kept : IsKept follows contents images engine journal text point before H mark) where
+  -- behind each trace that leads to where the store begins its engine follows the entries
+  pub stands_as : (P : PlainPolicy) → accepted text ≡ Some P → (T : Trace) → IsStart P (payload_in point) before T
+      → follows engine P (trace_from P T H)
+  stands_as P accepts =
+      subst (λ (Q : PlainPolicy). (T : Trace) → IsStart Q (payload_in point) before T → follows engine Q (trace_from Q T H))
+      (one_policy text kept.P P kept.accepts accepts) kept.stands
 
-    -- behind each start the engine follows the entries
-    pub stands_as : (T : Trace) → IsStart P (payload_in point) before T → follows engine P (trace_from P T H)
-    stands_as = subst (λ (Q : PlainPolicy). (T : Trace) → IsStart Q (payload_in point) before T → follows engine Q (trace_from Q T H)) one kept.stands
+  -- a payload more that is no step leaves a store kept
+  pub kept_on : mark ≡ None → {prepared k : Journal D} {payload : Bytes} → gate_of prepared ≡ gate_of journal
+      → IsAppended contents images prepared k payload
+      → IsKept follows contents images engine k text point before H mark
+  kept_on none same appended = record {
+    P = kept.P;
+    accepts = kept.accepts;
+    begun = kept.begun;
+    starts = kept.starts;
+    stands = kept.stands;
+    settled = kept.settled;
+    revokes = kept.revokes;
+    in_force = kept.in_force;
+    few = kept.few;
+    rests = λ _. record { closed = appended.closed; few = omega (arith, (kept.rests none).few, same, appended.gate); only = appended.only };
+  }
 
-    -- no accessing session fails
-    pub settled_as : (T : Trace) → IsStart P (payload_in point) before T → NobodyFails P (trace_from P T H)
-    settled_as = subst (λ (Q : PlainPolicy). (T : Trace) → IsStart Q (payload_in point) before T → NobodyFails Q (trace_from Q T H)) one kept.settled
+  module _ (has_pending : PlainPolicy → Trace → Entry → Type 0) (e : Entry)
+      (pending : (P : PlainPolicy) (T : Trace) → follows engine P T → has_pending P T e) (next : E) (k : Journal D) where
+    pends : (T : Trace) → IsStart kept.P (payload_in point) before T → has_pending kept.P (trace_from kept.P T H) e
+    pends T start = pending kept.P (trace_from kept.P T H) (kept.stands T start)
 
-  module _ (next : E) (k : Journal D) where
-    -- the entry of a step that met a disk fault is the mark
-    pub kept_marked : (e : Entry) → ((T : Trace) → IsStart kept.P (payload_in point) before T → follows next kept.P (trace_from kept.P T H))
-        → IsKept follows contents images next k text point before H (Some e)
-    kept_marked e stands = record {
-      P = kept.P;
-      accepts = kept.accepts;
-      begun = kept.begun;
-      starts = kept.starts;
-      stands = stands;
-      settled = kept.settled;
-      revokes = kept.revokes;
-      in_force = kept.in_force;
-      few = kept.few;
-      rests = λ none. absurd (cc none);
-    }
+    -- and so does the entry of a step that met a disk fault, as the mark
+    pub kept_marked : ((P : PlainPolicy) (T : Trace) (a : Entry) → has_pending P T a → follows next P T) → {items : History} → items ≡ H
+        → {failed : Entry} → failed ≡ e
+        → IsKept follows contents images next k text point before items (Some failed)
+    kept_marked undone same is =
+        subst (λ (z : History × Entry). IsKept follows contents images next k text point before z.0 (Some z.1)) (λ i. (sym same i, sym is i))
+        (record {
+          P = kept.P;
+          accepts = kept.accepts;
+          begun = kept.begun;
+          starts = kept.starts;
+          stands = λ T start. undone kept.P (trace_from kept.P T H) e (pends T start);
+          settled = kept.settled;
+          revokes = kept.revokes;
+          in_force = kept.in_force;
+          few = kept.few;
+          rests = λ none. absurd (cc none);
+        })
 
-    -- an entry more
-    pub kept_more : (e : Entry) → gate_of k < 2 ^ 63
-        → ((T : Trace) → IsStart kept.P (payload_in point) before T → follows next kept.P (after kept.P (trace_from kept.P T H) e.caller e.command))
-        → ((T : Trace) → IsStart kept.P (payload_in point) before T → NobodyFails kept.P (after kept.P (trace_from kept.P T H) e.caller e.command))
-        → IsAtRestWith contents images k (before + length (H ++ e ∷ [])) → IsKept follows contents images next k text point before (H ++ e ∷ []) None
-    kept_more e small stands settled rest = record {
-      P = kept.P;
-      accepts = kept.accepts;
-      begun = kept.begun;
-      starts = kept.starts;
-      stands = λ T start. subst (follows next kept.P) (sym (trace_longer kept.P T H e)) (stands T start);
-      settled = λ T start. subst (NobodyFails kept.P) (sym (trace_longer kept.P T H e)) (settled T start);
-      revokes = kept.revokes;
-      in_force = kept.in_force;
-      few = omega (arith, rest.few, small);
-      rests = λ _. rest;
-    }
+    -- and that of one that was kept, behind the others
+    pub kept_more : mark ≡ None → {prepared : Journal D} {payload : Bytes} → gate_of prepared ≡ gate_of journal
+        → IsAppended contents images prepared k payload → gate_of k < 2 ^ 63
+        → ((P : PlainPolicy) (T : Trace) (a : Entry) → has_pending P T a → follows next P (after P T a.caller a.command))
+        → ((P : PlainPolicy) (T : Trace) (a : Entry) → has_pending P T a → NobodyFails P (after P T a.caller a.command)) → {items : History}
+        → items ≡ H ++ e ∷ []
+        → IsKept follows contents images next k text point before items mark
+    kept_more none same appended small follow settle grown =
+        let few : 5 * (before + length (H ++ e ∷ [])) ≤ gate_of k =
+        omega (arith, (kept.rests none).few, same, appended.gate, length-append H (e ∷ [])) in
+        subst (λ (l : History). IsKept follows contents images next k text point before l mark) (sym grown) (record {
+          P = kept.P;
+          accepts = kept.accepts;
+          begun = kept.begun;
+          starts = kept.starts;
+          stands = λ T start. subst (follows next kept.P) (sym (trace_longer kept.P T H e))
+              (follow kept.P (trace_from kept.P T H) e (pends T start));
+          settled = λ T start. subst (NobodyFails kept.P) (sym (trace_longer kept.P T H e))
+              (settle kept.P (trace_from kept.P T H) e (pends T start));
+          revokes = kept.revokes;
+          in_force = kept.in_force;
+          few = omega (arith, few, small);
+          rests = λ _. record { closed = appended.closed; few = few; only = appended.only };
+        })
 
 -- a store that begins before all entries
 pub begins_first : {E D : Type 0} (follows : E → PlainPolicy → Trace → Type 0) (contents : D → Option (List ℕ)) (images : D → List ℕ → Type 0) (engine : E) (journal : Journal D) (text : Bytes)

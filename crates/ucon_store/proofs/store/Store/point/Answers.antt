@@ -1,285 +1,101 @@
-use Rattle.std.proofs.Common.{rules, ◌≡◌, ◌++◌, ◌∷◌, [], ◌≤◌, length, true, false, Some, None, refl, sym, ap, ◌∙◌, subst, arith}
-use Rattle.std.specs.Prelude.{is_some, IfSome}
+use Rattle.std.proofs.Common.{rules, ◌≡◌, ◌∙◌, false, None, ap, subst, sym, arith}
 use Rattle.std.specs.Result.{is_err}
-use Rattle.ucon_disk.specs.Run.{LeavesOnly}
-use Rattle.ucon_journal.specs.Journal.{disk_of, version_of}
-use Rattle.ucon_model.specs.Action.{Trace}
-use Rattle.ucon_model.specs.History.{History, trace_from}
-use Rattle.ucon_model.specs.Payload.{most_payload}
-use Rattle.ucon_model.specs.Plain.{Bytes, PlainPolicy}
+use Rattle.ucon_journal.specs.Journal.{disk_of}
+use Rattle.ucon_model.specs.Plain.{Bytes}
 use Rattle.ucon_syntax.specs.Policies.{accepted}
 use Rattle.ucon_store.specs.Kept.{Kept, text_in}
-use Rattle.ucon_store.specs.Pointing.{IsFoundPointed, IsUnpointed}
-use Rattle.ucon_store.specs.Points.{has_points, point_places, points_of}
-use Rattle.ucon_store.specs.Starts.{IsStart, checkpoint_behind, point_behind}
-use Rattle.ucon_store.specs.Stays.{Stays}
-use Rattle.ucon_store.specs.Whole.{IsFounded}
-use Rattle.ucon_store.proofs.Pointed.{founded_point, no_cause, ok_told, places_point, run_point, same_points, stays_pointed, unpointed}
-use Rattle.ucon_store.proofs.Recorded.{OneByOne}
+use Rattle.ucon_store.proofs.Pointed.{IsPointReady, LeavesPoint, fits_ready, founded_point, leaves_point, no_cause, ok_told, on_disk, places_point, point_ready, point_refused, points_ready, stays_point}
+use Rattle.ucon_store.proofs.Recorded.{IsAppended, OneByOne}
 use Rattle.ucon_store.proofs.Stepped.{parts}
-use Rattle.ucon_store.proofs.Stepping.{stands_as, unmarked}
-use Rattle.ucon_store.proofs.Versions.{closed_kind}
+use Rattle.ucon_store.proofs.Stepping.{kept_on, unmarked}
+use Rattle.ucon_store.proofs.store.Store.point.Given.{Over}
+use Rattle.ucon_store.proofs.store.Store.point.Goals.{After-append, Else-is_err}
 use Rattle.ucon_store.proofs.store.Store.point.Goals as goal
 
 pub returns-in-Err-clause-why : goal.returns-in-Err-clause-why
 returns-in-Err-clause-why g c =
-    let contents = g.D.Disk.contents in
-    let images = g.D.Disk.images in
-    let H = c.self.inside.entries.items in
-    let text = c.self.inside.policy.items in
-    let point = c.self.inside.point in
-    let before = c.self.inside.before in
-    let opening = c.self.inside.opening in
-    let mark = c.self.inside.mark in
-    let old = c.self.inside.journal in
-    let none : mark ≡ None = unmarked mark (search rules) in
-    let inv = c.self.invariant in
-    let start : c.text_at_start-start.result.now ≡ text_in text point = c.text_at_start-start.ensures ∙ ap (λ (t : Bytes). text_in t point) c.deref.ensures.value in
-    let kind = closed_kind contents old (inv.rests none).closed in
-    subst (λ (x : Kept g.row.D.Denot). (P : PlainPolicy) (T : Trace) → accepted x.policy ≡ Some P → IsStart P x.point x.before T → IsUnpointed contents P T x c.in-Err.refusal) c.self.view_is
-    (λ P T accepts leads.
-    unpointed contents P T (parts text point before opening H mark (disk_of old)) c.in-Err.refusal (points_of (version_of old)) (point_behind c.text_at_start-start.result.now before P T H)
-    (c.in-Err.ensures.refused P T (stands_as g.E.Engine.follows contents images c.self.inside.engine old text point before H mark inv P accepts T leads))
-    (ap (λ (t : Bytes). point_behind t before P T H) (start ∙ inv.in_force)) kind)
+    point_refused c.self.invariant c.self.view_is (unmarked c.self.inside.mark (search rules))
+    (c.text_at_start-start.ensures ∙ ap (λ (t : Bytes). text_in t c.self.inside.point) c.deref.ensures.value)
+    c.in-Err.refusal c.in-Err.ensures.refused
 
 pub append-requires-clause-closed : goal.append-requires-clause-closed
 append-requires-clause-closed g c =
     let none : c.self.inside.mark ≡ None = unmarked c.self.inside.mark (search rules) in
     c.prepare_point.ensures.closed (c.self.invariant.rests none).closed
 
+-- ---- once the record's making has begun
+
+module _ (g : Over) (c : After-append g) where
+  -- the checkpoint was ready
+  ready : IsPointReady g.D.Disk.contents c.args.self c.prepare_point.new.journal c.deref-2.result.now
+  ready =
+      point_ready c.self.invariant c.self.view_is (unmarked c.self.inside.mark (search rules))
+      (c.text_at_start-start.ensures ∙ ap (λ (t : Bytes). text_in t c.self.inside.point) c.deref.ensures.value)
+      c.prepare_point.ensures.closed c.prepare_point.ensures.disk
+      c.prepare_point.ensures.version c.in-Ok.ensures.second c.deref-2.ensures.value c.in-Ok.ensures.short c.in-Ok.ensures.text
+
+  one : OneByOne
+  one takes front behind = c.payloads_are_found_one_by_one.ensures accepted takes front behind
+
+  leaves : LeavesPoint g.D.Disk.contents g.D.Disk.images g.D.Disk.moment g.D.Disk.images_since c.args.self (disk_of c.append.new.self)
+  leaves = leaves_point ready one c.append.ensures.images
+
 pub returns-then-is_err-clause-inside_err : goal.returns-then-is_err-clause-inside_err
 returns-then-is_err-clause-inside_err g c =
-    let contents = g.D.Disk.contents in
-    let images = g.D.Disk.images in
-    let H = c.self.inside.entries.items in
-    let text = c.self.inside.policy.items in
-    let point = c.self.inside.point in
-    let before = c.self.inside.before in
-    let opening = c.self.inside.opening in
-    let mark = c.self.inside.mark in
-    let old = c.self.inside.journal in
-    let none : mark ≡ None = unmarked mark (search rules) in
-    let inv = c.self.invariant in
-    let start : c.text_at_start-start.result.now ≡ text_in text point = c.text_at_start-start.ensures ∙ ap (λ (t : Bytes). text_in t point) c.deref.ensures.value in
-    let payload = c.deref-2.result.now in
-    let writes : (P : PlainPolicy) (T : Trace) → g.E.Engine.follows c.self.inside.engine P (trace_from P T H) → payload ≡ point_behind (text_in text point) before P T H =
-    λ P T stands. c.deref-2.ensures.value ∙ (c.in-Ok.ensures.text P T stands ∙ ap (λ (t : Bytes). point_behind t before P T H) start) in
-    let short : length payload ≤ most_payload = subst (λ (l : Bytes). length l ≤ most_payload) (sym c.deref-2.ensures.value) c.in-Ok.ensures.short in
-    let one : OneByOne = λ takes front behind. c.payloads_are_found_one_by_one.ensures accepted takes front behind in
-    let journal = c.prepare_point.new.journal in
-    let next = c.append.new.self in
-    let shut = c.prepare_point.ensures.closed (inv.rests none).closed in
-    let second : points_of (version_of journal) ≡ true = ap points_of c.prepare_point.ensures.version ∙ c.in-Ok.ensures.second in
-    let run = run_point contents images old journal text point before opening H mark shut c.prepare_point.ensures.disk one payload short second g.E.Engine.follows c.self.inside.engine inv writes g.D.Disk.moment g.D.Disk.images_since (disk_of next) c.append.ensures.images in
-    let all = subst (λ (x : Kept g.row.D.Denot). (P : PlainPolicy) (G : History) (file : Bytes) → IsFounded contents images P x G → contents x.disk ≡ Some file
-    → LeavesOnly g.D.Disk.moment g.D.Disk.images_since x.disk (disk_of next) (IsFoundPointed x.policy (G ++ x.entries) (point_places file)))
-    c.self.view_is run in
-    λ P G file founded told. subst (λ (d : g.row.D.Denot). LeavesOnly g.D.Disk.moment g.D.Disk.images_since c.args.self.disk d (IsFoundPointed c.args.self.policy (G ++ c.args.self.entries) (point_places file)))
-    (sym c.close.ensures) (all P G file founded told)
+    subst (LeavesPoint g.D.Disk.contents g.D.Disk.images g.D.Disk.moment g.D.Disk.images_since c.args.self) (sym c.close.ensures)
+    (leaves g (goal.at.returns-then-is_err-clause-inside_err g c).After-append)
+
+-- ---- it is there
+
+module _ (g : Over) (c : Else-is_err g) where
+  fine : is_err c.append.result ≡ false
+  fine = search rules
+
+  appended : IsAppended g.D.Disk.contents g.D.Disk.images c.prepare_point.new.journal c.append.new.self c.deref-2.result.now
+  appended = record {
+    closed = ok_told c.append.result fine c.append.ensures.closed;
+    version = c.append.ensures.version;
+    gate = omega (arith, ok_told c.append.result fine c.append.ensures.gate);
+    only = ok_told c.append.result fine c.append.ensures.only;
+    tells = c.append.ensures.tells;
+    added = ok_told c.append.result fine c.append.ensures.added;
+  }
+
+  -- the store is the same on another disk
+  moved : parts c.self.inside.policy.items c.self.inside.point c.self.inside.before c.self.inside.opening c.self.inside.entries.items
+      c.self.inside.mark (disk_of c.append.new.self)
+      ≡ on_disk c.args.self (disk_of c.append.new.self)
+  moved = ap (λ (s : Kept g.row.D.Denot). on_disk s (disk_of c.append.new.self)) c.self.view_is
 
 pub invariant_of-store : goal.invariant_of-store
 invariant_of-store g c =
-    let contents = g.D.Disk.contents in
-    let images = g.D.Disk.images in
-    let H = c.self.inside.entries.items in
-    let text = c.self.inside.policy.items in
-    let point = c.self.inside.point in
-    let before = c.self.inside.before in
-    let opening = c.self.inside.opening in
-    let mark = c.self.inside.mark in
-    let old = c.self.inside.journal in
-    let none : mark ≡ None = unmarked mark (search rules) in
-    let inv = c.self.invariant in
-    let next = c.append.new.self in
-    let fine : is_err c.append.result ≡ false = search rules in
-    let closed = ok_told c.append.result fine c.append.ensures.closed in
-    let added = ok_told c.append.result fine c.append.ensures.added in
-    let gate = ok_told c.append.result fine c.append.ensures.gate in
-    record {
-      P = inv.P;
-      accepts = inv.accepts;
-      begun = inv.begun;
-      starts = inv.starts;
-      stands = inv.stands;
-      settled = inv.settled;
-      revokes = inv.revokes;
-      in_force = inv.in_force;
-      few = inv.few;
-      rests = λ _. record {
-        closed = closed;
-        few = omega (arith, (inv.rests none).few, c.prepare_point.ensures.gate, gate);
-        only = ok_told c.append.result fine c.append.ensures.only;
-      };
-    }
+    kept_on c.self.invariant (unmarked c.self.inside.mark (search rules)) c.prepare_point.ensures.gate
+    (appended g (goal.at.invariant_of-store g c).Else-is_err)
 
 pub returns-clause-second : goal.returns-clause-second
-returns-clause-second g c =
-    let contents = g.D.Disk.contents in
-    let images = g.D.Disk.images in
-    let H = c.self.inside.entries.items in
-    let text = c.self.inside.policy.items in
-    let point = c.self.inside.point in
-    let before = c.self.inside.before in
-    let opening = c.self.inside.opening in
-    let mark = c.self.inside.mark in
-    let old = c.self.inside.journal in
-    let none : mark ≡ None = unmarked mark (search rules) in
-    let inv = c.self.invariant in
-    let second : points_of (version_of old) ≡ true = c.in-Ok.ensures.second in
-    subst (λ (x : Kept g.row.D.Denot). IfSome (contents x.disk) (λ file. has_points file ≡ true)) c.self.view_is
-    (same_points (contents (disk_of old)) (points_of (version_of old)) true second (closed_kind contents old (inv.rests none).closed))
+returns-clause-second g c = points_ready (ready g (goal.at.returns-clause-second g c).After-append)
 
 pub returns-clause-added : goal.returns-clause-added
 returns-clause-added g c =
-    let contents = g.D.Disk.contents in
-    let images = g.D.Disk.images in
-    let H = c.self.inside.entries.items in
-    let text = c.self.inside.policy.items in
-    let point = c.self.inside.point in
-    let before = c.self.inside.before in
-    let opening = c.self.inside.opening in
-    let mark = c.self.inside.mark in
-    let old = c.self.inside.journal in
-    let none : mark ≡ None = unmarked mark (search rules) in
-    let inv = c.self.invariant in
-    let start : c.text_at_start-start.result.now ≡ text_in text point = c.text_at_start-start.ensures ∙ ap (λ (t : Bytes). text_in t point) c.deref.ensures.value in
-    let payload = c.deref-2.result.now in
-    let writes : (P : PlainPolicy) (T : Trace) → g.E.Engine.follows c.self.inside.engine P (trace_from P T H) → payload ≡ point_behind (text_in text point) before P T H =
-    λ P T stands. c.deref-2.ensures.value ∙ (c.in-Ok.ensures.text P T stands ∙ ap (λ (t : Bytes). point_behind t before P T H) start) in
-    let short : length payload ≤ most_payload = subst (λ (l : Bytes). length l ≤ most_payload) (sym c.deref-2.ensures.value) c.in-Ok.ensures.short in
-    let one : OneByOne = λ takes front behind. c.payloads_are_found_one_by_one.ensures accepted takes front behind in
-    let journal = c.prepare_point.new.journal in
-    let next = c.append.new.self in
-    let shut = c.prepare_point.ensures.closed (inv.rests none).closed in
-    let second : points_of (version_of journal) ≡ true = ap points_of c.prepare_point.ensures.version ∙ c.in-Ok.ensures.second in
-    let fine : is_err c.append.result ≡ false = search rules in
-    let closed = ok_told c.append.result fine c.append.ensures.closed in
-    let added = ok_told c.append.result fine c.append.ensures.added in
-    subst (λ (x : Kept g.row.D.Denot). (P : PlainPolicy) (G : History) (was file : Bytes) → IsFounded contents images P x G → contents x.disk ≡ Some was
-    → contents (disk_of next) ≡ Some file → point_places file ≡ point_places was ++ length (G ++ x.entries) ∷ []) c.self.view_is
-    (places_point contents images old journal text point before opening H mark shut c.prepare_point.ensures.disk one payload short second g.E.Engine.follows c.self.inside.engine inv writes next c.append.ensures.version closed added)
+    let before = (goal.at.returns-clause-added g c).After-append in
+    places_point (ready g before) (one g before) (appended g (goal.at.returns-clause-added g c).Else-is_err)
 
 pub returns-clause-fits : goal.returns-clause-fits
-returns-clause-fits g c =
-    let contents = g.D.Disk.contents in
-    let images = g.D.Disk.images in
-    let H = c.self.inside.entries.items in
-    let text = c.self.inside.policy.items in
-    let point = c.self.inside.point in
-    let before = c.self.inside.before in
-    let opening = c.self.inside.opening in
-    let mark = c.self.inside.mark in
-    let old = c.self.inside.journal in
-    let none : mark ≡ None = unmarked mark (search rules) in
-    let inv = c.self.invariant in
-    let start : c.text_at_start-start.result.now ≡ text_in text point = c.text_at_start-start.ensures ∙ ap (λ (t : Bytes). text_in t point) c.deref.ensures.value in
-    let payload = c.deref-2.result.now in
-    let writes : (P : PlainPolicy) (T : Trace) → g.E.Engine.follows c.self.inside.engine P (trace_from P T H) → payload ≡ point_behind (text_in text point) before P T H =
-    λ P T stands. c.deref-2.ensures.value ∙ (c.in-Ok.ensures.text P T stands ∙ ap (λ (t : Bytes). point_behind t before P T H) start) in
-    let short : length payload ≤ most_payload = subst (λ (l : Bytes). length l ≤ most_payload) (sym c.deref-2.ensures.value) c.in-Ok.ensures.short in
-    let one : OneByOne = λ takes front behind. c.payloads_are_found_one_by_one.ensures accepted takes front behind in
-    let journal = c.prepare_point.new.journal in
-    let next = c.append.new.self in
-    let shut = c.prepare_point.ensures.closed (inv.rests none).closed in
-    let second : points_of (version_of journal) ≡ true = ap points_of c.prepare_point.ensures.version ∙ c.in-Ok.ensures.second in
-    subst (λ (x : Kept g.row.D.Denot). (P : PlainPolicy) (T : Trace) → accepted x.policy ≡ Some P → IsStart P x.point x.before T
-    → length (checkpoint_behind x.policy x.point x.before P T x.entries) ≤ most_payload) c.self.view_is
-    (λ P T accepts leads.
-    let stands = stands_as g.E.Engine.follows contents images c.self.inside.engine old text point before H mark inv P accepts T leads in
-    subst (λ (l : Bytes). length l ≤ most_payload) (writes P T stands ∙ ap (λ (t : Bytes). point_behind t before P T H) inv.in_force) short)
+returns-clause-fits g c = fits_ready (ready g (goal.at.returns-clause-fits g c).After-append)
 
 pub returns-clause-inside : goal.returns-clause-inside
-returns-clause-inside g c =
-    let contents = g.D.Disk.contents in
-    let images = g.D.Disk.images in
-    let H = c.self.inside.entries.items in
-    let text = c.self.inside.policy.items in
-    let point = c.self.inside.point in
-    let before = c.self.inside.before in
-    let opening = c.self.inside.opening in
-    let mark = c.self.inside.mark in
-    let old = c.self.inside.journal in
-    let none : mark ≡ None = unmarked mark (search rules) in
-    let inv = c.self.invariant in
-    let start : c.text_at_start-start.result.now ≡ text_in text point = c.text_at_start-start.ensures ∙ ap (λ (t : Bytes). text_in t point) c.deref.ensures.value in
-    let payload = c.deref-2.result.now in
-    let writes : (P : PlainPolicy) (T : Trace) → g.E.Engine.follows c.self.inside.engine P (trace_from P T H) → payload ≡ point_behind (text_in text point) before P T H =
-    λ P T stands. c.deref-2.ensures.value ∙ (c.in-Ok.ensures.text P T stands ∙ ap (λ (t : Bytes). point_behind t before P T H) start) in
-    let short : length payload ≤ most_payload = subst (λ (l : Bytes). length l ≤ most_payload) (sym c.deref-2.ensures.value) c.in-Ok.ensures.short in
-    let one : OneByOne = λ takes front behind. c.payloads_are_found_one_by_one.ensures accepted takes front behind in
-    let journal = c.prepare_point.new.journal in
-    let next = c.append.new.self in
-    let shut = c.prepare_point.ensures.closed (inv.rests none).closed in
-    let second : points_of (version_of journal) ≡ true = ap points_of c.prepare_point.ensures.version ∙ c.in-Ok.ensures.second in
-    let run = run_point contents images old journal text point before opening H mark shut c.prepare_point.ensures.disk one payload short second g.E.Engine.follows c.self.inside.engine inv writes g.D.Disk.moment g.D.Disk.images_since (disk_of next) c.append.ensures.images in
-    subst (λ (x : Kept g.row.D.Denot). (P : PlainPolicy) (G : History) (file : Bytes) → IsFounded contents images P x G → contents x.disk ≡ Some file
-    → LeavesOnly g.D.Disk.moment g.D.Disk.images_since x.disk (disk_of next) (IsFoundPointed x.policy (G ++ x.entries) (point_places file)))
-    c.self.view_is run
+returns-clause-inside g c = leaves g (goal.at.returns-clause-inside g c).After-append
 
 pub returns-clause-founded : goal.returns-clause-founded
 returns-clause-founded g c =
-    let contents = g.D.Disk.contents in
-    let images = g.D.Disk.images in
-    let H = c.self.inside.entries.items in
-    let text = c.self.inside.policy.items in
-    let point = c.self.inside.point in
-    let before = c.self.inside.before in
-    let opening = c.self.inside.opening in
-    let mark = c.self.inside.mark in
-    let old = c.self.inside.journal in
-    let none : mark ≡ None = unmarked mark (search rules) in
-    let inv = c.self.invariant in
-    let start : c.text_at_start-start.result.now ≡ text_in text point = c.text_at_start-start.ensures ∙ ap (λ (t : Bytes). text_in t point) c.deref.ensures.value in
-    let payload = c.deref-2.result.now in
-    let writes : (P : PlainPolicy) (T : Trace) → g.E.Engine.follows c.self.inside.engine P (trace_from P T H) → payload ≡ point_behind (text_in text point) before P T H =
-    λ P T stands. c.deref-2.ensures.value ∙ (c.in-Ok.ensures.text P T stands ∙ ap (λ (t : Bytes). point_behind t before P T H) start) in
-    let short : length payload ≤ most_payload = subst (λ (l : Bytes). length l ≤ most_payload) (sym c.deref-2.ensures.value) c.in-Ok.ensures.short in
-    let one : OneByOne = λ takes front behind. c.payloads_are_found_one_by_one.ensures accepted takes front behind in
-    let journal = c.prepare_point.new.journal in
-    let next = c.append.new.self in
-    let shut = c.prepare_point.ensures.closed (inv.rests none).closed in
-    let second : points_of (version_of journal) ≡ true = ap points_of c.prepare_point.ensures.version ∙ c.in-Ok.ensures.second in
-    let fine : is_err c.append.result ≡ false = search rules in
-    let closed = ok_told c.append.result fine c.append.ensures.closed in
-    let added = ok_told c.append.result fine c.append.ensures.added in
-    let founded = founded_point contents images old journal text point before opening H mark shut c.prepare_point.ensures.disk one payload short second g.E.Engine.follows c.self.inside.engine inv writes next c.append.ensures.version closed added
-    (ok_told c.append.result fine c.append.ensures.only) c.append.ensures.tells in
-    subst (λ (x : Kept g.row.D.Denot). (P : PlainPolicy) (G : History) → IsFounded contents images P x G
-    → IsFounded contents images P (parts text point before opening H mark (disk_of next)) G) c.self.view_is founded
+    let before = (goal.at.returns-clause-founded g c).After-append in
+    let there = (goal.at.returns-clause-founded g c).Else-is_err in
+    founded_point (ready g before) (one g before) (appended g there) (moved g there)
 
 pub returns-clause-stays : goal.returns-clause-stays
 returns-clause-stays g c =
-    let contents = g.D.Disk.contents in
-    let images = g.D.Disk.images in
-    let H = c.self.inside.entries.items in
-    let text = c.self.inside.policy.items in
-    let point = c.self.inside.point in
-    let before = c.self.inside.before in
-    let opening = c.self.inside.opening in
-    let mark = c.self.inside.mark in
-    let old = c.self.inside.journal in
-    let none : mark ≡ None = unmarked mark (search rules) in
-    let inv = c.self.invariant in
-    let start : c.text_at_start-start.result.now ≡ text_in text point = c.text_at_start-start.ensures ∙ ap (λ (t : Bytes). text_in t point) c.deref.ensures.value in
-    let payload = c.deref-2.result.now in
-    let writes : (P : PlainPolicy) (T : Trace) → g.E.Engine.follows c.self.inside.engine P (trace_from P T H) → payload ≡ point_behind (text_in text point) before P T H =
-    λ P T stands. c.deref-2.ensures.value ∙ (c.in-Ok.ensures.text P T stands ∙ ap (λ (t : Bytes). point_behind t before P T H) start) in
-    let short : length payload ≤ most_payload = subst (λ (l : Bytes). length l ≤ most_payload) (sym c.deref-2.ensures.value) c.in-Ok.ensures.short in
-    let one : OneByOne = λ takes front behind. c.payloads_are_found_one_by_one.ensures accepted takes front behind in
-    let journal = c.prepare_point.new.journal in
-    let next = c.append.new.self in
-    let shut = c.prepare_point.ensures.closed (inv.rests none).closed in
-    let second : points_of (version_of journal) ≡ true = ap points_of c.prepare_point.ensures.version ∙ c.in-Ok.ensures.second in
-    let fine : is_err c.append.result ≡ false = search rules in
-    let closed = ok_told c.append.result fine c.append.ensures.closed in
-    let added = ok_told c.append.result fine c.append.ensures.added in
-    let run = run_point contents images old journal text point before opening H mark shut c.prepare_point.ensures.disk one payload short second g.E.Engine.follows c.self.inside.engine inv writes g.D.Disk.moment g.D.Disk.images_since (disk_of next) c.append.ensures.images in
-    let founded = founded_point contents images old journal text point before opening H mark shut c.prepare_point.ensures.disk one payload short second g.E.Engine.follows c.self.inside.engine inv writes next c.append.ensures.version closed added
-    (ok_told c.append.result fine c.append.ensures.only) c.append.ensures.tells in
-    let tells = c.append.ensures.tells ∙ ap (λ (d : g.row.D.Denot). is_some (contents d)) c.prepare_point.ensures.disk in
-    let unfailed = no_cause (g.D.Disk.faults (disk_of journal)) (g.D.Disk.faults (disk_of next)) c.append.result fine c.append.ensures.cause
-    ∙ ap (λ (d : g.row.D.Denot). g.D.Disk.faults d) c.prepare_point.ensures.disk in
-    subst (λ (x : Kept g.row.D.Denot). Stays contents images g.D.Disk.moment g.D.Disk.images_since g.D.Disk.faults x
-    (parts text point before opening H mark (disk_of next)))
-    c.self.view_is
-    (stays_pointed contents images g.D.Disk.moment g.D.Disk.images_since g.D.Disk.faults _ _ none none refl refl refl refl refl unfailed tells run founded)
+    let before = (goal.at.returns-clause-stays g c).After-append in
+    let there = (goal.at.returns-clause-stays g c).Else-is_err in
+    stays_point (ready g before) (one g before) (appended g there) g.D.Disk.faults c.append.ensures.images
+    (no_cause (g.D.Disk.faults (disk_of c.prepare_point.new.journal)) (g.D.Disk.faults (disk_of c.append.new.self)) c.append.result
+    (fine g there) c.append.ensures.cause) (moved g there)

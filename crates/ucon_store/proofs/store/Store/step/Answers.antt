@@ -1,31 +1,26 @@
-use Rattle.std.proofs.Common.{rules, ◌≡◌, ℕ, ◌∷◌, [], ◌++◌, ◌+◌, ◌≤◌, List, length, length-append, true, Option, None, Some, refl, sym, ap, ◌∙◌, subst, arith}
-use Rattle.std.specs.Prelude.{is_some, IsSome}
-use Rattle.ucon_disk.specs.Causes.{raised}
-use Rattle.ucon_disk.specs.Run.{LeavesOnly}
-use Rattle.ucon_journal.specs.Found.{counted}
-use Rattle.ucon_journal.specs.Journal.{disk_of, told_payloads}
+use Rattle.std.proofs.Common.{rules, ◌≡◌, ◌∷◌, [], ◌++◌, ◌≤◌, List, length, true, None, Some, refl, sym, ap, ◌∙◌, subst}
+use Rattle.ucon_journal.specs.Journal.{disk_of}
+use Rattle.ucon_model.specs.declared.command.Caller.{Caller}
+use Rattle.ucon_model.specs.declared.command.Command.{Command}
 use Rattle.ucon_model.specs.declared.command.Entry.{Entry}
-use Rattle.ucon_model.specs.Action.{Trace}
-use Rattle.ucon_model.specs.Found.{taken}
-use Rattle.ucon_model.specs.History.{History, said, trace, trace_from, changes}
+use Rattle.ucon_model.specs.History.{trace_from}
 use Rattle.ucon_model.specs.Payload.{revocations_in}
-use Rattle.ucon_model.specs.Plain.{PlainPolicy, PlainReply}
+use Rattle.ucon_model.specs.Plain.{PlainReply}
 use Rattle.ucon_model.specs.Views.{reply_of}
 use Rattle.ucon_syntax.specs.Policies.{accepted}
-use Rattle.ucon_turn.specs.Lists.{Continues}
-use Rattle.ucon_store.specs.Events.{events, events_of, number_of}
-use Rattle.ucon_store.specs.Found.{IsFoundWith}
-use Rattle.ucon_store.specs.Kept.{Kept, IsKept}
-use Rattle.ucon_store.specs.Starts.{IsStart}
+use Rattle.ucon_store.specs.Kept.{Kept}
 use Rattle.ucon_store.specs.Stays.{Stays, stays_same}
-use Rattle.ucon_store.specs.Steps.{AddsAtMost, step_payload}
-use Rattle.ucon_store.specs.Whole.{IsFounded}
-use Rattle.ucon_store.proofs.Adding.{Adds, adds_nothing, adds_record, added_record}
+use Rattle.ucon_store.proofs.Adding.{Adds, added_ready, adds_nothing, adds_ready}
 use Rattle.ucon_store.proofs.Placing.{failed_whole, placed_whole}
-use Rattle.ucon_store.proofs.Recorded.{OneByOne, stays_more, stays_marked, events_more, events_marked, unbegun}
-use Rattle.ucon_store.proofs.Stepped.{parts, run_founded, founded_more}
-use Rattle.ucon_store.proofs.Stepping.{unmarked, kept_marked, kept_more}
+use Rattle.ucon_store.proofs.Recorded.{IsAppended, LeavesStep, OneByOne, events_marked, events_more, unbegun, with_entry, with_mark}
+use Rattle.ucon_store.proofs.Stepped.{IsReady, founded_ready, leaves_ready, marked_parts, more_parts, only_kept, parts, ready_for, stays_failed, stays_ready}
+use Rattle.ucon_store.proofs.Stepping.{kept_marked, kept_more, unmarked}
+use Rattle.ucon_store.proofs.store.Store.step.Given.{Over}
+use Rattle.ucon_store.proofs.store.Store.step.Goals.{After-record, Else-is_some, In-Err-record, In_default}
 use Rattle.ucon_store.proofs.store.Store.step.Goals as goal
+
+abbrev entry : Caller → Command → Entry
+entry caller command = record { caller = caller; command = command }
 
 pub prepare-requires-clause-few : goal.prepare-requires-clause-few
 prepare-requires-clause-few g c =
@@ -39,248 +34,128 @@ record-requires-clause-closed g c =
     let none : c.self.inside.mark ≡ None = unmarked c.self.inside.mark (search rules) in
     c.prepare.ensures.closed (c.self.invariant.rests none).closed
 
+-- ---- once the record's making has begun
+
+module _ (g : Over) (c : After-record g) where
+  -- the store was ready for the step's record
+  ready : IsReady g.D.Disk.contents g.D.Disk.images c.args.self.now c.prepare.new.journal (entry c.args.caller c.args.command.now) c.deref.result.now
+  ready =
+      let none : c.self.inside.mark ≡ None = unmarked c.self.inside.mark (search rules) in
+      let changed : c.in_ok-drafted.drafted.changes ≡ true = search rules in
+      ready_for c.self.invariant c.self.view_is none c.prepare.ensures.closed c.prepare.ensures.disk (entry c.args.caller c.args.command.now)
+      (reply_of c.in_ok-drafted.drafted.reply) (sym c.in_ok-drafted.ensures.changes ∙ changed) c.in_ok-drafted.ensures.reply
+      c.deref.ensures.value c.in-Ok.ensures.spelled c.in-Ok.ensures.entry c.in-Ok.ensures.taken
+
+  one : OneByOne
+  one takes front behind = c.payloads_are_found_one_by_one.ensures accepted takes front behind
+
+  leaves : LeavesStep g.D.Disk.contents g.D.Disk.images g.D.Disk.moment g.D.Disk.images_since c.args.self.now
+      (entry c.args.caller c.args.command.now) (disk_of c.record.new.journal)
+  leaves = leaves_ready ready one c.record.ensures.images
+
+-- ---- it met a disk fault
+
+module _ (g : Over) (c : In-Err-record g) where
+  -- its entry is the mark of the store
+  marked : parts c.self.inside.policy.items c.self.inside.point c.self.inside.before c.self.inside.opening c.record.new.entries.items
+      (Some c.in-Err-record.entry) (disk_of c.record.new.journal)
+      ≡ with_mark c.args.self.now (entry c.args.caller c.args.command.now) (disk_of c.record.new.journal)
+  marked =
+      marked_parts c.self.inside.point c.self.view_is (entry c.args.caller c.args.command.now) (disk_of c.record.new.journal)
+      (c.in-Err-record.ensures.same ∙ c.prepare.ensures.entries) (c.in-Err-record.ensures.entry ∙ c.in-Ok.ensures.entry)
+
 pub invariant_of-self-in-Err-record : goal.invariant_of-self-in-Err-record
 invariant_of-self-in-Err-record g c =
-    let contents = g.D.Disk.contents in
-    let images = g.D.Disk.images in
-    let H = c.self.inside.entries.items in
-    let text = c.self.inside.policy.items in
-    let point = c.self.inside.point in
-    let before = c.self.inside.before in
-    let e : Entry = record { caller = c.args.caller; command = c.args.command.now } in
-    let kept = c.self.invariant in
     let changed : c.in_ok-drafted.drafted.changes ≡ true = search rules in
-    let is_entry : c.in-Ok.entry ≡ e = c.in-Ok.ensures.entry in
-    let marked = kept_marked g.E.Engine.follows contents images c.self.inside.engine c.self.inside.journal text point before H c.self.inside.mark kept c.record.new.engine c.record.new.journal e
-    (λ T start. c.in-Err-record.ensures.undone kept.P (trace_from kept.P T H) e (c.in_ok-drafted.ensures.pending changed kept.P (trace_from kept.P T H) (kept.stands T start))) in
-    let same : c.record.new.entries.items ≡ H = c.in-Err-record.ensures.same ∙ c.prepare.ensures.entries in
-    let failed : c.in-Err-record.entry ≡ e = c.in-Err-record.ensures.entry ∙ is_entry in
-    subst (λ (z : List Entry × Entry). IsKept g.E.Engine.follows contents images c.record.new.engine c.record.new.journal text point before z.0 (Some z.1)) (λ i. (sym same i, sym failed i)) marked
+    kept_marked c.self.invariant (g.E.Engine.has_pending c.draft.new.self) (entry c.args.caller c.args.command.now)
+    (c.in_ok-drafted.ensures.pending changed) c.record.new.engine c.record.new.journal c.in-Err-record.ensures.undone
+    (c.in-Err-record.ensures.same ∙ c.prepare.ensures.entries) (c.in-Err-record.ensures.entry ∙ c.in-Ok.ensures.entry)
 
 pub returns-in-Err-record-clause-inside : goal.returns-in-Err-record-clause-inside
-returns-in-Err-record-clause-inside g c =
-    let contents = g.D.Disk.contents in
-    let images = g.D.Disk.images in
-    let H = c.self.inside.entries.items in
-    let text = c.self.inside.policy.items in
-    let point = c.self.inside.point in
-    let before = c.self.inside.before in
-    let opening = c.self.inside.opening in
-    let mark = c.self.inside.mark in
-    let e : Entry = record { caller = c.args.caller; command = c.args.command.now } in
-    let none : mark ≡ None = unmarked mark (search rules) in
-    let inv = c.self.invariant in
-    let changed : c.in_ok-drafted.drafted.changes ≡ true = search rules in
-    let changing = sym c.in_ok-drafted.ensures.changes ∙ changed in
-    let is_entry : c.in-Ok.entry ≡ e = c.in-Ok.ensures.entry in
-    let one : OneByOne = λ takes front behind. c.payloads_are_found_one_by_one.ensures accepted takes front behind in
-    let run_here = run_founded contents images c.self.inside.journal c.prepare.new.journal text point before opening H mark (c.prepare.ensures.closed (inv.rests none).closed) c.prepare.ensures.disk
-    g.E.Engine.follows c.self.inside.engine inv one (reply_of c.in_ok-drafted.drafted.reply) e c.deref.result.now changing c.in_ok-drafted.ensures.reply
-    (λ P K is does. ap (taken accepted P K) c.deref.ensures.value ∙ c.in-Ok.ensures.taken P K is does ∙ ap (λ (x : Entry). Some (K ++ x ∷ [])) is_entry)
-    g.D.Disk.moment g.D.Disk.images_since (disk_of c.record.new.journal) c.record.ensures.images in
-    subst (λ (x : Kept g.row.D.Denot). (P : PlainPolicy) (G : History) → IsFounded contents images P x G → IsSome (contents x.disk)
-    → LeavesOnly g.D.Disk.moment g.D.Disk.images_since x.disk (disk_of c.record.new.journal) (IsFoundWith x.policy (G ++ x.entries) (Some e)))
-    c.self.view_is run_here
+returns-in-Err-record-clause-inside g c = leaves g (goal.at.returns-in-Err-record-clause-inside g c).After-record
 
 pub returns-in-Err-record-clause-stays : goal.returns-in-Err-record-clause-stays
 returns-in-Err-record-clause-stays g c =
-    let contents = g.D.Disk.contents in
-    let images = g.D.Disk.images in
-    let H = c.self.inside.entries.items in
-    let text = c.self.inside.policy.items in
-    let point = c.self.inside.point in
-    let before = c.self.inside.before in
-    let opening = c.self.inside.opening in
-    let mark = c.self.inside.mark in
-    let e : Entry = record { caller = c.args.caller; command = c.args.command.now } in
-    let none : mark ≡ None = unmarked mark (search rules) in
-    let inv = c.self.invariant in
-    let changed : c.in_ok-drafted.drafted.changes ≡ true = search rules in
-    let changing = sym c.in_ok-drafted.ensures.changes ∙ changed in
-    let is_entry : c.in-Ok.entry ≡ e = c.in-Ok.ensures.entry in
-    let one : OneByOne = λ takes front behind. c.payloads_are_found_one_by_one.ensures accepted takes front behind in
-    let run_here = run_founded contents images c.self.inside.journal c.prepare.new.journal text point before opening H mark (c.prepare.ensures.closed (inv.rests none).closed) c.prepare.ensures.disk
-    g.E.Engine.follows c.self.inside.engine inv one (reply_of c.in_ok-drafted.drafted.reply) e c.deref.result.now changing c.in_ok-drafted.ensures.reply
-    (λ P K is does. ap (taken accepted P K) c.deref.ensures.value ∙ c.in-Ok.ensures.taken P K is does ∙ ap (λ (x : Entry). Some (K ++ x ∷ [])) is_entry)
-    g.D.Disk.moment g.D.Disk.images_since (disk_of c.record.new.journal) c.record.ensures.images in
-    let tells = c.record.ensures.tells ∙ ap (λ (d : g.row.D.Denot). is_some (contents d)) c.prepare.ensures.disk in
-    let raised_here = c.in-Err-record.ensures.cause ∙ ap (λ (d : g.row.D.Denot). raised (g.D.Disk.faults d)) c.prepare.ensures.disk in
-    let same : c.record.new.entries.items ≡ H = c.in-Err-record.ensures.same ∙ c.prepare.ensures.entries in
-    let failed : c.in-Err-record.entry ≡ e = c.in-Err-record.ensures.entry ∙ is_entry in
-    subst (λ (x : Kept g.row.D.Denot). Stays contents images g.D.Disk.moment g.D.Disk.images_since g.D.Disk.faults x
-    (parts text point before opening c.record.new.entries.items (Some c.in-Err-record.entry) (disk_of c.record.new.journal)))
-    c.self.view_is
-    (stays_marked contents images g.D.Disk.moment g.D.Disk.images_since g.D.Disk.faults _ _ e none (ap Some failed) refl refl refl refl same raised_here tells g.met.D.Disk.counts_now run_here)
+    let before = (goal.at.returns-in-Err-record-clause-stays g c).After-record in
+    stays_failed (ready g before) (one g before) g.D.Disk.faults c.record.ensures.images c.record.ensures.tells
+    c.in-Err-record.ensures.cause g.met.D.Disk.counts_now (marked g (goal.at.returns-in-Err-record-clause-stays g c).In-Err-record)
 
 pub returns-in-Err-record-clause-events : goal.returns-in-Err-record-clause-events
 returns-in-Err-record-clause-events g c =
-    let H = c.self.inside.entries.items in
-    let e : Entry = record { caller = c.args.caller; command = c.args.command.now } in
-    let none : c.self.inside.mark ≡ None = unmarked c.self.inside.mark (search rules) in
-    let same : c.record.new.entries.items ≡ H = c.in-Err-record.ensures.same ∙ c.prepare.ensures.entries in
-    let failed : c.in-Err-record.entry ≡ e = c.in-Err-record.ensures.entry ∙ c.in-Ok.ensures.entry in
-    subst (λ (x : Kept g.row.D.Denot). Continues (λ event. number_of event ≡ c.args.caller.0 + 1) (events_of x) (events c.record.new.entries.items (Some c.in-Err-record.entry)))
-    c.self.view_is
-    (subst (λ (z : Option Entry × List Entry × Entry). Continues (λ event. number_of event ≡ c.args.caller.0 + 1) (events H z.0) (events z.1 (Some z.2)))
-    (λ i. (sym none i, sym same i, sym failed i)) (events_marked H e))
+    events_marked c.args.self.now (entry c.args.caller c.args.command.now)
+    (ready g (goal.at.returns-in-Err-record-clause-events g c).After-record).unmarked (disk_of c.record.new.journal)
+    (marked g (goal.at.returns-in-Err-record-clause-events g c).In-Err-record)
+
+-- ---- it is there
+
+module _ (g : Over) (c : In_default g) where
+  appended : IsAppended g.D.Disk.contents g.D.Disk.images c.prepare.new.journal c.record.new.journal c.deref.result.now
+  appended = record {
+    closed = c.in_default.ensures.closed;
+    version = c.record.ensures.version;
+    gate = c.in_default.ensures.gate;
+    only = c.in_default.ensures.only;
+    tells = c.record.ensures.tells;
+    added = c.in_default.ensures.payloads;
+  }
+
+  grown : c.record.new.entries.items ≡ c.self.inside.entries.items ++ entry c.args.caller c.args.command.now ∷ []
+  grown =
+      c.in_default.ensures.added
+      ∙ (ap (λ (l : List Entry). l ++ c.in-Ok.entry ∷ []) c.prepare.ensures.entries
+      ∙ ap (λ (x : Entry). c.self.inside.entries.items ++ x ∷ []) c.in-Ok.ensures.entry)
+
+  -- its entry is the last of the store
+  longer : parts c.self.inside.policy.items c.self.inside.point c.self.inside.before c.self.inside.opening c.record.new.entries.items
+      c.self.inside.mark (disk_of c.record.new.journal)
+      ≡ with_entry c.args.self.now (entry c.args.caller c.args.command.now) (disk_of c.record.new.journal)
+  longer =
+      more_parts c.self.inside.point c.self.view_is (entry c.args.caller c.args.command.now) (disk_of c.record.new.journal)
+      (unmarked c.self.inside.mark (search rules)) grown
 
 pub invariant_of-self-2 : goal.invariant_of-self-2
 invariant_of-self-2 g c =
-    let contents = g.D.Disk.contents in
-    let images = g.D.Disk.images in
-    let H = c.self.inside.entries.items in
-    let text = c.self.inside.policy.items in
-    let point = c.self.inside.point in
-    let before = c.self.inside.before in
-    let e : Entry = record { caller = c.args.caller; command = c.args.command.now } in
-    let none : c.self.inside.mark ≡ None = unmarked c.self.inside.mark (search rules) in
-    let kept = c.self.invariant in
+    let there = (goal.at.invariant_of-self-2 g c).In_default in
     let changed : c.in_ok-drafted.drafted.changes ≡ true = search rules in
-    let added : c.record.new.entries.items ≡ H ++ e ∷ [] = c.in_default.ensures.added
-    ∙ (ap (λ (l : List Entry). l ++ c.in-Ok.entry ∷ []) c.prepare.ensures.entries ∙ ap (λ (x : Entry). H ++ x ∷ []) c.in-Ok.ensures.entry) in
-    let more = kept_more g.E.Engine.follows contents images c.self.inside.engine c.self.inside.journal text point before H c.self.inside.mark kept c.record.new.engine c.record.new.journal e
-    c.record.ensures.small (λ T start. c.in_default.ensures.kept kept.P (trace_from kept.P T H) e (c.in_ok-drafted.ensures.pending changed kept.P (trace_from kept.P T H) (kept.stands T start)))
-    (λ T start. c.in_default.ensures.settled kept.P (trace_from kept.P T H) e (c.in_ok-drafted.ensures.pending changed kept.P (trace_from kept.P T H) (kept.stands T start)))
-    (record { closed = c.in_default.ensures.closed; few = omega (arith, (kept.rests none).few, c.prepare.ensures.gate, c.in_default.ensures.gate, length-append H (e ∷ [])); only = c.in_default.ensures.only }) in
-    subst (λ (z : List Entry × Option Entry). IsKept g.E.Engine.follows contents images c.record.new.engine c.record.new.journal text point before z.0 z.1) (λ i. (sym added i, sym none i)) more
+    kept_more c.self.invariant (g.E.Engine.has_pending c.draft.new.self) (entry c.args.caller c.args.command.now)
+    (c.in_ok-drafted.ensures.pending changed) c.record.new.engine c.record.new.journal (unmarked c.self.inside.mark (search rules))
+    c.prepare.ensures.gate (appended g there) c.record.ensures.small c.in_default.ensures.kept c.in_default.ensures.settled (grown g there)
 
 pub returns-clause-inside : goal.returns-clause-inside
-returns-clause-inside g c =
-    let contents = g.D.Disk.contents in
-    let images = g.D.Disk.images in
-    let H = c.self.inside.entries.items in
-    let text = c.self.inside.policy.items in
-    let point = c.self.inside.point in
-    let before = c.self.inside.before in
-    let opening = c.self.inside.opening in
-    let mark = c.self.inside.mark in
-    let e : Entry = record { caller = c.args.caller; command = c.args.command.now } in
-    let none : mark ≡ None = unmarked mark (search rules) in
-    let inv = c.self.invariant in
-    let changed : c.in_ok-drafted.drafted.changes ≡ true = search rules in
-    let changing = sym c.in_ok-drafted.ensures.changes ∙ changed in
-    let is_entry : c.in-Ok.entry ≡ e = c.in-Ok.ensures.entry in
-    let one : OneByOne = λ takes front behind. c.payloads_are_found_one_by_one.ensures accepted takes front behind in
-    let run_here = run_founded contents images c.self.inside.journal c.prepare.new.journal text point before opening H mark (c.prepare.ensures.closed (inv.rests none).closed) c.prepare.ensures.disk
-    g.E.Engine.follows c.self.inside.engine inv one (reply_of c.in_ok-drafted.drafted.reply) e c.deref.result.now changing c.in_ok-drafted.ensures.reply
-    (λ P K is does. ap (taken accepted P K) c.deref.ensures.value ∙ c.in-Ok.ensures.taken P K is does ∙ ap (λ (x : Entry). Some (K ++ x ∷ [])) is_entry)
-    g.D.Disk.moment g.D.Disk.images_since (disk_of c.record.new.journal) c.record.ensures.images in
-    subst (λ (x : Kept g.row.D.Denot). (P : PlainPolicy) (G : History) → IsFounded contents images P x G → IsSome (contents x.disk)
-    → LeavesOnly g.D.Disk.moment g.D.Disk.images_since x.disk (disk_of c.record.new.journal) (IsFoundWith x.policy (G ++ x.entries) (Some e)))
-    c.self.view_is run_here
+returns-clause-inside g c = leaves g (goal.at.returns-clause-inside g c).After-record
 
 pub returns-clause-founded : goal.returns-clause-founded
 returns-clause-founded g c =
-    let contents = g.D.Disk.contents in
-    let images = g.D.Disk.images in
-    let H = c.self.inside.entries.items in
-    let text = c.self.inside.policy.items in
-    let point = c.self.inside.point in
-    let before = c.self.inside.before in
-    let opening = c.self.inside.opening in
-    let mark = c.self.inside.mark in
-    let e : Entry = record { caller = c.args.caller; command = c.args.command.now } in
-    let none : mark ≡ None = unmarked mark (search rules) in
-    let inv = c.self.invariant in
-    let changed : c.in_ok-drafted.drafted.changes ≡ true = search rules in
-    let changing = sym c.in_ok-drafted.ensures.changes ∙ changed in
-    let is_entry : c.in-Ok.entry ≡ e = c.in-Ok.ensures.entry in
-    let one : OneByOne = λ takes front behind. c.payloads_are_found_one_by_one.ensures accepted takes front behind in
-    let added : c.record.new.entries.items ≡ H ++ e ∷ [] = c.in_default.ensures.added
-    ∙ (ap (λ (l : List Entry). l ++ c.in-Ok.entry ∷ []) c.prepare.ensures.entries ∙ ap (λ (x : Entry). H ++ x ∷ []) c.in-Ok.ensures.entry) in
-    let more = founded_more contents images c.self.inside.journal c.prepare.new.journal text point before opening H mark (c.prepare.ensures.closed (inv.rests none).closed) c.prepare.ensures.disk
-    g.E.Engine.follows c.self.inside.engine inv one (reply_of c.in_ok-drafted.drafted.reply) e c.deref.result.now changing c.in_ok-drafted.ensures.reply
-    (λ P K is does. ap (taken accepted P K) c.deref.ensures.value ∙ c.in-Ok.ensures.taken P K is does ∙ ap (λ (x : Entry). Some (K ++ x ∷ [])) is_entry)
-    c.record.new.journal c.record.ensures.version c.in_default.ensures.closed c.in_default.ensures.only c.record.ensures.tells c.in_default.ensures.payloads in
-    subst (λ (x : Kept g.row.D.Denot). (P : PlainPolicy) (G : History) → IsFounded contents images P x G
-    → IsFounded contents images P (parts text point before opening c.record.new.entries.items mark (disk_of c.record.new.journal)) G)
-    c.self.view_is
-    (subst (λ (l : List Entry). (P : PlainPolicy) (G : History) → IsFounded contents images P (parts text point before opening H mark (disk_of c.self.inside.journal)) G
-    → IsFounded contents images P (parts text point before opening l mark (disk_of c.record.new.journal)) G) (sym added) more)
-
-pub returns-clause-events : goal.returns-clause-events
-returns-clause-events g c =
-    let H = c.self.inside.entries.items in
-    let e : Entry = record { caller = c.args.caller; command = c.args.command.now } in
-    let none : c.self.inside.mark ≡ None = unmarked c.self.inside.mark (search rules) in
-    let added : c.record.new.entries.items ≡ H ++ e ∷ [] = c.in_default.ensures.added
-    ∙ (ap (λ (l : List Entry). l ++ c.in-Ok.entry ∷ []) c.prepare.ensures.entries ∙ ap (λ (x : Entry). H ++ x ∷ []) c.in-Ok.ensures.entry) in
-    subst (λ (x : Kept g.row.D.Denot). Continues (λ event. number_of event ≡ c.args.caller.0 + 1) (events_of x) (events c.record.new.entries.items c.self.inside.mark))
-    c.self.view_is
-    (subst (λ (z : List Entry × Option Entry). Continues (λ event. number_of event ≡ c.args.caller.0 + 1) (events H z.1) (events z.0 z.1))
-    (λ i. (sym added i, sym none i)) (events_more H e))
+    let before = (goal.at.returns-clause-founded g c).After-record in
+    let there = (goal.at.returns-clause-founded g c).In_default in
+    founded_ready (ready g before) (one g before) (appended g there) (longer g there)
 
 pub returns-clause-stays : goal.returns-clause-stays
 returns-clause-stays g c =
-    let contents = g.D.Disk.contents in
-    let images = g.D.Disk.images in
-    let H = c.self.inside.entries.items in
-    let text = c.self.inside.policy.items in
-    let point = c.self.inside.point in
-    let before = c.self.inside.before in
-    let opening = c.self.inside.opening in
-    let mark = c.self.inside.mark in
-    let e : Entry = record { caller = c.args.caller; command = c.args.command.now } in
-    let none : mark ≡ None = unmarked mark (search rules) in
-    let inv = c.self.invariant in
-    let changed : c.in_ok-drafted.drafted.changes ≡ true = search rules in
-    let changing = sym c.in_ok-drafted.ensures.changes ∙ changed in
-    let is_entry : c.in-Ok.entry ≡ e = c.in-Ok.ensures.entry in
-    let one : OneByOne = λ takes front behind. c.payloads_are_found_one_by_one.ensures accepted takes front behind in
-    let tells_record : (P : PlainPolicy) (K : History) → reply_of c.in_ok-drafted.drafted.reply ≡ said P K e.caller e.command → changes (reply_of c.in_ok-drafted.drafted.reply) ≡ true
-    → taken accepted P K c.deref.result.now ≡ Some (K ++ e ∷ []) =
-    λ P K is does. ap (taken accepted P K) c.deref.ensures.value ∙ c.in-Ok.ensures.taken P K is does ∙ ap (λ (x : Entry). Some (K ++ x ∷ [])) is_entry in
-    let closed = c.prepare.ensures.closed (inv.rests none).closed in
-    let run_here = run_founded contents images c.self.inside.journal c.prepare.new.journal text point before opening H mark closed c.prepare.ensures.disk
-    g.E.Engine.follows c.self.inside.engine inv one (reply_of c.in_ok-drafted.drafted.reply) e c.deref.result.now changing c.in_ok-drafted.ensures.reply tells_record
-    g.D.Disk.moment g.D.Disk.images_since (disk_of c.record.new.journal) c.record.ensures.images in
-    let added : c.record.new.entries.items ≡ H ++ e ∷ [] = c.in_default.ensures.added
-    ∙ (ap (λ (l : List Entry). l ++ c.in-Ok.entry ∷ []) c.prepare.ensures.entries ∙ ap (λ (x : Entry). H ++ x ∷ []) c.in-Ok.ensures.entry) in
-    let more = founded_more contents images c.self.inside.journal c.prepare.new.journal text point before opening H mark closed c.prepare.ensures.disk
-    g.E.Engine.follows c.self.inside.engine inv one (reply_of c.in_ok-drafted.drafted.reply) e c.deref.result.now changing c.in_ok-drafted.ensures.reply tells_record
-    c.record.new.journal c.record.ensures.version c.in_default.ensures.closed c.in_default.ensures.only c.record.ensures.tells c.in_default.ensures.payloads in
-    let founded = subst (λ (l : List Entry). (P : PlainPolicy) (G : History) → IsFounded contents images P (parts text point before opening H mark (disk_of c.self.inside.journal)) G
-    → IsFounded contents images P (parts text point before opening l mark (disk_of c.record.new.journal)) G) (sym added) more in
-    let tells = c.record.ensures.tells ∙ ap (λ (d : g.row.D.Denot). is_some (contents d)) c.prepare.ensures.disk in
-    let unfailed = c.in_default.ensures.cause ∙ ap (λ (d : g.row.D.Denot). g.D.Disk.faults d) c.prepare.ensures.disk in
-    subst (λ (x : Kept g.row.D.Denot). Stays contents images g.D.Disk.moment g.D.Disk.images_since g.D.Disk.faults x
-    (parts text point before opening c.record.new.entries.items mark (disk_of c.record.new.journal)))
-    c.self.view_is
-    (stays_more contents images g.D.Disk.moment g.D.Disk.images_since g.D.Disk.faults _ _ e none none refl refl refl refl added unfailed tells run_here founded)
+    let before = (goal.at.returns-clause-stays g c).After-record in
+    let there = (goal.at.returns-clause-stays g c).In_default in
+    stays_ready (ready g before) (one g before) g.D.Disk.faults c.record.ensures.images (appended g there) c.in_default.ensures.cause
+    (longer g there)
+
+pub returns-clause-events : goal.returns-clause-events
+returns-clause-events g c =
+    events_more c.args.self.now (entry c.args.caller c.args.command.now) (ready g (goal.at.returns-clause-events g c).After-record).unmarked
+    (disk_of c.record.new.journal) (longer g (goal.at.returns-clause-events g c).In_default)
 
 -- ---- memory was wanting: nothing has changed
 
 pub returns-in-Err-clause-inside : goal.returns-in-Err-clause-inside
 returns-in-Err-clause-inside g c =
-    let contents = g.D.Disk.contents in
-    let images = g.D.Disk.images in
-    let H = c.self.inside.entries.items in
-    let text = c.self.inside.policy.items in
-    let here = parts text c.self.inside.point c.self.inside.before c.self.inside.opening H c.self.inside.mark (disk_of c.self.inside.journal) in
-    let e : Entry = record { caller = c.args.caller; command = c.args.command.now } in
-    subst (λ (x : Kept g.row.D.Denot). (P : PlainPolicy) (G : History) → IsFounded contents images P x G → IsSome (contents x.disk)
-    → LeavesOnly g.D.Disk.moment g.D.Disk.images_since x.disk (disk_of c.prepare.new.journal) (IsFoundWith x.policy (G ++ x.entries) (Some e)))
-    c.self.view_is
-    (λ P G f told. subst (λ (d : g.row.D.Denot). LeavesOnly g.D.Disk.moment g.D.Disk.images_since (disk_of c.self.inside.journal) d (IsFoundWith text (G ++ H) (Some e))) (sym c.prepare.ensures.disk)
-    (unbegun contents images g.D.Disk.moment g.D.Disk.images_since g.met.D.Disk.only_now P here G e f told))
+    unbegun g.D.Disk.contents g.D.Disk.images g.D.Disk.moment g.D.Disk.images_since c.args.self.now (entry c.args.caller c.args.command.now)
+    g.met.D.Disk.only_now (disk_of c.prepare.new.journal) (c.prepare.ensures.disk ∙ ap (λ (s : Kept g.row.D.Denot). s.disk) c.self.view_is)
 
 pub returns-in-Err-clause-stays : goal.returns-in-Err-clause-stays
 returns-in-Err-clause-stays g c =
-    let contents = g.D.Disk.contents in
-    let images = g.D.Disk.images in
-    let H = c.self.inside.entries.items in
-    let text = c.self.inside.policy.items in
-    let point = c.self.inside.point in
-    let before = c.self.inside.before in
-    let opening = c.self.inside.opening in
-    let mark = c.self.inside.mark in
-    let here = parts text point before opening H mark (disk_of c.self.inside.journal) in
-    subst (λ (x : Kept g.row.D.Denot). Stays contents images g.D.Disk.moment g.D.Disk.images_since g.D.Disk.faults x
-    (parts text point before opening c.prepare.new.entries.items mark (disk_of c.prepare.new.journal)))
-    c.self.view_is
-    (subst (λ (z : List Entry × g.row.D.Denot). Stays contents images g.D.Disk.moment g.D.Disk.images_since g.D.Disk.faults here (parts text point before opening z.0 mark z.1))
-    (λ i. (sym c.prepare.ensures.entries i, sym c.prepare.ensures.disk i))
-    (stays_same contents images g.D.Disk.moment g.D.Disk.images_since g.D.Disk.faults g.met.D.Disk.only_now here))
+    let s = c.self.inside in
+    let same = (λ i. parts s.policy.items s.point s.before s.opening (c.prepare.ensures.entries i) s.mark (c.prepare.ensures.disk i))
+    ∙ c.self.view_is in
+    subst (Stays g.D.Disk.contents g.D.Disk.images g.D.Disk.moment g.D.Disk.images_since g.D.Disk.faults c.args.self.now) (sym same)
+    (stays_same g.D.Disk.contents g.D.Disk.images g.D.Disk.moment g.D.Disk.images_since g.D.Disk.faults g.met.D.Disk.only_now c.args.self.now)
 
 -- ---- behind a history, from what is said behind its trace
 
@@ -288,124 +163,47 @@ pub returns-then-not-drafted-clause-placed_behind : goal.returns-then-not-drafte
 returns-then-not-drafted-clause-placed_behind g c = search rules
 
 pub returns-then-not-drafted-clause-placed : goal.returns-then-not-drafted-clause-placed
-returns-then-not-drafted-clause-placed g c = λ P G accepts front.
-    let same = ap (λ (s : Kept g.row.D.Denot). s.before) c.self.view_is in
-    placed_whole P G _ _ _ _ front.count same (returns-then-not-drafted-clause-placed_behind g c P (trace P G) accepts front.starts)
+returns-then-not-drafted-clause-placed g c =
+    placed_whole (ap (λ (s : Kept g.row.D.Denot). s.before) c.self.view_is) (returns-then-not-drafted-clause-placed_behind g c)
 
 pub returns-clause-placed_behind : goal.returns-clause-placed_behind
 returns-clause-placed_behind g c = search rules
 
 pub returns-clause-placed : goal.returns-clause-placed
-returns-clause-placed g c = λ P G accepts front.
-    let same = ap (λ (s : Kept g.row.D.Denot). s.before) c.self.view_is in
-    placed_whole P G _ _ _ _ front.count same (returns-clause-placed_behind g c P (trace P G) accepts front.starts)
+returns-clause-placed g c = placed_whole (ap (λ (s : Kept g.row.D.Denot). s.before) c.self.view_is) (returns-clause-placed_behind g c)
 
 pub returns-in-Err-record-clause-failed_behind : goal.returns-in-Err-record-clause-failed_behind
 returns-in-Err-record-clause-failed_behind g c = search rules
 
 pub returns-in-Err-record-clause-failed : goal.returns-in-Err-record-clause-failed
-returns-in-Err-record-clause-failed g c = λ is P G accepts front.
-    failed_whole P G _ _ _ g.D.Disk.faults (returns-in-Err-record-clause-failed_behind g c is P (trace P G) accepts front.starts)
+returns-in-Err-record-clause-failed g c is = failed_whole (returns-in-Err-record-clause-failed_behind g c is)
 
 -- ---- what a step puts into the file, whatever that is found as
 
 pub returns-clause-adds : goal.returns-clause-adds
-returns-clause-adds g c =
-    let contents = g.D.Disk.contents in
-    let text = c.self.inside.policy.items in
-    let point = c.self.inside.point in
-    let before = c.self.inside.before in
-    let opening = c.self.inside.opening in
-    let H = c.self.inside.entries.items in
-    let mark = c.self.inside.mark in
-    let e : Entry = record { caller = c.args.caller; command = c.args.command.now } in
-    let here = adds_record g.E.Engine.follows contents g.D.Disk.images g.D.Disk.moment g.D.Disk.images_since c.self.inside.engine c.self.inside.journal text point before H mark
-    c.self.invariant e c.prepare.new.journal c.prepare.ensures.disk (reply_of c.in_ok-drafted.drafted.reply) c.deref.result.now
-    (c.deref.ensures.value ∙ c.in-Ok.ensures.spelled) c.in_ok-drafted.ensures.reply (disk_of c.record.new.journal) c.record.ensures.images in
-    subst (λ (x : Kept g.row.D.Denot). (P : PlainPolicy) (T : Trace) (file : List ℕ) → accepted x.policy ≡ Some P → IsStart P x.point x.before T → x.mark ≡ None
-    → contents x.disk ≡ Some file
-    → LeavesOnly g.D.Disk.moment g.D.Disk.images_since x.disk (disk_of c.record.new.journal) (AddsAtMost (step_payload P T x.entries e) file))
-    c.self.view_is here
+returns-clause-adds g c = adds_ready (ready g (goal.at.returns-clause-adds g c).After-record) c.record.ensures.images
 
 pub returns-in-Err-record-clause-adds : goal.returns-in-Err-record-clause-adds
-returns-in-Err-record-clause-adds g c =
-    let contents = g.D.Disk.contents in
-    let text = c.self.inside.policy.items in
-    let point = c.self.inside.point in
-    let before = c.self.inside.before in
-    let H = c.self.inside.entries.items in
-    let mark = c.self.inside.mark in
-    let e : Entry = record { caller = c.args.caller; command = c.args.command.now } in
-    let here = adds_record g.E.Engine.follows contents g.D.Disk.images g.D.Disk.moment g.D.Disk.images_since c.self.inside.engine c.self.inside.journal text point before H mark
-    c.self.invariant e c.prepare.new.journal c.prepare.ensures.disk (reply_of c.in_ok-drafted.drafted.reply) c.deref.result.now
-    (c.deref.ensures.value ∙ c.in-Ok.ensures.spelled) c.in_ok-drafted.ensures.reply (disk_of c.record.new.journal) c.record.ensures.images in
-    subst (λ (x : Kept g.row.D.Denot). (P : PlainPolicy) (T : Trace) (file : List ℕ) → accepted x.policy ≡ Some P → IsStart P x.point x.before T → x.mark ≡ None
-    → contents x.disk ≡ Some file
-    → LeavesOnly g.D.Disk.moment g.D.Disk.images_since x.disk (disk_of c.record.new.journal) (AddsAtMost (step_payload P T x.entries e) file))
-    c.self.view_is here
-
-pub returns-in-Err-clause-adds : goal.returns-in-Err-clause-adds
-returns-in-Err-clause-adds g c =
-    let contents = g.D.Disk.contents in
-    let text = c.self.inside.policy.items in
-    let point = c.self.inside.point in
-    let before = c.self.inside.before in
-    let H = c.self.inside.entries.items in
-    let mark = c.self.inside.mark in
-    let e : Entry = record { caller = c.args.caller; command = c.args.command.now } in
-    let here = adds_nothing g.E.Engine.follows contents g.D.Disk.images g.D.Disk.moment g.D.Disk.images_since c.self.inside.engine c.self.inside.journal text point before H mark
-    c.self.invariant e g.met.D.Disk.only_now in
-    subst (λ (x : Kept g.row.D.Denot). (P : PlainPolicy) (T : Trace) (file : List ℕ) → accepted x.policy ≡ Some P → IsStart P x.point x.before T → x.mark ≡ None
-    → contents x.disk ≡ Some file
-    → LeavesOnly g.D.Disk.moment g.D.Disk.images_since x.disk (disk_of c.prepare.new.journal) (AddsAtMost (step_payload P T x.entries e) file))
-    c.self.view_is
-    (subst (λ (d : g.row.D.Denot). Adds g.E.Engine.follows contents g.D.Disk.images g.D.Disk.moment g.D.Disk.images_since c.self.inside.engine c.self.inside.journal text point before H mark
-    c.self.invariant e d) (sym c.prepare.ensures.disk) here)
+returns-in-Err-record-clause-adds g c = adds_ready (ready g (goal.at.returns-in-Err-record-clause-adds g c).After-record) c.record.ensures.images
 
 pub returns-clause-added : goal.returns-clause-added
-returns-clause-added g c = λ changes.
-    let contents = g.D.Disk.contents in
-    let text = c.self.inside.policy.items in
-    let point = c.self.inside.point in
-    let before = c.self.inside.before in
-    let H = c.self.inside.entries.items in
-    let mark = c.self.inside.mark in
-    let e : Entry = record { caller = c.args.caller; command = c.args.command.now } in
-    let here = added_record g.E.Engine.follows contents g.D.Disk.images g.D.Disk.moment g.D.Disk.images_since c.self.inside.engine c.self.inside.journal text point before H mark
-    c.self.invariant e c.prepare.new.journal c.prepare.ensures.disk (reply_of c.in_ok-drafted.drafted.reply) c.deref.result.now
-    (c.deref.ensures.value ∙ c.in-Ok.ensures.spelled) c.in_ok-drafted.ensures.reply (disk_of c.record.new.journal) c.in_default.ensures.payloads in
-    subst (λ (x : Kept g.row.D.Denot). (P : PlainPolicy) (T : Trace) (file : List ℕ) → accepted x.policy ≡ Some P → IsStart P x.point x.before T
-    → contents x.disk ≡ Some file → told_payloads (contents (disk_of c.record.new.journal)) ≡ counted file ++ step_payload P T x.entries e ∷ [])
-    c.self.view_is here
+returns-clause-added g c _ =
+    added_ready (ready g (goal.at.returns-clause-added g c).After-record) (appended g (goal.at.returns-clause-added g c).In_default)
+
+module _ (g : Over) (c : Else-is_some g) where
+  -- before a call of the disk nothing is added
+  nothing : (new : g.row.D.Denot) → new ≡ disk_of c.self.inside.journal
+      → Adds g.D.Disk.contents g.D.Disk.images g.D.Disk.moment g.D.Disk.images_since c.args.self.now (entry c.args.caller c.args.command.now) new
+  nothing new same =
+      adds_nothing g.D.Disk.contents g.D.Disk.images g.D.Disk.moment g.D.Disk.images_since c.args.self.now (entry c.args.caller c.args.command.now)
+      g.met.D.Disk.only_now (only_kept c.self.invariant c.self.view_is) new (same ∙ ap (λ (s : Kept g.row.D.Denot). s.disk) c.self.view_is)
+
+pub returns-in-Err-clause-adds : goal.returns-in-Err-clause-adds
+returns-in-Err-clause-adds g c = nothing g (goal.at.returns-in-Err-clause-adds g c).Else-is_some (disk_of c.prepare.new.journal) c.prepare.ensures.disk
 
 pub returns-then-not-drafted-clause-adds : goal.returns-then-not-drafted-clause-adds
 returns-then-not-drafted-clause-adds g c =
-    let contents = g.D.Disk.contents in
-    let text = c.self.inside.policy.items in
-    let point = c.self.inside.point in
-    let before = c.self.inside.before in
-    let H = c.self.inside.entries.items in
-    let mark = c.self.inside.mark in
-    let e : Entry = record { caller = c.args.caller; command = c.args.command.now } in
-    let here = adds_nothing g.E.Engine.follows contents g.D.Disk.images g.D.Disk.moment g.D.Disk.images_since c.self.inside.engine c.self.inside.journal text point before H mark
-    c.self.invariant e g.met.D.Disk.only_now in
-    subst (λ (x : Kept g.row.D.Denot). (P : PlainPolicy) (T : Trace) (file : List ℕ) → accepted x.policy ≡ Some P → IsStart P x.point x.before T → x.mark ≡ None
-    → contents x.disk ≡ Some file
-    → LeavesOnly g.D.Disk.moment g.D.Disk.images_since x.disk (disk_of c.self.inside.journal) (AddsAtMost (step_payload P T x.entries e) file))
-    c.self.view_is here
+    nothing g (goal.at.returns-then-not-drafted-clause-adds g c).Else-is_some (disk_of c.self.inside.journal) refl
 
 pub returns-in_err-drafted-clause-adds : goal.returns-in_err-drafted-clause-adds
-returns-in_err-drafted-clause-adds g c =
-    let contents = g.D.Disk.contents in
-    let text = c.self.inside.policy.items in
-    let point = c.self.inside.point in
-    let before = c.self.inside.before in
-    let H = c.self.inside.entries.items in
-    let mark = c.self.inside.mark in
-    let e : Entry = record { caller = c.args.caller; command = c.args.command.now } in
-    let here = adds_nothing g.E.Engine.follows contents g.D.Disk.images g.D.Disk.moment g.D.Disk.images_since c.self.inside.engine c.self.inside.journal text point before H mark
-    c.self.invariant e g.met.D.Disk.only_now in
-    subst (λ (x : Kept g.row.D.Denot). (P : PlainPolicy) (T : Trace) (file : List ℕ) → accepted x.policy ≡ Some P → IsStart P x.point x.before T → x.mark ≡ None
-    → contents x.disk ≡ Some file
-    → LeavesOnly g.D.Disk.moment g.D.Disk.images_since x.disk (disk_of c.self.inside.journal) (AddsAtMost (step_payload P T x.entries e) file))
-    c.self.view_is here
+returns-in_err-drafted-clause-adds g c = nothing g (goal.at.returns-in_err-drafted-clause-adds g c).Else-is_some (disk_of c.self.inside.journal) refl
