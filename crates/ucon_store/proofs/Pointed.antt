@@ -151,8 +151,7 @@ unpointed contents P T store (TooLarge size) points payload h is kind = (same_po
 unpointed contents P T store (NoMemory e) points payload h is kind = tt
 
 module _ {E D : Type 0} {follows : E → PlainPolicy → Trace → Type 0} {contents : D → Option (List ℕ)} {images : D → List ℕ → Type 0} {engine : E}
-    {j : Journal D} {text : Bytes}
-    {point : Option Beginning} {before opening : ℕ} {H : History} {mark : Option Entry}
+    {j : Journal D} {text : Bytes} {point : Option Beginning} {before opening : ℕ} {H : History} {mark : Option Entry}
     (kept : IsKept follows contents images engine j text point before H mark)
     {x : Kept D} (is : parts text point before opening H mark (disk_of j) ≡ x) (none : mark ≡ None) {start : Bytes}
     (begins_as : start ≡ text_in text point) where

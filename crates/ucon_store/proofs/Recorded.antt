@@ -68,8 +68,7 @@ found_perhaps one text P H e payload file c takes h perhaps = ⊎_elim
     perhaps
 
 module _ {D : Type 0} {contents : D → Option (List ℕ)} {images : D → List ℕ → Type 0} {journal : Journal D} {text : Bytes} {P : PlainPolicy}
-    {H : History}
-    (rest : HoldsAtRest contents images journal text P H) where
+    {H : History} (rest : HoldsAtRest contents images journal text P H) where
   pub at_rest_as : (file : Bytes) → contents (disk_of journal) ≡ Some file → IsAtRest (contents (disk_of journal)) (images (disk_of journal)) file
   at_rest_as file is = record { told = is; only = subst (λ (o : Option Bytes). Only o (images (disk_of journal))) is rest.only }
 

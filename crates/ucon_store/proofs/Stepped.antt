@@ -55,8 +55,7 @@ pub record IsReady {D : Type 0} (contents : D → Option (List ℕ)) (images : D
       → taken accepted P (G ++ x.entries) payload ≡ Some ((G ++ x.entries) ++ e ∷ [])
 
 module _ {E D : Type 0} {follows : E → PlainPolicy → Trace → Type 0} {contents : D → Option (List ℕ)} {images : D → List ℕ → Type 0} {engine : E}
-    {j : Journal D} {text : Bytes}
-    {point : Option Beginning} {before opening : ℕ} {H : History} {mark : Option Entry}
+    {j : Journal D} {text : Bytes} {point : Option Beginning} {before opening : ℕ} {H : History} {mark : Option Entry}
     (kept : IsKept follows contents images engine j text point before H mark)
     {x : Kept D} (is : parts text point before opening H mark (disk_of j) ≡ x) where
   -- without a mark a crash leaves nothing but the file of a store

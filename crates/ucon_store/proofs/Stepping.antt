@@ -39,8 +39,7 @@ pub said_behind : (P : PlainPolicy) (G H : History) (caller : Caller) (c : Comma
 said_behind P G H caller c = ap (λ (T : Trace). reply P T caller c) (trace_append P [] G H)
 
 module _ {E D : Type 0} {follows : E → PlainPolicy → Trace → Type 0} {contents : D → Option (List ℕ)} {images : D → List ℕ → Type 0} {engine : E}
-    {journal : Journal D} {text : Bytes}
-    {point : Option Beginning} {before : ℕ} {H : History} {mark : Option Entry}
+    {journal : Journal D} {text : Bytes} {point : Option Beginning} {before : ℕ} {H : History} {mark : Option Entry}
     (kept : IsKept follows contents images engine journal text point before H mark) where
   -- behind each trace that leads to where the store begins its engine follows the entries
   pub stands_as : (P : PlainPolicy) → accepted text ≡ Some P → (T : Trace) → IsStart P (payload_in point) before T
@@ -49,22 +48,31 @@ module _ {E D : Type 0} {follows : E → PlainPolicy → Trace → Type 0} {cont
       subst (λ (Q : PlainPolicy). (T : Trace) → IsStart Q (payload_in point) before T → follows engine Q (trace_from Q T H))
       (one_policy text kept.P P kept.accepts accepts) kept.stands
 
-  -- a payload more that is no step leaves a store kept
-  pub kept_on : mark ≡ None → {prepared k : Journal D} {payload : Bytes} → gate_of prepared ≡ gate_of journal
-      → IsAppended contents images prepared k payload
-      → IsKept follows contents images engine k text point before H mark
-  kept_on none same appended = record {
+  -- a store goes on from where it began, with another engine, journal, entries and mark
+  kept_as : {next : E} {k : Journal D} {items : History} {m : Option Entry}
+      → ((T : Trace) → IsStart kept.P (payload_in point) before T → follows next kept.P (trace_from kept.P T items))
+      → ((T : Trace) → IsStart kept.P (payload_in point) before T → NobodyFails kept.P (trace_from kept.P T items))
+      → 5 * (before + length items) < 2 ^ 63 → (m ≡ None → IsAtRestWith contents images k (before + length items))
+      → IsKept follows contents images next k text point before items m
+  kept_as stands settled few rests = record {
     P = kept.P;
     accepts = kept.accepts;
     begun = kept.begun;
     starts = kept.starts;
-    stands = kept.stands;
-    settled = kept.settled;
+    stands = stands;
+    settled = settled;
     revokes = kept.revokes;
     in_force = kept.in_force;
-    few = kept.few;
-    rests = λ _. record { closed = appended.closed; few = omega (arith, (kept.rests none).few, same, appended.gate); only = appended.only };
+    few = few;
+    rests = rests;
   }
+
+  -- a payload more that is no step leaves it kept
+  pub kept_on : mark ≡ None → {prepared k : Journal D} {payload : Bytes} → gate_of prepared ≡ gate_of journal
+      → IsAppended contents images prepared k payload → IsKept follows contents images engine k text point before H mark
+  kept_on none {prepared} {k} same appended =
+      let few : 5 * (before + length H) ≤ gate_of k = omega (arith, (kept.rests none).few, same, appended.gate) in
+      kept_as kept.stands kept.settled kept.few (λ _. record { closed = appended.closed; few = few; only = appended.only })
 
   module _ (has_pending : PlainPolicy → Trace → Entry → Type 0) (e : Entry)
       (pending : (P : PlainPolicy) (T : Trace) → follows engine P T → has_pending P T e) (next : E) (k : Journal D) where
@@ -73,47 +81,25 @@ module _ {E D : Type 0} {follows : E → PlainPolicy → Trace → Type 0} {cont
 
     -- and so does the entry of a step that met a disk fault, as the mark
     pub kept_marked : ((P : PlainPolicy) (T : Trace) (a : Entry) → has_pending P T a → follows next P T) → {items : History} → items ≡ H
-        → {failed : Entry} → failed ≡ e
-        → IsKept follows contents images next k text point before items (Some failed)
+        → {failed : Entry} → failed ≡ e → IsKept follows contents images next k text point before items (Some failed)
     kept_marked undone same is =
         subst (λ (z : History × Entry). IsKept follows contents images next k text point before z.0 (Some z.1)) (λ i. (sym same i, sym is i))
-        (record {
-          P = kept.P;
-          accepts = kept.accepts;
-          begun = kept.begun;
-          starts = kept.starts;
-          stands = λ T start. undone kept.P (trace_from kept.P T H) e (pends T start);
-          settled = kept.settled;
-          revokes = kept.revokes;
-          in_force = kept.in_force;
-          few = kept.few;
-          rests = λ none. absurd (cc none);
-        })
+        (kept_as (λ T start. undone kept.P (trace_from kept.P T H) e (pends T start)) kept.settled kept.few (λ none. absurd (cc none)))
 
     -- and that of one that was kept, behind the others
     pub kept_more : mark ≡ None → {prepared : Journal D} {payload : Bytes} → gate_of prepared ≡ gate_of journal
         → IsAppended contents images prepared k payload → gate_of k < 2 ^ 63
         → ((P : PlainPolicy) (T : Trace) (a : Entry) → has_pending P T a → follows next P (after P T a.caller a.command))
         → ((P : PlainPolicy) (T : Trace) (a : Entry) → has_pending P T a → NobodyFails P (after P T a.caller a.command)) → {items : History}
-        → items ≡ H ++ e ∷ []
-        → IsKept follows contents images next k text point before items mark
+        → items ≡ H ++ e ∷ [] → IsKept follows contents images next k text point before items mark
     kept_more none same appended small follow settle grown =
         let few : 5 * (before + length (H ++ e ∷ [])) ≤ gate_of k =
         omega (arith, (kept.rests none).few, same, appended.gate, length-append H (e ∷ [])) in
-        subst (λ (l : History). IsKept follows contents images next k text point before l mark) (sym grown) (record {
-          P = kept.P;
-          accepts = kept.accepts;
-          begun = kept.begun;
-          starts = kept.starts;
-          stands = λ T start. subst (follows next kept.P) (sym (trace_longer kept.P T H e))
-              (follow kept.P (trace_from kept.P T H) e (pends T start));
-          settled = λ T start. subst (NobodyFails kept.P) (sym (trace_longer kept.P T H e))
-              (settle kept.P (trace_from kept.P T H) e (pends T start));
-          revokes = kept.revokes;
-          in_force = kept.in_force;
-          few = omega (arith, few, small);
-          rests = λ _. record { closed = appended.closed; few = few; only = appended.only };
-        })
+        subst (λ (l : History). IsKept follows contents images next k text point before l mark) (sym grown)
+        (kept_as
+        (λ T start. subst (follows next kept.P) (sym (trace_longer kept.P T H e)) (follow kept.P (trace_from kept.P T H) e (pends T start)))
+        (λ T start. subst (NobodyFails kept.P) (sym (trace_longer kept.P T H e)) (settle kept.P (trace_from kept.P T H) e (pends T start)))
+        (omega (arith, few, small)) (λ _. record { closed = appended.closed; few = few; only = appended.only }))
 
 -- a store that begins before all entries
 pub begins_first : {E D : Type 0} (follows : E → PlainPolicy → Trace → Type 0) (contents : D → Option (List ℕ)) (images : D → List ℕ → Type 0) (engine : E) (journal : Journal D) (text : Bytes)

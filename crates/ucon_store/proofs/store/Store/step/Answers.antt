@@ -199,7 +199,8 @@ module _ (g : Over) (c : Else-is_some g) where
       g.met.D.Disk.only_now (only_kept c.self.invariant c.self.view_is) new (same ∙ ap (λ (s : Kept g.row.D.Denot). s.disk) c.self.view_is)
 
 pub returns-in-Err-clause-adds : goal.returns-in-Err-clause-adds
-returns-in-Err-clause-adds g c = nothing g (goal.at.returns-in-Err-clause-adds g c).Else-is_some (disk_of c.prepare.new.journal) c.prepare.ensures.disk
+returns-in-Err-clause-adds g c =
+    nothing g (goal.at.returns-in-Err-clause-adds g c).Else-is_some (disk_of c.prepare.new.journal) c.prepare.ensures.disk
 
 pub returns-then-not-drafted-clause-adds : goal.returns-then-not-drafted-clause-adds
 returns-then-not-drafted-clause-adds g c =
