@@ -2,15 +2,25 @@
 
 ghost use Rattle.std.specs.Prelude.{◌≡◌};
 ghost use Rattle.ucon_state.specs.Applied.{tried};
+ghost use Rattle.ucon_state.specs.Following.{AfterEach};
 ghost use Rattle.ucon_state.specs.Shown.{shown};
-ghost use Rattle.ucon_accept.specs.Trying.{admin, refusal_shown};
+ghost use Rattle.ucon_accept.specs.Trying.{admin, refusal_shown, try_refusal};
 
 use ucon_base::{Int, Name, Side};
 use ucon_model::{Caller, Refusal, SessionRow, SessionState, View};
-use ucon_state::State;
+use ucon_state::{State, tables_keep_what_is_followed};
 
 /// How a try of client 0 would be refused. None where it wouldn't be.
 pub fn refusal(state: &State, subject: &Name, right: &Name, object: &Name) -> Option<Refusal>
+    ensures shown { result ≡ refusal_shown (shown state.now) subject.now right.now object.now }
+    ensures refused { AfterEach (shown state.now) (λ P T. try_refusal P T subject.now right.now object.now ≡ result) }
+{
+    tables_keep_what_is_followed();
+    refusal_by_tables(state, subject, right, object)
+}
+
+/// The same, read off the state's tables.
+fn refusal_by_tables(state: &State, subject: &Name, right: &Name, object: &Name) -> Option<Refusal>
     ensures { result ≡ refusal_shown (shown state.now) subject.now right.now object.now }
 {
     if state.checked().policy().right(right).is_none() {

@@ -11,12 +11,12 @@ pub returns-in-Some-clause-accepted : goal.returns-in-Some-clause-accepted
 returns-in-Some-clause-accepted c =
     let s = shown c.args.state.now in
     let e = explanation_of c.args.e.now in
-    (λ yes. absurd (cc (yes)), λ right. absurd (cc (c.in-Some.ensures, right_is_allowed c.tables_keep_what_is_followed.ensures s c.requires e right)))
+    (λ yes. absurd (cc (yes)), λ right. absurd (cc (c.in-Some.ensures.shown, right_is_allowed c.tables_keep_what_is_followed.ensures s c.requires e right)))
 
 pub returns-in-Some-clause-wrong : goal.returns-in-Some-clause-wrong
 returns-in-Some-clause-wrong c = λ P T h.
     let e = explanation_of c.args.e.now in
-    sym (refusal_same c.tables_keep_what_is_followed.ensures (shown c.args.state.now) P T h e.subject e.right e.object) ∙ sym c.in-Some.ensures
+    sym (refusal_same c.tables_keep_what_is_followed.ensures (shown c.args.state.now) P T h e.subject e.right e.object) ∙ sym c.in-Some.ensures.shown
 
 pub returns-clause-accepted : goal.returns-clause-accepted
 returns-clause-accepted c =

@@ -4,13 +4,11 @@ use Rattle.ucon_state.specs.Shown.{shown}
 use Rattle.ucon_told.specs.Explanation.{PlainExplanation}
 use Rattle.ucon_accept.specs.Trying.{IsRight, refusal_shown}
 use Rattle.ucon_accept.proofs.Answered.{explained_is_right}
-use Rattle.ucon_accept.proofs.Meeting.{refusal_same, try_is_explained}
+use Rattle.ucon_accept.proofs.Meeting.{try_is_explained}
 use Rattle.ucon_explain.proofs.trying.explain.Goals as goal
 
 pub returns-in-Some-clause-refused : goal.returns-in-Some-clause-refused
-returns-in-Some-clause-refused c = λ P T h.
-    sym (refusal_same c.tables_keep_what_is_followed.ensures (shown c.args.state.now) P T h c.args.subject.now c.args.right.now c.args.object.now)
-    ∙ sym c.in-Some.ensures
+returns-in-Some-clause-refused c = c.in-Some.ensures.refused
 
 pub returns-clause-explained : goal.returns-clause-explained
 returns-clause-explained c = λ P T h.
