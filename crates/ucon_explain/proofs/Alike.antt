@@ -8,7 +8,7 @@ use Rattle.ucon_model.specs.declared.formula.Ref.TheVariants.{Subject, Object, E
 use Rattle.ucon_model.specs.declared.session.SessionRow.{SessionRow}
 use Rattle.ucon_model.specs.declared.session.Verdict.{Verdict}
 use Rattle.ucon_model.specs.Action.{Trace}
-use Rattle.ucon_model.specs.Decision.{right_named}
+use Rattle.ucon_model.specs.Decision.{right_named, verdict}
 use Rattle.ucon_model.specs.History.{Agree}
 use Rattle.ucon_model.specs.Plain.{Bytes, PlainFormula, both, either, negation, compare, lasts, PlainTest, authorisation, duty, condition, PlainPredicate, PlainRight, PlainPolicy}
 use Rattle.ucon_model.specs.Readings.{in_force, session, sessions}
@@ -17,8 +17,16 @@ use Rattle.ucon_state.specs.Applied.{tried}
 use Rattle.ucon_accept.specs.Checking.{verdict_told}
 use Rattle.ucon_told.specs.Explanation.{PlainWhy, line, lines, lines_from}
 use Rattle.ucon_accept.specs.Trying.{admin, explanation, with_try}
-use Rattle.ucon_accept.proofs.Meeting.{AgreeingAreOne}
-use Rattle.ucon_accept.proofs.Verdicts.{verdict_of_lines}
+
+-- ---- what the laws say that these stand on
+
+abbrev pub AgreeingAreOne : Type 0
+AgreeingAreOne = (R S : Readings) → Agree R S → R ≡ S
+
+abbrev pub LinesLeadToVerdicts : Type 0
+LinesLeadToVerdicts = (P : PlainPolicy) (R : Readings) (n : ℕ) (row : SessionRow) → R.row n ≡ Some row → verdict_told (lines P R row) ≡ verdict P R n
+
+-- ---- without the sessions
 
 abbrev Rows : Type 0
 Rows = ℕ → Option SessionRow
@@ -70,7 +78,7 @@ tried_there : (T : Trace) (s r o : Bytes) → session (with_try T s r o) (sessio
 tried_there T s r o = rw (eq-eqb (sessions T + 1) (sessions T + 1) refl) refl
 
 -- an explanation by its lines
-by_lines : (P : PlainPolicy) (T : Trace) (s r o : Bytes) → explanation P T s r o
+by_lines : LinesLeadToVerdicts → (P : PlainPolicy) (T : Trace) (s r o : Bytes) → explanation P T s r o
     ≡ record {
       subject = s;
       right = r;
@@ -78,16 +86,16 @@ by_lines : (P : PlainPolicy) (T : Trace) (s r o : Bytes) → explanation P T s r
       whys = lines (in_force P T) (readings P (with_try T s r o)) (tried admin s r o);
       verdict = verdict_told (lines (in_force P T) (readings P (with_try T s r o)) (tried admin s r o));
     }
-by_lines P T s r o =
+by_lines leads P T s r o =
     let row = tried admin s r o in
     let R = readings P (with_try T s r o) in
     ap (λ (v : Verdict). record { subject = s; right = r; object = o; whys = lines (in_force P T) R row; verdict = v })
-    (sym (verdict_of_lines (in_force P T) R (sessions T + 1) row (tried_there T s r o)))
+    (sym (leads (in_force P T) R (sessions T + 1) row (tried_there T s r o)))
 
 -- what is read alike is explained alike
-pub explained_alike : AgreeingAreOne → (P : PlainPolicy) (T : Trace) (Q : PlainPolicy) (U : Trace) → in_force P T ≡ in_force Q U → Agree (readings P T) (readings Q U)
-    → (s r o : Bytes) → explanation P T s r o ≡ explanation Q U s r o
-explained_alike one P T Q U policy agree s r o =
+pub explained_alike : AgreeingAreOne → LinesLeadToVerdicts → (P : PlainPolicy) (T : Trace) (Q : PlainPolicy) (U : Trace)
+    → in_force P T ≡ in_force Q U → Agree (readings P T) (readings Q U) → (s r o : Bytes) → explanation P T s r o ≡ explanation Q U s r o
+explained_alike one leads P T Q U policy agree s r o =
     let row = tried admin s r o in
     let R = readings P (with_try T s r o) in
     let S = readings Q (with_try U s r o) in
@@ -102,6 +110,6 @@ explained_alike one P T Q U policy agree s r o =
     ∙ ap (λ (X : Readings). lines (in_force P T) X row) (one (with_rows R no_rows) (with_rows S no_rows) alike)
     ∙ lines_alike (in_force P T) S no_rows row
     ∙ ap (λ (X : PlainPolicy). lines X S row) policy in
-    by_lines P T s r o
+    by_lines leads P T s r o
     ∙ ap (λ (ws : List PlainWhy). record { subject = s; right = r; object = o; whys = ws; verdict = verdict_told ws }) same
-    ∙ sym (by_lines Q U s r o)
+    ∙ sym (by_lines leads Q U s r o)

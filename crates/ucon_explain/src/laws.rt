@@ -8,6 +8,7 @@ ghost use Rattle.ucon_model.specs.Readings.{in_force};
 ghost use Rattle.ucon_model.specs.Truth.{readings};
 ghost use Rattle.ucon_accept.specs.Trying.{explanation};
 
+use ucon_accept::lines_lead_to_the_verdict;
 use ucon_model::readings_that_agree_are_one;
 
 /// Traces under one policy that give the same to read have the same explanation of every try.
@@ -16,4 +17,5 @@ pub fn traces_that_read_alike_are_explained_alike()
         → (s r o : Bytes) → explanation P T s r o ≡ explanation Q U s r o }
 {
     readings_that_agree_are_one();
+    lines_lead_to_the_verdict();
 }

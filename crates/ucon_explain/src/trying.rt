@@ -10,11 +10,10 @@ ghost use Rattle.ucon_explain.specs.Refusing.{IsRefused};
 
 use crate::explainer::explained;
 use std::alloc::Global;
-use ucon_accept::{OneMore, refusal, tried};
-use ucon_asked::typed_tests_make_no_set;
+use ucon_accept::{OneMore, refusal, tried, tries_are_explained_as_shown};
 use ucon_base::{Name, NoMemory};
-use ucon_model::{Refusal, readings_that_agree_are_one};
-use ucon_state::{State, each_action_is_followed, tables_keep_what_is_followed};
+use ucon_model::Refusal;
+use ucon_state::State;
 use ucon_told::Explanation;
 
 /// Why there is no explanation.
@@ -45,9 +44,7 @@ fn explain_try(
     requires allowed { refusal_shown (shown state.now) subject.now right.now object.now ≡ None }
     ensures { IfOk result (λ e. explanation_of e ≡ explained_with (shown state.now) subject.now right.now object.now) }
 {
-    tables_keep_what_is_followed();
-    each_action_is_followed();
-    typed_tests_make_no_set();
+    tries_are_explained_as_shown();
     let view = OneMore {
         state,
         row: tried(subject, right, object),
@@ -68,9 +65,7 @@ pub fn explain(
     ensures right { IfOk result (λ e. IsRight (shown state.now) (explanation_of e)) }
     ensures refused { IfErr result (λ fault. IsRefused fault (shown state.now) subject.now right.now object.now) }
 {
-    tables_keep_what_is_followed();
-    each_action_is_followed();
-    readings_that_agree_are_one();
+    tries_are_explained_as_shown();
     if let Some(refusal) = refusal(state, subject, right, object) {
         return Err(ExplainFault::Refused(refusal));
     }
