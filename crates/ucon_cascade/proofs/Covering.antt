@@ -57,6 +57,9 @@ and_parts : (a b : Bool) → (a && b) ≡ true → (a ≡ true) × (b ≡ true)
 and_parts true b h = (refl, h)
 and_parts false b h = absurd cc
 
+never : false ≡ true → ⊥
+never h = cc
+
 -- ---- locations
 
 same_side_is : (s t : Side) → same_side s t ≡ true → s ≡ t
@@ -135,20 +138,20 @@ targets_are s P T h same n when =
 
 permit_stands : (s : Shown) (standing : ℕ → List ℕ) (P : PlainPolicy) (T : Trace) → Follows s P T → SessionsAre s T → IsExact s standing → (n : ℕ) (row : SessionRow) → session T n ≡ Some row
     → going_on (session_in s.tables n) ≡ Some row → (head : Head) → readers P T (permit_locations P T head) n ≡ true → IsPermitWork s standing head n
-permit_stands s standing P T h same exact n row there is heads.Ok reads = absurd (let no : false ≡ true = rw there at reads in cc)
+permit_stands s standing P T h same exact n row there is heads.Ok reads = absurd (never (rw there at reads))
 permit_stands s standing P T h same exact n row there is (heads.Permitted k) reads =
     inr (subst (λ (locations : List Location). StandsAtOne s standing locations n) (targets_are s P T h same k Before)
     (reader_stands s standing P T h exact n row there is (session_targets P T k Before) reads))
-permit_stands s standing P T h same exact n row there is (heads.Denied k label) reads = absurd (let no : false ≡ true = rw there at reads in cc)
-permit_stands s standing P T h same exact n row there is (heads.Waiting k label) reads = absurd (let no : false ≡ true = rw there at reads in cc)
-permit_stands s standing P T h same exact n row there is (heads.Ended k) reads = absurd (let no : false ≡ true = rw there at reads in cc)
+permit_stands s standing P T h same exact n row there is (heads.Denied k label) reads = absurd (never (rw there at reads))
+permit_stands s standing P T h same exact n row there is (heads.Waiting k label) reads = absurd (never (rw there at reads))
+permit_stands s standing P T h same exact n row there is (heads.Ended k) reads = absurd (never (rw there at reads))
 
 permitted_is : (s : Shown) (standing : ℕ → List ℕ) (n : ℕ) (head : Head) → permitted_by head n ≡ true → IsPermitWork s standing head n
-permitted_is s standing n heads.Ok is = absurd cc
-permitted_is s standing n (heads.Permitted k) is = elim (eqb_tells n k) [ inl here ↦ inl here.1 | inr other ↦ absurd (let no : false ≡ true = sym other.0 ∙ is in cc) ]
-permitted_is s standing n (heads.Denied k label) is = absurd cc
-permitted_is s standing n (heads.Waiting k label) is = absurd cc
-permitted_is s standing n (heads.Ended k) is = absurd cc
+permitted_is s standing n heads.Ok is = absurd (never is)
+permitted_is s standing n (heads.Permitted k) is = elim (eqb_tells n k) [ inl here ↦ inl here.1 | inr other ↦ absurd (never (sym other.0 ∙ is)) ]
+permitted_is s standing n (heads.Denied k label) is = absurd (never is)
+permitted_is s standing n (heads.Waiting k label) is = absurd (never is)
+permitted_is s standing n (heads.Ended k) is = absurd (never is)
 
 first_of : (s : Shown) (standing : ℕ → List ℕ) (location : Location) (n : ℕ) → StandsAtOne s standing (location ∷ []) n → StandsAt s standing location n
 first_of s standing location n (inl here) = here
@@ -160,7 +163,7 @@ command_stands : (s : Shown) (standing : ℕ → List ℕ) (P : PlainPolicy) (T 
 command_stands s standing P T h same exact n row there is c no_tick reads = by c no_tick (or_cases (readers P T (command_locations P T c) n) (concerned_by P T c n) reads)
   where
     nowhere : readers P T [] n ≡ true → ⊥
-    nowhere reads = let no : false ≡ true = rw there at reads in cc
+    nowhere reads = never (rw there at reads)
 
     by_targets : (k : ℕ) (when : When) → readers P T (session_targets P T k when) n ≡ true → StandsAtOne s standing (targets_in s k when) n
     by_targets k when reads =
@@ -175,7 +178,7 @@ command_stands s standing P T h same exact n row there is c no_tick reads = by c
     by (Object name) no_tick (inl reads) = absurd (nowhere reads)
     by (Set side name attr v) no_tick (inl reads) = by_one (attribute_of side name attr) reads
     by (Env name v) no_tick (inl reads) = by_one (variable_of name) reads
-    by (Tick t) no_tick (inl reads) = absurd (nowhere reads)
+    by (Tick t) no_tick (inl reads) = absurd (never (sym no_tick))
     by (Act u a o) no_tick (inl reads) = absurd (nowhere reads)
     by (Try u r o) no_tick (inl reads) = absurd (nowhere reads)
     by (Again k) no_tick (inl reads) = absurd (nowhere reads)
@@ -184,18 +187,18 @@ command_stands s standing P T h same exact n row there is c no_tick reads = by c
     by (Look k) no_tick (inl reads) = absurd (nowhere reads)
     by (Value' side name attr) no_tick (inl reads) = absurd (nowhere reads)
     by (Amend a) no_tick (inl reads) = absurd (nowhere reads)
-    by (Subject name) no_tick (inr timed) = absurd cc
-    by (Object name) no_tick (inr timed) = absurd cc
-    by (Set side name attr v) no_tick (inr timed) = absurd cc
-    by (Env name v) no_tick (inr timed) = absurd cc
-    by (Tick t) no_tick (inr timed) = absurd cc
-    by (Act u a o) no_tick (inr timed) = absurd cc
-    by (Try u r o) no_tick (inr timed) = absurd cc
-    by (Again k) no_tick (inr timed) = absurd cc
-    by (Beat k) no_tick (inr timed) = absurd cc
-    by (End k) no_tick (inr timed) = absurd cc
-    by (Look k) no_tick (inr timed) = absurd cc
-    by (Value' side name attr) no_tick (inr timed) = absurd cc
+    by (Subject name) no_tick (inr timed) = absurd (never timed)
+    by (Object name) no_tick (inr timed) = absurd (never timed)
+    by (Set side name attr v) no_tick (inr timed) = absurd (never timed)
+    by (Env name v) no_tick (inr timed) = absurd (never timed)
+    by (Tick t) no_tick (inr timed) = absurd (never (sym no_tick))
+    by (Act u a o) no_tick (inr timed) = absurd (never timed)
+    by (Try u r o) no_tick (inr timed) = absurd (never timed)
+    by (Again k) no_tick (inr timed) = absurd (never timed)
+    by (Beat k) no_tick (inr timed) = absurd (never timed)
+    by (End k) no_tick (inr timed) = absurd (never timed)
+    by (Look k) no_tick (inr timed) = absurd (never timed)
+    by (Value' side name attr) no_tick (inr timed) = absurd (never timed)
     by (Amend a) no_tick (inr everybody) = ap is_some is
 
 pub member : (n : ℕ) (members : List ℕ) → Contains members n → work_of members n ≡ true

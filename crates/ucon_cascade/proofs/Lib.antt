@@ -3,6 +3,7 @@ pub mod Alike
 pub mod Anew
 pub mod Begun
 pub mod Monitored
+pub mod Opening
 pub mod Numbers
 pub mod Covering
 pub mod Exact

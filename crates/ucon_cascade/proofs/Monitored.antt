@@ -79,35 +79,6 @@ were_exact tell_it s s' standing first P T caller c head actions h h' is base ex
 
 -- ---- the beginning
 
--- before there are sessions nobody reads anything
-pub exact_empty : (s : Shown) (standing : ℕ → List ℕ) (P : PlainPolicy) → Follows s P [] → ((place : ℕ) → standing place ≡ []) → IsExact s standing
-exact_empty s standing P h nobody = record {
-  sound = λ n place stands. absurd (nowhere n (subst (λ (xs : List ℕ). Contains xs n) (nobody place) stands));
-  complete = λ n place reads. absurd (none_reads n reads.row reads.is);
-  numbered = λ n row is. absurd (none_reads n row is);
-}
-  where
-    nowhere : (n : ℕ) → Contains [] n → ⊥
-    nowhere n (i, within, is) = omega (arith, within)
-
-    none_reads : (n : ℕ) (row : SessionRow) → going_on (session_in s.tables n) ≡ Some row → ⊥
-    none_reads n row is = let no : None ≡ Some row = ap going_on (sym (h.tables.sessions.rows n)) ∙ is in cc
-
--- and nobody has to be grouped
-pub grouped_empty : (s : Shown) (first : ℕ → ℕ) (P : PlainPolicy) → Follows s P [] → AreGrouped s first
-grouped_empty s first P h = record {
-  low = λ n goes. absurd (none_goes n goes);
-  on = λ n goes. absurd (none_goes n goes);
-  itself = λ n goes. absurd (none_goes n goes);
-  like = λ n goes. absurd (none_goes n goes);
-}
-  where
-    none_goes : (n : ℕ) → GoesOn s n → ⊥
-    none_goes n goes =
-        let none : going_on (session_in s.tables n) ≡ None = ap going_on (h.tables.sessions.rows n) in
-        let no : false ≡ true = ap is_some (sym none) ∙ goes in
-        cc
-
 -- ---- undoing and keeping
 
 -- one change after the other
@@ -129,19 +100,6 @@ given_back_is s s' keeps settled =
     ∙ ap (λ (t : Tables). (let x : Shown = record { policy = s.opening_policy; tables = t; opening_policy = s.opening_policy; opening = t } in x)) keeps.opening
     ∙ ap (λ (Q : PlainPolicy). (let x : Shown = record { policy = Q; tables = s.opening; opening_policy = s.opening_policy; opening = s.opening } in x)) settled.policy
     ∙ ap (λ (t : Tables). (let x : Shown = record { policy = s.policy; tables = t; opening_policy = s.opening_policy; opening = s.opening } in x)) settled.tables
-
--- before there are sessions there are no deadlines
-pub timely_empty : (ds : List (Option ℤ)) (P : PlainPolicy) → ((n : ℕ) → deadline_of ds n ≡ None) → AreTimely ds P []
-timely_empty ds P none = record {
-  timed = record {
-    held = λ n row part limit on of_right told ahead. absurd (let no : None ≡ Some row = on in cc);
-    theirs = λ n d has. absurd (none_there n d has);
-  };
-  ahead = λ n d has. absurd (none_there n d has);
-}
-  where
-    none_there : (n : ℕ) (d : ℤ) → deadline_of ds n ≡ Some d → ⊥
-    none_there n d has = let no : None ≡ Some d = sym (none n) ∙ has in cc
 
 -- the same who stand, told by their numbers
 pub exact_same : (s : Shown) (standing standing' : ℕ → List ℕ) → ((n place : ℕ) → Contains (standing' place) n ↔ Contains (standing place) n) → IsExact s standing

@@ -3,6 +3,7 @@
 #![tactic(auto)]
 
 mod follow;
+mod indexes;
 mod kinds;
 mod monitor;
 mod own_work;

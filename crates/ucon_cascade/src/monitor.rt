@@ -21,9 +21,10 @@ ghost use Rattle.ucon_engine.specs.Engine.{FollowsLike, IsIdle};
 ghost use Rattle.ucon_state.specs.TakingUp.{HasNothingToUndo};
 ghost use Rattle.ucon_state.specs.Shown.{shown};
 
-use crate::follow::{all_readers, follow_actions};
+use crate::follow::follow_actions;
+use crate::indexes::Indexes;
 use crate::own_work::put_own_work;
-use crate::passing::{all_timers, follow_time};
+use crate::passing::follow_time;
 use crate::restoring::least_failing;
 use crate::settle::settle;
 use std::alloc::Global;
@@ -66,16 +67,7 @@ impl Engine for Monitor {
     fn begin(alloc: Global, checked: Checked) -> Result<Monitor, NoMemory> {
         each_action_is_followed();
         let state = State::new(alloc, checked)?;
-        let readers = Readers::new(alloc)?;
-        let timers = Timers::new(alloc);
-        let work = Pend::new(alloc, 1_048_577)?;
-        Ok(Monitor {
-            alloc,
-            state,
-            readers,
-            timers,
-            work,
-        })
+        Monitor::over(alloc, state)
     }
 
     fn draft(
@@ -249,11 +241,11 @@ impl Monitor {
         requires nobody { AfterEach (shown state) NobodyFails }
         ensures { IfOk result (λ m. AfterEach (shown state) (IsReady m)) }
     {
-        let work = Pend::new(alloc, 1_048_577)?;
-        let mut readers = all_readers(alloc, &state)?;
-        let mut timers = all_timers(alloc, &state)?;
-        readers.keep();
-        timers.keep();
+        let Indexes {
+            readers,
+            timers,
+            work,
+        } = Indexes::over(alloc, &state)?;
         Ok(Monitor {
             alloc,
             state,

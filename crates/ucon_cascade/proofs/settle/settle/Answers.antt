@@ -4,7 +4,7 @@ use Rattle.ucon_model.specs.declared.reply.Revoked.{Revoked}
 use Rattle.ucon_model.specs.Plain.{PlainPolicy}
 use Rattle.ucon_model.specs.Action.{Action, Trace, extended}
 use Rattle.ucon_model.specs.Readings.{accessing}
-use Rattle.ucon_model.specs.Settle.{least_failing, settled_to, revoked_in}
+use Rattle.ucon_model.specs.Settle.{least_failing, settle_within, settled_to, revoked_in}
 use Rattle.ucon_state.specs.Following.{Follows}
 use Rattle.ucon_state.specs.Shown.{shown}
 use Rattle.ucon_readers.specs.Readers.{first_of}
@@ -140,3 +140,11 @@ returns-clause-timed c = λ P T h timely.
 
 pub returns-in_err-revoke_next-in-Some-clause-timers_undo : goal.returns-in_err-revoke_next-in-Some-clause-timers_undo
 returns-in_err-revoke_next-in-Some-clause-timers_undo c = λ before gives. c.revoke_next.ensures.timers_undo before (c.turns.invariant.timers_undo before gives)
+
+pub next_failing-requires-clause-work : goal.next_failing-requires-clause-work
+next_failing-requires-clause-work c = (first_of c.turns.readers, c.turns.invariant.work)
+
+pub returns-clause-revoked : goal.returns-clause-revoked
+returns-clause-revoked c = λ P T h.
+    let all : c.turns.counter ≡ accessing T = omega (arith, c.turns-test.false, c.turns.auto.counter-end, c.accessing-usages.ensures.trace P T h) in
+    c.turns.invariant.revoked P T h ∙ ap (λ (k : ℕ). revoked_in (settle_within k P T)) all

@@ -1,4 +1,4 @@
-use Rattle.std.proofs.Common.{◌≡◌, ◌∙◌, subst}
+use Rattle.std.proofs.Common.{◌≡◌, ◌∙◌, arith, subst}
 use Rattle.std.specs.Prelude.{None}
 use Rattle.ucon_actions.specs.Gives.{Makes}
 use Rattle.ucon_model.specs.Action.{Trace, extended}
@@ -109,3 +109,15 @@ returns-in_ok-revoked-in-Ok-Made-clause-cost c = λ P T h.
     let done = made_actions c.in-Ok-Made.head s1 P T _ given in
     c.go_on.ensures.cost P T c.args.caller done.0
     (record { sound = h.stands.follows.sound; nobody = h.stands.nobody; made = done.1; follows = done.2; timely = h.stands.timely })
+
+pub returns-in-Err-NoMemory-clause-cost : goal.returns-in-Err-NoMemory-clause-cost
+returns-in-Err-NoMemory-clause-cost c = λ P T h. omega arith
+
+pub returns-in-Err-Refused-clause-cost : goal.returns-in-Err-Refused-clause-cost
+returns-in-Err-Refused-clause-cost c = λ P T h. omega arith
+
+pub returns-in-Ok-Value-clause-cost : goal.returns-in-Ok-Value-clause-cost
+returns-in-Ok-Value-clause-cost c = λ P T h. omega arith
+
+pub returns-in-Ok-Status-clause-cost : goal.returns-in-Ok-Status-clause-cost
+returns-in-Ok-Status-clause-cost c = λ P T h. omega arith
