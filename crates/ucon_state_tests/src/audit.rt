@@ -258,6 +258,16 @@ fn is_found_of_usages<R: Threads + Sync>(
     is_found(wanted, sessions.len(), changed.slice(), plain.as_slice())
 }
 
+fn are_found_in<R: Threads + Sync>(
+    rt: &R,
+    alloc: Global,
+    state: &State,
+    all: &Found,
+    going_on: &Found,
+) -> Result<bool, Fail> {
+    Ok(is_found_of_all(rt, alloc, state, all)? && is_found_of_usages(rt, alloc, state, going_on)?)
+}
+
 fn are_found<R: Threads + Sync>(
     rt: &R,
     alloc: Global,
@@ -265,7 +275,7 @@ fn are_found<R: Threads + Sync>(
     going_on: &Found,
 ) -> Result<bool, Fail> {
     let state = played(alloc, 1_000)?;
-    Ok(is_found_of_all(rt, alloc, &state, all)? && is_found_of_usages(rt, alloc, &state, going_on)?)
+    are_found_in(rt, alloc, &state, all, going_on)
 }
 
 /// Of each ten sessions the first and the sixth are denied, four of the others wait, and four are permitted. Who waits has no use that goes on.

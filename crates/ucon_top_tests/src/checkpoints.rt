@@ -18,16 +18,10 @@ fn over<R: Threads + Wait + Sync>(
     document: &[u8],
     file: &[u8],
 ) -> Result<(Vec<u8>, Vec<u8>), Fail> {
+    let disk = disk_of(alloc, file, &[])?;
     let source = MemSource::new(Vec::from_slice(alloc, document)?, 4096, Vec::new(alloc));
     let sink = MemSink::new(alloc, 4096, Vec::new(alloc));
-    let end = ran(
-        rt,
-        alloc,
-        &[form, "j"],
-        source,
-        sink,
-        disk_of(alloc, file, &[])?,
-    )?;
+    let end = ran(rt, alloc, &[form, "j"], source, sink, disk)?;
     if end.status != 0 {
         return Err("status".into());
     }

@@ -34,6 +34,11 @@ fn fault_text(alloc: Global, outcome: &Outcome) -> Result<Vec<u8>, Fail> {
     Ok(Vec::from_slice(alloc, err.bytes())?)
 }
 
+/// What went out, and the line that is printed of the outcome.
+fn texts(alloc: Global, output: &[u8], outcome: &Outcome) -> Result<(Vec<u8>, Vec<u8>), Fail> {
+    Ok((Vec::from_slice(alloc, output)?, fault_text(alloc, outcome)?))
+}
+
 /// How a run of these words ends.
 pub fn ran<R: Threads + Wait + Sync>(
     rt: &R,
@@ -45,10 +50,11 @@ pub fn ran<R: Threads + Wait + Sync>(
 ) -> Result<End, Fail> {
     let words = words(alloc, all)?;
     let ended = run(rt, alloc, &words, &mut source, &mut sink, disk, &OpenGate);
+    let (output, told) = texts(alloc, sink.bytes(), &ended.outcome)?;
     Ok(End {
         status: ended.status,
-        output: Vec::from_slice(alloc, sink.bytes())?,
-        told: fault_text(alloc, &ended.outcome)?,
+        output,
+        told,
         disk: ended.disk,
     })
 }
