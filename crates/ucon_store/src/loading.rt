@@ -9,11 +9,8 @@ ghost use Rattle.ucon_model.specs.Action.{Trace};
 ghost use Rattle.ucon_model.specs.Payload.{Told, entry_told, payload_read};
 ghost use Rattle.ucon_model.specs.Plain.{PlainPolicy};
 ghost use Rattle.ucon_syntax.specs.Policies.{accepted};
-ghost use Rattle.ucon_store.specs.Kept.{payload_in};
-ghost use Rattle.ucon_store.specs.Loading.{HasLoaded, IsLoading, IsStanding};
-ghost use Rattle.ucon_store.specs.Opened.{steps_after};
+ghost use Rattle.ucon_store.specs.Loading.{HasLoaded, IsLoading, IsStanding, TakingGives};
 ghost use Rattle.ucon_store.specs.Opening.{HasReason};
-ghost use Rattle.ucon_store.specs.Starts.{IsStart};
 
 use crate::beginning::Beginning;
 use crate::fault::{StoreFault, at_record};
@@ -50,13 +47,9 @@ impl<E: Engine> Loaded<E> {
         requires standing { IsStanding E.follows self.old }
         requires short { length payload.now ≤ MAX_PAYLOAD }
         ensures standing { IfOk result (λ more. more ≡ true → IsStanding E.follows self.new) }
-        ensures taken { IfOk result (λ more. more ≡ true → (P : PlainPolicy) (T : Trace) → accepted self.old.policy.items ≡ Some P
-            → IsStart P (payload_in self.old.point) self.old.before T
-            → steps_after T self.old.policy.items P self.old.entries.items payload.now ≡ Some self.new.entries.items) }
+        ensures taken { IfOk result (λ more. more ≡ true → TakingGives self.old payload.now (Some self.new.entries.items)) }
         ensures one { IfOk result (λ more. more ≡ true → length self.new.entries.items ≡ length self.old.entries.items + 1) }
-        ensures wrong { IfOk result (λ more. more ≡ false → (P : PlainPolicy) (T : Trace) → accepted self.old.policy.items ≡ Some P
-            → IsStart P (payload_in self.old.point) self.old.before T
-            → steps_after T self.old.policy.items P self.old.entries.items payload.now ≡ None) }
+        ensures wrong { IfOk result (λ more. more ≡ false → TakingGives self.old payload.now None) }
         ensures err { IfErr result (λ fault. fault ≡ StoreFault.NoMemory out_of_memory) }
         ensures policy { self.new.policy.items ≡ self.old.policy.items }
         ensures point { self.new.point ≡ self.old.point }
@@ -85,12 +78,9 @@ impl<E: Engine> Loaded<E> {
         requires client { entry.now.caller.0 < 64 }
         ensures pending { IfOk result (λ same. same ≡ true → (P : PlainPolicy) (T : Trace) → E.follows self.old.engine P T
             → E.has_pending self.new.engine P T entry.now) }
-        ensures taken { IfOk result (λ same. same ≡ true → (P : PlainPolicy) (T : Trace) → accepted self.old.policy.items ≡ Some P
-            → IsStart P (payload_in self.old.point) self.old.before T
-            → steps_after T self.old.policy.items P self.old.entries.items payload.now ≡ Some (self.old.entries.items ++ entry.now ∷ [])) }
-        ensures wrong { IfOk result (λ same. same ≡ false → (P : PlainPolicy) (T : Trace) → accepted self.old.policy.items ≡ Some P
-            → IsStart P (payload_in self.old.point) self.old.before T
-            → steps_after T self.old.policy.items P self.old.entries.items payload.now ≡ None) }
+        ensures taken { IfOk result (λ same. same ≡ true
+            → TakingGives self.old payload.now (Some (self.old.entries.items ++ entry.now ∷ []))) }
+        ensures wrong { IfOk result (λ same. same ≡ false → TakingGives self.old payload.now None) }
         ensures rest { self.new ≡ record self.old { engine = self.new.engine; payload = self.new.payload } }
     {
         payloads_are_read_back();
