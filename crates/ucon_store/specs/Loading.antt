@@ -47,6 +47,11 @@ pub record IsStanding {E : Type 0} (follows : E → PlainPolicy → Trace → Ty
   pub revokes : (T : Trace) → IsStart P (payload_in loaded.point) loaded.before T → RevokesFew P T
   pub in_force : text_in loaded.policy.items loaded.point ≡ text_at_start loaded.policy.items (payload_in loaded.point)
 
+-- Under the policy, behind each trace at which the entries begin, taking the payload in gives these; None where it isn't the next step's.
+abbrev pub TakingGives : {E : Type 0} → Loaded E → Bytes → Option History → Type 0
+TakingGives loaded payload entries = (P : PlainPolicy) (T : Trace) → accepted loaded.policy.items ≡ Some P
+    → IsStart P (payload_in loaded.point) loaded.before T → steps_after T loaded.policy.items P loaded.entries.items payload ≡ entries
+
 -- what is found behind a trace in the records behind a journal's last checkpoint; where there is none, in those behind record 0
 abbrev pub found_from : PlainPolicy → Trace → Bytes → List Bytes → Option Parted → Finding
 found_from P T text payloads None = found_behind (steps_after T) text P [] 1 (next_gate first_gate text) payloads

@@ -6,19 +6,17 @@ ghost use Rattle.ucon_disk.specs.Disk.{SameImages};
 ghost use Rattle.ucon_disk.specs.Run.{LeavesOnly};
 ghost use Rattle.ucon_journal.specs.Journal.{disk_of, gate_of, version_of, HasEnded, IsReading};
 ghost use Rattle.ucon_model.specs.Action.{Trace};
+ghost use Rattle.ucon_model.specs.Payload.{Told, entry_told, payload_read};
 ghost use Rattle.ucon_model.specs.Plain.{PlainPolicy};
 ghost use Rattle.ucon_syntax.specs.Policies.{accepted};
-ghost use Rattle.ucon_store.specs.Kept.{payload_in};
-ghost use Rattle.ucon_store.specs.Loading.{HasLoaded, IsLoading, IsStanding};
-ghost use Rattle.ucon_store.specs.Opened.{steps_after};
+ghost use Rattle.ucon_store.specs.Loading.{HasLoaded, IsLoading, IsStanding, TakingGives};
 ghost use Rattle.ucon_store.specs.Opening.{HasReason};
-ghost use Rattle.ucon_store.specs.Starts.{IsStart};
 
 use crate::beginning::Beginning;
 use crate::fault::{StoreFault, at_record};
 use crate::recording::add;
 use std::alloc::Global;
-use ucon_base::{Rows, Steps};
+use ucon_base::{NoMemory, Rows, Steps};
 use ucon_command::{PayloadFault, payloads_are_read_back, put_payload, read_entry};
 use ucon_disk::Disk;
 use ucon_engine::Engine;
@@ -49,26 +47,44 @@ impl<E: Engine> Loaded<E> {
         requires standing { IsStanding E.follows self.old }
         requires short { length payload.now ≤ MAX_PAYLOAD }
         ensures standing { IfOk result (λ more. more ≡ true → IsStanding E.follows self.new) }
-        ensures taken { IfOk result (λ more. more ≡ true → (P : PlainPolicy) (T : Trace) → accepted self.old.policy.items ≡ Some P
-            → IsStart P (payload_in self.old.point) self.old.before T
-            → steps_after T self.old.policy.items P self.old.entries.items payload.now ≡ Some self.new.entries.items) }
+        ensures taken { IfOk result (λ more. more ≡ true → TakingGives self.old payload.now (Some self.new.entries.items)) }
         ensures one { IfOk result (λ more. more ≡ true → length self.new.entries.items ≡ length self.old.entries.items + 1) }
-        ensures wrong { IfOk result (λ more. more ≡ false → (P : PlainPolicy) (T : Trace) → accepted self.old.policy.items ≡ Some P
-            → IsStart P (payload_in self.old.point) self.old.before T
-            → steps_after T self.old.policy.items P self.old.entries.items payload.now ≡ None) }
+        ensures wrong { IfOk result (λ more. more ≡ false → TakingGives self.old payload.now None) }
         ensures err { IfErr result (λ fault. fault ≡ StoreFault.NoMemory out_of_memory) }
         ensures policy { self.new.policy.items ≡ self.old.policy.items }
         ensures point { self.new.point ≡ self.old.point }
         ensures before { self.new.before ≡ self.old.before }
         ensures records { self.new.records ≡ self.old.records }
     {
-        payloads_are_read_back();
-        texts_tell_changes();
         let entry = match read_entry(alloc, payload) {
             Ok(entry) => entry,
             Err(PayloadFault::BadPlace(_)) => return Ok(false),
             Err(PayloadFault::NoMemory(refused)) => return Err(StoreFault::NoMemory(refused)),
         };
+        if !self.drafts(alloc, &entry, payload)? {
+            return Ok(false);
+        }
+        self.entries.reserve(1)?;
+        self.engine.keep();
+        add(&mut self.entries, entry);
+        Ok(true)
+    }
+
+    /// Drafts a payload's entry. Whether the engine's reply changes something, and spelled with the entry is the payload: then the step is pending.
+    fn drafts(&mut self, alloc: Global, entry: &Entry, payload: &[u8]) -> Result<bool, NoMemory>
+        requires standing { IsStanding E.follows self.old }
+        requires short { length payload.now ≤ MAX_PAYLOAD }
+        requires told { (t : Told) → payload_read accepted payload.now ≡ Ok t → entry.now ≡ entry_told t }
+        requires client { entry.now.caller.0 < 64 }
+        ensures pending { IfOk result (λ same. same ≡ true → (P : PlainPolicy) (T : Trace) → E.follows self.old.engine P T
+            → E.has_pending self.new.engine P T entry.now) }
+        ensures taken { IfOk result (λ same. same ≡ true
+            → TakingGives self.old payload.now (Some (self.old.entries.items ++ entry.now ∷ []))) }
+        ensures wrong { IfOk result (λ same. same ≡ false → TakingGives self.old payload.now None) }
+        ensures rest { self.new ≡ record self.old { engine = self.new.engine; payload = self.new.payload } }
+    {
+        payloads_are_read_back();
+        texts_tell_changes();
         let mut steps = Steps::new();
         let drafted = self.engine.draft(entry.caller, &entry.command, &mut steps)?;
         if !drafted.changes {
@@ -85,9 +101,6 @@ impl<E: Engine> Loaded<E> {
         if self.payload.as_slice() != payload {
             return Ok(false);
         }
-        self.entries.reserve(1)?;
-        self.engine.keep();
-        add(&mut self.entries, entry);
         Ok(true)
     }
 
