@@ -264,7 +264,9 @@ fn are_found_in<R: Threads + Sync>(
     state: &State,
     all: &Found,
     going_on: &Found,
-) -> Result<bool, Fail> {
+) -> Result<bool, Fail>
+    requires { IsFollowing (shown state.now) }
+{
     Ok(is_found_of_all(rt, alloc, state, all)? && is_found_of_usages(rt, alloc, state, going_on)?)
 }
 
