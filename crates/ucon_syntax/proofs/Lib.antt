@@ -1,6 +1,9 @@
 pub mod Accepted
 pub mod Chains
 pub mod Levels
+pub mod Joints
+pub mod Declared
+pub mod Listing
 pub mod Lists
 pub mod Marks
 pub mod Keeping

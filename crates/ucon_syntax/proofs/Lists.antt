@@ -1,11 +1,12 @@
 -- Lists of items, read one after the other.
-use Rattle.std.proofs.Common.{◌≡◌, ℕ, zero, suc, ◌-◌, ◌+◌, ◌<◌, ◌≢◌, Bool, true, false, List, [], ◌∷◌, ◌++◌, Result, Ok, Err, refl, sym, ap, ◌∙◌, append_assoc, arith}
+use Rattle.std.proofs.Common.{◌≡◌, ℕ, zero, suc, ◌-◌, ◌+◌, ◌<◌, ◌≢◌, Bool, true, false, if◌then◌else◌, List, [], ◌∷◌, ◌++◌, map, Result, Ok, Err, refl, sym, ap, ◌∙◌, append_assoc, arith}
 use Rattle.std.proofs.lemmas.List.{append-nil}
 use Rattle.ucon_base.specs.Tokens.{Token}
 use Rattle.ucon_token.specs.declared.stop.Cause.TheVariants.{TooMany}
 use Rattle.ucon_token.specs.declared.stop.Stop.{Stop}
+use Rattle.ucon_token.specs.declared.stop.Stop.TheVariants.{At}
 use Rattle.ucon_token.specs.Tokens.{first}
-use Rattle.ucon_token.specs.Reading.{Halt, Reads, ◌>>=◌, Fails, stops_whole}
+use Rattle.ucon_token.specs.Reading.{Halt, Reads, ◌>>=◌, Fails, Gives, stops_whole}
 use Rattle.ucon_syntax.specs.Lists.{items_at}
 
 -- what was read before, and what is still read
@@ -48,3 +49,13 @@ pub items_over : {S A : Type 0} (begins : Token → Bool) (item : S → Reads (A
 unfolding items_at
 items_over begins item zero room front ts whole e is so_far = sym so_far ∙ rw is refl
 items_over begins item (suc n) room front ts whole e is so_far = absurd (omega arith)
+
+-- where as many were read as there may be
+pub items_last : {S A X : Type 0} (begins : Token → Bool) (item : S → Reads (A × S)) (n : ℕ) (room : S) (view : X → List A) (rows : X) (ts : List Token) (goes_on : Bool) (result : Result X Stop) (whole : Result (List A × List Token) Halt) → n ≡ 0 → begins (first ts) ≡ goes_on → result ≡ (if goes_on then Err (At TooMany) else Ok rows)
+    → with_front (view rows) (items_at begins item n room ts) ≡ whole → Gives (λ r. (view r, ts)) result ts whole
+items_last begins item n room view rows ts true result whole e is ends so_far = rw ends (items_over begins item n room (view rows) ts whole e is so_far)
+items_last begins item n room view rows ts false result whole e is ends so_far = rw ends (items_end begins item n room (view rows) ts whole is so_far)
+
+pub map_same : {A : Type 0} (xs : List A) → map (λ x. x) xs ≡ xs
+map_same [] = refl
+map_same (x ∷ xs) = ap (λ (ys : List _). x ∷ ys) (map_same xs)

@@ -12,6 +12,10 @@ pub record Operators (A : Type 0) : Type 0 where
   pub is_late : Token → Bool
   pub join : Token → A → A → A
 
+-- one further operand
+abbrev pub one_more : {A : Type 0} → Operators A → Reads A → A → Reads A
+one_more ops operand all ts = operand (drop 1 ts) >>= λ next. Ok (ops.join (first ts) all next.0, next.1)
+
 -- at most this many further operands
 unfoldable pub more : {A : Type 0} → Operators A → Reads A → ℕ → A → Reads A
 more ops operand zero all ts = if ops.is_late (first ts) then Err (TooMany, ts) else Ok (all, ts)

@@ -1,14 +1,16 @@
 -- Reading expressions.
-use Rattle.std.specs.Prelude.{ℕ, zero, suc, drop, Option, Some, None, Ok, Err}
+use Rattle.std.specs.Prelude.{ℕ, Bool, zero, suc, drop, Option, Some, None, Ok, Err}
 use Rattle.ucon_model.specs.declared.formula.Ref.TheVariants as refs
 use Rattle.ucon_model.specs.Plain.{Bytes, PlainExpr, lit, read, plus, minus, times, size}
-use Rattle.ucon_base.specs.Tokens.{dot, star, open_round, close_round}
+use Rattle.ucon_base.specs.Tokens.{Token, dot, star, open_round, close_round}
 use Rattle.ucon_token.specs.declared.stop.Cause.TheVariants.{Unexpected, TooDeep}
 use Rattle.ucon_token.specs.Tokens.{first, is_symbol}
 use Rattle.ucon_token.specs.Reading.{Reads, ◌>>=◌, expect, name_at}
-use Rattle.ucon_syntax.specs.Chains.{Operators, chain}
+use Rattle.ucon_syntax.specs.Chains.{Operators, one_more, chain}
 use Rattle.ucon_token.specs.Literals.{literal_at}
 use Rattle.ucon_syntax.specs.Starts.{factor_start, sum_sign, is_sum_sign}
+use Rattle.ucon_syntax.specs.declared.expr.Joint.{Joint}
+use Rattle.ucon_syntax.specs.declared.expr.Joint.TheVariants as joints
 use Rattle.ucon_syntax.specs.declared.starts.FactorStart.{FactorStart}
 use Rattle.ucon_syntax.specs.declared.starts.FactorStart.TheVariants as factors
 use Rattle.ucon_syntax.specs.declared.starts.SumSign.{SumSign}
@@ -82,3 +84,34 @@ expr_at room ts = chain sums_and_differences (term_at room) ts
 
 unfoldable pub round_at : ℕ → Reads PlainExpr
 round_at room ts = round_with (expr_at room) ts
+
+-- the size of what stands between `(` and `)` behind the first token
+unfoldable pub size_at : ℕ → Reads PlainExpr
+size_at room ts = do
+  e ← round_at room (drop 1 ts)
+  Ok (size e.0, e.1)
+
+-- ---- the chains by what joins their operands
+
+-- the sign stands between them, or else a `*`
+abbrev pub joined : Option SumSign → PlainExpr → PlainExpr → PlainExpr
+joined (Some sign) a b = signed (Some sign) a b
+joined None a b = times a b
+
+unfoldable pub goes_on : Joint → Token → Bool
+goes_on joints.Star t = is_symbol t star
+goes_on joints.Sign t = is_sum_sign t
+
+abbrev pub operators : Joint → Operators PlainExpr
+operators joint = record { goes_on = goes_on joint; is_late = goes_on joint; join = λ t a b. joined (sum_sign t) a b }
+
+unfoldable pub operand_at : Joint → ℕ → Reads PlainExpr
+operand_at joints.Star room ts = factor_at room ts
+operand_at joints.Sign room ts = term_at room ts
+
+-- what stands before a joint, joined with the operand behind it
+abbrev pub more_at : Joint → ℕ → PlainExpr → Reads PlainExpr
+more_at joint room left ts = one_more (operators joint) (operand_at joint room) left ts
+
+unfoldable pub chain_at : Joint → ℕ → Reads PlainExpr
+chain_at joint room ts = chain (operators joint) (operand_at joint room) ts

@@ -1,13 +1,15 @@
 -- Reading formulas.
 use Rattle.std.specs.Prelude.{ℕ, zero, suc, drop, Option, Some, None, Ok, Err, codes}
-use Rattle.ucon_model.specs.Plain.{PlainFormula, both, either, negation, compare, lasts}
+use Rattle.ucon_model.specs.Plain.{Bytes, PlainFormula, both, either, negation, compare, lasts}
 use Rattle.ucon_base.specs.Tokens.{open_square, close_square}
 use Rattle.ucon_token.specs.declared.stop.Cause.TheVariants.{TooDeep}
 use Rattle.ucon_token.specs.Tokens.{first, is_word}
 use Rattle.ucon_token.specs.Reading.{Reads, ◌>>=◌, expect, taken, number_at}
-use Rattle.ucon_syntax.specs.Chains.{Operators, chain}
+use Rattle.ucon_syntax.specs.Chains.{Operators, one_more, chain}
 use Rattle.ucon_syntax.specs.Expressions.{expr_at}
 use Rattle.ucon_syntax.specs.Starts.{op_of, unit_start, is_late}
+use Rattle.ucon_syntax.specs.declared.formula.Joint.{Joint}
+use Rattle.ucon_syntax.specs.declared.formula.Joint.TheVariants as joints
 use Rattle.ucon_syntax.specs.declared.starts.UnitStart.{UnitStart}
 use Rattle.ucon_syntax.specs.declared.starts.UnitStart.TheVariants as units
 
@@ -68,3 +70,33 @@ formula_at room ts = chain disjunctions (conj_at room) ts
 
 unfoldable pub square_at : ℕ → Reads PlainFormula
 square_at room ts = square_with (formula_at room) ts
+
+-- the negation of the unit behind the first token
+unfoldable pub not_at : ℕ → Reads PlainFormula
+not_at room ts = do
+  f ← unit_at room (drop 1 ts)
+  Ok (negation f.0, f.1)
+
+-- ---- the chains by what joins their operands
+
+unfoldable pub word_of : Joint → Bytes
+word_of joints.And = codes "and"
+word_of joints.Or = codes "or"
+
+abbrev pub joined : Joint → PlainFormula → PlainFormula → PlainFormula
+joined joints.And f g = both f g
+joined joints.Or f g = either f g
+
+abbrev pub operators : Joint → Operators PlainFormula
+operators joint = record { goes_on = λ t. is_word t (word_of joint); is_late = is_late (word_of joint); join = λ t f g. joined joint f g }
+
+unfoldable pub operand_at : Joint → ℕ → Reads PlainFormula
+operand_at joints.And room ts = unit_at room ts
+operand_at joints.Or room ts = conj_at room ts
+
+-- what stands before a joint, joined with the operand behind it
+abbrev pub more_at : Joint → ℕ → PlainFormula → Reads PlainFormula
+more_at joint room left ts = one_more (operators joint) (operand_at joint room) left ts
+
+unfoldable pub chain_at : Joint → ℕ → Reads PlainFormula
+chain_at joint room ts = chain (operators joint) (operand_at joint room) ts

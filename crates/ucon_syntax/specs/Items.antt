@@ -1,5 +1,5 @@
 -- Reading attributes, variables, predicates and updates.
-use Rattle.std.specs.Prelude.{ℕ, ◌-◌, ◌==◌, Bool, if◌then◌else◌, List, [], ◌∷◌, drop, slice_index, slice_set, Option, Some, None, is_some, option_map, Ok, Err, codes}
+use Rattle.std.specs.Prelude.{ℕ, List, ◌-◌, ◌==◌, Bool, if◌then◌else◌, [], ◌∷◌, drop, slice_index, slice_set, Option, Some, None, is_some, option_map, Ok, Err, codes}
 use Rattle.ucon_base.specs.declared.value.Side.{Side}
 use Rattle.ucon_base.specs.declared.value.Side.TheVariants as sides
 use Rattle.ucon_base.specs.declared.value.Kind.{Kind}
@@ -22,6 +22,7 @@ use Rattle.ucon_syntax.specs.Starts.{side_of, kind_word, phase_of, test_sort, du
 use Rattle.ucon_token.specs.Literals.{int_at, literal_at}
 use Rattle.ucon_syntax.specs.Expressions.{expr_at}
 use Rattle.ucon_syntax.specs.Formulas.{formula_at}
+use Rattle.ucon_syntax.specs.Lists.{items_at}
 use Rattle.ucon_syntax.specs.declared.room.Room.{Room}
 use Rattle.ucon_syntax.specs.declared.starts.KindWord.{KindWord}
 use Rattle.ucon_syntax.specs.declared.starts.KindWord.TheVariants as kind_words
@@ -178,3 +179,22 @@ begins_pred t = is_some (phase_of t)
 
 abbrev pub begins_update : Token → Bool
 begins_update t = is_some (when_of t)
+
+-- what is declared, up to the `;`
+unfoldable pub declared_at : Reads EnvDecl
+declared_at ts = do
+  name ← name_at ts
+  b ← expect colon name.1
+  kind ← kind_at b
+  c ← expect equal_sign kind.1
+  start ← literal_at c
+  d ← expect semicolon start.1
+  Ok (record { name = name.0; kind = kind.0; start = start.0 }, d)
+
+-- an item that takes no room
+abbrev pub keeps : {A : Type 0} → Reads A → Room → Reads (A × Room)
+keeps item room ts = item ts >>= λ x. Ok ((x.0, room), x.1)
+
+-- all items, with room for as many of each sort as there may be
+abbrev pub all_at : {A : Type 0} → (Token → Bool) → (Room → Reads (A × Room)) → ℕ → Reads (List A)
+all_at begins item most ts = items_at begins item most full ts

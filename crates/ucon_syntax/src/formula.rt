@@ -1,25 +1,28 @@
 //! Formulas.
 
-ghost use Rattle.std.specs.Prelude.{◌≡◌, IfOk};
-ghost use Rattle.ucon_model.specs.Plain.{both, either, negation};
+ghost use Rattle.std.specs.Prelude.{◌≡◌};
 ghost use Rattle.ucon_model.specs.Views.{formula_of};
 ghost use Rattle.ucon_token.specs.Reading.{Gives, taken};
 ghost use Rattle.ucon_token.specs.Tokens.{first};
 ghost use Rattle.ucon_token.specs.Seen.{token_of};
 ghost use Rattle.ucon_syntax.specs.Starts.{op_of, is_late};
-ghost use Rattle.ucon_syntax.specs.Formulas.{compare_at, unit_at, conj_at, formula_at, square_at};
+ghost use Rattle.ucon_syntax.specs.Formulas.{compare_at, unit_at, not_at, formula_at, square_at, joined, word_of, operand_at, more_at, chain_at};
 
-use crate::closing::closed;
+use crate::closing::{closed, ended};
 use crate::expr::read_expr;
-use crate::operands::boxed;
 use crate::starts::{UnitStart, op_of, unit_start};
-use std::alloc::Global;
-use ucon_base::NoMemory;
 use ucon_model::{Formula, Op};
 use ucon_token::{Cause, Reader, Stop, Symbol, Token};
 
 /// The most operands of a chain.
 const MOST_OPERANDS: usize = 32;
+
+/// What joins the operands of a chain: the units of a conjunction, or the conjunctions of a whole formula.
+#[derive(Clone, Copy)]
+pub enum Joint {
+    And,
+    Or,
+}
 
 fn op(reader: &mut Reader) -> Result<Op, Stop>
     ensures read { Gives (λ o. (o, reader.new.tokens)) result reader.new.tokens (taken (op_of (first reader.old.tokens)) reader.old.tokens) }
@@ -45,28 +48,16 @@ fn compare(reader: &mut Reader, room: usize) -> Result<Formula, Stop>
     Ok(Formula::Compare(op, left, right))
 }
 
-fn negated(alloc: Global, f: Formula) -> Result<Formula, NoMemory>
-    ensures { IfOk result (λ g. formula_of g ≡ negation (formula_of f)) }
+fn joined(joint: Joint, left: Box<Formula>, right: Box<Formula>) -> Formula
+    ensures { formula_of result ≡ joined joint (formula_of left.value) (formula_of right.value) }
 {
-    let inner = Box::new(alloc, f)?;
-    Ok(Formula::Not(inner))
+    match joint {
+        Joint::And => Formula::And(left, right),
+        Joint::Or => Formula::Or(left, right),
+    }
 }
 
-fn conjoined(alloc: Global, f: Formula, g: Formula) -> Result<Formula, NoMemory>
-    ensures { IfOk result (λ h. formula_of h ≡ both (formula_of f) (formula_of g)) }
-{
-    let (left, right) = boxed(alloc, f, g)?;
-    Ok(Formula::And(left, right))
-}
-
-fn disjoined(alloc: Global, f: Formula, g: Formula) -> Result<Formula, NoMemory>
-    ensures { IfOk result (λ h. formula_of h ≡ either (formula_of f) (formula_of g)) }
-{
-    let (left, right) = boxed(alloc, f, g)?;
-    Ok(Formula::Or(left, right))
-}
-
-#[tactic(auto, using(crate::proofs::Levels::unit_level_none, crate::proofs::Levels::unit_level_some, crate::proofs::Levels::square_is), unfolding(crate::specs::Formulas::unit_at))]
+#[tactic(auto, using(crate::proofs::Levels::unit_level_none, crate::proofs::Levels::unit_level_some, crate::proofs::Levels::square_is), unfolding(crate::specs::Formulas::unit_at, crate::specs::Formulas::not_at))]
 #[cycle(formula)]
 fn unit(reader: &mut Reader, room: usize) -> Result<Formula, Stop>
     ensures read { Gives (λ f. (formula_of f, reader.new.tokens)) result reader.new.tokens (unit_at room reader.old.tokens) }
@@ -77,9 +68,7 @@ fn unit(reader: &mut Reader, room: usize) -> Result<Formula, Stop>
             if room == 0 {
                 return Err(Stop::At(Cause::TooDeep));
             }
-            reader.advance();
-            let f = unit(reader, room - 1)?;
-            Ok(negated(reader.alloc, f)?)
+            not(reader, room - 1)
         }
         UnitStart::Bracket => {
             if room == 0 {
@@ -96,71 +85,95 @@ fn unit(reader: &mut Reader, room: usize) -> Result<Formula, Stop>
     }
 }
 
+/// The negation of the unit behind the word that stands here.
+#[tactic(auto, unfolding(crate::specs::Formulas::not_at))]
+#[cycle(formula)]
+fn not(reader: &mut Reader, room: usize) -> Result<Formula, Stop>
+    ensures read { Gives (λ f. (formula_of f, reader.new.tokens)) result reader.new.tokens (not_at room reader.old.tokens) }
+    ensures text { reader.new.text ≡ reader.old.text }
+{
+    reader.advance();
+    let f = unit(reader, room)?;
+    Ok(Formula::Not(Box::new(reader.alloc, f)?))
+}
+
 /// A formula between `[` and `]`.
-#[tactic(auto, unfolding(crate::specs::Formulas::square_at))]
+#[tactic(auto, using(crate::proofs::Joints::chain_of_or), unfolding(crate::specs::Formulas::square_at))]
 #[cycle(formula)]
 fn square(reader: &mut Reader, room: usize) -> Result<Formula, Stop>
     ensures read { Gives (λ f. (formula_of f, reader.new.tokens)) result reader.new.tokens (square_at room reader.old.tokens) }
     ensures text { reader.new.text ≡ reader.old.text }
 {
     reader.expect(Symbol::OpenSquare)?;
-    let f = formula(reader, room)?;
+    let f = chain(reader, room, Joint::Or)?;
     closed(reader, f, Symbol::CloseSquare)
 }
 
-/// Whether the word would join one operand too many, also directly behind a number.
-fn is_late(token: &Token, word: &[u8]) -> bool
-    ensures { result ≡ is_late word.now (token_of token.now) }
+/// The word between two operands.
+#[tactic(auto, unfolding(crate::specs::Formulas::word_of))]
+fn word(joint: Joint) -> &'static [u8]
+    ensures { result.now ≡ word_of joint }
 {
-    token.is_word(word) || token.is_joined(word)
+    match joint {
+        Joint::And => b"and",
+        Joint::Or => b"or",
+    }
 }
 
-#[tactic(auto, using(crate::proofs::Chains::more_end, crate::proofs::Chains::more_on, crate::proofs::Chains::more_over, crate::proofs::Chains::more_done), unfolding(crate::specs::Formulas::conj_at))]
-#[cycle(formula)]
-fn conj(reader: &mut Reader, room: usize) -> Result<Formula, Stop>
-    ensures read { Gives (λ f. (formula_of f, reader.new.tokens)) result reader.new.tokens (conj_at room reader.old.tokens) }
-    ensures text { reader.new.text ≡ reader.old.text }
+/// Whether the token would join one operand too many, also directly behind a number.
+fn is_late(token: &Token, joint: Joint) -> bool
+    ensures { result ≡ is_late (word_of joint) (token_of token.now) }
 {
-    let mut all = unit(reader, room)?;
-    for _ in 1..MOST_OPERANDS {
-        if !reader.first().is_word(b"and") {
-            return Ok(all);
-        }
-        reader.advance();
-        let next = unit(reader, room)?;
-        all = conjoined(reader.alloc, all, next)?;
-    }
-    if is_late(reader.first(), b"and") {
-        return Err(Stop::At(Cause::TooMany));
-    }
-    Ok(all)
+    token.is_word(word(joint)) || token.is_joined(word(joint))
 }
 
-#[tactic(auto, using(crate::proofs::Chains::more_end, crate::proofs::Chains::more_on, crate::proofs::Chains::more_over, crate::proofs::Chains::more_done), unfolding(crate::specs::Formulas::formula_at))]
+/// One operand of a chain.
+#[tactic(auto, using(crate::proofs::Joints::chain_of_and), unfolding(crate::specs::Formulas::operand_at))]
 #[cycle(formula)]
-fn formula(reader: &mut Reader, room: usize) -> Result<Formula, Stop>
-    ensures read { Gives (λ f. (formula_of f, reader.new.tokens)) result reader.new.tokens (formula_at room reader.old.tokens) }
+fn operand(reader: &mut Reader, room: usize, joint: Joint) -> Result<Formula, Stop>
+    ensures read { Gives (λ f. (formula_of f, reader.new.tokens)) result reader.new.tokens (operand_at joint room reader.old.tokens) }
     ensures text { reader.new.text ≡ reader.old.text }
 {
-    let mut all = conj(reader, room)?;
+    match joint {
+        Joint::And => unit(reader, room),
+        Joint::Or => chain(reader, room, Joint::And),
+    }
+}
+
+/// What stands before a joint, joined with the operand behind it.
+#[cycle(formula)]
+fn longer(reader: &mut Reader, room: usize, joint: Joint, left: Formula) -> Result<Formula, Stop>
+    ensures read { Gives (λ f. (formula_of f, reader.new.tokens)) result reader.new.tokens (more_at joint room (formula_of left) reader.old.tokens) }
+    ensures text { reader.new.text ≡ reader.old.text }
+{
+    reader.advance();
+    let left = Box::new(reader.alloc, left)?;
+    let right = Box::new(reader.alloc, operand(reader, room, joint)?)?;
+    Ok(joined(joint, left, right))
+}
+
+/// Operands joined alike.
+#[tactic(auto, using(crate::proofs::Chains::more_end, crate::proofs::Chains::more_one, crate::proofs::Chains::more_over, crate::proofs::Chains::more_done), unfolding(crate::specs::Formulas::chain_at))]
+#[cycle(formula)]
+fn chain(reader: &mut Reader, room: usize, joint: Joint) -> Result<Formula, Stop>
+    ensures read { Gives (λ f. (formula_of f, reader.new.tokens)) result reader.new.tokens (chain_at joint room reader.old.tokens) }
+    ensures text { reader.new.text ≡ reader.old.text }
+{
+    let mut all = operand(reader, room, joint)?;
     for _ in 1..MOST_OPERANDS {
-        if !reader.first().is_word(b"or") {
+        if !reader.first().is_word(word(joint)) {
             return Ok(all);
         }
-        reader.advance();
-        let next = conj(reader, room)?;
-        all = disjoined(reader.alloc, all, next)?;
+        all = longer(reader, room, joint, all)?;
     }
-    if is_late(reader.first(), b"or") {
-        return Err(Stop::At(Cause::TooMany));
-    }
-    Ok(all)
+    ended(all, is_late(reader.first(), joint))
 }
 
 /// The formula that begins here, with so many levels below it.
+#[tactic(auto, using(crate::proofs::Joints::chain_of_or))]
 pub fn read_formula(reader: &mut Reader, room: usize) -> Result<Formula, Stop>
     ensures read { Gives (λ f. (formula_of f, reader.new.tokens)) result reader.new.tokens (formula_at room reader.old.tokens) }
     ensures text { reader.new.text ≡ reader.old.text }
 {
-    formula(reader, room)
+    chain(reader, room, Joint::Or)
 }

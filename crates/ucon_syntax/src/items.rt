@@ -1,23 +1,25 @@
 //! Attributes, variables, predicates and updates.
 
 ghost use Rattle.std.specs.Prelude.{◌≡◌, codes};
+ghost use Rattle.ucon_model.specs.Plain.{PlainPredicate, PlainUpdate};
 ghost use Rattle.ucon_model.specs.Views.{test_of, predicate_of, update_of};
 ghost use Rattle.ucon_token.specs.Reading.{Gives, taken};
-ghost use Rattle.ucon_token.specs.Tokens.{first};
+ghost use Rattle.ucon_token.specs.Tokens.{first, is_word};
 ghost use Rattle.ucon_syntax.specs.Starts.{side_of, phase_of, test_sort, when_of};
-ghost use Rattle.ucon_syntax.specs.Items.{take, counted, range_at, kind_at, attr_at, env_at, form_at, party_at, duty_at, test_from, pred_at, update_at};
+ghost use Rattle.ucon_syntax.specs.Items.{take, counted, range_at, kind_at, attr_at, env_at, keeps, declared_at, form_at, party_at, duty_at, test_from, pred_at, update_at, begins_pred, begins_update};
 
 use crate::closing::closed;
-use crate::expr::read_expr;
+use crate::expr::{place, read_expr};
 use crate::formula::read_formula;
+use crate::list::Item;
 use crate::room::{Room, Sort};
 use crate::starts::{
     DutyWord, KindWord, TestSort, duty_word, kind_word, name_in, phase_of, side_of, test_sort,
     when_of,
 };
-use ucon_base::{Kind, Name, Side};
+use ucon_base::{Kind, Name};
 use ucon_model::{AttrDecl, EnvDecl, Form, Obligation, Phase, Predicate, Test, Update, When};
-use ucon_token::{Cause, Reader, Stop, Symbol};
+use ucon_token::{Cause, Reader, Stop, Symbol, Token};
 
 /// The most levels that a formula or an expression may open.
 const MOST_LEVELS: usize = 32;
@@ -64,41 +66,72 @@ fn kind(reader: &mut Reader) -> Result<Kind, Stop>
     }
 }
 
-/// One more attribute, and what room is then left.
-#[tactic(auto, unfolding(crate::specs::Items::attr_at))]
-pub fn attr(reader: &mut Reader, room: Room) -> Result<(AttrDecl, Room), Stop>
-    ensures read { Gives (λ x. (x, reader.new.tokens)) result reader.new.tokens (attr_at room reader.old.tokens) }
+/// What is declared of an attribute or a variable, up to the `;`.
+#[tactic(auto, unfolding(crate::specs::Items::declared_at))]
+fn declared(reader: &mut Reader) -> Result<EnvDecl, Stop>
+    ensures read { Gives (λ d. (d, reader.new.tokens)) result reader.new.tokens (declared_at reader.old.tokens) }
     ensures text { reader.new.text ≡ reader.old.text }
 {
-    reader.word(b"attr")?;
-    let side = side_of(reader.first());
-    let (side, left) = counted(reader, room, side)?;
-    let name = reader.name()?;
-    reader.expect(Symbol::Colon)?;
-    let kind = kind(reader)?;
-    reader.expect(Symbol::Equal)?;
-    let start = reader.literal()?;
-    let attr = AttrDecl {
-        side,
-        name,
-        kind,
-        start,
-    };
-    closed(reader, (attr, left), Symbol::Semicolon)
-}
-
-#[tactic(auto, unfolding(crate::specs::Items::env_at))]
-pub fn env(reader: &mut Reader) -> Result<EnvDecl, Stop>
-    ensures read { Gives (λ v. (v, reader.new.tokens)) result reader.new.tokens (env_at reader.old.tokens) }
-    ensures text { reader.new.text ≡ reader.old.text }
-{
-    reader.word(b"env")?;
     let name = reader.name()?;
     reader.expect(Symbol::Colon)?;
     let kind = kind(reader)?;
     reader.expect(Symbol::Equal)?;
     let start = reader.literal()?;
     closed(reader, EnvDecl { name, kind, start }, Symbol::Semicolon)
+}
+
+impl Item for AttrDecl {
+    ghost use Rattle.ucon_model.specs.declared.policy.AttrDecl.{AttrDecl};
+
+    ghost Plain = { AttrDecl };
+
+    ghost plain = { λ a. a };
+
+    ghost starts = { λ t. is_word t (codes "attr") };
+
+    ghost item_at = { attr_at };
+
+    fn begins(token: &Token) -> bool {
+        token.is_word(b"attr")
+    }
+
+    #[tactic(auto, using(crate::proofs::Declared::attr_is))]
+    fn read(reader: &mut Reader, room: Room) -> Result<(AttrDecl, Room), Stop> {
+        reader.word(b"attr")?;
+        let side = side_of(reader.first());
+        let (side, left) = counted(reader, room, side)?;
+        let EnvDecl { name, kind, start } = declared(reader)?;
+        let attr = AttrDecl {
+            side,
+            name,
+            kind,
+            start,
+        };
+        Ok((attr, left))
+    }
+}
+
+impl Item for EnvDecl {
+    ghost use Rattle.ucon_model.specs.declared.policy.EnvDecl.{EnvDecl};
+
+    ghost Plain = { EnvDecl };
+
+    ghost plain = { λ v. v };
+
+    ghost starts = { λ t. is_word t (codes "env") };
+
+    ghost item_at = { keeps env_at };
+
+    fn begins(token: &Token) -> bool {
+        token.is_word(b"env")
+    }
+
+    #[tactic(auto, using(crate::proofs::Declared::env_is))]
+    fn read(reader: &mut Reader, room: Room) -> Result<(EnvDecl, Room), Stop> {
+        reader.word(b"env")?;
+        let env = declared(reader)?;
+        Ok((env, room))
+    }
 }
 
 #[tactic(auto, unfolding(crate::specs::Items::form_at))]
@@ -190,51 +223,61 @@ fn test(reader: &mut Reader, sort: TestSort) -> Result<Test, Stop>
     }
 }
 
-/// One more predicate, and what room is then left.
-#[tactic(auto, unfolding(crate::specs::Items::pred_at))]
-pub fn pred(reader: &mut Reader, room: Room) -> Result<(Predicate, Room), Stop>
-    ensures read { Gives (λ x. ((predicate_of x.0, x.1), reader.new.tokens)) result reader.new.tokens (pred_at room reader.old.tokens) }
-    ensures text { reader.new.text ≡ reader.old.text }
-{
-    let phase = phase_of(reader.first());
-    let (phase, left) = counted(reader, room, phase)?;
-    let sort = sort(reader)?;
-    let label = reader.name()?;
-    reader.expect(Symbol::Colon)?;
-    let test = test(reader, sort)?;
-    let pred = Predicate { phase, label, test };
-    closed(reader, (pred, left), Symbol::Semicolon)
+impl Item for Predicate {
+    ghost Plain = { PlainPredicate };
+
+    ghost plain = { predicate_of };
+
+    ghost starts = { begins_pred };
+
+    ghost item_at = { pred_at };
+
+    fn begins(token: &Token) -> bool {
+        phase_of(token).is_some()
+    }
+
+    #[tactic(auto, unfolding(crate::specs::Items::pred_at))]
+    fn read(reader: &mut Reader, room: Room) -> Result<(Predicate, Room), Stop> {
+        let phase = phase_of(reader.first());
+        let (phase, left) = counted(reader, room, phase)?;
+        let sort = sort(reader)?;
+        let label = reader.name()?;
+        reader.expect(Symbol::Colon)?;
+        let test = test(reader, sort)?;
+        let pred = Predicate { phase, label, test };
+        closed(reader, (pred, left), Symbol::Semicolon)
+    }
 }
 
-fn side(reader: &mut Reader) -> Result<Side, Stop>
-    ensures read { Gives (λ s. (s, reader.new.tokens)) result reader.new.tokens (taken (side_of (first reader.old.tokens)) reader.old.tokens) }
-    ensures text { reader.new.text ≡ reader.old.text }
-{
-    let Some(side) = side_of(reader.first()) else {
-        return Err(Stop::At(Cause::Unexpected));
-    };
-    reader.advance();
-    Ok(side)
-}
+impl Item for Update {
+    ghost Plain = { PlainUpdate };
 
-/// One more update, and what room is then left.
-#[tactic(auto, unfolding(crate::specs::Items::update_at))]
-pub fn update(reader: &mut Reader, room: Room) -> Result<(Update, Room), Stop>
-    ensures read { Gives (λ x. ((update_of x.0, x.1), reader.new.tokens)) result reader.new.tokens (update_at room reader.old.tokens) }
-    ensures text { reader.new.text ≡ reader.old.text }
-{
-    let when = when_of(reader.first());
-    let (when, left) = counted(reader, room, when)?;
-    let side = side(reader)?;
-    reader.expect(Symbol::Dot)?;
-    let attr = reader.name()?;
-    reader.expect(Symbol::Equal)?;
-    let value = read_expr(reader, MOST_LEVELS)?;
-    let update = Update {
-        when,
-        side,
-        attr,
-        value,
-    };
-    closed(reader, (update, left), Symbol::Semicolon)
+    ghost plain = { update_of };
+
+    ghost starts = { begins_update };
+
+    ghost item_at = { update_at };
+
+    fn begins(token: &Token) -> bool {
+        when_of(token).is_some()
+    }
+
+    #[tactic(auto, using(crate::proofs::Declared::update_is))]
+    fn read(reader: &mut Reader, room: Room) -> Result<(Update, Room), Stop> {
+        let when = when_of(reader.first());
+        let (when, left) = counted(reader, room, when)?;
+        let Some(side) = side_of(reader.first()) else {
+            return Err(Stop::At(Cause::Unexpected));
+        };
+        let attr = place(reader)?;
+        reader.expect(Symbol::Equal)?;
+        let value = read_expr(reader, MOST_LEVELS)?;
+        let update = Update {
+            when,
+            side,
+            attr,
+            value,
+        };
+        closed(reader, (update, left), Symbol::Semicolon)
+    }
 }

@@ -6,7 +6,7 @@ mod expr;
 mod formula;
 mod items;
 mod laws;
-mod operands;
+mod list;
 mod policy;
 mod read;
 mod room;

@@ -1,23 +1,33 @@
-use Rattle.std.proofs.Common.{◌≡◌, ◌+◌, ◌-◌, ◌*◌}
+use Rattle.std.proofs.Common.{◌≡◌, ◌+◌, ◌-◌, ◌*◌, ℕ}
 use Rattle.ucon_model.specs.Views.{expr_of}
 use Rattle.ucon_syntax.specs.Chains.{more}
-use Rattle.ucon_syntax.specs.Expressions.{factor_at, term_at, expr_at, products, sums_and_differences}
+use Rattle.ucon_syntax.specs.Expressions.{operators, operand_at, chain_at}
+use Rattle.ucon_syntax.specs.declared.expr.Joint.{Joint}
+use Rattle.ucon_syntax.specs.declared.expr.Joint.TheVariants as joints
 use Rattle.ucon_syntax.proofs.expr.+expr.Given as goal
 
-abbrev pub decreases-expr : goal.decreases-expr
-decreases-expr l = 4 * l.room + 2
+-- how far above its factors a chain of this joint is
+abbrev pub height : Joint → ℕ
+height joints.Star = 0
+height joints.Sign = 3
 
 abbrev pub decreases-factor : goal.decreases-factor
-decreases-factor l = 4 * l.room
+decreases-factor l = 9 * l.room
 
-abbrev pub decreases-term : goal.decreases-term
-decreases-term l = 4 * l.room + 1
+abbrev pub decreases-operand : goal.decreases-operand
+decreases-operand l = 9 * l.room + height l.joint + 1
+
+abbrev pub decreases-longer : goal.decreases-longer
+decreases-longer l = 9 * l.room + height l.joint + 2
+
+abbrev pub decreases-chain : goal.decreases-chain
+decreases-chain l = 9 * l.room + height l.joint + 3
 
 abbrev pub decreases-round : goal.decreases-round
-decreases-round l = 4 * l.room + 3
+decreases-round l = 9 * l.room + 7
 
-abbrev pub invariant-expr-loop : goal.invariant-expr-loop
-invariant-expr-loop l = (more sums_and_differences (term_at l.room) (32 - l.counter) (expr_of l.all) l.reader.tokens ≡ expr_at l.room l.fn.reader.tokens) × (l.reader.text ≡ l.fn.reader.text)
+abbrev pub invariant-chain-loop : goal.invariant-chain-loop
+invariant-chain-loop l = (more (operators l.joint) (operand_at l.joint l.room) (32 - l.counter) (expr_of l.all) l.reader.tokens ≡ chain_at l.joint l.room l.fn.reader.tokens) × (l.reader.text ≡ l.fn.reader.text)
 
-abbrev pub invariant-term-loop : goal.invariant-term-loop
-invariant-term-loop l = (more products (factor_at l.room) (32 - l.counter) (expr_of l.all) l.reader.tokens ≡ term_at l.room l.fn.reader.tokens) × (l.reader.text ≡ l.fn.reader.text)
+abbrev pub decreases-size : goal.decreases-size
+decreases-size l = 9 * l.room + 8
