@@ -1,12 +1,14 @@
 -- Places among declarations, and the cells at them.
-use Rattle.std.proofs.Common.{◌≡◌, ◌∙◌, Contains, ◌<◌, ◌+◌, ℕ, Bool, true, false, ◌&&◌, refl, sym, ap, List, [], ◌∷◌, length, filter, find, position, slice_get, get_or, Option, Some, None, is_some, cond, option_map, option_and_then, IsSomeAnd, nat_lt, unwrap_or, subst, arith}
+use Rattle.std.proofs.Common.{◌≡◌, ◌∙◌, Contains, ◌<◌, ◌+◌, ℕ, Bool, true, false, ◌&&◌, refl, sym, ap, List, [], ◌∷◌, length, filter, find, position, slice_get, get_or, Option, Some, None, is_some, cond, option_map, option_and_then, option_copied, IfSome, IsSomeAnd, Bor, nat_lt, unwrap_or, subst, arith}
 use Rattle.std.specs.List.{position_or_len}
+use Rattle.std.specs.Slice.{IsItemAt}
 use Rattle.std.proofs.lemmas.Bool.{ltb-true, ltb-false, lt-ltb}
 use Rattle.std.proofs.lemmas.List.Folds.{find_at}
 use Rattle.std.proofs.lemmas.Option.{slice_get_within, slice_get-get_or, slice_get_past, get_or_from_slice_get}
 use Rattle.std.specs.Str.{bytes_eq}
 use Rattle.ucon_base.specs.declared.value.Side.{Side}
 use Rattle.ucon_base.specs.declared.value.Side.TheVariants as sides
+use Rattle.ucon_base.specs.declared.value.Value.{Value}
 use Rattle.ucon_model.specs.Plain.{Bytes, PlainPolicy}
 use Rattle.ucon_model.specs.Readings.{same_side, declared_attr, attrs_of, attr_position}
 use Rattle.ucon_state.specs.Tables.{TablesOf, entities_of, cell_at}
@@ -83,6 +85,20 @@ cell_by_parts P t side entity attr first place is_first is_place =
     by : (o : Option (Bytes × ℕ)) → option_and_then (λ e. option_map (λ place. e.1 + place) (attr_position P side attr)) o ≡ option_and_then (λ f. option_map (λ p. f + p) (attr_position P side attr)) (option_map (λ e. e.1) o)
     by None = refl
     by (Some e) = refl
+
+-- what is lent at a place of a list stands there
+pub read_at : {X : Type 0} (xs : List X) (i : ℕ) (r : Option (Bor X)) → IsItemAt xs i r → option_copied r ≡ slice_get xs i
+read_at xs i None read = sym (slice_get_past xs i read.3)
+read_at xs i (Some x) read = sym (slice_get-get_or xs i x.now read.3.0 ∙ ap Some (sym read.1))
+
+-- a value that stands so far behind an entity's first cell is that of each attribute of this position
+pub value_by_parts : {S : Type 0} (P : PlainPolicy) (t : TablesOf S) (side : Side) (entity first position cell : ℕ) (o : Option Value)
+    → Some first ≡ option_map (λ e. e.1) (slice_get (entities_of side t) entity) → first + position ≡ cell → o ≡ slice_get t.cells cell
+    → IfSome o (λ v. (attr : Bytes) → attr_position P side attr ≡ Some position → option_and_then (slice_get t.cells) (cell_at P t side entity attr) ≡ Some v)
+value_by_parts P t side entity first position cell None is_first sum read = tt
+value_by_parts P t side entity first position cell (Some v) is_first sum read = λ attr at.
+    ap (option_and_then (slice_get t.cells)) (cell_by_parts P t side entity attr (Some first) (Some position) is_first (sym at))
+    ∙ ap (slice_get t.cells) sum ∙ sym read
 
 -- and it is there
 pub cell_is_there : {S : Type 0} (P : PlainPolicy) (t : TablesOf S) (side : Side) (entity : ℕ) (attr : Bytes) (first place : ℕ) → IsSound P t

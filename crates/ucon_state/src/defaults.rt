@@ -1,10 +1,10 @@
 //! What the declarations of a policy give to begin with: defaults, and the names of rights.
 
-ghost use Rattle.std.specs.Prelude.{◌≡◌, ◌≤◌, length, IfOk, map};
+ghost use Rattle.std.specs.Prelude.{◌≡◌, ◌≤◌, ◌<◌, ◌^◌, length, IfOk, map};
 ghost use Rattle.ucon_model.specs.Checked.{checked_policy};
 ghost use Rattle.ucon_state.specs.Applied.{defaults_of};
 
-use std::alloc::Global;
+use std::alloc::{AllocError, Global};
 use ucon_base::{Name, NoMemory, Side, Value};
 use ucon_model::Checked;
 
@@ -33,12 +33,17 @@ pub fn env_defaults(alloc: Global, checked: &Checked) -> Result<Vec<Value>, NoMe
     Ok(defaults)
 }
 
-/// The names of the rights.
+/// The names of the rights, which a 32-bit number counts.
 pub fn right_names(alloc: Global, checked: &Checked) -> Result<Vec<Name>, NoMemory>
-    ensures { IfOk result (λ names. names.items ≡ map (λ r. r.name) (checked_policy checked.now).rights) }
+    ensures names { IfOk result (λ names. names.items ≡ map (λ r. r.name) (checked_policy checked.now).rights) }
+    ensures few { IfOk result (λ names. length names.items < 2 ^ 32) }
 {
+    let rights = checked.policy().rights.slice();
+    if rights.len() > u32::MAX as usize {
+        return Err(NoMemory::from(AllocError));
+    }
     let mut names = Vec::new(alloc);
-    for right in checked.policy().rights.slice() {
+    for right in rights {
         names.push(right.name)?;
     }
     Ok(names)

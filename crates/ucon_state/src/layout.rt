@@ -38,6 +38,7 @@ impl Layout {
         ensures { IfOk result (λ l. with_layout l (lists_of tables.now)
             ≡ amended (checked_policy old.now) (checked_policy new.now) (lists_of tables.now)) }
     {
+        let variables = keep_variables(alloc, tables, old, new)?;
         let mut cells = Vec::new(alloc);
         let subjects = lay(alloc, tables, old, new, Side::Subject, &mut cells)?;
         let objects = lay(alloc, tables, old, new, Side::Object, &mut cells)?;
@@ -45,7 +46,7 @@ impl Layout {
             subjects,
             objects,
             cells,
-            variables: keep_variables(alloc, tables, old, new)?,
+            variables,
         })
     }
 }

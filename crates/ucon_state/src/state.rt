@@ -1,6 +1,6 @@
 //! The state of a policy, and its changes.
 
-ghost use Rattle.std.specs.Prelude.{◌≡◌, true, map, [], ◌∷◌, ◌++◌, ◌≤ℤ◌, ◌<◌, ◌+◌, ◌⊎◌, length, position, Some, None, OnOk, OnErr, IfOk, IfSome, IsSome, IsSomeAnd, IsTrue, is_some};
+ghost use Rattle.std.specs.Prelude.{◌≡◌, true, map, [], ◌∷◌, ◌++◌, ◌≤ℤ◌, ◌<◌, ◌+◌, ◌⊎◌, length, position, Some, None, OnOk, OnErr, IfOk, IfSome, IsSome, IsSomeAnd, IsTrue, is_some, vec_len, vec_capacity};
 ghost use Rattle.std.specs.Str.{bytes_eq};
 ghost use Rattle.ucon_base.specs.Admits.{admits};
 ghost use Rattle.ucon_model.specs.Action as actions;
@@ -9,7 +9,7 @@ ghost use Rattle.ucon_model.specs.Decision.{right_named};
 ghost use Rattle.ucon_model.specs.Plain.{Bytes};
 ghost use Rattle.ucon_model.specs.Readings.{declared_attr, declared_env, env_position};
 ghost use Rattle.ucon_model.specs.Views.{policy_of, right_of};
-ghost use Rattle.ucon_state.specs.Applied.{opening_tables, with_entity, with_cell, with_new_session, with_state, may_become};
+ghost use Rattle.ucon_state.specs.Applied.{amended, opening_tables, with_entity, with_cell, with_new_session, with_state, may_become};
 ghost use Rattle.ucon_state.specs.Sound.{AllSound, HasRights, IsSound, StandFirst};
 ghost use Rattle.ucon_state.specs.Stored.{name_at, row_of, start_in};
 ghost use Rattle.ucon_state.specs.Tables.{entities_of, entity_number, cell_at, CellAdmits, counts_in, moment_in, session_in};
@@ -58,12 +58,9 @@ impl State {
         ensures opening { IfOk result (λ s. (shown s).opening ≡ opening_tables (checked_policy checked)) }
         ensures opening_policy { IfOk result (λ s. (shown s).opening_policy ≡ checked_policy checked) }
     {
-        let rights = right_names(alloc, &checked)?;
-        if rights.len() > u32::MAX as usize {
-            return Err(NoMemory::from(AllocError));
-        }
-        let variables = env_defaults(alloc, &checked)?;
         let planned = Planned::new(alloc, checked)?;
+        let rights = right_names(alloc, &planned.checked)?;
+        let variables = env_defaults(alloc, &planned.checked)?;
         Ok(State {
             alloc,
             planned,
@@ -103,13 +100,7 @@ impl State {
         ensures declared { is_some result ≡ is_some (declared_attr (shown self.now).policy.attrs side attr.now) }
         ensures there { IfSome result (λ c. c < length (shown self.now).tables.cells) }
     {
-        let cell = cell_number(
-            &self.planned.checked,
-            &self.tables,
-            side,
-            entity as usize,
-            attr,
-        )?;
+        let cell = cell_number(&self.planned.checked, &self.tables, side, entity, attr)?;
         Some(cell as u32)
     }
 
@@ -297,26 +288,36 @@ impl State {
         ensures ok { OnOk result ((text : Bytes) → shown self.new ≡ changed_by (shown self.old) (actions.amend text (checked_policy checked))) }
         ensures err { OnErr result (shown self.new ≡ shown self.old) }
     {
-        self.add_rights(checked.policy())?;
-        let is_in_order = are_in_order(&checked, &self.rights);
-        let layout = Layout::amended(self.alloc, &self.tables, &self.planned.checked, &checked)?;
-        let planned = Planned::new(self.alloc, checked)?;
-        let mut before = Box::new(self.alloc, Before { planned, layout })?;
-        self.changes.reserve(1)?;
+        self.make_room(checked.policy())?;
+        let mut before = self.replacement(checked)?;
         before.swap(&mut self.planned, &mut self.tables);
-        self.is_in_order = is_in_order;
+        self.is_in_order = are_in_order(&self.planned.checked, &self.rights);
         self.changes.push_reserved(Undo::Replaced(before));
         Ok(())
     }
 
-    /// Adds the names of the rights of a policy that sessions may have from now on.
-    fn add_rights(&mut self, policy: &Policy) -> Result<(), NoMemory>
+    /// A policy that is to replace the one in force, with the entities and values that are there laid under it.
+    fn replacement(&self, checked: Checked) -> Result<Box<Before>, NoMemory>
+        ensures policy { IfOk result (λ b. b.value.planned.checked ≡ checked) }
+        ensures layout { IfOk result (λ b. with_layout b.value.layout (lists_of self.now.tables)
+            ≡ amended (checked_policy self.now.planned.checked) (checked_policy checked) (lists_of self.now.tables)) }
+    {
+        let planned = Planned::new(self.alloc, checked)?;
+        let old = &self.planned.checked;
+        let layout = Layout::amended(self.alloc, &self.tables, old, &planned.checked)?;
+        Ok(Box::new(self.alloc, Before { planned, layout })?)
+    }
+
+    /// Makes room for a policy: its rights are among those that sessions may have from now on, and one more change can be noted.
+    fn make_room(&mut self, policy: &Policy) -> Result<(), NoMemory>
         ensures shown { shown self.new ≡ shown self.old }
         ensures rights { OnOk result (HasRights (policy_of policy.now) (right_names self.new)) }
+        ensures room { OnOk result (vec_len self.new.changes < vec_capacity self.new.changes) }
     {
         for right in policy.rights.slice() {
             self.add_right(right.name)?;
         }
+        self.changes.reserve(1)?;
         Ok(())
     }
 
@@ -413,7 +414,7 @@ pub(crate) fn cell_number(
     checked: &Checked,
     tables: &Tables,
     side: Side,
-    entity: usize,
+    entity: u32,
     attr: &Name,
 ) -> Option<usize>
     requires { IsSound (checked_policy checked.now) (lists_of tables.now) }

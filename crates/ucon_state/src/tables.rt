@@ -80,10 +80,10 @@ impl Tables {
     }
 
     /// The first cell of the entity with this number.
-    pub fn first_cell(&self, side: Side, entity: usize) -> Option<usize>
+    pub fn first_cell(&self, side: Side, entity: u32) -> Option<usize>
         ensures { result ≡ option_map (λ e. e.1) (slice_get (entities_of side (lists_of self.now)) entity) }
     {
-        let (_, first) = self.entities(side).get_index(entity)?;
+        let (_, first) = self.entities(side).get_index(entity as usize)?;
         Some(*first)
     }
 

@@ -35,13 +35,7 @@ impl State {
         ensures { option_copied result ≡ option_and_then (slice_get (lists_of self.now.tables).cells)
             (cell_at (checked_policy self.now.planned.checked) (lists_of self.now.tables) side entity attr.now) }
     {
-        let cell = cell_number(
-            &self.planned.checked,
-            &self.tables,
-            side,
-            entity as usize,
-            attr,
-        )?;
+        let cell = cell_number(&self.planned.checked, &self.tables, side, entity, attr)?;
         self.tables.cells.get(cell)
     }
 
@@ -177,7 +171,7 @@ impl State {
             → option_and_then (slice_get (shown self.now).tables.cells)
             (cell_at (shown self.now).policy (shown self.now).tables side entity attr) ≡ Some v) }
     {
-        let first = self.tables.first_cell(side, entity as usize)?;
+        let first = self.tables.first_cell(side, entity)?;
         self.tables.cells.get(first.checked_add(position)?)
     }
 

@@ -5,4 +5,4 @@ use Rattle.ucon_state.proofs.defaults.right_names.Given as goal
 
 abbrev pub invariant-loop-right : goal.invariant-loop-right
 invariant-loop-right l =
-    l.names.items ++ map (λ r. r.name) (map right_of (drop l.right-index l.right-items)) ≡ map (λ r. r.name) (map right_of l.right-items)
+    l.names.items ++ map (λ r. r.name) (map right_of (drop l.right-index l.rights)) ≡ map (λ r. r.name) (map right_of l.rights)

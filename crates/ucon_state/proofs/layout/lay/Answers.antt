@@ -1,4 +1,4 @@
-use Rattle.std.proofs.Common.{◌≡◌, ℕ, ◌∙◌, ap, ◌++◌, drop, List, length, ◌+◌, arith}
+use Rattle.std.proofs.Common.{◌≡◌, ℕ, ◌∙◌, ◌≤◌, ap, subst, ◌++◌, drop, List, length, ◌+◌, arith}
 use Rattle.std.specs.Str.{bytes_eq}
 use Rattle.indexmap.specs.IndexMap.{insert_entry}
 use Rattle.ucon_model.specs.Checked.{checked_policy}
@@ -6,7 +6,7 @@ use Rattle.ucon_model.specs.Plain.{Bytes}
 use Rattle.ucon_state.specs.Applied.{laid_from}
 use Rattle.ucon_state.specs.Tables.{entities_of, width}
 use Rattle.ucon_state.specs.Views.{lists_of}
-use Rattle.ucon_state.proofs.Laying.{cells_of_one, its_cells_added, one_more_laid}
+use Rattle.ucon_state.proofs.Laying.{all_cells_added, all_laid, cells_of_one, its_cells_added, one_more_laid}
 use Rattle.ucon_state.proofs.layout.lay.Goals as goal
 
 pub keep_cells-requires : goal.keep_cells-requires
@@ -31,3 +31,17 @@ loop-i-preserved c =
       cells =
           its_cells_added P Q t.cells c.args.side es c.loop-i.laid.entries cells more first c.loop-i.i c.entity-entity.result _ c.entity-entity.ensures c.in_ok-keep_cells.ensures c.loop-i.invariant.cells;
     }
+
+pub returns-clause-entities : goal.returns-clause-entities
+returns-clause-entities c =
+    let es = entities_of c.args.side (lists_of c.args.tables.now) in
+    let past : length c.entities.result.now.entries ≤ c.loop-i.i = omega (arith, c.loop-i-test.false, c.len-i-end.ensures.len) in
+    all_laid es c.loop-i.laid.entries _ (length c.loop-i.cells.items) (width (checked_policy c.args.new.now) c.args.side) c.loop-i.i
+    (subst (λ (es : List (Bytes × ℕ)). length es ≤ c.loop-i.i) c.entities.ensures past) c.loop-i.invariant.entities
+
+pub returns-clause-cells : goal.returns-clause-cells
+returns-clause-cells c =
+    let t = lists_of c.args.tables.now in
+    let past : length c.entities.result.now.entries ≤ c.loop-i.i = omega (arith, c.loop-i-test.false, c.len-i-end.ensures.len) in
+    all_cells_added (checked_policy c.args.old.now) (checked_policy c.args.new.now) t.cells c.args.side (entities_of c.args.side t) c.loop-i.cells.items _ c.loop-i.i
+    (subst (λ (es : List (Bytes × ℕ)). length es ≤ c.loop-i.i) c.entities.ensures past) c.loop-i.invariant.cells

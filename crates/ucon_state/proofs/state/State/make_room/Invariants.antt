@@ -1,7 +1,7 @@
 use Rattle.std.proofs.Common.{◌≡◌}
 use Rattle.ucon_state.specs.Shown.{shown, right_names}
 use Rattle.ucon_state.proofs.Amended.{AreNamed}
-use Rattle.ucon_state.proofs.state.State.add_rights.Given as goal
+use Rattle.ucon_state.proofs.state.State.make_room.Given as goal
 
 abbrev pub invariant-loop-right : goal.invariant-loop-right
 invariant-loop-right l = record {
