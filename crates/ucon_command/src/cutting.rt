@@ -59,12 +59,20 @@ pub fn command_into(
     Ok(())
 }
 
+/// Writes a command over another one. All forms do it here: wherever a command is dropped, the proof goes through each part of each form.
+#[inline(always)]
+fn write_over(out: &mut Command, command: Command)
+    ensures { out.new ≡ command }
+{
+    *out = command;
+}
+
 /// `subject`, by where its name begins.
 fn subject_into(line: &[u8], name: u16, out: &mut Command)
     requires { IsTrue (ends_in_name name line.now) }
     ensures { command_cut (Cuts.Subject name) line.now ≡ Some out.new }
 {
-    *out = Command::Subject(last_name(line, name));
+    write_over(out, Command::Subject(last_name(line, name)));
 }
 
 /// `object`, by where its name begins.
@@ -72,7 +80,7 @@ fn object_into(line: &[u8], name: u16, out: &mut Command)
     requires { IsTrue (ends_in_name name line.now) }
     ensures { command_cut (Cuts.Object name) line.now ≡ Some out.new }
 {
-    *out = Command::Object(last_name(line, name));
+    write_over(out, Command::Object(last_name(line, name)));
 }
 
 /// `set`, by where its names and its value begin.
@@ -91,12 +99,13 @@ fn set_into(
     ensures ok { OnOk result (command_cut (Cuts.Set side name attr value) line.now ≡ Some out.new) }
     ensures err { OnErr result (out.new ≡ out.old) }
 {
-    *out = Command::Set {
+    let command = Command::Set {
         side,
         name: name_between(line, name, attr),
         attr: name_between(line, attr, value),
         value: last_value(alloc, line, value)?,
     };
+    write_over(out, command);
     Ok(())
 }
 
@@ -113,10 +122,11 @@ fn env_into(
     ensures ok { OnOk result (command_cut (Cuts.Env name value) line.now ≡ Some out.new) }
     ensures err { OnErr result (out.new ≡ out.old) }
 {
-    *out = Command::Env {
+    let command = Command::Env {
         name: name_between(line, name, value),
         value: last_value(alloc, line, value)?,
     };
+    write_over(out, command);
     Ok(())
 }
 
@@ -126,7 +136,7 @@ fn tick_into(line: &[u8], tick: u16, out: &mut Command)
     requires integer { IsSome (integer_in (drop tick line.now)) }
     ensures { command_cut (Cuts.Tick tick) line.now ≡ Some out.new }
 {
-    *out = Command::Tick(last_integer(line, tick));
+    write_over(out, Command::Tick(last_integer(line, tick)));
 }
 
 /// `act`, by where its names begin.
@@ -136,11 +146,12 @@ fn act_into(line: &[u8], subject: u16, action: u16, object: u16, out: &mut Comma
     requires object { IsTrue (ends_in_name object line.now) }
     ensures { command_cut (Cuts.Act subject action object) line.now ≡ Some out.new }
 {
-    *out = Command::Act {
+    let command = Command::Act {
         subject: name_between(line, subject, action),
         action: name_between(line, action, object),
         object: last_name(line, object),
     };
+    write_over(out, command);
 }
 
 /// `try`, by where its names begin. Another `try` stays where it is, and gets its names one by one.
@@ -173,11 +184,12 @@ fn try_over(line: &[u8], subject: u16, right: u16, object: u16, out: &mut Comman
     requires object { IsTrue (ends_in_name object line.now) }
     ensures { command_cut (Cuts.Try subject right object) line.now ≡ Some out.new }
 {
-    *out = Command::Try {
+    let command = Command::Try {
         subject: name_between(line, subject, right),
         right: name_between(line, right, object),
         object: last_name(line, object),
     };
+    write_over(out, command);
 }
 
 /// `again`, by its session's number.
@@ -185,7 +197,7 @@ fn try_over(line: &[u8], subject: u16, right: u16, object: u16, out: &mut Comman
 fn again_into(n: u32, out: &mut Command)
     ensures { out.new ≡ Command.Again n }
 {
-    *out = Command::Again(n);
+    write_over(out, Command::Again(n));
 }
 
 /// `beat`, by its session's number.
@@ -193,7 +205,7 @@ fn again_into(n: u32, out: &mut Command)
 fn beat_into(n: u32, out: &mut Command)
     ensures { out.new ≡ Command.Beat n }
 {
-    *out = Command::Beat(n);
+    write_over(out, Command::Beat(n));
 }
 
 /// `end`, by its session's number.
@@ -201,7 +213,7 @@ fn beat_into(n: u32, out: &mut Command)
 fn end_into(n: u32, out: &mut Command)
     ensures { out.new ≡ Command.End n }
 {
-    *out = Command::End(n);
+    write_over(out, Command::End(n));
 }
 
 /// `look`, by its session's number.
@@ -209,7 +221,7 @@ fn end_into(n: u32, out: &mut Command)
 fn look_into(n: u32, out: &mut Command)
     ensures { out.new ≡ Command.Look n }
 {
-    *out = Command::Look(n);
+    write_over(out, Command::Look(n));
 }
 
 /// `value`, by where its names begin.
@@ -218,11 +230,12 @@ fn value_into(line: &[u8], side: Side, name: u16, attr: u16, out: &mut Command)
     requires attr { IsTrue (ends_in_name attr line.now) }
     ensures { command_cut (Cuts.Value side name attr) line.now ≡ Some out.new }
 {
-    *out = Command::Value {
+    let command = Command::Value {
         side,
         name: name_between(line, name, attr),
         attr: last_name(line, attr),
     };
+    write_over(out, command);
 }
 
 /// `amend`, by where its policy begins.
@@ -232,7 +245,7 @@ fn amend_into(alloc: Global, line: &[u8], policy: u32, out: &mut Command) -> Res
     ensures ok { OnOk result (command_cut (Cuts.Amend policy) line.now ≡ Some out.new) }
     ensures err { OnErr result (out.new ≡ out.old) }
 {
-    *out = Command::Amend(last_amendment(alloc, line, policy)?);
+    write_over(out, Command::Amend(last_amendment(alloc, line, policy)?));
     Ok(())
 }
 
