@@ -1,6 +1,6 @@
 //! Answers lines, one after the other.
 
-ghost use Rattle.std.specs.Prelude.{◌≡◌, ◌+◌, ◌-◌, ◌^◌, ◌<◌, [], length, min, map, IfOk, IsFalse, IsTrue, if◌then◌else◌};
+ghost use Rattle.std.specs.Prelude.{◌≡◌, ◌+◌, ◌-◌, ◌^◌, ◌<◌, [], length, min, map, IfOk, OnOk, IsFalse, IsTrue, if◌then◌else◌};
 ghost use Rattle.ucon_model.specs.declared.command.Entry.{Entry};
 ghost use Rattle.ucon_model.specs.History.{History, grown, said, trace};
 ghost use Rattle.ucon_model.specs.History as histories;
@@ -30,21 +30,45 @@ pub fn run_lines<E: Engine, R: Hearer>(
         → HasHeard P (R.hears hearer) (map entry_of lines.now)) }
     ensures few { length lines.now < 2 ^ 64 }
 {
-    let mut steps = Steps::new();
+    answer_lines(alloc, &mut engine, &mut hearer, lines)?;
+    Ok(hearer)
+}
+
+/// Answers each line in their order, and tells its answer to the hearer, who has heard nothing before.
+fn answer_lines<E: Engine, R: Hearer>(
+    alloc: Global,
+    engine: &mut E,
+    hearer: &mut R,
+    lines: &[LineText<'_>],
+) -> Result<(), NoMemory>
+    requires idle { IsIdle E.follows engine.old }
+    requires nothing_heard { R.hears hearer.old [] }
+    ensures heard { OnOk result ((P : PlainPolicy) → StandsFor E.follows engine.old P [] → HasHeard P (R.hears hearer.new) (map entry_of lines.now)) }
+    ensures few { length lines.now < 2 ^ 64 }
+{
     let mut command = Command::Look(0);
+    answer_each(alloc, engine, hearer, &mut command, lines)
+}
+
+/// As [`answer_lines`], where each line's command is written over another one.
+fn answer_each<E: Engine, R: Hearer>(
+    alloc: Global,
+    engine: &mut E,
+    hearer: &mut R,
+    command: &mut Command,
+    lines: &[LineText<'_>],
+) -> Result<(), NoMemory>
+    requires idle { IsIdle E.follows engine.old }
+    requires nothing_heard { R.hears hearer.old [] }
+    ensures heard { OnOk result ((P : PlainPolicy) → StandsFor E.follows engine.old P [] → HasHeard P (R.hears hearer.new) (map entry_of lines.now)) }
+    ensures few { length lines.now < 2 ^ 64 }
+{
+    let mut steps = Steps::new();
     let mut place = 0u64;
     for line in lines {
-        place = answer_one(
-            alloc,
-            &mut engine,
-            &mut hearer,
-            &mut steps,
-            &mut command,
-            place,
-            line,
-        )?;
+        place = answer_one(alloc, engine, hearer, &mut steps, command, place, line)?;
     }
-    Ok(hearer)
+    Ok(())
 }
 
 /// Answers one line, and tells the hearer the answer. The line's command is written over another one. The number of records after it

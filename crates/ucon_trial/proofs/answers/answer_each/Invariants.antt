@@ -3,7 +3,7 @@ use Rattle.ucon_model.specs.Plain.{PlainPolicy}
 use Rattle.ucon_engine.specs.Engine.{IsIdle, StandsFor}
 use Rattle.ucon_trial.specs.OneAnswer.{entry_of}
 use Rattle.ucon_trial.proofs.Along.{Along}
-use Rattle.ucon_trial.proofs.answers.run_lines.Given as goal
+use Rattle.ucon_trial.proofs.answers.answer_each.Given as goal
 
 abbrev pub invariant-loop-line : goal.invariant-loop-line
 invariant-loop-line g l = record {

@@ -4,12 +4,12 @@ use Rattle.std.proofs.Math.ListN.{get_or-map}
 use Rattle.ucon_engine.specs.Engine.{StandsFor}
 use Rattle.ucon_trial.specs.OneAnswer.{entry_of}
 use Rattle.ucon_trial.proofs.Along.{begun, one_more, finished}
-use Rattle.ucon_trial.proofs.answers.run_lines.Goals as goal
+use Rattle.ucon_trial.proofs.answers.answer_each.Goals as goal
 
 pub loop-line-init : goal.loop-line-init
 loop-line-init g c = record {
   idle = c.requires.idle;
-  along = λ P stands. begun P (StandsFor g.E.Engine.follows c.args.engine P) (g.R.Hearer.hears c.args.hearer) (map entry_of c.args.lines.now) stands c.requires.nothing_heard;
+  along = λ P stands. begun P (StandsFor g.E.Engine.follows c.args.engine.now P) (g.R.Hearer.hears c.args.hearer.now) (map entry_of c.args.lines.now) stands c.requires.nothing_heard;
 }
 
 pub loop-line-preserved : goal.loop-line-preserved
