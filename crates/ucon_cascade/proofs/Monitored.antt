@@ -1,7 +1,7 @@
 -- The monitor within a step: what its own actions are, and what undoing gives.
-use Rattle.std.proofs.Common.{◌≡◌, ◌∙◌, ◌↔◌, ◌≤◌, inl, inr, ℕ, ℤ, List, [], ◌++◌, refl, sym, ap, subst, arith}
+use Rattle.std.proofs.Common.{◌≡◌, ◌∙◌, ◌↔◌, ◌≤◌, inl, inr, ℕ, ℤ, List, ◌++◌, refl, sym, ap, subst}
 use Rattle.std.specs.List.{Contains}
-use Rattle.std.specs.Prelude.{false, true, is_some, Option, Some, None, option_map}
+use Rattle.std.specs.Prelude.{Option, option_map}
 use Rattle.ucon_actions.specs.Gives.{Makes}
 use Rattle.ucon_actions.specs.Leads.{KeepsBase, KeepsOpening}
 use Rattle.ucon_model.specs.declared.command.Caller.{Caller}
@@ -16,7 +16,7 @@ use Rattle.ucon_model.specs.Plain.{PlainPolicy, made}
 use Rattle.ucon_model.specs.Readings.{session}
 use Rattle.ucon_model.specs.Settle.{settle, revoked_in}
 use Rattle.ucon_model.specs.Sound.{IsNumbered}
-use Rattle.ucon_model.specs.Usages.{IsUsageTold, going_on}
+use Rattle.ucon_model.specs.Usages.{IsUsageTold}
 use Rattle.ucon_engine.specs.Engine.{state_of}
 use Rattle.ucon_state.specs.Following.{Follows}
 use Rattle.ucon_state.specs.Shown.{Shown, given_back, kept}
@@ -26,8 +26,7 @@ use Rattle.ucon_cascade.specs.Monitor.{IsSettled, Stands}
 use Rattle.ucon_cascade.specs.Grouping.{AreAlike, AreGrouped}
 use Rattle.ucon_cascade.specs.Numbering.{IsExact}
 use Rattle.ucon_cascade.specs.Putting.{GoesOn}
-use Rattle.ucon_cascade.specs.Timely.{AreTimely}
-use Rattle.ucon_wheel.specs.Deadlines.{AreAlike as AlikeDeadlines, deadline_of}
+use Rattle.ucon_wheel.specs.Deadlines.{AreAlike as AlikeDeadlines}
 use Rattle.ucon_cascade.proofs.Timing.{no_time, timely_still}
 pub use Rattle.ucon_cascade.proofs.Outcomes.{ok_both, ok_then, on_err, on_ok}
 
@@ -76,8 +75,6 @@ were_exact tell_it s s' standing first P T caller c head actions h h' is base ex
   grouped = grouped;
   told = told_between tell_it s s' P T caller c head actions h h' is;
 }
-
--- ---- the beginning
 
 -- ---- undoing and keeping
 

@@ -2,7 +2,6 @@
 use Rattle.std.proofs.Common.{◌≡◌, ◌∙◌, ℕ, zero, suc, Result, Ok, Err, IfOk, refl, sym, ap}
 use Rattle.std.specs.Prelude.{if◌then◌else◌, Option, None}
 use Rattle.ucon_model.specs.declared.session.SessionRow.{SessionRow}
-use Rattle.ucon_model.specs.Action.{Trace}
 use Rattle.ucon_model.specs.Decision.{failing}
 use Rattle.ucon_model.specs.Plain.{PlainPolicy}
 use Rattle.ucon_model.specs.Readings.{in_force, is_accessing}

@@ -35,8 +35,8 @@ impl Indexes {
         ensures work { IfOk result (λ i. i.work ≡ record { limit = 1048577; members = [] }) }
     {
         let work = Pend::new(alloc, 1_048_577)?;
-        let mut readers = all_readers(alloc, state)?;
         let mut timers = all_timers(alloc, state)?;
+        let mut readers = all_readers(alloc, state)?;
         readers.keep();
         timers.keep();
         Ok(Indexes {
