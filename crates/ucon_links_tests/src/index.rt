@@ -1,7 +1,7 @@
 //! Tests of `ucon_index`: a session is added, walked to, hidden and put back.
 
-ghost use Rattle.std.specs.Prelude.{◌≡◌, ◌<◌, true, length, map, IfOk};
-ghost use Rattle.ucon_index.specs.Dependents.{is_there, place_at};
+ghost use Rattle.std.specs.Prelude.{◌≡◌, ◌-◌, ◌<◌, ◌≤◌, ◌^◌, true, [], ◌∷◌, length, map, IfOk};
+ghost use Rattle.ucon_index.specs.Dependents.{empty_place, is_there, place_at};
 
 use std::alloc::Global;
 use std::test::Fail;
@@ -25,17 +25,30 @@ fn walk(alloc: Global, index: &Index, place: u32) -> Result<Vec<u32>, NoMemory>
 }
 
 /// Whether these are the sessions of a place.
-fn has(alloc: Global, index: &Index, place: u32, sessions: &[u32]) -> Result<bool, Fail>
+fn has(alloc: Global, index: &Index, place: u32, sessions: &[u32]) -> bool
     requires { place < length index.now.places }
 {
-    Ok(walk(alloc, index, place)?.as_slice() == sessions)
+    matches!(walk(alloc, index, place), Ok(met) if met.as_slice() == sessions)
 }
 
 /// Whether these are the sessions of the two places.
-fn have(alloc: Global, index: &Index, first: &[u32], second: &[u32]) -> Result<bool, Fail>
+fn have(alloc: Global, index: &Index, first: &[u32], second: &[u32]) -> bool
     requires { length index.now.places ≡ 2 }
 {
-    Ok(has(alloc, index, 0, first)? && has(alloc, index, 1, second)?)
+    has(alloc, index, 0, first) && has(alloc, index, 1, second)
+}
+
+/// Two places without sessions, and room for so many nodes.
+fn two_places(alloc: Global, nodes: u32) -> Result<Index, NoMemory>
+    requires { nodes < 2 ^ 32 - 1 }
+    ensures places { IfOk result (λ index. index.places ≡ empty_place ∷ empty_place ∷ []) }
+    ensures hidden { IfOk result (λ index. index.hidden ≡ []) }
+    ensures room { IfOk result (λ index. (nodes ≤ index.spare) × (nodes ≤ index.sessions)) }
+{
+    let mut index = Index::new(alloc)?;
+    index.grow(2)?;
+    index.reserve(nodes)?;
+    Ok(index)
 }
 
 /// How many places, sessions and nodes there are, and for how many more nodes there is room.
@@ -50,37 +63,41 @@ fn counts(index: &Index) -> [u32; 4] {
 
 #[test]
 fn one_growth_and_one_reserve_let_a_session_be_added(rt: HostRuntime) -> Result<(), Fail> {
-    let mut index = Index::new(rt.alloc())?;
-    index.grow(2)?;
-    index.reserve(2)?;
+    let mut index = two_places(rt.alloc(), 2)?;
     index.add(1, &[0, 1]);
-    assert!(rt; has(rt.alloc(), &index, 1, &[1])?);
-    assert!(rt; counts(&index) == [2, 2, 2, 0]);
+    assert!(rt; has(rt.alloc(), &index, 1, &[1]) && counts(&index) == [2, 2, 2, 0]);
     Ok(())
 }
 
-/// Two places that have session 1, and then session 2 in the second.
-fn both_added(alloc: Global) -> Result<Index, Fail>
-    ensures places { IfOk result (λ index. length index.places ≡ 2) }
-    ensures there { IfOk result (λ index. is_there 1 index.places ≡ true) }
+/// Adds session 1 to both places, and then session 2 to the second. False where session 1 isn't alone before.
+fn add_both(alloc: Global, index: &mut Index) -> bool
+    requires places { index.old.places ≡ empty_place ∷ empty_place ∷ [] }
+    requires hidden { index.old.hidden ≡ [] }
+    requires room { (3 ≤ index.old.spare) × (3 ≤ index.old.sessions) }
+    ensures places { length index.new.places ≡ 2 }
+    ensures there { is_there 1 index.new.places ≡ true }
 {
-    let mut index = Index::new(alloc)?;
-    index.grow(2)?;
-    index.reserve(3)?;
     index.add(1, &[0, 1]);
-    if !has(alloc, &index, 1, &[1])? {
-        return Err("session 1 is not alone".into());
-    }
+    let is_alone = has(alloc, index, 1, &[1]);
     index.add(2, &[1]);
-    Ok(index)
+    is_alone
+}
+
+/// Whether session 2 alone is left while session 1 is hidden, and both are there again once it is put back.
+fn is_put_back(alloc: Global, index: &mut Index) -> bool
+    requires places { length index.old.places ≡ 2 }
+    requires there { is_there 1 index.old.places ≡ true }
+{
+    index.hide(1);
+    let is_hidden = have(alloc, index, &[], &[2]);
+    index.unhide_last();
+    is_hidden && have(alloc, index, &[1], &[2, 1])
 }
 
 #[test]
 fn a_place_has_the_sessions_that_are_added_and_not_hidden(rt: HostRuntime) -> Result<(), Fail> {
-    let mut index = both_added(rt.alloc())?;
-    index.hide(1);
-    assert!(rt; have(rt.alloc(), &index, &[], &[2])?);
-    index.unhide_last();
-    assert!(rt; have(rt.alloc(), &index, &[1], &[2, 1])?);
+    let mut index = two_places(rt.alloc(), 3)?;
+    assert!(rt; add_both(rt.alloc(), &mut index));
+    assert!(rt; is_put_back(rt.alloc(), &mut index));
     Ok(())
 }

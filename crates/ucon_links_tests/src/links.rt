@@ -1,10 +1,9 @@
 //! Tests of `ucon_links`: six hidden nodes go back where they stood, and new lists are empty.
 
-ghost use Rattle.std.specs.Prelude.{◌≡◌, ◌<◌, ◌≤◌, length, IfSome, OnOk};
+ghost use Rattle.std.specs.Prelude.{◌≡◌, ◌<◌, ◌≤◌, length, IfSome};
 ghost use Rattle.ucon_links.specs.Lists.{IsListed};
 
 use std::alloc::Global;
-use std::process::Abort;
 use std::test::Fail;
 use ucon_base::NoMemory;
 use ucon_links::{Links, NodeId};
@@ -23,10 +22,10 @@ fn owners(alloc: Global, links: &Links, list: u32) -> Result<Vec<u32>, NoMemory>
 }
 
 // Whether these are the owners along a list.
-fn has(alloc: Global, links: &Links, list: u32, expected: &[u32]) -> Result<bool, NoMemory>
+fn has(alloc: Global, links: &Links, list: u32, expected: &[u32]) -> bool
     requires { list < length links.now.lists }
 {
-    Ok(owners(alloc, links, list)?.as_slice() == expected)
+    matches!(owners(alloc, links, list), Ok(found) if found.as_slice() == expected)
 }
 
 // The first node of an owner in a list.
@@ -45,18 +44,11 @@ fn find(links: &Links, list: u32, owner: u32) -> Option<NodeId>
     None
 }
 
-// What stands in the two lists.
-fn assert_lists(
-    rt: &impl Abort,
-    alloc: Global,
-    links: &Links,
-    expected: &[&[u32]; 2],
-) -> Result<(), NoMemory>
+// Whether these are the owners along the two lists.
+fn have(alloc: Global, links: &Links, expected: &[&[u32]; 2]) -> bool
     requires { 2 ≤ length links.now.lists }
 {
-    assert!(rt; has(alloc, links, 0, expected[0])?);
-    assert!(rt; has(alloc, links, 1, expected[1])?);
-    Ok(())
+    has(alloc, links, 0, expected[0]) && has(alloc, links, 1, expected[1])
 }
 
 // A node to hide, and what stands in the lists once it is hidden.
@@ -101,46 +93,62 @@ const STEPS: &[Step] = &[
     },
 ];
 
-// Hides nodes in this order, and puts them back in reverse order.
-fn hide_and_restore(
-    rt: &impl Abort,
-    alloc: Global,
-    links: &mut Links,
-    steps: &[Step],
-    before: &[&[u32]; 2],
-) -> Result<(), NoMemory>
+// Hides nodes in this order, and puts them back in reverse order. Tells whether the lists are as expected each time.
+fn hide_and_restore(alloc: Global, links: &mut Links, steps: &[Step], before: &[&[u32]; 2]) -> bool
     requires { 2 ≤ length links.old.lists }
-    ensures { OnOk result (links.new ≡ links.old) }
+    ensures { links.new ≡ links.old }
 {
-    assert_lists(rt, alloc, links, before)?;
+    let were = have(alloc, links, before);
     let Some((step, rest)) = steps.split_first() else {
-        return Ok(());
+        return were;
     };
-    assert!(rt; step.list < 2);
-    let node = find(links, step.list, step.owner).expect(rt, "the owner is listed");
+    if step.list >= 2 {
+        return false;
+    }
+    let Some(node) = find(links, step.list, step.owner) else {
+        return false;
+    };
     links.hide(node);
-    hide_and_restore(rt, alloc, links, rest, &step.left)?;
+    let restored = hide_and_restore(alloc, links, rest, &step.left);
     links.unhide(node);
-    assert_lists(rt, alloc, links, before)
+    were & restored & have(alloc, links, before)
 }
+
+/// Puts the owners 5 to 1 in front of each of two lists. False where there is no room for them.
+fn link_five(links: &mut Links) -> bool
+    requires { length links.old.lists ≡ 2 }
+    ensures { length links.new.lists ≡ 2 }
+{
+    for i in 0..5 {
+        if links.spare() < 2 {
+            return false;
+        }
+        links.link(0, 5 - i);
+        links.link(1, 5 - i);
+    }
+    true
+}
+
+/// The owners that `link_five` puts in.
+const FIVE: [&[u32]; 2] = [&[1, 2, 3, 4, 5], &[1, 2, 3, 4, 5]];
 
 #[test]
 fn six_hidden_nodes_go_back_in_reverse_order(rt: HostRuntime) -> Result<(), Fail> {
     let mut links = Links::new(rt.alloc(), 2)?;
     links.reserve(10)?;
-    for i in 0..5 {
-        assert!(rt; links.spare() >= 2);
-        links.link(0, 5 - i);
-        links.link(1, 5 - i);
-    }
-    hide_and_restore(
-        &rt,
-        rt.alloc(),
-        &mut links,
-        STEPS,
-        &[&[1, 2, 3, 4, 5], &[1, 2, 3, 4, 5]],
-    )?;
+    assert!(rt; link_five(&mut links));
+    assert!(rt; hide_and_restore(rt.alloc(), &mut links, STEPS, &FIVE));
     Ok(())
+}
+
+/// Whether two nodes stand in the first of three lists as they come to its front, and the others are empty.
+fn are_first(alloc: Global, links: &mut Links) -> bool
+    requires lists { length links.old.lists ≡ 3 }
+    requires room { 2 ≤ links.old.spare }
+{
+    links.link(0, 9);
+    links.link(0, 8);
+    has(alloc, links, 0, &[8, 9]) && links.first(1).is_none() && links.first(2).is_none()
 }
 
 #[test]
@@ -148,10 +156,6 @@ fn new_lists_are_empty_and_a_new_node_is_first(rt: HostRuntime) -> Result<(), Fa
     let mut links = Links::new(rt.alloc(), 2)?;
     links.grow(3)?;
     links.reserve(2)?;
-    links.link(0, 9);
-    links.link(0, 8);
-    assert!(rt; has(rt.alloc(), &links, 0, &[8, 9])?);
-    assert!(rt; links.first(1).is_none());
-    assert!(rt; links.first(2).is_none());
+    assert!(rt; are_first(rt.alloc(), &mut links));
     Ok(())
 }

@@ -2,19 +2,18 @@
 ghost use Rattle.std.specs.Prelude.{OnOk};
 ghost use Rattle.ucon_journal.specs.Journal.{IsReading, HasEnded, IsClosed};
 
-use std::alloc::Global;
-use std::process::Abort;
+use std::alloc::{AllocError, Global};
 use std::test::Fail;
+use ucon_base::NoMemory;
 use ucon_disk::{Disk, MemDisk};
 use ucon_journal::{DiskFault, Journal, OpenFault, TakeFault};
 
-const FIRST: &[u8] = b"right r {}\n";
-
-const SECOND: &[u8] = b"0 subject a\nok";
+/// Two payloads.
+const BOTH: &[&[u8]] = &[b"right r {}\n", b"0 subject a\nok"];
 
 const BYTES: &[u8] = b"UCONJR02\x01\0\0\0\x0bright r {}\n\x01\0\0\0\x0e0 subject a\nok\0";
 
-fn at_rest(alloc: Global, bytes: &[u8], stop_after: Option<u64>) -> Result<MemDisk, Fail> {
+fn at_rest(alloc: Global, bytes: &[u8], stop_after: Option<u64>) -> Result<MemDisk, AllocError> {
     Ok(MemDisk::new(alloc, bytes.to_vec(alloc)?, Vec::new(alloc), stop_after))
 }
 
@@ -45,97 +44,107 @@ fn add<D: Disk>(journal: &mut Journal<D>, payload: &[u8]) -> Result<(), DiskFaul
     journal.append(payload)
 }
 
-fn add_both<D: Disk>(alloc: Global, journal: &mut Journal<D>) -> Result<(), DiskFault>
+fn add_all<D: Disk>(
+    alloc: Global,
+    journal: &mut Journal<D>,
+    payloads: &[&[u8]],
+) -> Result<(), DiskFault>
     requires { IsReading D.contents journal.old }
 {
-    match read_all(alloc, journal) {
-        Ok(_) => {}
-        Err(_) => return Err(DiskFault),
+    if read_all(alloc, journal).is_err() {
+        return Err(DiskFault);
     }
     journal.mend()?;
-    add(journal, FIRST)?;
-    add(journal, SECOND)
+    'payloads: for payload in payloads {
+        add(journal, *payload)?;
+    }
+    Ok(())
 }
 
-// Opens a journal, adds two payloads, and tells whether it came to the end.
-fn run(alloc: Global, disk: MemDisk) -> (MemDisk, bool) {
+// Opens a journal, adds payloads, and tells whether it came to the end.
+fn run(alloc: Global, disk: MemDisk, payloads: &[&[u8]]) -> (MemDisk, bool) {
     match Journal::open(alloc, disk) {
         Ok(mut journal) => {
-            let done = add_both(alloc, &mut journal).is_ok();
+            let done = add_all(alloc, &mut journal, payloads).is_ok();
             (journal.close(), done)
         }
         Err((disk, _fault)) => (disk, false),
     }
 }
 
-fn found(alloc: Global, bytes: &[u8]) -> Result<Vec<u8>, Fail> {
-    match Journal::open(alloc, at_rest(alloc, bytes, None)?) {
-        Ok(mut journal) => {
-            let first = read_all(alloc, &mut journal)?;
-            journal.rewind();
-            let again = read_all(alloc, &mut journal)?;
-            if first != again {
-                return Err(Fail::from(DiskFault));
-            }
-            Ok(again)
-        }
-        Err((_disk, fault)) => Err(Fail::from(fault)),
+// The payloads that are read, and the same once more.
+fn read_twice<D: Disk>(alloc: Global, journal: &mut Journal<D>) -> Option<Vec<u8>>
+    requires { IsReading D.contents journal.old }
+{
+    let first = read_all(alloc, journal).ok()?;
+    journal.rewind();
+    let again = read_all(alloc, journal).ok()?;
+    if first != again {
+        return None;
+    }
+    Some(again)
+}
+
+fn found(alloc: Global, bytes: &[u8]) -> Option<Vec<u8>> {
+    match Journal::open(alloc, at_rest(alloc, bytes, None).ok()?) {
+        Ok(mut journal) => read_twice(alloc, &mut journal),
+        Err(_) => None,
     }
 }
 
+fn is_found(alloc: Global, bytes: &[u8], want: &[u8]) -> bool {
+    matches!(found(alloc, bytes), Some(all) if all.as_slice() == want)
+}
+
+/// Whether these bytes are in a file that was empty, once the payloads are added.
+fn is_written(alloc: Global, payloads: &[&[u8]], bytes: &[u8]) -> bool {
+    let Ok(empty) = at_rest(alloc, b"", None) else {
+        return false;
+    };
+    let (disk, done) = run(alloc, empty, payloads);
+    done && disk.contents() == bytes
+}
+
+/// Files, and what is found in each: both payloads, and nothing where the first record's length is too large.
+const FOUND: &[(&[u8], &[u8])] = &[
+    (BYTES, b"right r {}\n|0 subject a\nok|"),
+    (
+        b"UCONJR02\x01\xff\xff\xff\xffright r {}\n\x01\0\0\0\x0e0 subject a\nok\0",
+        b"",
+    ),
+];
+
 #[test]
-fn worked_bytes_are_written_and_read(rt: HostRuntime) -> Result<(), Fail> {
-    let alloc = rt.alloc();
-    let (disk, done) = run(alloc, at_rest(alloc, b"", None)?);
-    assert!(rt; done);
-    assert!(rt; disk.contents() == BYTES);
-    assert!(rt; found(alloc, BYTES)?.as_slice() == b"right r {}\n|0 subject a\nok|".as_slice());
+fn worked_bytes_are_written_and_read(rt: HostRuntime) {
+    assert!(rt; is_written(rt.alloc(), BOTH, BYTES));
+    for &(bytes, want) in FOUND {
+        assert!(rt; is_found(rt.alloc(), bytes, want), "{bytes:?}");
+    }
     for len in 10..44 {
-        let got = found(alloc, &BYTES[..len])?;
         let want: &[u8] = if len < 25 { b"" } else { b"right r {}\n|" };
-        assert!(rt; got.as_slice() == want, "at {len}");
-    }
-    let mut long = BYTES.to_vec(alloc)?;
-    for byte in &mut long.as_mut_slice()[9..13] {
-        *byte = 255;
-    }
-    assert!(rt; found(alloc, &long)?.is_empty());
-    Ok(())
-}
-
-// Makes a journal of one record of three bytes.
-fn small(alloc: Global, disk: MemDisk) -> Result<MemDisk, DiskFault> {
-    match Journal::open(alloc, disk) {
-        Ok(mut journal) => {
-            match read_all(alloc, &mut journal) {
-                Ok(all) if all.is_empty() => {}
-                _ => return Err(DiskFault),
-            }
-            journal.mend()?;
-            add(&mut journal, b"abc")?;
-            Ok(journal.close())
-        }
-        Err((_disk, _fault)) => Err(DiskFault),
+        assert!(rt; is_found(rt.alloc(), &BYTES[..len], want), "at {len}");
     }
 }
 
 #[test]
-fn an_empty_file_gets_one_record(rt: HostRuntime) -> Result<(), Fail> {
-    let alloc = rt.alloc();
-    let disk = small(alloc, at_rest(alloc, b"", None)?)?;
-    assert!(rt; disk.contents() == b"UCONJR02\x01\0\0\0\x03abc\0".as_slice());
-    Ok(())
+fn an_empty_file_gets_one_record(rt: HostRuntime) {
+    let wanted = b"UCONJR02\x01\0\0\0\x03abc\0".as_slice();
+    assert!(rt; is_found(rt.alloc(), b"", b""));
+    assert!(rt; is_written(rt.alloc(), &[b"abc"], wanted));
 }
 
-// What is in a file after its opening, and the version.
-fn after_opening(alloc: Global, bytes: &[u8]) -> Result<(Vec<u8>, u8), Fail> {
-    match Journal::open(alloc, at_rest(alloc, bytes, None)?) {
+/// Whether a file has these bytes once it is opened, and this version.
+fn is_opened(alloc: Global, bytes: &[u8], want: &[u8], version: u8) -> bool {
+    let Ok(disk) = at_rest(alloc, bytes, None) else {
+        return false;
+    };
+    match Journal::open(alloc, disk) {
         Ok(journal) => {
-            let version = journal.version();
+            let told = journal.version();
             let disk = journal.close();
-            Ok((disk.contents().to_vec(alloc)?, version))
+            told == version && disk.contents() == want
         }
-        Err((_disk, fault)) => Err(Fail::from(fault)),
+        Err(_) => false,
     }
 }
 
@@ -148,67 +157,99 @@ const OPENED: &[(&[u8], &[u8], u8)] = &[
 ];
 
 #[test]
-fn nine_bytes_become_version_2_and_ten_stay(rt: HostRuntime) -> Result<(), Fail> {
+fn nine_bytes_become_version_2_and_ten_stay(rt: HostRuntime) {
     for &(bytes, want, version) in OPENED {
-        let (after, told) = after_opening(rt.alloc(), bytes)?;
-        assert!(rt; after.as_slice() == want && told == version, "{bytes:?}");
+        assert!(rt; is_opened(rt.alloc(), bytes, want, version), "{bytes:?}");
     }
-    Ok(())
 }
 
-fn refusal(alloc: Global, disk: MemDisk) -> Option<OpenFault> {
-    match Journal::open(alloc, disk) {
+/// Why a file isn't opened, on a disk that stops after so many calls.
+fn refusal(alloc: Global, bytes: &[u8], stop_after: Option<u64>) -> Option<OpenFault> {
+    match Journal::open(alloc, at_rest(alloc, bytes, stop_after).ok()?) {
         Ok(_journal) => None,
         Err((_disk, fault)) => Some(fault),
     }
 }
 
-#[test]
-fn refusals(rt: HostRuntime) -> Result<(), Fail> {
-    let alloc = rt.alloc();
-    assert!(rt; found(alloc, b"foreigner")?.is_empty());
-    assert!(rt;
-        matches!(
-            refusal(alloc, at_rest(alloc, b"foreigners", None)?),
-            Some(OpenFault::NotJournal)
-        )
-    );
-    assert!(rt;
-        matches!(
-            refusal(alloc, at_rest(alloc, b"", Some(0))?),
-            Some(OpenFault::DiskFault)
-        )
-    );
+/// Why the records of a file that is opened can't be read.
+fn refused_record(alloc: Global, bytes: &[u8]) -> Option<TakeFault> {
+    match Journal::open(alloc, at_rest(alloc, bytes, None).ok()?) {
+        Ok(mut journal) => read_all(alloc, &mut journal).err(),
+        Err(_) => None,
+    }
+}
+
+/// A file of one whole record that is a byte too long.
+fn long_record(alloc: Global) -> Result<Vec<u8>, AllocError> {
     let mut long = b"UCONJR02\x01\x01\0\0\0".to_vec(alloc)?;
     long.resize(16_777_216 + 14, 0)?;
-    match Journal::open(alloc, at_rest(alloc, &long, None)?) {
-        Ok(mut journal) => {
-            let fault = read_all(alloc, &mut journal).err();
-            assert!(rt; matches!(fault, Some(TakeFault::TooLong(8))));
-        }
-        Err((_disk, fault)) => return Err(Fail::from(fault)),
-    }
+    Ok(long)
+}
+
+#[test]
+fn refusals(rt: HostRuntime) -> Result<(), Fail> {
+    let other = refusal(rt.alloc(), b"foreigners", None);
+    let stopped = refusal(rt.alloc(), b"", Some(0));
+    assert!(rt; is_found(rt.alloc(), b"foreigner", b""));
+    assert!(rt; matches!(other, Some(OpenFault::NotJournal)));
+    assert!(rt; matches!(stopped, Some(OpenFault::DiskFault)));
+    let long = refused_record(rt.alloc(), &long_record(rt.alloc())?);
+    assert!(rt; matches!(long, Some(TakeFault::TooLong(8))));
     Ok(())
 }
 
-// Each image after a stop at each call shows the payloads that were there, and a front part of the added ones.
-fn check_images(alloc: Global, rt: &impl Abort, bytes: &[u8], wants: &[&[u8]]) -> Result<(), Fail> {
-    for stop in 0..40u64 {
-        let (disk, done) = run(alloc, at_rest(alloc, bytes, Some(stop))?);
-        for fill in [[0; 90], [1; 90], [255; 90]] {
-            for len in 0..90u64 {
-                if let Some(image) = disk.image(len, &fill)? {
-                    let got = found(alloc, &image)?;
-                    assert!(rt;
-                        wants.iter().any(|want| *want == got.as_slice()),
-                        "stop {stop}, {len} bytes"
-                    );
-                    assert!(rt; !done || wants.last() == Some(&got.as_slice()));
-                }
+fn is_one_found(alloc: Global, bytes: &[u8], wants: &[&[u8]]) -> bool {
+    let Some(all) = found(alloc, bytes) else {
+        return false;
+    };
+    for want in wants {
+        if all.as_slice() == *want {
+            return true;
+        }
+    }
+    false
+}
+
+/// The length of the first image with this in its open places in which none of these is found.
+fn first_other(
+    alloc: Global,
+    disk: &MemDisk,
+    fill: u8,
+    wants: &[&[u8]],
+) -> Result<Option<u64>, NoMemory> {
+    for len in 0..90u64 {
+        if let Some(image) = disk.image(len, &[fill; 90])? {
+            if !is_one_found(alloc, &image, wants) {
+                return Ok(Some(len));
             }
         }
     }
-    Ok(())
+    Ok(None)
+}
+
+/// What a file's open places are filled with.
+const FILLS: &[u8] = &[0, 1, 255];
+
+/// The same with each filling, where the disk stops at this call. All is to be found where all was added, and else perhaps a front part.
+fn first_other_stopped(
+    alloc: Global,
+    bytes: &[u8],
+    wants: &[&[u8]],
+    stop: u64,
+) -> Result<Option<u64>, NoMemory> {
+    let (disk, done) = run(alloc, at_rest(alloc, bytes, Some(stop))?, BOTH);
+    let least = if done {
+        wants.len().saturating_sub(1)
+    } else {
+        0
+    };
+    for &fill in FILLS {
+        let other = first_other(alloc, &disk, fill, &wants[least..])?;
+        if other.is_some() {
+            return Ok(other);
+        }
+    }
+    Ok(None)
 }
 
 /// A file, and what may be found in it after a stop.
@@ -232,7 +273,10 @@ const STOPPED: &[Stopped] = &[
 #[test]
 fn images_after_a_stop(rt: HostRuntime) -> Result<(), Fail> {
     for &(bytes, wants) in STOPPED {
-        check_images(rt.alloc(), &rt, bytes, wants)?;
+        for stop in 0..40u64 {
+            let other = first_other_stopped(rt.alloc(), bytes, wants, stop)?;
+            assert!(rt; other.is_none(), "stop {stop}, {other:?} bytes");
+        }
     }
     Ok(())
 }

@@ -1,8 +1,8 @@
 //! Lines, replies and payloads: each as it is read and written back, and what is none.
 
-use std::alloc::Global;
+use std::alloc::{AllocError, Global};
 use std::test::Fail;
-use ucon_base::{Name, Rows, Side, Text, Value};
+use ucon_base::{Name, Rows, Side, Value};
 use ucon_command::{
     LineFault, PayloadFault, command_text, put_payload, read_command, read_entry, read_payload,
 };
@@ -35,58 +35,86 @@ const LINES: &[&[u8]] = &[
     b"amend attr s a : int 0..9 = 0;  # as it was",
 ];
 
-/// The text of a copy of what is read of a line.
-fn line_back(alloc: Global, line: &[u8]) -> Result<Vec<u8>, Fail> {
-    let command = read_command(alloc, line)?.copy(alloc)?;
-    Ok(command_text(alloc, &command)?)
+fn has_text(alloc: Global, command: &Command, text: &[u8]) -> bool {
+    matches!(command_text(alloc, command), Ok(written) if written.as_slice() == text)
+}
+
+/// Whether a copy of a command has this text.
+fn is_copied(alloc: Global, command: &Command, text: &[u8]) -> bool {
+    match command.copy(alloc) {
+        Ok(copy) => has_text(alloc, &copy, text),
+        Err(_) => false,
+    }
+}
+
+/// Whether a copy of what is read of a line has the line's text.
+fn is_line_back(alloc: Global, line: &[u8]) -> bool {
+    match read_command(alloc, line) {
+        Ok(command) => is_copied(alloc, &command, line),
+        Err(_) => false,
+    }
 }
 
 #[test]
-fn each_line_is_read_and_written_back(rt: HostRuntime) -> Result<(), Fail> {
+fn each_line_is_read_and_written_back(rt: HostRuntime) {
     for &line in LINES {
-        assert!(rt; line_back(rt.alloc(), line)?.as_slice() == line, "{line:?}");
+        assert!(rt; is_line_back(rt.alloc(), line), "{line:?}");
     }
-    Ok(())
 }
 
-/// Subject, action and object of an act's line.
-fn act_read(alloc: Global, line: &[u8]) -> Option<[Name; 3]> {
-    match &read_command(alloc, line).ok()? {
+/// Whether these are the words of an act, or of a command that sets an object's attribute to a text.
+fn are_words(command: &Command, words: &[&[u8]; 4]) -> bool {
+    let [word, first, second, third] = *words;
+    match command {
         Command::Act {
             subject,
             action,
             object,
-        } => Some([*subject, *action, *object]),
-        _ => None,
-    }
-}
-
-/// What a line sets to a text: the side, the entity, the attribute and the text.
-fn text_set(alloc: Global, line: &[u8]) -> Option<(Side, Name, Name, Text)> {
-    match &read_command(alloc, line).ok()? {
+        } => {
+            word == b"act".as_slice()
+                && subject.bytes() == first
+                && action.bytes() == second
+                && object.bytes() == third
+        }
         Command::Set {
-            side,
+            side: Side::Object,
             name,
             attr,
             value: Value::Text(text),
-        } => Some((*side, *name, *attr, *text)),
-        _ => None,
+        } => {
+            word == b"set o".as_slice()
+                && name.bytes() == first
+                && attr.bytes() == second
+                && text.bytes() == third
+        }
+        _ => false,
     }
 }
 
+fn has_words(alloc: Global, line: &[u8], words: &[&[u8]; 4]) -> bool {
+    match read_command(alloc, line) {
+        Ok(command) => are_words(&command, words),
+        Err(_) => false,
+    }
+}
+
+/// Lines and their words.
+const WORDS: &[(&[u8], [&[u8]; 4])] = &[
+    (
+        b"act ann approve doc1",
+        [b"act", b"ann", b"approve", b"doc1"],
+    ),
+    (
+        b"set o doc1 title \"a b\"",
+        [b"set o", b"doc1", b"title", b"a b"],
+    ),
+];
+
 #[test]
-fn words_stand_where_the_form_says(rt: HostRuntime) -> Result<(), Fail> {
-    let (ann, approve, doc1) = (
-        Name::read(b"ann")?,
-        Name::read(b"approve")?,
-        Name::read(b"doc1")?,
-    );
-    let act = act_read(rt.alloc(), b"act ann approve doc1");
-    assert!(rt; act == Some([ann, approve, doc1]));
-    let (title, text) = (Name::read(b"title")?, Text::read(b"a b")?);
-    let set = text_set(rt.alloc(), b"set o doc1 title \"a b\"");
-    assert!(rt; set == Some((Side::Object, doc1, title, text)));
-    Ok(())
+fn words_stand_where_the_form_says(rt: HostRuntime) {
+    for (line, words) in WORDS {
+        assert!(rt; has_words(rt.alloc(), *line, words), "{line:?}");
+    }
 }
 
 const REFUSED: &[(&[u8], LineFault)] = &[
@@ -143,36 +171,39 @@ const REFUSED: &[(&[u8], LineFault)] = &[
     (b"value o doc1 tags!", LineFault::BadWord(13)),
 ];
 
-fn is_refused(alloc: Global, line: &[u8], fault: LineFault) -> bool {
-    read_command(alloc, line).err() == Some(fault)
+/// Whether this is what is wrong with a line.
+fn is_judged(alloc: Global, line: &[u8], fault: Option<LineFault>) -> bool {
+    read_command(alloc, line).err() == fault
 }
 
 #[test]
 fn each_refusal_has_its_place(rt: HostRuntime) {
     for &(line, fault) in REFUSED {
-        assert!(rt; is_refused(rt.alloc(), line, fault), "{line:?}");
+        assert!(rt; is_judged(rt.alloc(), line, Some(fault)), "{line:?}");
     }
 }
 
-/// A word with so many bytes behind it.
-fn long_line(alloc: Global, word: &[u8], byte: u8, more: usize) -> Result<Vec<u8>, Fail> {
+/// A word with so many of a byte behind it.
+fn long_line(alloc: Global, word: &[u8], byte: u8, more: usize) -> Result<Vec<u8>, AllocError> {
     let mut line = Vec::from_slice(alloc, word)?;
-    for _ in 0..more {
-        line.push(byte)?;
-    }
+    line.resize(word.len().saturating_add(more), byte)?;
     Ok(line)
 }
+
+/// A word, the byte behind it, how often it stands there, and what is wrong with the line.
+const LONG: &[(&[u8], u8, usize, Option<LineFault>)] = &[
+    (b"amend ", b' ', 65536, None),
+    (b"amend ", b' ', 65537, Some(LineFault::TooLong(65543))),
+    (b"amend", b'x', 8188, Some(LineFault::TooLong(8193))),
+];
 
 /// An amendment's line may have 65,542 bytes, and no other line that begins so.
 #[test]
 fn amendments_may_be_long(rt: HostRuntime) -> Result<(), Fail> {
-    let alloc = rt.alloc();
-    let longest = long_line(alloc, b"amend ", b' ', 65536)?;
-    assert!(rt; read_command(alloc, &longest).is_ok());
-    let longer = long_line(alloc, b"amend ", b' ', 65537)?;
-    assert!(rt; is_refused(alloc, &longer, LineFault::TooLong(65543)));
-    let other = long_line(alloc, b"amend", b'x', 8188)?;
-    assert!(rt; is_refused(alloc, &other, LineFault::TooLong(8193)));
+    for &(word, byte, more, fault) in LONG {
+        let line = long_line(rt.alloc(), word, byte, more)?;
+        assert!(rt; is_judged(rt.alloc(), &line, fault), "{word:?} {more}");
+    }
     Ok(())
 }
 
@@ -195,21 +226,24 @@ const REPLIES: &[&[u8]] = &[
     b"status 5 ended",
 ];
 
-/// The text of what is read of a reply.
-fn reply_back(alloc: Global, text: &[u8]) -> Result<Vec<u8>, Fail> {
-    let reply = read_reply(alloc, text)?;
-    Ok(reply_text(alloc, &reply)?)
+/// Whether a reply has this text.
+fn is_written(alloc: Global, reply: &Reply, text: &[u8]) -> bool {
+    matches!(reply_text(alloc, reply), Ok(written) if written.as_slice() == text)
+}
+
+/// Whether what is read of a reply has the same text.
+fn is_reply_back(alloc: Global, text: &[u8]) -> bool {
+    match read_reply(alloc, text) {
+        Ok(reply) => is_written(alloc, &reply, text),
+        Err(_) => false,
+    }
 }
 
 #[test]
-fn each_reply_is_read_and_written_back(rt: HostRuntime) -> Result<(), Fail> {
+fn each_reply_is_read_and_written_back(rt: HostRuntime) {
     for &text in REPLIES {
-        assert!(rt;
-            reply_back(rt.alloc(), text)?.as_slice() == text,
-            "{text:?}"
-        );
+        assert!(rt; is_reply_back(rt.alloc(), text), "{text:?}");
     }
-    Ok(())
 }
 
 const REFUSALS: &[(Refusal, &[u8])] = &[
@@ -236,17 +270,15 @@ const REFUSALS: &[(Refusal, &[u8])] = &[
 ];
 
 /// Whether a refusal has this text, and the text is read and written back.
-fn has_text(alloc: Global, refusal: Refusal, text: &[u8]) -> Result<bool, Fail> {
-    let written = reply_text(alloc, &Reply::Refused(refusal))?;
-    Ok(written.as_slice() == text && reply_back(alloc, text)?.as_slice() == text)
+fn is_refusal(alloc: Global, refusal: Refusal, text: &[u8]) -> bool {
+    is_written(alloc, &Reply::Refused(refusal), text) && is_reply_back(alloc, text)
 }
 
 #[test]
-fn each_refusal_has_its_text(rt: HostRuntime) -> Result<(), Fail> {
+fn each_refusal_has_its_text(rt: HostRuntime) {
     for &(refusal, text) in REFUSALS {
-        assert!(rt; has_text(rt.alloc(), refusal, text)?, "{refusal:?}");
+        assert!(rt; is_refusal(rt.alloc(), refusal, text), "{text:?}");
     }
-    Ok(())
 }
 
 /// A reply that denies a session and tells that another one was revoked.
@@ -259,11 +291,10 @@ fn denied_and_revoked(alloc: Global) -> Result<Reply, Fail> {
 
 #[test]
 fn replies_that_were_made_are_written(rt: HostRuntime) -> Result<(), Fail> {
-    let alloc = rt.alloc();
-    let denied = reply_text(alloc, &denied_and_revoked(alloc)?)?;
-    assert!(rt; denied.as_slice() == b"denied 1 cap revoked 2 lb".as_slice());
-    let ended = reply_text(alloc, &Reply::Status(9, SessionState::Ended))?;
-    assert!(rt; ended.as_slice() == b"status 9 ended".as_slice());
+    let denied = denied_and_revoked(rt.alloc())?;
+    assert!(rt; is_written(rt.alloc(), &denied, b"denied 1 cap revoked 2 lb"));
+    let ended = Reply::Status(9, SessionState::Ended);
+    assert!(rt; is_written(rt.alloc(), &ended, b"status 9 ended"));
     Ok(())
 }
 
@@ -298,31 +329,55 @@ fn other_bytes_are_no_reply(rt: HostRuntime) {
     }
 }
 
-/// The payload of a command and a reply that are read.
-fn payload_of(alloc: Global, line: &[u8], reply: &[u8]) -> Result<Vec<u8>, Fail> {
-    let command = read_command(alloc, line)?;
-    let reply = read_reply(alloc, reply)?;
+/// Whether this is the payload of a command and its reply.
+fn is_payload(
+    alloc: Global,
+    payload: &[u8],
+    caller: Caller,
+    command: &Command,
+    reply: &Reply,
+) -> bool {
     let mut text = Vec::new(alloc);
-    put_payload(alloc, &mut text, Caller(0), &command, &reply)?;
-    Ok(text)
+    put_payload(alloc, &mut text, caller, command, reply).is_ok() && text.as_slice() == payload
 }
 
-/// The payload of what is read of one.
-fn payload_back(alloc: Global, payload: &[u8]) -> Result<Vec<u8>, Fail> {
-    let (caller, command, reply) = read_payload(alloc, payload)?;
-    let mut text = Vec::new(alloc);
-    put_payload(alloc, &mut text, caller, &command, &reply)?;
-    Ok(text)
+/// Whether this is the payload of client 0's command and what is read of its reply.
+fn is_payload_with(alloc: Global, payload: &[u8], command: &Command, reply: &[u8]) -> bool {
+    match read_reply(alloc, reply) {
+        Ok(reply) => is_payload(alloc, payload, Caller(0), command, &reply),
+        Err(_) => false,
+    }
+}
+
+/// Whether this is the payload of what is read of client 0's line and its reply.
+fn is_payload_of(alloc: Global, payload: &[u8], line: &[u8], reply: &[u8]) -> bool {
+    match read_command(alloc, line) {
+        Ok(command) => is_payload_with(alloc, payload, &command, reply),
+        Err(_) => false,
+    }
+}
+
+/// Whether what is read of a payload has the same one.
+fn is_payload_back(alloc: Global, payload: &[u8]) -> bool {
+    match read_payload(alloc, payload) {
+        Ok((caller, command, reply)) => is_payload(alloc, payload, caller, &command, &reply),
+        Err(_) => false,
+    }
+}
+
+fn is_entry_of(alloc: Global, payload: &[u8], caller: Caller) -> bool {
+    match read_entry(alloc, payload) {
+        Ok(entry) => entry.caller == caller,
+        Err(_) => false,
+    }
 }
 
 #[test]
-fn a_payload_is_written_and_read_back(rt: HostRuntime) -> Result<(), Fail> {
-    let alloc = rt.alloc();
-    let text = b"0 subject a\nok".as_slice();
-    assert!(rt; payload_of(alloc, b"subject a", b"ok")?.as_slice() == text);
-    assert!(rt; payload_back(alloc, text)?.as_slice() == text);
-    assert!(rt; read_entry(alloc, text)?.caller == Caller(0));
-    Ok(())
+fn a_payload_is_written_and_read_back(rt: HostRuntime) {
+    let payload = b"0 subject a\nok".as_slice();
+    assert!(rt; is_payload_of(rt.alloc(), payload, b"subject a", b"ok"));
+    assert!(rt; is_payload_back(rt.alloc(), payload));
+    assert!(rt; is_entry_of(rt.alloc(), payload, Caller(0)));
 }
 
 /// Payloads, and where the first part that is none stands.

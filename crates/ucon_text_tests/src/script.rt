@@ -1,11 +1,12 @@
 ghost use Rattle.std.specs.Prelude.{◌≤◌, length};
 
+use crate::syntax::repeated;
 use std::alloc::Global;
 use std::process::Abort;
 use std::test::Fail;
 use ucon_command::LineFault;
 use ucon_model::{Caller, Command};
-use ucon_script::{DocFault, Line, policy_part, read_document, read_script};
+use ucon_script::{DocFault, Line, LineText, Script, policy_part, read_document, read_script};
 
 /// What a document may have.
 const MOST_BYTES: usize = 4_194_304;
@@ -42,41 +43,75 @@ fn seen(line: &Line) -> (u32, u8, u32) {
     }
 }
 
-/// The lines of a document as it is read whole.
-fn all_seen(alloc: Global, text: &[u8]) -> Result<Vec<(u32, u8, u32)>, Fail>
-    requires { length text.now ≤ 4194304 }
-{
-    let document = read_document(alloc, text)?;
-    let mut all = Vec::new(alloc);
-    for line in document.lines.slice() {
-        all.push(seen(line))?;
+/// Whether these lines are seen so.
+fn are_seen(lines: &[Line], wanted: &[(u32, u8, u32)]) -> bool {
+    let mut rest = wanted.iter();
+    for line in lines {
+        if rest.next() != Some(&seen(line)) {
+            return false;
+        }
     }
-    Ok(all)
+    rest.next().is_none()
 }
 
-/// The lines of a document where they stand.
-fn all_seen_in_place(alloc: Global, text: &[u8]) -> Result<Vec<(u32, u8, u32)>, Fail>
+/// Whether the lines of a document that is read whole are seen so.
+fn are_seen_whole(alloc: Global, text: &[u8], wanted: &[(u32, u8, u32)]) -> bool
     requires { length text.now ≤ 4194304 }
 {
-    let script = read_script(alloc, text)?;
-    let mut all = Vec::new(alloc);
-    for text in script.lines.slice() {
-        all.push(seen(&text.line(alloc)?))?;
+    match read_document(alloc, text) {
+        Ok(document) => are_seen(document.lines.slice(), wanted),
+        Err(_) => false,
     }
-    Ok(all)
+}
+
+/// What is seen of a line that stands where it is.
+fn seen_there(alloc: Global, text: &LineText<'_>) -> Option<(u32, u8, u32)> {
+    match text.line(alloc) {
+        Ok(line) => Some(seen(&line)),
+        Err(_) => None,
+    }
+}
+
+/// Whether these lines are seen so where they stand.
+fn are_seen_there(alloc: Global, lines: &[LineText<'_>], wanted: &[(u32, u8, u32)]) -> bool {
+    let mut rest = wanted.iter();
+    for text in lines {
+        match seen_there(alloc, text) {
+            Some(one) if rest.next() == Some(&one) => {}
+            _ => return false,
+        }
+    }
+    rest.next().is_none()
+}
+
+/// Whether the lines of a document are seen so where they stand.
+fn are_seen_in_place(alloc: Global, text: &[u8], wanted: &[(u32, u8, u32)]) -> bool
+    requires { length text.now ≤ 4194304 }
+{
+    match read_script(alloc, text) {
+        Ok(script) => are_seen_there(alloc, script.lines.slice(), wanted),
+        Err(_) => false,
+    }
+}
+
+/// Whether a script has client 3's look at line 5 and its end at line 7.
+fn are_look_and_end(script: &Script<'_>) -> bool {
+    match script.lines.slice() {
+        [look, end] => {
+            look.command.text == b"look 7".as_slice()
+                && end.command.text == b"end 1".as_slice()
+                && (look.number, end.number) == (5, 7)
+                && look.caller == Caller(3)
+                && end.caller == Caller(3)
+        }
+        _ => false,
+    }
 }
 
 #[test]
 fn lines_stand_where_they_are(rt: HostRuntime) -> Result<(), Fail> {
     let text = b"right r {}\n%%\n\nclient 3\nlook 7\n# look 8\nend 1".as_slice();
-    let script = read_script(rt.alloc(), text)?;
-    let [first, second] = script.lines.slice() else {
-        return Err("two lines".into());
-    };
-    assert!(rt; first.command.text == b"look 7".as_slice());
-    assert!(rt; second.command.text == b"end 1".as_slice());
-    assert!(rt; first.number == 5 && second.number == 7);
-    assert!(rt; first.caller == Caller(3) && second.caller == Caller(3));
+    assert!(rt; are_look_and_end(&read_script(rt.alloc(), text)?));
     Ok(())
 }
 
@@ -103,22 +138,16 @@ const SEEN: &[(&[u8], &[(u32, u8, u32)])] = &[
     (b"%%\nclient 0\nsubject ann\n", &[(3, 0, 0)]),
 ];
 
-/// Whether a document has these lines, read whole and where they stand.
-fn are_seen(alloc: Global, text: &[u8], lines: &[(u32, u8, u32)]) -> Result<bool, Fail>
-    requires { length text.now ≤ 4194304 }
-{
-    let whole = all_seen(alloc, text)?;
-    let in_place = all_seen_in_place(alloc, text)?;
-    Ok(whole.as_slice() == lines && in_place.as_slice() == lines)
-}
-
 #[test]
-fn lines_have_their_numbers_and_clients(rt: HostRuntime) -> Result<(), Fail> {
+fn lines_have_their_numbers_and_clients(rt: HostRuntime) {
     for &(text, lines) in SEEN {
         assert!(rt; text.len() <= MOST_BYTES);
-        assert!(rt; are_seen(rt.alloc(), text, lines)?, "{text:?}");
+        assert!(rt; are_seen_whole(rt.alloc(), text, lines), "{text:?} whole");
+        assert!(rt;
+            are_seen_in_place(rt.alloc(), text, lines),
+            "{text:?} in place"
+        );
     }
-    Ok(())
 }
 
 fn fault(alloc: Global, rt: &impl Abort, text: &[u8]) -> Option<DocFault> {
@@ -201,23 +230,51 @@ fn the_first_refusal_decides(rt: HostRuntime) {
     }
 }
 
+/// A document's front, the part that it repeats, how often, and its back; its length, and what is wrong with it first.
+type Limit = (
+    &'static [u8],
+    &'static [u8],
+    u32,
+    &'static [u8],
+    usize,
+    Option<DocFault>,
+);
+
+const LIMITS: &[Limit] = &[
+    (
+        b"%%\nclient 1\n",
+        b"look 1\n",
+        262_144,
+        b"",
+        1_835_020,
+        None,
+    ),
+    (
+        b"%%\nclient 1\n",
+        b"look 1\n",
+        262_144,
+        b"#\nclient 2\n\nfly\nclient 64\n",
+        1_835_046,
+        Some(DocFault::TooManyLines(262_150)),
+    ),
+    (
+        b"%%\n",
+        b"\n",
+        4_194_292,
+        b"client 64",
+        MOST_BYTES,
+        Some(DocFault::TooManyClients(4_194_294)),
+    ),
+];
+
 #[test]
 fn as_many_lines_and_bytes_as_there_may_be(rt: HostRuntime) -> Result<(), Fail> {
-    let alloc = rt.alloc();
-    let mut text = Vec::from_slice(alloc, b"%%\nclient 1\n")?;
-    for _ in 0..262_144 {
-        text.extend_from_slice(b"look 1\n")?;
+    for &(front, part, times, back, len, first) in LIMITS {
+        let text = repeated(rt.alloc(), front, part, times, back)?;
+        assert!(rt;
+            text.len() == len && fault(rt.alloc(), &rt, &text) == first,
+            "{len}"
+        );
     }
-    assert!(rt; fault(alloc, &rt, &text).is_none());
-    text.extend_from_slice(b"#\nclient 2\n\nfly\nclient 64\n")?;
-    assert!(rt; fault(alloc, &rt, &text) == Some(DocFault::TooManyLines(262_150)));
-
-    let mut text = Vec::from_slice(alloc, b"%%\n")?;
-    for _ in 0..4_194_292 {
-        text.push(b'\n')?;
-    }
-    text.extend_from_slice(b"client 64")?;
-    assert!(rt; text.len() == MOST_BYTES);
-    assert!(rt; fault(alloc, &rt, &text) == Some(DocFault::TooManyClients(4_194_294)));
     Ok(())
 }

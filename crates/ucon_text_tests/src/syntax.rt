@@ -1,5 +1,6 @@
-use std::alloc::Global;
+use std::alloc::{AllocError, Global};
 use std::test::Fail;
+use ucon_syntax::SyntaxFault::{TooDeep, TooLong, TooMany, Unexpected, UnknownByte};
 use ucon_syntax::{SyntaxFault, read_policy};
 
 fn fault(alloc: Global, text: &[u8]) -> Option<SyntaxFault> {
@@ -9,158 +10,101 @@ fn fault(alloc: Global, text: &[u8]) -> Option<SyntaxFault> {
 /// Policies, and what is wrong with them first.
 const FAULTS: &[(&[u8], Option<SyntaxFault>)] = &[
     (b"", None),
-    (b"?", Some(SyntaxFault::UnknownByte(0))),
-    (b"x", Some(SyntaxFault::Unexpected(0))),
-    (b"_a", Some(SyntaxFault::UnknownByte(0))),
-    (b"\r", Some(SyntaxFault::UnknownByte(0))),
+    (b"?", Some(UnknownByte(0))),
+    (b"x", Some(Unexpected(0))),
+    (b"_a", Some(UnknownByte(0))),
+    (b"\r", Some(UnknownByte(0))),
     (b"# \xff\r\n", None),
-    (
-        b"aaaaaaaaaaaaaaaaaaaaaaaaaaaaaaaaa",
-        Some(SyntaxFault::TooLong(0)),
-    ),
+    (b"aaaaaaaaaaaaaaaaaaaaaaaaaaaaaaaaa", Some(TooLong(0))),
     (
         b"right r {} aaaaaaaaaaaaaaaaaaaaaaaaaaaaaaaaa",
-        Some(SyntaxFault::TooLong(11)),
+        Some(TooLong(11)),
     ),
-    (b"attr s a : int 5A", Some(SyntaxFault::UnknownByte(16))),
+    (b"attr s a : int 5A", Some(UnknownByte(16))),
     (
         b"attr s a : int 0..01000000000000001 = 0;",
-        Some(SyntaxFault::TooLong(18)),
+        Some(TooLong(18)),
     ),
     (
         b"attr s a : int 5aaaaaaaaaaaaaaaaaaaaaaaaaaaaaaaaa",
-        Some(SyntaxFault::TooLong(16)),
+        Some(TooLong(16)),
     ),
-    (b"attr s a : int x", Some(SyntaxFault::Unexpected(15))),
-    (
-        b"right r { pre b d: within 5done; }",
-        Some(SyntaxFault::Unexpected(27)),
-    ),
-    (b"attr x", Some(SyntaxFault::Unexpected(5))),
-    (b"attr", Some(SyntaxFault::Unexpected(4))),
-    (b"right r {", Some(SyntaxFault::Unexpected(9))),
-    (b"right r {} ?", Some(SyntaxFault::UnknownByte(11))),
-    (b"right r {} r", Some(SyntaxFault::Unexpected(11))),
-    (
-        b"attr s a : text = \"a\x01\";",
-        Some(SyntaxFault::UnknownByte(20)),
-    ),
-    (
-        b"attr s a : text = \"abc",
-        Some(SyntaxFault::Unexpected(22)),
-    ),
-    (b"attr \"ab", Some(SyntaxFault::Unexpected(8))),
+    (b"attr s a : int x", Some(Unexpected(15))),
+    (b"right r { pre b d: within 5done; }", Some(Unexpected(27))),
+    (b"attr x", Some(Unexpected(5))),
+    (b"attr", Some(Unexpected(4))),
+    (b"right r {", Some(Unexpected(9))),
+    (b"right r {} ?", Some(UnknownByte(11))),
+    (b"right r {} r", Some(Unexpected(11))),
+    (b"attr s a : text = \"a\x01\";", Some(UnknownByte(20))),
+    (b"attr s a : text = \"abc", Some(Unexpected(22))),
+    (b"attr \"ab", Some(Unexpected(8))),
     (
         b"attr s a : text = \"aaaaaaaaaaaaaaaaaaaaaaaaaaaaaaaaaaaaaaaaaaaaaaaaaaaaaaaaaaaaaaaaa",
-        Some(SyntaxFault::TooLong(18)),
+        Some(TooLong(18)),
     ),
     (
         b"attr s a : text = \"aaaaaaaaaaaaaaaaaaaaaaaaaaaaaaaaaaaaaaaaaaaaaaaaaaaaaaaaaaaaaaaa",
-        Some(SyntaxFault::Unexpected(83)),
+        Some(Unexpected(83)),
     ),
     (
         b"attr s a : text = \"aaaaaaaaaaaaaaaaaaaaaaaaaaaaaaaaaaaaaaaaaaaaaaaaaaaaaaaaaaaaaaaa\";",
         None,
     ),
-    (
-        b"attr s a : int 0 . 1 = 1;",
-        Some(SyntaxFault::Unexpected(17)),
-    ),
-    (
-        b"attr s a : int 0..01 = 1;",
-        Some(SyntaxFault::Unexpected(18)),
-    ),
+    (b"attr s a : int 0 . 1 = 1;", Some(Unexpected(17))),
+    (b"attr s a : int 0..01 = 1;", Some(Unexpected(18))),
     (
         b"attr s a : int - 1000000000000000..1000000000000000 = - 0;",
         None,
     ),
     (
         b"attr s a : int 0..1000000000000001 = 0;",
-        Some(SyntaxFault::TooLong(18)),
+        Some(TooLong(18)),
     ),
-    (
-        b"attr s a : int 0..1 = 1_x;",
-        Some(SyntaxFault::UnknownByte(23)),
-    ),
+    (b"attr s a : int 0..1 = 1_x;", Some(UnknownByte(23))),
     (
         b"attr s aaaaaaaaaaaaaaaaaaaaaaaaaaaaaaaa : int 0..1 = 1;",
         None,
     ),
     (
         b"attr s aaaaaaaaaaaaaaaaaaaaaaaaaaaaaaaaa : int 0..1 = 1;",
-        Some(SyntaxFault::TooLong(7)),
+        Some(TooLong(7)),
     ),
     (b"attr s a : set = {\"a\", \"b\"}; env e : set = {};", None),
-    (
-        b"attr s a : set = {\"b\", \"a\"};",
-        Some(SyntaxFault::Unexpected(23)),
-    ),
-    (
-        b"attr s a : set = {\"a\", \"a\"};",
-        Some(SyntaxFault::Unexpected(23)),
-    ),
-    (
-        b"attr s a : set = {\"a\",};",
-        Some(SyntaxFault::Unexpected(22)),
-    ),
-    (
-        b"right r { pre a f: 1x = 1; }",
-        Some(SyntaxFault::Unexpected(20)),
-    ),
-    (
-        b"right r { pre a f: s..x = 1; }",
-        Some(SyntaxFault::Unexpected(20)),
-    ),
-    (
-        b"right r { pre a f: 1 < = 1; }",
-        Some(SyntaxFault::Unexpected(23)),
-    ),
+    (b"attr s a : set = {\"b\", \"a\"};", Some(Unexpected(23))),
+    (b"attr s a : set = {\"a\", \"a\"};", Some(Unexpected(23))),
+    (b"attr s a : set = {\"a\",};", Some(Unexpected(22))),
+    (b"right r { pre a f: 1x = 1; }", Some(Unexpected(20))),
+    (b"right r { pre a f: s..x = 1; }", Some(Unexpected(20))),
+    (b"right r { pre a f: 1 < = 1; }", Some(Unexpected(23))),
     (b"right r { pre a f: 1 <= 1; }", None),
-    (
-        b"right r { pre a f: 1 ! 1; }",
-        Some(SyntaxFault::UnknownByte(21)),
-    ),
+    (b"right r { pre a f: 1 ! 1; }", Some(UnknownByte(21))),
     (b"right r {} # end", None),
-    (
-        b"right r { pre c f: lasts x; }",
-        Some(SyntaxFault::Unexpected(25)),
-    ),
-    (
-        b"right r { pre a f: x = 1; }",
-        Some(SyntaxFault::Unexpected(19)),
-    ),
+    (b"right r { pre c f: lasts x; }", Some(Unexpected(25))),
+    (b"right r { pre a f: x = 1; }", Some(Unexpected(19))),
     (
         b"right r { on b f: every 5 go by \"ann\" on \"x\"; pre b g: done by; pre b h: within 0 on on \"on\"; }",
         None,
     ),
     (
         b"right r { pre b d: done go by \"Ab\"; }",
-        Some(SyntaxFault::Unexpected(30)),
+        Some(Unexpected(30)),
     ),
     (
         b"right r { pre b d: done go on \"\"; }",
-        Some(SyntaxFault::Unexpected(30)),
+        Some(Unexpected(30)),
     ),
-    (
-        b"right r { pre b d: within - 1 go; }",
-        Some(SyntaxFault::Unexpected(26)),
-    ),
+    (b"right r { pre b d: within - 1 go; }", Some(Unexpected(26))),
     (
         b"right r { pre a f: 1 = 1; before s.a = 1; pre a g: 1 = 1; }",
-        Some(SyntaxFault::Unexpected(42)),
+        Some(Unexpected(42)),
     ),
     (
         b"right r { pre a f: not [ size(s.a) in {\"x\"} or lasts 3 ]; after_revoke o.b = (s.b - - 5) * 2; }",
         None,
     ),
-    (
-        b"right r { pre a f: - - 5 = 1; }",
-        Some(SyntaxFault::Unexpected(21)),
-    ),
-    (
-        b"right r { pre a f: 1 = 1 }",
-        Some(SyntaxFault::Unexpected(25)),
-    ),
+    (b"right r { pre a f: - - 5 = 1; }", Some(Unexpected(21))),
+    (b"right r { pre a f: 1 = 1 }", Some(Unexpected(25))),
 ];
 
 #[test]
@@ -171,13 +115,13 @@ fn faults_stand_at_their_places(rt: HostRuntime) {
 }
 
 /// A text that repeats a part.
-fn repeated(
+pub fn repeated(
     alloc: Global,
     front: &[u8],
     part: &[u8],
     times: u32,
     back: &[u8],
-) -> Result<Vec<u8>, Fail> {
+) -> Result<Vec<u8>, AllocError> {
     let mut text = Vec::from_slice(alloc, front)?;
     for _ in 0..times {
         text.extend_from_slice(part)?;
@@ -203,13 +147,7 @@ const LIMITS: &[Limit] = &[
         b"1)))))))))))))))))))))))))))))))) = 1; }",
         None,
     ),
-    (
-        b"right r { pre a f: ",
-        b"(",
-        33,
-        b"1",
-        Some(SyntaxFault::TooDeep(51)),
-    ),
+    (b"right r { pre a f: ", b"(", 33, b"1", Some(TooDeep(51))),
     (
         b"right r { pre a f: ",
         b"[",
@@ -217,49 +155,31 @@ const LIMITS: &[Limit] = &[
         b"1 = 1]]]]]]]]]]]]]]]]]]]]]]]]]]]]]]]]; }",
         None,
     ),
-    (
-        b"right r { pre a f: ",
-        b"[",
-        33,
-        b"1",
-        Some(SyntaxFault::TooDeep(51)),
-    ),
+    (b"right r { pre a f: ", b"[", 33, b"1", Some(TooDeep(51))),
     (b"right r { pre a f: ", b"not ", 32, b"1 = 1; }", None),
     (
         b"right r { pre a f: ",
         b"not ",
         33,
         b"1 = 1; }",
-        Some(SyntaxFault::TooDeep(147)),
+        Some(TooDeep(147)),
     ),
     (
         b"right r { pre a f: ",
         b"not ",
         32,
         b"(1) = 1; }",
-        Some(SyntaxFault::TooDeep(147)),
+        Some(TooDeep(147)),
     ),
     (
         b"right r { pre a f: ",
         b"size(",
         33,
         b"1",
-        Some(SyntaxFault::TooDeep(179)),
+        Some(TooDeep(179)),
     ),
-    (
-        b"right r { pre a f: ",
-        b"(",
-        33,
-        b"",
-        Some(SyntaxFault::TooDeep(51)),
-    ),
-    (
-        b"right r { before s.a = ",
-        b"(",
-        33,
-        b"",
-        Some(SyntaxFault::TooDeep(55)),
-    ),
+    (b"right r { pre a f: ", b"(", 33, b"", Some(TooDeep(51))),
+    (b"right r { before s.a = ", b"(", 33, b"", Some(TooDeep(55))),
     (b"right r { pre a f: 1", b" - 1", 31, b" = 1; }", None),
     (b"right r { pre a f: 1", b" * 1", 31, b" = 1; }", None),
     (
@@ -267,21 +187,21 @@ const LIMITS: &[Limit] = &[
         b"attr s a : text = \"\"; ",
         16,
         b"attr s",
-        Some(SyntaxFault::TooMany(357)),
+        Some(TooMany(357)),
     ),
     (
         b"right r { pre a f: 1",
         b" - 1",
         32,
         b" = 1; }",
-        Some(SyntaxFault::TooMany(145)),
+        Some(TooMany(145)),
     ),
     (
         b"right r { pre a f: 1",
         b" * 1",
         32,
         b" = 1; }",
-        Some(SyntaxFault::TooMany(145)),
+        Some(TooMany(145)),
     ),
     (
         b"right r { pre a f: lasts 1",
@@ -295,28 +215,28 @@ const LIMITS: &[Limit] = &[
         b" and lasts 1",
         32,
         b"; }",
-        Some(SyntaxFault::TooMany(399)),
+        Some(TooMany(399)),
     ),
     (
         b"right r { pre a f: lasts 1",
         b" or lasts 1",
         32,
         b"; }",
-        Some(SyntaxFault::TooMany(368)),
+        Some(TooMany(368)),
     ),
     (
         b"right r { pre a f: lasts 1",
         b" and lasts 1",
         31,
         b"and lasts 1; }",
-        Some(SyntaxFault::TooMany(398)),
+        Some(TooMany(398)),
     ),
     (
         b"right r { pre a f: lasts 1",
         b" and lasts 1",
         30,
         b"and lasts 1; }",
-        Some(SyntaxFault::Unexpected(386)),
+        Some(Unexpected(386)),
     ),
     (
         b"",
@@ -330,31 +250,19 @@ const LIMITS: &[Limit] = &[
         b"attr s a : text = \"\"; ",
         17,
         b"",
-        Some(SyntaxFault::TooMany(357)),
+        Some(TooMany(357)),
     ),
     (
         b"attr s a : text = \"\"; attr s a : text = \"\"; attr s a : text = \"\"; attr s a : text = \"\"; attr s a : text = \"\"; attr s a : text = \"\"; attr s a : text = \"\"; attr s a : text = \"\"; attr s a : text = \"\"; attr s a : text = \"\"; attr s a : text = \"\"; attr s a : text = \"\"; attr s a : text = \"\"; attr s a : text = \"\"; attr s a : text = \"\"; attr s a : text = \"\"; ",
         b"attr o a : text = \"\"; ",
         17,
         b"",
-        Some(SyntaxFault::TooMany(709)),
+        Some(TooMany(709)),
     ),
     (b"", b"env a : text = \"\"; ", 32, b"", None),
-    (
-        b"",
-        b"env a : text = \"\"; ",
-        33,
-        b"",
-        Some(SyntaxFault::TooMany(608)),
-    ),
+    (b"", b"env a : text = \"\"; ", 33, b"", Some(TooMany(608))),
     (b"", b"right r {} ", 64, b"", None),
-    (
-        b"",
-        b"right r {} ",
-        65,
-        b"",
-        Some(SyntaxFault::TooMany(704)),
-    ),
+    (b"", b"right r {} ", 65, b"", Some(TooMany(704))),
     (
         b"right r { ",
         b"pre a f: 1 = 1; ",
@@ -367,14 +275,14 @@ const LIMITS: &[Limit] = &[
         b"pre a f: 1 = 1; ",
         17,
         b"}",
-        Some(SyntaxFault::TooMany(266)),
+        Some(TooMany(266)),
     ),
     (
         b"right r { pre a f: 1 = 1; pre a f: 1 = 1; pre a f: 1 = 1; pre a f: 1 = 1; pre a f: 1 = 1; pre a f: 1 = 1; pre a f: 1 = 1; pre a f: 1 = 1; pre a f: 1 = 1; pre a f: 1 = 1; pre a f: 1 = 1; pre a f: 1 = 1; pre a f: 1 = 1; pre a f: 1 = 1; pre a f: 1 = 1; pre a f: 1 = 1; ",
         b"on c f: 1 = 1; ",
         17,
         b"}",
-        Some(SyntaxFault::TooMany(506)),
+        Some(TooMany(506)),
     ),
     (b"right r { ", b"after_end s.a = 1; ", 16, b"}", None),
     (
@@ -382,10 +290,10 @@ const LIMITS: &[Limit] = &[
         b"after_end s.a = 1; ",
         17,
         b"}",
-        Some(SyntaxFault::TooMany(314)),
+        Some(TooMany(314)),
     ),
     (b"", b" ", 65536, b"", None),
-    (b"?", b" ", 65536, b"", Some(SyntaxFault::TooLong(65536))),
+    (b"?", b" ", 65536, b"", Some(TooLong(65536))),
 ];
 
 #[test]
@@ -401,7 +309,7 @@ fn limits_are_met_exactly(rt: HostRuntime) -> Result<(), Fail> {
 }
 
 /// A set of this many texts: `"a"`, `"aa"` and so on.
-fn set_of(alloc: Global, texts: u32, back: &[u8]) -> Result<Vec<u8>, Fail> {
+fn set_of(alloc: Global, texts: u32, back: &[u8]) -> Result<Vec<u8>, AllocError> {
     let mut text = Vec::from_slice(alloc, b"attr s a : set = {")?;
     for i in 0..texts {
         text.push(b'"')?;
@@ -417,8 +325,8 @@ fn set_of(alloc: Global, texts: u32, back: &[u8]) -> Result<Vec<u8>, Fail> {
 /// How many texts a set has, what stands behind them, and what is wrong with it.
 const SETS: &[(u32, &[u8], Option<SyntaxFault>)] = &[
     (63, b"\"b\"};", None),
-    (64, b"\"b\"};", Some(SyntaxFault::TooMany(2290))),
-    (64, b"\"a\"};", Some(SyntaxFault::TooMany(2290))),
+    (64, b"\"b\"};", Some(TooMany(2290))),
+    (64, b"\"a\"};", Some(TooMany(2290))),
 ];
 
 #[test]
