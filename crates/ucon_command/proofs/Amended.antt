@@ -3,7 +3,7 @@ use Rattle.std.proofs.Common.{◌≡◌, ℕ, ◌+◌, ◌≤◌, Bool, true, fa
 use Rattle.std.specs.Prelude.{Option, Result, IfSome, codes, nat_eq, option_map}
 use Rattle.std.specs.List.{starts_with}
 use Rattle.std.specs.Str.{bytes_eq}
-use Rattle.std.proofs.lemmas.Bool.{false≢true, le-leb}
+use Rattle.std.proofs.lemmas.Bool.{false≢true}
 use Rattle.std.proofs.lemmas.List.Splits.{join_with_byte-slice_split}
 use Rattle.std.proofs.lemmas.Bool.Decides.{Decides-eqb}
 use Rattle.std.proofs.lemmas.Slice.Eq.{bytes_eq-Decides, starts_is}
@@ -119,7 +119,7 @@ module _ (line : Bytes) (second : Option ℕ) (at : ℕ) (rest : Word) (is : IsS
   amend_cut a told =
       cuts_give (cuts.Amend at) line _ (Amend a) (amend_rest ∙ ap (made Amend) told)
       (ap (option_map Amend) (sym (ap (λ (w : Word). amendment_in accepted w.text) same) ∙ said_is (amendment_in accepted rest.text) (bad_word rest.at) a told))
-      (le-leb at (length line) within)
+      within
 
   pub amend_refused : (f : LineFault) → IsRefusal (said (amendment_in accepted) rest) f → IsRefusal (amend_words accepted line (words_of line)) f
   amend_refused f h = let Refused : Result Command LineRefusal → Type 0 = λ r. IsRefusal r f in subst Refused (sym amend_rest) (made_refused _ f h)

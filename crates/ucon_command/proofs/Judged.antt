@@ -14,12 +14,12 @@ use Rattle.ucon_model.specs.Plain.{Bytes}
 use Rattle.ucon_command.specs.declared.line_fault.LineFault.{LineFault}
 use Rattle.ucon_command.specs.Faults.{IsSure}
 use Rattle.ucon_command.proofs.Refusals.{made_sure}
-use Rattle.ucon_command.specs.Cuts.{AreCuts, command_cut, has_name, has_words}
+use Rattle.ucon_command.specs.Cuts.{AreCuts, command_cut, has_name, HasWords}
 use Rattle.ucon_reply.specs.Words.{between, words_at}
 use Rattle.ucon_reply.specs.Joined.{split_some}
 use Rattle.ucon_command.proofs.SpelledLines.{said_is}
 
-pub cuts_give : (k : Cuts) (line : Bytes) (read : Result Command LineRefusal) (c : Command) → read ≡ Ok c → command_cut k line ≡ Some c → IsTrue (has_words k line) → AreCuts k line read
+pub cuts_give : (k : Cuts) (line : Bytes) (read : Result Command LineRefusal) (c : Command) → read ≡ Ok c → command_cut k line ≡ Some c → HasWords k line → AreCuts k line read
 cuts_give k line read c r given words = record { spelled = rw r refl; cut = ap result_ok r ∙ sym given; words = words }
 
 -- the words from a place on begin at it
@@ -38,7 +38,7 @@ env_read line w a b v name value =
 
 pub env_cut : (line : Bytes) (w : Word) (behind : List Word) (a b : ℕ) (v : Value) → words_of line ≡ w ∷ behind → behind ≡ record { at = a; text = between a b line } ∷ words_at b line
     → said name_in (record { at = a; text = between a b line }) ≡ Ok (between a b line) → said value_in (record { at = b; text = drop b line }) ≡ Ok v
-    → IsTrue (has_words (cuts.Env a b) line) → AreCuts (cuts.Env a b) line (env_words line (words_of line))
+    → HasWords (cuts.Env a b) line → AreCuts (cuts.Env a b) line (env_words line (words_of line))
 env_cut line w behind a b v is are name value words =
     cuts_give (cuts.Env a b) line _ (Env (between a b line) v) (ap (env_words line) (is ∙ ap (λ ws. w ∷ ws) are) ∙ env_read line w a b v name value)
     (ap (option_map (Env (between a b line))) (said_is (value_in (drop b line)) (bad_word b) v value)) words
@@ -57,7 +57,7 @@ pub set_cut : (line : Bytes) (w : Word) (behind : List Word) (a b c d : ℕ) (si
     → behind ≡ record { at = a; text = between a b line } ∷ record { at = b; text = between b c line } ∷ record { at = c; text = between c d line } ∷ words_at d line
     → place_of (record { at = a; text = between a b line }) (record { at = b; text = between b c line }) (record { at = c; text = between c d line }) ≡ Ok (side, between b c line, between c d line)
     → said value_in (record { at = d; text = drop d line }) ≡ Ok v
-    → IsTrue (has_words (cuts.Set side b c d) line) → AreCuts (cuts.Set side b c d) line (set_words line (words_of line))
+    → HasWords (cuts.Set side b c d) line → AreCuts (cuts.Set side b c d) line (set_words line (words_of line))
 set_cut line w behind a b c d side v is are place value words =
     cuts_give (cuts.Set side b c d) line _ (Set side (between b c line) (between c d line) v) (ap (set_words line) (is ∙ ap (λ ws. w ∷ ws) are) ∙ set_read line w a b c d side v place value)
     (ap (option_map (Set side (between b c line) (between c d line))) (said_is (value_in (drop d line)) (bad_word d) v value)) words

@@ -1,5 +1,5 @@
 -- Where the words of a line stand, and the command that they give.
-use Rattle.std.specs.Prelude.{◌≡◌, ℕ, ◌≤◌, ◌<◌, Bool, ◌&&◌, true, nat_lt, nat_le, IsTrue, IsOk, ◌∷◌, drop, length, Option, Some, option_map, IfSome, MatchResult, Result}
+use Rattle.std.specs.Prelude.{◌≡◌, ℕ, ◌≤◌, ◌<◌, Bool, ◌&&◌, nat_lt, nat_le, IsTrue, IsOk, ◌∷◌, drop, length, Option, Some, option_map, IfSome, MatchResult, Result}
 use Rattle.std.specs.Coded.{Coded-set, coded_option}
 use Rattle.std.specs.Result.{result_ok}
 use Rattle.ucon_base.specs.NameBytes.{is_name}
@@ -14,6 +14,7 @@ use Rattle.ucon_model.specs.CommandLine.{LineRefusal, words_of, value_in, intege
 use Rattle.ucon_model.specs.Plain.{Bytes}
 use Rattle.ucon_reply.specs.Words.{between, word_to, words_from}
 use Rattle.ucon_syntax.specs.Policies.{accepted}
+use denote.Struct.Props.{props}
 
 -- a line's words are the first and those from this place on
 pub record IsSecond (second : Option ℕ) (line : Bytes) : Type 0 where
@@ -51,27 +52,43 @@ has_name at next line = nat_lt at next && nat_le next (length line) && is_name (
 abbrev pub ends_in_name : ℕ → Bytes → Bool
 ends_in_name at line = nat_le at (length line) && is_name (drop at line)
 
--- whether the words that are names are some, and a value's or a policy's place is one
-abbrev pub has_words : Cuts → Bytes → Bool
-has_words (cuts.Subject name) line = ends_in_name name line
-has_words (cuts.Object name) line = ends_in_name name line
-has_words (cuts.Set side name attr value) line = has_name name attr line && has_name attr value line
-has_words (cuts.Env name value) line = has_name name value line
-has_words (cuts.Tick tick) line = nat_le tick (length line)
-has_words (cuts.Act subject action object) line = has_name subject action line && has_name action object line && ends_in_name object line
-has_words (cuts.Try subject right object) line = has_name subject right line && has_name right object line && ends_in_name object line
-has_words (cuts.Again session) line = true
-has_words (cuts.Beat session) line = true
-has_words (cuts.End session) line = true
-has_words (cuts.Look session) line = true
-has_words (cuts.Value side name attr) line = has_name name attr line && ends_in_name attr line
-has_words (cuts.Amend policy) line = nat_le policy (length line)
+-- the words that are names are some, and a value's or a policy's place is one
+abbrev pub HasWords : Cuts → Bytes → Type 0
+HasWords (cuts.Subject name) line = IsTrue (ends_in_name name line)
+HasWords (cuts.Object name) line = IsTrue (ends_in_name name line)
+HasWords (cuts.Set side name attr value) line = IsTrue (has_name name attr line) × IsTrue (has_name attr value line)
+HasWords (cuts.Env name value) line = IsTrue (has_name name value line)
+HasWords (cuts.Tick tick) line = tick ≤ length line
+HasWords (cuts.Act subject action object) line = IsTrue (has_name subject action line) × IsTrue (has_name action object line) × IsTrue (ends_in_name object line)
+HasWords (cuts.Try subject right object) line = IsTrue (has_name subject right line) × IsTrue (has_name right object line) × IsTrue (ends_in_name object line)
+HasWords (cuts.Again session) line = Unit {0}
+HasWords (cuts.Beat session) line = Unit {0}
+HasWords (cuts.End session) line = Unit {0}
+HasWords (cuts.Look session) line = Unit {0}
+HasWords (cuts.Value side name attr) line = IsTrue (has_name name attr line) × IsTrue (ends_in_name attr line)
+HasWords (cuts.Amend policy) line = policy ≤ length line
+
+-- a line has the words of cuts in one way at the most
+pub words_are_one : (k : Cuts) (line : Bytes) → IsProp (HasWords k line)
+words_are_one (cuts.Subject name) line = hlevel props
+words_are_one (cuts.Object name) line = hlevel props
+words_are_one (cuts.Set side name attr value) line = hlevel props
+words_are_one (cuts.Env name value) line = hlevel props
+words_are_one (cuts.Tick tick) line = hlevel props
+words_are_one (cuts.Act subject action object) line = hlevel props
+words_are_one (cuts.Try subject right object) line = hlevel props
+words_are_one (cuts.Again session) line = hlevel props
+words_are_one (cuts.Beat session) line = hlevel props
+words_are_one (cuts.End session) line = hlevel props
+words_are_one (cuts.Look session) line = hlevel props
+words_are_one (cuts.Value side name attr) line = hlevel props
+words_are_one (cuts.Amend policy) line = hlevel props
 
 -- cuts give what is read of a line
 pub record AreCuts (k : Cuts) (line : Bytes) (read : Result Command LineRefusal) : Type 0 where
   pub spelled : IsOk read
   pub cut : result_ok read ≡ command_cut k line
-  pub words : IsTrue (has_words k line)
+  pub words : HasWords k line
 
 -- what is given are cuts that give what is read of a line, or the refusal that is read; want of memory is told only where nothing is refused
 abbrev pub GivesCuts : Result Cuts LineFault → Bytes → Result Command LineRefusal → Type 0

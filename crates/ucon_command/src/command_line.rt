@@ -4,7 +4,7 @@ ghost use Rattle.std.specs.Prelude.{◌≡◌, ◌<◌, length, Ok, Err, IfErr, 
 ghost use Rattle.std.specs.Result.{result_ok};
 ghost use Rattle.ucon_model.specs.CommandLine.{line_read, most_bytes};
 ghost use Rattle.ucon_syntax.specs.Policies.{accepted};
-ghost use Rattle.ucon_command.specs.Cuts.{command_cut, commands_are_a_set, has_words};
+ghost use Rattle.ucon_command.specs.Cuts.{command_cut, commands_are_a_set, words_are_one, HasWords};
 ghost use Rattle.ucon_command.specs.Faults.{IsRefusal, IsSure, amends};
 
 use crate::cuts::Cuts;
@@ -23,7 +23,7 @@ pub struct CommandLine<'a> {
     cuts: Cuts,
     ghost spelled: { IsOk (line_read accepted text.now) },
     ghost cut: { result_ok (line_read accepted text.now) ≡ command_cut cuts text.now } by { commands_are_a_set _ _ },
-    ghost words: { IsTrue (has_words cuts text.now) },
+    ghost words: { HasWords cuts text.now } by { words_are_one _ _ },
 }
 
 impl<'a> CommandLine<'a> {

@@ -4,7 +4,7 @@ ghost use Rattle.std.specs.Prelude.{◌≡◌, ◌<◌, ◌≤◌, drop, length,
 ghost use Rattle.ucon_base.specs.Reading.{value_read};
 ghost use Rattle.ucon_model.specs.CommandLine.{amendment_in, integer_in, value_in};
 ghost use Rattle.ucon_syntax.specs.Policies.{accepted};
-ghost use Rattle.ucon_command.specs.Cuts.{command_cut, ends_in_name, has_name, has_words};
+ghost use Rattle.ucon_command.specs.Cuts.{command_cut, ends_in_name, has_name, HasWords};
 ghost use Rattle.ucon_reply.specs.Words.{between};
 
 use crate::amendment::amendment_in;
@@ -16,14 +16,14 @@ use ucon_reply::digits_in;
 
 /// Writes the command that these cuts of a line give over another one. A command is large, and isn't moved so.
 #[inline(always)]
-#[tactic(auto, using(crate::proofs::KnownWords::both, crate::proofs::KnownWords::some_mapped))]
+#[tactic(auto, using(crate::proofs::KnownWords::some_mapped))]
 pub fn command_into(
     alloc: Global,
     line: &[u8],
     cuts: Cuts,
     out: &mut Command,
 ) -> Result<(), NoMemory>
-    requires words { IsTrue (has_words cuts line.now) }
+    requires words { HasWords cuts line.now }
     requires some { IsSome (command_cut cuts line.now) }
     ensures ok { OnOk result (command_cut cuts line.now ≡ Some out.new) }
     ensures err { OnErr result (out.new ≡ out.old) }
