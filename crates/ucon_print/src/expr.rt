@@ -13,34 +13,21 @@ use ucon_model::Expr;
 pub fn put_expr(out: &mut Vec<u8>, e: &Expr, least: u8) -> Result<(), NoMemory>
     ensures { OnOk result (out.new.items ≡ out.old.items ++ expr_printing least (expr_of e.now)) }
 {
-    match e {
-        Expr::Lit(v) => put_literal(out, v),
-        Expr::Read(place) => put_place(out, place),
-        Expr::Add(a, b) => {
-            put_if(out, least > 0, b"(")?;
-            put_expr(out, a, 0)?;
-            put(out, b" + ")?;
-            put_expr(out, b, 1)?;
-            put_if(out, least > 0, b")")
-        }
-        Expr::Sub(a, b) => {
-            put_if(out, least > 0, b"(")?;
-            put_expr(out, a, 0)?;
-            put(out, b" - ")?;
-            put_expr(out, b, 1)?;
-            put_if(out, least > 0, b")")
-        }
-        Expr::Mul(a, b) => {
-            put_if(out, least > 1, b"(")?;
-            put_expr(out, a, 1)?;
-            put(out, b" * ")?;
-            put_expr(out, b, 2)?;
-            put_if(out, least > 1, b")")
-        }
+    let (a, operator, b, strength) = match e {
+        Expr::Lit(v) => return put_literal(out, v),
+        Expr::Read(place) => return put_place(out, place),
         Expr::Size(a) => {
             put(out, b"size(")?;
             put_expr(out, a, 0)?;
-            put(out, b")")
+            return put(out, b")");
         }
-    }
+        Expr::Add(a, b) => (a, b" + ", b, 0),
+        Expr::Sub(a, b) => (a, b" - ", b, 0),
+        Expr::Mul(a, b) => (a, b" * ", b, 1),
+    };
+    put_if(out, least > strength, b"(")?;
+    put_expr(out, a, strength)?;
+    put(out, operator)?;
+    put_expr(out, b, strength + 1)?;
+    put_if(out, least > strength, b")")
 }

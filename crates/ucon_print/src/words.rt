@@ -54,18 +54,11 @@ pub fn put_literal(out: &mut Vec<u8>, v: &Value) -> Result<(), NoMemory>
 pub fn put_place(out: &mut Vec<u8>, place: &Ref) -> Result<(), NoMemory>
     ensures { OnOk result (out.new.items ≡ out.old.items ++ place_printing place.now) }
 {
-    match place {
-        Ref::Subject(name) => {
-            put(out, b"s.")?;
-            put(out, name.bytes())
-        }
-        Ref::Object(name) => {
-            put(out, b"o.")?;
-            put(out, name.bytes())
-        }
-        Ref::Env(name) => {
-            put(out, b"env.")?;
-            put(out, name.bytes())
-        }
-    }
+    let (whose, name) = match place {
+        Ref::Subject(name) => (b"s.".as_slice(), name),
+        Ref::Object(name) => (b"o.".as_slice(), name),
+        Ref::Env(name) => (b"env.".as_slice(), name),
+    };
+    put(out, whose)?;
+    put(out, name.bytes())
 }
