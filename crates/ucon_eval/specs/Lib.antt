@@ -1,2 +1,3 @@
 pub mod Worth
 pub mod Sort
+pub mod Operation

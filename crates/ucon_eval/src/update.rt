@@ -1,10 +1,11 @@
 //! What an update writes.
 
 ghost use Rattle.std.specs.Prelude.{◌≡◌, map, option_map, option_copied, IfOk, IsSome, Some};
-ghost use Rattle.ucon_model.specs.Truth.{value_of};
+ghost use Rattle.ucon_model.specs.Truth.{read_or_zero, value_of};
 ghost use Rattle.ucon_model.specs.Updates.{fitted_to};
 ghost use Rattle.ucon_model.specs.Views.{expr_of, update_of};
 ghost use Rattle.ucon_asked.specs.Asked.{row_at, result_read, update_at, result_at};
+ghost use Rattle.ucon_eval.specs.Operation.{combined};
 
 use crate::arithmetic::{difference, fitted, fitted_integer, product, size, sum};
 use crate::at_hand::integer;
@@ -12,30 +13,48 @@ use std::alloc::Global;
 use ucon_base::{Int, NoMemory, Value};
 use ucon_model::{AttrDecl, Expr, Update, View};
 
+/// An operator between two expressions.
+#[derive(Clone, Copy)]
+enum Operator {
+    Plus,
+    Minus,
+    Times,
+}
+
+fn combined(alloc: Global, operator: Operator, a: Value, b: Value) -> Result<Value, NoMemory>
+    ensures { IfOk result (λ v. v ≡ combined operator a b) }
+{
+    match operator {
+        Operator::Plus => sum(alloc, a, b),
+        Operator::Minus => difference(alloc, a, b),
+        Operator::Times => Ok(product(a, b)),
+    }
+}
+
+/// A copy of the value that a place holds; a place that isn't there reads as 0.
+fn copy_or_zero(alloc: Global, held: Option<&Value>) -> Result<Value, NoMemory>
+    ensures { IfOk result (λ v. v ≡ read_or_zero (option_copied held.entry)) }
+{
+    match held {
+        Some(v) => v.copy(alloc),
+        None => Ok(Value::Int(Int::zero())),
+    }
+}
+
 fn value_of<V: View>(alloc: Global, view: &V, session: u32, e: &Expr) -> Result<Value, NoMemory>
     requires { IsSome ((V.readings view.now).row session) }
     ensures { IfOk result (λ v. v ≡ value_of ((V.readings view.now).at (row_at (V.readings view.now) session)) (expr_of e.now)) }
 {
-    match e {
-        Expr::Lit(v) => v.copy(alloc),
-        Expr::Read(place) => match view.value(session, place) {
-            Some(v) => v.copy(alloc),
-            None => Ok(Value::Int(Int::zero())),
-        },
-        Expr::Add(a, b) => {
-            let left = value_of(alloc, view, session, a)?;
-            sum(alloc, left, value_of(alloc, view, session, b)?)
-        }
-        Expr::Sub(a, b) => {
-            let left = value_of(alloc, view, session, a)?;
-            difference(alloc, left, value_of(alloc, view, session, b)?)
-        }
-        Expr::Mul(a, b) => {
-            let left = value_of(alloc, view, session, a)?;
-            Ok(product(left, value_of(alloc, view, session, b)?))
-        }
-        Expr::Size(a) => Ok(size(value_of(alloc, view, session, a)?)),
-    }
+    let (operator, a, b) = match e {
+        Expr::Lit(v) => return v.copy(alloc),
+        Expr::Read(place) => return copy_or_zero(alloc, view.value(session, place)),
+        Expr::Size(a) => return Ok(size(value_of(alloc, view, session, a)?)),
+        Expr::Add(a, b) => (Operator::Plus, a, b),
+        Expr::Sub(a, b) => (Operator::Minus, a, b),
+        Expr::Mul(a, b) => (Operator::Times, a, b),
+    };
+    let left = value_of(alloc, view, session, a)?;
+    combined(alloc, operator, left, value_of(alloc, view, session, b)?)
 }
 
 /// The value as the attribute keeps it.
