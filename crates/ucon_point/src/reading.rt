@@ -9,7 +9,7 @@ ghost use Rattle.ucon_row.specs.Order.{awaited, beginning};
 ghost use Rattle.ucon_point.specs.PointRead.{point_behind, point_read, row_at, rows_from};
 ghost use Rattle.ucon_point.specs.PointText.{point_text};
 ghost use Rattle.ucon_point.specs.Standing.{HasLast, standing, start};
-ghost use Rattle.ucon_state.specs.TakingUp.{CanBeTakenUp};
+ghost use Rattle.ucon_state.specs.TakingUp.{CanBeTakenUp, HasNothingToUndo};
 ghost use Rattle.ucon_state.specs.Held.{held};
 ghost use Rattle.ucon_state.specs.Shown.{shown};
 ghost use Rattle.ucon_syntax.specs.Policies.{accepted};
@@ -69,9 +69,7 @@ fn point_behind(
 {
     match tick_at(total, bytes) {
         Ok((tick, rest)) => {
-            let mut state = opening(alloc, policy.policy, tick)?;
-            put_rows(alloc, total, &mut state, rest)?;
-            state.keep();
+            let state = opened(alloc, total, policy.policy, tick, rest)?;
             Ok(Point {
                 entries,
                 policy: policy.text,
@@ -80,6 +78,28 @@ fn point_behind(
         }
         Err(fault) => Err(fault),
     }
+}
+
+/// The state that the rows make that the bytes tell, the last of so many, from this tick on.
+fn opened(
+    alloc: Global,
+    total: usize,
+    policy: Checked,
+    tick: Int,
+    bytes: &[u8],
+) -> Result<State, PointFault>
+    requires tick { pos 0 ≤ℤ tick }
+    requires within { length bytes.now ≤ total }
+    ensures policy { IfOk result (λ s. (shown s).policy ≡ checked_policy policy) }
+    ensures settled { IfOk result (λ s. HasNothingToUndo (shown s)) }
+    ensures rows { MatchResult result (ArePut (checked_policy policy) (start (checked_policy policy) tick)
+        (rows_from total (checked_policy policy) (start (checked_policy policy) tick) bytes.now))
+        (IsBadAt (rows_from total (checked_policy policy) (start (checked_policy policy) tick) bytes.now)) }
+{
+    let mut state = opening(alloc, policy, tick)?;
+    put_rows(alloc, total, &mut state, bytes)?;
+    state.keep();
+    Ok(state)
 }
 
 /// Nothing is there, and it is this tick.
