@@ -2,7 +2,7 @@
 
 ghost use Rattle.std.specs.Prelude.{◌≡◌, [], ◌∷◌, length, map, option_copied, option_map, Some, IfOk, OnOk};
 ghost use Rattle.std.specs.Str.{IsAscii};
-ghost use Rattle.serde_json.specs.Data.{array, string};
+ghost use Rattle.serde_json.specs.Data.{array, object, put, string};
 ghost use Rattle.serde_json.specs.View.{items_of, members_view, view};
 ghost use Rattle.ucon_actions.specs.Leads.{AfterEach};
 ghost use Rattle.ucon_audit.specs.Report.{act_tree, acts_tree, entities_tree, entity_tree, env_tree, line_of, session_tree, sessions_tree, tree, tree_of, value_tree, with_attributes, with_member, with_session};
@@ -44,21 +44,34 @@ fn state_value(alloc: Global, entries: u64, state: &State) -> Result<Json, NoMem
     ensures { IfOk result (λ v. view v ≡ tree_of entries (held state.now)) }
 {
     let mut members = Map::new(alloc);
-    let acts = acts_value(alloc, state)?;
-    serde_json::put(&mut members, alloc, "acts", acts)?;
-    let entries = Json::from(entries);
-    serde_json::put(&mut members, alloc, "entries", entries)?;
-    let env = env_value(alloc, state)?;
-    serde_json::put(&mut members, alloc, "env", env)?;
-    let objects = entities_value(alloc, state, Side::Object)?;
-    serde_json::put(&mut members, alloc, "objects", objects)?;
-    let sessions = sessions_value(alloc, state)?;
-    serde_json::put(&mut members, alloc, "sessions", sessions)?;
-    let subjects = entities_value(alloc, state, Side::Subject)?;
-    serde_json::put(&mut members, alloc, "subjects", subjects)?;
-    let tick = Json::from(state.tick().get());
-    serde_json::put(&mut members, alloc, "tick", tick)?;
+    put_state(alloc, entries, state, &mut members)?;
     Ok(Json::Object(members))
+}
+
+/// Puts what is there after so many entries, where nothing was put yet. The members are another function's, so that a call that fails here
+/// lets none of them go.
+fn put_state(
+    alloc: Global,
+    entries: u64,
+    state: &State,
+    members: &mut Map<String, Json>,
+) -> Result<(), NoMemory>
+    requires { members.old.entries ≡ [] }
+    ensures { OnOk result (object (members_view members.new.entries) ≡ tree_of entries (held state.now)) }
+{
+    let acts = acts_value(alloc, state)?;
+    serde_json::put(members, alloc, "acts", acts)?;
+    serde_json::put(members, alloc, "entries", Json::from(entries))?;
+    let env = env_value(alloc, state)?;
+    serde_json::put(members, alloc, "env", env)?;
+    let objects = entities_value(alloc, state, Side::Object)?;
+    serde_json::put(members, alloc, "objects", objects)?;
+    let sessions = sessions_value(alloc, state)?;
+    serde_json::put(members, alloc, "sessions", sessions)?;
+    let subjects = entities_value(alloc, state, Side::Subject)?;
+    serde_json::put(members, alloc, "subjects", subjects)?;
+    serde_json::put(members, alloc, "tick", Json::from(state.tick().get()))?;
+    Ok(())
 }
 
 fn entities_value(alloc: Global, state: &State, side: Side) -> Result<Json, NoMemory>
@@ -213,22 +226,43 @@ fn push_session(
 fn session_value(alloc: Global, n: u32, row: &SessionRow) -> Result<Json, NoMemory>
     ensures { IfOk result (λ v. view v ≡ session_tree n row.now) }
 {
-    let caller = row.caller.0;
-    let object = name_text(&row.object);
-    let right = name_text(&row.right);
-    let start = row.start.get();
-    let state = state_text(row.state);
-    let subject = name_text(&row.subject);
-    let value = json!(in alloc; {
-        "caller": caller,
-        "number": n,
-        "object": object,
-        "right": right,
-        "start": start,
-        "state": state,
-        "subject": subject
-    });
-    Ok(value?)
+    let mut members = Map::new(alloc);
+    put_session(alloc, n, row, &mut members)?;
+    Ok(Json::Object(members))
+}
+
+/// Puts what is told of session n, where nothing was put yet.
+fn put_session(
+    alloc: Global,
+    n: u32,
+    row: &SessionRow,
+    members: &mut Map<String, Json>,
+) -> Result<(), NoMemory>
+    requires { members.old.entries ≡ [] }
+    ensures { OnOk result (object (members_view members.new.entries) ≡ session_tree n row.now) }
+{
+    serde_json::put(members, alloc, "caller", Json::from(row.caller.0))?;
+    serde_json::put(members, alloc, "number", Json::from(n))?;
+    put_text(alloc, "object", name_text(&row.object), members)?;
+    put_text(alloc, "right", name_text(&row.right), members)?;
+    serde_json::put(members, alloc, "start", Json::from(row.start.get()))?;
+    put_text(alloc, "state", state_text(row.state), members)?;
+    put_text(alloc, "subject", name_text(&row.subject), members)?;
+    Ok(())
+}
+
+/// Puts a text at a key.
+fn put_text(
+    alloc: Global,
+    key: &str,
+    text: &str,
+    members: &mut Map<String, Json>,
+) -> Result<(), NoMemory>
+    ensures { OnOk result (members_view members.new.entries ≡ put key.now (string text.now) (members_view members.old.entries)) }
+{
+    let text = Json::try_from_str(alloc, text)?;
+    serde_json::put(members, alloc, key, text)?;
+    Ok(())
 }
 
 fn state_text(state: SessionState) -> &'static str
