@@ -13,7 +13,7 @@ ghost use Rattle.ucon_state.specs.Following.{Follows};
 ghost use Rattle.ucon_state.specs.Held.{Held, held, held_after, names_of};
 ghost use Rattle.ucon_state.specs.Shown.{shown};
 
-use serde_json::{Map, Value as Json, json};
+use serde_json::{Map, Value as Json};
 use std::alloc::Global;
 use ucon_base::{Name, NoMemory, Side, Text, Value};
 use ucon_model::{AttrDecl, SessionRow, SessionState, View};
@@ -183,17 +183,22 @@ fn act_value(alloc: Global, act: &ActRow) -> Result<Json, NoMemory>
     ensures { IfOk result (λ v. (h : Held) → h.moment act.now.subject act.now.action act.now.object ≡ Some act.now.moment
         → view v ≡ act_tree h (names_of act.now)) }
 {
-    let action = name_text(&act.action);
-    let at = act.moment.get();
-    let object = name_text(&act.object);
-    let subject = name_text(&act.subject);
-    let value = json!(in alloc; {
-        "action": action,
-        "at": at,
-        "object": object,
-        "subject": subject
-    });
-    Ok(value?)
+    let mut members = Map::new(alloc);
+    put_act(alloc, act, &mut members)?;
+    Ok(Json::Object(members))
+}
+
+/// Puts what is told of an act, where nothing was put yet.
+fn put_act(alloc: Global, act: &ActRow, members: &mut Map<String, Json>) -> Result<(), NoMemory>
+    requires { members.old.entries ≡ [] }
+    ensures { OnOk result ((h : Held) → h.moment act.now.subject act.now.action act.now.object ≡ Some act.now.moment
+        → object (members_view members.new.entries) ≡ act_tree h (names_of act.now)) }
+{
+    put_text(alloc, "action", name_text(&act.action), members)?;
+    serde_json::put(members, alloc, "at", Json::from(act.moment.get()))?;
+    put_text(alloc, "object", name_text(&act.object), members)?;
+    put_text(alloc, "subject", name_text(&act.subject), members)?;
+    Ok(())
 }
 
 fn sessions_value(alloc: Global, state: &State) -> Result<Json, NoMemory>
