@@ -9,6 +9,7 @@ ghost use Rattle.ucon_row.specs.Order.{awaited, beginning};
 ghost use Rattle.ucon_point.specs.PointRead.{point_behind, point_read, row_at, rows_from};
 ghost use Rattle.ucon_point.specs.PointText.{point_text};
 ghost use Rattle.ucon_point.specs.Standing.{HasLast, standing, start};
+ghost use Rattle.ucon_state.specs.Applied.{opening_tables};
 ghost use Rattle.ucon_state.specs.TakingUp.{CanBeTakenUp, HasNothingToUndo};
 ghost use Rattle.ucon_state.specs.Held.{held};
 ghost use Rattle.ucon_state.specs.Shown.{shown};
@@ -20,7 +21,7 @@ use crate::laws::{points_are_read_back, rows_make_what_they_say, texts_are_of_ro
 use crate::point::Point;
 use crate::putting::put_row;
 use std::alloc::Global;
-use ucon_base::{Int, NoMemory};
+use ucon_base::Int;
 use ucon_model::{Checked, Policy, View};
 use ucon_row::{Reached, after, awaited, beginning, cut_at, row_in};
 use ucon_state::State;
@@ -69,7 +70,8 @@ fn point_behind(
 {
     match tick_at(total, bytes) {
         Ok((tick, rest)) => {
-            let state = opened(alloc, total, policy.policy, tick, rest)?;
+            let mut state = State::new(alloc, policy.policy)?;
+            fill(alloc, total, &mut state, tick, rest)?;
             Ok(Point {
                 entries,
                 policy: policy.text,
@@ -80,37 +82,28 @@ fn point_behind(
     }
 }
 
-/// The state that the rows make that the bytes tell, the last of so many, from this tick on.
-fn opened(
+/// Fills a new state from this tick on with the rows that the bytes tell, the last of so many.
+fn fill(
     alloc: Global,
     total: usize,
-    policy: Checked,
+    state: &mut State,
     tick: Int,
     bytes: &[u8],
-) -> Result<State, PointFault>
+) -> Result<(), PointFault>
     requires tick { pos 0 ≤ℤ tick }
     requires within { length bytes.now ≤ total }
-    ensures policy { IfOk result (λ s. (shown s).policy ≡ checked_policy policy) }
-    ensures settled { IfOk result (λ s. HasNothingToUndo (shown s)) }
-    ensures rows { MatchResult result (ArePut (checked_policy policy) (start (checked_policy policy) tick)
-        (rows_from total (checked_policy policy) (start (checked_policy policy) tick) bytes.now))
-        (IsBadAt (rows_from total (checked_policy policy) (start (checked_policy policy) tick) bytes.now)) }
+    requires new { (shown state.old).tables ≡ opening_tables (shown state.old).policy }
+    ensures policy { IfOk result (λ _. (shown state.new).policy ≡ (shown state.old).policy) }
+    ensures settled { IfOk result (λ _. HasNothingToUndo (shown state.new)) }
+    ensures rows { MatchResult result
+        (λ _. ArePut (shown state.old).policy (start (shown state.old).policy tick)
+        (rows_from total (shown state.old).policy (start (shown state.old).policy tick) bytes.now) state.new)
+        (IsBadAt (rows_from total (shown state.old).policy (start (shown state.old).policy tick) bytes.now)) }
 {
-    let mut state = opening(alloc, policy, tick)?;
-    put_rows(alloc, total, &mut state, bytes)?;
-    state.keep();
-    Ok(state)
-}
-
-/// Nothing is there, and it is this tick.
-fn opening(alloc: Global, policy: Checked, tick: Int) -> Result<State, NoMemory>
-    requires { pos 0 ≤ℤ tick }
-    ensures policy { IfOk result (λ s. (shown s).policy ≡ checked_policy policy) }
-    ensures start { IfOk result (λ s. standing beginning s ≡ start (checked_policy policy) tick) }
-{
-    let mut state = State::new(alloc, policy)?;
     state.set_tick(tick)?;
-    Ok(state)
+    put_rows(alloc, total, state, bytes)?;
+    state.keep();
+    Ok(())
 }
 
 /// Puts the rows that the bytes tell into a state, the last of so many.
