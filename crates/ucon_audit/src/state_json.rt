@@ -44,34 +44,21 @@ fn state_value(alloc: Global, entries: u64, state: &State) -> Result<Json, NoMem
     ensures { IfOk result (λ v. view v ≡ tree_of entries (held state.now)) }
 {
     let mut members = Map::new(alloc);
-    put_state(alloc, entries, state, &mut members)?;
-    Ok(Json::Object(members))
-}
-
-/// Puts what is there after so many entries, where nothing was put yet. The members are another function's, so that a call that fails here
-/// lets none of them go.
-fn put_state(
-    alloc: Global,
-    entries: u64,
-    state: &State,
-    members: &mut Map<String, Json>,
-) -> Result<(), NoMemory>
-    requires { members.old.entries ≡ [] }
-    ensures { OnOk result (object (members_view members.new.entries) ≡ tree_of entries (held state.now)) }
-{
     let acts = acts_value(alloc, state)?;
-    serde_json::put(members, alloc, "acts", acts)?;
-    serde_json::put(members, alloc, "entries", Json::from(entries))?;
+    serde_json::put(&mut members, alloc, "acts", acts)?;
+    let entries = Json::from(entries);
+    serde_json::put(&mut members, alloc, "entries", entries)?;
     let env = env_value(alloc, state)?;
-    serde_json::put(members, alloc, "env", env)?;
+    serde_json::put(&mut members, alloc, "env", env)?;
     let objects = entities_value(alloc, state, Side::Object)?;
-    serde_json::put(members, alloc, "objects", objects)?;
+    serde_json::put(&mut members, alloc, "objects", objects)?;
     let sessions = sessions_value(alloc, state)?;
-    serde_json::put(members, alloc, "sessions", sessions)?;
+    serde_json::put(&mut members, alloc, "sessions", sessions)?;
     let subjects = entities_value(alloc, state, Side::Subject)?;
-    serde_json::put(members, alloc, "subjects", subjects)?;
-    serde_json::put(members, alloc, "tick", Json::from(state.tick().get()))?;
-    Ok(())
+    serde_json::put(&mut members, alloc, "subjects", subjects)?;
+    let tick = Json::from(state.tick().get());
+    serde_json::put(&mut members, alloc, "tick", tick)?;
+    Ok(Json::Object(members))
 }
 
 fn entities_value(alloc: Global, state: &State, side: Side) -> Result<Json, NoMemory>
