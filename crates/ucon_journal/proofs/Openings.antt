@@ -1,10 +1,11 @@
 -- A file that is opened as a journal.
 use Rattle.std.proofs.Common.{◌≡◌, inl, inr, ℕ, ◌+◌, ◌-◌, ◌<◌, ◌≤◌, false, refl, cond, nat_le, Some, None, List, [], ◌∷◌, ◌++◌, length, take, drop, sym, ◌∙◌, ap, arith, append_assoc, length-append, length-drop, take-append-drop}
-use Rattle.std.proofs.lemmas.List.{append-nil}
+use Rattle.std.proofs.lemmas.List.{append-nil, drop_all}
 use Rattle.std.proofs.lemmas.Option.{same_Some}
 use Rattle.std.specs.Prelude.{bytes_eq, is_some}
 use Rattle.std.proofs.lemmas.Bool.{cases_Bool, le-leb, lt-leb, leb-true, leb-false}
 use Rattle.std.proofs.lemmas.Slice.Eq.{bytes_eq-Decides}
+use Rattle.ucon_disk.specs.Disk.{overwritten}
 use Rattle.ucon_journal.specs.JournalBytes.{IsVersion, newest, magic, record_bytes, records, journal_bytes, AreShort}
 use Rattle.ucon_journal.specs.Found.{Fresh, NotJournal, Holds, found, version_told, payloads_after, payloads_from, payloads_found, counted, StandsAt}
 use Rattle.ucon_journal.specs.Opened.{opened}
@@ -64,6 +65,15 @@ opened_stands file version told = magic_stands (opened file) version told (elim 
   | inl e ↦ omega (arith, ap (λ b. length (cond b (journal_bytes newest []) file)) e)
   | inr e ↦ omega (arith, ap (λ b. length (cond b (journal_bytes newest []) file)) e, leb-false (length file) 9 e)
 ])
+
+-- opening makes of at most 9 bytes what a new journal makes of them, written over them
+pub opened-short : (file : List ℕ) → length file ≤ 9 → overwritten 0 (journal_bytes newest []) file ≡ opened file
+opened-short file short =
+    ap (λ (l : List ℕ). journal_bytes newest [] ++ l) (drop_all 9 file short) ∙ sym (ap (λ b. cond b (journal_bytes newest []) file) (le-leb (length file) 9 short))
+
+-- which are a journal, whose making was stopped
+pub found-short : (file : List ℕ) → length file ≤ 9 → found file ≡ Fresh
+found-short file short = ap (λ b. cond b Fresh (cond (is_some (version_told file)) (Holds (payloads_from file 8) (8 + length (records (payloads_from file 8)))) NotJournal)) (le-leb (length file) 9 short)
 
 pub counted-opened : (file : List ℕ) → counted (opened file) ≡ counted file
 counted-opened file = elim (cases_Bool (nat_le (length file) 9)) [

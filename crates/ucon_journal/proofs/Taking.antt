@@ -29,6 +29,10 @@ module _ (file : List ℕ) (gate n : ℕ) (counted : counts (drop gate file) ≡
   pub payload_is : payload_at (drop gate file) ≡ take n (drop (gate + 5) file)
   payload_is = ap (λ k. take k (drop 5 (drop gate file))) (sym told) ∙ ap (λ (l : List ℕ). take n l) (drop-drop 5 gate file)
 
+  -- what is read of it, where the file tells, is as long as it was told
+  pub length_read : (bytes : List ℕ) → bytes ≡ take n (drop (gate + 5) file) → length bytes ≡ n
+  length_read bytes is = ap (λ (l : List ℕ). length l) (is ∙ sym payload_is) ∙ length-payload
+
   pub stands_more : (version : ℕ) (ps : List (List ℕ)) → StandsAt file version gate ps → StandsAt file version (gate + (5 + n)) (ps ++ payload_at (drop gate file) ∷ [])
   stands_more version ps stands =
       let tail = drop gate file in

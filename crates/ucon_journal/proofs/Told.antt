@@ -1,12 +1,13 @@
 -- What holds of the bytes as read, where the disk tells.
-use Rattle.std.proofs.Common.{◌≡◌, ℕ, ◌+◌, ◌^◌, ◌<◌, List, [], ◌∷◌, ◌++◌, length, take, drop, Option, None, Some, IfSome, refl, sym, ◌∙◌, ap, subst}
+use Rattle.std.proofs.Common.{◌≡◌, ◌≢◌, ℕ, ◌+◌, ◌^◌, ◌<◌, ◌≤◌, List, [], ◌∷◌, ◌++◌, length, take, drop, Option, None, Some, IfSome, refl, sym, ◌∙◌, ap, subst}
 use Rattle.std.specs.Option.{option_map}
 use Rattle.ucon_disk.specs.Disk.{overwritten, Only}
 use Rattle.ucon_disk.specs.Run.{IsAtRest}
-use Rattle.ucon_journal.specs.Found.{version_told, counted, payloads_from, StandsAt}
+use Rattle.ucon_journal.specs.JournalBytes.{newest, journal_bytes}
+use Rattle.ucon_journal.specs.Found.{Fresh, NotJournal, found, version_told, counted, payloads_from, StandsAt}
 use Rattle.ucon_journal.specs.Opened.{opened, shut_at, with_payload}
 use Rattle.ucon_journal.specs.Journal.{told_payloads}
-use Rattle.ucon_journal.proofs.Openings.{opened_stands, stands_first, counted-opened}
+use Rattle.ucon_journal.proofs.Openings.{opened_stands, stands_first, counted-opened, opened-short, found-short}
 use Rattle.ucon_journal.proofs.Files.{counted-stands, shut_file, stands_closed, counted-closed, drop-front}
 use Rattle.ucon_journal.proofs.Added.{staged, staged_file, opened_file, added_stands, added_shut, counted-added}
 
@@ -94,3 +95,20 @@ opened_same (Some file) new is = ap told_payloads is ∙ counted-opened file
 pub rewound : (version gate : ℕ) (o : Option (List ℕ)) → IfSome o (λ file. (ps : List (List ℕ)) × StandsAt file version gate ps) → IfSome o (λ file. (ps : List (List ℕ)) × StandsAt file version 8 ps)
 rewound version gate None stands = tt
 rewound version gate (Some file) stands = ([], stands_first file version gate stands.0 stands.1)
+
+-- a new journal that was written over at most 9 bytes
+pub record Begun (old new : Option (List ℕ)) : Type 0 where
+  pub bytes : new ≡ option_map opened old
+  pub version : IfSome new (λ file. version_told file ≡ Some newest)
+  pub journal : IfSome old (λ file. found file ≢ NotJournal)
+
+pub begun : (old new : Option (List ℕ)) → IfSome old (λ file. length file ≤ 9) → new ≡ option_map (overwritten 0 (journal_bytes newest [])) old → Begun old new
+begun None new short is = subst (Begun None) (sym is) (record { bytes = refl; version = tt; journal = tt })
+begun (Some file) new short is =
+    let made : Begun (Some file) (Some (opened file)) =
+    record {
+      bytes = refl;
+      version = subst (λ (l : List ℕ). version_told l ≡ Some newest) (opened-short file short) refl;
+      journal = λ e. let none : Fresh ≡ NotJournal = sym (found-short file short) ∙ e in cc none;
+    } in
+    subst (Begun (Some file)) (sym (is ∙ ap Some (opened-short file short))) made

@@ -1,8 +1,12 @@
-use Rattle.std.proofs.Common.{◌≡◌, ℕ, List, length, inl, inr, Some, ◌∙◌, arith}
-use Rattle.ucon_disk.specs.Disk.{Torn}
+use Rattle.std.proofs.Common.{◌≡◌, ℕ, List, ◌≤◌, [], length, inl, inr, Some, ◌∙◌, ap, arith}
+use Rattle.std.specs.Option.{option_map}
+use Rattle.ucon_disk.specs.Disk.{Torn, overwritten}
 use Rattle.ucon_disk.specs.Run.{started, goes_on, weaker, joined}
 use Rattle.ucon_journal.specs.Opened.{Untouched}
-use Rattle.ucon_journal.proofs.Told.{told_at}
+use Rattle.ucon_journal.specs.JournalBytes.{newest, journal_bytes}
+use Rattle.ucon_journal.proofs.Told.{told_at, if_told, Begun, begun}
+use Rattle.ucon_journal.proofs.opening.begin.Given.{Over}
+use Rattle.ucon_journal.proofs.opening.begin.Goals.{In_ok-write_synced}
 use Rattle.ucon_journal.proofs.opening.begin.Goals as goal
 
 pub returns-in_err-write_synced-clause-images : goal.returns-in_err-write_synced-clause-images
@@ -42,3 +46,23 @@ returns-then-len-clause-images g c = record {
       let making = weaker M S c.len.new.self c.write_synced.new.disk (Torn 0 9 file) P (λ x torn. inr (omega (arith, size), omega (arith, torn.no_longer, size))) (c.write_synced.ensures.images.each file (record { told = is_measured; only = only })) in
       joined M S old c.len.new.self c.write_synced.new.disk P measured making;
 }
+
+-- ---- a new journal was written over at most 9 bytes
+
+module _ (g : Over) (c : In_ok-write_synced g) where
+  made : Begun (g.D.Disk.contents c.args.disk.now) (g.D.Disk.contents c.write_synced.new.disk)
+  made =
+      begun (g.D.Disk.contents c.args.disk.now) (g.D.Disk.contents c.write_synced.new.disk)
+      (if_told (g.D.Disk.contents c.args.disk.now) (λ file. length file ≤ 9) (λ file told.
+          let size = told_at (λ (l : List ℕ). c.in_ok-len.len ≡ length l) file (c.in_ok-sync.ensures.contents ∙ told) c.in_ok-len.ensures.length in
+          omega (arith, size, c.if-len.true)))
+      (c.in_ok-write_synced.ensures.written ∙ ap (option_map (overwritten 0 (journal_bytes newest []))) (c.len.ensures.contents ∙ c.in_ok-sync.ensures.contents))
+
+pub returns-then-len-clause-version : goal.returns-then-len-clause-version
+returns-then-len-clause-version g c = (made g c).version
+
+pub returns-then-len-clause-bytes : goal.returns-then-len-clause-bytes
+returns-then-len-clause-bytes g c = (made g c).bytes
+
+pub returns-then-len-clause-is_journal : goal.returns-then-len-clause-is_journal
+returns-then-len-clause-is_journal g c = (made g c).journal
