@@ -26,16 +26,45 @@ const TEXTS: &[(&[u8], Option<TextFault>)] = &[
     (&[b'a'; 65], Some(TextFault::TooLong(65))),
 ];
 
-#[test]
-fn names_and_texts_are_read(rt: HostRuntime) -> Result<(), Fail> {
+/// The first of the names that is judged otherwise.
+fn first_wrong_name() -> Option<&'static [u8]> {
     for &(bytes, fault) in NAMES {
-        assert!(rt; Name::read(bytes).err() == fault, "{bytes:?}");
+        if Name::read(bytes).err() != fault {
+            return Some(bytes);
+        }
     }
+    None
+}
+
+/// The first of the texts that is judged otherwise.
+fn first_wrong_text() -> Option<&'static [u8]> {
     for &(bytes, fault) in TEXTS {
-        assert!(rt; Text::read(bytes).err() == fault, "{bytes:?}");
+        if Text::read(bytes).err() != fault {
+            return Some(bytes);
+        }
     }
-    assert!(rt; Name::read(b"ann")?.bytes() == Text::read(b"ann")?.bytes());
-    Ok(())
+    None
+}
+
+/// Whether a name and a text that are read of these bytes have the same.
+fn are_read_alike(bytes: &[u8]) -> bool {
+    match Name::read(bytes) {
+        Ok(name) => matches!(Text::read(bytes), Ok(text) if text.bytes() == name.bytes()),
+        Err(_) => false,
+    }
+}
+
+#[test]
+fn names_and_texts_are_read(rt: HostRuntime) {
+    assert!(rt; first_wrong_name().is_none());
+    assert!(rt; first_wrong_text().is_none());
+    assert!(rt; are_read_alike(b"ann"));
+}
+
+/// Whether a limit isn't passed by sums, differences and products with a smaller integer.
+fn is_limit(limit: Int, minus: Int) -> bool {
+    let product = limit.add(limit).sub(minus).mul(minus);
+    product.get() == -1_000_000_000_000_000 && minus.is_below(limit) && minus.is_at_most(minus)
 }
 
 #[test]
@@ -43,36 +72,44 @@ fn integers_are_clamped(rt: HostRuntime) -> Result<(), Fail> {
     assert!(rt; Int::new(1_000_000_000_000_001).is_none());
     let limit = Int::new(1_000_000_000_000_000).ok_or("in range")?;
     let minus = Int::new(-7).ok_or("in range")?;
-    let product = limit.add(limit).sub(minus).mul(minus);
-    assert!(rt; product.get() == -1_000_000_000_000_000);
-    assert!(rt; minus.is_below(limit) && minus.is_at_most(minus));
+    assert!(rt; is_limit(limit, minus));
     Ok(())
+}
+
+fn is_empty(set: &TextSet, text: &Text) -> bool {
+    set.size() == 0 && set.at(0).is_none() && !set.has(text)
+}
+
+/// Whether zero is admitted among the integers that are zero, and no text is.
+fn is_only_zero_admitted(text: Text) -> bool {
+    let zero = Int::zero();
+    let kind = Kind::Int {
+        low: zero,
+        high: zero,
+    };
+    kind.admits(&Value::Int(zero)) && !kind.admits(&Value::Text(text))
 }
 
 #[test]
 fn kinds_admit_their_values(rt: HostRuntime) -> Result<(), Fail> {
-    let kind = Kind::Int {
-        low: Int::zero(),
-        high: Int::zero(),
-    };
     let text = Text::read(b"a")?;
     let set = TextSet::empty(rt.alloc());
-    assert!(rt; set.size() == 0 && set.at(0).is_none() && !set.has(&text));
-    assert!(rt; kind.admits(&Value::Int(Int::zero())) && Kind::Set.admits(&Value::Set(set)));
-    assert!(rt; !kind.admits(&Value::Text(text)));
+    assert!(rt; is_empty(&set, &text));
+    assert!(rt; Kind::Set.admits(&Value::Set(set)));
+    assert!(rt; is_only_zero_admitted(text));
     Ok(())
-}
-
-/// One row, and room for two more.
-fn one_row(alloc: Global) -> Result<Rows<u8>, Fail> {
-    let mut rows = Rows::new(alloc);
-    rows.push(1)?;
-    rows.reserve(2)?;
-    Ok(rows)
 }
 
 fn has_one(rows: &Rows<u8>) -> bool {
     rows.len() == 1 && rows.at(0) == Some(&1) && rows.at(1).is_none()
+}
+
+/// Whether one row is put in, with room for two more, and is there once the rows are made of their list again.
+fn is_one_kept(mut rows: Rows<u8>) -> bool {
+    rows.push(1).is_ok()
+        && rows.reserve(2).is_ok()
+        && has_one(&rows)
+        && Rows::from(rows.into_vec()).slice() == [1].as_slice()
 }
 
 /// How many steps there are after one.
@@ -83,21 +120,24 @@ fn counted() -> u64 {
 }
 
 #[test]
-fn rows_and_steps(rt: HostRuntime) -> Result<(), Fail> {
-    let rows = one_row(rt.alloc())?;
-    assert!(rt; has_one(&rows));
-    assert!(rt; Rows::from(rows.into_vec()).slice() == [1].as_slice());
+fn rows_and_steps(rt: HostRuntime) {
+    assert!(rt; is_one_kept(Rows::new(rt.alloc())));
     assert!(rt; counted() == 1);
-    Ok(())
+}
+
+/// Whether this text is all that a set has, also a copy, and nothing is left without it.
+fn is_set_of(alloc: Global, set: &TextSet, text: &Text) -> bool {
+    set.size() == 1
+        && set.at(0) == Some(text)
+        && matches!(set.without(alloc, text), Ok(rest) if rest.size() == 0)
+        && matches!(set.copy(alloc), Ok(copy) if copy.has(text))
 }
 
 #[test]
 fn sets_grow_and_shrink(rt: HostRuntime) -> Result<(), Fail> {
     let a = Text::read(b"a")?;
     let one = TextSet::empty(rt.alloc()).with(rt.alloc(), &a)?;
-    assert!(rt; one.size() == 1 && one.at(0) == Some(&a));
-    assert!(rt; one.without(rt.alloc(), &a)?.size() == 0);
-    assert!(rt; one.copy(rt.alloc())?.has(&a));
+    assert!(rt; is_set_of(rt.alloc(), &one, &a));
     Ok(())
 }
 
@@ -111,12 +151,17 @@ const SPELLED: &[&[u8]] = &[
     b"{\"a\",\"ab\",\"b\"}",
 ];
 
-/// The spelling of a copy of what is read of one.
-fn spelled_back(alloc: Global, bytes: &[u8]) -> Result<Vec<u8>, Fail> {
+fn is_spelled(alloc: Global, value: &Value, bytes: &[u8]) -> bool {
     let mut out = Vec::new(alloc);
-    let value = Value::read(alloc, bytes)?;
-    put_spelling(alloc, &mut out, &value.copy(alloc)?)?;
-    Ok(out)
+    put_spelling(alloc, &mut out, value).is_ok() && out.as_slice() == bytes
+}
+
+/// Whether a copy of what is read of these bytes is spelled by them.
+fn is_spelled_back(alloc: Global, bytes: &[u8]) -> bool {
+    match Value::read(alloc, bytes) {
+        Ok(value) => matches!(value.copy(alloc), Ok(copy) if is_spelled(alloc, &copy, bytes)),
+        Err(_) => false,
+    }
 }
 
 /// Bytes that spell no value, and why.
@@ -137,18 +182,22 @@ fn is_refused(alloc: Global, bytes: &[u8], fault: ValueFault) -> bool {
     Value::read(alloc, bytes).err() == Some(fault)
 }
 
-#[test]
-fn values_are_read_and_written(rt: HostRuntime) -> Result<(), Fail> {
-    for &bytes in SPELLED {
-        assert!(rt;
-            spelled_back(rt.alloc(), bytes)?.as_slice() == bytes,
-            "{bytes:?}"
-        );
-    }
+/// The first of the bytes that are refused for something else, or read.
+fn first_not_refused(alloc: Global) -> Option<&'static [u8]> {
     for &(bytes, fault) in REFUSED {
-        assert!(rt; is_refused(rt.alloc(), bytes, fault), "{bytes:?}");
+        if !is_refused(alloc, bytes, fault) {
+            return Some(bytes);
+        }
     }
-    Ok(())
+    None
+}
+
+#[test]
+fn values_are_read_and_written(rt: HostRuntime) {
+    for &bytes in SPELLED {
+        assert!(rt; is_spelled_back(rt.alloc(), bytes), "{bytes:?}");
+    }
+    assert!(rt; first_not_refused(rt.alloc()).is_none());
 }
 
 /// A set of one text that is a byte too long.

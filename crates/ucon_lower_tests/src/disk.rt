@@ -152,14 +152,14 @@ fn file_at(rt: HostRuntime, path: &str) -> Result<FileDisk<HostRuntime>, AllocEr
 }
 
 /// Whether the calls succeed that leave four bytes.
-fn leaves_four(disk: &mut FileDisk<HostRuntime>) -> bool {
+fn leave_four(disk: &mut FileDisk<HostRuntime>) -> bool {
     disk.write_at(0, b"abcdef").is_ok()
         && disk.sync().is_ok()
         && disk.cut(4).is_ok()
         && disk.sync().is_ok()
 }
 
-/// Whether the four bytes are there, and no place is too far.
+/// Whether the four bytes are there, and a place that is too far is refused.
 fn has_four(disk: &mut FileDisk<HostRuntime>) -> bool {
     let mut buf = [0; 9];
     disk.len().ok() == Some(4)
@@ -168,12 +168,29 @@ fn has_four(disk: &mut FileDisk<HostRuntime>) -> bool {
         && disk.write_at(1 << 63, b"x").is_err()
 }
 
+fn are_left(rt: HostRuntime, path: &str) -> bool {
+    match file_at(rt, path) {
+        Ok(mut disk) => leave_four(&mut disk),
+        Err(_) => false,
+    }
+}
+
+fn are_there(rt: HostRuntime, path: &str) -> bool {
+    match file_at(rt, path) {
+        Ok(mut disk) => has_four(&mut disk),
+        Err(_) => false,
+    }
+}
+
+/// Whether four bytes are left in a file and there when it is opened again, and it is removed then.
+fn is_kept(rt: HostRuntime, path: &str) -> bool {
+    are_left(rt, path) && are_there(rt, path) && fs::remove_file(&rt, path).is_ok()
+}
+
 #[test]
 fn a_real_file_is_kept(rt: HostRuntime) -> Result<(), Fail> {
     let path = own_path(&rt, "")?;
-    assert!(rt; leaves_four(&mut file_at(rt, path.as_str())?));
-    assert!(rt; has_four(&mut file_at(rt, path.as_str())?));
-    fs::remove_file(&rt, path.as_str())?;
+    assert!(rt; is_kept(rt, path.as_str()));
     Ok(())
 }
 

@@ -17,6 +17,27 @@ fn at_rest(alloc: Global, bytes: &[u8], stop_after: Option<u64>) -> Result<MemDi
     Ok(MemDisk::new(alloc, bytes.to_vec(alloc)?, Vec::new(alloc), stop_after))
 }
 
+fn put_ended(all: &mut Vec<u8>, payload: &[u8]) -> Result<(), AllocError> {
+    all.extend_from_slice(payload)?;
+    all.push(b'|')?;
+    Ok(())
+}
+
+// Puts the payloads that are read behind what is there, each ended by a bar.
+fn read_into<D: Disk>(all: &mut Vec<u8>, journal: &mut Journal<D>) -> Result<(), TakeFault>
+    requires { IsReading D.contents journal.old }
+    ensures reading { IsReading D.contents journal.new }
+    ensures ended { OnOk result (HasEnded D.contents journal.new) }
+{
+    'records: for _ in 0..u64::MAX {
+        if !journal.next()? {
+            return Ok(());
+        }
+        put_ended(all, journal.payload())?;
+    }
+    Err(TakeFault::TooLong(u64::MAX))
+}
+
 // The payloads that are read, each ended by a bar.
 fn read_all<D: Disk>(alloc: Global, journal: &mut Journal<D>) -> Result<Vec<u8>, TakeFault>
     requires { IsReading D.contents journal.old }
@@ -24,14 +45,8 @@ fn read_all<D: Disk>(alloc: Global, journal: &mut Journal<D>) -> Result<Vec<u8>,
     ensures ended { OnOk result (HasEnded D.contents journal.new) }
 {
     let mut all = Vec::new(alloc);
-    'records: for _ in 0..u64::MAX {
-        if !journal.next()? {
-            return Ok(all);
-        }
-        all.extend_from_slice(journal.payload())?;
-        all.extend_from_slice(b"|")?;
-    }
-    Err(TakeFault::TooLong(u64::MAX))
+    read_into(&mut all, journal)?;
+    Ok(all)
 }
 
 fn add<D: Disk>(journal: &mut Journal<D>, payload: &[u8]) -> Result<(), DiskFault>
@@ -230,7 +245,22 @@ fn first_other(
 /// What a file's open places are filled with.
 const FILLS: &[u8] = &[0, 1, 255];
 
-/// The same with each filling, where the disk stops at this call. All is to be found where all was added, and else perhaps a front part.
+/// The same with each filling.
+fn first_other_filled(
+    alloc: Global,
+    disk: &MemDisk,
+    wants: &[&[u8]],
+) -> Result<Option<u64>, NoMemory> {
+    for &fill in FILLS {
+        let other = first_other(alloc, disk, fill, wants)?;
+        if other.is_some() {
+            return Ok(other);
+        }
+    }
+    Ok(None)
+}
+
+/// The same where the disk stops at this call. All is to be found where all was added, and else perhaps a front part.
 fn first_other_stopped(
     alloc: Global,
     bytes: &[u8],
@@ -243,13 +273,7 @@ fn first_other_stopped(
     } else {
         0
     };
-    for &fill in FILLS {
-        let other = first_other(alloc, &disk, fill, &wants[least..])?;
-        if other.is_some() {
-            return Ok(other);
-        }
-    }
-    Ok(None)
+    first_other_filled(alloc, &disk, &wants[least..])
 }
 
 /// A file, and what may be found in it after a stop.

@@ -1,5 +1,5 @@
 use Rattle.ucon_journal.specs.Journal.{IsReading}
-use Rattle.ucon_lower_tests.proofs.journal.read_all.Given as goal
+use Rattle.ucon_lower_tests.proofs.journal.read_into.Given as goal
 
 abbrev pub invariant-records : goal.invariant-records
 invariant-records g l = IsReading g.D.Disk.contents l.journal
