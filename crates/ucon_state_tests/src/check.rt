@@ -5,15 +5,18 @@ ghost use Rattle.ucon_model.specs.Checked.{checked_policy};
 
 use std::alloc::Global;
 use std::test::Fail;
-use ucon_base::Name;
+use ucon_base::{Name, NameFault};
 use ucon_check::{AmendFault, CheckFault, check, may_follow, reads};
 use ucon_cores::{core_models, core_name};
-use ucon_model::{Checked, Ref};
+use ucon_model::{Checked, Core, Ref};
 use ucon_syntax::read_policy;
 
-/// Why a policy is refused.
-fn fault(alloc: Global, text: &[u8]) -> Result<Option<CheckFault>, Fail> {
-    Ok(check(read_policy(alloc, text)?).err())
+/// Whether this is why a policy is refused.
+fn is_fault(alloc: Global, text: &[u8], fault: CheckFault) -> bool {
+    match read_policy(alloc, text) {
+        Ok(policy) => check(policy).err() == Some(fault),
+        Err(_) => false,
+    }
 }
 
 /// Policies, the name in the first fault of each, whether it stands twice or isn't declared, and its place.
@@ -48,7 +51,7 @@ enum Named {
 }
 
 /// The fault of a name at its place.
-fn fault_of(name: &[u8], named: Named, item: u32) -> Result<CheckFault, Fail> {
+fn fault_of(name: &[u8], named: Named, item: u32) -> Result<CheckFault, NameFault> {
     let name = Name::read(name)?;
     Ok(match named {
         Named::Twice => CheckFault::Twice(name, item),
@@ -60,13 +63,16 @@ fn fault_of(name: &[u8], named: Named, item: u32) -> Result<CheckFault, Fail> {
 fn first_faults_are_told(rt: HostRuntime) -> Result<(), Fail> {
     for &(text, name, named, item) in FAULTS {
         let expected = fault_of(name, named, item)?;
-        assert!(rt; fault(rt.alloc(), text)? == Some(expected));
+        assert!(rt; is_fault(rt.alloc(), text, expected));
     }
     Ok(())
 }
 
-fn accepted(alloc: Global, text: &[u8]) -> Result<Checked, Fail> {
-    Ok(check(read_policy(alloc, text)?)?)
+fn accepted(alloc: Global, text: &[u8]) -> Option<Checked> {
+    match read_policy(alloc, text) {
+        Ok(policy) => check(policy).ok(),
+        Err(_) => None,
+    }
 }
 
 /// Three users at most.
@@ -80,43 +86,48 @@ right use {
 }
 ";
 
-/// Whether these are the names of the core models of a policy's first right.
-fn are_cores(alloc: Global, checked: &Checked, wanted: &[&[u8]]) -> Result<bool, Fail>
-    requires { 0 < length (checked_policy checked.now).rights }
-{
-    let cores = core_models(alloc, checked, 0)?;
-    let mut names = wanted.iter();
-    let mut are_same = cores.len() == wanted.len();
-    for core in cores.slice() {
-        let name = core_name(alloc, *core)?;
-        are_same = are_same && names.next() == Some(&name.as_slice());
-    }
-    Ok(are_same)
+fn is_named(alloc: Global, core: Core, name: &[u8]) -> bool {
+    matches!(core_name(alloc, core), Ok(text) if text.as_slice() == name)
 }
 
-/// Whether the first right reads the users of an object and the most of them.
-fn are_users_and_most_read(alloc: Global, checked: &Checked) -> Result<bool, Fail>
+fn are_named(alloc: Global, cores: &[Core], names: &[&[u8]]) -> bool {
+    let mut rest = names.iter();
+    for core in cores {
+        match rest.next() {
+            Some(name) if is_named(alloc, *core, *name) => {}
+            _ => return false,
+        }
+    }
+    rest.next().is_none()
+}
+
+/// Whether these are the names of the core models of a policy's first right.
+fn are_cores(alloc: Global, checked: &Checked, names: &[&[u8]]) -> bool
     requires { 0 < length (checked_policy checked.now).rights }
 {
-    let expected = [
-        Ref::Object(Name::read(b"users")?),
-        Ref::Object(Name::read(b"most")?),
-    ];
-    Ok(reads(alloc, checked, 0)?.slice() == expected.as_slice())
+    match core_models(alloc, checked, 0) {
+        Ok(cores) => are_named(alloc, cores.slice(), names),
+        Err(_) => false,
+    }
+}
+
+/// Whether a policy has one right, of these core models, which reads these places.
+fn is_right(alloc: Global, checked: &Checked, cores: &[&[u8]], places: &[Ref]) -> bool {
+    checked.policy().rights.len() == 1
+        && are_cores(alloc, checked, cores)
+        && matches!(reads(alloc, checked, 0), Ok(read) if read.slice() == places)
+}
+
+fn place(name: &[u8]) -> Result<Ref, NameFault> {
+    Ok(Ref::Object(Name::read(name)?))
 }
 
 #[test]
 fn three_users_at_most(rt: HostRuntime) -> Result<(), Fail> {
-    let checked = accepted(rt.alloc(), CAPPED)?;
-    assert!(rt; checked.policy().rights.len() == 1);
-    assert!(rt; are_cores(rt.alloc(), &checked, &[b"onA1", b"onA3"])?);
-    assert!(rt; are_users_and_most_read(rt.alloc(), &checked)?);
+    let places = [place(b"users")?, place(b"most")?];
+    let checked = accepted(rt.alloc(), CAPPED).ok_or("refused")?;
+    assert!(rt; is_right(rt.alloc(), &checked, &[b"onA1", b"onA3"], &places));
     Ok(())
-}
-
-/// Why a policy may not follow another.
-fn refusal(alloc: Global, old: &[u8], new: &[u8]) -> Result<Option<AmendFault>, Fail> {
-    Ok(may_follow(&accepted(alloc, old)?, &accepted(alloc, new)?).err())
 }
 
 const KINDS: &[u8] = b"attr o a : int 0..9 = 0; env v : text = \"\";";
@@ -130,10 +141,21 @@ const CHANGED: &[(&[u8], Option<&[u8]>)] = &[
 ];
 
 /// Why a policy of changed kind is refused.
-fn kind_changed(name: Option<&[u8]>) -> Result<Option<AmendFault>, Fail> {
+fn kind_changed(name: Option<&[u8]>) -> Result<Option<AmendFault>, NameFault> {
     match name {
         Some(name) => Ok(Some(AmendFault::KindChanged(Name::read(name)?))),
         None => Ok(None),
+    }
+}
+
+/// Whether this is why a policy may not follow the one with these kinds.
+fn is_refused(alloc: Global, new: &[u8], refusal: Option<AmendFault>) -> bool {
+    let Some(old) = accepted(alloc, KINDS) else {
+        return false;
+    };
+    match accepted(alloc, new) {
+        Some(new) => may_follow(&old, &new).err() == refusal,
+        None => false,
     }
 }
 
@@ -141,7 +163,7 @@ fn kind_changed(name: Option<&[u8]>) -> Result<Option<AmendFault>, Fail> {
 fn kinds_are_kept(rt: HostRuntime) -> Result<(), Fail> {
     for &(new, name) in CHANGED {
         let expected = kind_changed(name)?;
-        assert!(rt; refusal(rt.alloc(), KINDS, new)? == expected);
+        assert!(rt; is_refused(rt.alloc(), new, expected));
     }
     Ok(())
 }

@@ -8,7 +8,7 @@ use std::test::Fail;
 use ucon_actions::own_actions;
 use ucon_check::check;
 use ucon_command::read_command;
-use ucon_model::Caller;
+use ucon_model::{Caller, Command};
 use ucon_state::{State, each_action_is_followed};
 use ucon_syntax::read_policy;
 
@@ -21,13 +21,20 @@ pub fn opening(alloc: Global, policy: &[u8]) -> Result<State, Fail>
     Ok(State::new(alloc, checked)?)
 }
 
+fn act(alloc: Global, state: &mut State, command: &Command) -> Result<(), Fail>
+    requires { IsFollowing (shown state.old) }
+    ensures { OnOk result (IsFollowing (shown state.new)) }
+{
+    own_actions(alloc, state, Caller(0), command)?;
+    Ok(())
+}
+
 fn step(alloc: Global, state: &mut State, line: &[u8]) -> Result<(), Fail>
     requires { IsFollowing (shown state.old) }
     ensures { OnOk result (IsFollowing (shown state.new)) }
 {
     let command = read_command(alloc, line)?;
-    own_actions(alloc, state, Caller(0), &command)?;
-    Ok(())
+    act(alloc, state, &command)
 }
 
 /// Does what the lines say, and no recheck.

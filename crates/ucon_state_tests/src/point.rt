@@ -1,4 +1,6 @@
 //! Texts of checkpoints, worked out by hand.
+ghost use Rattle.ucon_actions.specs.Leads.{IsFollowing};
+ghost use Rattle.ucon_state.specs.Shown.{shown};
 
 use crate::lines::{opening, steps};
 use std::alloc::Global;
@@ -6,13 +8,14 @@ use std::test::Fail;
 use ucon_base::{Name, Side};
 use ucon_model::{SessionState, View};
 use ucon_point::{Point, PointFault, point_text, read_point};
+use ucon_state::State;
 
-/// Where the bytes are refused.
-fn place(alloc: Global, bytes: &[u8]) -> Result<Option<usize>, Fail> {
+/// Whether the bytes are refused at this place, or read.
+fn is_judged(alloc: Global, bytes: &[u8], wanted: Option<usize>) -> bool {
     match read_point(alloc, bytes) {
-        Ok(_) => Ok(None),
-        Err(PointFault::BadPlace(place)) => Ok(Some(place)),
-        Err(PointFault::NoMemory(refused)) => Err(refused)?,
+        Ok(_) => wanted.is_none(),
+        Err(PointFault::BadPlace(place)) => wanted == Some(place),
+        Err(PointFault::NoMemory(_)) => false,
     }
 }
 
@@ -111,52 +114,67 @@ const PLACES: &[(&[u8], Option<usize>)] = &[
 ];
 
 #[test]
-fn what_is_no_point_is_refused_at_its_place(rt: HostRuntime) -> Result<(), Fail> {
+fn what_is_no_point_is_refused_at_its_place(rt: HostRuntime) {
     for &(bytes, wanted) in PLACES {
-        assert!(rt; place(rt.alloc(), bytes)? == wanted, "{bytes:?}");
+        assert!(rt; is_judged(rt.alloc(), bytes, wanted), "{bytes:?}");
     }
-    Ok(())
+}
+
+/// Whether this is the text of a state after so many entries under the policy.
+fn is_text(alloc: Global, state: &State, entries: u64, policy: &[u8], text: &[u8]) -> bool {
+    matches!(point_text(alloc, entries, policy, state), Ok(written) if written.as_slice() == text)
 }
 
 /// Whether a point has this policy and so many entries, and is written as it was read.
-fn is_written(
-    alloc: Global,
-    point: &Point,
-    bytes: &[u8],
-    entries: u64,
-    policy: &[u8],
-) -> Result<bool, Fail> {
-    let text = point_text(alloc, entries, policy, &point.state)?;
-    let is_told = point.entries == entries && point.policy.slice() == policy;
-    Ok(is_told && text.as_slice() == bytes)
+fn is_written(alloc: Global, point: &Point, bytes: &[u8], entries: u64, policy: &[u8]) -> bool {
+    point.entries == entries
+        && point.policy.slice() == policy
+        && is_text(alloc, &point.state, entries, policy, bytes)
 }
 
 /// A point that is read has this policy and so many entries, and is written as it was.
-fn is_kept(alloc: Global, bytes: &[u8], entries: u64, policy: &[u8]) -> Result<bool, Fail> {
-    let point = read_point(alloc, bytes)?;
-    is_written(alloc, &point, bytes, entries, policy)
+fn is_kept(alloc: Global, bytes: &[u8], entries: u64, policy: &[u8]) -> bool {
+    match read_point(alloc, bytes) {
+        Ok(point) => is_written(alloc, &point, bytes, entries, policy),
+        Err(_) => false,
+    }
+}
+
+/// Whether this is the text of a checkpoint after these lines, from the opening state on.
+fn is_made_of(
+    alloc: Global,
+    state: &mut State,
+    policy: &[u8],
+    lines: &[&[u8]],
+    text: &[u8],
+) -> Result<bool, Fail>
+    requires { IsFollowing (shown state.old) }
+{
+    steps(alloc, state, lines)?;
+    Ok(is_text(alloc, state, lines.len() as u64, policy, text))
 }
 
 /// Whether this is the text of a checkpoint after these lines under the policy.
 fn is_made(alloc: Global, policy: &[u8], lines: &[&[u8]], text: &[u8]) -> Result<bool, Fail> {
     let mut state = opening(alloc, policy)?;
-    steps(alloc, &mut state, lines)?;
-    let made = point_text(alloc, lines.len() as u64, policy, &state)?;
-    Ok(made.as_slice() == text)
+    is_made_of(alloc, &mut state, policy, lines, text)
 }
 
-/// The place of a subject in what is read.
-fn place_of_subject(alloc: Global, bytes: &[u8], name: &[u8]) -> Result<Option<u32>, Fail> {
-    let point = read_point(alloc, bytes)?;
-    Ok(point.state.find(Side::Subject, &Name::read(name)?))
+/// Whether a subject has this place in what is read.
+fn is_subject(alloc: Global, bytes: &[u8], name: &Name, place: u32) -> bool {
+    match read_point(alloc, bytes) {
+        Ok(point) => point.state.find(Side::Subject, name) == Some(place),
+        Err(_) => false,
+    }
 }
 
 #[test]
 fn one_subject_is_written_and_read(rt: HostRuntime) -> Result<(), Fail> {
     let policy = b"right r {}\n".as_slice();
+    let a = Name::read(b"a")?;
     assert!(rt; is_made(rt.alloc(), policy, &[b"subject a"], SMALL)?);
-    assert!(rt; is_kept(rt.alloc(), SMALL, 1, policy)?);
-    assert!(rt; place_of_subject(rt.alloc(), SMALL, b"a")? == Some(0));
+    assert!(rt; is_kept(rt.alloc(), SMALL, 1, policy));
+    assert!(rt; is_subject(rt.alloc(), SMALL, &a, 0));
     Ok(())
 }
 
@@ -219,21 +237,28 @@ fn times_of(point: &Point) -> Option<(i64, i64)> {
     Some((point.state.tick().get(), act.moment.get()))
 }
 
-/// Whether tick, act and sessions of what is read are these.
-fn is_full(alloc: Global, bytes: &[u8]) -> Result<bool, Fail> {
-    let point = read_point(alloc, bytes)?;
-    let mut is_seen = true;
+/// Whether tick, act and sessions of a point are these.
+fn has_all(point: &Point) -> bool {
     for &session in SESSIONS {
-        is_seen = is_seen && seen(&point, session.0) == Some(session);
+        if seen(point, session.0) != Some(session) {
+            return false;
+        }
     }
-    Ok(is_seen && times_of(&point) == Some((5, 2)))
+    times_of(point) == Some((5, 2))
+}
+
+/// Whether they are those of what is read.
+fn is_full(alloc: Global, bytes: &[u8]) -> bool {
+    match read_point(alloc, bytes) {
+        Ok(point) => has_all(&point),
+        Err(_) => false,
+    }
 }
 
 #[test]
-fn all_sorts_of_rows_are_read(rt: HostRuntime) -> Result<(), Fail> {
-    assert!(rt; is_kept(rt.alloc(), FULL, 7, POLICY)?);
-    assert!(rt; is_full(rt.alloc(), FULL)?);
-    Ok(())
+fn all_sorts_of_rows_are_read(rt: HostRuntime) {
+    assert!(rt; is_kept(rt.alloc(), FULL, 7, POLICY));
+    assert!(rt; is_full(rt.alloc(), FULL));
 }
 
 /// As before, with a right that denies and one that waits.
