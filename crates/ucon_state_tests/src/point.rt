@@ -12,10 +12,10 @@ use ucon_state::State;
 
 /// Whether the bytes are refused at this place, or read.
 fn is_judged(alloc: Global, bytes: &[u8], wanted: Option<usize>) -> bool {
-    match read_point(alloc, bytes) {
-        Ok(_) => wanted.is_none(),
-        Err(PointFault::BadPlace(place)) => wanted == Some(place),
-        Err(PointFault::NoMemory(_)) => false,
+    match read_point(alloc, bytes).err() {
+        None => wanted.is_none(),
+        Some(PointFault::BadPlace(place)) => wanted == Some(place),
+        Some(PointFault::NoMemory(_)) => false,
     }
 }
 
@@ -132,14 +132,6 @@ fn is_written(alloc: Global, point: &Point, bytes: &[u8], entries: u64, policy: 
         && is_text(alloc, &point.state, entries, policy, bytes)
 }
 
-/// A point that is read has this policy and so many entries, and is written as it was.
-fn is_kept(alloc: Global, bytes: &[u8], entries: u64, policy: &[u8]) -> bool {
-    match read_point(alloc, bytes) {
-        Ok(point) => is_written(alloc, &point, bytes, entries, policy),
-        Err(_) => false,
-    }
-}
-
 /// Whether this is the text of a checkpoint after these lines, from the opening state on.
 fn is_made_of(
     alloc: Global,
@@ -158,24 +150,6 @@ fn is_made_of(
 fn is_made(alloc: Global, policy: &[u8], lines: &[&[u8]], text: &[u8]) -> Result<bool, Fail> {
     let mut state = opening(alloc, policy)?;
     is_made_of(alloc, &mut state, policy, lines, text)
-}
-
-/// Whether a subject has this place in what is read.
-fn is_subject(alloc: Global, bytes: &[u8], name: &Name, place: u32) -> bool {
-    match read_point(alloc, bytes) {
-        Ok(point) => point.state.find(Side::Subject, name) == Some(place),
-        Err(_) => false,
-    }
-}
-
-#[test]
-fn one_subject_is_written_and_read(rt: HostRuntime) -> Result<(), Fail> {
-    let policy = b"right r {}\n".as_slice();
-    let a = Name::read(b"a")?;
-    assert!(rt; is_made(rt.alloc(), policy, &[b"subject a"], SMALL)?);
-    assert!(rt; is_kept(rt.alloc(), SMALL, 1, policy));
-    assert!(rt; is_subject(rt.alloc(), SMALL, &a, 0));
-    Ok(())
 }
 
 const POLICY: &[u8] = b"attr s n : int 0..9 = 3;
@@ -208,8 +182,10 @@ session 3 r a b revoked 3
 session 63 r a b ended 2
 ";
 
-/// Number, caller, state and start of each of its sessions.
-const SESSIONS: &[(u32, u8, SessionState, i64)] = &[
+/// Number, caller, state and start of a session.
+type Session = (u32, u8, SessionState, i64);
+
+const SESSIONS: &[Session] = &[
     (1, 0, SessionState::Requesting, 0),
     (2, 1, SessionState::Denied, 0),
     (3, 2, SessionState::Accessing, 5),
@@ -218,7 +194,7 @@ const SESSIONS: &[(u32, u8, SessionState, i64)] = &[
 ];
 
 /// What is known of a session of the right `r` by `a` on `b`.
-fn seen(point: &Point, number: u32) -> Option<(u32, u8, SessionState, i64)> {
+fn seen(point: &Point, number: u32) -> Option<Session> {
     let found = point.state.session(number)?;
     let names = [
         found.right.bytes(),
@@ -237,28 +213,48 @@ fn times_of(point: &Point) -> Option<(i64, i64)> {
     Some((point.state.tick().get(), act.moment.get()))
 }
 
-/// Whether tick, act and sessions of a point are these.
-fn has_all(point: &Point) -> bool {
-    for &session in SESSIONS {
+/// Whether a point has this first subject, these sessions and these times.
+fn has_rows(point: &Point, name: &Name, sessions: &[Session], times: Option<(i64, i64)>) -> bool {
+    for &session in sessions {
         if seen(point, session.0) != Some(session) {
             return false;
         }
     }
-    times_of(point) == Some((5, 2))
+    point.state.find(Side::Subject, name) == Some(0) && times_of(point) == times
 }
 
-/// Whether they are those of what is read.
-fn is_full(alloc: Global, bytes: &[u8]) -> bool {
+/// A point that is read is written as it was, and has this policy, so many entries, `a` as its first subject, and these rows.
+fn is_kept(
+    alloc: Global,
+    bytes: &[u8],
+    entries: u64,
+    policy: &[u8],
+    sessions: &[Session],
+    times: Option<(i64, i64)>,
+) -> bool {
+    let Ok(a) = Name::read(b"a") else {
+        return false;
+    };
     match read_point(alloc, bytes) {
-        Ok(point) => has_all(&point),
+        Ok(point) => {
+            is_written(alloc, &point, bytes, entries, policy)
+                && has_rows(&point, &a, sessions, times)
+        }
         Err(_) => false,
     }
 }
 
 #[test]
+fn one_subject_is_written_and_read(rt: HostRuntime) -> Result<(), Fail> {
+    let policy = b"right r {}\n".as_slice();
+    assert!(rt; is_made(rt.alloc(), policy, &[b"subject a"], SMALL)?);
+    assert!(rt; is_kept(rt.alloc(), SMALL, 1, policy, &[], None));
+    Ok(())
+}
+
+#[test]
 fn all_sorts_of_rows_are_read(rt: HostRuntime) {
-    assert!(rt; is_kept(rt.alloc(), FULL, 7, POLICY));
-    assert!(rt; is_full(rt.alloc(), FULL));
+    assert!(rt; is_kept(rt.alloc(), FULL, 7, POLICY, SESSIONS, Some((5, 2))));
 }
 
 /// As before, with a right that denies and one that waits.
