@@ -64,13 +64,13 @@ impl<E: Engine> Loaded<E> {
         if !self.drafts(alloc, &entry, payload)? {
             return Ok(false);
         }
-        self.entries.reserve(1)?;
         self.engine.keep();
         add(&mut self.entries, entry);
         Ok(true)
     }
 
-    /// Drafts a payload's entry. Whether the engine's reply changes something, and spelled with the entry is the payload: then the step is pending.
+    /// Makes room for a payload's entry and drafts it. Whether the engine's reply changes something, and spelled with the entry is the payload: then
+    /// the step is pending.
     fn drafts(&mut self, alloc: Global, entry: &Entry, payload: &[u8]) -> Result<bool, NoMemory>
         requires standing { IsStanding E.follows self.old }
         requires short { length payload.now ≤ MAX_PAYLOAD }
@@ -81,10 +81,13 @@ impl<E: Engine> Loaded<E> {
         ensures taken { IfOk result (λ same. same ≡ true
             → TakingGives self.old payload.now (Some (self.old.entries.items ++ entry.now ∷ []))) }
         ensures wrong { IfOk result (λ same. same ≡ false → TakingGives self.old payload.now None) }
-        ensures rest { self.new ≡ record self.old { engine = self.new.engine; payload = self.new.payload } }
+        ensures room { OnOk result (1 ≤ self.new.entries.spare) }
+        ensures entries { self.new.entries.items ≡ self.old.entries.items }
+        ensures rest { self.new ≡ record self.old { engine = self.new.engine; entries = self.new.entries; payload = self.new.payload } }
     {
         payloads_are_read_back();
         texts_tell_changes();
+        self.entries.reserve(1)?;
         let mut steps = Steps::new();
         let drafted = self.engine.draft(entry.caller, &entry.command, &mut steps)?;
         if !drafted.changes {

@@ -21,8 +21,7 @@ returns-in-Err-BadPlace-clause-wrong g c = λ _ P T accepts start.
 pub returns-clause-taken : goal.returns-clause-taken
 returns-clause-taken g c = λ _ P T accepts start.
     let same : c.in_ok-drafts.field-0 ≡ true = search rules in
-    let kept = ap (λ (l : Loaded g.row.E.Denot). l.entries.items) c.drafts.ensures.rest in
-    let added = c.add.ensures ∙ ap (λ (l : List Entry). l ++ c.in-Ok.entry ∷ []) (c.in_ok-reserve.ensures.items ∙ kept) in
+    let added = c.add.ensures ∙ ap (λ (l : List Entry). l ++ c.in-Ok.entry ∷ []) c.drafts.ensures.entries in
     c.in_ok-drafts.ensures.taken same P T accepts start ∙ ap (λ (l : List Entry). Some l) (sym added)
 
 pub returns-clause-standing : goal.returns-clause-standing
@@ -32,8 +31,7 @@ returns-clause-standing g c = λ _.
     let standing = c.requires.standing in
     let Q = standing.P in
     let same : c.in_ok-drafts.field-0 ≡ true = search rules in
-    let kept = ap (λ (l : Loaded g.row.E.Denot). l.entries.items) c.drafts.ensures.rest in
-    let added = c.add.ensures ∙ ap (λ (l : List Entry). l ++ e ∷ []) (c.in_ok-reserve.ensures.items ∙ kept) in
+    let added = c.add.ensures ∙ ap (λ (l : List Entry). l ++ e ∷ []) c.drafts.ensures.entries in
     let pending : (T : Trace) → IsStart Q (payload_in c.args.self.now.point) c.args.self.now.before T
     → g.E.Engine.has_pending c.drafts.new.self.engine Q (trace_from Q T H) e =
     λ T start. c.in_ok-drafts.ensures.pending same Q (trace_from Q T H) (standing.stands T start) in
