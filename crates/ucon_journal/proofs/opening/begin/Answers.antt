@@ -54,8 +54,8 @@ module _ (g : Over) (c : In_ok-write_synced g) where
   made =
       begun (g.D.Disk.contents c.args.disk.now) (g.D.Disk.contents c.write_synced.new.disk)
       (if_told (g.D.Disk.contents c.args.disk.now) (λ file. length file ≤ 9) (λ file told.
-          let size = told_at (λ (l : List ℕ). c.in_ok-len.len ≡ length l) file (c.in_ok-sync.ensures.contents ∙ told) c.in_ok-len.ensures.length in
-          omega (arith, size, c.if-len.true)))
+      let size = told_at (λ (l : List ℕ). c.in_ok-len.len ≡ length l) file (c.in_ok-sync.ensures.contents ∙ told) c.in_ok-len.ensures.length in
+      omega (arith, size, c.if-len.true)))
       (c.in_ok-write_synced.ensures.written ∙ ap (option_map (overwritten 0 (journal_bytes newest []))) (c.len.ensures.contents ∙ c.in_ok-sync.ensures.contents))
 
 pub returns-then-len-clause-version : goal.returns-then-len-clause-version
