@@ -4,7 +4,7 @@ use Rattle.ucon_base.specs.declared.members.Found.{Found}
 use Rattle.ucon_base.specs.declared.value_fault.ValueFault.{ValueFault}
 use Rattle.ucon_base.specs.Elements.{Each}
 use Rattle.ucon_base.specs.TextBytes.{is_text}
-use Rattle.ucon_base.specs.Reading.{Member, awaiting, members, first_long}
+use Rattle.ucon_base.specs.Reading.{Member, inside, behind, awaiting, before, members, first_long}
 
 -- the texts that are kept
 abbrev pub texts_seen : Found → List (List ℕ)
@@ -30,6 +30,14 @@ IsFound (Err f) found = ⊥
 abbrev pub after_quote : List ℕ → Option (List ℕ)
 after_quote [] = None
 after_quote (b ∷ bs) = if b == 34 then Some bs else None
+
+-- the members that the bytes behind a `"` at a place say, the text before it given
+abbrev pub member_read : Option (List ℕ) → ℕ → List ℕ → Result (List Member) ValueFault
+member_read last at bs = members last (inside at []) (at + 1) bs
+
+-- a text whose `"` is at a place, before the members that the bytes behind its closing quote say
+abbrev pub with_member : ℕ → List ℕ → List ℕ → Result (List Member) ValueFault
+with_member at text bs = before (record { at = at; text = text }) (members (Some text) behind (at + (length text + 2)) bs)
 
 -- what is said behind a text: of the bytes behind a `,`, or of no more
 abbrev pub awaited : Option (List ℕ) → ℕ → Option (List ℕ) → Result (List Member) ValueFault

@@ -2,8 +2,8 @@
 
 ghost use Rattle.std.specs.Prelude.{◌≡◌, ◌+◌, ◌≤◌, ◌<◌, ◌++◌, ◌∷◌, List, ℕ, [], map, length, None, option_copied, IfOk, IfSome, MatchResult, Option, Ok, Err, Some, false};
 ghost use Rattle.ucon_base.specs.declared.value.Value.TheVariants.{Set};
-ghost use Rattle.ucon_base.specs.Reading.{Member, rises, can_rise, inside, opened, behind, awaiting, before, members, IsCause, set_read, spells_set};
-ghost use Rattle.ucon_base.specs.Members.{Holds, IsFound, texts_seen, long_at, after_quote, awaited, EachIsText};
+ghost use Rattle.ucon_base.specs.Reading.{Member, rises, can_rise, opened, behind, awaiting, members, IsCause, set_read, spells_set};
+ghost use Rattle.ucon_base.specs.Members.{Holds, IsFound, texts_seen, long_at, after_quote, awaited, member_read, with_member, EachIsText};
 
 use crate::reading::text_len;
 use crate::text_set::of_rising;
@@ -135,9 +135,8 @@ fn member<'a>(
     bytes: &'a [u8],
 ) -> Result<(&'a [u8], &'a [u8]), ValueFault>
     requires { at + length bytes.now < usize.MAX }
-    ensures read { MatchResult result
-        (λ r. members (option_copied last.entry) (inside at []) (at + 1) bytes.now ≡ before (record { at = at; text = r.0.now }) (members (Some r.0.now) behind (at + (length r.0.now + 2)) r.1.now))
-        (λ f. members (option_copied last.entry) (inside at []) (at + 1) bytes.now ≡ Err f) }
+    ensures read { MatchResult result (λ r. member_read (option_copied last.entry) at bytes.now ≡ with_member at r.0.now r.1.now)
+        (λ f. member_read (option_copied last.entry) at bytes.now ≡ Err f) }
     ensures shorter { IfOk result (λ r. length r.0.now + 1 + length r.1.now ≡ length bytes.now) }
 {
     let (text, rest) = bytes.split_at(text_len(bytes));

@@ -2,6 +2,7 @@
 
 ghost use Rattle.std.specs.Prelude.{◌≡◌, ◌+◌, ◌/◌, ◌%◌, ◌<◌, ◌≤◌, ◌∷◌, [], ◌++◌, MatchResult, vec_capacity, vec_len};
 ghost use Rattle.std.specs.Fmt.{decimal, signed_decimal};
+ghost use Rattle.ucon_base.specs.Numbers.{InRange};
 
 use crate::{Int, NoMemory};
 use itoa::Buffer;
@@ -79,9 +80,10 @@ fn push_pair(out: &mut Vec<u8>, n: u64)
 static PAIRS: [u8; 200] =
     *b"00010203040506070809101112131415161718192021222324252627282930313233343536373839404142434445464748495051525354555657585960616263646566676869707172737475767778798081828384858687888990919293949596979899";
 
-/// Adds an integer in decimal, or nothing where there is no memory.
+/// Adds an integer in decimal, or nothing where there is no memory, and tells that it is in its range.
 pub fn put_integer(out: &mut Vec<u8>, n: Int) -> Result<(), NoMemory>
-    ensures { MatchResult result (λ _. out.new.items ≡ out.old.items ++ signed_decimal n) (λ _. out.new.items ≡ out.old.items) }
+    ensures text { MatchResult result (λ _. out.new.items ≡ out.old.items ++ signed_decimal n) (λ _. out.new.items ≡ out.old.items) }
+    ensures in_range { InRange n }
 {
     let mut digits = Buffer::new();
     put(out, digits.format(n.get()).as_bytes())

@@ -9,8 +9,8 @@ loop-b-init c = record {
   small = omega arith;
 }
 
-pub returns-then-n-gt100000000000000 : goal.returns-then-n-gt100000000000000
-returns-then-n-gt100000000000000 c =
+pub returns-then-n-gt100000000000000-clause-value : goal.returns-then-n-gt100000000000000-clause-value
+returns-then-n-gt100000000000000-clause-value c =
     elim c.then-n-gt100000000000000.branch [
       | then-n-gt100000000000000-via-then-n-gt100000000000000 w ↦
           ap (option_map pos) (too_great c.loop-b.n c.loop-b.b-index c.args.bytes.now _ c.loop-b-test.true w.if-n-gt100000000000000.true c.loop-b.invariant.value)
