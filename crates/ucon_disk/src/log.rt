@@ -1,6 +1,6 @@
 //! What a disk in memory keeps: its bytes, and a record of all calls.
 
-ghost use Rattle.std.specs.Prelude.{◌≡◌, ◌+◌, ◌≤◌, ◌<◌, ◌^◌, true, [], List, ℕ, length, take, map, IfOk, OnOk, OnErr};
+ghost use Rattle.std.specs.Prelude.{◌≡◌, ◌+◌, ◌≤◌, ◌<◌, ◌^◌, true, [], List, ℕ, length, take, IfOk, OnOk, OnErr};
 ghost use Rattle.ucon_disk.specs.Disk.{overwritten};
 ghost use Rattle.ucon_disk.specs.Image.{step, wrote, cut_to};
 ghost use Rattle.ucon_disk.specs.History.{recorded, state_now};
@@ -30,16 +30,15 @@ pub(crate) struct Log {
 }
 
 impl Model for Log {
-    ghost use Rattle.std.specs.Prelude.{◌≡◌, map};
+    ghost use Rattle.std.specs.Prelude.{◌≡◌};
     ghost use Rattle.ucon_disk.specs.History.{History, state_now};
-    ghost use Rattle.ucon_disk.specs.Recorded.{change_of};
-    ghost use Rattle.ucon_disk.specs.Started.{start_of};
+    ghost use Rattle.ucon_disk.specs.Recorded.{history_recorded};
 
     ghost Value = { History };
 
-    ghost view = { λ l. record { start = start_of l.first l.bytes.items; changes = map change_of l.calls.items } };
+    ghost view = { λ l. history_recorded l.first l.bytes.items l.calls.items };
 
-    ghost invariant = { λ l. (state_now (record { start = start_of l.first l.bytes.items; changes = map change_of l.calls.items })).file ≡ l.bytes.items };
+    ghost invariant = { λ l. (state_now (history_recorded l.first l.bytes.items l.calls.items)).file ≡ l.bytes.items };
 }
 
 impl Log {

@@ -28,6 +28,10 @@ payloads_after zero (byte ∷ rest) = if counts (byte ∷ rest) then payload_at 
 abbrev pub payloads_from : List ℕ → ℕ → List (List ℕ)
 payloads_from file gate = payloads_after 0 (drop gate file)
 
+-- the next payload from a gate on has more than so many bytes
+abbrev pub NextIsLonger : ℕ → List ℕ → ℕ → Type 0
+NextIsLonger most file gate = (p : List ℕ) × (ps : List (List ℕ)) × (payloads_from file gate ≡ p ∷ ps) × (most < length p)
+
 -- From a gate on the first records are of these payloads, and lead to another gate; the others are of those.
 pub record LeadTo (file : List ℕ) (from : ℕ) (ps : List (List ℕ)) (to : ℕ) (qs : List (List ℕ)) : Type 0 where
   pub are : payloads_from file from ≡ ps ++ qs

@@ -1,6 +1,7 @@
 -- The bytes of a journal.
 use Rattle.std.specs.Prelude.{ℕ, ◌+◌, ◌^◌, ◌<◌, ◌≤◌, List, [], ◌∷◌, ◌++◌, length}
 use Rattle.std.specs.Int.{w32, to_be_bytes}
+use Rattle.ucon_base.specs.Elements.{Each}
 
 -- the versions that there are
 abbrev pub IsVersion : ℕ → Type 0
@@ -28,5 +29,4 @@ journal_bytes version payloads = magic version ++ records payloads ++ 0 ∷ []
 
 -- four bytes can tell each length
 abbrev pub AreShort : List (List ℕ) → Type 0
-AreShort [] = Unit {0}
-AreShort (payload ∷ payloads) = (length payload < 2 ^ 32) × AreShort payloads
+AreShort payloads = Each (λ (payload : List ℕ). length payload < 2 ^ 32) payloads

@@ -8,7 +8,7 @@ ghost use Rattle.ucon_disk.specs.Causes.{HasCause, raised};
 ghost use Rattle.ucon_disk.specs.Disk.{Only, SameImages};
 ghost use Rattle.ucon_disk.specs.Run.{LeavesOnly, LeavesAfter};
 ghost use Rattle.ucon_journal.specs.JournalBytes.{IsVersion, AreShort, records, journal_bytes};
-ghost use Rattle.ucon_journal.specs.Found.{found, version_told, counted, payloads_from, counts, length_told, LeadTo};
+ghost use Rattle.ucon_journal.specs.Found.{found, version_told, counted, payloads_from, counts, length_told, LeadTo, NextIsLonger};
 ghost use Rattle.ucon_journal.specs.Found as finding;
 ghost use Rattle.ucon_journal.specs.Opened.{opened, shut_at, with_payload, Untouched, SamePayloads, PerhapsAdded};
 
@@ -103,7 +103,7 @@ impl<D: Disk> Journal<D> {
         ensures advance { result ≡ Ok true → gate_of self.new ≡ gate_of self.old + 5 + length (payload_of self.new) }
         ensures ended { IfOk result (λ more. more ≡ false → HasEnded D.contents self.new) }
         ensures too_long { IfErr result (λ e. (place : ℕ) → e ≡ TakeFault.TooLong place → (place ≡ gate_of self.old)
-            × IfSome (D.contents (disk_of self.old)) (λ file. ((p : List ℕ) × (ps : List (List ℕ)) × (payloads_from file place ≡ p ∷ ps) × (MAX_PAYLOAD < length p)))) }
+            × IfSome (D.contents (disk_of self.old)) (λ file. NextIsLonger MAX_PAYLOAD file place)) }
         ensures stays { result ≢ Ok true → gate_of self.new ≡ gate_of self.old }
         ensures version { version_of self.new ≡ version_of self.old }
 
