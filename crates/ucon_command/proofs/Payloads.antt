@@ -21,7 +21,6 @@ use Rattle.ucon_model.specs.Plain.{Bytes, PlainPolicy, PlainReply}
 use Rattle.ucon_model.specs.ReplyText.{IsReply, reply_read}
 use Rattle.ucon_model.specs.Spelling.{reply_spelling}
 use Rattle.ucon_model.specs.declared.reply.Reply.{Reply}
-use Rattle.ucon_model.specs.Views.{reply_of}
 use Rattle.ucon_command.specs.declared.payload_fault.PayloadFault.{PayloadFault}
 use Rattle.ucon_command.specs.declared.payload_fault.PayloadFault.TheVariants.{BadPlace}
 use Rattle.ucon_command.specs.Payloads.{IsBadAt, entry_read, most_told, told_of}
@@ -72,11 +71,6 @@ payload_short commands replies t lt is_command is_reply =
       length-append (decimal t.caller.0) (32 ∷ (command_spelling t.command ++ 10 ∷ reply_spelling t.reply)),
       length-append (command_spelling t.command) (10 ∷ reply_spelling t.reply),
     )
-
--- the same, of what the code holds
-pub text_short : CommandsAreShort → RepliesAreShort → (caller : Caller) (command : Command) (reply : Reply) → caller.0 < 2 ^ 8 → IsCommand command → IsReply (reply_of reply)
-    → length (payload_spelling (told_of caller command reply)) ≤ most_told (reply_of reply)
-text_short commands replies caller command reply lt is_command is_reply = payload_short commands replies (told_of caller command reply) lt is_command is_reply
 
 -- ---- what is read is what is written
 

@@ -1,12 +1,13 @@
 //! Commands as text.
 
-ghost use Rattle.std.specs.Prelude.{◌≡◌, ◌≤◌, ◌++◌, ◌∷◌, length, codes, IfOk, OnOk, Ok};
+ghost use Rattle.std.specs.Prelude.{◌≡◌, ◌≤◌, ◌++◌, ◌∷◌, length, codes, IfOk, IsTrue, OnOk, Ok};
+ghost use Rattle.ucon_base.specs.NameBytes.{is_name};
 ghost use Rattle.ucon_base.specs.Spelling.{side_word};
-ghost use Rattle.ucon_model.specs.CommandLine.{command_spelling, line_read, most_bytes};
+ghost use Rattle.ucon_model.specs.Amending.{IsAmendment};
+ghost use Rattle.ucon_model.specs.CommandLine.{IsCommand, command_spelling, line_read, most_bytes};
 ghost use Rattle.ucon_model.specs.Output.{Lacks};
 ghost use Rattle.ucon_syntax.specs.Policies.{accepted};
 
-use crate::in_form::command_in_form;
 use crate::laws::commands_are_read_back;
 use std::alloc::Global;
 use ucon_base::{Name, NoMemory, Side, put, put_integer};
@@ -16,22 +17,22 @@ use ucon_reply::{put_name, put_session, put_value};
 /// The one line that reads as the command, without a newline: at most 65,542 bytes for an amendment, and 8192 for any other.
 pub fn command_text(alloc: Global, command: &Command) -> Result<Vec<u8>, NoMemory>
     ensures text { IfOk result (λ t. t.items ≡ command_spelling command.now) }
-    ensures read_back { line_read accepted (command_spelling command.now) ≡ Ok command.now }
-    ensures one_line { Lacks 10 (command_spelling command.now) }
-    ensures short { length (command_spelling command.now) ≤ most_bytes (command_spelling command.now) }
+    ensures read_back { IfOk result (λ t. line_read accepted t.items ≡ Ok command.now) }
+    ensures one_line { IfOk result (λ t. Lacks 10 t.items) }
+    ensures short { IfOk result (λ t. length t.items ≤ most_bytes t.items) }
 {
     commands_are_read_back();
-    command_in_form(command);
     let mut text = Vec::new(alloc);
     put_command(alloc, &mut text, command)?;
     Ok(text)
 }
 
-/// Adds the one line that reads as the command, without a newline, as [`command_text`] gives it. Where there is no memory, some of it may stand
-/// there: a caller gives the text up.
+/// Adds the one line that reads as the command, without a newline, as [`command_text`] gives it, and tells that the command is in form. Where there
+/// is no memory, some of it may stand there: a caller gives the text up.
 #[tactic(auto, unfolding(ucon_model::specs::CommandLine::command_spelling))]
 pub fn put_command(alloc: Global, out: &mut Vec<u8>, command: &Command) -> Result<(), NoMemory>
-    ensures { OnOk result (out.new.items ≡ out.old.items ++ command_spelling command.now) }
+    ensures text { OnOk result (out.new.items ≡ out.old.items ++ command_spelling command.now) }
+    ensures in_form { OnOk result (IsCommand command.now) }
 {
     match command {
         Command::Subject(name) => put_named(out, b"subject", name),
@@ -74,7 +75,8 @@ pub fn put_command(alloc: Global, out: &mut Vec<u8>, command: &Command) -> Resul
 
 /// Adds a word, a space and a name.
 fn put_named(out: &mut Vec<u8>, word: &[u8], name: &Name) -> Result<(), NoMemory>
-    ensures { OnOk result (out.new.items ≡ out.old.items ++ (word.now ++ 32 ∷ name.now)) }
+    ensures text { OnOk result (out.new.items ≡ out.old.items ++ (word.now ++ 32 ∷ name.now)) }
+    ensures in_form { OnOk result (IsTrue (is_name name.now)) }
 {
     put(out, word)?;
     put_name(out, name)
@@ -82,7 +84,8 @@ fn put_named(out: &mut Vec<u8>, word: &[u8], name: &Name) -> Result<(), NoMemory
 
 /// Adds a word and three names, each behind a space.
 fn put_names(out: &mut Vec<u8>, word: &[u8], a: &Name, b: &Name, c: &Name) -> Result<(), NoMemory>
-    ensures { OnOk result (out.new.items ≡ out.old.items ++ (word.now ++ 32 ∷ a.now ++ 32 ∷ b.now ++ 32 ∷ c.now)) }
+    ensures text { OnOk result (out.new.items ≡ out.old.items ++ (word.now ++ 32 ∷ a.now ++ 32 ∷ b.now ++ 32 ∷ c.now)) }
+    ensures in_form { OnOk result (IsTrue (is_name a.now) × IsTrue (is_name b.now) × IsTrue (is_name c.now)) }
 {
     put_named(out, word, a)?;
     put_name(out, b)?;
@@ -97,7 +100,8 @@ fn put_place(
     name: &Name,
     attr: &Name,
 ) -> Result<(), NoMemory>
-    ensures { OnOk result (out.new.items ≡ out.old.items ++ (word.now ++ side_word side ++ 32 ∷ name.now ++ 32 ∷ attr.now)) }
+    ensures text { OnOk result (out.new.items ≡ out.old.items ++ (word.now ++ side_word side ++ 32 ∷ name.now ++ 32 ∷ attr.now)) }
+    ensures in_form { OnOk result (IsTrue (is_name name.now) × IsTrue (is_name attr.now)) }
 {
     put(out, word)?;
     put_named(out, side.word(), name)?;
@@ -106,7 +110,8 @@ fn put_place(
 
 /// Adds the word and the policy's text.
 fn put_amendment(out: &mut Vec<u8>, amend: &Amend) -> Result<(), NoMemory>
-    ensures { OnOk result (out.new.items ≡ out.old.items ++ (codes "amend " ++ amend.now.text)) }
+    ensures text { OnOk result (out.new.items ≡ out.old.items ++ (codes "amend " ++ amend.now.text)) }
+    ensures in_form { OnOk result (IsAmendment amend.now) }
 {
     put(out, b"amend ")?;
     put(out, amend.text())

@@ -1,8 +1,8 @@
 //! Judges a line: by its form, where its words stand, or why it spells no command.
 
-ghost use Rattle.std.specs.Prelude.{◌≡◌, ◌<◌, ◌≤◌, ◌^◌, length, nat_lt, codes, Err, IfErr, IfSome, IsFalse, MatchResult, Some};
+ghost use Rattle.std.specs.Prelude.{◌≡◌, ◌<◌, ◌≤◌, length, nat_lt, codes, Err, IfErr, IfSome, IsFalse, MatchResult};
 ghost use Rattle.std.specs.Str.{bytes_eq};
-ghost use Rattle.ucon_model.specs.CommandLine.{command_read, line_read, most_bytes, number_in, words_of};
+ghost use Rattle.ucon_model.specs.CommandLine.{command_read, line_read, most_bytes, words_of};
 ghost use Rattle.ucon_syntax.specs.Policies.{accepted};
 ghost use Rattle.ucon_command.specs.Cuts.{AreCuts, GivesCuts, IsSecond};
 ghost use Rattle.ucon_command.specs.Faults.{IsRefusal, IsSure, amends};
@@ -16,7 +16,7 @@ use crate::laws::commands_are_read_back;
 use crate::line_fault::LineFault;
 use std::alloc::Global;
 use ucon_base::Int;
-use ucon_reply::{integer_in_form, next_word, number_in, number_in_form, words_are_read_back};
+use ucon_reply::{next_word, number_in, words_are_read_back};
 
 /// Where the words of a line's command stand, or the first refusal. A line of too many bytes is refused before any memory is taken,
 /// and of another line than an amendment each refusal is told whatever memory there is.
@@ -54,29 +54,19 @@ fn plain_cuts(line: &[u8]) -> Option<Cuts>
     commands_are_read_back();
     words_are_read_back();
     if line.starts_with(b"beat ") {
-        return Some(Cuts::Beat(session_number(&line[5..])?));
+        return Some(Cuts::Beat(number_in(&line[5..])?));
     }
     if line.starts_with(b"again ") {
-        return Some(Cuts::Again(session_number(&line[6..])?));
+        return Some(Cuts::Again(number_in(&line[6..])?));
     }
     if line.starts_with(b"end ") {
-        return Some(Cuts::End(session_number(&line[4..])?));
+        return Some(Cuts::End(number_in(&line[4..])?));
     }
     if line.starts_with(b"tick ") {
-        integer_in_form(Int::read(&line[5..])?);
+        Int::read(&line[5..])?;
         return Some(Cuts::Tick { tick: 5 });
     }
     None
-}
-
-/// The session's number that the bytes spell, which is below 2^32.
-#[inline(always)]
-fn session_number(bytes: &[u8]) -> Option<u32>
-    ensures { IfSome result (λ n. (number_in bytes.now ≡ Some n) × (n < 2 ^ 32)) }
-{
-    let n = number_in(bytes)?;
-    number_in_form(n);
-    Some(n)
 }
 
 /// `try`: most lines are of this form.

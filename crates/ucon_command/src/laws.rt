@@ -33,7 +33,7 @@ pub fn commands_are_read_back()
     texts_lack_bytes();
 }
 
-/// Each step's payload is read as the step, and bytes that are read are the payload of the step read. Every payload fits its record.
+/// The payload of each step that can be spelled is read as the step and fits its record, and bytes that are read are the payload of the step read.
 pub fn payloads_are_read_back()
     ensures written { (t : Told) → IsStep t → payload_read accepted (payload_spelling t) ≡ Ok t }
     ensures read { (bytes : Bytes) (t : Told) → payload_read accepted bytes ≡ Ok t → (payload_spelling t ≡ bytes) × (t.caller.0 < 64) }

@@ -7,7 +7,6 @@ mod commands;
 mod cuts;
 mod cutting;
 mod forms;
-mod in_form;
 mod judging;
 mod kinds;
 mod laws;

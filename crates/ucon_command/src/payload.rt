@@ -3,16 +3,15 @@
 ghost use Rattle.std.specs.Prelude.{◌≡◌, ◌<◌, ◌≤◌, ◌+◌, ◌-◌, ◌^◌, ◌==◌, ◌++◌, ◌↔◌, ℕ, IsTrue, length, ok_or, position, IfOk, OnOk, IfSome, MatchOption, MatchResult, Ok, Err, None, Some};
 ghost use Rattle.std.specs.Fmt.{decimal};
 ghost use Rattle.std.specs.Result.{result_ok};
-ghost use Rattle.ucon_model.specs.CommandLine.{line_read};
+ghost use Rattle.ucon_model.specs.CommandLine.{IsCommand, line_read};
 ghost use Rattle.ucon_model.specs.Output.{cut_at};
 ghost use Rattle.ucon_model.specs.Payload.{Told, caller_read, entry_told, payload_read, payload_spelling, step_read};
-ghost use Rattle.ucon_model.specs.ReplyText.{reply_read};
+ghost use Rattle.ucon_model.specs.ReplyText.{IsReply, reply_read};
 ghost use Rattle.ucon_model.specs.Views.{reply_of};
 ghost use Rattle.ucon_syntax.specs.Policies.{accepted};
 ghost use Rattle.ucon_command.specs.Payloads.{GivesStep, IsBadAt, entry_read, most_told, told_of};
 
 use crate::commands::put_command;
-use crate::in_form::command_in_form;
 use crate::laws::{commands_are_read_back, payloads_are_read_back};
 use crate::line_fault::LineFault;
 use crate::lines::read_command;
@@ -21,26 +20,11 @@ use itoa::Buffer;
 use std::alloc::Global;
 use ucon_base::{NoMemory, put};
 use ucon_model::{Caller, Command, Entry, Reply, texts_lack_bytes};
-use ucon_reply::{
-    ReplyFault, put_session, put_spelling, read_reply, replies_are_read_back, reply_in_form,
-};
+use ucon_reply::{ReplyFault, put_session, put_spelling, read_reply, replies_are_read_back};
 
-/// Of each step of one of the 64 clients the payload is read back, and no payload is longer than its reply lets it be.
-#[tactic(auto, using(crate::proofs::Payloads::text_short))]
-fn step_in_form(caller: Caller, command: &Command, reply: &Reply)
-    ensures read_back { caller.0 < 64
-        → payload_read accepted (payload_spelling (told_of caller command.now reply.now)) ≡ Ok (told_of caller command.now reply.now) }
-    ensures short { length (payload_spelling (told_of caller command.now reply.now)) ≤ most_told (reply_of reply.now) }
-{
-    commands_are_read_back();
-    replies_are_read_back();
-    texts_lack_bytes();
-    command_in_form(command);
-    reply_in_form(reply);
-}
-
-/// Adds the one text of a step: the caller in decimal, a space, the command's text, a newline, the reply's text. Where there is no memory, some of it
-/// may stand there: a caller gives the text up.
+/// Adds the one text of a step: the caller in decimal, a space, the command's text, a newline, the reply's text. What was added is read back as the
+/// step, where it is of one of the 64 clients, and is no longer than the reply's revocations let it be. Where there is no memory, some of it may
+/// stand there: a caller gives the text up.
 pub fn put_payload(
     alloc: Global,
     out: &mut Vec<u8>,
@@ -49,11 +33,28 @@ pub fn put_payload(
     reply: &Reply,
 ) -> Result<(), NoMemory>
     ensures text { OnOk result (out.new.items ≡ out.old.items ++ payload_spelling (told_of caller command.now reply.now)) }
-    ensures read_back { caller.0 < 64
-        → payload_read accepted (payload_spelling (told_of caller command.now reply.now)) ≡ Ok (told_of caller command.now reply.now) }
-    ensures short { length (payload_spelling (told_of caller command.now reply.now)) ≤ most_told (reply_of reply.now) }
+    ensures read_back { OnOk result (caller.0 < 64
+        → payload_read accepted (payload_spelling (told_of caller command.now reply.now)) ≡ Ok (told_of caller command.now reply.now)) }
+    ensures short { OnOk result (length (payload_spelling (told_of caller command.now reply.now)) ≤ most_told (reply_of reply.now)) }
 {
-    step_in_form(caller, command, reply);
+    commands_are_read_back();
+    replies_are_read_back();
+    texts_lack_bytes();
+    put_step(alloc, out, caller, command, reply)
+}
+
+/// Adds the text of a step, and tells that its client's number fits a byte and its command and its reply are in form, from which what
+/// [`put_payload`] tells follows.
+fn put_step(
+    alloc: Global,
+    out: &mut Vec<u8>,
+    caller: Caller,
+    command: &Command,
+    reply: &Reply,
+) -> Result<(), NoMemory>
+    ensures text { OnOk result (out.new.items ≡ out.old.items ++ payload_spelling (told_of caller command.now reply.now)) }
+    ensures in_form { OnOk result ((caller.0 < 2 ^ 8) × IsCommand command.now × IsReply (reply_of reply.now)) }
+{
     put_session(out, b"", u32::from(caller.0))?;
     put(out, b" ")?;
     put_command(alloc, out, command)?;

@@ -7,7 +7,7 @@ use ucon_base::NoMemory;
 /// Why bytes are no payload of a step.
 #[derive(Clone, Copy, Debug, PartialEq, Eq)]
 pub enum PayloadFault {
-    /// The place, from 0, of the first part that is none: the caller, the command or the reply.
+    /// The offset in bytes, from 0, of the first part that is none: the caller, the command or the reply.
     BadPlace(usize),
     NoMemory(NoMemory),
 }

@@ -1,6 +1,6 @@
 //! What a word says, by its kind.
 
-ghost use Rattle.std.specs.Prelude.{◌≡◌, IfErr, IfOk, IfSome, IsSome, Some};
+ghost use Rattle.std.specs.Prelude.{◌≡◌, ◌<◌, ◌^◌, IfErr, IfOk, IfSome, IsSome, Some};
 ghost use Rattle.ucon_base.specs.NameBytes.{is_name};
 ghost use Rattle.ucon_model.specs.CommandLine.{name_in, side_in, value_in, number_of, number_in};
 ghost use Rattle.ucon_reply.specs.Words.{digits_in};
@@ -66,9 +66,10 @@ fn number_of(n: Int) -> Option<u32>
     u32::try_from(n.get()).ok()
 }
 
-/// The session's number that the bytes spell.
+/// The session's number that the bytes spell, which is below 2^32.
 pub fn number_in(bytes: &[u8]) -> Option<u32>
-    ensures { result ≡ number_in bytes.now }
+    ensures number { result ≡ number_in bytes.now }
+    ensures few { IfSome result (λ n. n < 2 ^ 32) }
 {
     number_of(Int::read(bytes)?)
 }

@@ -1,7 +1,6 @@
 //! The text of replies, both ways, and the words that lines are made of.
 #![tactic(auto)]
 
-mod in_form;
 mod kinds;
 mod laws;
 mod line_words;
@@ -11,7 +10,6 @@ mod replies;
 mod reply_fault;
 mod spelling;
 
-pub use in_form::{integer_in_form, name_in_form, number_in_form, reply_in_form, value_in_form};
 pub use kinds::{digits_in, is_name, name_in, number_in, side_in, value_in};
 pub use laws::{replies_are_read_back, values_fit_lines, words_are_read_back};
 pub use line_words::{Word, last_word, name_then, next_word, word_between, word_count, words};

@@ -2,13 +2,13 @@
 
 ghost use Rattle.std.specs.Prelude.{◌≡◌, ◌≤◌, ◌++◌, ◌∷◌, length, IfOk, OnOk, Some};
 ghost use Rattle.std.specs.Fmt.{decimal};
+ghost use Rattle.ucon_base.specs.Elements.{Each};
 ghost use Rattle.ucon_model.specs.Output.{Lacks};
-ghost use Rattle.ucon_model.specs.ReplyText.{reply_read};
+ghost use Rattle.ucon_model.specs.ReplyText.{IsHead, IsLabelled, IsReply, reply_read};
 ghost use Rattle.ucon_model.specs.Spelling.{refusal_words, state_word, head_spelling, revoked_spelling, reply_spelling};
 ghost use Rattle.ucon_model.specs.Views.{reply_of};
 ghost use Rattle.ucon_reply.specs.Replies.{most_reply};
 
-use crate::in_form::reply_in_form;
 use crate::laws::replies_are_read_back;
 use crate::spelling::{put_name, put_session, put_value};
 use std::alloc::Global;
@@ -18,9 +18,9 @@ use ucon_model::{Head, Refusal, Reply, Revoked, SessionState};
 /// The one text of a reply, which has no newline in it: at most 4306 bytes, and 52 for each revocation.
 pub fn reply_text(alloc: Global, reply: &Reply) -> Result<Vec<u8>, NoMemory>
     ensures text { IfOk result (λ t. t.items ≡ reply_spelling (reply_of reply.now)) }
-    ensures read_back { reply_read (reply_spelling (reply_of reply.now)) ≡ Some (reply_of reply.now) }
-    ensures one_line { Lacks 10 (reply_spelling (reply_of reply.now)) }
-    ensures short { length (reply_spelling (reply_of reply.now)) ≤ most_reply (reply_of reply.now) }
+    ensures read_back { IfOk result (λ t. reply_read t.items ≡ Some (reply_of reply.now)) }
+    ensures one_line { IfOk result (λ t. Lacks 10 t.items) }
+    ensures short { IfOk result (λ t. length t.items ≤ most_reply (reply_of reply.now)) }
 {
     let mut text = Vec::new(alloc);
     put_reply(alloc, &mut text, reply)?;
@@ -31,20 +31,20 @@ pub fn reply_text(alloc: Global, reply: &Reply) -> Result<Vec<u8>, NoMemory>
 /// there: a caller gives the text up.
 pub fn put_reply(alloc: Global, out: &mut Vec<u8>, reply: &Reply) -> Result<(), NoMemory>
     ensures text { OnOk result (out.new.items ≡ out.old.items ++ reply_spelling (reply_of reply.now)) }
-    ensures read_back { reply_read (reply_spelling (reply_of reply.now)) ≡ Some (reply_of reply.now) }
-    ensures one_line { Lacks 10 (reply_spelling (reply_of reply.now)) }
-    ensures short { length (reply_spelling (reply_of reply.now)) ≤ most_reply (reply_of reply.now) }
+    ensures read_back { OnOk result (reply_read (reply_spelling (reply_of reply.now)) ≡ Some (reply_of reply.now)) }
+    ensures one_line { OnOk result (Lacks 10 (reply_spelling (reply_of reply.now))) }
+    ensures short { OnOk result (length (reply_spelling (reply_of reply.now)) ≤ most_reply (reply_of reply.now)) }
 {
     replies_are_read_back();
-    reply_in_form(reply);
     put_spelling(alloc, out, reply)
 }
 
-/// Adds the one text of a reply where a caller knows what holds of it, as [`put_reply`] tells it. Where there is no memory, some of it may
-/// stand there: a caller gives the text up.
+/// Adds the one text of a reply, and tells that the reply is in form, from which what [`put_reply`] tells follows. Where there is no memory, some of
+/// it may stand there: a caller gives the text up.
 #[inline(always)]
 pub fn put_spelling(alloc: Global, out: &mut Vec<u8>, reply: &Reply) -> Result<(), NoMemory>
-    ensures { OnOk result (out.new.items ≡ out.old.items ++ reply_spelling (reply_of reply.now)) }
+    ensures text { OnOk result (out.new.items ≡ out.old.items ++ reply_spelling (reply_of reply.now)) }
+    ensures in_form { OnOk result (IsReply (reply_of reply.now)) }
 {
     match reply {
         Reply::Refused(r) => put(out, refusal_words(*r)),
@@ -108,7 +108,8 @@ pub fn state_word(state: SessionState) -> &'static [u8]
 /// Adds a word, a session's number, a space and a label.
 #[inline(always)]
 fn put_labelled(out: &mut Vec<u8>, word: &[u8], n: u32, label: &Name) -> Result<(), NoMemory>
-    ensures { OnOk result (out.new.items ≡ out.old.items ++ (word.now ++ decimal n ++ 32 ∷ label.now)) }
+    ensures text { OnOk result (out.new.items ≡ out.old.items ++ (word.now ++ decimal n ++ 32 ∷ label.now)) }
+    ensures in_form { OnOk result (IsLabelled n label.now) }
 {
     put_session(out, word, n)?;
     put_name(out, label)
@@ -116,7 +117,8 @@ fn put_labelled(out: &mut Vec<u8>, word: &[u8], n: u32, label: &Name) -> Result<
 
 #[inline(always)]
 fn put_head(out: &mut Vec<u8>, head: &Head) -> Result<(), NoMemory>
-    ensures { OnOk result (out.new.items ≡ out.old.items ++ head_spelling head.now) }
+    ensures text { OnOk result (out.new.items ≡ out.old.items ++ head_spelling head.now) }
+    ensures in_form { OnOk result (IsHead head.now) }
 {
     match head {
         Head::Ok => put(out, b"ok"),
@@ -129,7 +131,8 @@ fn put_head(out: &mut Vec<u8>, head: &Head) -> Result<(), NoMemory>
 
 #[inline(always)]
 fn put_revoked(out: &mut Vec<u8>, revoked: &[Revoked]) -> Result<(), NoMemory>
-    ensures { OnOk result (out.new.items ≡ out.old.items ++ revoked_spelling revoked.now) }
+    ensures text { OnOk result (out.new.items ≡ out.old.items ++ revoked_spelling revoked.now) }
+    ensures in_form { OnOk result (Each (λ r. IsLabelled r.session r.label) revoked.now) }
 {
     for r in revoked {
         put_labelled(out, b" revoked ", r.session, &r.label)?;

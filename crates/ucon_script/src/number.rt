@@ -5,6 +5,8 @@ ghost use Rattle.std.specs.List.{list_all};
 ghost use Rattle.ucon_base.specs.Reading.{is_digit, number_of};
 ghost use Rattle.ucon_model.specs.Document.{is_number, number_spelled};
 
+use ucon_base::is_digit;
+
 /// The number that the bytes spell, or `most` for any above it.
 pub fn number_spelled(bytes: &[u8], most: u128) -> Option<u128>
     requires { most ≤ 2 ^ 64 }
@@ -30,12 +32,6 @@ fn are_digits(bytes: &[u8]) -> bool
     ensures { result ≡ list_all is_digit bytes.now }
 {
     bytes.iter().all(|b| is_digit(*b))
-}
-
-fn is_digit(b: u8) -> bool
-    ensures { result ≡ is_digit b }
-{
-    b >= b'0' && b <= b'9'
 }
 
 /// The number that digits write, or `most` for any above it.

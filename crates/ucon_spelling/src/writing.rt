@@ -1,22 +1,26 @@
 //! The one spelling of a value, written.
 
-ghost use Rattle.std.specs.Prelude.{◌≡◌, ◌++◌, IfOk, OnOk, OnErr};
-ghost use Rattle.ucon_base.specs.Spelling.{quoted, more_texts, set_spelling, value_spelling};
+ghost use Rattle.std.specs.Prelude.{◌≡◌, ◌++◌, IfOk, IsTrue, OnOk, OnErr};
+ghost use Rattle.std.specs.List.{list_all};
+ghost use Rattle.ucon_base.specs.Spelling.{IsValue, quoted, more_texts, set_spelling, value_spelling};
+ghost use Rattle.ucon_base.specs.TextBytes.{is_text};
 
 use std::alloc::Global;
 use ucon_base::{NoMemory, Text, Value, put, put_integer};
 
-/// Adds the one spelling of a value, or nothing where there is no memory.
+/// Adds the one spelling of a value and tells that the value is in form, or adds nothing where there is no memory.
 pub fn put_spelling(alloc: Global, out: &mut Vec<u8>, v: &Value) -> Result<(), NoMemory>
     ensures ok { OnOk result (out.new.items ≡ out.old.items ++ value_spelling v.now) }
     ensures err { OnErr result (out.new.items ≡ out.old.items) }
+    ensures in_form { OnOk result (IsValue v.now) }
 {
     let text = spelling(alloc, v)?;
     put(out, &text)
 }
 
 fn spelling(alloc: Global, v: &Value) -> Result<Vec<u8>, NoMemory>
-    ensures { IfOk result (λ text. text.items ≡ value_spelling v.now) }
+    ensures text { IfOk result (λ text. text.items ≡ value_spelling v.now) }
+    ensures in_form { OnOk result (IsValue v.now) }
 {
     let mut text = Vec::new(alloc);
     match v {
@@ -37,7 +41,8 @@ pub fn put_quoted(out: &mut Vec<u8>, bytes: &[u8]) -> Result<(), NoMemory>
 }
 
 fn put_set(out: &mut Vec<u8>, texts: &[Text]) -> Result<(), NoMemory>
-    ensures { OnOk result (out.new.items ≡ out.old.items ++ set_spelling texts.now) }
+    ensures text { OnOk result (out.new.items ≡ out.old.items ++ set_spelling texts.now) }
+    ensures in_form { OnOk result (IsTrue (list_all is_text texts.now)) }
 {
     match texts {
         [] => put(out, b"{}"),
@@ -51,7 +56,8 @@ fn put_set(out: &mut Vec<u8>, texts: &[Text]) -> Result<(), NoMemory>
 }
 
 fn put_more_texts(out: &mut Vec<u8>, texts: &[Text]) -> Result<(), NoMemory>
-    ensures { OnOk result (out.new.items ≡ out.old.items ++ more_texts texts.now) }
+    ensures text { OnOk result (out.new.items ≡ out.old.items ++ more_texts texts.now) }
+    ensures in_form { OnOk result (IsTrue (list_all is_text texts.now)) }
 {
     for t in texts {
         out.push(b',')?;
