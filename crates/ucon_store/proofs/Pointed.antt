@@ -13,7 +13,7 @@ use Rattle.ucon_model.specs.Plain.{Bytes, PlainPolicy}
 use Rattle.ucon_disk.specs.Causes.{HasCause}
 use Rattle.ucon_disk.specs.Run.{LeavesOnly, LeavesAfter, weaker}
 use Rattle.ucon_journal.specs.declared.journal.Journal.{Journal}
-use Rattle.ucon_journal.specs.Journal.{disk_of, version_of, IsClosed}
+use Rattle.ucon_journal.specs.Journal.{disk_of, version_of, told_payloads, IsClosed}
 use Rattle.ucon_journal.specs.Found as journalled
 use Rattle.ucon_journal.specs.Opened.{StillHolds, PerhapsAdded}
 use Rattle.ucon_point.specs.PointText.{point_text}
@@ -34,7 +34,7 @@ use Rattle.ucon_store.proofs.Finding.{counted_hold, holds_more, holds_same, take
 use Rattle.ucon_store.proofs.Versions.{closed_kind, takes_as}
 use Rattle.ucon_store.proofs.Places.{place_added}
 use Rattle.ucon_store.proofs.SamePlaces.{places_same}
-use Rattle.ucon_store.proofs.Recorded.{HoldsAtRest, IsAppended, OneByOne, at_rest_as, counted_then, holds_now, kind_now, kind_then, rest_with, same_kind, told_file}
+use Rattle.ucon_store.proofs.Recorded.{HoldsAtRest, IsAppended, OneByOne, at_rest_as, counted_then, holds_now, kind_now, kind_then, rest_with, same_kind, some_told, told_file}
 use Rattle.ucon_store.proofs.Stepped.{holds_founded, parts}
 use Rattle.ucon_store.proofs.Stepping.{stands_as, trace_append}
 
@@ -209,6 +209,17 @@ module _ {D : Type 0} {contents : D → Option (List ℕ)} {x : Kept D} {k : Jou
   pub fits_ready : (P : PlainPolicy) (T : Trace) → accepted x.policy ≡ Some P → IsStart P x.point x.before T
       → length (checkpoint_behind x.policy x.point x.before P T x.entries) ≤ most_payload
   fits_ready P T accepts leads = subst (λ (l : Bytes). length l ≤ most_payload) (ready.writes P T accepts leads) ready.short
+
+  -- once it is there, it stands behind the payloads of before, whatever is found in them
+  pub written_point : {images : D → List ℕ → Type 0} {next : Journal D} → IsAppended contents images k next payload
+      → (P : PlainPolicy) (T : Trace) (file : Bytes) → accepted x.policy ≡ Some P → IsStart P x.point x.before T → contents x.disk ≡ Some file
+      → told_payloads (contents (disk_of next)) ≡ journalled.counted file ++ checkpoint_behind x.policy x.point x.before P T x.entries ∷ []
+  written_point {images} {next} appended P T file accepts leads is =
+      let here : contents (disk_of k) ≡ Some file = ap contents ready.same ∙ is in
+      some_told (λ _. told_payloads (contents (disk_of next)) ≡ told_payloads (contents (disk_of k)) ++ payload ∷ [])
+      (contents (disk_of k)) file here appended.added
+      ∙ (ap (λ (o : Option Bytes). told_payloads o ++ payload ∷ []) here
+      ∙ ap (λ (p : Bytes). journalled.counted file ++ p ∷ []) (ready.writes P T accepts leads))
 
   module _ {images : D → List ℕ → Type 0} (P : PlainPolicy) (G : History) (f : IsFounded contents images P x G) where
     is_checkpoint : payload ≡ checkpoint x.policy P (G ++ x.entries)

@@ -88,8 +88,7 @@ pub fn opening_sees_what_is_found()
     rows_make_what_they_say();
 }
 
-/// Opening sees something in every file, and one thing only. So all traces that lead to a file's last checkpoint give the same replies behind it,
-/// and where a history is found, opening sees nothing else.
+/// Opening sees something in every file, and one thing only: so where a history is found, it sees nothing else.
 pub fn opening_sees_one_thing()
     ensures something { (file : Bytes) → (seen : Seen) × Sees file seen }
     ensures one { (file : Bytes) (one other : Seen) → Sees file one → Sees file other → one ≡ other }

@@ -78,8 +78,7 @@ impl<E: Engine> Loaded<E> {
         requires client { entry.now.caller.0 < 64 }
         ensures pending { IfOk result (λ same. same ≡ true → (P : PlainPolicy) (T : Trace) → E.follows self.old.engine P T
             → E.has_pending self.new.engine P T entry.now) }
-        ensures taken { IfOk result (λ same. same ≡ true
-            → TakingGives self.old payload.now (Some (self.old.entries.items ++ entry.now ∷ []))) }
+        ensures taken { IfOk result (λ same. same ≡ true → TakingGives self.old payload.now (Some (self.old.entries.items ++ entry.now ∷ []))) }
         ensures wrong { IfOk result (λ same. same ≡ false → TakingGives self.old payload.now None) }
         ensures room { OnOk result (1 ≤ self.new.entries.spare) }
         ensures entries { self.new.entries.items ≡ self.old.entries.items }

@@ -91,8 +91,7 @@ pub(crate) fn record<E: Engine, D: Disk>(
     ensures payloads { OnOk result (IfSome (D.contents (disk_of journal.old)) (λ file.
         told_payloads (D.contents (disk_of journal.new)) ≡ told_payloads (D.contents (disk_of journal.old)) ++ payload.now ∷ [])) }
     ensures tells { is_some (D.contents (disk_of journal.new)) ≡ is_some (D.contents (disk_of journal.old)) }
-    ensures images { LeavesAfter D.contents D.images D.moment D.images_since
-        (disk_of journal.old) (disk_of journal.new) (PerhapsAdded payload.now) }
+    ensures images { LeavesAfter D.contents D.images D.moment D.images_since (disk_of journal.old) (disk_of journal.new) (PerhapsAdded payload.now) }
     ensures cause { HasCause (D.faults (disk_of journal.old)) (D.faults (disk_of journal.new)) result }
 {
     if journal.append(payload).is_err() {

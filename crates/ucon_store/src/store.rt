@@ -169,8 +169,7 @@ impl<E: Engine, D: Disk> Store<E, D> {
             → IsStart P self.old.point self.old.before T
             → HasFailedBehind D.faults P T self.old self.new (record { caller = caller; command = command.now }) }
         ensures failed { IsErrOf result StepFault.DiskFault → (P : PlainPolicy) (G : History) → accepted self.old.policy ≡ Some P
-            → IsFront P self.old G
-            → HasFailed D.faults P (whole G self.old) (whole G self.new) (record { caller = caller; command = command.now }) }
+            → IsFront P self.old G → HasFailed D.faults P (whole G self.old) (whole G self.new) (record { caller = caller; command = command.now }) }
         ensures inside { (P : PlainPolicy) (G : History) → IsFounded D.contents D.images P self.old G → IsSome (D.contents self.old.disk)
             → LeavesOnly D.moment D.images_since self.old.disk self.new.disk
             (IsFoundWith self.old.policy (G ++ self.old.entries) (Some (record { caller = caller; command = command.now }))) }
@@ -246,6 +245,9 @@ impl<E: Engine, D: Disk> Store<E, D> {
         ensures added { IfOk result (λ r. OnOk r.1 ((P : PlainPolicy) (G : History) (before file : List ℕ)
             → IsFounded D.contents D.images P self G → D.contents self.disk ≡ Some before → D.contents r.0.disk ≡ Some file
             → point_places file ≡ point_places before ++ length (G ++ self.entries) ∷ [])) }
+        ensures written { IfOk result (λ r. OnOk r.1 ((P : PlainPolicy) (T : Trace) (file : List ℕ) → accepted self.policy ≡ Some P
+            → IsStart P self.point self.before T → D.contents self.disk ≡ Some file → told_payloads (D.contents r.0.disk)
+            ≡ counted file ++ checkpoint_behind self.policy self.point self.before P T self.entries ∷ [])) }
         ensures fits { IfOk result (λ r. OnOk r.1 ((P : PlainPolicy) (T : Trace) → accepted self.policy ≡ Some P
             → IsStart P self.point self.before T → length (checkpoint_behind self.policy self.point self.before P T self.entries) ≤ MAX_PAYLOAD)) }
         ensures inside { IfOk result (λ r. OnOk r.1 ((P : PlainPolicy) (G : History) (file : List ℕ) → IsFounded D.contents D.images P self G

@@ -152,8 +152,8 @@ module _ (keeps : (s : Shown) (P : PlainPolicy) (T : Trace) → Follows s P T �
         values = λ side e attr there declared. rw (there, declared) (attr_given P T side e attr there declared);
         variables = λ name declared. rw declared (env_given P T name declared);
         listed = λ side e there.
-            numbered side e (entity_names side T) (entity_number s.tables side e) (entity_number s.tables side e) refl (k.entity_is_there side e ∙ there) (λ i. (k.number_is_place side e i).0);
-        there = λ side i e at. sym (k.entity_is_there side e) ∙ ap is_some ((k.number_is_place side e i).1 at);
+            numbered side e (entity_names side T) (entity_number s.tables side e) (entity_number s.tables side e) refl (k.entity_is_there side e ∙ there) (λ i. (k.number_is_position side e i).0);
+        there = λ side i e at. sym (k.entity_is_there side e) ∙ ap is_some ((k.number_is_position side e i).1 at);
         moments = λ x. listed_moment T x;
         rows = rows_there (session T) (sessions T) (sessions T) (omega arith)
             (λ i lt. ap is_some (sym (f.tables.sessions.rows (suc i))) ∙ got s.tables.sessions i (omega (arith, lt, f.tables.sessions.count)));

@@ -53,7 +53,7 @@ returns-clause-taken g c = λ _ P T accepts start.
     let changed : c.in_ok-drafted.drafted.changes ≡ true = search rules in
     let same : c.put_payload.new.out.items ≡ payload = search rules in
     let spelled : c.put_payload.new.out.items ≡ payload_spelling (told e (reply_of c.in_ok-drafted.drafted.reply)) = c.in_ok-put_payload.ensures.text ∙ ap (λ (front : Bytes). front ++ payload_spelling (told e (reply_of c.in_ok-drafted.drafted.reply))) c.clear.ensures.items in
-    let is = ap (Rattle.ucon_model.specs.Payload.payload_read Rattle.ucon_syntax.specs.Policies.accepted) (sym same ∙ spelled) ∙ c.put_payload.ensures.read_back c.requires.client in
+    let is = ap (Rattle.ucon_model.specs.Payload.payload_read Rattle.ucon_syntax.specs.Policies.accepted) (sym same ∙ spelled) ∙ c.in_ok-put_payload.ensures.read_back c.requires.client in
     let one = one_policy text standing.P P standing.accepts accepts in
     let stands = subst (λ (Q : PlainPolicy). (U : Trace) → IsStart Q (payload_in old.point) old.before U → g.E.Engine.follows old.engine Q (trace_from Q U H)) one standing.stands in
     drafted_taken c.texts_tell_changes.ensures c.payloads_are_read_back.ensures.read T text P H payload e (reply_of c.in_ok-drafted.drafted.reply) (reply_of c.in_ok-drafted.drafted.reply) c.requires.short is

@@ -4,7 +4,7 @@ use Rattle.ucon_journal.specs.Journal.{disk_of}
 use Rattle.ucon_model.specs.Plain.{Bytes}
 use Rattle.ucon_syntax.specs.Policies.{accepted}
 use Rattle.ucon_store.specs.Kept.{Kept, text_in}
-use Rattle.ucon_store.proofs.Pointed.{IsPointReady, LeavesPoint, fits_ready, founded_point, leaves_point, no_cause, ok_told, on_disk, places_point, point_ready, point_refused, points_ready, stays_point}
+use Rattle.ucon_store.proofs.Pointed.{IsPointReady, LeavesPoint, fits_ready, founded_point, leaves_point, no_cause, ok_told, on_disk, places_point, point_ready, point_refused, points_ready, stays_point, written_point}
 use Rattle.ucon_store.proofs.Recorded.{IsAppended, OneByOne}
 use Rattle.ucon_store.proofs.Stepped.{parts}
 use Rattle.ucon_store.proofs.Stepping.{kept_on, unmarked}
@@ -79,6 +79,11 @@ pub returns-clause-added : goal.returns-clause-added
 returns-clause-added g c =
     let before = (goal.at.returns-clause-added g c).After-append in
     places_point (ready g before) (one g before) (appended g (goal.at.returns-clause-added g c).Else-is_err)
+
+pub returns-clause-written : goal.returns-clause-written
+returns-clause-written g c =
+    let before = (goal.at.returns-clause-written g c).After-append in
+    written_point (ready g before) (appended g (goal.at.returns-clause-written g c).Else-is_err)
 
 pub returns-clause-fits : goal.returns-clause-fits
 returns-clause-fits g c = fits_ready (ready g (goal.at.returns-clause-fits g c).After-append)
