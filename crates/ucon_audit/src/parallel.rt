@@ -1,15 +1,14 @@
 //! A recheck of sessions by several threads, whose answer is that of a plain loop.
 
 ghost use Rattle.std.specs.Prelude.{◌≡◌, true, All, IfOk, IsSome};
-ghost use Rattle.ucon_model.specs.Decision.{no_right};
 ghost use Rattle.ucon_asked.specs.Sums.{tests_make_no_set};
 ghost use Rattle.ucon_audit.specs.Recheck.{changed, unless_permitted, verdict_now};
 
 use rayon::prelude::*;
 use std::alloc::{AllocError, Global};
 use std::thread::Threads;
-use ucon_base::{Name, NoMemory, Rows};
-use ucon_eval::verdict;
+use ucon_base::{NoMemory, Rows};
+use ucon_eval::{no_right, verdict};
 use ucon_model::{Verdict, View};
 
 /// How many sessions a thread is worth: starting one takes as long as rechecking some hundreds.
@@ -20,16 +19,6 @@ const SHARE: usize = 1_024;
 pub struct Changed {
     pub session: u32,
     pub verdict: Verdict,
-}
-
-/// The label by which a session is denied whose right is gone.
-fn no_right() -> Name
-    ensures { result ≡ no_right }
-{
-    match Name::read(b"no_right") {
-        Ok(label) => label,
-        Err(_) => unreachable!(),
-    }
 }
 
 /// The verdict on a session now. A session whose right was taken away by an amendment is denied by `no_right`.

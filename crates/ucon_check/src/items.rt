@@ -4,16 +4,17 @@ ghost use Rattle.std.specs.Prelude.{◌≡◌, [], map, is_some, codes};
 ghost use Rattle.std.specs.List.{list_any};
 ghost use Rattle.std.specs.Str.{bytes_eq};
 ghost use Rattle.ucon_model.specs.Decision.{right_named};
+ghost use Rattle.ucon_model.specs.Readings.{declared_attr, declared_env};
 ghost use Rattle.ucon_model.specs.Views.{formula_of, test_of, predicate_of, update_of, right_of, policy_of};
 ghost use Rattle.ucon_model.specs.Typing.{name_if, has_lasts, is_recurring, counts_from_start, reads_wrongly, is_wrong_reader, item_fault, attr_fault, env_fault, heading_fault, is_label_taken, predicate_fault, update_fault};
 ghost use Rattle.ucon_check.specs.Told.{Answers};
 
 use crate::CheckFault;
-use crate::sorts::{declared_attr, declared_env, is_typed_start, is_typed_test, is_typed_update};
+use crate::sorts::{is_typed_start, is_typed_test, is_typed_update};
 use crate::sought::{
     Sought, formula_reads, undeclared_in_test, undeclared_in_update, update_reads,
 };
-use ucon_base::Name;
+use ucon_base::{Name, Side};
 use ucon_model::{AttrDecl, EnvDecl, Form, Formula, Policy, Predicate, Right, Test, Update};
 
 fn has_lasts(f: &Formula) -> bool
@@ -94,28 +95,53 @@ fn check_item(
     Ok(())
 }
 
+/// Whether one of these attributes is of the side and has the name.
+fn is_attr(before: &[AttrDecl], side: Side, name: &Name) -> bool
+    ensures { result ≡ is_some (declared_attr before.now side name.now) }
+{
+    for d in before {
+        if side == d.side && name == &d.name {
+            return true;
+        }
+    }
+    false
+}
+
 /// An attribute, behind those before it.
 pub fn check_attr(before: &[AttrDecl], item: u32, d: &AttrDecl) -> Result<(), CheckFault>
     ensures { Answers (attr_fault before.now item d.now) result }
 {
-    let stood = declared_attr(before, d.side, &d.name).is_some();
+    let stood = is_attr(before, d.side, &d.name);
     let typed = is_typed_start(&d.kind, &d.start);
     check_item(item, name_if(stood, &d.name), None, false, typed)
+}
+
+/// Whether one of these variables has the name.
+fn is_env(before: &[EnvDecl], name: &Name) -> bool
+    ensures { result ≡ is_some (declared_env before.now name.now) }
+{
+    for d in before {
+        if name == &d.name {
+            return true;
+        }
+    }
+    false
 }
 
 /// A variable, behind those before it.
 pub fn check_env(before: &[EnvDecl], item: u32, d: &EnvDecl) -> Result<(), CheckFault>
     ensures { Answers (env_fault before.now item d.now) result }
 {
-    let stood = declared_env(before, &d.name).is_some();
+    let stood = is_env(before, &d.name);
     let typed = is_typed_start(&d.kind, &d.start);
     check_item(item, name_if(stood, &d.name), None, false, typed)
 }
 
-fn is_right(rights: &[Right], name: &Name) -> bool
-    ensures { result ≡ is_some (right_named (map right_of rights.now) name.now) }
+/// Whether one of these rights has the name.
+fn is_right(before: &[Right], name: &Name) -> bool
+    ensures { result ≡ is_some (right_named (map right_of before.now) name.now) }
 {
-    for r in rights {
+    for r in before {
         if name == &r.name {
             return true;
         }

@@ -111,7 +111,7 @@ pub fn places_read(alloc: Global, right: &Right) -> Result<Rows<Ref>, NoMemory>
     Ok(Rows::from(places))
 }
 
-/// The distinct places that the ongoing predicates of a right of the policy, by its place from 0, read, in the order of their first
+/// The distinct places that the ongoing predicates of a right of the policy, by its position from 0, read, in the order of their first
 /// reading.
 pub fn reads(alloc: Global, checked: &Checked, right: u32) -> Result<Rows<Ref>, NoMemory>
     requires { right < length (checked_policy checked.now).rights }

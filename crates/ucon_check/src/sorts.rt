@@ -1,38 +1,13 @@
 //! The sorts of expressions, and whether formulas and updates are typed.
 
-ghost use Rattle.std.specs.Prelude.{◌≡◌, option_copied};
+ghost use Rattle.std.specs.Prelude.{◌≡◌};
 ghost use Rattle.ucon_base.specs.Admits.{admits};
-ghost use Rattle.ucon_model.specs.Readings.{declared_attr, declared_env};
 ghost use Rattle.ucon_model.specs.Places.{attr_place};
 ghost use Rattle.ucon_model.specs.Views.{expr_of, formula_of, test_of, update_of, policy_of};
 ghost use Rattle.ucon_model.specs.Typing.{sort_of, value_sort, same_sort, is_of, are_of_one_sort, sum_sort, product_sort, size_sort, place_sort, expr_sort, takes, is_typed_formula, is_typed_test, is_typed_update, is_range, is_typed_start};
 
 use ucon_base::{Kind, Name, Side, Value};
-use ucon_model::{AttrDecl, EnvDecl, Expr, Formula, Op, Policy, Ref, Sort, Test, Update};
-
-/// The declaration of an attribute.
-pub fn declared_attr<'a>(attrs: &'a [AttrDecl], side: Side, name: &Name) -> Option<&'a AttrDecl>
-    ensures { option_copied result ≡ declared_attr attrs.now side name.now }
-{
-    for d in attrs {
-        if side == d.side && name == &d.name {
-            return Some(d);
-        }
-    }
-    None
-}
-
-/// The declaration of a variable.
-pub fn declared_env<'a>(envs: &'a [EnvDecl], name: &Name) -> Option<&'a EnvDecl>
-    ensures { option_copied result ≡ declared_env envs.now name.now }
-{
-    for d in envs {
-        if name == &d.name {
-            return Some(d);
-        }
-    }
-    None
-}
+use ucon_model::{Expr, Formula, Op, Policy, Ref, Sort, Test, Update};
 
 fn sort_of(kind: &Kind) -> Sort
     ensures { result ≡ sort_of kind.now }
@@ -119,19 +94,13 @@ fn size_sort(k: Option<Sort>) -> Option<Sort>
 fn attr_sort(policy: &Policy, side: Side, name: &Name) -> Option<Sort>
     ensures { result ≡ place_sort (policy_of policy.now) (attr_place side name.now) }
 {
-    match declared_attr(policy.attrs.slice(), side, name) {
-        Some(d) => Some(sort_of(&d.kind)),
-        None => None,
-    }
+    Some(sort_of(&policy.attr(side, name)?.kind))
 }
 
 fn env_sort(policy: &Policy, name: &Name) -> Option<Sort>
     ensures { result ≡ place_sort (policy_of policy.now) (Ref.Env name.now) }
 {
-    match declared_env(policy.envs.slice(), name) {
-        Some(d) => Some(sort_of(&d.kind)),
-        None => None,
-    }
+    Some(sort_of(&policy.env(name)?.kind))
 }
 
 /// The sort that is declared for a place.

@@ -49,7 +49,7 @@ fn first_false<V: View>(view: &V, session: u32, sort: Sort, preds: &[Predicate])
     None
 }
 
-/// A predicate of the session's right by its place, from 0.
+/// A predicate of the session's right by its position, from 0.
 #[tactic(auto, using(crate::proofs::Places::place_of_view, crate::proofs::Rows::right_at))]
 fn predicate<V: View>(view: &V, session: u32, at: u32) -> Option<&Predicate>
     requires there { IsSome ((V.readings view.now).row session) }
@@ -60,7 +60,7 @@ fn predicate<V: View>(view: &V, session: u32, at: u32) -> Option<&Predicate>
     right.preds.at(at as usize)
 }
 
-/// Whether a predicate of the session's right, by its place from 0, is true. It takes no memory.
+/// Whether a predicate of the session's right, by its position from 0, is true. It takes no memory.
 pub fn truth<V: View>(view: &V, session: u32, pred: u32) -> bool
     requires there { IsSome (truth_at (V.policy view.now) (V.readings view.now) session pred) }
     requires no_set { makes_no_set_at (V.policy view.now) (V.readings view.now) session pred ≡ true }
@@ -107,8 +107,8 @@ pub fn failing<V: View>(view: &V, session: u32, steps: &mut Steps) -> Option<Nam
     }
 }
 
-/// The label by which a session fails whose right isn't there.
-fn no_right() -> Name
+/// The label by which a session fails, or would be denied, whose right isn't there.
+pub fn no_right() -> Name
     ensures { result ≡ no_right }
 {
     match Name::read(b"no_right") {

@@ -8,5 +8,5 @@ mod test;
 mod update;
 mod worth;
 
-pub use decide::{failing, truth, verdict};
+pub use decide::{failing, no_right, truth, verdict};
 pub use update::result;

@@ -21,6 +21,7 @@ enum Operator {
     Times,
 }
 
+/// The value of two under an operator.
 fn combined(alloc: Global, operator: Operator, a: Value, b: Value) -> Result<Value, NoMemory>
     ensures { IfOk result (λ v. v ≡ combined operator a b) }
 {
@@ -41,6 +42,7 @@ fn copy_or_zero(alloc: Global, held: Option<&Value>) -> Result<Value, NoMemory>
     }
 }
 
+/// The value of an expression, of a session that is there.
 fn value_of<V: View>(alloc: Global, view: &V, session: u32, e: &Expr) -> Result<Value, NoMemory>
     requires { IsSome ((V.readings view.now).row session) }
     ensures { IfOk result (λ v. v ≡ value_of ((V.readings view.now).at (row_at (V.readings view.now) session)) (expr_of e.now)) }
@@ -105,7 +107,7 @@ fn result_of<V: View>(alloc: Global, view: &V, session: u32, u: &Update) -> Resu
     result_by_parts(alloc, view, session, u)
 }
 
-/// An update of the session's right by its place, from 0.
+/// An update of the session's right by its position, from 0.
 #[tactic(auto, using(crate::proofs::Places::place_of_view, crate::proofs::Rows::right_at))]
 fn update_at<V: View>(view: &V, session: u32, at: u32) -> Option<&Update>
     requires { IsSome ((V.readings view.now).row session) }
@@ -115,7 +117,7 @@ fn update_at<V: View>(view: &V, session: u32, at: u32) -> Option<&Update>
     right.updates.at(at as usize)
 }
 
-/// The result of an update of the session's right, by its place from 0: its expression's value, clamped to the declared range where
+/// The result of an update of the session's right, by its position from 0: its expression's value, clamped to the declared range where
 /// the attribute is an integer.
 pub fn result<V: View>(
     alloc: Global,

@@ -1,6 +1,0 @@
-use Rattle.std.proofs.Common.{◌≡◌, drop}
-use Rattle.ucon_model.specs.Readings.{declared_env}
-use Rattle.ucon_check.proofs.sorts.declared_env.Given as goal
-
-abbrev pub invariant-loop-d : goal.invariant-loop-d
-invariant-loop-d l = declared_env (drop l.d-index l.envs) l.name ≡ declared_env l.envs l.name
