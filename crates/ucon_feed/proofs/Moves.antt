@@ -35,10 +35,10 @@ module _ {T : Type 0} where
   item_more : (t : Told T) (x : Item T) → t.ended ≡ false → items (told_after t x) ≡ items t ++ x ∷ []
   item_more t x e = one_more t.lines t.ended x e
 
-  abbrev Each : (ℕ → Known T → Type 0) → List (Known T) → Type 0
-  Each F views = (pass : ℕ) (v : Known T) → get_elem? views pass ≡ some v → F pass v
+  abbrev AtEachPass : (ℕ → Known T → Type 0) → List (Known T) → Type 0
+  AtEachPass F views = (pass : ℕ) (v : Known T) → get_elem? views pass ≡ some v → F pass v
 
-  each_set : (F : ℕ → Known T → Type 0) (views : List (Known T)) (pass : ℕ) (w : Known T) → F pass w → ((j : ℕ) (u : Known T) → j ≢ pass → get_elem? views j ≡ some u → F j u) → Each F (set views pass w)
+  each_set : (F : ℕ → Known T → Type 0) (views : List (Known T)) (pass : ℕ) (w : Known T) → F pass w → ((j : ℕ) (u : Known T) → j ≢ pass → get_elem? views j ≡ some u → F j u) → AtEachPass F (set views pass w)
   each_set F views pass w mine others j u e = ⊎_elim (λ (x : (j ≡ pass) × (w ≡ u)). subst (λ (y : ℕ × Known T). F y.0 y.1) (λ i. (sym x.0 i, x.1 i)) mine)
       (λ (x : (j ≢ pass) × (get_elem? views j ≡ some u)). others j u x.0 x.1) (at_set views pass j w u e)
 
@@ -90,7 +90,7 @@ module _ {T : Type 0} where
       let mine = h.5 pass v at in
       let vs : List (Known T) = set views pass l in
       let Old : ℕ → Known T → Type 0 = λ j u. (u.feeds ≡ true → (j ≡ h.0) × (u.fed ≡ h.2)) × (u.takes ≢ true) in
-      let old : Each Old vs = each_set Old views pass l ((λ _. mine.0 a), λ p. true≢false (sym p)) (λ j u other e. ((h.5 j u e).0, λ p. other (((h.5 j u e).1 p).0 ∙ sym (mine.1 b).0))) in (
+      let old : AtEachPass Old vs = each_set Old views pass l ((λ _. mine.0 a), λ p. true≢false (sym p)) (λ j u other e. ((h.5 j u e).0, λ p. other (((h.5 j u e).1 p).0 ∙ sym (mine.1 b).0))) in (
         h.0,
         length vs,
         h.2,
@@ -108,7 +108,7 @@ module _ {T : Type 0} where
       let was : get_elem? views other ≡ some u = ⊎_elim (λ x. absurd (two x.0)) (λ x. x.1) (at_set views pass other both u at') in
       let theirs = (h.5 other u was).1 b in
       let Now : ℕ → Known T → Type 0 = λ j y. j ≢ other → Fits h.0 pass h.2 h.3 j y in
-      let now : Each Now vs = each_set Now views pass both (λ _. ((λ _. mine.0 a), λ _. (refl, theirs.1))) (λ j y _ e apart. ((h.5 j y e).0, λ p. absurd (apart (((h.5 j y e).1 p).0 ∙ sym theirs.0)))) in
+      let now : AtEachPass Now vs = each_set Now views pass both (λ _. ((λ _. mine.0 a), λ _. (refl, theirs.1))) (λ j y _ e apart. ((h.5 j y e).0, λ p. absurd (apart (((h.5 j y e).1 p).0 ∙ sym theirs.0)))) in
       (h.0, pass, h.2, h.3, h.4, each_set (Fits h.0 pass h.2 h.3) vs other (known false false nothing nothing) ((λ p. absurd (true≢false (sym p))), λ p. absurd (true≢false (sym p))) (λ j y apart e. now j y e apart))
 
   pub totals : (pass : ℕ) (v : Known T) → v.feeds ≡ true → v.takes ≡ true → Learns InOrder pass v (λ held. items v.fed ≡ items v.taken ++ held)

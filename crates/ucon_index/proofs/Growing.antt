@@ -2,9 +2,11 @@
 use Rattle.std.proofs.Common.{◌≡◌, ℕ, zero, suc, ◌+◌, ◌-◌, ◌<◌, ◌≤◌, List, [], ◌∷◌, ◌++◌, length, set, map, min, replicate, sum_by, None, refl, sym, ap, ◌∙◌, subst, arith, length-append}
 use Rattle.std.proofs.lemmas.List.{append-nil}
 use Rattle.std.specs.Prelude.{Result, Ok, Err, OnOk, OnErr}
+use Rattle.ucon_base.specs.Elements.{Each}
+use Rattle.ucon_links.specs.Layout.{InLists}
 use Rattle.ucon_links.specs.Lists.{Item, Lists, first_or, list_at, IsAbsent, IsDistinct}
-use Rattle.ucon_index.specs.Dependents.{Place, Dependents, EachPlace, empty_place, forget_at, forget_hidden}
-use Rattle.ucon_index.specs.Tables.{stood_at, places_from, sessions_of, seen, weight_from, weight_of, CanReturn, InPlaces, IsSound, AreGone, IsOnce}
+use Rattle.ucon_index.specs.Dependents.{Place, Dependents, empty_place, forget_at, forget_hidden}
+use Rattle.ucon_index.specs.Tables.{stood_at, places_from, sessions_of, seen, weight_from, weight_of, CanReturn, IsSound, AreGone, IsOnce}
 use Rattle.ucon_links.specs.OneList.{distinct_front}
 use Rattle.ucon_index.proofs.Rows.{seen_at, stood_at-other, places-length}
 use Rattle.ucon_index.proofs.Standing.{sessions_in, sessions_out}
@@ -18,23 +20,23 @@ weight-more : (weigh : ℕ → List (ℕ × ℕ) → ℕ) (from n : ℕ) (lists 
 weight-more weigh from n [] none = empties weigh from n none
 weight-more weigh from n (xs ∷ rest) none = ap (λ w. weigh from xs + w) (weight-more weigh (suc from) n rest none)
 
-none_beyond : (place : ℕ) (hidden : List Item) (most : ℕ) → most ≤ place → InPlaces most hidden → stood_at place hidden ≡ []
+none_beyond : (place : ℕ) (hidden : List Item) (most : ℕ) → most ≤ place → InLists most hidden → stood_at place hidden ≡ []
 none_beyond place [] most beyond all = refl
 none_beyond place (item ∷ rest) most beyond all =
     let within = all.0 in
     stood_at-other item rest place (λ e. omega arith) ∙ none_beyond place rest most beyond all.1
 
-empty_places : (from n : ℕ) (hidden : List Item) (most : ℕ) → most ≤ from → InPlaces most hidden → places_from from (replicate n []) hidden ≡ replicate n empty_place
+empty_places : (from n : ℕ) (hidden : List Item) (most : ℕ) → most ≤ from → InLists most hidden → places_from from (replicate n []) hidden ≡ replicate n empty_place
 empty_places from zero hidden most beyond all = refl
 empty_places from (suc n) hidden most beyond all =
     ap (λ stood. record { listed = []; hidden = stood } ∷ places_from (suc from) (replicate n []) hidden) (none_beyond from hidden most beyond all)
     ∙ ap (λ ps. empty_place ∷ ps) (empty_places (suc from) n hidden most (omega arith) all)
 
-places-more : (from n : ℕ) (lists : List (List (ℕ × ℕ))) (hidden : List Item) (most : ℕ) → most ≡ from + length lists → InPlaces most hidden → places_from from (lists ++ replicate n []) hidden ≡ places_from from lists hidden ++ replicate n empty_place
+places-more : (from n : ℕ) (lists : List (List (ℕ × ℕ))) (hidden : List Item) (most : ℕ) → most ≡ from + length lists → InLists most hidden → places_from from (lists ++ replicate n []) hidden ≡ places_from from lists hidden ++ replicate n empty_place
 places-more from n [] hidden most is all = empty_places from n hidden most (omega arith) all
 places-more from n (xs ∷ rest) hidden most is all = ap (λ ps. seen_at from xs hidden ∷ ps) (places-more (suc from) n rest hidden most (omega arith) all)
 
-each_more : (P : Place → Type 0) (places : List Place) (n : ℕ) → P empty_place → EachPlace P places → EachPlace P (places ++ replicate n empty_place)
+each_more : (P : Place → Type 0) (places : List Place) (n : ℕ) → P empty_place → Each P places → Each P (places ++ replicate n empty_place)
 each_more P [] zero empty each = tt
 each_more P [] (suc n) empty each = (empty, each_more P [] n empty each)
 each_more P (place ∷ rest) n empty each = (each.0, each_more P rest n empty each.1)
@@ -43,7 +45,7 @@ gone_more : (hidden : List ℕ) (places : List Place) (n : ℕ) → AreGone hidd
 gone_more [] places n gone = tt
 gone_more (session ∷ rest) places n gone = (each_more (λ p. IsAbsent session (sessions_in p.listed)) places n tt gone.0, gone_more rest places n gone.1)
 
-in_places_more : (most more : ℕ) (hidden : List Item) → most ≤ more → InPlaces most hidden → InPlaces more hidden
+in_places_more : (most more : ℕ) (hidden : List Item) → most ≤ more → InLists most hidden → InLists more hidden
 in_places_more most more [] less all = tt
 in_places_more most more (item ∷ rest) less all = let within = all.0 in (omega arith, in_places_more most more rest less all.1)
 
@@ -68,7 +70,7 @@ module _ (places sessions : Lists) (n : ℕ) (sound : IsSound places sessions) w
           in_step = sound.paired.in_step;
           can_return = sound.paired.can_return;
           in_places = in_places_more (length places.lists) (length (places.lists ++ replicate n [])) places.hidden (omega arith) sound.paired.in_places;
-          once = subst (EachPlace IsOnce) (sym places_more) (each_more IsOnce (places_from 0 places.lists places.hidden) n tt sound.paired.once);
+          once = subst (Each IsOnce) (sym places_more) (each_more IsOnce (places_from 0 places.lists places.hidden) n tt sound.paired.once);
         };
         gone = subst (AreGone (sessions_of places.hidden)) (sym places_more) (gone_more (sessions_of places.hidden) (places_from 0 places.lists places.hidden) n sound.gone);
         hidden_once = sound.hidden_once;
@@ -116,7 +118,7 @@ forgotten : (from : ℕ) (lists : List (List (ℕ × ℕ))) (hidden : List Item)
 forgotten from [] hidden = refl
 forgotten from (xs ∷ rest) hidden = ap (λ ps. seen_at from xs [] ∷ ps) (forgotten (suc from) rest hidden)
 
-each_forgotten : (places : List Place) → EachPlace IsOnce places → EachPlace IsOnce (map forget_at places)
+each_forgotten : (places : List Place) → Each IsOnce places → Each IsOnce (map forget_at places)
 each_forgotten [] each = tt
 each_forgotten (place ∷ rest) each = (
   subst IsDistinct (sym (append-nil (sessions_in place.listed))) (distinct_front (sessions_in place.listed) (sessions_out place.hidden) each.0),
@@ -137,7 +139,7 @@ module _ (places sessions : Lists) (sound : IsSound places sessions) where
       in_step = refl;
       can_return = tt;
       in_places = tt;
-      once = subst (EachPlace IsOnce) (sym (forgotten 0 places.lists places.hidden)) (each_forgotten (places_from 0 places.lists places.hidden) sound.paired.once);
+      once = subst (Each IsOnce) (sym (forgotten 0 places.lists places.hidden)) (each_forgotten (places_from 0 places.lists places.hidden) sound.paired.once);
     };
     gone = tt;
     hidden_once = tt;

@@ -4,9 +4,10 @@ use Rattle.std.proofs.Math.Seq.{map-set_same}
 use Rattle.std.proofs.lemmas.List.{map-append}
 use Rattle.std.proofs.lemmas.Bool.{ne_eqb, eqb-true, eqb-false}
 use Rattle.std.specs.Option.{option_eq}
+use Rattle.ucon_base.specs.Elements.{Each}
 use Rattle.ucon_links.specs.Lists.{Item, Lists, first_or, last_or, list_at, with_behind, listed_nodes, nodes_of, IsAbsent, IsDistinct, IsGap}
 use Rattle.ucon_links.specs.Lists as links
-use Rattle.ucon_index.specs.Dependents.{Place, EachPlace, place_at, empty_place, unhide_at, unhide, unhide_first, Fits, CanUnhide, CanUnhideFirst}
+use Rattle.ucon_index.specs.Dependents.{Place, place_at, empty_place, unhide_at, unhide, unhide_first, Fits, CanUnhide, CanUnhideFirst}
 use Rattle.ucon_index.specs.Tables.{stood_at, places_from, on_top, sessions_of, seen, newest_owner, CanUnhideNewest, CanReturn, IsPaired, IsSound, AreGone}
 use Rattle.ucon_links.specs.OneList.{distinct_front, ids, distinct_at, with_behind-last}
 use Rattle.ucon_index.proofs.Rows.{seen_at, stood_of, stood_at-other, stood_at-same, places-length, places-at, each_set, each_at}
@@ -22,7 +23,7 @@ pub record IsReturning (session : ℕ) (others : List ℕ) (first_places first_s
   pub items_room : sessions.spare ≡ first_sessions.spare
   pub gone : AreGone others (places_from 0 places.lists places.hidden)
   pub stack : on_top session (sessions_of places.hidden) ≡ session ∷ others
-  pub fits : EachPlace (Fits session) (places_from 0 places.lists places.hidden)
+  pub fits : Each (Fits session) (places_from 0 places.lists places.hidden)
   pub goal : map (unhide_at session) (places_from 0 places.lists places.hidden) ≡ map (unhide_at session) (places_from 0 first_places.lists first_places.hidden)
 
 pub returning_begins : (session : ℕ) (places sessions : Lists) → IsSound places sessions → newest_owner places.hidden ≡ Some session → CanUnhide (seen places sessions) → IsReturning session (below (sessions_of places.hidden)) places sessions places sessions
@@ -162,7 +163,7 @@ module _ (lists items : List (List (ℕ × ℕ))) (node item : Item) (rest rest_
         items_room = work.items_room;
         gone = gone_kept apart;
         stack = sym (on_top-twice node.owner (sessions_of rest)) ∙ work.stack;
-        fits = subst (EachPlace (Fits node.owner)) (sym after_seen) (each_set (Fits node.owner) (places_from 0 lists (node ∷ rest)) node.list new_place work.fits (fits_not node.owner new_place (stood_at node.list rest) alone_back.hidden_absent));
+        fits = subst (Each (Fits node.owner)) (sym after_seen) (each_set (Fits node.owner) (places_from 0 lists (node ∷ rest)) node.list new_place work.fits (fits_not node.owner new_place (stood_at node.list rest) alone_back.hidden_absent));
         goal = goal_kept ∙ work.goal;
       }
 

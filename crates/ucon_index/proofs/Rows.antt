@@ -1,8 +1,9 @@
 -- The places as they are seen: reads, writes, and facts of each of them.
 use Rattle.std.proofs.Common.{◌≡◌, ◌≢◌, ℕ, zero, suc, ◌+◌, ◌<◌, ◌≤◌, List, [], ◌∷◌, length, set, map, refl, sym, ap, ◌∙◌, arith}
 use Rattle.std.proofs.lemmas.Bool.{ne_eqb, eq-eqb}
+use Rattle.ucon_base.specs.Elements.{Each}
 use Rattle.ucon_links.specs.Lists.{Item, list_at}
-use Rattle.ucon_index.specs.Dependents.{Stood, Place, EachPlace, place_at}
+use Rattle.ucon_index.specs.Dependents.{Stood, Place, place_at}
 use Rattle.ucon_index.specs.Tables.{stood_at, places_from}
 
 abbrev pub seen_at : ℕ → List (ℕ × ℕ) → List Item → Place
@@ -51,16 +52,16 @@ places-listed from [] hidden = refl
 places-listed from (xs ∷ rest) hidden = ap (λ lists. xs ∷ lists) (places-listed (suc from) rest hidden)
 
 module _ (P : Place → Type 0) where
-  pub each_set : (places : List Place) (i : ℕ) (place : Place) → EachPlace P places → P place → EachPlace P (set places i place)
+  pub each_set : (places : List Place) (i : ℕ) (place : Place) → Each P places → P place → Each P (set places i place)
   each_set [] i place each here = tt
   each_set (first ∷ rest) zero place each here = (here, each.1)
   each_set (first ∷ rest) (suc i) place each here = (each.0, each_set rest i place each.1 here)
 
-  pub each_at : (places : List Place) (i : ℕ) → i < length places → EachPlace P places → P (place_at places i)
+  pub each_at : (places : List Place) (i : ℕ) → i < length places → Each P places → P (place_at places i)
   each_at [] i within each = absurd (omega arith)
   each_at (first ∷ rest) zero within each = each.0
   each_at (first ∷ rest) (suc i) within each = each_at rest i (omega arith) each.1
 
-pub each_map : (P Q : Place → Type 0) (places : List Place) → ((place : Place) → P place → Q place) → EachPlace P places → EachPlace Q places
+pub each_map : (P Q : Place → Type 0) (places : List Place) → ((place : Place) → P place → Q place) → Each P places → Each Q places
 each_map P Q [] change each = tt
 each_map P Q (first ∷ rest) change each = (change first each.0, each_map P Q rest change each.1)

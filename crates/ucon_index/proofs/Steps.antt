@@ -1,9 +1,11 @@
 -- One node and its item: what a step does to both tables, and to the places as they are seen.
 use Rattle.std.proofs.Common.{◌≡◌, ◌≢◌, ℕ, zero, suc, ◌+◌, ◌<◌, List, [], ◌∷◌, ◌++◌, length, set, map, Some, None, refl, sym, ap, ◌∙◌, subst, arith, length-set}
 use Rattle.std.proofs.lemmas.List.{get_or-set_same, get_or-set_other, set-get_or, set-set}
+use Rattle.ucon_base.specs.Elements.{Each}
+use Rattle.ucon_links.specs.Layout.{InLists}
 use Rattle.ucon_links.specs.Lists.{Item, Lists, first_or, last_or, list_at, place_of, without, hide, hide_item, unlink, unlink_item, listed_nodes, nodes_of, IsAbsent, IsDistinct}
-use Rattle.ucon_index.specs.Dependents.{EachPlace, place_at}
-use Rattle.ucon_index.specs.Tables.{stood_at, places_from, by_place, by_session, CanReturn, InPlaces, IsOnce, IsPaired}
+use Rattle.ucon_index.specs.Dependents.{place_at}
+use Rattle.ucon_index.specs.Tables.{stood_at, places_from, by_place, by_session, CanReturn, IsOnce, IsPaired}
 use Rattle.ucon_links.specs.OneList.{distinct_front, PlaceLaw, ids, distinct_at, front_of, without-first}
 use Rattle.ucon_index.proofs.Weights.{place_in, place_out, session_in, session_out}
 use Rattle.ucon_index.proofs.Rows.{seen_at, stood_of, stood_at-other, stood_at-same, places-length, places-at, places-set, each_set, each_at}
@@ -60,7 +62,7 @@ module _ (lists : List (List (ℕ × ℕ))) (place : ℕ) (front back : List (�
   pub place_before : place_at (places_from 0 lists hidden) place ≡ seen_at place (front ++ back) hidden
   place_before = places-at 0 lists hidden place place (omega arith) within ∙ ap (λ xs. seen_at place xs hidden) there
 
-  pub place_once : EachPlace IsOnce (places_from 0 lists hidden) → IsDistinct (sessions_in (front ++ back) ++ sessions_out (stood_at place hidden))
+  pub place_once : Each IsOnce (places_from 0 lists hidden) → IsDistinct (sessions_in (front ++ back) ++ sessions_out (stood_at place hidden))
   place_once each =
       let short : place < length (places_from 0 lists hidden) = subst (λ n. place < n) (sym (places-length 0 lists hidden)) within in
       subst IsOnce place_before (each_at IsOnce (places_from 0 lists hidden) place short each)
@@ -102,8 +104,8 @@ module _ (places sessions : Lists) (place session item node : ℕ) (front back r
             ap (first_or None) (sym first),
             subst (λ lists. CanReturn lists sessions.hidden) (sym back_again) paired.can_return,
           );
-      in_places = subst (λ n. (place < n) × InPlaces n places.hidden) (sym (length-set places.lists place (front ++ back))) (place_within, paired.in_places);
-      once = subst (EachPlace IsOnce) (sym places_hidden) (each_set IsOnce (places_from 0 places.lists places.hidden) place _ paired.once (once_hidden session front back (stood_at place places.hidden) alone_there));
+      in_places = subst (λ n. (place < n) × InLists n places.hidden) (sym (length-set places.lists place (front ++ back))) (place_within, paired.in_places);
+      once = subst (Each IsOnce) (sym places_hidden) (each_set IsOnce (places_from 0 places.lists places.hidden) place _ paired.once (once_hidden session front back (stood_at place places.hidden) alone_there));
     }
 
     -- the node is unlinked
@@ -115,8 +117,8 @@ module _ (places sessions : Lists) (place session item node : ℕ) (front back r
       same = same_out;
       in_step = paired.in_step;
       can_return = can_return-other sessions.lists sessions.hidden session rest absent paired.can_return;
-      in_places = subst (λ n. InPlaces n places.hidden) (sym (length-set places.lists place (front ++ back))) paired.in_places;
-      once = subst (EachPlace IsOnce) (sym places_unlinked) (each_set IsOnce (places_from 0 places.lists places.hidden) place _ paired.once alone_there.others);
+      in_places = subst (λ n. InLists n places.hidden) (sym (length-set places.lists place (front ++ back))) paired.in_places;
+      once = subst (Each IsOnce) (sym places_unlinked) (each_set IsOnce (places_from 0 places.lists places.hidden) place _ paired.once alone_there.others);
     }
 
 -- a node comes between two others of its place, and its item to the front of its session
@@ -137,11 +139,11 @@ module _ (places sessions : Lists) (place session item node : ℕ) (front back :
   pub places_come : ((other : ℕ) → other ≢ place → stood_at other hidden ≡ stood_at other places.hidden) → places_from 0 come_lists hidden ≡ set (places_from 0 places.lists places.hidden) place (record { listed = front ++ (node, session) ∷ back; hidden = stood_at place hidden })
   places_come kept = places-set 0 places.lists place place (front ++ (node, session) ∷ back) places.hidden hidden (omega arith) place_within kept
 
-  pub paired_come : IsPaired places sessions → ((other : ℕ) → other ≢ place → stood_at other hidden ≡ stood_at other places.hidden) → map {B = ℕ × ℕ} (λ i. (i.node, i.owner)) hidden ≡ map (λ i. (i.owner, i.list)) hidden_items → CanReturn come_items hidden_items → InPlaces (length places.lists) hidden → IsPaired (record { lists = come_lists; hidden = hidden; spare = spare }) (record { lists = come_items; hidden = hidden_items; spare = room })
+  pub paired_come : IsPaired places sessions → ((other : ℕ) → other ≢ place → stood_at other hidden ≡ stood_at other places.hidden) → map {B = ℕ × ℕ} (λ i. (i.node, i.owner)) hidden ≡ map (λ i. (i.owner, i.list)) hidden_items → CanReturn come_items hidden_items → InLists (length places.lists) hidden → IsPaired (record { lists = come_lists; hidden = hidden; spare = spare }) (record { lists = come_items; hidden = hidden_items; spare = room })
   paired_come paired kept in_step can_return in_places = record {
     same = same_in paired;
     in_step = in_step;
     can_return = can_return;
-    in_places = subst (λ n. InPlaces n hidden) (sym (length-set places.lists place (front ++ (node, session) ∷ back))) in_places;
-    once = subst (EachPlace IsOnce) (sym (places_come kept)) (each_set IsOnce (places_from 0 places.lists places.hidden) place _ paired.once (once_listed session node front back (stood_at place hidden) alone_left));
+    in_places = subst (λ n. InLists n hidden) (sym (length-set places.lists place (front ++ (node, session) ∷ back))) in_places;
+    once = subst (Each IsOnce) (sym (places_come kept)) (each_set IsOnce (places_from 0 places.lists places.hidden) place _ paired.once (once_listed session node front back (stood_at place hidden) alone_left));
   }

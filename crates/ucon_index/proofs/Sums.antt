@@ -1,10 +1,11 @@
 -- Sums over the places.
 use Rattle.std.proofs.Common.{◌≡◌, ℕ, zero, suc, ◌+◌, ◌<◌, List, [], ◌∷◌, length, set, map, sum_by, refl, ap, ◌∙◌, arith}
 use Rattle.std.proofs.lemmas.List.Sums.{sum_by-cons}
+use Rattle.ucon_links.specs.Layout.{InLists}
 use Rattle.ucon_links.specs.Lists.{Item, Lists, list_at}
 use Rattle.ucon_links.specs.Lists as links
 use Rattle.ucon_index.specs.Dependents.{Place, place_at}
-use Rattle.ucon_index.specs.Tables.{stood_at, places_from, weight_from, weight_of, InPlaces, IsPaired}
+use Rattle.ucon_index.specs.Tables.{stood_at, places_from, weight_from, weight_of, IsPaired}
 use Rattle.ucon_index.proofs.Rows.{seen_at, stood_at-other, stood_at-same, places-kept}
 
 pub sum_set : (f : Place → ℕ) (places : List Place) (i : ℕ) (place : Place) → i < length places → sum_by f (set places i place) + f (place_at places i) ≡ sum_by f places + f place
@@ -49,7 +50,7 @@ one_hidden from (xs ∷ lists) item rest (suc i) is within =
     omega arith
 
 -- the places share the hidden nodes among them
-pub hidden_shared : (lists : List (List (ℕ × ℕ))) (hidden : List Item) → InPlaces (length lists) hidden → hidden_sum (places_from 0 lists hidden) ≡ length hidden
+pub hidden_shared : (lists : List (List (ℕ × ℕ))) (hidden : List Item) → InLists (length lists) hidden → hidden_sum (places_from 0 lists hidden) ≡ length hidden
 hidden_shared lists [] all = none_hidden 0 lists
 hidden_shared lists (item ∷ rest) all =
     one_hidden 0 lists item rest item.list (omega arith) all.0 ∙ ap suc (hidden_shared lists rest all.1)

@@ -1,8 +1,9 @@
 -- To put back is to undo a hide.
 use Rattle.std.proofs.Common.{◌≡◌, ℕ, suc, List, [], ◌∷◌, ◌++◌, map, Bool, true, false, eqb, ◌⊎◌, inl, inr, refl, sym, ap, ◌∙◌, subst}
 use Rattle.std.proofs.lemmas.Bool.{eqb-true, eqb-false}
+use Rattle.ucon_base.specs.Elements.{Each}
 use Rattle.ucon_links.specs.Lists.{Item, Lists, listed_nodes, nodes_of, IsAbsent, IsDistinct}
-use Rattle.ucon_index.specs.Dependents.{Stood, Place, EachPlace, is_there, hide_at, unhide_at, hide, Fits, UnhideGives}
+use Rattle.ucon_index.specs.Dependents.{Stood, Place, is_there, hide_at, unhide_at, hide, Fits, UnhideGives}
 use Rattle.ucon_index.specs.Tables.{places_from, sessions_of, seen, IsOnce, IsSound}
 use Rattle.ucon_links.specs.OneList.{distinct_front, distinct_back, ids, front_of}
 use Rattle.ucon_index.proofs.Standing.{sessions_in, sessions_out, alone, hide_at-there, hide_at-absent, unhide_at-there, unhide_at-absent, fits_not}
@@ -62,10 +63,10 @@ restores session place can =
     ]
 
 record AllRestored (session : ℕ) (places : List Place) : Type 0 where
-  pub fits : EachPlace (Fits session) (map (hide_at session) places)
+  pub fits : Each (Fits session) (map (hide_at session) places)
   pub back : map (unhide_at session) (map (hide_at session) places) ≡ places
 
-all_restored : (session : ℕ) (places : List Place) → EachPlace (IsRestorable session) places → AllRestored session places
+all_restored : (session : ℕ) (places : List Place) → Each (IsRestorable session) places → AllRestored session places
 all_restored session [] each = record { fits = tt; back = refl }
 all_restored session (place ∷ rest) each =
     let first = restores session place each.0 in
@@ -75,7 +76,7 @@ all_restored session (place ∷ rest) each =
       back = ap (λ p. p ∷ map (unhide_at session) (map (hide_at session) rest)) first.back ∙ ap (λ ps. place ∷ ps) later.back;
     }
 
-each_restorable : (session from : ℕ) (lists : List (List (ℕ × ℕ))) (hidden : List Item) → EachPlace IsOnce (places_from from lists hidden) → IsDistinct (listed_nodes lists) → IsAbsent session (owners_of hidden) → EachPlace (IsRestorable session) (places_from from lists hidden)
+each_restorable : (session from : ℕ) (lists : List (List (ℕ × ℕ))) (hidden : List Item) → Each IsOnce (places_from from lists hidden) → IsDistinct (listed_nodes lists) → IsAbsent session (owners_of hidden) → Each (IsRestorable session) (places_from from lists hidden)
 each_restorable session from [] hidden once distinct absent = tt
 each_restorable session from (xs ∷ rest) hidden once distinct absent = (
   record { once = once.0; nodes = distinct_front (ids xs) (listed_nodes rest) distinct; not_hidden = stood_absent session from hidden absent },

@@ -3,10 +3,11 @@ use Rattle.std.proofs.Common.{◌≡◌, ◌≢◌, ℕ, zero, suc, ◌+◌, ◌
 use Rattle.std.proofs.lemmas.List.{append-nil, length-map, map-append}
 use Rattle.std.proofs.lemmas.List.Elements.{Contains-append_right}
 use Rattle.std.proofs.lemmas.Bool.{eqb-true, eqb-false, ne_eqb, eq-eqb}
+use Rattle.ucon_links.specs.Layout.{InLists}
 use Rattle.ucon_links.specs.Lists.{Item, Lists, first_or, list_at, place_from, place_of, or_else, hidden_at, owner_of, listed_nodes, nodes_of, IsListed, IsAbsent, IsDistinct}
 use Rattle.ucon_index.specs.Dependents.{Place, Dependents, place_at, walked, stood_session, hidden_session, first_some, session_of}
 use Rattle.ucon_index.specs.Walk.{IsWalked, IsMet, left_from}
-use Rattle.ucon_index.specs.Tables.{stood_at, places_from, seen, InPlaces, IsPaired}
+use Rattle.ucon_index.specs.Tables.{stood_at, places_from, seen, IsPaired}
 use Rattle.ucon_links.specs.OneList.{distinct_front, distinct_back, PlaceLaw}
 use Rattle.ucon_index.proofs.Rows.{stood_at-other, stood_at-same, places-listed, places-length, places-at}
 
@@ -62,7 +63,7 @@ hidden_step node lists item rest true is within absent later =
     hidden_there 0 node lists item rest item.list (omega arith) within same (subst (λ n. IsAbsent n (map (λ other. other.node) rest)) same absent)
 hidden_step node lists item rest false is within absent later = hidden_other 0 node lists item rest (eqb-false item.node node is) ∙ later
 
-hidden_is : (node : ℕ) (lists : List (List (ℕ × ℕ))) (hidden : List Item) → InPlaces (length lists) hidden → IsDistinct (map (λ item. item.node) hidden) → hidden_session (places_from 0 lists hidden) node ≡ option_map (λ i. i.owner) (hidden_at hidden node)
+hidden_is : (node : ℕ) (lists : List (List (ℕ × ℕ))) (hidden : List Item) → InLists (length lists) hidden → IsDistinct (map (λ item. item.node) hidden) → hidden_session (places_from 0 lists hidden) node ≡ option_map (λ i. i.owner) (hidden_at hidden node)
 hidden_is node lists [] all distinct = none_stood 0 node lists
 hidden_is node lists (item ∷ rest) all distinct = hidden_step node lists item rest (eqb item.node node) refl all.0 distinct.0 (hidden_is node lists rest all.1 distinct.1)
 

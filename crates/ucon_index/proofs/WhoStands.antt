@@ -2,8 +2,9 @@
 use Rattle.std.proofs.Common.{◌≡◌, ◌≢◌, ℕ, zero, suc, List, [], ◌∷◌, ◌++◌, map, Some, None, Option, Bool, true, false, not, eqb, cond, Contains, ◌⊎◌, ◌↔◌, inl, inr, refl, sym, ap, ◌∙◌, subst, arith}
 use Rattle.std.proofs.lemmas.Bool.{eqb-true, eqb-false, ne_eqb}
 use Rattle.std.specs.List.{slice_get}
+use Rattle.ucon_base.specs.Elements.{Each}
 use Rattle.ucon_links.specs.Lists.{Lists, first_or, last_or, with_behind, IsAbsent, IsDistinct}
-use Rattle.ucon_index.specs.Dependents.{Stood, Place, Dependents, EachPlace, empty_place, place_at, stands_in, others, without_session, stands_behind, with_stood, hide_at, hide, remove_at, remove, forget_at, forget_hidden, back_at, unhide_at, unhide, unhide_first, Fits, FitsAt, CanUnhide, CanUnhideFirst, IsNextBack}
+use Rattle.ucon_index.specs.Dependents.{Stood, Place, Dependents, empty_place, place_at, stands_in, others, without_session, stands_behind, with_stood, hide_at, hide, remove_at, remove, forget_at, forget_hidden, back_at, unhide_at, unhide, unhide_first, Fits, FitsAt, CanUnhide, CanUnhideFirst, IsNextBack}
 use Rattle.ucon_index.specs.Tables.{places_from, seen, IsOnce, IsSound}
 use Rattle.ucon_links.specs.OneList.{distinct_front}
 use Rattle.ucon_index.proofs.Standing.{sessions_in, sessions_out}
@@ -42,7 +43,7 @@ at_map change [] i empty = sym empty
 at_map change (place ∷ rest) zero empty = refl
 at_map change (place ∷ rest) (suc i) empty = at_map change rest i empty
 
-each_anywhere : (P : Place → Type 0) (places : List Place) (i : ℕ) → P empty_place → EachPlace P places → P (place_at places i)
+each_anywhere : (P : Place → Type 0) (places : List Place) (i : ℕ) → P empty_place → Each P places → P (place_at places i)
 each_anywhere P [] i empty each = empty
 each_anywhere P (place ∷ rest) zero empty each = each.0
 each_anywhere P (place ∷ rest) (suc i) empty each = each_anywhere P rest i empty each.1

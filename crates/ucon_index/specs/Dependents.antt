@@ -1,5 +1,6 @@
 -- The dependency index: for each place the sessions that were added with it, and sessions hidden and put back.
 use Rattle.std.specs.Prelude.{◌≡◌, ℕ, zero, suc, ◌+◌, ◌-◌, ◌==◌, ◌||◌, not, Bool, true, false, List, [], ◌∷◌, map, filter, length, sum_by, slice_get, slice_set, slice_index_or, Option, Some, None, option_map, if◌then◌else◌}
+use Rattle.ucon_base.specs.Elements.{Each}
 use Rattle.ucon_links.specs.Lists.{Lists, first_or, place_of, with_behind, IsGap}
 
 -- where a hidden session stood at a place: its node, and the nodes before and after it, none at an end of the list
@@ -27,10 +28,6 @@ empty_place = record { listed = []; hidden = [] }
 
 abbrev pub place_at : List Place → ℕ → Place
 place_at places place = slice_index_or places place empty_place
-
-abbrev pub EachPlace : (Place → Type 0) → List Place → Type 0
-EachPlace P [] = Unit {0}
-EachPlace P (place ∷ rest) = P place × EachPlace P rest
 
 -- whether one of the nodes is the session's
 abbrev pub has_session : ℕ → List (ℕ × ℕ) → Bool
@@ -148,7 +145,7 @@ Fits session place = FitsAt session place place.hidden
 
 abbrev pub CanUnhideFirst : List Place → List ℕ → Type 0
 CanUnhideFirst places [] = ⊥
-CanUnhideFirst places (session ∷ rest) = EachPlace (Fits session) places
+CanUnhideFirst places (session ∷ rest) = Each (Fits session) places
 
 -- a session is hidden, and at each place of the one that was hidden last the nodes that stood before and after it stand next to each other
 abbrev pub CanUnhide : Dependents → Type 0

@@ -1,7 +1,9 @@
 -- How two tables of lists hold the index. No public clause cites this module.
 use Rattle.std.specs.Prelude.{◌≡◌, ℕ, suc, ◌+◌, ◌<◌, ◌==◌, min, List, [], ◌∷◌, ◌++◌, map, length, slice_set, Option, Some, None, if◌then◌else◌}
+use Rattle.ucon_base.specs.Elements.{Each}
+use Rattle.ucon_links.specs.Layout.{InLists}
 use Rattle.ucon_links.specs.Lists.{Item, Lists, first_or, list_at, IsAbsent, IsDistinct, IsGap}
-use Rattle.ucon_index.specs.Dependents.{Stood, Place, Dependents, EachPlace}
+use Rattle.ucon_index.specs.Dependents.{Stood, Place, Dependents}
 
 -- the hidden nodes of a place
 abbrev pub stood_at : ℕ → List Item → List Stood
@@ -60,17 +62,12 @@ CanReturn lists (item ∷ rest) =
     (item.list < length lists) × (item.before ≡ None) × (item.after ≡ first_or None (list_at lists item.list))
     × CanReturn (slice_set lists item.list ((item.node, item.owner) ∷ list_at lists item.list)) rest
 
--- each hidden node is of one of the places
-abbrev pub InPlaces : ℕ → List Item → Type 0
-InPlaces places [] = Unit {0}
-InPlaces places (item ∷ rest) = (item.list < places) × InPlaces places rest
-
 -- no session has two nodes at the place
 abbrev pub IsOnce : Place → Type 0
 IsOnce place = IsDistinct (map (λ x. x.1) place.listed ++ map (λ stood. stood.session) place.hidden)
 
 abbrev pub IsGone : ℕ → List Place → Type 0
-IsGone session places = EachPlace (λ place. IsAbsent session (map (λ x. x.1) place.listed)) places
+IsGone session places = Each (λ place. IsAbsent session (map (λ x. x.1) place.listed)) places
 
 abbrev pub AreGone : List ℕ → List Place → Type 0
 AreGone [] places = Unit {0}
@@ -82,8 +79,8 @@ pub record IsPaired (places sessions : Lists) : Type 0 where
   pub same : (weight : ℕ → ℕ → ℕ) → by_place weight places.lists ≡ by_session weight sessions.lists
   pub in_step : map {B = ℕ × ℕ} (λ item. (item.node, item.owner)) places.hidden ≡ map (λ item. (item.owner, item.list)) sessions.hidden
   pub can_return : CanReturn sessions.lists sessions.hidden
-  pub in_places : InPlaces (length places.lists) places.hidden
-  pub once : EachPlace IsOnce (places_from 0 places.lists places.hidden)
+  pub in_places : InLists (length places.lists) places.hidden
+  pub once : Each IsOnce (places_from 0 places.lists places.hidden)
 
 -- the tables are paired, and a hidden session stands at no place and was hidden once
 pub record IsSound (places sessions : Lists) : Type 0 where

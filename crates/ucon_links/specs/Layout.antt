@@ -1,5 +1,6 @@
 -- How the table of nodes holds the lists and the two stacks. No public clause cites this module.
 use Rattle.std.specs.Prelude.{◌≡◌, ℕ, zero, suc, ◌+◌, ◌-◌, ◌^◌, ◌<◌, List, [], ◌∷◌, map, length, slice_get, unwrap_or, Option, Some, None}
+use Rattle.ucon_base.specs.Elements.{Each}
 use Rattle.ucon_links.specs.declared.table.Node.{Node}
 use Rattle.ucon_links.specs.declared.table.State.{State}
 use Rattle.ucon_links.specs.declared.table.State.TheVariants.{Listed, Hidden, Spare}
@@ -66,8 +67,7 @@ seen nodes firsts newest hidden spare =
 
 -- each hidden node is of one of the lists
 abbrev pub InLists : ℕ → List Item → Type 0
-InLists lists [] = Unit {0}
-InLists lists (item ∷ rest) = (item.list < lists) × InLists lists rest
+InLists lists items = Each (λ (item : Item). item.list < lists) items
 
 -- the table holds these lists, by their first nodes
 pub record HoldsLists (nodes : List Node) (firsts : List (Option ℕ)) (lists : List (List (ℕ × ℕ))) : Type 0 where

@@ -1,5 +1,6 @@
 -- Lists linked by index: the lists, the stack of hidden nodes, and the room that is left.
 use Rattle.std.specs.Prelude.{◌≡◌, ◌≢◌, ℕ, suc, ◌+◌, ◌-◌, ◌==◌, List, [], ◌∷◌, ◌++◌, map, length, take, drop, sum_by, slice_set, slice_index_or, Option, Some, None, IsSome, unwrap_or, option_map, if◌then◌else◌}
+use Rattle.ucon_base.specs.Elements.{Each}
 
 -- where a node stands, or where it stood when it was hidden: no neighbour at an end of the list
 pub record Item : Type 0 where
@@ -77,8 +78,7 @@ abbrev pub node_count : Lists → ℕ
 node_count v = sum_by length v.lists + length v.hidden
 
 abbrev pub IsAbsent : ℕ → List ℕ → Type 0
-IsAbsent node [] = Unit {0}
-IsAbsent node (other ∷ rest) = (other ≢ node) × IsAbsent node rest
+IsAbsent node others = Each (λ (other : ℕ). other ≢ node) others
 
 -- none is there twice
 abbrev pub IsDistinct : List ℕ → Type 0

@@ -117,14 +117,6 @@ impl Links {
         self.table.nodes[node as usize].owner
     }
 
-    /// No node is there twice: a law of the type, which does nothing.
-    pub fn nodes_are_distinct(&self)
-        ensures { IsDistinct (nodes_of self.now) }
-    {
-        // What the fields keep is known once one of them is read.
-        let _spare = self.spare_count;
-    }
-
     /// For how many more nodes there is room.
     pub fn spare(&self) -> u32
         ensures { result ≡ self.now.spare }

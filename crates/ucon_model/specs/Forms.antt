@@ -2,6 +2,7 @@
 use Rattle.std.specs.Prelude.{ℕ, zero, suc, ℤ, nat_lt, if◌then◌else◌, List, [], ◌∷◌, ◌++◌, Option, Some, None}
 use Rattle.std.proofs.Common.{◌⊎◌, inl, inr}
 use Rattle.ucon_model.specs.Plain.{Bytes}
+use Rattle.ucon_base.specs.Elements.{Each}
 use Rattle.ucon_base.specs.Tokens.{Token, a_word, a_number, a_text, a_symbol, Symbol}
 
 -- a token that a grammar names
@@ -103,8 +104,7 @@ further_tree join X all [] = all
 further_tree join X all (o ∷ os) = further_tree join X (join o.0 all (X.tree o.1)) os
 
 abbrev pub AreProper : {O A : Type 0} → (X : Form A) → List (O × X.Written) → Type 0
-AreProper X [] = Unit {0}
-AreProper X (o ∷ os) = X.IsProper o.1 × AreProper X os
+AreProper X os = Each (λ o. X.IsProper o.1) os
 
 abbrev pub further : {O A : Type 0} → (O → Terminal) → (O → A → A → A) → Form A → ℕ → A → Form A
 further {O} {A} token join X n all = record {
