@@ -23,10 +23,10 @@ first_written_out P n when count T = option_map_or (λ row. written_out P row wh
 abbrev pub updates_in : Shown → ℕ → List PlainUpdate
 updates_in s n = option_map_or (λ right. right.updates) (right_read s.policy (readings_in s.policy s.tables) n) []
 
--- the update at a place, from 0, of a session's right, in a list of at most one
+-- the update at a position, from 0, of a session's right, in a list of at most one
 abbrev pub update_at : PlainPolicy → SessionRow → ℕ → List PlainUpdate
 update_at P row at = option_to_list (slice_get (updates_of P row) at)
 
--- the trace after the write of the update at a place, from 0, of a session's right in force, if it is of this time
+-- the trace after the write of the update at a position, from 0, of a session's right in force, if it is of this time
 abbrev pub one_written_out : PlainPolicy → SessionRow → When → ℕ → Trace → Trace
 one_written_out P row when at T = written_out P row when (update_at (in_force P T) row at) T

@@ -60,7 +60,7 @@ fn updates_in(state: &State, n: u32) -> &[Update]
     }
 }
 
-/// Runs the update at a place, from 0, of the right of session n, if it is of this time.
+/// Runs the update at a position, from 0, of the right of session n, if it is of this time.
 fn run_update(alloc: Global, state: &mut State, n: u32, when: When, at: u32) -> Result<(), NoMemory>
     requires following { IsFollowing (shown state.old) }
     requires at { at < length (updates_in (shown state.old) n) }

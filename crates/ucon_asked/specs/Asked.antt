@@ -23,7 +23,7 @@ row_at R n = unwrap_or (R.row n) no_session
 abbrev pub right_of_session : PlainPolicy → Readings → ℕ → Option PlainRight
 right_of_session P R n = option_and_then (λ row. right_named P.rights row.right) (R.row n)
 
--- the predicate at a place, from 0, of a right by its name
+-- the predicate at a position, from 0, of a right by its name
 abbrev pub predicate_at : PlainPolicy → SessionRow → ℕ → Option PlainPredicate
 predicate_at P row i = option_and_then (λ right. slice_get right.preds i) (right_named P.rights row.right)
 
@@ -40,7 +40,7 @@ makes_no_set_at P R n i =
 abbrev pub result_read : PlainPolicy → Readings → SessionRow → PlainUpdate → Value
 result_read P R row u = fitted_to (declared_attr P.attrs u.side u.attr) (value_of (R.at row) u.value)
 
--- the update at a place, from 0, of a right by its name
+-- the update at a position, from 0, of a right by its name
 abbrev pub update_at : PlainPolicy → SessionRow → ℕ → Option PlainUpdate
 update_at P row i = option_and_then (λ right. slice_get right.updates i) (right_named P.rights row.right)
 

@@ -5,9 +5,9 @@ use Rattle.std.proofs.lemmas.Bool.Decides.{nat_tests}
 use mathlib.Core.List.{IsPrefix}
 use prog.Atomic.{either}
 use Rattle.logbook.specs.Pages.{Cell, cell, keeps, no_nib, step, Moves, Goes}
-use Rattle.ucon_board.specs.declared.told.Event.{Event}
-use Rattle.ucon_board.specs.declared.told.Event.TheVariants.{Replied}
-use Rattle.ucon_board.specs.declared.told.Published.{Published}
+use Rattle.ucon_board.specs.declared.history.Event.{Event}
+use Rattle.ucon_board.specs.declared.history.Event.TheVariants.{Replied}
+use Rattle.ucon_board.specs.declared.history.Published.{Published}
 use Rattle.ucon_board.specs.Told.{IsCounted, IsOpened, Adds}
 use Rattle.ucon_board.proofs.Prefixes.{prefix_whole}
 use Rattle.ucon_board.proofs.Boards.{opened_more}

@@ -3,9 +3,9 @@ use Rattle.std.proofs.Common.{◌≡◌, ◌⊎◌, inl, inr, Bool, false, nat_l
 use Rattle.std.proofs.lemmas.Bool.Decides.{nat_tests}
 use mathlib.Core.List.{IsPrefix}
 use Rattle.ucon_model.specs.declared.session.SessionState.{SessionState}
-use Rattle.ucon_board.specs.declared.told.Published.{Published}
-use Rattle.ucon_board.specs.declared.told.Event.{Event}
-use Rattle.ucon_board.specs.declared.told.Event.TheVariants.{Opened, Replied}
+use Rattle.ucon_board.specs.declared.history.Published.{Published}
+use Rattle.ucon_board.specs.declared.history.Event.{Event}
+use Rattle.ucon_board.specs.declared.history.Event.TheVariants.{Opened, Replied}
 use Rattle.ucon_board.specs.Board.{Board, GoesOn, place_of, posted}
 use Rattle.ucon_board.specs.Told.{events, reply_in, replies_in, board_of, IsOpened, IsCounted}
 use Rattle.ucon_board.proofs.Prefixes.{prefix_shorter, prefix_whole}

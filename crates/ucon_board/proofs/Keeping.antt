@@ -8,7 +8,7 @@ use Rattle.crossbeam_utils.specs.Register.{Admits, TurnsAt, Forks, Merges}
 use Rattle.atomic_table.proofs.Lists.{at_set, at_snoc}
 use Rattle.ucon_model.specs.declared.session.SessionState.{SessionState}
 use Rattle.ucon_base.specs.Elements.{Each}
-use Rattle.ucon_board.specs.declared.told.Published.{Published}
+use Rattle.ucon_board.specs.declared.history.Published.{Published}
 use Rattle.ucon_board.specs.declared.shown.Mark.{Mark}
 use Rattle.ucon_board.specs.declared.shown.Shown.{Shown}
 use Rattle.ucon_board.specs.Board.{Board, Naming, sayings, place_of, posted, state_in}

@@ -6,8 +6,8 @@ use mathlib.Core.Option.{some}
 use lib.ListN.{get_elem?}
 use Rattle.logbook.specs.declared.tokens.Seen.{Seen}
 use Rattle.ucon_model.specs.declared.session.SessionState.{SessionState}
-use Rattle.ucon_board.specs.declared.told.Event.{Event}
-use Rattle.ucon_board.specs.declared.told.Counted.{Counted}
+use Rattle.ucon_board.specs.declared.history.Event.{Event}
+use Rattle.ucon_board.specs.declared.history.Counted.{Counted}
 use Rattle.ucon_model.specs.Plain.{PlainReply, made}
 use Rattle.ucon_board.specs.declared.shown.Shown.{Shown}
 use Rattle.ucon_board.specs.declared.shown.Mark.{Mark}

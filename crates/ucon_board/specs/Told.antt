@@ -3,9 +3,9 @@ use Rattle.std.specs.Prelude.{◌≡◌, ℕ, ◌+◌, ◌==◌, true, List, [],
 use Rattle.logbook.specs.Pages.{Cell, Step, View, Book, Named}
 use Rattle.ucon_model.specs.declared.session.SessionState.{SessionState}
 use Rattle.ucon_model.specs.Plain.{PlainReply, made}
-use Rattle.ucon_board.specs.declared.told.Published.{Published}
-use Rattle.ucon_board.specs.declared.told.Event.{Event}
-use Rattle.ucon_board.specs.declared.told.Event.TheVariants.{Opened, Replied}
+use Rattle.ucon_board.specs.declared.history.Published.{Published}
+use Rattle.ucon_board.specs.declared.history.Event.{Event}
+use Rattle.ucon_board.specs.declared.history.Event.TheVariants.{Opened, Replied}
 use Rattle.ucon_board.specs.declared.shown.Mark.{Mark}
 use Rattle.ucon_board.specs.Board.{Board}
 

@@ -1,12 +1,12 @@
 //! The status board: one writer publishes what replies change, and readers look at it without a turn.
 #![tactic(auto)]
 
+mod history;
 mod mark_fault;
 mod reader;
 mod rule;
 mod seen;
 mod shown;
-mod told;
 mod writer;
 
 pub use mark_fault::MarkFault;

@@ -5,10 +5,10 @@ ghost use Rattle.ucon_board.specs.Board.{GoesOn, place_of, state_in};
 ghost use Rattle.ucon_board.specs.Rule.{Tied, Fits};
 ghost use Rattle.ucon_board.specs.Told.{board_of, IsOpened};
 
+use crate::history::Told;
 use crate::rule::{End, Sees, Shows};
 use crate::seen::Seen;
 use crate::shown::Shown;
-use crate::told::Told;
 use core::mem::replace_with;
 use left_right::reader::{Reader, Reading};
 use std::marker::Model;

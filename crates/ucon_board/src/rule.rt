@@ -2,8 +2,8 @@
 ghost use Rattle.std.specs.Prelude.{None};
 ghost use Rattle.ucon_board.specs.Rule.{Keeps, SeesOn};
 
+use crate::history::Told;
 use crate::shown::Shown;
-use crate::told::Told;
 use atomic_table::{Join, Split};
 use crossbeam_utils::rule::{Outcome, Protocol};
 

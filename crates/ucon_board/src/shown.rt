@@ -3,7 +3,7 @@ ghost use Rattle.std.specs.Prelude.{◌≡◌, ◌+◌, ◌-◌, ◌≤◌, [], 
 ghost use Rattle.ucon_board.specs.Board.{named_by, revocation};
 ghost use Rattle.ucon_board.specs.Rule.{after, opened_rows, row_at, set_row};
 
-use crate::told::Told;
+use crate::history::Told;
 use left_right::Absorb;
 use std::alloc::{AllocError, Global};
 use ucon_model::{Head, Revoked, SessionState};

@@ -7,11 +7,11 @@ ghost use Rattle.ucon_board.specs.Board.{GoesOn, NamesSessions, Publishes, place
 ghost use Rattle.ucon_board.specs.Rule.{Posts};
 ghost use Rattle.ucon_board.specs.declared.mark_fault.MarkFault.TheVariants as mark_faults;
 
+use crate::history::{History, Told};
 use crate::mark_fault::MarkFault;
 use crate::reader::BoardReader;
 use crate::rule::{End, Note, Sees, Shows};
 use crate::shown::{Mark, Post, Shown};
-use crate::told::{History, Told};
 use core::mem::replace_with;
 use left_right::writer::Writer;
 use std::alloc::{AllocError, Global};

@@ -124,7 +124,7 @@ pub fn core_models_of(alloc: Global, right: &Right) -> Result<Rows<Core>, NoMemo
     Ok(Rows::from(cores))
 }
 
-/// The core models of a right of the policy, by its place from 0.
+/// The core models of a right of the policy, by its position from 0.
 pub fn core_models(alloc: Global, checked: &Checked, right: u32) -> Result<Rows<Core>, NoMemory>
     requires { right < length (checked_policy checked.now).rights }
     ensures { IfOk result (λ rows. option_map core_models_of (slice_get (checked_policy checked.now).rights right) ≡ Some rows.items) }

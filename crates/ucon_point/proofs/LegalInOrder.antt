@@ -550,7 +550,7 @@ module _ (laws : StateLaws) (kept : (P : PlainPolicy) (T : Trace) → IsLegalTra
     given_there sides.Object e x there h = object_given P e x T there h
 
     name_there : (side : Side) (k : ℕ) (e : Bytes) → slice_get (entity_names side T) k ≡ Some e → has_entity side e T ≡ true
-    name_there side k e at = sym (keeps.entity_is_there side e) ∙ ap is_some ((keeps.number_is_place side e k).1 at)
+    name_there side k e at = sym (keeps.entity_is_there side e) ∙ ap is_some ((keeps.number_is_position side e k).1 at)
 
     attribute_there : (side : Side) (k : ℕ) (e : Bytes) (i : ℕ) (d : AttrDecl) → slice_get (entity_names side T) k ≡ Some e → slice_get (attrs_of (in_force P T) side) i ≡ Some d
         → IsSomeAnd (attribute P T side e d.name) (λ v. IsTrue (admits d.kind v))
@@ -566,7 +566,7 @@ module _ (laws : StateLaws) (kept : (P : PlainPolicy) (T : Trace) → IsLegalTra
 
     name_once : (side : Side) (k : ℕ) (e : Bytes) → slice_get (entity_names side T) k ≡ Some e → find (bytes_eq e) (take k (entity_names side T)) ≡ None
     name_once side k e at =
-        none_before_place (bytes_eq e) (entity_names side T) k (ap (position (bytes_eq e)) (sym (keeps.names side)) ∙ (keeps.number_is_place side e k).1 at)
+        none_before_place (bytes_eq e) (entity_names side T) k (ap (position (bytes_eq e)) (sym (keeps.names side)) ∙ (keeps.number_is_position side e k).1 at)
 
     names_few : (side : Side) → length (entity_names side T) ≤ 16384
     names_few sides.Subject =

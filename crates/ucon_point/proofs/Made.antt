@@ -126,7 +126,7 @@ module _ (laws : StateLaws) (Q : PlainPolicy) (typed : IsTyped Q) where
       let count : length (entities_of side t) - 1 ≡ length a.front =
       omega (arith, length-map (entities_of side t) (λ (e : Bytes × ℕ). e.0), ap length names, length-append a.front (a.last ∷ [])) in
       let number : entity_number t side a.last ≡ Some (length a.front) =
-      (k.number_is_place side a.last (length a.front)).1 (ap (λ (ns : List Bytes). slice_get ns (length a.front)) a.split ∙ get_behind a.front a.last) in
+      (k.number_is_position side a.last (length a.front)).1 (ap (λ (ns : List Bytes). slice_get ns (length a.front)) a.split ∙ get_behind a.front a.last) in
       (number ∙ ap (λ (n : ℕ). Some n) (sym count), sym (k.entity_is_there side a.last) ∙ ap is_some number)
 
   attribute_written : (t : Tables) (side : Side) (last attr : Bytes) (v : Value) → entity_number t side last ≡ Some (length (entities_of side t) - 1)

@@ -38,15 +38,15 @@ with_entity P t side name = with_new_entity t side name (defaults_of P side)
 abbrev pub with_cell : {S : Type 0} → TablesOf S → ℕ → Value → TablesOf S
 with_cell t cell v = record t { cells = slice_set t.cells cell v }
 
--- with this value as that of the variable at a place
+-- with this value as that of the variable at a position
 abbrev pub with_variable : {S : Type 0} → TablesOf S → ℕ → Value → TablesOf S
-with_variable t place v = record t { variables = slice_set t.variables place v }
+with_variable t position v = record t { variables = slice_set t.variables position v }
 
 -- with this tick
 abbrev pub with_tick : {S : Type 0} → TablesOf S → ℤ → TablesOf S
 with_tick t now = record t { tick = now }
 
--- with this act as done now: in its own place, or behind the others where it was never done
+-- with this act as done now: at its own position, or behind the others where it was never done
 abbrev pub with_act : {S : Type 0} → TablesOf S → Act → TablesOf S
 with_act t a = record t { acts = insert_entry same_act t.acts a t.tick }
 
@@ -62,9 +62,9 @@ with_new_session t session = record t { sessions = t.sessions ++ session ∷ [] 
 abbrev pub tried : Caller → Bytes → Bytes → Bytes → SessionRow
 tried caller s r o = record { caller = caller; right = r; subject = s; object = o; state = Requesting; start = pos 0 }
 
--- with this row as that of the session at a place
+-- with this row as that of the session at a position
 abbrev pub with_row : Tables → ℕ → SessionRow → Tables
-with_row t place row = record t { sessions = slice_set t.sessions place row }
+with_row t position row = record t { sessions = slice_set t.sessions position row }
 
 -- whether a session in the one state may become the other
 abbrev pub may_become : SessionState → SessionState → Bool
@@ -88,7 +88,7 @@ with_state t n state = option_map_or (λ row. with_row t (n - 1) (moved_to state
 -- what an entity with this first one of the cells has of a declaration: what it had, where the policy before declares it, else the default
 abbrev pub kept_value : PlainPolicy → List Value → Side → ℕ → AttrDecl → Value
 kept_value P cells side first d =
-    unwrap_or (option_and_then (λ place. slice_get cells (first + place)) (attr_position P side d.name)) d.start
+    unwrap_or (option_and_then (λ position. slice_get cells (first + position)) (attr_position P side d.name)) d.start
 
 -- the cells of an entity under the new policy
 abbrev pub kept_cells : PlainPolicy → PlainPolicy → List Value → Side → ℕ → List Value
@@ -124,7 +124,7 @@ abbrev pub applied : PlainPolicy → Action → Tables → Tables
 applied P (subject name) t = with_entity P t sides.Subject name
 applied P (object name) t = with_entity P t sides.Object name
 applied P (write side name attr v) t = option_map_or (λ cell. with_cell t cell v) (cell_of P t side name attr) t
-applied P (env name v) t = option_map_or (λ place. with_variable t place v) (env_position P name) t
+applied P (env name v) t = option_map_or (λ position. with_variable t position v) (env_position P name) t
 applied P (tick now) t = with_tick t now
 applied P (act s a o) t = with_act t (record { subject = s; action = a; object = o })
 applied P (tries n caller s r o) t = with_new_session t (tried caller s r o)

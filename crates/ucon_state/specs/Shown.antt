@@ -28,7 +28,7 @@ showing P rights t changes = record {
   opening = named rights (all_undone changes t);
 }
 
--- the names of the rights that sessions may have; a right's number is its place, from 0
+-- the names of the rights that sessions may have; a right's number is its position, from 0
 abbrev pub right_names : State → List Bytes
 right_names s = s.rights.items
 

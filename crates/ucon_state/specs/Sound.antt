@@ -15,7 +15,7 @@ use Rattle.ucon_state.specs.Undo.{all_undone, policy_undone}
 abbrev pub CellsAreThere : {S : Type 0} → PlainPolicy → TablesOf S → Side → Type 0
 CellsAreThere P t side = (e : Bytes × ℕ) → Contains (entities_of side t) e → e.1 + length (attrs_of P side) ≤ length t.cells
 
--- the limits hold, no entity has more than 16 cells, each declared variable has its place, and each entity its cells
+-- the limits hold, no entity has more than 16 cells, each declared variable has its position, and each entity its cells
 pub record IsSound {S : Type 0} (P : PlainPolicy) (t : TablesOf S) : Type 0 where
   pub subjects : length t.subjects ≤ 16384
   pub objects : length t.objects ≤ 16384

@@ -16,15 +16,15 @@ Stored = TablesOf Session
 
 -- ---- sessions that go into another state
 
--- with this state and start of the session at a place
+-- with this state and start of the session at a position
 abbrev pub moved_at : SessionState → ℤ → ℕ → List Session → List Session
-moved_at state start place [] = []
+moved_at state start position [] = []
 moved_at state start zero (s ∷ ss) = record s { state = state; start = start } ∷ ss
-moved_at state start (suc place) (s ∷ ss) = s ∷ moved_at state start place ss
+moved_at state start (suc position) (s ∷ ss) = s ∷ moved_at state start position ss
 
 -- the same, in the tables
 abbrev pub with_moved : Stored → ℕ → SessionState → ℤ → Stored
-with_moved t place state start = record t { sessions = moved_at state start place t.sessions }
+with_moved t position state start = record t { sessions = moved_at state start position t.sessions }
 
 -- when a session starts that goes into this state: now where it becomes accessing, else as before
 abbrev pub start_in : SessionState → ℤ → ℤ → ℤ

@@ -17,7 +17,7 @@ use Rattle.ucon_state.specs.declared.counts.Counts.{Counts}
 
 -- Entities stand in the order in which they were made, each with the number of its first cell; its cells follow each other in the order
 -- of the declarations of its side. Variables stand in the order of their declarations. Acts stand in the order in which they were first
--- done, each with its moment. Session n stands at place n - 1, as whatever says of it what it is.
+-- done, each with its moment. Session n stands at position n - 1, as whatever says of it what it is.
 pub record TablesOf (S : Type 0) : Type 0 where
   pub subjects : List (Bytes × ℕ)
   pub objects : List (Bytes × ℕ)
@@ -57,7 +57,7 @@ first_cell t side name = lookup (bytes_eq name) (entities_of side t)
 -- the cell of an attribute of the entity with this number
 abbrev pub cell_at : {S : Type 0} → PlainPolicy → TablesOf S → Side → ℕ → Bytes → Option ℕ
 cell_at P t side entity attr =
-    option_and_then (λ e. option_map (λ place. e.1 + place) (attr_position P side attr)) (slice_get (entities_of side t) entity)
+    option_and_then (λ e. option_map (λ position. e.1 + position) (attr_position P side attr)) (slice_get (entities_of side t) entity)
 
 -- the cell of an attribute of the entity with this name
 abbrev pub cell_of : {S : Type 0} → PlainPolicy → TablesOf S → Side → Bytes → Bytes → Option ℕ

@@ -20,13 +20,13 @@ front xs = take (length xs - 1) xs
 abbrev pub undone : Change → Stored → Stored
 undone (Entity sides.Subject cells) t = record t { subjects = front t.subjects; cells = take cells t.cells }
 undone (Entity sides.Object cells) t = record t { objects = front t.objects; cells = take cells t.cells }
-undone (Cell place before) t = record t { cells = slice_set t.cells place before }
-undone (Variable place before) t = record t { variables = slice_set t.variables place before }
+undone (Cell cell before) t = record t { cells = slice_set t.cells cell before }
+undone (Variable position before) t = record t { variables = slice_set t.variables position before }
 undone (Tick before) t = record t { tick = before }
 undone Act t = record t { acts = front t.acts }
-undone (Moment place before) t = record t { acts = set_value_at t.acts place before }
+undone (Moment position before) t = record t { acts = set_value_at t.acts position before }
 undone Session t = record t { sessions = front t.sessions }
-undone (Moved place state start) t = with_moved t place state start
+undone (Moved position state start) t = with_moved t position state start
 
 -- ---- changes of the tables, and policies that were replaced
 

@@ -20,7 +20,7 @@ pub enum Change {
     Moment(usize, Int),
     /// A session was added last.
     Session,
-    /// The session at a place was in this state, with this start.
+    /// The session at a position was in this state, with this start.
     Moved(usize, SessionState, Int),
 }
 

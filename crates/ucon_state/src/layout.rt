@@ -51,7 +51,7 @@ impl Layout {
     }
 }
 
-/// The entities of a side with the places of their cells, which come behind those that are there.
+/// The entities of a side with the positions of their cells, which come behind those that are there.
 fn lay(
     alloc: Global,
     tables: &Tables,
@@ -65,14 +65,15 @@ fn lay(
     ensures entities { IfOk result (λ es. es.entries
         ≡ laid_from (length cells.old.items) (width (checked_policy new.now) side) (entities_of side (lists_of tables.now))) }
     ensures cells { OnOk result (cells.new.items ≡ cells.old.items
-        ++ all_kept_cells (checked_policy old.now) (checked_policy new.now) (lists_of tables.now).cells side (entities_of side (lists_of tables.now))) }
+        ++ all_kept_cells (checked_policy old.now) (checked_policy new.now) (lists_of tables.now).cells side
+        (entities_of side (lists_of tables.now))) }
 {
     let mut laid = IndexMap::new(alloc);
     for i in 0..tables.entities(side).len() {
         let entity = tables.entity(side, i);
-        let place = cells.len();
+        let first = cells.len();
         keep_cells(alloc, tables, old, new, side, entity.1, cells)?;
-        laid.insert(entity.0, place)?;
+        laid.insert(entity.0, first)?;
     }
     Ok(laid)
 }
@@ -130,10 +131,10 @@ fn kept_value(
     requires { first + width (checked_policy old.now) side ≤ length (lists_of tables.now).cells }
     ensures { IfOk result (λ v. v ≡ kept_value (checked_policy old.now) (lists_of tables.now).cells side first decl.now) }
 {
-    let Some(place) = old.policy().attr_position(side, &decl.name) else {
+    let Some(position) = old.policy().attr_position(side, &decl.name) else {
         return decl.start.copy(alloc);
     };
-    match tables.cells.get(first + place) {
+    match tables.cells.get(first + position) {
         Some(value) => value.copy(alloc),
         None => decl.start.copy(alloc),
     }
@@ -165,10 +166,10 @@ fn kept_variable(
 ) -> Result<Value, NoMemory>
     ensures { IfOk result (λ v. v ≡ kept_variable (checked_policy old.now) (lists_of tables.now) decl.now) }
 {
-    let Some(place) = old.policy().env_position(&decl.name) else {
+    let Some(position) = old.policy().env_position(&decl.name) else {
         return decl.start.copy(alloc);
     };
-    match tables.variables.get(place) {
+    match tables.variables.get(position) {
         Some(value) => value.copy(alloc),
         None => decl.start.copy(alloc),
     }

@@ -2,9 +2,9 @@
 #![tactic(auto)]
 
 mod act;
+mod beginnings;
 mod change;
 mod counts;
-mod defaults;
 mod held;
 mod laws;
 mod layout;

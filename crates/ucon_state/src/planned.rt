@@ -31,7 +31,7 @@ pub enum Check {
     Lasts(Int),
 }
 
-/// By the place of each right checks that are enough for all its ongoing predicates; None where one of them is of another form.
+/// By the position of each right checks that are enough for all its ongoing predicates; None where one of them is of another form.
 #[derive(Drop)]
 pub struct Plans {
     by_right: Vec<Option<Vec<Check>>>,
@@ -65,7 +65,7 @@ impl Planned {
         self.checked.policy()
     }
 
-    /// The checks of the right at a place. None where there are none that are enough.
+    /// The checks of the right at a position. None where there are none that are enough.
     #[inline(always)]
     pub fn plan(&self, right: usize) -> Option<&[Check]>
         ensures there { IsSome result → right < length (checked_policy self.now.checked).rights }

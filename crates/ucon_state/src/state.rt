@@ -16,9 +16,9 @@ ghost use Rattle.ucon_state.specs.Tables.{entities_of, entity_number, cell_at, C
 ghost use Rattle.ucon_state.specs.Views.{lists_of, with_layout};
 
 use crate::act::Act;
+use crate::beginnings::{attr_defaults, env_defaults, right_names};
 use crate::change::{Before, Undo};
 use crate::counts::Counts;
-use crate::defaults::{attr_defaults, env_defaults, right_names};
 use crate::held::ActRow;
 use crate::layout::Layout;
 use crate::planned::Planned;
@@ -37,7 +37,7 @@ pub struct State {
     alloc: Global,
     pub(crate) planned: Planned,
     pub(crate) tables: Tables,
-    /// The names of the rights that sessions may have, each at the place that is its number.
+    /// The names of the rights that sessions may have, each at the position that is its number.
     pub(crate) rights: Vec<Name>,
     /// Whether the rights of the policy in force stand first among them, in its order: then each is at its number there, too.
     pub(crate) is_in_order: bool,
@@ -139,9 +139,9 @@ impl State {
         ensures ok { OnOk result (shown self.new ≡ changed_by (shown self.old) (actions.env name.now value)) }
         ensures err { OnErr result (shown self.new ≡ shown self.old) }
     {
-        let place = self.planned.policy().env_position(name).unwrap();
+        let position = self.planned.policy().env_position(name).unwrap();
         self.changes.reserve(1)?;
-        let change = self.tables.set_variable(place, value);
+        let change = self.tables.set_variable(position, value);
         self.changes.push_reserved(Undo::Changed(change));
         Ok(())
     }
@@ -263,9 +263,13 @@ impl State {
         ensures err { OnErr result (shown self.new ≡ shown self.old) }
     {
         self.changes.reserve(1)?;
-        let place = session as usize - 1;
-        let start = start_in(state, self.tables.tick, self.tables.sessions[place].start);
-        let change = self.tables.move_session(place, state, start);
+        let position = session as usize - 1;
+        let start = start_in(
+            state,
+            self.tables.tick,
+            self.tables.sessions[position].start,
+        );
+        let change = self.tables.move_session(position, state, start);
         self.changes.push_reserved(Undo::Changed(change));
         Ok(())
     }
@@ -372,7 +376,7 @@ impl State {
     }
 }
 
-/// The place of a name among these.
+/// The position of a name among these.
 fn number_of(names: &[Name], name: &Name) -> Option<usize>
     ensures { result ≡ position (bytes_eq name.now) names.now }
 {
@@ -422,6 +426,6 @@ pub(crate) fn cell_number(
     ensures there { IfSome result (λ c. c < length (lists_of tables.now).cells) }
 {
     let first = tables.first_cell(side, entity)?;
-    let place = checked.policy().attr_position(side, attr)?;
-    Some(first + place)
+    let position = checked.policy().attr_position(side, attr)?;
+    Some(first + position)
 }

@@ -13,7 +13,7 @@ use std::mem;
 use ucon_base::{Int, Name, NoMemory, Side, Value};
 use ucon_model::SessionState;
 
-/// Entities stand by name with their first cell, acts with their moment. A variable and a session stand at their places.
+/// Entities stand by name with their first cell, acts with their moment. A variable and a session stand at their positions.
 #[derive(Drop)]
 pub struct Tables {
     pub subjects: IndexMap<Name, usize>,
@@ -164,13 +164,13 @@ impl Tables {
     }
 
     #[tactic(auto, using(crate::proofs::Lists::written_back))]
-    pub fn set_variable(&mut self, place: usize, value: Value) -> Change
-        requires { place < length (lists_of self.old).variables }
-        ensures tables { lists_of self.new ≡ with_variable (lists_of self.old) place value }
+    pub fn set_variable(&mut self, position: usize, value: Value) -> Change
+        requires { position < length (lists_of self.old).variables }
+        ensures tables { lists_of self.new ≡ with_variable (lists_of self.old) position value }
         ensures undone { undone result (lists_of self.new) ≡ lists_of self.old }
     {
-        let before = mem::replace(&mut self.variables[place], value);
-        Change::Variable(place, before)
+        let before = mem::replace(&mut self.variables[position], value);
+        Change::Variable(position, before)
     }
 
     pub fn set_tick(&mut self, tick: Int) -> Change
@@ -187,9 +187,9 @@ impl Tables {
         ensures undone { IfOk result (λ c. undone c (lists_of self.new) ≡ lists_of self.old) }
         ensures err { OnErr result (lists_of self.new ≡ lists_of self.old) }
     {
-        let (place, before) = self.acts.insert_full(act, self.tick)?;
+        let (position, before) = self.acts.insert_full(act, self.tick)?;
         match before {
-            Some(before) => Ok(Change::Moment(place, before)),
+            Some(before) => Ok(Change::Moment(position, before)),
             None => Ok(Change::Act),
         }
     }
@@ -216,22 +216,22 @@ impl Tables {
         Ok(Change::Session)
     }
 
-    /// The session at a place goes into a state, with this start.
+    /// The session at a position goes into a state, with this start.
     #[tactic(auto, using(crate::proofs::Moves::written_is_moved, crate::proofs::Moves::moved_back))]
-    pub fn move_session(&mut self, place: usize, state: SessionState, start: Int) -> Change
-        requires { place < length (lists_of self.old).sessions }
-        ensures tables { lists_of self.new ≡ with_moved (lists_of self.old) place state start }
+    pub fn move_session(&mut self, position: usize, state: SessionState, start: Int) -> Change
+        requires { position < length (lists_of self.old).sessions }
+        ensures tables { lists_of self.new ≡ with_moved (lists_of self.old) position state start }
         ensures undone { undone result (lists_of self.new) ≡ lists_of self.old }
     {
-        let before = self.sessions[place];
+        let before = self.sessions[position];
         let session = Session {
             state,
             start,
             ..before
         };
-        self.sessions[place] = session;
+        self.sessions[position] = session;
         self.accessing = self.accessing - accessing_in(&before) + accessing_in(&session);
-        Change::Moved(place, before.state, before.start)
+        Change::Moved(position, before.state, before.start)
     }
 
     /// Lays the entities and values so, and gives back how they were laid.
@@ -252,21 +252,21 @@ impl Tables {
     {
         match change {
             Change::Entity(side, cells) => self.remove_entity(side, cells),
-            Change::Cell(place, before) => put(&mut self.cells, place, before),
-            Change::Variable(place, before) => put(&mut self.variables, place, before),
+            Change::Cell(cell, before) => put(&mut self.cells, cell, before),
+            Change::Variable(position, before) => put(&mut self.variables, position, before),
             Change::Tick(before) => self.tick = before,
             Change::Act => {
                 let _ = self.acts.pop();
             }
-            Change::Moment(place, before) => {
-                if place < self.acts.len() {
-                    self.acts[place] = before;
+            Change::Moment(position, before) => {
+                if position < self.acts.len() {
+                    self.acts[position] = before;
                 }
             }
             Change::Session => self.remove_session(),
-            Change::Moved(place, state, start) => {
-                if place < self.sessions.len() {
-                    let _ = self.move_session(place, state, start);
+            Change::Moved(position, state, start) => {
+                if position < self.sessions.len() {
+                    let _ = self.move_session(position, state, start);
                 }
             }
         }
@@ -301,11 +301,11 @@ fn accessing_in(session: &Session) -> usize
     }
 }
 
-/// Writes at a place, if it is there.
-fn put<T: Drop>(items: &mut Vec<T>, place: usize, item: T)
-    ensures { items.new.items ≡ slice_set items.old.items place item }
+/// Writes at a position, if it is there.
+fn put<T: Drop>(items: &mut Vec<T>, position: usize, item: T)
+    ensures { items.new.items ≡ slice_set items.old.items position item }
 {
-    if place < items.len() {
-        items[place] = item;
+    if position < items.len() {
+        items[position] = item;
     }
 }

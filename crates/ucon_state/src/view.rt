@@ -58,8 +58,8 @@ impl State {
     pub fn variable(&self, name: &Name) -> Option<&Value>
         ensures { option_copied result ≡ variable_in (shown self.now).policy (shown self.now).tables name.now }
     {
-        let place = self.planned.policy().env_position(name)?;
-        self.tables.variables.get(place)
+        let position = self.planned.policy().env_position(name)?;
+        self.tables.variables.get(position)
     }
 
     /// The state of a session. None where there is no such session.

@@ -15,12 +15,16 @@ use ucon_token::{Reader, Stop, Token};
 pub trait Item: Drop {
     ghost use Rattle.ucon_syntax.specs.declared.room.Room.{Room};
 
+    /// What an item is in definitions.
     ghost Plain: { Type 0 };
 
+    /// The item that one is.
     ghost plain: { Self → Plain };
 
+    /// Whether an item begins with a token.
     ghost starts: { PlainToken → Bool };
 
+    /// What the tokens say at the front, with so much room for it, and what room is then left.
     ghost item_at: { Room → Reads (Plain × Room) };
 
     /// Whether one begins with this token.

@@ -185,9 +185,9 @@ named_by : (name : Bytes) (o : Option Bytes) → IsSomeAnd o (λ e. bytes_eq nam
 named_by name None h = absurd h
 named_by name (Some e) h = ap (λ (e : Bytes). Some e) (sym (same_name name e h))
 
-number_is_place : (P : PlainPolicy) (t : Tables) (T : Trace) → TablesFollow P t T → (side : Side) (name : Bytes) (i : ℕ)
+number_is_position : (P : PlainPolicy) (t : Tables) (T : Trace) → TablesFollow P t T → (side : Side) (name : Bytes) (i : ℕ)
     → (entity_number t side name ≡ Some i) ↔ (slice_get (entity_names side T) i ≡ Some name)
-number_is_place P t T h side name i =
+number_is_position P t T h side name i =
     let names = h.entities.names side in
     subst (λ (es : List Bytes). (entity_number t side name ≡ Some i) ↔ (slice_get es i ≡ Some name)) names.names (
       λ at. named_by name (slice_get (map (λ (e : Bytes × ℕ). e.0) (entities_of side t)) i) (passes_there (bytes_eq name) (map (λ (e : Bytes × ℕ). e.0) (entities_of side t)) i at),
@@ -200,7 +200,7 @@ keeps P t T h = record {
   counts_agree = same_counts P t T h;
   names = λ side. (h.entities.names side).names;
   entity_is_there = λ side name. placed_where_found (bytes_eq name) (entities_of side t) ∙ (h.entities.names side).there name;
-  number_is_place = number_is_place P t T h;
+  number_is_position = number_is_position P t T h;
   cell_is_there = cell_where_declared P t T h.entities;
   attribute_agrees = h.entities.values;
   variable_agrees = h.variables.values;

@@ -22,11 +22,11 @@ loop-i-preserved c =
     let cells = c.loop-i.cells.items in
     let more = c.keep_cells.new.cells.items in
     let first = length c.args.cells.now.items in
-    let place : c.len-place.result ≡ length cells = omega (arith, c.len-place.ensures, c.loop-i.cells.ok.0) in
+    let behind : c.len-first.result ≡ length cells = omega (arith, c.len-first.ensures, c.loop-i.cells.ok.0) in
     record {
       entities =
           ap (λ (d : List (Bytes × ℕ)). d ++ laid_from (length more) (width Q c.args.side) (drop (c.loop-i.i + 1) es))
-          (c.in_ok-insert.ensures.entries ∙ ap (insert_entry bytes_eq c.loop-i.laid.entries c.entity-entity.result.0) place)
+          (c.in_ok-insert.ensures.entries ∙ ap (insert_entry bytes_eq c.loop-i.laid.entries c.entity-entity.result.0) behind)
           ∙ one_more_laid P Q t.cells c.args.side es c.loop-i.laid.entries cells more first c.loop-i.i c.entity-entity.result c.requires.differ c.entity-entity.ensures c.in_ok-keep_cells.ensures c.loop-i.invariant.entities;
       cells =
           its_cells_added P Q t.cells c.args.side es c.loop-i.laid.entries cells more first c.loop-i.i c.entity-entity.result _ c.entity-entity.ensures c.in_ok-keep_cells.ensures c.loop-i.invariant.cells;

@@ -1,5 +1,5 @@
 use Rattle.std.proofs.Common.{◌≡◌, List, Some, ap, sym, ◌∙◌, subst}
-use Rattle.ucon_board.specs.declared.told.Event.{Event}
+use Rattle.ucon_board.specs.declared.history.Event.{Event}
 use Rattle.ucon_board.specs.declared.shown.Shown.{Shown}
 use Rattle.ucon_board.specs.Board.{Board, GoesOn, Known}
 use Rattle.ucon_board.specs.Rule.{Told, Fits}

@@ -1,7 +1,7 @@
 use Rattle.std.proofs.Common.{◌≡◌, ◌+◌, [], ◌∷◌, ◌++◌, drop, length, length-append, ap, sym, ◌∙◌, subst, arith}
 use Rattle.ucon_model.specs.Plain.{PlainReply}
 use Rattle.ucon_model.specs.Views.{reply_of}
-use Rattle.ucon_board.specs.declared.told.Published.{Published}
+use Rattle.ucon_board.specs.declared.history.Published.{Published}
 use Rattle.ucon_board.specs.Board.{NamesSessions, Written, place_of, posted}
 use Rattle.ucon_board.specs.Rule.{Told}
 use Rattle.ucon_board.specs.Told.{board_of, replied}

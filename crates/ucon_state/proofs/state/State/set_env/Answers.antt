@@ -15,8 +15,8 @@ use Rattle.ucon_state.specs.declared.change.Undo.TheVariants.{Changed}
 use Rattle.ucon_state.proofs.Stages.{noted_sound, noted_shown, numbered_now, sound_now}
 use Rattle.ucon_state.proofs.state.State.set_env.Goals as goal
 
-pub unwrap-place-requires : goal.unwrap-place-requires
-unwrap-place-requires c =
+pub unwrap-position-requires : goal.unwrap-position-requires
+unwrap-position-requires c =
     let P = checked_policy c.args.self.now.planned.checked in
     let found = found_place (λ d. bytes_eq c.args.name.now d.name) P.envs _ c.requires in
     ap is_some ((c.env_position.ensures ∙ ap (λ (Q : PlainPolicy). env_position Q c.args.name.now) c.policy.ensures.policy) ∙ found.place)
@@ -26,7 +26,7 @@ set_variable-change-requires c =
     let P = checked_policy c.args.self.now.planned.checked in
     let R = right_names c.args.self.now in
     let before = sound_now P R c.args.self.now.changes.items (lists_of c.args.self.now.tables) c.args.self.now.sound in
-    let within = position_within (λ d. bytes_eq c.args.name.now d.name) P.envs c.unwrap-place.result (sym (c.env_position.ensures ∙ ap (λ (Q : PlainPolicy). env_position Q c.args.name.now) c.policy.ensures.policy) ∙ c.unwrap-place.ensures) in
+    let within = position_within (λ d. bytes_eq c.args.name.now d.name) P.envs c.unwrap-position.result (sym (c.env_position.ensures ∙ ap (λ (Q : PlainPolicy). env_position Q c.args.name.now) c.policy.ensures.policy) ∙ c.unwrap-position.ensures) in
     omega (arith, within, before.variables)
 
 pub invariant_of-self-2 : goal.invariant_of-self-2
@@ -45,5 +45,5 @@ returns-clause-ok c =
     let R = right_names c.args.self.now in
     let t = lists_of c.args.self.now.tables in
     let added = c.push_reserved.ensures.items ∙ ap (λ cs. cs ++ Changed c.set_variable-change.result ∷ []) c.reserve.ensures.items in
-    let is = ap (named R) c.set_variable-change.ensures.tables ∙ ap (λ o. option_map_or (λ place. with_variable (named R t) place c.args.value) o (named R t)) (sym c.unwrap-place.ensures ∙ (c.env_position.ensures ∙ ap (λ (Q : PlainPolicy). env_position Q c.args.name.now) c.policy.ensures.policy)) in
+    let is = ap (named R) c.set_variable-change.ensures.tables ∙ ap (λ o. option_map_or (λ position. with_variable (named R t) position c.args.value) o (named R t)) (sym c.unwrap-position.ensures ∙ (c.env_position.ensures ∙ ap (λ (Q : PlainPolicy). env_position Q c.args.name.now) c.policy.ensures.policy)) in
     noted_shown P R _ _ c.set_variable-change.result t _ _ added c.set_variable-change.ensures.undone is

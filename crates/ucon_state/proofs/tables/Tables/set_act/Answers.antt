@@ -14,6 +14,6 @@ returns-in-Some-clause-undone c =
     let eq : Act → Act → Bool = λ a b. bytes_eq a.subject b.subject && (bytes_eq a.action b.action && bytes_eq a.object b.object) in
     let written = insert_entry eq t.acts c.args.act t.tick in
     ap (λ acts. record t { acts = acts })
-    (ap (λ es. set_value_at es c.in_ok-place.place before) c.in_ok-place.ensures.entries
-    ∙ ap (λ i. set_value_at written i before) c.in_ok-place.ensures.index
-    ∙ value_given_back eq t.acts c.args.act t.tick before (sym c.in_ok-place.ensures.old ∙ c.in-Some.is))
+    (ap (λ es. set_value_at es c.in_ok-position.position before) c.in_ok-position.ensures.entries
+    ∙ ap (λ i. set_value_at written i before) c.in_ok-position.ensures.index
+    ∙ value_given_back eq t.acts c.args.act t.tick before (sym c.in_ok-position.ensures.old ∙ c.in-Some.is))

@@ -1,7 +1,7 @@
 use Rattle.std.proofs.Common.{◌≡◌, ◌++◌, drop}
 use Rattle.std.specs.Prelude.{map}
 use Rattle.ucon_model.specs.Views.{right_of}
-use Rattle.ucon_state.proofs.defaults.right_names.Given as goal
+use Rattle.ucon_state.proofs.beginnings.right_names.Given as goal
 
 abbrev pub invariant-loop-right : goal.invariant-loop-right
 invariant-loop-right l =

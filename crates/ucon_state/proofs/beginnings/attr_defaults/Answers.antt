@@ -4,7 +4,7 @@ use Rattle.std.proofs.lemmas.List.{length-append, length-map}
 use Rattle.ucon_model.specs.Checked.{checked_policy}
 use Rattle.ucon_model.specs.Readings.{attrs_of, same_side}
 use Rattle.ucon_state.proofs.Amended.{width_few}
-use Rattle.ucon_state.proofs.defaults.attr_defaults.Goals as goal
+use Rattle.ucon_state.proofs.beginnings.attr_defaults.Goals as goal
 
 pub returns-clause-few : goal.returns-clause-few
 returns-clause-few c =

@@ -3,7 +3,7 @@ use Rattle.std.specs.Prelude.{map, filter}
 use Rattle.ucon_model.specs.Checked.{checked_policy}
 use Rattle.ucon_model.specs.Readings.{same_side}
 use Rattle.ucon_state.specs.Applied.{defaults_of}
-use Rattle.ucon_state.proofs.defaults.attr_defaults.Given as goal
+use Rattle.ucon_state.proofs.beginnings.attr_defaults.Given as goal
 
 abbrev pub invariant-loop-decl : goal.invariant-loop-decl
 invariant-loop-decl l =

@@ -1,6 +1,6 @@
 use Rattle.std.proofs.Common.{ap, sym, ◌∙◌, length}
 use Rattle.ucon_board.proofs.Adding.{adds_moves}
-use Rattle.ucon_board.proofs.told.History.with.Goals as goal
+use Rattle.ucon_board.proofs.history.History.with.Goals as goal
 
 pub compare_exchange-found-requires : goal.compare_exchange-found-requires
 compare_exchange-found-requires c =
