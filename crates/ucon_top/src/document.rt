@@ -28,7 +28,7 @@ pub fn output_of<E: Engine>(alloc: Global, form: Form, bytes: &[u8]) -> Result<V
     ensures err { IfErr result (λ r. IsRefused r bytes.now) }
 {
     let checked = read_checked(alloc, bytes)?;
-    let script = read_lines(alloc, &checked, bytes)?;
+    let script = read_lines(alloc, bytes)?;
     let text = form_output::<E>(alloc, form, checked, &script)?;
     Ok(text)
 }
@@ -40,8 +40,8 @@ pub fn read_accepted<'a>(alloc: Global, bytes: &'a [u8]) -> Result<Script<'a>, R
     ensures says { IfOk result (λ d. document_read accepted bytes.now ≡ Ok (lines_spelled d)) }
     ensures err { IfErr result (λ r. IsRefused r bytes.now) }
 {
-    let checked = read_checked(alloc, bytes)?;
-    read_lines(alloc, &checked, bytes)
+    read_checked(alloc, bytes)?;
+    read_lines(alloc, bytes)
 }
 
 /// The policy of a document, checked.
@@ -55,13 +55,12 @@ fn read_checked(alloc: Global, bytes: &[u8]) -> Result<Checked, Refused>
 }
 
 /// The command lines of a document whose policy is accepted.
-fn read_lines<'a>(alloc: Global, checked: &Checked, bytes: &'a [u8]) -> Result<Script<'a>, Refused>
+fn read_lines<'a>(alloc: Global, bytes: &'a [u8]) -> Result<Script<'a>, Refused>
     requires few { length bytes.now ≤ 4194304 }
-    requires policy { HasPolicy bytes.now (checked_policy checked.now) }
+    requires policy { HasSomePolicy bytes.now }
     ensures ok { IfOk result (λ d. document_read accepted bytes.now ≡ Ok (lines_spelled d)) }
     ensures err { IfErr result (λ r. IsRefused r bytes.now) }
 {
-    let _ = checked;
     let script = read_script(alloc, bytes)?;
     Ok(script)
 }

@@ -6,7 +6,7 @@ ghost use Rattle.ucon_model.specs.History.{History, grown, said, trace};
 ghost use Rattle.ucon_model.specs.History as histories;
 ghost use Rattle.ucon_model.specs.Plain.{PlainPolicy};
 ghost use Rattle.ucon_engine.specs.Engine.{IsIdle, IsPending, StandsFor};
-ghost use Rattle.ucon_trial.specs.Hearing.{HasHeard, HearsMore, replied};
+ghost use Rattle.ucon_trial.specs.Hearing.{HasHeard, HearsAnswer};
 ghost use Rattle.ucon_trial.specs.OneAnswer.{Answers, entry_of};
 
 use crate::hearer::Hearer;
@@ -85,7 +85,8 @@ fn answer_one<E: Engine, R: Hearer>(
     requires { IsIdle E.follows engine.old }
     ensures idle { IsIdle E.follows engine.new }
     ensures answers { IfOk result (λ next. (P : PlainPolicy) (H : History) → StandsFor E.follows engine.old P H
-        → Answers P (StandsFor E.follows engine.new P) (λ reply. HearsMore R.hears hearer.old hearer.new (replied (entry_of line.now) reply)) H place next (entry_of line.now)) }
+        → Answers P (StandsFor E.follows engine.new P) (HearsAnswer R.hears hearer.old hearer.new (entry_of line.now))
+        H place next (entry_of line.now)) }
 {
     match line.command.command_into(alloc, command) {
         Ok(()) => answer(alloc, engine, hearer, steps, place, line, command),
@@ -110,7 +111,8 @@ fn answer<E: Engine, R: Hearer>(
     requires command { (entry_of line.now).command ≡ command.now }
     ensures idle { IsIdle E.follows engine.new }
     ensures answers { IfOk result (λ next. (P : PlainPolicy) (H : History) → StandsFor E.follows engine.old P H
-        → Answers P (StandsFor E.follows engine.new P) (λ reply. HearsMore R.hears hearer.old hearer.new (replied (entry_of line.now) reply)) H place next (entry_of line.now)) }
+        → Answers P (StandsFor E.follows engine.new P) (HearsAnswer R.hears hearer.old hearer.new (entry_of line.now))
+        H place next (entry_of line.now)) }
 {
     match engine.draft(line.caller, command, steps) {
         Err(_) => {
