@@ -258,6 +258,7 @@ fn is_found_of_usages<R: Threads + Sync>(
     is_found(wanted, sessions.len(), changed.slice(), plain.as_slice())
 }
 
+/// Whether those of all sessions, and those of the usages that go on, are found in the state.
 fn are_found_in<R: Threads + Sync>(
     rt: &R,
     alloc: Global,

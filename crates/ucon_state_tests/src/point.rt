@@ -1,4 +1,5 @@
 //! Texts of checkpoints, worked out by hand.
+
 ghost use Rattle.ucon_actions.specs.Leads.{IsFollowing};
 ghost use Rattle.ucon_state.specs.Shown.{shown};
 

@@ -43,28 +43,35 @@ fn may_be_found(before: u64, output: &[u8]) -> Result<(u64, u64), Fail> {
 /// What a file's open places are filled with.
 const FILLS: &[u8] = &[0, 1, 255];
 
-/// The length of the first image with this in its open places in which neither number of entries is found.
-fn first_other<R: Threads + Wait + Sync>(
+/// The length of the longest file of these tests, which holds one entry and two checkpoints: no crash leaves more.
+const LONGEST: u64 = 148;
+
+/// How many images there are with this in their open places, and the length of the first in which neither number of entries is found. No more
+/// than that number is compared.
+fn opened_images<R: Threads + Wait + Sync>(
     rt: &R,
     alloc: Global,
     disk: &MemDisk,
     fill: u8,
     may_be: (u64, u64),
-) -> Result<Option<u64>, Fail> {
+) -> Result<(u64, Option<u64>), Fail> {
+    let (mut opened, mut other) = (0u64, None);
     let mut fills = Vec::new(alloc);
-    fills.resize(100, fill)?;
-    for len in 0..100u64 {
+    fills.resize(LONGEST as usize, fill)?;
+    for len in 0..=LONGEST {
         if let Some(image) = disk.image(len, &fills)? {
+            opened = opened.saturating_add(1);
             let found = entries_found(rt, alloc, &image)?;
             if found != may_be.0 && found != may_be.1 {
-                return Ok(Some(len));
+                other = other.or(Some(len));
             }
         }
     }
-    Ok(None)
+    Ok((opened, other))
 }
 
-/// A run over a file on a disk that stops after so many calls: whatever a crash leaves then, each step that was answered is found.
+/// A run over a file on a disk that stops after so many calls: whatever a crash leaves then, each step that was answered is found. The images of
+/// each length are opened, of which there is one at least.
 fn hold_images<R: Abort + Threads + Wait + Sync>(
     rt: &R,
     alloc: Global,
@@ -77,11 +84,12 @@ fn hold_images<R: Abort + Threads + Wait + Sync>(
     let disk = stopping(alloc, file, Some(calls))?;
     let end = over(rt, alloc, form, document, disk, &OpenGate)?;
     let may_be = may_be_found(before, &end.output)?;
+    let is_longer = end.disk.image(LONGEST + 1, b"")?.is_some();
     for &fill in FILLS {
-        let other = first_other(rt, alloc, &end.disk, fill, may_be)?;
+        let (opened, other) = opened_images(rt, alloc, &end.disk, fill, may_be)?;
         assert!(rt;
-            other.is_none(),
-            "stopped after {calls} calls, {other:?} bytes, filled with {fill}"
+            opened > 0 && other.is_none() && !is_longer,
+            "stopped after {calls} calls, {opened} images, {other:?} bytes, filled with {fill}"
         );
     }
     Ok(())
@@ -160,66 +168,81 @@ const REVOKING: &[u8] = b"client 0\nset o x most 0\n";
 
 const ASKING: &[u8] = b"client 0\nlook 1\n";
 
-/// The length of the first image with this in its open places in which the step isn't found. Each is of a history with the step or without.
-fn first_lost<R: Threads + Wait + Sync>(
+/// How many images of the lengths that are tried there are with this in their open places, and the length of the first in which the step isn't
+/// found. Each is of a history with the step or without.
+fn opened_uses<R: Threads + Wait + Sync>(
     rt: &R,
     alloc: Global,
     disk: &MemDisk,
     fill: u8,
     least: u64,
     greatest: u64,
-) -> Result<Option<u64>, Fail> {
-    let mut lost = None;
+) -> Result<(u64, Option<u64>), Fail> {
+    let (mut opened, mut lost) = (0u64, None);
     let mut fills = Vec::new(alloc);
     fills.resize(greatest as usize, fill)?;
     for len in [least, least.saturating_add(greatest) / 2, greatest] {
         if let Some(image) = disk.image(len, &fills)? {
+            opened = opened.saturating_add(1);
             if uses_found(rt, alloc, &image)? != 1004 {
                 lost = lost.or(Some(len));
             }
         }
     }
-    Ok(lost)
+    Ok((opened, lost))
 }
 
 /// What a crash leaves of the step that revokes 1,000 uses, on a disk that stops after so many calls: all of it or nothing, and all of it once
-/// it was answered.
+/// it was answered, which it is or isn't as told.
 fn hold_cascade<R: Abort + Threads + Wait + Sync>(
     rt: &R,
     alloc: Global,
     before: &[u8],
     whole: &End,
     calls: u64,
+    is_answered: bool,
 ) -> Result<(), Fail> {
     let step = document(alloc, CAPPED, REVOKING)?;
     let end = played(rt, alloc, &step, before, Some(calls))?;
     let (least, greatest) = (before.len() as u64, whole.disk.contents().len() as u64);
-    let is_answered = end.output == whole.output;
+    let is_told = (end.output == whole.output) == is_answered;
     for &fill in FILLS {
-        let lost = first_lost(rt, alloc, &end.disk, fill, least, greatest)?;
+        let (opened, lost) = opened_uses(rt, alloc, &end.disk, fill, least, greatest)?;
         assert!(rt;
-            lost.is_none() || !is_answered,
-            "stopped after {calls} calls, {lost:?} bytes, filled with {fill}"
+            is_told && opened > 0 && (lost.is_none() || !is_answered),
+            "stopped after {calls} calls, {opened} images, {lost:?} bytes, filled with {fill}"
         );
     }
     Ok(())
 }
 
-/// On a disk that stops after each of the step's calls.
+/// The answer to the step: all 1,000 uses are revoked, in the order of their numbers.
+fn all_revoked(alloc: Global) -> Result<String, Fail> {
+    let mut text = String::from_str(alloc, "0 1004 ok")?;
+    for number in 1..=1000u32 {
+        text.push_str(format!(in alloc; " revoked {number} cap")?.as_str())?;
+    }
+    text.push_str("\n")?;
+    Ok(text)
+}
+
+/// The calls of a step: its record and a sync, and its gate and a sync.
+const CALLS_OF_A_STEP: u64 = 4;
+
+/// On a disk that stops after each of the step's calls. Only behind the last of them the step is answered.
 #[test]
 fn a_large_cascade_is_found_whole_or_not_at_all(rt: HostRuntime) -> Result<(), Fail> {
     let alloc = rt.alloc();
     let before = thousand_uses(&rt, alloc)?;
     let step = document(alloc, CAPPED, REVOKING)?;
     let whole = played(&rt, alloc, &step, &before, None)?;
-    assert!(rt;
-        whole
-            .output
-            .starts_with(b"0 1004 ok revoked 1 cap revoked 2 cap ".as_slice())
-    );
+    let answer = all_revoked(alloc)?;
+    assert!(rt; whole.output.as_slice() == answer.as_bytes());
     let opening = calls_of_opening(&rt, alloc, &before)?;
-    for calls in opening..opening.saturating_add(6) {
-        hold_cascade(&rt, alloc, &before, &whole, calls)?;
+    for calls in 0..=CALLS_OF_A_STEP {
+        let stop = opening.saturating_add(calls);
+        let is_last = calls == CALLS_OF_A_STEP;
+        hold_cascade(&rt, alloc, &before, &whole, stop, is_last)?;
     }
     Ok(())
 }

@@ -181,11 +181,13 @@ fn places_are_counted(rt: HostRuntime) -> Result<(), Fail> {
     Ok(())
 }
 
-/// Core models, and a second refusal of each sort.
-const JUDGED: &[(&[u8], u8, &[u8])] = &[
-    (CAPPED, 0, b"right use onA1 onA3\n"),
-    (b"right r {", 2, b"ucon: policy: unexpected at 9\n"),
+/// No bytes at all, core models, and a second refusal of each sort.
+const JUDGED: &[(&str, &[u8], u8, &[u8])] = &[
+    ("trial", b"", 0, b""),
+    ("check", CAPPED, 0, b"right use onA1 onA3\n"),
+    ("check", b"right r {", 2, b"ucon: policy: unexpected at 9\n"),
     (
+        "check",
         b"%%\nclient 1\nlook\n",
         3,
         b"ucon: script: wrong count at line 3\n",
@@ -194,9 +196,9 @@ const JUDGED: &[(&[u8], u8, &[u8])] = &[
 
 #[test]
 fn other_documents(rt: HostRuntime) -> Result<(), Fail> {
-    for &(document, status, text) in JUDGED {
+    for &(form, document, status, text) in JUDGED {
         assert!(rt;
-            prints(&rt, rt.alloc(), "check", document, status, text)?,
+            prints(&rt, rt.alloc(), form, document, status, text)?,
             "{text:?}"
         );
     }

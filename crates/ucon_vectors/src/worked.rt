@@ -77,7 +77,7 @@ pub const TAGGED: &[u8] =
     b"attr s tags : set = {}; right r { pre a t: size(s.tags) >= 0; before s.tags = s.tags + \"zz\"; }
 ";
 
-/// The rows: those of the page that works them out, in its order, and two in which each command comes.
+/// The rows: those that `docs/definitions.md` works out, in its order, and two in which each command comes.
 pub const WORKED_ROWS: &[Row] = &[
     Row {
         name: "pay_per_use_music",
