@@ -46,15 +46,7 @@ impl<R: Files<File = File>> FileDisk<R> {
 }
 
 impl<R: Files<File = File>> Disk for FileDisk<R> {
-    ghost contents = { λ _. None };
-
-    ghost images = { λ _ _. ⊤ };
-
-    ghost moment = { λ _. 0 };
-
-    ghost images_since = { λ _ _ _. ⊤ };
-
-    ghost faults = { λ d. d.faults };
+    ghost seen = { λ d. record { contents = None; images = λ _. ⊤; moment = 0; images_since = λ _ _. ⊤; faults = d.faults } };
 
     ghost as_read = { λ d. tt };
 

@@ -78,15 +78,13 @@ impl MemDisk {
 impl Disk for MemDisk {
     ghost use Rattle.ucon_disk.specs.MemDisk.{Makes};
 
-    ghost contents = { λ d. Some (state_now d.log).file };
-
-    ghost images = { λ d. IsImage (state_now d.log) };
-
-    ghost moment = { λ d. length d.log.changes };
-
-    ghost images_since = { λ d. IsImageSince d.log };
-
-    ghost faults = { λ d. d.plan.faults };
+    ghost seen = { λ d. record {
+        contents = Some (state_now d.log).file;
+        images = IsImage (state_now d.log);
+        moment = length d.log.changes;
+        images_since = IsImageSince d.log;
+        faults = d.plan.faults
+    } };
 
     ghost makes = { Makes };
 

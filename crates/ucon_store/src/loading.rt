@@ -121,11 +121,11 @@ impl<E: Engine> Loaded<E> {
         ensures reading { IsReading D.contents journal.new }
         ensures ended { result ≡ Ok false → HasEnded D.contents journal.new }
         ensures reason { IfErr result (λ fault. (text : List ℕ)
-            → HasReason fault text (D.contents (disk_of journal.old)) (D.faults (disk_of journal.old)) (D.faults (disk_of journal.new))) }
-        ensures contents { D.contents (disk_of journal.new) ≡ D.contents (disk_of journal.old) }
-        ensures images { SameImages (D.images (disk_of journal.old)) (D.images (disk_of journal.new)) }
-        ensures run { LeavesOnly D.moment D.images_since (disk_of journal.old) (disk_of journal.new) (D.images (disk_of journal.old)) }
-        ensures unfailed { OnOk result (D.faults (disk_of journal.new) ≡ D.faults (disk_of journal.old)) }
+            → HasReason fault text (D.seen (disk_of journal.old)).contents (D.seen (disk_of journal.old)).faults (D.seen (disk_of journal.new)).faults) }
+        ensures contents { (D.seen (disk_of journal.new)).contents ≡ (D.seen (disk_of journal.old)).contents }
+        ensures images { SameImages (D.seen (disk_of journal.old)).images (D.seen (disk_of journal.new)).images }
+        ensures run { LeavesOnly (D.seen (disk_of journal.old)) (D.seen (disk_of journal.new)) (D.seen (disk_of journal.old)).images }
+        ensures unfailed { OnOk result ((D.seen (disk_of journal.new)).faults ≡ (D.seen (disk_of journal.old)).faults) }
     {
         let place = journal.gate();
         let number = self.records;
@@ -154,11 +154,11 @@ impl<E: Engine> Loaded<E> {
         ensures loaded { OnOk result (HasLoaded E.follows D.contents self.new journal.new) }
         ensures ended { OnOk result (HasEnded D.contents journal.new) }
         ensures reason { IfErr result (λ fault. (text : List ℕ)
-            → HasReason fault text (D.contents (disk_of journal.old)) (D.faults (disk_of journal.old)) (D.faults (disk_of journal.new))) }
-        ensures contents { D.contents (disk_of journal.new) ≡ D.contents (disk_of journal.old) }
-        ensures images { SameImages (D.images (disk_of journal.old)) (D.images (disk_of journal.new)) }
-        ensures run { LeavesOnly D.moment D.images_since (disk_of journal.old) (disk_of journal.new) (D.images (disk_of journal.old)) }
-        ensures unfailed { OnOk result (D.faults (disk_of journal.new) ≡ D.faults (disk_of journal.old)) }
+            → HasReason fault text (D.seen (disk_of journal.old)).contents (D.seen (disk_of journal.old)).faults (D.seen (disk_of journal.new)).faults) }
+        ensures contents { (D.seen (disk_of journal.new)).contents ≡ (D.seen (disk_of journal.old)).contents }
+        ensures images { SameImages (D.seen (disk_of journal.old)).images (D.seen (disk_of journal.new)).images }
+        ensures run { LeavesOnly (D.seen (disk_of journal.old)) (D.seen (disk_of journal.new)) (D.seen (disk_of journal.old)).images }
+        ensures unfailed { OnOk result ((D.seen (disk_of journal.new)).faults ≡ (D.seen (disk_of journal.old)).faults) }
     {
         'records: while self.take_next(alloc, journal)? {}
         Ok(())

@@ -87,12 +87,12 @@ pub(crate) fn record<E: Engine, D: Disk>(
     ensures gate { OnOk result (gate_of journal.old + 5 ≤ gate_of journal.new) }
     ensures small { gate_of journal.new < 2 ^ 63 }
     ensures version { version_of journal.new ≡ version_of journal.old }
-    ensures only { OnOk result (Only (D.contents (disk_of journal.new)) (D.images (disk_of journal.new))) }
-    ensures payloads { OnOk result (IfSome (D.contents (disk_of journal.old)) (λ file.
-        told_payloads (D.contents (disk_of journal.new)) ≡ told_payloads (D.contents (disk_of journal.old)) ++ payload.now ∷ [])) }
-    ensures tells { is_some (D.contents (disk_of journal.new)) ≡ is_some (D.contents (disk_of journal.old)) }
-    ensures images { LeavesAfter D.contents D.images D.moment D.images_since (disk_of journal.old) (disk_of journal.new) (PerhapsAdded payload.now) }
-    ensures cause { HasCause (D.faults (disk_of journal.old)) (D.faults (disk_of journal.new)) result }
+    ensures only { OnOk result (Only (D.seen (disk_of journal.new)).contents (D.seen (disk_of journal.new)).images) }
+    ensures payloads { OnOk result (IfSome (D.seen (disk_of journal.old)).contents (λ file.
+        told_payloads (D.seen (disk_of journal.new)).contents ≡ told_payloads (D.seen (disk_of journal.old)).contents ++ payload.now ∷ [])) }
+    ensures tells { is_some (D.seen (disk_of journal.new)).contents ≡ is_some (D.seen (disk_of journal.old)).contents }
+    ensures images { LeavesAfter (D.seen (disk_of journal.old)) (D.seen (disk_of journal.new)) (PerhapsAdded payload.now) }
+    ensures cause { HasCause (D.seen (disk_of journal.old)).faults (D.seen (disk_of journal.new)).faults result }
 {
     if journal.append(payload).is_err() {
         engine.undo();

@@ -37,9 +37,9 @@ pub fn play<E: Engine, K: Sink, D: Disk>(
     ensures refused { IsRefusedBy result.outcome bytes.now }
     ensures accepted { IsOfAccepted result.outcome → IsAccepted bytes.now }
     ensures sink { IsCounted result.outcome Outcome.SinkFault (K.faults out.old) (K.faults out.new) }
-    ensures played { HasPlayed D.contents D.images D.moment D.images_since D.faults K.contents Form.Play result.outcome bytes.now disk result.disk
+    ensures played { HasPlayed D.seen K.contents Form.Play result.outcome bytes.now disk result.disk
         out.old out.new }
-    ensures fault { result.outcome ≡ Outcome.DiskFault → D.faults result.disk ≡ raised (D.faults disk) }
+    ensures fault { result.outcome ≡ Outcome.DiskFault → (D.seen result.disk).faults ≡ raised (D.seen disk).faults }
     ensures untouched { IsUntouched result.outcome → result.disk ≡ disk }
     ensures unaccepted { (result.disk ≡ disk) ⊎ IsAccepted bytes.now }
     ensures unwritten { IsUnwritten result.outcome → out.new ≡ out.old }
@@ -66,7 +66,7 @@ fn play_lines<E: Engine, K: Sink, D: Disk>(
     ensures status { result.status ≡ status_of result.outcome }
     ensures of_run { IsOfRun result.outcome }
     ensures run { (P : PlainPolicy) → accepted store.policy ≡ Some P
-        → IsClosedRun D.contents D.images D.moment D.images_since D.faults in_text_order P store (map entry_of lines.now) result.outcome result.disk
+        → IsClosedRun D.seen in_text_order P store (map entry_of lines.now) result.outcome result.disk
         (K.contents out.old) (K.contents out.new) }
     ensures sink { IsCounted result.outcome Outcome.SinkFault (K.faults out.old) (K.faults out.new) }
     ensures unwritten { IsUnwritten result.outcome → out.new ≡ out.old }

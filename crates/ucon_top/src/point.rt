@@ -36,9 +36,9 @@ pub fn point<E: Engine, K: Sink, D: Disk>(
     ensures refused { IsRefusedBy result.outcome bytes.now }
     ensures accepted { IsOfAccepted result.outcome → IsAccepted bytes.now }
     ensures sink { IsCounted result.outcome Outcome.SinkFault (K.faults out.old) (K.faults out.new) }
-    ensures pointed { HasPointed D.contents D.images D.moment D.images_since D.faults K.contents
+    ensures pointed { HasPointed D.seen K.contents
         result.outcome bytes.now disk result.disk out.old out.new }
-    ensures fault { result.outcome ≡ Outcome.DiskFault → D.faults result.disk ≡ raised (D.faults disk) }
+    ensures fault { result.outcome ≡ Outcome.DiskFault → (D.seen result.disk).faults ≡ raised (D.seen disk).faults }
     ensures untouched { IsUntouched result.outcome → result.disk ≡ disk }
     ensures unaccepted { (result.disk ≡ disk) ⊎ IsAccepted bytes.now }
     ensures unwritten { IsUnwritten result.outcome → out.new ≡ out.old }
@@ -64,7 +64,7 @@ fn point_opened<E: Engine, K: Sink, D: Disk>(
     ensures status { result.status ≡ status_of result.outcome }
     ensures of_point { IsOfPoint result.outcome }
     ensures ends { (P : PlainPolicy) (T : Trace) → accepted store.policy ≡ Some P → IsStart P store.point store.before T
-        → EndsPoint D.contents D.images D.moment D.images_since D.faults P store result.disk (K.contents out.old) (K.contents out.new)
+        → EndsPoint D.seen P store result.disk (K.contents out.old) (K.contents out.new)
         result.outcome }
     ensures sink { IsCounted result.outcome Outcome.SinkFault (K.faults out.old) (K.faults out.new) }
     ensures unwritten { IsUnwritten result.outcome → out.new ≡ out.old }
@@ -83,10 +83,10 @@ fn put_point<E: Engine, D: Disk>(
 ) -> Result<(D, u64), (D, Outcome)>
     requires { store.mark ≡ None }
     ensures entries { IfOk result (λ r. r.1 ≡ store.before + length store.entries) }
-    ensures put { IfOk result (λ r. (P : PlainPolicy) → IsPut D.contents D.images D.moment D.images_since D.faults P store r.0) }
+    ensures put { IfOk result (λ r. (P : PlainPolicy) → IsPut D.seen P store r.0) }
     ensures of_none { IfErr result (λ e. IsOfNoPoint e.1) }
     ensures ends { IfErr result (λ e. (P : PlainPolicy) (T : Trace) → accepted store.policy ≡ Some P → IsStart P store.point store.before T
-        → EndsPoint D.contents D.images D.moment D.images_since D.faults P store e.0 None None e.1) }
+        → EndsPoint D.seen P store e.0 None None e.1) }
 {
     let (store, pointed) = match store.point(alloc) {
         Ok(answer) => answer,

@@ -53,9 +53,9 @@ pub fn serve<E: Engine + Send, K: Sink, D: Disk + Send, G: Gate + Sync, R: Threa
     ensures refused { IsRefusedBy result.outcome bytes.now }
     ensures accepted { IsOfAccepted result.outcome → IsAccepted bytes.now }
     ensures sink { IsCounted result.outcome Outcome.SinkFault (K.faults out.old) (K.faults out.new) }
-    ensures played { HasPlayed D.contents D.images D.moment D.images_since D.faults K.contents Form.Serve result.outcome bytes.now disk result.disk
+    ensures played { HasPlayed D.seen K.contents Form.Serve result.outcome bytes.now disk result.disk
         out.old out.new }
-    ensures fault { result.outcome ≡ Outcome.DiskFault → D.faults result.disk ≡ raised (D.faults disk) }
+    ensures fault { result.outcome ≡ Outcome.DiskFault → (D.seen result.disk).faults ≡ raised (D.seen disk).faults }
     ensures untouched { IsUntouched result.outcome → result.disk ≡ disk }
     ensures unaccepted { (result.disk ≡ disk) ⊎ IsAccepted bytes.now }
     ensures unwritten { IsUnwritten result.outcome → out.new ≡ out.old }
@@ -84,7 +84,7 @@ fn serve_lines<E: Engine + Send, K: Sink, D: Disk + Send, G: Gate + Sync, R: Thr
     ensures status { result.status ≡ status_of result.outcome }
     ensures of_run { IsOfRun result.outcome }
     ensures run { (P : PlainPolicy) → accepted store.policy ≡ Some P
-        → IsClosedRun D.contents D.images D.moment D.images_since D.faults own_answers P store (by_client (map entry_of lines.now))
+        → IsClosedRun D.seen own_answers P store (by_client (map entry_of lines.now))
         result.outcome result.disk (K.contents out.old) (K.contents out.new) }
     ensures sink { IsCounted result.outcome Outcome.SinkFault (K.faults out.old) (K.faults out.new) }
     ensures unwritten { IsUnwritten result.outcome → out.new ≡ out.old }
@@ -111,9 +111,9 @@ fn end_served<E: Engine, K: Sink, D: Disk>(
     requires clients { Each (λ t. t.line.caller.0 < 64) (told_in parts.now) }
     ensures status { result.status ≡ status_of result.outcome }
     ensures of_run { IsOfRun result.outcome }
-    ensures run { (P : PlainPolicy) (opened : Kept D) → Stays D.contents D.images D.moment D.images_since D.faults opened store
+    ensures run { (P : PlainPolicy) (opened : Kept D) → Stays D.seen opened store
         → ((H : History) → IsFront P opened H → IsRunBetween own_answers P (whole H opened) (whole H store) (told_in parts.now))
-        → IsClosedRun D.contents D.images D.moment D.images_since D.faults own_answers P opened (map (λ t. t.line) (told_in parts.now))
+        → IsClosedRun D.seen own_answers P opened (map (λ t. t.line) (told_in parts.now))
         result.outcome result.disk (K.contents out.old) (K.contents out.new) }
     ensures sink { IsCounted result.outcome Outcome.SinkFault (K.faults out.old) (K.faults out.new) }
     ensures unwritten { IsUnwritten result.outcome → out.new ≡ out.old }

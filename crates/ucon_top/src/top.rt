@@ -83,16 +83,16 @@ pub fn run<S: Source, K: Sink, D: Disk + Send, G: Gate + Sync, R: Threads + Wait
     // it, a crash since leaves a beginning of the history that is made, and one as the call ends the whole; or the journal wasn't opened, for
     // this reason, and what was found in its file is still found.
     ensures played { IfSome (form_of (map (λ w. string_bytes w) words.now)) (λ form. HasJournal form
-        → HasPlayedInput D.contents D.images D.moment D.images_since D.faults K.contents form result.outcome (S.left input.old) disk result.disk
+        → HasPlayedInput D.seen K.contents form result.outcome (S.left input.old) disk result.disk
         out.old out.new) }
 
     // Of `point`, by how it ended: the bytes written are the line with the number of entries, and where the journal is found as a history a crash
     // since leaves a file that is found as it, and as the call ends one with the checkpoint more; or no checkpoint was written, for this reason,
     // or the journal wasn't opened.
     ensures pointed { form_of (map (λ w. string_bytes w) words.now) ≡ Some Form.Point
-        → HasPointedInput D.contents D.images D.moment D.images_since D.faults K.contents result.outcome (S.left input.old) disk result.disk
+        → HasPointedInput D.seen K.contents result.outcome (S.left input.old) disk result.disk
         out.old out.new }
-    ensures fault { result.outcome ≡ Outcome.DiskFault → D.faults result.disk ≡ raised (D.faults disk) }
+    ensures fault { result.outcome ≡ Outcome.DiskFault → (D.seen result.disk).faults ≡ raised (D.seen disk).faults }
 
     // No other form makes a call of the disk, nor do these before their document is accepted: where that is refused, or too long, the disk is
     // as it was, whatever the outcome.
@@ -105,8 +105,8 @@ pub fn run<S: Source, K: Sink, D: Disk + Send, G: Gate + Sync, R: Threads + Wait
     // for `point` one of its two causes.
     ensures complete { IfSome (form_of (map (λ w. string_bytes w) words.now)) (λ form.
         IfSome (document_of form (S.left input.old)) (λ bytes.
-        IsUnhindered form bytes (D.contents disk) (S.faults input.old) (S.faults input.new) (K.faults out.old) (K.faults out.new)
-        (D.faults disk) (D.faults result.disk) → IsComplete result.outcome)) }
+        IsUnhindered form bytes (D.seen disk).contents (S.faults input.old) (S.faults input.new) (K.faults out.old) (K.faults out.new)
+        (D.seen disk).faults (D.seen result.disk).faults → IsComplete result.outcome)) }
 {
     if asks_for_threads(words) {
         return serve_input(rt, alloc, input, out, disk, gate);
@@ -168,16 +168,16 @@ pub fn run_alone<S: Source, K: Sink, D: Disk>(
     // since leaves a beginning of the history that is made, and one as the call ends the whole; or the journal wasn't opened, for this reason,
     // and what was found in its file is still found.
     ensures played { IfSome (form_of (map (λ w. string_bytes w) words.now)) (λ form. HasJournal form
-        → HasPlayedInput D.contents D.images D.moment D.images_since D.faults K.contents form result.outcome (S.left input.old) disk result.disk
+        → HasPlayedInput D.seen K.contents form result.outcome (S.left input.old) disk result.disk
         out.old out.new) }
 
     // Of `point`, by how it ended: the bytes written are the line with the number of entries, and where the journal is found as a history a crash
     // since leaves a file that is found as it, and as the call ends one with the checkpoint more; or no checkpoint was written, for this reason,
     // or the journal wasn't opened.
     ensures pointed { form_of (map (λ w. string_bytes w) words.now) ≡ Some Form.Point
-        → HasPointedInput D.contents D.images D.moment D.images_since D.faults K.contents result.outcome (S.left input.old) disk result.disk
+        → HasPointedInput D.seen K.contents result.outcome (S.left input.old) disk result.disk
         out.old out.new }
-    ensures fault { result.outcome ≡ Outcome.DiskFault → D.faults result.disk ≡ raised (D.faults disk) }
+    ensures fault { result.outcome ≡ Outcome.DiskFault → (D.seen result.disk).faults ≡ raised (D.seen disk).faults }
 
     // No other form makes a call of the disk, nor do these before their document is accepted: where that is refused, or too long, the disk is
     // as it was, whatever the outcome.
@@ -190,8 +190,8 @@ pub fn run_alone<S: Source, K: Sink, D: Disk>(
     // for `point` one of its two causes.
     ensures complete { IfSome (form_of (map (λ w. string_bytes w) words.now)) (λ form.
         IfSome (document_of form (S.left input.old)) (λ bytes.
-        IsUnhindered form bytes (D.contents disk) (S.faults input.old) (S.faults input.new) (K.faults out.old) (K.faults out.new)
-        (D.faults disk) (D.faults result.disk) → IsComplete result.outcome)) }
+        IsUnhindered form bytes (D.seen disk).contents (S.faults input.old) (S.faults input.new) (K.faults out.old) (K.faults out.new)
+        (D.seen disk).faults (D.seen result.disk).faults → IsComplete result.outcome)) }
 {
     accepted_documents_are_not_refused();
     opening_sees_one_thing();
@@ -254,14 +254,14 @@ fn serve_input<S: Source, K: Sink, D: Disk + Send, G: Gate + Sync, R: Threads + 
     ensures read { IsOfAccepted result.outcome → IsAtEnd (S.left input.new) }
     ensures reads { S.reads input.new ≤ S.reads input.old + 4194305 }
     ensures unwritten { IsUnwritten result.outcome → out.new ≡ out.old }
-    ensures played { HasPlayedInput D.contents D.images D.moment D.images_since D.faults K.contents Form.Serve result.outcome (S.left input.old) disk
+    ensures played { HasPlayedInput D.seen K.contents Form.Serve result.outcome (S.left input.old) disk
         result.disk out.old out.new }
-    ensures fault { result.outcome ≡ Outcome.DiskFault → D.faults result.disk ≡ raised (D.faults disk) }
+    ensures fault { result.outcome ≡ Outcome.DiskFault → (D.seen result.disk).faults ≡ raised (D.seen disk).faults }
     ensures untouched { IsUntouched result.outcome → result.disk ≡ disk }
     ensures unaccepted { IfSome (S.left input.old) (λ bytes. (result.disk ≡ disk) ⊎ IsAccepted bytes) }
     ensures complete { IfSome (S.left input.old) (λ bytes.
-        IsUnhindered Form.Serve bytes (D.contents disk) (S.faults input.old) (S.faults input.new) (K.faults out.old) (K.faults out.new)
-        (D.faults disk) (D.faults result.disk) → IsComplete result.outcome) }
+        IsUnhindered Form.Serve bytes (D.seen disk).contents (S.faults input.old) (S.faults input.new) (K.faults out.old) (K.faults out.new)
+        (D.seen disk).faults (D.seen result.disk).faults → IsComplete result.outcome) }
 {
     accepted_documents_are_not_refused();
     opening_sees_one_thing();

@@ -69,7 +69,7 @@ returns-clause-images g c =
 pub returns-clause-read : goal.returns-clause-read
 returns-clause-read g c = λ P accepts.
     let loaded = c.in_ok-loaded.loaded in
-    fresh_read c.args.policy.now P (payload_in loaded.point) loaded.before loaded.entries.items (g.D.Disk.contents (disk_of c.args.journal.now)) c.requires.fresh
+    fresh_read c.args.policy.now P (payload_in loaded.point) loaded.before loaded.entries.items (g.D.Disk.seen (disk_of c.args.journal.now)).contents c.requires.fresh
     c.in_ok-loaded.ensures.begins c.in_ok-loaded.ensures.entries
 
 pub returns-clause-kept : goal.returns-clause-kept
@@ -95,7 +95,7 @@ returns-clause-few g c =
     omega (arith, none, c.in_ok-loaded.ensures.begins.1)
 
 pub returns-clause-payloads : goal.returns-clause-payloads
-returns-clause-payloads g c = fresh_payloads (g.D.Disk.contents (disk_of c.args.journal.now)) c.requires.fresh
+returns-clause-payloads g c = fresh_payloads (g.D.Disk.seen (disk_of c.args.journal.now)).contents c.requires.fresh
 
 pub returns-clause-places : goal.returns-clause-places
 returns-clause-places g c =

@@ -53,7 +53,7 @@ returns-in-Ok-open-clause-fault g c = λ is.
     let accepts : accepted c.policy_part.result.now ≡ Some P =
     ap accepted c.policy_part.ensures ∙ (c.accepted_texts_spell_typed_policies.ensures text P).1 (some.has_policy.spelled, some.has_policy.typed) in
     let start = told.leads P accepts in
-    let ends = subst (λ (o : Outcome). EndsPoint g.D.Disk.contents g.D.Disk.images g.D.Disk.moment g.D.Disk.images_since g.D.Disk.faults P store c.point_opened.result.disk
+    let ends = subst (λ (o : Outcome). EndsPoint g.D.Disk.seen P store c.point_opened.result.disk
     (g.K.Sink.contents c.args.out.now) (g.K.Sink.contents c.point_opened.new.out) o) is
     (c.point_opened.ensures.ends P start.0 (ap accepted told.store.0 ∙ accepts) start.1) in
     ends.1 ∙ ap raised told.unfailed

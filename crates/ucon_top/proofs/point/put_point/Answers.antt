@@ -53,6 +53,6 @@ returns-in-Err-pointed-clause-ends g c = λ P T accepts starts.
     let disk = c.close-in-Err-pointed.result in
     let same : next ≡ store = err_so r refusal _ is told.same in
     let why : (T : Trace) → IsStart P store.point store.before T → IsUnpointed g.D.Disk.contents P T store refusal = λ T starts. err_so r refusal _ is told.why P T accepts starts in
-    subst (λ (o : Outcome). EndsPoint g.D.Disk.contents g.D.Disk.images g.D.Disk.moment g.D.Disk.images_since g.D.Disk.faults P store disk None None o) (sym c.from.ensures)
-    (refused_end g.D.Disk.contents g.D.Disk.images g.D.Disk.moment g.D.Disk.images_since g.D.Disk.faults P store disk refusal
+    subst (λ (o : Outcome). EndsPoint g.D.Disk.seen P store disk None None o) (sym c.from.ensures)
+    (refused_end g.D.Disk.seen P store disk refusal
     (c.close-in-Err-pointed.ensures.disk ∙ ap (λ (s : Kept g.row.D.Denot). s.disk) same) c.requires T starts why)

@@ -26,9 +26,9 @@ returns-in-Ok-clause-run g c = λ P opened stays run.
     subst (λ (t : Bytes). IsWritten c.write_output.result t stopped before now failed fails) c.deref.ensures.value c.write_output.ensures in
     let clients : Each (λ t. t.line.caller.0 < 256) told =
     each_map (λ (t : Answered). t.line.caller.0 < 64) (λ (t : Answered). t.line.caller.0 < 256) (λ t lt. omega (arith, lt)) told c.requires.clients in
-    subst (λ (o : Outcome). IsClosedRun g.D.Disk.contents g.D.Disk.images g.D.Disk.moment g.D.Disk.images_since g.D.Disk.faults own_answers P opened
+    subst (λ (o : Outcome). IsClosedRun g.D.Disk.seen own_answers P opened
     (map (λ (t : Answered). t.line) told) o c.by.result.disk before now) (sym c.by.ensures.outcome)
-    (closed_written g.D.Disk.contents g.D.Disk.images g.D.Disk.moment g.D.Disk.images_since g.D.Disk.faults own_answers P before now opened closed told
+    (closed_written g.D.Disk.seen own_answers P before now opened closed told
     c.by.result.disk stays run (c.by.ensures.disk ∙ c.close-disk.ensures.disk)
     c.outputs_are_read_back.ensures c.write_output.result c.in-Ok.text.items stopped failed fails c.in-Ok.ensures.text c.in-Ok.ensures.fits clients is_stopped written)
 
@@ -36,7 +36,7 @@ pub returns-in-Err-clause-run : goal.returns-in-Err-clause-run
 returns-in-Err-clause-run g c = λ P opened stays run.
     let told : List Answered = told_in c.args.parts.now in
     let before = g.K.Sink.contents c.args.out.now in
-    closed_untold g.D.Disk.contents g.D.Disk.images g.D.Disk.moment g.D.Disk.images_since g.D.Disk.faults own_answers P before before opened c.args.store told
+    closed_untold g.D.Disk.seen own_answers P before before opened c.args.store told
     c.by-in-Err.result.disk stays run (c.by-in-Err.ensures.disk ∙ c.close-disk.ensures.disk)
     c.by-in-Err.result.outcome (rw c.by-in-Err.ensures.outcome tt) (rw c.by-in-Err.ensures.outcome (λ s t answers. answers))
 

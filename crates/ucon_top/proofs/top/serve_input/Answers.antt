@@ -12,7 +12,7 @@ use Rattle.ucon_top.proofs.top.serve_input.Goals as goal
 pub returns-in-Err-clause-played : goal.returns-in-Err-clause-played
 returns-in-Err-clause-played g c =
     rw (c.by.ensures.outcome, c.by.ensures.disk) (
-    unread_played g.D.Disk.contents g.D.Disk.images g.D.Disk.moment g.D.Disk.images_since g.D.Disk.faults g.K.Sink.contents Serve c.in-Err.outcome (g.S.Source.left c.args.input.now)
+    unread_played g.D.Disk.seen g.K.Sink.contents Serve c.in-Err.outcome (g.S.Source.left c.args.input.now)
     (g.S.Source.faults c.args.input.now) (g.S.Source.faults c.document_bytes.new.input) c.args.disk c.args.out.now c.in-Err.ensures.ends
     )
 
@@ -29,8 +29,8 @@ returns-in-Ok-clause-complete g c =
     let sink = g.K.Sink.faults c.args.out.now in
     let sink' = g.K.Sink.faults c.serve.new.out in
     let is = subst (λ (b : Bytes). IfSome input (λ d. d ≡ b)) (sym c.deref.ensures.value) c.in-Ok.ensures.bytes in
-    over_document (g.D.Disk.contents c.args.disk) source source' sink sink' (g.D.Disk.faults c.args.disk) (g.D.Disk.faults c.serve.result.disk) Serve outcome input bytes is
-    (played_complete g.D.Disk.contents g.D.Disk.images g.D.Disk.moment g.D.Disk.images_since g.D.Disk.faults g.K.Sink.contents Serve c.args.disk c.serve.result.disk
+    over_document (g.D.Disk.seen c.args.disk).contents source source' sink sink' (g.D.Disk.seen c.args.disk).faults (g.D.Disk.seen c.serve.result.disk).faults Serve outcome input bytes is
+    (played_complete g.D.Disk.seen g.K.Sink.contents Serve c.args.disk c.serve.result.disk
     c.args.out.now c.serve.new.out source source' sink sink' bytes c.opening_sees_one_thing.ensures.one outcome
     (c.accepted_documents_are_not_refused.ensures bytes outcome) c.serve.ensures.refused c.serve.ensures.of_document c.serve.ensures.sink c.serve.ensures.fault
     c.serve.ensures.played (λ u. u.journal))
