@@ -33,7 +33,7 @@ pub(crate) fn load<E: Engine, D: Disk>(
     journal: &mut Journal<D>,
 ) -> Result<Loaded<E>, StoreFault>
     requires accepted { IsSome (accepted policy.now) }
-    requires reading { IsReading D.contents journal.old }
+    requires reading { IsReading D.seen journal.old }
     requires journal { IfSome (D.seen (disk_of journal.old)).contents (λ file.
         (payloads_from file 8 ≡ counted file) × (journalled.found file ≢ journalled.NotJournal)) }
     requires first { gate_of journal.old ≡ 8 }
@@ -44,7 +44,7 @@ pub(crate) fn load<E: Engine, D: Disk>(
     ensures kept { OnOk result (KeepsFound policy.now (D.seen (disk_of journal.old)).contents (D.seen (disk_of journal.new)).contents) }
     ensures few { IfOk result (λ l. 5 * (l.before + length l.entries.items) ≤ gate_of journal.new) }
     ensures payloads { OnOk result (IfSome (D.seen (disk_of journal.old)).contents (λ file. length (counted file) < 2 ^ 63)) }
-    ensures closed { OnOk result (IsClosed D.contents journal.new) }
+    ensures closed { OnOk result (IsClosed D.seen journal.new) }
     ensures places { OnOk result (SamePlaces (D.seen (disk_of journal.old)).contents (D.seen (disk_of journal.new)).contents) }
     ensures kind { OnOk result (SameKind (D.seen (disk_of journal.old)).contents (D.seen (disk_of journal.new)).contents) }
     ensures only { OnOk result (Only (D.seen (disk_of journal.new)).contents (D.seen (disk_of journal.new)).images) }
@@ -70,7 +70,7 @@ fn go_on<E: Engine, D: Disk>(
     last: Option<LastPoint>,
     journal: &mut Journal<D>,
 ) -> Result<Loaded<E>, StoreFault>
-    requires reading { IsReading D.contents journal.old }
+    requires reading { IsReading D.seen journal.old }
     requires walked { IfSome (D.seen (disk_of journal.old)).contents (λ file.
         (counted file ≡ payload_of journal.old ∷ payloads_from file (gate_of journal.old)) × IsWalked (has_points file) (counted file) last) }
     requires below { IfSome last (IsPlacedBelow (2 ^ 63)) }
@@ -83,7 +83,7 @@ fn go_on<E: Engine, D: Disk>(
     ensures kept { OnOk result (KeepsFound policy.now (D.seen (disk_of journal.old)).contents (D.seen (disk_of journal.new)).contents) }
     ensures few { IfOk result (λ l. 5 * (l.before + length l.entries.items) ≤ gate_of journal.new) }
     ensures payloads { OnOk result (IfSome (D.seen (disk_of journal.old)).contents (λ file. length (counted file) < 2 ^ 63)) }
-    ensures closed { OnOk result (IsClosed D.contents journal.new) }
+    ensures closed { OnOk result (IsClosed D.seen journal.new) }
     ensures places { OnOk result (SamePlaces (D.seen (disk_of journal.old)).contents (D.seen (disk_of journal.new)).contents) }
     ensures kind { OnOk result (SameKind (D.seen (disk_of journal.old)).contents (D.seen (disk_of journal.new)).contents) }
     ensures only { OnOk result (Only (D.seen (disk_of journal.new)).contents (D.seen (disk_of journal.new)).images) }
@@ -110,7 +110,7 @@ fn make<E: Engine, D: Disk>(
     journal: &mut Journal<D>,
 ) -> Result<Loaded<E>, StoreFault>
     requires accepted { IsSome (accepted policy.now) }
-    requires ended { HasEnded D.contents journal.old }
+    requires ended { HasEnded D.seen journal.old }
     requires fresh { IfSome (D.seen (disk_of journal.old)).contents (λ file. (counted file ≡ []) × (journalled.found file ≢ journalled.NotJournal)) }
     ensures policy { IfOk result (λ l. l.policy.items ≡ policy.now) }
     ensures standing { IfOk result (λ l. IsStanding E.follows l) }
@@ -119,7 +119,7 @@ fn make<E: Engine, D: Disk>(
     ensures kept { OnOk result (KeepsFound policy.now (D.seen (disk_of journal.old)).contents (D.seen (disk_of journal.new)).contents) }
     ensures few { IfOk result (λ l. 5 * (l.before + length l.entries.items) ≤ gate_of journal.new) }
     ensures payloads { OnOk result (IfSome (D.seen (disk_of journal.old)).contents (λ file. length (counted file) < 2 ^ 63)) }
-    ensures closed { OnOk result (IsClosed D.contents journal.new) }
+    ensures closed { OnOk result (IsClosed D.seen journal.new) }
     ensures places { OnOk result (SamePlaces (D.seen (disk_of journal.old)).contents (D.seen (disk_of journal.new)).contents) }
     ensures kind { OnOk result (SameKind (D.seen (disk_of journal.old)).contents (D.seen (disk_of journal.new)).contents) }
     ensures only { OnOk result (Only (D.seen (disk_of journal.new)).contents (D.seen (disk_of journal.new)).images) }

@@ -107,10 +107,10 @@ impl<E: Engine, D: Disk> Store<E, D> {
         ensures images { IfOk result (λ s. LeavesAfter (D.seen disk) (D.seen s.disk) (Opens policy.now)) }
         ensures at_rest { IfOk result (λ s. Only (D.seen s.disk).contents (D.seen s.disk).images) }
         ensures places { IfOk result (λ s. SamePlaces (D.seen disk).contents (D.seen s.disk).contents) }
-        ensures old { IfOk result (λ s. (before now : List ℕ) → (D.seen disk).contents ≡ Some before → D.contents s.disk ≡ Some now
+        ensures old { IfOk result (λ s. (before now : List ℕ) → (D.seen disk).contents ≡ Some before → (D.seen s.disk).contents ≡ Some now
             → (has_points now ≡ false) ↔ IsOld before) }
         ensures tells { IfOk result (λ s. is_some (D.seen s.disk).contents ≡ is_some (D.seen disk).contents) }
-        ensures unfailed { IfOk result (λ s. D.faults s.disk ≡ (D.seen disk).faults) }
+        ensures unfailed { IfOk result (λ s. (D.seen s.disk).faults ≡ (D.seen disk).faults) }
         ensures reason { IfErr result (λ e. HasReason e.1 policy.now (D.seen disk).contents (D.seen disk).faults (D.seen e.0).faults) }
         ensures images_err { IfErr result (λ e. LeavesAfter (D.seen disk) (D.seen e.0) (Opens policy.now)) }
     {
@@ -167,24 +167,24 @@ impl<E: Engine, D: Disk> Store<E, D> {
         ensures still { IsErrOf result StepFault.Stopped → self.new ≡ self.old }
         ensures failed_behind { IsErrOf result StepFault.DiskFault → (P : PlainPolicy) (T : Trace) → accepted self.old.policy ≡ Some P
             → IsStart P self.old.point self.old.before T
-            → HasFailedBehind D.faults P T self.old self.new (record { caller = caller; command = command.now }) }
+            → HasFailedBehind D.seen P T self.old self.new (record { caller = caller; command = command.now }) }
         ensures failed { IsErrOf result StepFault.DiskFault → (P : PlainPolicy) (G : History) → accepted self.old.policy ≡ Some P
-            → IsFront P self.old G → HasFailed D.faults P (whole G self.old) (whole G self.new) (record { caller = caller; command = command.now }) }
+            → IsFront P self.old G → HasFailed D.seen P (whole G self.old) (whole G self.new) (record { caller = caller; command = command.now }) }
         ensures inside { (P : PlainPolicy) (G : History) → IsFounded D.seen P self.old G → IsSome (D.seen self.old.disk).contents
             → LeavesOnly (D.seen self.old.disk) (D.seen self.new.disk)
             (IsFoundWith self.old.policy (G ++ self.old.entries) (Some (record { caller = caller; command = command.now }))) }
         ensures adds { (P : PlainPolicy) (T : Trace) (file : List ℕ) → accepted self.old.policy ≡ Some P
-            → IsStart P self.old.point self.old.before T → self.old.mark ≡ None → D.contents self.old.disk ≡ Some file
+            → IsStart P self.old.point self.old.before T → self.old.mark ≡ None → (D.seen self.old.disk).contents ≡ Some file
             → LeavesOnly (D.seen self.old.disk) (D.seen self.new.disk)
             (AddsAtMost (step_payload P T self.old.entries (record { caller = caller; command = command.now })) file) }
         ensures added { IfOk result (λ p. changes (reply_of p.reply) ≡ true → (P : PlainPolicy) (T : Trace) (file : List ℕ)
-            → accepted self.old.policy ≡ Some P → IsStart P self.old.point self.old.before T → D.contents self.old.disk ≡ Some file
+            → accepted self.old.policy ≡ Some P → IsStart P self.old.point self.old.before T → (D.seen self.old.disk).contents ≡ Some file
             → told_payloads (D.seen self.new.disk).contents
             ≡ counted file ++ step_payload P T self.old.entries (record { caller = caller; command = command.now }) ∷ []) }
         ensures at_rest { OnOk result (Only (D.seen self.new.disk).contents (D.seen self.new.disk).images) }
         ensures founded { OnOk result ((P : PlainPolicy) (G : History) → IsFounded D.seen P self.old G
             → IsFounded D.seen P self.new G) }
-        ensures unfailed { OnOk result (D.faults self.new.disk ≡ D.faults self.old.disk) }
+        ensures unfailed { OnOk result ((D.seen self.new.disk).faults ≡ (D.seen self.old.disk).faults) }
         ensures events { Continues (λ event. number_of event ≡ caller.0 + 1) (events_of self.old) (events_of self.new) }
         ensures stays { Stays D.seen self.old self.new }
     {
@@ -238,20 +238,20 @@ impl<E: Engine, D: Disk> Store<E, D> {
         ensures stopped { IfOk result (λ r. IsErrOf r.1 PointRefusal.Stopped ↔ IsSome self.mark) }
         ensures same { IfOk result (λ r. IfErr r.1 (λ _. r.0 ≡ self)) }
         ensures why { IfOk result (λ r. IfErr r.1 (λ refusal. (P : PlainPolicy) (T : Trace) → accepted self.policy ≡ Some P
-            → IsStart P self.point self.before T → IsUnpointed D.contents P T self refusal)) }
+            → IsStart P self.point self.before T → IsUnpointed D.seen P T self refusal)) }
         ensures pointed { IfOk result (λ r. IfOk r.1 (λ entries. IsSameStore self r.0 × (entries ≡ self.before + length self.entries)
             × (self.mark ≡ None))) }
         ensures second { IfOk result (λ r. OnOk r.1 (IfSome (D.seen self.disk).contents (λ file. has_points file ≡ true))) }
         ensures added { IfOk result (λ r. OnOk r.1 ((P : PlainPolicy) (G : History) (before file : List ℕ)
-            → IsFounded D.seen P self G → D.contents self.disk ≡ Some before → D.contents r.0.disk ≡ Some file
+            → IsFounded D.seen P self G → (D.seen self.disk).contents ≡ Some before → (D.seen r.0.disk).contents ≡ Some file
             → point_places file ≡ point_places before ++ length (G ++ self.entries) ∷ [])) }
         ensures written { IfOk result (λ r. OnOk r.1 ((P : PlainPolicy) (T : Trace) (file : List ℕ) → accepted self.policy ≡ Some P
-            → IsStart P self.point self.before T → D.contents self.disk ≡ Some file → told_payloads (D.seen r.0.disk).contents
+            → IsStart P self.point self.before T → (D.seen self.disk).contents ≡ Some file → told_payloads (D.seen r.0.disk).contents
             ≡ counted file ++ checkpoint_behind self.policy self.point self.before P T self.entries ∷ [])) }
         ensures fits { IfOk result (λ r. OnOk r.1 ((P : PlainPolicy) (T : Trace) → accepted self.policy ≡ Some P
             → IsStart P self.point self.before T → length (checkpoint_behind self.policy self.point self.before P T self.entries) ≤ MAX_PAYLOAD)) }
         ensures inside { IfOk result (λ r. OnOk r.1 ((P : PlainPolicy) (G : History) (file : List ℕ) → IsFounded D.seen P self G
-            → D.contents self.disk ≡ Some file
+            → (D.seen self.disk).contents ≡ Some file
             → LeavesOnly (D.seen self.disk) (D.seen r.0.disk) (IsFoundPointed self.policy (G ++ self.entries) (point_places file)))) }
         ensures at_rest { IfOk result (λ r. OnOk r.1 (Only (D.seen r.0.disk).contents (D.seen r.0.disk).images)) }
         ensures founded { IfOk result (λ r. OnOk r.1 ((P : PlainPolicy) (G : History) → IsFounded D.seen P self G
@@ -259,7 +259,7 @@ impl<E: Engine, D: Disk> Store<E, D> {
         ensures stays { IfOk result (λ r. OnOk r.1 (Stays D.seen self r.0)) }
         ensures failed { IfErr result (λ disk. (self.mark ≡ None) × ((D.seen disk).faults ≡ raised (D.seen self.disk).faults)) }
         ensures inside_err { IfErr result (λ disk. (P : PlainPolicy) (G : History) (file : List ℕ) → IsFounded D.seen P self G
-            → D.contents self.disk ≡ Some file
+            → (D.seen self.disk).contents ≡ Some file
             → LeavesOnly (D.seen self.disk) (D.seen disk) (IsFoundPointed self.policy (G ++ self.entries) (point_places file))) }
     {
         payloads_are_found_one_by_one();

@@ -20,6 +20,7 @@ use Rattle.ucon_top.specs.Played.{HasPlayed}
 use Rattle.ucon_top.specs.Pointed.{HasPointed}
 use Rattle.ucon_top.specs.Printed.{document_of}
 use Rattle.ucon_top.specs.Unread.{IsUnread}
+use Rattle.ucon_disk.specs.Seen.{DiskSeen}
 
 -- ---- no reason not to open holds of one's own journal
 
@@ -126,13 +127,13 @@ module _ (contents : Option Bytes) (source source' sink sink' disk disk' : ℕ) 
   printed_complete form outcomes.OldJournal bytes unrefused refused ends sink u = absurd ends
 
 -- nor anything but these and its journal one over a journal
-module _ {D : Type 0} (contents : D → Option (List ℕ)) (images : D → List ℕ → Type 0) (moment : D → ℕ) (images_since : D → ℕ → List ℕ → Type 0) (faults : D → ℕ)
+module _ {D : Type 0} (seen : D → DiskSeen)
     {K : Type 0} (held : K → Option Bytes) (form : Form) (old new : D) (was written : K) (source source' sink sink' : ℕ) (bytes : Bytes) (sees_one : SeesOneThing) where
   pub played_complete : (outcome : Outcome) → (IsAccepted bytes → IsRefusedBy outcome bytes → IsUnrefused outcome) → IsRefusedBy outcome bytes → IsOfDocument outcome
-      → IsCounted outcome outcomes.SinkFault sink sink' → (outcome ≡ outcomes.DiskFault → faults new ≡ raised (faults old))
-      → HasPlayed contents images moment images_since faults held form outcome bytes old new was written
-      → (IsUnhindered form bytes (contents old) source source' sink sink' (faults old) (faults new) → IsOwnJournal (policy_part bytes) (contents old))
-      → Completes (contents old) source source' sink sink' (faults old) (faults new) form outcome bytes
+      → IsCounted outcome outcomes.SinkFault sink sink' → (outcome ≡ outcomes.DiskFault → (seen new).faults ≡ raised (seen old).faults)
+      → HasPlayed seen held form outcome bytes old new was written
+      → (IsUnhindered form bytes (seen old).contents source source' sink sink' (seen old).faults (seen new).faults → IsOwnJournal (policy_part bytes) (seen old).contents)
+      → Completes (seen old).contents source source' sink sink' (seen old).faults (seen new).faults form outcome bytes
   played_complete outcomes.Done unrefused refused ends sink disk played own u = tt
   played_complete (outcomes.NoMemory e) unrefused refused ends sink disk played own u = tt
   played_complete (outcomes.Policy f) unrefused refused ends sink disk played own u = absurd (unrefused u.accepted refused)
@@ -140,10 +141,10 @@ module _ {D : Type 0} (contents : D → Option (List ℕ)) (images : D → List 
   played_complete outcomes.SinkFault unrefused refused ends sink disk played own u = absurd (u.sink_works (rose _ _ (sink.0 refl)))
   played_complete outcomes.DiskFault unrefused refused ends sink disk played own u = absurd (u.disk_works (rose _ _ (disk refl)))
   played_complete (outcomes.Damaged number place) unrefused refused ends sink disk played own u =
-      absurd (not_damaged sees_one (policy_part bytes) (contents old) (own u) number place played.reason.0)
-  played_complete outcomes.NotJournal unrefused refused ends sink disk played own u = absurd (not_foreign sees_one (policy_part bytes) (contents old) (own u) played.reason.0)
+      absurd (not_damaged sees_one (policy_part bytes) (seen old).contents (own u) number place played.reason.0)
+  played_complete outcomes.NotJournal unrefused refused ends sink disk played own u = absurd (not_foreign sees_one (policy_part bytes) (seen old).contents (own u) played.reason.0)
   played_complete (outcomes.OtherPolicy place) unrefused refused ends sink disk played own u =
-      absurd (not_others sees_one (policy_part bytes) (contents old) (own u) place played.reason.0)
+      absurd (not_others sees_one (policy_part bytes) (seen old).contents (own u) place played.reason.0)
   played_complete outcomes.Usage unrefused refused ends sink disk played own u = absurd ends
   played_complete outcomes.SourceFault unrefused refused ends sink disk played own u = absurd ends
   played_complete outcomes.TooLong unrefused refused ends sink disk played own u = absurd ends
@@ -152,10 +153,10 @@ module _ {D : Type 0} (contents : D → Option (List ℕ)) (images : D → List 
 
   -- the same of a checkpoint
   pub pointed_complete : (outcome : Outcome) → (IsAccepted bytes → IsRefusedBy outcome bytes → IsUnrefused outcome) → IsRefusedBy outcome bytes → IsOfDocument outcome
-      → IsCounted outcome outcomes.SinkFault sink sink' → (outcome ≡ outcomes.DiskFault → faults new ≡ raised (faults old))
-      → HasPointed contents images moment images_since faults held outcome bytes old new was written
-      → (IsUnhindered form bytes (contents old) source source' sink sink' (faults old) (faults new) → IsOwnJournal (policy_part bytes) (contents old))
-      → Completes (contents old) source source' sink sink' (faults old) (faults new) form outcome bytes
+      → IsCounted outcome outcomes.SinkFault sink sink' → (outcome ≡ outcomes.DiskFault → (seen new).faults ≡ raised (seen old).faults)
+      → HasPointed seen held outcome bytes old new was written
+      → (IsUnhindered form bytes (seen old).contents source source' sink sink' (seen old).faults (seen new).faults → IsOwnJournal (policy_part bytes) (seen old).contents)
+      → Completes (seen old).contents source source' sink sink' (seen old).faults (seen new).faults form outcome bytes
   pointed_complete outcomes.Done unrefused refused ends sink disk pointed own u = tt
   pointed_complete (outcomes.NoMemory e) unrefused refused ends sink disk pointed own u = tt
   pointed_complete (outcomes.FullPoint size) unrefused refused ends sink disk pointed own u = tt
@@ -165,10 +166,10 @@ module _ {D : Type 0} (contents : D → Option (List ℕ)) (images : D → List 
   pointed_complete outcomes.SinkFault unrefused refused ends sink disk pointed own u = absurd (u.sink_works (rose _ _ (sink.0 refl)))
   pointed_complete outcomes.DiskFault unrefused refused ends sink disk pointed own u = absurd (u.disk_works (rose _ _ (disk refl)))
   pointed_complete (outcomes.Damaged number place) unrefused refused ends sink disk pointed own u =
-      absurd (not_damaged sees_one (policy_part bytes) (contents old) (own u) number place pointed.reason.0)
-  pointed_complete outcomes.NotJournal unrefused refused ends sink disk pointed own u = absurd (not_foreign sees_one (policy_part bytes) (contents old) (own u) pointed.reason.0)
+      absurd (not_damaged sees_one (policy_part bytes) (seen old).contents (own u) number place pointed.reason.0)
+  pointed_complete outcomes.NotJournal unrefused refused ends sink disk pointed own u = absurd (not_foreign sees_one (policy_part bytes) (seen old).contents (own u) pointed.reason.0)
   pointed_complete (outcomes.OtherPolicy place) unrefused refused ends sink disk pointed own u =
-      absurd (not_others sees_one (policy_part bytes) (contents old) (own u) place pointed.reason.0)
+      absurd (not_others sees_one (policy_part bytes) (seen old).contents (own u) place pointed.reason.0)
   pointed_complete outcomes.Usage unrefused refused ends sink disk pointed own u = absurd ends
   pointed_complete outcomes.SourceFault unrefused refused ends sink disk pointed own u = absurd ends
   pointed_complete outcomes.TooLong unrefused refused ends sink disk pointed own u = absurd ends

@@ -25,6 +25,7 @@ use Rattle.ucon_top.specs.Form.{output_order, sees_by}
 use Rattle.ucon_top.specs.Own.{IsOwnFile}
 use Rattle.ucon_trial.specs.Runs.{IsUnfaulted}
 use Rattle.ucon_top.specs.Stepping.{HaveOutput}
+use Rattle.ucon_disk.specs.Seen.{DiskSeen}
 
 -- a file is found as a history that has the opening one and begins this one, or as this one with the line that met a disk fault
 pub record IsFoundSince (text : Bytes) (opening H : History) (failed : Option Entry) (file : Bytes) : Type 0 where
@@ -33,8 +34,7 @@ pub record IsFoundSince (text : Bytes) (opening H : History) (failed : Option En
   pub begun : Begins opening history
   pub within : Begins history H ⊎ ((e : Entry) × (failed ≡ Some e) × (history ≡ H ++ e ∷ []))
 
-module _ {D : Type 0} (contents : D → Option (List ℕ)) (images : D → List ℕ → Type 0) (moment : D → ℕ)
-    (images_since : D → ℕ → List ℕ → Type 0) (faults : D → ℕ) where
+module _ {D : Type 0} (seen : D → DiskSeen) where
   -- The answers are a legal run behind the history as which the file was found. Where a line met a disk fault the disk's count rose by one,
   -- and otherwise it didn't. Where the disk was at rest, a crash at any moment since leaves a file that is found as a beginning of the history
   -- that is made, which has the opening one, or as it with the line that met a disk fault. At rest or not, a crash now leaves one that is found
@@ -42,11 +42,11 @@ module _ {D : Type 0} (contents : D → Option (List ℕ)) (images : D → List 
   pub record IsPlayed (sees : Caller → Caller → Bool) (text : Bytes) (P : PlainPolicy) (file : Bytes) (opening : History) (old new : D)
       (told : List Answered) : Type 0 where
     pub legal : IsLegalRun P sees opening told
-    pub unfailed : failed_line told ≡ None → faults new ≡ faults old
-    pub failed : (e : Entry) → failed_line told ≡ Some e → faults new ≡ raised (faults old)
-    pub since : IsAtRest (contents old) (images old) file
-        → LeavesOnly moment images_since old new (IsFoundSince text opening (history_made opening told) (failed_line told))
-    pub now : (c : Bytes) → images new c → IsFoundWith text (history_made opening told) (failed_line told) c
+    pub unfailed : failed_line told ≡ None → (seen new).faults ≡ (seen old).faults
+    pub failed : (e : Entry) → failed_line told ≡ Some e → (seen new).faults ≡ raised (seen old).faults
+    pub since : IsAtRest (seen old) file
+        → LeavesOnly (seen old) (seen new) (IsFoundSince text opening (history_made opening told) (failed_line told))
+    pub now : (c : Bytes) → (seen new).images c → IsFoundWith text (history_made opening told) (failed_line told) c
 
   -- these lines were played behind a history, as which this file was found, and of the lines and their answers this is so
   pub record HasRun (sees : Caller → Caller → Bool) (text : Bytes) (P : PlainPolicy) (lines : List Entry) (file : Bytes) (opening : History)
@@ -65,21 +65,21 @@ module _ {D : Type 0} (contents : D → Option (List ℕ)) (images : D → List 
     pub has_policy : HasPolicy bytes policy
     pub says : document_read accepted bytes ≡ Ok lines
     pub entries : ℕ
-    pub own : IfSome (contents old) (IsOwnFile (policy_part bytes) entries)
-    pub run : (file : Bytes) (opening : History) → contents old ≡ Some file → IsFoundAs (policy_part bytes) file opening
+    pub own : IfSome (seen old).contents (IsOwnFile (policy_part bytes) entries)
+    pub run : (file : Bytes) (opening : History) → (seen old).contents ≡ Some file → IsFoundAs (policy_part bytes) file opening
         → HasRun (sees_by form) (policy_part bytes) policy (output_order form (entries_of lines)) file opening old new so
 
   -- the journal wasn't opened for this reason, and what was found in its file is still found there; a foreign file is as it was
   pub record IsUnopened (fault : StoreFault) (text : Bytes) (old new : D) : Type 0 where
-    pub reason : HasReason fault text (contents old) (faults old) (faults new)
-    pub images_kept : LeavesAfter contents images moment images_since old new (Opens text)
+    pub reason : HasReason fault text (seen old).contents (seen old).faults (seen new).faults
+    pub images_kept : LeavesAfter (seen old) (seen new) (Opens text)
 
   module _ {K : Type 0} (held : K → Option Bytes) where
     -- What holds of the disk, and of the sink, by how playing ended. Otherwise than by the causes named here it made no call of the disk.
     abbrev pub HasPlayed : Form → Outcome → Bytes → D → D → K → K → Type 0
     HasPlayed form Done bytes old new before now = IsRunOver form bytes old new
         (λ lines told. (failed_line told ≡ None) × IsUnfaulted told × HaveOutput (Appends (held before) (held now)) lines told)
-        × (faults new ≡ faults old)
+        × ((seen new).faults ≡ (seen old).faults)
     HasPlayed form SinkFault bytes old new before now = IsRunOver form bytes old new (HaveOutput (AppendsPrefix (held before) (held now)))
     HasPlayed form DiskFault bytes old new before now =
         IsRunOver form bytes old new (λ lines told. IsSome (failed_line told) × HaveOutput (Appends (held before) (held now)) lines told)

@@ -76,7 +76,7 @@ pub returns-clause-payloads : goal.returns-clause-payloads
 returns-clause-payloads g c =
     let ended = c.take_all.new.journal in
     subst (λ (o : Option Bytes). IfSome o (λ file. length (counted file) < 2 ^ 63)) (told g (goal.at.returns-clause-payloads g c).After-take_all)
-    (few_payloads g.D.Disk.contents ended (g.D.Disk.seen (disk_of ended)).contents ended.gate_small c.in_ok-take_all.ensures.ended.told)
+    (few_payloads g.D.Disk.seen ended (g.D.Disk.seen (disk_of ended)).contents ended.gate_small c.in_ok-take_all.ensures.ended.told)
 
 -- ---- it has this policy, and is mended
 
@@ -89,17 +89,14 @@ module _ (g : Over) (c : After-mend g) where
       let text = c.args.policy.now in
       let standing = c.in_ok-take_all.ensures.loaded.standing in
       let l = c.take_all.new.self in
-      let contents = g.D.Disk.contents in
-      let images = g.D.Disk.images in
-      let moment = g.D.Disk.moment in
-      let since = g.D.Disk.images_since in
+      let seen = g.D.Disk.seen in
       let started = disk_of c.start.new.journal in
       let mid = disk_of c.take_all.new.journal in
-      let home = home_told (contents mid) l.policy.items text standing.P (payload_in l.point) l.before l.entries.items
+      let home = home_told (seen mid).contents l.policy.items text standing.P (payload_in l.point) l.before l.entries.items
       c.opening_sees_one_thing.ensures.one standing.accepts standing.begun standing.starts same c.in_ok-take_all.ensures.loaded.says in
-      then_opens contents images moment since text (disk_of c.args.journal.now) started (disk_of c.mend.new.self) c.start.ensures.contents c.start.ensures.images c.start.ensures.run
-      (then_opens contents images moment since text started mid (disk_of c.mend.new.self) c.take_all.ensures.contents c.take_all.ensures.images c.take_all.ensures.run
-      (mend_opens contents images moment since text mid (disk_of c.mend.new.self) home c.mend.ensures.images))
+      then_opens seen text (disk_of c.args.journal.now) started (disk_of c.mend.new.self) c.start.ensures.contents c.start.ensures.images c.start.ensures.run
+      (then_opens seen text started mid (disk_of c.mend.new.self) c.take_all.ensures.contents c.take_all.ensures.images c.take_all.ensures.run
+      (mend_opens seen text mid (disk_of c.mend.new.self) home c.mend.ensures.images))
 
 pub returns-in_err-mend-clause-images : goal.returns-in_err-mend-clause-images
 returns-in_err-mend-clause-images g c = leaves_mended g (goal.at.returns-in_err-mend-clause-images g c).After-mend

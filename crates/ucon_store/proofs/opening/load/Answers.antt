@@ -27,7 +27,7 @@ go_on-requires-clause-walked g c =
     let next = gate_of c.next.new.self in
     let payload = payload_of c.next.new.self in
     let last = c.in_ok-last.last in
-    let same : (g.D.Disk.seen (disk_of c.rewind.new.self)).contents ≡ o = ap (g.D.Disk.seen c.rewind.ensures.disk).contents ∙ c.last_point.ensures.contents in
+    let same : (g.D.Disk.seen (disk_of c.rewind.new.self)).contents ≡ o = ap (λ d. (g.D.Disk.seen d).contents) c.rewind.ensures.disk ∙ c.last_point.ensures.contents in
     let more = more_told (g.D.Disk.seen (disk_of c.rewind.new.self)).contents (λ file. payloads_from file gate ≡ payload ∷ payloads_from file next) (λ file. payloads_from file gate ≡ []) c.in-Ok-true.field-0 c.in-Ok-true.field-0-test c.in-Ok-true.ensures.taken in
     subst (λ (x : Option Bytes). IfSome x (λ file. (counted file ≡ payload ∷ payloads_from file next) × IsWalked (has_points file) (counted file) last)) (sym (c.in-Ok-true.ensures.contents ∙ same))
     (walked_told o payload gate next last c.requires.journal c.rewind.ensures.gate (subst (λ (x : Option Bytes). IfSome x (λ file. payloads_from file gate ≡ payload ∷ payloads_from file next)) same more) c.in_ok-last.ensures.walked)
@@ -38,8 +38,8 @@ returns-in-Err-clause-reason g c =
     let before = (g.D.Disk.seen (disk_of c.rewind.new.self)).faults in
     let now = (g.D.Disk.seen (disk_of c.next.new.self)).faults in
     let text = c.args.policy.now in
-    let same : (g.D.Disk.seen (disk_of c.rewind.new.self)).contents ≡ o = ap (g.D.Disk.seen c.rewind.ensures.disk).contents ∙ c.last_point.ensures.contents in
-    let unfailed : before ≡ (g.D.Disk.seen (disk_of c.args.journal.now)).faults = ap (g.D.Disk.seen c.rewind.ensures.disk).faults ∙ c.in_ok-last.ensures.unfailed in
+    let same : (g.D.Disk.seen (disk_of c.rewind.new.self)).contents ≡ o = ap (λ d. (g.D.Disk.seen d).contents) c.rewind.ensures.disk ∙ c.last_point.ensures.contents in
+    let unfailed : before ≡ (g.D.Disk.seen (disk_of c.args.journal.now)).faults = ap (λ d. (g.D.Disk.seen d).faults) c.rewind.ensures.disk ∙ c.in_ok-last.ensures.unfailed in
     let long : (place : ℕ) → c.in-Err.fault ≡ taking.TooLong place → (place ≡ 8) × IfSome o (λ file. Sees file (damaged 0 8)) = λ place is.
     let l = c.in-Err.ensures.too_long place is in
     let at : place ≡ 8 = l.0 ∙ c.rewind.ensures.gate in
@@ -54,36 +54,27 @@ returns-in_err-last-clause-images g c =
 
 pub returns-in-Ok-true-clause-images : goal.returns-in-Ok-true-clause-images
 returns-in-Ok-true-clause-images g c =
-    let contents = g.D.Disk.contents in
-    let images = g.D.Disk.images in
-    let moment = g.D.Disk.moment in
-    let since = g.D.Disk.images_since in
+    let seen = g.D.Disk.seen in
     let text = c.args.policy.now in
     let end = disk_of c.go_on.new.journal in
-    then_opens contents images moment since text (disk_of c.args.journal.now) (disk_of c.last_point.new.journal) end c.last_point.ensures.contents c.last_point.ensures.images c.last_point.ensures.run
-    (subst (λ (d : g.row.D.Denot). LeavesAfter contents images moment since d end (Opens text)) c.rewind.ensures.disk
-    (then_opens contents images moment since text (disk_of c.rewind.new.self) (disk_of c.next.new.self) end c.next.ensures.contents c.next.ensures.images c.next.ensures.run c.go_on.ensures.images))
+    then_opens seen text (disk_of c.args.journal.now) (disk_of c.last_point.new.journal) end c.last_point.ensures.contents c.last_point.ensures.images c.last_point.ensures.run
+    (subst (λ (d : g.row.D.Denot). LeavesAfter (seen d) (seen end) (Opens text)) c.rewind.ensures.disk
+    (then_opens seen text (disk_of c.rewind.new.self) (disk_of c.next.new.self) end c.next.ensures.contents c.next.ensures.images c.next.ensures.run c.go_on.ensures.images))
 
 pub returns-in-Ok-false-clause-images : goal.returns-in-Ok-false-clause-images
 returns-in-Ok-false-clause-images g c =
-    let contents = g.D.Disk.contents in
-    let images = g.D.Disk.images in
-    let moment = g.D.Disk.moment in
-    let since = g.D.Disk.images_since in
+    let seen = g.D.Disk.seen in
     let text = c.args.policy.now in
     let end = disk_of c.make.new.journal in
-    then_opens contents images moment since text (disk_of c.args.journal.now) (disk_of c.last_point.new.journal) end c.last_point.ensures.contents c.last_point.ensures.images c.last_point.ensures.run
-    (subst (λ (d : g.row.D.Denot). LeavesAfter contents images moment since d end (Opens text)) c.rewind.ensures.disk
-    (then_opens contents images moment since text (disk_of c.rewind.new.self) (disk_of c.next.new.self) end c.next.ensures.contents c.next.ensures.images c.next.ensures.run c.make.ensures.images))
+    then_opens seen text (disk_of c.args.journal.now) (disk_of c.last_point.new.journal) end c.last_point.ensures.contents c.last_point.ensures.images c.last_point.ensures.run
+    (subst (λ (d : g.row.D.Denot). LeavesAfter (seen d) (seen end) (Opens text)) c.rewind.ensures.disk
+    (then_opens seen text (disk_of c.rewind.new.self) (disk_of c.next.new.self) end c.next.ensures.contents c.next.ensures.images c.next.ensures.run c.make.ensures.images))
 
 pub returns-in-Err-clause-images : goal.returns-in-Err-clause-images
 returns-in-Err-clause-images g c =
-    let contents = g.D.Disk.contents in
-    let images = g.D.Disk.images in
-    let moment = g.D.Disk.moment in
-    let since = g.D.Disk.images_since in
+    let seen = g.D.Disk.seen in
     let text = c.args.policy.now in
     let end = disk_of c.next.new.self in
-    then_opens contents images moment since text (disk_of c.args.journal.now) (disk_of c.last_point.new.journal) end c.last_point.ensures.contents c.last_point.ensures.images c.last_point.ensures.run
-    (subst (λ (d : g.row.D.Denot). LeavesAfter contents images moment since d end (Opens text)) c.rewind.ensures.disk
-    (read_opens contents images moment since text (disk_of c.rewind.new.self) end c.next.ensures.run))
+    then_opens seen text (disk_of c.args.journal.now) (disk_of c.last_point.new.journal) end c.last_point.ensures.contents c.last_point.ensures.images c.last_point.ensures.run
+    (subst (λ (d : g.row.D.Denot). LeavesAfter (seen d) (seen end) (Opens text)) c.rewind.ensures.disk
+    (read_opens seen text (disk_of c.rewind.new.self) end c.next.ensures.run))

@@ -26,20 +26,16 @@ returns-in-Ok-open-clause-pointed g c =
     let some = c.in-Ok.ensures.policy in
     let P = some.policy in
     let is_text = c.policy_part.ensures in
-    let contents = g.D.Disk.contents in
-    let images = g.D.Disk.images in
-    let moment = g.D.Disk.moment in
-    let images_since = g.D.Disk.images_since in
-    let faults = g.D.Disk.faults in
+    let seen = g.D.Disk.seen in
     let accepts : accepted c.policy_part.result.now ≡ Some P =
     ap accepted is_text ∙ (c.accepted_texts_spell_typed_policies.ensures text P).1 (some.has_policy.spelled, some.has_policy.typed) in
-    let opened : IsOpened contents images moment images_since faults P text c.args.disk store =
-    subst (λ (t : Bytes). IsOpened contents images moment images_since faults P t c.args.disk store) is_text
-    (opened_so contents images moment images_since faults P c.policy_part.result.now c.args.disk store accepts told.store told.images told.unfailed told.tells told.leads told.seen told.founded) in
+    let opened : IsOpened seen P text c.args.disk store =
+    subst (λ (t : Bytes). IsOpened seen P t c.args.disk store) is_text
+    (opened_so seen P c.policy_part.result.now c.args.disk store accepts told.store told.images told.unfailed told.tells told.leads told.seen told.founded) in
     let start = told.leads P accepts in
     let laws = g.met.D.Disk in
-    let moments : HasMoments images moment images_since = record { counts_now = laws.counts_now; only_now = laws.only_now } in
-    pointed contents images moment images_since faults moments bytes P some.has_policy c.args.disk store opened told.places told.old g.K.Sink.contents c.args.out.now c.point_opened.new.out
+    let moments : HasMoments seen = record { counts_now = laws.counts_now; only_now = laws.only_now } in
+    pointed seen moments bytes P some.has_policy c.args.disk store opened told.places told.old g.K.Sink.contents c.args.out.now c.point_opened.new.out
     c.point_opened.result.disk c.point_opened.result.outcome c.point_opened.ensures.failed
     (c.point_opened.ensures.ends P start.0 (ap accepted told.store.0 ∙ accepts) start.1)
 

@@ -7,8 +7,8 @@ use Rattle.ucon_store.proofs.loading.Loaded.take_all.Given as goal
 
 abbrev pub invariant-records : goal.invariant-records
 invariant-records g l = record {
-  loading : IsLoading g.E.Engine.follows g.D.Disk.contents l.self l.journal;
-  reading : IsReading g.D.Disk.contents l.journal;
+  loading : IsLoading g.E.Engine.follows g.D.Disk.seen l.self l.journal;
+  reading : IsReading g.D.Disk.seen l.journal;
   contents : (g.D.Disk.seen (disk_of l.journal)).contents ≡ (g.D.Disk.seen (disk_of l.initial.journal)).contents;
   images : SameImages (g.D.Disk.seen (disk_of l.initial.journal)).images (g.D.Disk.seen (disk_of l.journal)).images;
   run : LeavesOnly (g.D.Disk.seen (disk_of l.initial.journal)) (g.D.Disk.seen (disk_of l.journal)) (g.D.Disk.seen (disk_of l.initial.journal)).images;

@@ -101,6 +101,6 @@ pub returns-clause-stays : goal.returns-clause-stays
 returns-clause-stays g c =
     let before = (goal.at.returns-clause-stays g c).After-append in
     let there = (goal.at.returns-clause-stays g c).Else-is_err in
-    stays_point (ready g before) (one g before) (appended g there) (g.D.Disk.seen c.append.ensures.images).faults
+    stays_point (ready g before) (one g before) (appended g there) c.append.ensures.images
     (no_cause (g.D.Disk.seen (disk_of c.prepare_point.new.journal)).faults (g.D.Disk.seen (disk_of c.append.new.self)).faults c.append.result
     (fine g there) c.append.ensures.cause) (moved g there)

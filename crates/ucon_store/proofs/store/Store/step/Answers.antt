@@ -77,7 +77,7 @@ returns-in-Err-record-clause-inside g c = leaves g (goal.at.returns-in-Err-recor
 pub returns-in-Err-record-clause-stays : goal.returns-in-Err-record-clause-stays
 returns-in-Err-record-clause-stays g c =
     let before = (goal.at.returns-in-Err-record-clause-stays g c).After-record in
-    stays_failed (ready g before) (one g before) (g.D.Disk.seen c.record.ensures.images).faults c.record.ensures.tells
+    stays_failed (ready g before) (one g before) c.record.ensures.images c.record.ensures.tells
     c.in-Err-record.ensures.cause g.met.D.Disk.counts_now (marked g (goal.at.returns-in-Err-record-clause-stays g c).In-Err-record)
 
 pub returns-in-Err-record-clause-events : goal.returns-in-Err-record-clause-events
@@ -134,7 +134,7 @@ pub returns-clause-stays : goal.returns-clause-stays
 returns-clause-stays g c =
     let before = (goal.at.returns-clause-stays g c).After-record in
     let there = (goal.at.returns-clause-stays g c).In_default in
-    stays_ready (ready g before) (one g before) (g.D.Disk.seen c.record.ensures.images).faults (appended g there) c.in_default.ensures.cause
+    stays_ready (ready g before) (one g before) c.record.ensures.images (appended g there) c.in_default.ensures.cause
     (longer g there)
 
 pub returns-clause-events : goal.returns-clause-events

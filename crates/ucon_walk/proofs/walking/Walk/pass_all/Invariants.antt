@@ -9,7 +9,7 @@ use Rattle.ucon_walk.proofs.walking.Walk.pass_all.Given as goal
 
 abbrev pub invariant-records : goal.invariant-records
 invariant-records g l = record {
-  reading : IsReading g.D.Disk.contents l.journal;
+  reading : IsReading g.D.Disk.seen l.journal;
   walking : IsWalking l.self (gate_of l.journal);
   below : gate_of l.journal < 2 ^ 63;
   passed : IfSome (g.D.Disk.seen (disk_of l.initial.journal)).contents (λ file. finds (points_of (version_of l.initial.journal)) l.self (gate_of l.journal) file
