@@ -51,18 +51,18 @@ impl LineReader {
         alloc: Global,
         source: &mut S,
     ) -> Result<Option<Vec<u8>>, ReadFault>
-        ensures line { IfOk result (λ r. IfSome r (λ line. GivesLine self.old self.new (S.left source.old) (S.left source.new) line.items)) }
-        ensures none { result ≡ Ok None → IsNoLine self.old self.new (S.left source.old) (S.left source.new) }
-        ensures err { OnErr result (Reads self.old self.new (S.left source.old) (S.left source.new)) }
+        ensures line { IfOk result (λ r. IfSome r (λ line. GivesLine self.old self.new (S.seen source.old).left (S.seen source.new).left line.items)) }
+        ensures none { result ≡ Ok None → IsNoLine self.old self.new (S.seen source.old).left (S.seen source.new).left }
+        ensures err { OnErr result (Reads self.old self.new (S.seen source.old).left (S.seen source.new).left) }
 
         // The cause of each fault.
         ensures too_long { IsErrOf result ReadFault.TooLong → self.new.room < length (first_line self.new.held) }
-        ensures failed { IsErrOf result ReadFault.SourceFault → S.faults source.new ≡ raised (S.faults source.old) }
-        ensures unfailed { result ≢ Err ReadFault.SourceFault → S.faults source.new ≡ S.faults source.old }
+        ensures failed { IsErrOf result ReadFault.SourceFault → (S.seen source.new).faults ≡ raised (S.seen source.old).faults }
+        ensures unfailed { result ≢ Err ReadFault.SourceFault → (S.seen source.new).faults ≡ (S.seen source.old).faults }
 
         // At most one read for each byte within the limit, and one more; none where a line is held.
-        ensures reads { S.reads source.new ≤ S.reads source.old + self.old.room + 1 }
-        ensures held { HasNewline self.old.held → S.reads source.new ≡ S.reads source.old }
+        ensures reads { (S.seen source.new).reads ≤ (S.seen source.old).reads + self.old.room + 1 }
+        ensures held { HasNewline self.old.held → (S.seen source.new).reads ≡ (S.seen source.old).reads }
     {
         let len = self.read_line(source)?;
         if len > self.room {
@@ -86,14 +86,14 @@ impl LineReader {
 
     /// How many bytes the next line has, as far as it was read: until it is whole, longer than the room, or the source's last.
     fn read_line<S: Source>(&mut self, source: &mut S) -> Result<usize, ReadFault>
-        ensures read { Reads self.old self.new (S.left source.old) (S.left source.new) }
+        ensures read { Reads self.old self.new (S.seen source.old).left (S.seen source.new).left }
         ensures len { IfOk result (λ n. n ≡ length (first_line self.new.held)) }
-        ensures whole { IfOk result (λ n. HasNewline self.new.held ⊎ (self.new.room < n) ⊎ IsAtEnd (S.left source.new)) }
+        ensures whole { IfOk result (λ n. HasNewline self.new.held ⊎ (self.new.room < n) ⊎ IsAtEnd (S.seen source.new).left) }
         ensures long { result ≢ Err ReadFault.TooLong }
-        ensures failed { IsErrOf result ReadFault.SourceFault → S.faults source.new ≡ raised (S.faults source.old) }
-        ensures unfailed { result ≢ Err ReadFault.SourceFault → S.faults source.new ≡ S.faults source.old }
-        ensures reads { S.reads source.new ≤ S.reads source.old + self.old.room + 1 }
-        ensures held { HasNewline self.old.held → S.reads source.new ≡ S.reads source.old }
+        ensures failed { IsErrOf result ReadFault.SourceFault → (S.seen source.new).faults ≡ raised (S.seen source.old).faults }
+        ensures unfailed { result ≢ Err ReadFault.SourceFault → (S.seen source.new).faults ≡ (S.seen source.old).faults }
+        ensures reads { (S.seen source.new).reads ≤ (S.seen source.old).reads + self.old.room + 1 }
+        ensures held { HasNewline self.old.held → (S.seen source.new).reads ≡ (S.seen source.old).reads }
     {
         let (mut len, mut whole) = first_line(self.held());
         while !whole && len <= self.room {
@@ -109,13 +109,13 @@ impl LineReader {
 
     /// Reads one piece, and tells how many bytes it has, none at the input's end. Room is made first, so that what was read is never lost.
     fn read_piece<S: Source>(&mut self, source: &mut S) -> Result<usize, ReadFault>
-        ensures read { Reads self.old self.new (S.left source.old) (S.left source.new) }
+        ensures read { Reads self.old self.new (S.seen source.old).left (S.seen source.new).left }
         ensures count { IfOk result (λ n. length self.new.held ≡ length self.old.held + n) }
-        ensures end { result ≡ Ok 0 → IsAtEnd (S.left source.new) }
+        ensures end { result ≡ Ok 0 → IsAtEnd (S.seen source.new).left }
         ensures long { result ≢ Err ReadFault.TooLong }
-        ensures failed { IsErrOf result ReadFault.SourceFault → S.faults source.new ≡ raised (S.faults source.old) }
-        ensures unfailed { result ≢ Err ReadFault.SourceFault → S.faults source.new ≡ S.faults source.old }
-        ensures reads { S.reads source.new ≤ S.reads source.old + 1 }
+        ensures failed { IsErrOf result ReadFault.SourceFault → (S.seen source.new).faults ≡ raised (S.seen source.old).faults }
+        ensures unfailed { result ≢ Err ReadFault.SourceFault → (S.seen source.new).faults ≡ (S.seen source.old).faults }
+        ensures reads { (S.seen source.new).reads ≤ (S.seen source.old).reads + 1 }
     {
         self.close_up();
         self.seen.reserve(PIECE)?;

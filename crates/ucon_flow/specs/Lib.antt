@@ -5,3 +5,4 @@ pub mod Reading
 pub mod Stock
 pub mod Supply
 pub mod Writing
+pub mod Seen

@@ -36,8 +36,8 @@ pub fn play<E: Engine, K: Sink, D: Disk>(
     ensures form { MayEnd Form.Play result.outcome }
     ensures refused { IsRefusedBy result.outcome bytes.now }
     ensures accepted { IsOfAccepted result.outcome → IsAccepted bytes.now }
-    ensures sink { IsCounted result.outcome Outcome.SinkFault (K.faults out.old) (K.faults out.new) }
-    ensures played { HasPlayed D.seen K.contents Form.Play result.outcome bytes.now disk result.disk
+    ensures sink { IsCounted result.outcome Outcome.SinkFault (K.seen out.old).faults (K.seen out.new).faults }
+    ensures played { HasPlayed D.seen (K.seen Form.Play).contents result.outcome bytes.now disk result.disk
         out.old out.new }
     ensures fault { result.outcome ≡ Outcome.DiskFault → (D.seen result.disk).faults ≡ raised (D.seen disk).faults }
     ensures untouched { IsUntouched result.outcome → result.disk ≡ disk }
@@ -67,8 +67,8 @@ fn play_lines<E: Engine, K: Sink, D: Disk>(
     ensures of_run { IsOfRun result.outcome }
     ensures run { (P : PlainPolicy) → accepted store.policy ≡ Some P
         → IsClosedRun D.seen in_text_order P store (map entry_of lines.now) result.outcome result.disk
-        (K.contents out.old) (K.contents out.new) }
-    ensures sink { IsCounted result.outcome Outcome.SinkFault (K.faults out.old) (K.faults out.new) }
+        (K.seen out.old).contents (K.seen out.new).contents }
+    ensures sink { IsCounted result.outcome Outcome.SinkFault (K.seen out.old).faults (K.seen out.new).faults }
     ensures unwritten { IsUnwritten result.outcome → out.new ≡ out.old }
 {
     let text = steps_text(alloc, &mut store, lines);
@@ -82,7 +82,7 @@ fn play_lines<E: Engine, K: Sink, D: Disk>(
 
 /// Writes the output of a run, and tells how it ends. A fault of the sink stands before one of the disk.
 pub(crate) fn write_output<K: Sink>(out: &mut K, text: &[u8], stopped: bool) -> Outcome
-    ensures { IsWritten result text.now stopped (K.contents out.old) (K.contents out.new) (K.faults out.old) (K.faults out.new) }
+    ensures { IsWritten result text.now stopped (K.seen out.old).contents (K.seen out.new).contents (K.seen out.old).faults (K.seen out.new).faults }
 {
     match write_all(out, text) {
         Err(_) => Outcome::SinkFault,

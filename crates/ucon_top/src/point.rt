@@ -35,7 +35,7 @@ pub fn point<E: Engine, K: Sink, D: Disk>(
     ensures of_document { IsOfDocument result.outcome }
     ensures refused { IsRefusedBy result.outcome bytes.now }
     ensures accepted { IsOfAccepted result.outcome → IsAccepted bytes.now }
-    ensures sink { IsCounted result.outcome Outcome.SinkFault (K.faults out.old) (K.faults out.new) }
+    ensures sink { IsCounted result.outcome Outcome.SinkFault (K.seen out.old).faults (K.seen out.new).faults }
     ensures pointed { HasPointed D.seen K.contents
         result.outcome bytes.now disk result.disk out.old out.new }
     ensures fault { result.outcome ≡ Outcome.DiskFault → (D.seen result.disk).faults ≡ raised (D.seen disk).faults }
@@ -64,9 +64,9 @@ fn point_opened<E: Engine, K: Sink, D: Disk>(
     ensures status { result.status ≡ status_of result.outcome }
     ensures of_point { IsOfPoint result.outcome }
     ensures ends { (P : PlainPolicy) (T : Trace) → accepted store.policy ≡ Some P → IsStart P store.point store.before T
-        → EndsPoint D.seen P store result.disk (K.contents out.old) (K.contents out.new)
+        → EndsPoint D.seen P store result.disk (K.seen out.old).contents (K.seen out.new).contents
         result.outcome }
-    ensures sink { IsCounted result.outcome Outcome.SinkFault (K.faults out.old) (K.faults out.new) }
+    ensures sink { IsCounted result.outcome Outcome.SinkFault (K.seen out.old).faults (K.seen out.new).faults }
     ensures unwritten { IsUnwritten result.outcome → out.new ≡ out.old }
     ensures failed { result.outcome ≡ Outcome.DiskFault → out.new ≡ out.old }
 {
@@ -100,7 +100,7 @@ fn put_point<E: Engine, D: Disk>(
 
 /// Tells how many entries stand before the checkpoint that is written, and how the run ends.
 fn tell_point<K: Sink>(out: &mut K, entries: u64) -> Outcome
-    ensures { IsWritten result (point_line entries) false (K.contents out.old) (K.contents out.new) (K.faults out.old) (K.faults out.new) }
+    ensures { IsWritten result (point_line entries) false (K.seen out.old).contents (K.seen out.new).contents (K.seen out.old).faults (K.seen out.new).faults }
 {
     match put_point_line(out, entries) {
         Ok(()) => Outcome::Done,

@@ -52,8 +52,8 @@ pub fn serve<E: Engine + Send, K: Sink, D: Disk + Send, G: Gate + Sync, R: Threa
     ensures form { MayEnd Form.Serve result.outcome }
     ensures refused { IsRefusedBy result.outcome bytes.now }
     ensures accepted { IsOfAccepted result.outcome → IsAccepted bytes.now }
-    ensures sink { IsCounted result.outcome Outcome.SinkFault (K.faults out.old) (K.faults out.new) }
-    ensures played { HasPlayed D.seen K.contents Form.Serve result.outcome bytes.now disk result.disk
+    ensures sink { IsCounted result.outcome Outcome.SinkFault (K.seen out.old).faults (K.seen out.new).faults }
+    ensures played { HasPlayed D.seen (K.seen Form.Serve).contents result.outcome bytes.now disk result.disk
         out.old out.new }
     ensures fault { result.outcome ≡ Outcome.DiskFault → (D.seen result.disk).faults ≡ raised (D.seen disk).faults }
     ensures untouched { IsUntouched result.outcome → result.disk ≡ disk }
@@ -85,8 +85,8 @@ fn serve_lines<E: Engine + Send, K: Sink, D: Disk + Send, G: Gate + Sync, R: Thr
     ensures of_run { IsOfRun result.outcome }
     ensures run { (P : PlainPolicy) → accepted store.policy ≡ Some P
         → IsClosedRun D.seen own_answers P store (by_client (map entry_of lines.now))
-        result.outcome result.disk (K.contents out.old) (K.contents out.new) }
-    ensures sink { IsCounted result.outcome Outcome.SinkFault (K.faults out.old) (K.faults out.new) }
+        result.outcome result.disk (K.seen out.old).contents (K.seen out.new).contents }
+    ensures sink { IsCounted result.outcome Outcome.SinkFault (K.seen out.old).faults (K.seen out.new).faults }
     ensures unwritten { IsUnwritten result.outcome → out.new ≡ out.old }
 {
     runs_over_a_store_are_legal();
@@ -114,8 +114,8 @@ fn end_served<E: Engine, K: Sink, D: Disk>(
     ensures run { (P : PlainPolicy) (opened : Kept D) → Stays D.seen opened store
         → ((H : History) → IsFront P opened H → IsRunBetween own_answers P (whole H opened) (whole H store) (told_in parts.now))
         → IsClosedRun D.seen own_answers P opened (map (λ t. t.line) (told_in parts.now))
-        result.outcome result.disk (K.contents out.old) (K.contents out.new) }
-    ensures sink { IsCounted result.outcome Outcome.SinkFault (K.faults out.old) (K.faults out.new) }
+        result.outcome result.disk (K.seen out.old).contents (K.seen out.new).contents }
+    ensures sink { IsCounted result.outcome Outcome.SinkFault (K.seen out.old).faults (K.seen out.new).faults }
     ensures unwritten { IsUnwritten result.outcome → out.new ≡ out.old }
 {
     outputs_are_read_back();

@@ -50,29 +50,29 @@ pub fn run<S: Source, K: Sink, D: Disk + Send, G: Gate + Sync, R: Threads + Wait
 
     // Each outcome has its cause, and no other one stands for a fault of the source or of the sink. Want of memory alone may come at any moment.
     ensures usage { (result.outcome ≡ Outcome.Usage) ↔ (form_of (map (λ w. string_bytes w) words.now) ≡ None) }
-    ensures source { IsCounted result.outcome Outcome.SourceFault (S.faults input.old) (S.faults input.new) }
-    ensures too_long { result.outcome ≡ Outcome.TooLong → IfSome (S.left input.old) (λ bytes. 4194304 < length bytes) }
+    ensures source { IsCounted result.outcome Outcome.SourceFault (S.seen input.old).faults (S.seen input.new).faults }
+    ensures too_long { result.outcome ≡ Outcome.TooLong → IfSome (S.seen input.old).left (λ bytes. 4194304 < length bytes) }
     ensures refused { IfSome (form_of (map (λ w. string_bytes w) words.now)) (λ form.
-        IfSome (document_of form (S.left input.old)) (IsRefusedBy result.outcome)) }
+        IfSome (document_of form (S.seen input.old).left) (IsRefusedBy result.outcome)) }
     ensures accepted { IsOfAccepted result.outcome
-        → IfSome (form_of (map (λ w. string_bytes w) words.now)) (λ form. IfSome (document_of form (S.left input.old)) IsAccepted) }
-    ensures sink { IsCounted result.outcome Outcome.SinkFault (K.faults out.old) (K.faults out.new) }
+        → IfSome (form_of (map (λ w. string_bytes w) words.now)) (λ form. IfSome (document_of form (S.seen input.old).left) IsAccepted) }
+    ensures sink { IsCounted result.outcome Outcome.SinkFault (K.seen out.old).faults (K.seen out.new).faults }
     ensures read { IsOfAccepted result.outcome
-        → IfSome (form_of (map (λ w. string_bytes w) words.now)) (λ form. ReadsInput form → IsAtEnd (S.left input.new)) }
+        → IfSome (form_of (map (λ w. string_bytes w) words.now)) (λ form. ReadsInput form → IsAtEnd (S.seen input.new).left) }
     ensures form { IfSome (form_of (map (λ w. string_bytes w) words.now)) (λ form. MayEnd form result.outcome) }
 
     // At most one read for each byte within the limit, and one more, whatever the outcome.
-    ensures reads { S.reads input.new ≤ S.reads input.old + 4194305 }
+    ensures reads { (S.seen input.new).reads ≤ (S.seen input.old).reads + 4194305 }
 
     // With status 0 the bytes added to the sink are what the form prints of its document: for `trial` the output of a legal run, whose
     // answers are read from these bytes; for `check` the core models; for `gen` the summary of a legal run. Where the sink failed they are
     // the front of such an output.
     ensures done { result.outcome ≡ Outcome.Done
         → IfSome (form_of (map (λ w. string_bytes w) words.now)) (λ form. IsAlone form
-        → Adds (IsOutputOf form) (document_of form (S.left input.old)) (K.contents out.old) (K.contents out.new)) }
+        → Adds (IsOutputOf form) (document_of form (S.seen input.old).left) (K.seen out.old).contents (K.seen out.new).contents) }
     ensures cut_short { result.outcome ≡ Outcome.SinkFault
         → IfSome (form_of (map (λ w. string_bytes w) words.now)) (λ form. IsAlone form
-        → Adds (IsCutOutputOf form) (document_of form (S.left input.old)) (K.contents out.old) (K.contents out.new)) }
+        → Adds (IsCutOutputOf form) (document_of form (S.seen input.old).left) (K.seen out.old).contents (K.seen out.new).contents) }
 
     // Otherwise nothing is written; and for wrong words, and for `gen`, nothing is read.
     ensures unused { result.outcome ≡ Outcome.Usage → input.new ≡ input.old }
@@ -83,14 +83,14 @@ pub fn run<S: Source, K: Sink, D: Disk + Send, G: Gate + Sync, R: Threads + Wait
     // it, a crash since leaves a beginning of the history that is made, and one as the call ends the whole; or the journal wasn't opened, for
     // this reason, and what was found in its file is still found.
     ensures played { IfSome (form_of (map (λ w. string_bytes w) words.now)) (λ form. HasJournal form
-        → HasPlayedInput D.seen K.contents form result.outcome (S.left input.old) disk result.disk
+        → HasPlayedInput D.seen (K.seen form).contents result.outcome (S.seen input.old).left disk result.disk
         out.old out.new) }
 
     // Of `point`, by how it ended: the bytes written are the line with the number of entries, and where the journal is found as a history a crash
     // since leaves a file that is found as it, and as the call ends one with the checkpoint more; or no checkpoint was written, for this reason,
     // or the journal wasn't opened.
     ensures pointed { form_of (map (λ w. string_bytes w) words.now) ≡ Some Form.Point
-        → HasPointedInput D.seen K.contents result.outcome (S.left input.old) disk result.disk
+        → HasPointedInput D.seen (K.seen result.outcome).contents (S.seen input.old).left disk result.disk
         out.old out.new }
     ensures fault { result.outcome ≡ Outcome.DiskFault → (D.seen result.disk).faults ≡ raised (D.seen disk).faults }
 
@@ -98,14 +98,14 @@ pub fn run<S: Source, K: Sink, D: Disk + Send, G: Gate + Sync, R: Threads + Wait
     // as it was, whatever the outcome.
     ensures untouched { IsUntouched result.outcome → result.disk ≡ disk }
     ensures unaccepted { IfSome (form_of (map (λ w. string_bytes w) words.now)) (λ form.
-        IfSome (document_of form (S.left input.old)) (λ bytes. (result.disk ≡ disk) ⊎ IsAccepted bytes)) }
+        IfSome (document_of form (S.seen input.old).left) (λ bytes. (result.disk ≡ disk) ⊎ IsAccepted bytes)) }
     ensures alone { IfSome (form_of (map (λ w. string_bytes w) words.now)) (λ form. IsAlone form → result.disk ≡ disk) }
 
     // Where nothing hinders the run, the lines were answered, or the checkpoint is written, and the output is whole; or there was no memory, or
     // for `point` one of its two causes.
     ensures complete { IfSome (form_of (map (λ w. string_bytes w) words.now)) (λ form.
-        IfSome (document_of form (S.left input.old)) (λ bytes.
-        IsUnhindered form bytes (D.seen disk).contents (S.faults input.old) (S.faults input.new) (K.faults out.old) (K.faults out.new)
+        IfSome (document_of form (S.seen input.old).left) (λ bytes.
+        IsUnhindered form bytes (D.seen disk).contents (S.seen input.old).faults (S.seen input.new).faults (K.seen out.old).faults (K.seen out.new).faults
         (D.seen disk).faults (D.seen result.disk).faults → IsComplete result.outcome)) }
 {
     if asks_for_threads(words) {
@@ -135,29 +135,29 @@ pub fn run_alone<S: Source, K: Sink, D: Disk>(
 
     // Each outcome has its cause, and no other one stands for a fault of the source or of the sink. Want of memory alone may come at any moment.
     ensures usage { (result.outcome ≡ Outcome.Usage) ↔ (form_of (map (λ w. string_bytes w) words.now) ≡ None) }
-    ensures source { IsCounted result.outcome Outcome.SourceFault (S.faults input.old) (S.faults input.new) }
-    ensures too_long { result.outcome ≡ Outcome.TooLong → IfSome (S.left input.old) (λ bytes. 4194304 < length bytes) }
+    ensures source { IsCounted result.outcome Outcome.SourceFault (S.seen input.old).faults (S.seen input.new).faults }
+    ensures too_long { result.outcome ≡ Outcome.TooLong → IfSome (S.seen input.old).left (λ bytes. 4194304 < length bytes) }
     ensures refused { IfSome (form_of (map (λ w. string_bytes w) words.now)) (λ form.
-        IfSome (document_of form (S.left input.old)) (IsRefusedBy result.outcome)) }
+        IfSome (document_of form (S.seen input.old).left) (IsRefusedBy result.outcome)) }
     ensures accepted { IsOfAccepted result.outcome
-        → IfSome (form_of (map (λ w. string_bytes w) words.now)) (λ form. IfSome (document_of form (S.left input.old)) IsAccepted) }
-    ensures sink { IsCounted result.outcome Outcome.SinkFault (K.faults out.old) (K.faults out.new) }
+        → IfSome (form_of (map (λ w. string_bytes w) words.now)) (λ form. IfSome (document_of form (S.seen input.old).left) IsAccepted) }
+    ensures sink { IsCounted result.outcome Outcome.SinkFault (K.seen out.old).faults (K.seen out.new).faults }
     ensures read { IsOfAccepted result.outcome
-        → IfSome (form_of (map (λ w. string_bytes w) words.now)) (λ form. ReadsInput form → IsAtEnd (S.left input.new)) }
+        → IfSome (form_of (map (λ w. string_bytes w) words.now)) (λ form. ReadsInput form → IsAtEnd (S.seen input.new).left) }
     ensures form { IfSome (form_of (map (λ w. string_bytes w) words.now)) (λ form. MayEnd form result.outcome) }
 
     // At most one read for each byte within the limit, and one more, whatever the outcome.
-    ensures reads { S.reads input.new ≤ S.reads input.old + 4194305 }
+    ensures reads { (S.seen input.new).reads ≤ (S.seen input.old).reads + 4194305 }
 
     // With status 0 the bytes added to the sink are what the form prints of its document: for `trial` the output of a legal run, whose
     // answers are read from these bytes; for `check` the core models; for `gen` the summary of a legal run. Where the sink failed they are
     // the front of such an output.
     ensures done { result.outcome ≡ Outcome.Done
         → IfSome (form_of (map (λ w. string_bytes w) words.now)) (λ form. IsAlone form
-        → Adds (IsOutputOf form) (document_of form (S.left input.old)) (K.contents out.old) (K.contents out.new)) }
+        → Adds (IsOutputOf form) (document_of form (S.seen input.old).left) (K.seen out.old).contents (K.seen out.new).contents) }
     ensures cut_short { result.outcome ≡ Outcome.SinkFault
         → IfSome (form_of (map (λ w. string_bytes w) words.now)) (λ form. IsAlone form
-        → Adds (IsCutOutputOf form) (document_of form (S.left input.old)) (K.contents out.old) (K.contents out.new)) }
+        → Adds (IsCutOutputOf form) (document_of form (S.seen input.old).left) (K.seen out.old).contents (K.seen out.new).contents) }
 
     // Otherwise nothing is written; and for wrong words, and for `gen`, nothing is read.
     ensures unused { result.outcome ≡ Outcome.Usage → input.new ≡ input.old }
@@ -168,14 +168,14 @@ pub fn run_alone<S: Source, K: Sink, D: Disk>(
     // since leaves a beginning of the history that is made, and one as the call ends the whole; or the journal wasn't opened, for this reason,
     // and what was found in its file is still found.
     ensures played { IfSome (form_of (map (λ w. string_bytes w) words.now)) (λ form. HasJournal form
-        → HasPlayedInput D.seen K.contents form result.outcome (S.left input.old) disk result.disk
+        → HasPlayedInput D.seen (K.seen form).contents result.outcome (S.seen input.old).left disk result.disk
         out.old out.new) }
 
     // Of `point`, by how it ended: the bytes written are the line with the number of entries, and where the journal is found as a history a crash
     // since leaves a file that is found as it, and as the call ends one with the checkpoint more; or no checkpoint was written, for this reason,
     // or the journal wasn't opened.
     ensures pointed { form_of (map (λ w. string_bytes w) words.now) ≡ Some Form.Point
-        → HasPointedInput D.seen K.contents result.outcome (S.left input.old) disk result.disk
+        → HasPointedInput D.seen (K.seen result.outcome).contents (S.seen input.old).left disk result.disk
         out.old out.new }
     ensures fault { result.outcome ≡ Outcome.DiskFault → (D.seen result.disk).faults ≡ raised (D.seen disk).faults }
 
@@ -183,14 +183,14 @@ pub fn run_alone<S: Source, K: Sink, D: Disk>(
     // as it was, whatever the outcome.
     ensures untouched { IsUntouched result.outcome → result.disk ≡ disk }
     ensures unaccepted { IfSome (form_of (map (λ w. string_bytes w) words.now)) (λ form.
-        IfSome (document_of form (S.left input.old)) (λ bytes. (result.disk ≡ disk) ⊎ IsAccepted bytes)) }
+        IfSome (document_of form (S.seen input.old).left) (λ bytes. (result.disk ≡ disk) ⊎ IsAccepted bytes)) }
     ensures alone { IfSome (form_of (map (λ w. string_bytes w) words.now)) (λ form. IsAlone form → result.disk ≡ disk) }
 
     // Where nothing hinders the run, the lines were answered, or the checkpoint is written, and the output is whole; or there was no memory, or
     // for `point` one of its two causes.
     ensures complete { IfSome (form_of (map (λ w. string_bytes w) words.now)) (λ form.
-        IfSome (document_of form (S.left input.old)) (λ bytes.
-        IsUnhindered form bytes (D.seen disk).contents (S.faults input.old) (S.faults input.new) (K.faults out.old) (K.faults out.new)
+        IfSome (document_of form (S.seen input.old).left) (λ bytes.
+        IsUnhindered form bytes (D.seen disk).contents (S.seen input.old).faults (S.seen input.new).faults (K.seen out.old).faults (K.seen out.new).faults
         (D.seen disk).faults (D.seen result.disk).faults → IsComplete result.outcome)) }
 {
     accepted_documents_are_not_refused();
@@ -220,9 +220,9 @@ fn print_output<K: Sink>(alloc: Global, form: Form, bytes: &[u8], out: &mut K) -
     ensures form { MayEnd form result }
     ensures refused { IsRefusedBy result bytes.now }
     ensures accepted { IsOfAccepted result → IsAccepted bytes.now }
-    ensures sink { IsCounted result Outcome.SinkFault (K.faults out.old) (K.faults out.new) }
-    ensures done { result ≡ Outcome.Done → Adds (IsOutputOf form) (Some bytes.now) (K.contents out.old) (K.contents out.new) }
-    ensures cut_short { result ≡ Outcome.SinkFault → Adds (IsCutOutputOf form) (Some bytes.now) (K.contents out.old) (K.contents out.new) }
+    ensures sink { IsCounted result Outcome.SinkFault (K.seen out.old).faults (K.seen out.new).faults }
+    ensures done { result ≡ Outcome.Done → Adds (IsOutputOf form) (Some bytes.now) (K.seen out.old).contents (K.seen out.new).contents }
+    ensures cut_short { result ≡ Outcome.SinkFault → Adds (IsCutOutputOf form) (Some bytes.now) (K.seen out.old).contents (K.seen out.new).contents }
     ensures unwritten { IsUnwritten result → out.new ≡ out.old }
 {
     match output_of::<Monitor>(alloc, form, bytes) {
@@ -246,21 +246,21 @@ fn serve_input<S: Source, K: Sink, D: Disk + Send, G: Gate + Sync, R: Threads + 
     ensures status { result.status ≡ status_of result.outcome }
     ensures usage { result.outcome ≢ Outcome.Usage }
     ensures form { MayEnd Form.Serve result.outcome }
-    ensures source { IsCounted result.outcome Outcome.SourceFault (S.faults input.old) (S.faults input.new) }
-    ensures too_long { result.outcome ≡ Outcome.TooLong → IfSome (S.left input.old) (λ bytes. 4194304 < length bytes) }
-    ensures refused { IfSome (S.left input.old) (IsRefusedBy result.outcome) }
-    ensures accepted { IsOfAccepted result.outcome → IfSome (S.left input.old) IsAccepted }
-    ensures sink { IsCounted result.outcome Outcome.SinkFault (K.faults out.old) (K.faults out.new) }
-    ensures read { IsOfAccepted result.outcome → IsAtEnd (S.left input.new) }
-    ensures reads { S.reads input.new ≤ S.reads input.old + 4194305 }
+    ensures source { IsCounted result.outcome Outcome.SourceFault (S.seen input.old).faults (S.seen input.new).faults }
+    ensures too_long { result.outcome ≡ Outcome.TooLong → IfSome (S.seen input.old).left (λ bytes. 4194304 < length bytes) }
+    ensures refused { IfSome (S.seen input.old).left (IsRefusedBy result.outcome) }
+    ensures accepted { IsOfAccepted result.outcome → IfSome (S.seen input.old).left IsAccepted }
+    ensures sink { IsCounted result.outcome Outcome.SinkFault (K.seen out.old).faults (K.seen out.new).faults }
+    ensures read { IsOfAccepted result.outcome → IsAtEnd (S.seen input.new).left }
+    ensures reads { (S.seen input.new).reads ≤ (S.seen input.old).reads + 4194305 }
     ensures unwritten { IsUnwritten result.outcome → out.new ≡ out.old }
-    ensures played { HasPlayedInput D.seen K.contents Form.Serve result.outcome (S.left input.old) disk
+    ensures played { HasPlayedInput D.seen (K.seen Form.Serve).contents result.outcome (S.seen input.old).left disk
         result.disk out.old out.new }
     ensures fault { result.outcome ≡ Outcome.DiskFault → (D.seen result.disk).faults ≡ raised (D.seen disk).faults }
     ensures untouched { IsUntouched result.outcome → result.disk ≡ disk }
-    ensures unaccepted { IfSome (S.left input.old) (λ bytes. (result.disk ≡ disk) ⊎ IsAccepted bytes) }
-    ensures complete { IfSome (S.left input.old) (λ bytes.
-        IsUnhindered Form.Serve bytes (D.seen disk).contents (S.faults input.old) (S.faults input.new) (K.faults out.old) (K.faults out.new)
+    ensures unaccepted { IfSome (S.seen input.old).left (λ bytes. (result.disk ≡ disk) ⊎ IsAccepted bytes) }
+    ensures complete { IfSome (S.seen input.old).left (λ bytes.
+        IsUnhindered Form.Serve bytes (D.seen disk).contents (S.seen input.old).faults (S.seen input.new).faults (K.seen out.old).faults (K.seen out.new).faults
         (D.seen disk).faults (D.seen result.disk).faults → IsComplete result.outcome) }
 {
     accepted_documents_are_not_refused();
@@ -275,12 +275,12 @@ fn serve_input<S: Source, K: Sink, D: Disk + Send, G: Gate + Sync, R: Threads + 
 fn document_bytes<S: Source>(alloc: Global, form: Form, input: &mut S) -> Result<Vec<u8>, Outcome>
     requires { HasSize form }
     ensures short { IfOk result (λ bytes. length bytes.items ≤ 4194304) }
-    ensures bytes { IfOk result (λ bytes. IfSome (document_of form (S.left input.old)) (λ document. document ≡ bytes.items)) }
-    ensures read { OnOk result (ReadsInput form → IsAtEnd (S.left input.new)) }
-    ensures unfailed { OnOk result (S.faults input.new ≡ S.faults input.old) }
-    ensures ends { IfErr result (λ outcome. IsUnread (S.left input.old) (S.faults input.old) (S.faults input.new) outcome) }
+    ensures bytes { IfOk result (λ bytes. IfSome (document_of form (S.seen input.old).left) (λ document. document ≡ bytes.items)) }
+    ensures read { OnOk result (ReadsInput form → IsAtEnd (S.seen input.new).left) }
+    ensures unfailed { OnOk result ((S.seen input.new).faults ≡ (S.seen input.old).faults) }
+    ensures ends { IfErr result (λ outcome. IsUnread (S.seen input.old).left (S.seen input.old).faults (S.seen input.new).faults outcome) }
     ensures form { IfErr result (λ outcome. MayEnd form outcome) }
-    ensures reads { S.reads input.new ≤ S.reads input.old + 4194305 }
+    ensures reads { (S.seen input.new).reads ≤ (S.seen input.old).reads + 4194305 }
     ensures unread { (ReadsInput form → ⊥) → input.new ≡ input.old }
 {
     match form {

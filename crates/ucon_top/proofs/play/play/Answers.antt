@@ -36,10 +36,10 @@ returns-in-Ok-open-clause-played g c =
     told.leads told.seen told.founded in
     let same : map entry_of c.slice.result.now ≡ entries_of lines = ap (map entry_of) c.slice.ensures ∙ sym (map-map said_entry spelled_line c.in-Ok.script.lines.items) in
     let run = subst (λ (es : List Entry). IsClosedRun g.D.Disk.seen in_text_order P store es
-    c.play_lines.result.outcome c.play_lines.result.disk (g.K.Sink.contents c.args.out.now) (g.K.Sink.contents c.play_lines.new.out)) same
+    c.play_lines.result.outcome c.play_lines.result.disk (g.K.Sink.seen c.args.out.now).contents (g.K.Sink.seen c.play_lines.new.out).contents) same
     (c.play_lines.ensures.run P (ap accepted told.store.0 ∙ accepts)) in
     ends_run g.D.Disk.seen P text c.args.disk store opened Play bytes lines c.policy_part.ensures some.has_policy
-    c.in-Ok.ensures.says c.play_lines.result.disk g.K.Sink.contents c.args.out.now c.play_lines.new.out c.play_lines.result.outcome c.play_lines.ensures.of_run run
+    c.in-Ok.ensures.says c.play_lines.result.disk (g.K.Sink.seen c.args.out.now).contents c.play_lines.new.out c.play_lines.result.outcome c.play_lines.ensures.of_run run
 
 pub returns-in-Ok-open-clause-fault : goal.returns-in-Ok-open-clause-fault
 returns-in-Ok-open-clause-fault g c = λ is.
@@ -52,6 +52,6 @@ returns-in-Ok-open-clause-fault g c = λ is.
     let reads : accepted store.policy ≡ Some P =
     ap accepted (told.store.0 ∙ c.policy_part.ensures) ∙ (c.accepted_texts_spell_typed_policies.ensures (policy_part bytes) P).1 (some.has_policy.spelled, some.has_policy.typed) in
     let run = subst (λ (o : Outcome). IsClosedRun g.D.Disk.seen in_text_order P store lines
-    o c.play_lines.result.disk (g.K.Sink.contents c.args.out.now) (g.K.Sink.contents c.play_lines.new.out)) is (c.play_lines.ensures.run P reads) in
+    o c.play_lines.result.disk (g.K.Sink.seen c.args.out.now).contents (g.K.Sink.seen c.play_lines.new.out).contents) is (c.play_lines.ensures.run P reads) in
     run_raised g.D.Disk.seen in_text_order P c.args.disk store told.store.2 told.unfailed lines
-    c.play_lines.result.disk (g.K.Sink.contents c.args.out.now) (g.K.Sink.contents c.play_lines.new.out) run
+    c.play_lines.result.disk (g.K.Sink.seen c.args.out.now).contents (g.K.Sink.seen c.play_lines.new.out).contents run

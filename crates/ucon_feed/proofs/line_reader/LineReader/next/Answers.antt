@@ -8,5 +8,5 @@ returns-clause-line g c =
     let fits : c.in_ok-len.len ≤ c.self.inside.room = grind arith in
     let some : 0 < c.in_ok-len.len = grind arith in
     let taken : c.in_ok-line.line.items ≡ take c.in_ok-len.len c.read_line.new.self.held = grind arith in
-    gives c.args.self.now c.read_line.new.self (g.S.Source.left c.args.source.now) (g.S.Source.left c.read_line.new.source) c.self.inside.seen.items c.in_ok-line.line.items c.self.inside.room c.self.inside.gone c.in_ok-len.len
+    gives c.args.self.now c.read_line.new.self (g.S.Source.seen c.args.source.now).left (g.S.Source.seen c.read_line.new.source).left c.self.inside.seen.items c.in_ok-line.line.items c.self.inside.room c.self.inside.gone c.in_ok-len.len
     c.in_ok-len.ensures.read (cc c.self.view_is) c.in_ok-len.ensures.len c.in_ok-len.ensures.whole fits some taken

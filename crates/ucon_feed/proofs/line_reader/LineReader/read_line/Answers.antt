@@ -7,12 +7,12 @@ use Rattle.ucon_feed.proofs.line_reader.LineReader.read_line.Goals as goal
 pub returns-in_err-read_piece-clause-held : goal.returns-in_err-read_piece-clause-held
 returns-in_err-read_piece-clause-held g c = λ h.
     let bare : c.loop-whole.whole ≡ false = grind arith in
-    absurd (never_read c.args.self.now c.loop-whole.self (g.S.Source.left c.args.source.now) (g.S.Source.left c.loop-whole.source) c.loop-whole.whole c.loop-whole.invariant.read c.loop-whole.invariant.whole bare h)
+    absurd (never_read c.args.self.now c.loop-whole.self (g.S.Source.seen c.args.source.now).left (g.S.Source.seen c.loop-whole.source).left c.loop-whole.whole c.loop-whole.invariant.read c.loop-whole.invariant.whole bare h)
 
 pub returns-then-branch-eq0-clause-held : goal.returns-then-branch-eq0-clause-held
 returns-then-branch-eq0-clause-held g c = λ h.
     let bare : c.loop-whole.whole ≡ false = grind arith in
-    absurd (never_read c.args.self.now c.loop-whole.self (g.S.Source.left c.args.source.now) (g.S.Source.left c.loop-whole.source) c.loop-whole.whole c.loop-whole.invariant.read c.loop-whole.invariant.whole bare h)
+    absurd (never_read c.args.self.now c.loop-whole.self (g.S.Source.seen c.args.source.now).left (g.S.Source.seen c.loop-whole.source).left c.loop-whole.whole c.loop-whole.invariant.read c.loop-whole.invariant.whole bare h)
 
 pub loop-whole-preserved : goal.loop-whole-preserved
 loop-whole-preserved g c =
@@ -32,10 +32,10 @@ loop-whole-preserved g c =
     let some : 0 < length step.0 = omega arith in
     let more = p.2 some in
     record {
-      read = reads_on c.args.self.now old new (g.S.Source.left c.args.source.now) (g.S.Source.left c.loop-whole.source) (g.S.Source.left c.read_piece.new.source) c.loop-whole.invariant.read step;
+      read = reads_on c.args.self.now old new (g.S.Source.seen c.args.source.now).left (g.S.Source.seen c.loop-whole.source).left (g.S.Source.seen c.read_piece.new.source).left c.loop-whole.invariant.read step;
       len = p.0;
       whole = p.1;
       unfailed = search rules;
-      quiet = λ h. absurd (never_read c.args.self.now old (g.S.Source.left c.args.source.now) (g.S.Source.left c.loop-whole.source) c.loop-whole.whole c.loop-whole.invariant.read c.loop-whole.invariant.whole bare h);
+      quiet = λ h. absurd (never_read c.args.self.now old (g.S.Source.seen c.args.source.now).left (g.S.Source.seen c.loop-whole.source).left c.loop-whole.whole c.loop-whole.invariant.read c.loop-whole.invariant.whole bare h);
       reads = grind arith;
     }
