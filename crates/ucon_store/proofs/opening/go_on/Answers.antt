@@ -120,7 +120,7 @@ module _ (g : Over) (c : In_ok-mend g) where
   mended : IsMended (points_of (version_of c.take_all.new.journal)) (g.D.Disk.seen (disk_of c.args.journal.now)).contents
       (g.D.Disk.seen (disk_of c.mend.new.self)).contents
   mended =
-      mended_told (g.D.Disk.seen c.take_all.new.journal).contents c.mend.new.self
+      mended_told g.D.Disk.seen c.take_all.new.journal c.mend.new.self
       (c.take_all.ensures.contents ∙ c.start.ensures.contents) c.in_ok-take_all.ensures.ended
       c.in_ok-mend.ensures.closed c.mend.ensures.version c.in_ok-mend.ensures.same
 
