@@ -187,16 +187,7 @@ module _ {D : Type 0} (seen : D → DiskSeen) where
           )
       ends (outcomes.NoMemory m) of marked e =
           inr (inr (over (λ (es : List Entry) (told : List Answered). Unit {0}) (λ (told : List Answered). Unit {0}) e (λ G told run nothing. tt)))
-      ends outcomes.Usage of marked e = absurd of
-      ends (outcomes.Policy f) of marked e = absurd of
-      ends (outcomes.Script f) of marked e = absurd of
-      ends outcomes.SourceFault of marked e = absurd of
-      ends (outcomes.Damaged number place) of marked e = absurd of
-      ends outcomes.NotJournal of marked e = absurd of
-      ends (outcomes.OtherPolicy place) of marked e = absurd of
-      ends outcomes.TooLong of marked e = absurd of
-      ends (outcomes.FullPoint size) of marked e = absurd of
-      ends outcomes.OldJournal of marked e = absurd of
+      ends outcome of marked e = absurd (cc (of.0, of.1))
 
     pub ends_run : (outcome : Outcome) → IsOfRun outcome
         → IsClosedRun seen (sees_by form) P store Entries outcome now (held was) (held written)
@@ -257,17 +248,7 @@ module _ {D : Type 0} (seen : D → DiskSeen) {K : Type 0} (held : K → Option 
       by_outcome outcomes.SourceFault bytes u = refl
       by_outcome outcomes.TooLong bytes u = refl
       by_outcome (outcomes.NoMemory e) bytes u = inl refl
-      by_outcome outcomes.Done bytes u = absurd u
-      by_outcome outcomes.Usage bytes u = absurd u
-      by_outcome (outcomes.Policy f) bytes u = absurd u
-      by_outcome (outcomes.Script f) bytes u = absurd u
-      by_outcome outcomes.SinkFault bytes u = absurd u
-      by_outcome outcomes.DiskFault bytes u = absurd u
-      by_outcome (outcomes.Damaged number place) bytes u = absurd u
-      by_outcome outcomes.NotJournal bytes u = absurd u
-      by_outcome (outcomes.OtherPolicy place) bytes u = absurd u
-      by_outcome (outcomes.FullPoint size) bytes u = absurd u
-      by_outcome outcomes.OldJournal bytes u = absurd u
+      by_outcome o bytes u = absurd u
 
       over_input : (o : Option Bytes) → ((bytes : Bytes) → HasPlayed seen held form outcome bytes disk disk was was)
           → HasPlayedInput seen held form outcome o disk disk was was

@@ -233,17 +233,7 @@ unread_pointed seen held outcome input before now disk was unread = over_input i
     by_outcome outcomes.SourceFault bytes u = refl
     by_outcome outcomes.TooLong bytes u = refl
     by_outcome (outcomes.NoMemory e) bytes u = inl refl
-    by_outcome outcomes.Done bytes u = absurd u
-    by_outcome outcomes.Usage bytes u = absurd u
-    by_outcome (outcomes.Policy f) bytes u = absurd u
-    by_outcome (outcomes.Script f) bytes u = absurd u
-    by_outcome outcomes.SinkFault bytes u = absurd u
-    by_outcome outcomes.DiskFault bytes u = absurd u
-    by_outcome (outcomes.Damaged number place) bytes u = absurd u
-    by_outcome outcomes.NotJournal bytes u = absurd u
-    by_outcome (outcomes.OtherPolicy place) bytes u = absurd u
-    by_outcome (outcomes.FullPoint size) bytes u = absurd u
-    by_outcome outcomes.OldJournal bytes u = absurd u
+    by_outcome o bytes u = absurd u
 
     over_input : (o : Option Bytes) → ((bytes : Bytes) → HasPointed seen held outcome bytes disk disk was was)
         → HasPointedInput seen held outcome o disk disk was was
@@ -254,8 +244,8 @@ unread_pointed seen held outcome input before now disk was unread = over_input i
 pub same_end : {D : Type 0} (seen : D → DiskSeen)
     (P : PlainPolicy) (store : Kept D) (disk : D) (before now : Option Bytes) (outcome : Outcome) → IsOfNoPoint outcome
     → EndsPoint seen P store disk None None outcome → EndsPoint seen P store disk before now outcome
-same_end seen P store disk before now outcomes.Done none e = absurd none
-same_end seen P store disk before now outcomes.SinkFault none e = absurd none
+same_end seen P store disk before now outcomes.Done none e = absurd (none.1 refl)
+same_end seen P store disk before now outcomes.SinkFault none e = absurd (none.2 refl)
 same_end seen P store disk before now outcomes.DiskFault none e = e
 same_end seen P store disk before now (outcomes.NoMemory m) none e = e
 same_end seen P store disk before now (outcomes.FullPoint size) none e = e
@@ -293,35 +283,15 @@ module _ {D : Type 0} (seen : D → DiskSeen)
   told_end outcomes.Done entries is put w = (put, subst (λ (n : ℕ). Appends before now (point_line n)) is w.1.0)
   told_end outcomes.SinkFault entries is put w = (put, subst (λ (n : ℕ). AppendsPrefix before now (point_line n)) is w.1)
   told_end outcomes.DiskFault entries is put w = absurd (let bad : false ≡ true = w.0 in cc bad)
-  told_end (outcomes.NoMemory m) entries is put w = absurd w
-  told_end (outcomes.FullPoint size) entries is put w = absurd w
-  told_end outcomes.OldJournal entries is put w = absurd w
-  told_end outcomes.Usage entries is put w = absurd w
-  told_end (outcomes.Policy f) entries is put w = absurd w
-  told_end (outcomes.Script f) entries is put w = absurd w
-  told_end outcomes.SourceFault entries is put w = absurd w
-  told_end (outcomes.Damaged number place) entries is put w = absurd w
-  told_end outcomes.NotJournal entries is put w = absurd w
-  told_end (outcomes.OtherPolicy place) entries is put w = absurd w
-  told_end outcomes.TooLong entries is put w = absurd w
+  told_end outcome entries is put w = absurd w
 
 -- a run that told of its checkpoint ends so
 pub of_told : (outcome : Outcome) (text : Bytes) (before now : Option Bytes) (failed fails : ℕ) → IsWritten outcome text false before now failed fails
     → IsOfPoint outcome × (outcome ≡ outcomes.DiskFault → ⊥)
-of_told outcomes.Done text before now failed fails w = (tt, λ is. cc is)
-of_told outcomes.SinkFault text before now failed fails w = (tt, λ is. cc is)
+of_told outcomes.Done text before now failed fails w = (refl, λ is. cc is)
+of_told outcomes.SinkFault text before now failed fails w = (refl, λ is. cc is)
 of_told outcomes.DiskFault text before now failed fails w = absurd (let bad : false ≡ true = w.0 in cc bad)
-of_told (outcomes.NoMemory m) text before now failed fails w = absurd w
-of_told (outcomes.FullPoint size) text before now failed fails w = absurd w
-of_told outcomes.OldJournal text before now failed fails w = absurd w
-of_told outcomes.Usage text before now failed fails w = absurd w
-of_told (outcomes.Policy f) text before now failed fails w = absurd w
-of_told (outcomes.Script f) text before now failed fails w = absurd w
-of_told outcomes.SourceFault text before now failed fails w = absurd w
-of_told (outcomes.Damaged number place) text before now failed fails w = absurd w
-of_told outcomes.NotJournal text before now failed fails w = absurd w
-of_told (outcomes.OtherPolicy place) text before now failed fails w = absurd w
-of_told outcomes.TooLong text before now failed fails w = absurd w
+of_told outcome text before now failed fails w = absurd w
 
 -- what is said of an answer that is there, or of a fault
 pub ok_so : {T E : Type 0} (r : Result T E) (t : T) (so : T → Type 0) → r ≡ Ok t → IfOk r so → so t

@@ -9,4 +9,5 @@ pub mod Pointed
 pub mod PointEnding
 pub mod Printed
 pub mod Stepping
+pub mod Traits
 pub mod Unread

@@ -1,5 +1,5 @@
 -- How the writing of a checkpoint over an open store ends, and what it leaves on the disk.
-use Rattle.std.specs.Prelude.{◌≡◌, ◌<◌, ◌+◌, ℕ, true, false, List, length, Option, Some, IfSome}
+use Rattle.std.specs.Prelude.{◌≡◌, ◌≢◌, ◌<◌, ◌+◌, ℕ, true, false, IsTrue, List, length, Option, Some, IfSome}
 use Rattle.std.specs.Io.KnownBytes.{Appends}
 use Rattle.ucon_disk.specs.Causes.{raised}
 use Rattle.ucon_disk.specs.Run.{LeavesOnly}
@@ -13,18 +13,13 @@ use Rattle.ucon_store.specs.Pointing.{IsFoundPointed}
 use Rattle.ucon_store.specs.Points.{has_points, point_places}
 use Rattle.ucon_outcome.specs.declared.outcome.Outcome.{Outcome}
 use Rattle.ucon_outcome.specs.declared.outcome.Outcome.TheVariants.{Done, SinkFault, DiskFault, NoMemory, FullPoint, OldJournal}
+use Rattle.ucon_outcome.specs.Ending.{ending}
 use Rattle.ucon_top.specs.Pointed.{FitsRecord, IsCheckpointSize, IsPointedAt, point_line}
 use Rattle.ucon_disk.specs.Seen.{DiskSeen}
 
 -- how it may end
 abbrev pub IsOfPoint : Outcome → Type 0
-IsOfPoint Done = Unit {0}
-IsOfPoint SinkFault = Unit {0}
-IsOfPoint DiskFault = Unit {0}
-IsOfPoint (NoMemory e) = Unit {0}
-IsOfPoint (FullPoint size) = Unit {0}
-IsOfPoint OldJournal = Unit {0}
-IsOfPoint outcome = ⊥
+IsOfPoint outcome = IsTrue (ending outcome).opened
 
 module _ {D : Type 0} (seen : D → DiskSeen) where
   -- Where the disk told the store's file, a crash since leaves one that is found as its entries, with or without a checkpoint behind them.
@@ -65,6 +60,4 @@ module _ {D : Type 0} (seen : D → DiskSeen) where
 
 -- how it may end where the checkpoint isn't written
 abbrev pub IsOfNoPoint : Outcome → Type 0
-IsOfNoPoint Done = ⊥
-IsOfNoPoint SinkFault = ⊥
-IsOfNoPoint outcome = IsOfPoint outcome
+IsOfNoPoint outcome = IsOfPoint outcome × (outcome ≢ Done) × (outcome ≢ SinkFault)

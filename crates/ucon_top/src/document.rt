@@ -79,6 +79,6 @@ fn form_output<E: Engine>(
         Form::Trial => trial_output::<E>(alloc, checked, script),
         Form::Check => models_text(alloc, &checked),
         Form::Gen { seed: _, size: _ } => trial_summary::<E>(alloc, checked, script),
-        Form::Play | Form::Serve | Form::Point => unreachable!(),
+        _ => unreachable!(),
     }
 }

@@ -284,9 +284,7 @@ fn document_bytes<S: Source>(alloc: Global, form: Form, input: &mut S) -> Result
     ensures unread { (ReadsInput form → ⊥) → input.new ≡ input.old }
 {
     match form {
-        Form::Trial | Form::Check | Form::Play | Form::Serve | Form::Point => {
-            Ok(read_all(alloc, input, LIMIT)?)
-        }
         Form::Gen { seed, size } => Ok(generate(alloc, seed, size)?),
+        _ => Ok(read_all(alloc, input, LIMIT)?),
     }
 }

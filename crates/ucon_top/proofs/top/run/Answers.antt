@@ -1,4 +1,4 @@
-use Rattle.std.proofs.Common.{◌≡◌, ◌∙◌, true, map, sym}
+use Rattle.std.proofs.Common.{◌≡◌, ◌∙◌, true, map, refl, sym}
 use Rattle.std.specs.Prelude.{Some, string_bytes}
 use Rattle.ucon_top.specs.declared.form.Form.TheVariants.{Point, Serve}
 use Rattle.ucon_top.specs.Form.{asks_for_threads, form_of}
@@ -29,17 +29,17 @@ returns-then-asks_for_threads-clause-read g c = λ of_accepted.
 pub returns-then-asks_for_threads-clause-done : goal.returns-then-asks_for_threads-clause-done
 returns-then-asks_for_threads-clause-done g c = λ done.
     let asks : asks_for_threads (form_of (map (λ w. string_bytes w) c.args.words.now)) ≡ true = cc in
-    rw (threads_are_serve (form_of (map (λ w. string_bytes w) c.args.words.now)) asks) (λ alone. absurd alone)
+    rw (threads_are_serve (form_of (map (λ w. string_bytes w) c.args.words.now)) asks) (λ alone. absurd (cc alone))
 
 pub returns-then-asks_for_threads-clause-cut_short : goal.returns-then-asks_for_threads-clause-cut_short
 returns-then-asks_for_threads-clause-cut_short g c = λ fault.
     let asks : asks_for_threads (form_of (map (λ w. string_bytes w) c.args.words.now)) ≡ true = cc in
-    rw (threads_are_serve (form_of (map (λ w. string_bytes w) c.args.words.now)) asks) (λ alone. absurd alone)
+    rw (threads_are_serve (form_of (map (λ w. string_bytes w) c.args.words.now)) asks) (λ alone. absurd (cc alone))
 
 pub returns-then-asks_for_threads-clause-unread : goal.returns-then-asks_for_threads-clause-unread
 returns-then-asks_for_threads-clause-unread g c =
     let asks : asks_for_threads (form_of (map (λ w. string_bytes w) c.args.words.now)) ≡ true = cc in
-    rw (threads_are_serve (form_of (map (λ w. string_bytes w) c.args.words.now)) asks) (λ unread. absurd (unread tt))
+    rw (threads_are_serve (form_of (map (λ w. string_bytes w) c.args.words.now)) asks) (λ unread. absurd (unread refl))
 
 pub returns-then-asks_for_threads-clause-played : goal.returns-then-asks_for_threads-clause-played
 returns-then-asks_for_threads-clause-played g c =
@@ -55,7 +55,7 @@ returns-then-asks_for_threads-clause-pointed g c = λ is_point.
 pub returns-then-asks_for_threads-clause-alone : goal.returns-then-asks_for_threads-clause-alone
 returns-then-asks_for_threads-clause-alone g c =
     let asks : asks_for_threads (form_of (map (λ w. string_bytes w) c.args.words.now)) ≡ true = cc in
-    rw (threads_are_serve (form_of (map (λ w. string_bytes w) c.args.words.now)) asks) (λ alone. absurd alone)
+    rw (threads_are_serve (form_of (map (λ w. string_bytes w) c.args.words.now)) asks) (λ alone. absurd (cc alone))
 
 pub returns-then-asks_for_threads-clause-form : goal.returns-then-asks_for_threads-clause-form
 returns-then-asks_for_threads-clause-form g c =
