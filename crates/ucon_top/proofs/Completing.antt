@@ -20,7 +20,7 @@ use Rattle.ucon_top.specs.Played.{HasPlayed}
 use Rattle.ucon_top.specs.Pointed.{HasPointed}
 use Rattle.ucon_top.specs.Printed.{document_of}
 use Rattle.ucon_top.specs.Unread.{IsUnread}
-use Rattle.ucon_disk.specs.Seen.{DiskSeen}
+use Rattle.ucon_top.specs.Seen.{Seen as AllSeen}
 
 -- ---- no reason not to open holds of one's own journal
 
@@ -69,16 +69,16 @@ not_long form input bytes may is accepted long = too_much (length bytes) accepte
 rose : (before now : ℕ) → now ≡ raised before → Rose before now
 rose before now is = subst (λ (n : ℕ). raised before ≤ n) (sym is) (omega arith)
 
-module _ (contents : Option Bytes) (source source' sink sink' disk disk' : ℕ) where
+module _ (before after : AllSeen) where
   abbrev Completes : Form → Outcome → Bytes → Type 0
-  Completes form outcome bytes = IsUnhindered form bytes contents source source' sink sink' disk disk' → IsComplete outcome
+  Completes form outcome bytes = IsUnhindered form bytes before after → IsComplete outcome
 
   -- the document wasn't read
-  pub unread_complete : (form : Form) (outcome : Outcome) (input : Option Bytes) → IsUnread input source source' outcome → MayEnd form outcome
+  pub unread_complete : (form : Form) (outcome : Outcome) (input : Option Bytes) → IsUnread input before.source.faults after.source.faults outcome → MayEnd form outcome
       → IfSome (document_of form input) (Completes form outcome)
   unread_complete form outcome input unread may = over (document_of form input) refl
     where
-      by_outcome : (o : Outcome) (bytes : Bytes) → IsUnread input source source' o → MayEnd form o → document_of form input ≡ Some bytes → Completes form o bytes
+      by_outcome : (o : Outcome) (bytes : Bytes) → IsUnread input before.source.faults after.source.faults o → MayEnd form o → document_of form input ≡ Some bytes → Completes form o bytes
       by_outcome outcomes.SourceFault bytes h m is u = absurd (u.source_works (rose _ _ h))
       by_outcome outcomes.TooLong bytes h m is u = absurd (not_long form input bytes m is u.accepted h.0)
       by_outcome (outcomes.NoMemory e) bytes h m is u = refl
@@ -96,7 +96,7 @@ module _ (contents : Option Bytes) (source source' sink sink' disk disk' : ℕ) 
 
   -- nothing but its document and the sink can end a run without a journal
   pub printed_complete : (form : Form) (outcome : Outcome) (bytes : Bytes) → (IsAccepted bytes → IsRefusedBy outcome bytes → IsUnrefused outcome)
-      → IsRefusedBy outcome bytes → IsOfPrinting outcome → IsCounted outcome outcomes.SinkFault sink sink' → Completes form outcome bytes
+      → IsRefusedBy outcome bytes → IsOfPrinting outcome → IsCounted outcome outcomes.SinkFault before.sink.faults after.sink.faults → Completes form outcome bytes
   printed_complete form outcomes.Done bytes unrefused refused ends sink u = refl
   printed_complete form (outcomes.NoMemory e) bytes unrefused refused ends sink u = refl
   printed_complete form (outcomes.Policy f) bytes unrefused refused ends sink u = absurd (cc (unrefused u.accepted refused))
@@ -105,13 +105,12 @@ module _ (contents : Option Bytes) (source source' sink sink' disk disk' : ℕ) 
   printed_complete form outcome bytes unrefused refused ends sink u = absurd (cc (ends.0, ends.1))
 
 -- nor anything but these and its journal one over a journal
-module _ {D : Type 0} (seen : D → DiskSeen)
-    {K : Type 0} (held : K → Option Bytes) (form : Form) (old new : D) (was written : K) (source source' sink sink' : ℕ) (bytes : Bytes) (sees_one : SeesOneThing) where
+module _ (form : Form) (before after : AllSeen) (bytes : Bytes) (sees_one : SeesOneThing) where
   pub played_complete : (outcome : Outcome) → (IsAccepted bytes → IsRefusedBy outcome bytes → IsUnrefused outcome) → IsRefusedBy outcome bytes → IsOfDocument outcome
-      → IsCounted outcome outcomes.SinkFault sink sink' → (outcome ≡ outcomes.DiskFault → (seen new).faults ≡ raised (seen old).faults)
-      → HasPlayed seen held form outcome bytes old new was written
-      → (IsUnhindered form bytes (seen old).contents source source' sink sink' (seen old).faults (seen new).faults → IsOwnJournal (policy_part bytes) (seen old).contents)
-      → Completes (seen old).contents source source' sink sink' (seen old).faults (seen new).faults form outcome bytes
+      → IsCounted outcome outcomes.SinkFault before.sink.faults after.sink.faults → (outcome ≡ outcomes.DiskFault → after.disk.faults ≡ raised before.disk.faults)
+      → HasPlayed form outcome bytes before.disk after.disk before.sink after.sink
+      → (IsUnhindered form bytes before after → IsOwnJournal (policy_part bytes) before.disk.contents)
+      → Completes before after form outcome bytes
   played_complete outcomes.Done unrefused refused ends sink disk played own u = refl
   played_complete (outcomes.NoMemory e) unrefused refused ends sink disk played own u = refl
   played_complete (outcomes.Policy f) unrefused refused ends sink disk played own u = absurd (cc (unrefused u.accepted refused))
@@ -119,20 +118,20 @@ module _ {D : Type 0} (seen : D → DiskSeen)
   played_complete outcomes.SinkFault unrefused refused ends sink disk played own u = absurd (u.sink_works (rose _ _ (sink.0 refl)))
   played_complete outcomes.DiskFault unrefused refused ends sink disk played own u = absurd (u.disk_works (rose _ _ (disk refl)))
   played_complete (outcomes.Damaged number place) unrefused refused ends sink disk played own u =
-      absurd (not_damaged sees_one (policy_part bytes) (seen old).contents (own u) number place played.reason.0)
-  played_complete outcomes.NotJournal unrefused refused ends sink disk played own u = absurd (not_foreign sees_one (policy_part bytes) (seen old).contents (own u) played.reason.0)
+      absurd (not_damaged sees_one (policy_part bytes) before.disk.contents (own u) number place played.reason.0)
+  played_complete outcomes.NotJournal unrefused refused ends sink disk played own u = absurd (not_foreign sees_one (policy_part bytes) before.disk.contents (own u) played.reason.0)
   played_complete (outcomes.OtherPolicy place) unrefused refused ends sink disk played own u =
-      absurd (not_others sees_one (policy_part bytes) (seen old).contents (own u) place played.reason.0)
+      absurd (not_others sees_one (policy_part bytes) before.disk.contents (own u) place played.reason.0)
   played_complete (outcomes.FullPoint size) unrefused refused ends sink disk played own u = refl
   played_complete outcomes.OldJournal unrefused refused ends sink disk played own u = refl
   played_complete outcome unrefused refused ends sink disk played own u = absurd (cc ends)
 
   -- the same of a checkpoint
   pub pointed_complete : (outcome : Outcome) → (IsAccepted bytes → IsRefusedBy outcome bytes → IsUnrefused outcome) → IsRefusedBy outcome bytes → IsOfDocument outcome
-      → IsCounted outcome outcomes.SinkFault sink sink' → (outcome ≡ outcomes.DiskFault → (seen new).faults ≡ raised (seen old).faults)
-      → HasPointed seen held outcome bytes old new was written
-      → (IsUnhindered form bytes (seen old).contents source source' sink sink' (seen old).faults (seen new).faults → IsOwnJournal (policy_part bytes) (seen old).contents)
-      → Completes (seen old).contents source source' sink sink' (seen old).faults (seen new).faults form outcome bytes
+      → IsCounted outcome outcomes.SinkFault before.sink.faults after.sink.faults → (outcome ≡ outcomes.DiskFault → after.disk.faults ≡ raised before.disk.faults)
+      → HasPointed outcome bytes before.disk after.disk before.sink after.sink
+      → (IsUnhindered form bytes before after → IsOwnJournal (policy_part bytes) before.disk.contents)
+      → Completes before after form outcome bytes
   pointed_complete outcomes.Done unrefused refused ends sink disk pointed own u = refl
   pointed_complete (outcomes.NoMemory e) unrefused refused ends sink disk pointed own u = refl
   pointed_complete (outcomes.FullPoint size) unrefused refused ends sink disk pointed own u = refl
@@ -142,8 +141,8 @@ module _ {D : Type 0} (seen : D → DiskSeen)
   pointed_complete outcomes.SinkFault unrefused refused ends sink disk pointed own u = absurd (u.sink_works (rose _ _ (sink.0 refl)))
   pointed_complete outcomes.DiskFault unrefused refused ends sink disk pointed own u = absurd (u.disk_works (rose _ _ (disk refl)))
   pointed_complete (outcomes.Damaged number place) unrefused refused ends sink disk pointed own u =
-      absurd (not_damaged sees_one (policy_part bytes) (seen old).contents (own u) number place pointed.reason.0)
-  pointed_complete outcomes.NotJournal unrefused refused ends sink disk pointed own u = absurd (not_foreign sees_one (policy_part bytes) (seen old).contents (own u) pointed.reason.0)
+      absurd (not_damaged sees_one (policy_part bytes) before.disk.contents (own u) number place pointed.reason.0)
+  pointed_complete outcomes.NotJournal unrefused refused ends sink disk pointed own u = absurd (not_foreign sees_one (policy_part bytes) before.disk.contents (own u) pointed.reason.0)
   pointed_complete (outcomes.OtherPolicy place) unrefused refused ends sink disk pointed own u =
-      absurd (not_others sees_one (policy_part bytes) (seen old).contents (own u) place pointed.reason.0)
+      absurd (not_others sees_one (policy_part bytes) before.disk.contents (own u) place pointed.reason.0)
   pointed_complete outcome unrefused refused ends sink disk pointed own u = absurd (cc ends)

@@ -31,11 +31,13 @@ use Rattle.ucon_top.specs.Form.{output_order, sees_by}
 use Rattle.ucon_top.specs.Own.{IsOwnFile}
 use Rattle.ucon_top.specs.Played.{HasPlayed, HasPlayedInput, HasRun, IsFoundSince, IsPlayed, IsRunOver}
 use Rattle.ucon_trial.specs.Runs.{IsUnfaulted}
+use Rattle.ucon_top.specs.Seen.{as_it_was}
 use Rattle.ucon_top.specs.Stepping.{AreAnswered, HaveOutput, IsRunBetween}
 use Rattle.ucon_top.specs.Unread.{IsUnread}
 use Rattle.ucon_top.proofs.Answering.{none_faulted}
 use Rattle.ucon_top.proofs.Behind.{begins_behind}
 use Rattle.ucon_disk.specs.Seen.{DiskSeen}
+use Rattle.ucon_flow.specs.Seen.{SinkSeen}
 
 module _ {D : Type 0} (seen : D → DiskSeen) where
   -- what the opening of a store under a policy told
@@ -99,7 +101,7 @@ module _ {D : Type 0} (seen : D → DiskSeen) where
       -- ---- the run
 
       played : (sees : Caller → Caller → Bool) (told : List Answered) → IsRunBetween sees P (whole G store) (whole G closed) told
-          → IsPlayed seen sees text P file (G ++ store.entries) disk now told
+          → IsPlayed sees text P file (G ++ store.entries) (seen disk) (seen now) told
       played sees told run =
           let made : history_made (G ++ store.entries) told ≡ G ++ closed.entries = run.made in
           let marked : failed_line told ≡ closed.mark = run.failed in record {
@@ -113,7 +115,7 @@ module _ {D : Type 0} (seen : D → DiskSeen) where
       has_run : (sees : Caller → Caller → Bool) (lines : List Entry) (so : List Entry → List Answered → Type 0) (given : List Answered → Type 0)
           → AreAnswered sees P (whole G store) (whole G closed) lines given
           → ((told : List Answered) → IsRunBetween sees P (whole G store) (whole G closed) told → given told → so lines told)
-          → HasRun seen sees text P lines file (G ++ store.entries) disk now so
+          → HasRun sees text P lines file (G ++ store.entries) (seen disk) (seen now) so
       has_run sees lines so given run makes = record {
         told = run.told;
         lines_are = run.lines_are;
@@ -129,17 +131,17 @@ module _ {D : Type 0} (seen : D → DiskSeen) where
       behind : (file : Bytes) (opening : History) → (seen disk).contents ≡ Some file → IsFoundAs text file opening
           → ((G : History) → IsFront P store G → AreAnswered (sees_by form) P (whole G store) (whole G closed) Lines given)
           → ((G : History) (told : List Answered) → IsRunBetween (sees_by form) P (whole G store) (whole G closed) told → given told → so Lines told)
-          → HasRun seen (sees_by form) text P Lines file opening disk now so
+          → HasRun (sees_by form) text P Lines file opening (seen disk) (seen now) so
       behind file opening is found run makes =
           let goes = opened.founded file opening is found in
           let G = goes.before in
           let found_so = subst (λ (H : History). IsFoundAs text file H) goes.all found in
-          subst (λ (H : History). HasRun seen (sees_by form) text P Lines file H disk now so) (sym goes.all)
+          subst (λ (H : History). HasRun (sees_by form) text P Lines file H (seen disk) (seen now) so) (sym goes.all)
           (has_run file is G goes.founded found_so (sees_by form) Lines so given (run G goes.founded.front) (makes G))
 
       pub run_over : ((G : History) → IsFront P store G → AreAnswered (sees_by form) P (whole G store) (whole G closed) Lines given)
           → ((G : History) (told : List Answered) → IsRunBetween (sees_by form) P (whole G store) (whole G closed) told → given told → so Lines told)
-          → IsRunOver seen form bytes disk now so
+          → IsRunOver form bytes (seen disk) (seen now) so
       run_over run makes = record {
         policy = P;
         lines = lines;
@@ -148,50 +150,50 @@ module _ {D : Type 0} (seen : D → DiskSeen) where
         entries = store.before + length store.entries;
         own = subst (λ (t : Bytes). IfSome (seen disk).contents (IsOwnFile t (store.before + length store.entries))) is_text opened.own;
         run = subst (λ (t : Bytes). (file : Bytes) (opening : History) → (seen disk).contents ≡ Some file → IsFoundAs t file opening
-            → HasRun seen (sees_by form) t P Lines file opening disk now so) is_text
+            → HasRun (sees_by form) t P Lines file opening (seen disk) (seen now) so) is_text
             (λ file opening is found. behind file opening is found run makes);
       }
 
   -- how playing ends, by how the run over the store does
   module _ (P : PlainPolicy) (text : Bytes) (disk : D) (store : Kept D) (opened : IsOpened P text disk store) (form : Form) (bytes : Bytes) (lines : List ScriptLine)
-      (is_text : text ≡ policy_part bytes) (has_policy : HasPolicy bytes P) (says : document_read accepted bytes ≡ Ok lines) (now : D) {K : Type 0} (held : K → Option Bytes) (was written : K) where
+      (is_text : text ≡ policy_part bytes) (has_policy : HasPolicy bytes P) (says : document_read accepted bytes ≡ Ok lines) (now : D) (was written : SinkSeen) where
     abbrev Entries : List Entry
     Entries = output_order form (entries_of lines)
 
     abbrev EndsSo : Kept D → Outcome → Type 0
-    EndsSo closed outcome = (G : History) → IsFront P store G → EndsRun (sees_by form) P (whole G store) (whole G closed) Entries (held was) (held written) outcome
+    EndsSo closed outcome = (G : History) → IsFront P store G → EndsRun (sees_by form) P (whole G store) (whole G closed) Entries was.contents written.contents outcome
 
     module _ (closed : Kept D) (closes : Closes seen store closed now) where
       over : (so : List Entry → List Answered → Type 0) (given : List Answered → Type 0)
           → ((G : History) → IsFront P store G → AreAnswered (sees_by form) P (whole G store) (whole G closed) Entries given)
           → ((G : History) (told : List Answered) → IsRunBetween (sees_by form) P (whole G store) (whole G closed) told → given told → so Entries told)
-          → IsRunOver seen form bytes disk now so
+          → IsRunOver form bytes (seen disk) (seen now) so
       over = run_over P text disk store closed now opened closes form bytes lines is_text has_policy says
 
       unfailed : closed.mark ≡ None → (seen now).faults ≡ (seen disk).faults
       unfailed none = ap (λ d. (seen d).faults) closes.disk_is ∙ closes.stays.unfailed (ap is_some (none ∙ sym opened.unmarked)) ∙ opened.unfailed
 
       ends : (outcome : Outcome) → IsOfRun outcome → IsMarkedBy outcome closed.mark → EndsSo closed outcome
-          → HasPlayed seen held form outcome bytes disk now was written
+          → HasPlayed form outcome bytes (seen disk) (seen now) was written
       ends outcomes.Done of marked e = (
-        over (λ (es : List Entry) (told : List Answered). (failed_line told ≡ None) × IsUnfaulted told × HaveOutput (Appends (held was) (held written)) es told)
-            (HaveOutput (Appends (held was) (held written)) Entries) e
+        over (λ (es : List Entry) (told : List Answered). (failed_line told ≡ None) × IsUnfaulted told × HaveOutput (Appends was.contents written.contents) es told)
+            (HaveOutput (Appends was.contents written.contents) Entries) e
             (λ G told run output. let none = run.failed ∙ marked in (none, none_faulted P (sees_by form) (G ++ store.entries) told run.legal none, output)),
         unfailed marked,
       )
       ends outcomes.SinkFault of marked e =
-          over (HaveOutput (AppendsPrefix (held was) (held written))) (HaveOutput (AppendsPrefix (held was) (held written)) Entries) e (λ G told run output. output)
+          over (HaveOutput (AppendsPrefix was.contents written.contents)) (HaveOutput (AppendsPrefix was.contents written.contents) Entries) e (λ G told run output. output)
       ends outcomes.DiskFault of marked e = inl (
-          over (λ (es : List Entry) (told : List Answered). IsSome (failed_line told) × HaveOutput (Appends (held was) (held written)) es told)
-          (HaveOutput (Appends (held was) (held written)) Entries) e (λ G told run output. (subst (λ (o : Option Entry). IsSome o) (sym run.failed) marked, output))
+          over (λ (es : List Entry) (told : List Answered). IsSome (failed_line told) × HaveOutput (Appends was.contents written.contents) es told)
+          (HaveOutput (Appends was.contents written.contents) Entries) e (λ G told run output. (subst (λ (o : Option Entry). IsSome o) (sym run.failed) marked, output))
           )
       ends (outcomes.NoMemory m) of marked e =
           inr (inr (over (λ (es : List Entry) (told : List Answered). Unit {0}) (λ (told : List Answered). Unit {0}) e (λ G told run nothing. tt)))
       ends outcome of marked e = absurd (cc (of.0, of.1))
 
     pub ends_run : (outcome : Outcome) → IsOfRun outcome
-        → IsClosedRun seen (sees_by form) P store Entries outcome now (held was) (held written)
-        → HasPlayed seen held form outcome bytes disk now was written
+        → IsClosedRun seen (sees_by form) P store Entries outcome now was.contents written.contents
+        → HasPlayed form outcome bytes (seen disk) (seen now) was written
     ends_run outcome of run = ends run.closed run.closes outcome of run.marked run.ends
 
   -- a run that met a disk fault raised the disk's count
@@ -238,19 +240,19 @@ module _ {D : Type 0} (seen : D → DiskSeen) where
       if_so (Some file) each h = each file h
 
 -- how playing ends that comes to no run
-module _ {D : Type 0} (seen : D → DiskSeen) {K : Type 0} (held : K → Option Bytes) (form : Form) where
+module _ (form : Form) where
   -- a document that wasn't read was not played
-  pub unread_played : (outcome : Outcome) (input : Option Bytes) (before now : ℕ) (disk : D) (was : K) → IsUnread input before now outcome
-      → HasPlayedInput seen held form outcome input disk disk was was
+  pub unread_played : (outcome : Outcome) (input : Option Bytes) (before now : ℕ) (disk : DiskSeen) (was : SinkSeen) → IsUnread input before now outcome
+      → HasPlayedInput form outcome input disk disk was was
   unread_played outcome input before now disk was unread = over_input input (λ bytes. by_outcome outcome bytes unread)
     where
-      by_outcome : (o : Outcome) (bytes : Bytes) → IsUnread input before now o → HasPlayed seen held form o bytes disk disk was was
-      by_outcome outcomes.SourceFault bytes u = refl
-      by_outcome outcomes.TooLong bytes u = refl
-      by_outcome (outcomes.NoMemory e) bytes u = inl refl
+      by_outcome : (o : Outcome) (bytes : Bytes) → IsUnread input before now o → HasPlayed form o bytes disk disk was was
+      by_outcome outcomes.SourceFault bytes u = as_it_was disk
+      by_outcome outcomes.TooLong bytes u = as_it_was disk
+      by_outcome (outcomes.NoMemory e) bytes u = inl (as_it_was disk)
       by_outcome o bytes u = absurd u
 
-      over_input : (o : Option Bytes) → ((bytes : Bytes) → HasPlayed seen held form outcome bytes disk disk was was)
-          → HasPlayedInput seen held form outcome o disk disk was was
+      over_input : (o : Option Bytes) → ((bytes : Bytes) → HasPlayed form outcome bytes disk disk was was)
+          → HasPlayedInput form outcome o disk disk was was
       over_input None so = record { bytes = []; are = tt; played = so [] }
       over_input (Some bytes) so = record { bytes = bytes; are = refl; played = so bytes }

@@ -27,10 +27,12 @@ use Rattle.ucon_top.specs.Closing.{IsWritten}
 use Rattle.ucon_outcome.specs.Ending.{by_refusal}
 use Rattle.ucon_top.specs.Pointed.{FitsRecord, HasNoPoint, HasPoint, HasPointed, HasPointedInput, IsCheckpointSize, IsNotOld, IsPointOver, IsPointedAt, IsStillFound, MayHavePoint, point_line}
 use Rattle.ucon_top.specs.PointEnding.{BehindEach, EndsPoint, HasPut, IsOfNoPoint, IsOfPoint, IsPut, LeavesPointed, MayHavePoints}
+use Rattle.ucon_top.specs.Seen.{as_it_was}
 use Rattle.ucon_top.specs.Unread.{IsUnread}
 use Rattle.ucon_top.proofs.Behind.{checkpoint_whole}
 use Rattle.ucon_top.proofs.Playing.{IsOpened}
 use Rattle.ucon_disk.specs.Seen.{DiskSeen}
+use Rattle.ucon_flow.specs.Seen.{SinkSeen}
 
 -- where a disk tells its file, something is so of it
 if_told : (o : Option Bytes) (so : Bytes → Type 0) → ((file : Bytes) → o ≡ Some file → so file) → IfSome o so
@@ -71,8 +73,8 @@ module _ {D : Type 0} (seen : D → DiskSeen)
 
   module _ (before : Bytes) (told : (seen disk).contents ≡ Some before) (G : History) (f : IsFounded seen P store G)
       (found : IsFoundAs text before (G ++ store.entries)) where
-    abbrev IsAsBefore : Bytes → Type 0
-    IsAsBefore c = IsFoundAs text c (G ++ store.entries)
+    abbrev IsStillAs : Bytes → Type 0
+    IsStillAs c = IsFoundAs text c (G ++ store.entries)
 
     abbrev opened_file : Bytes
     opened_file = (file_of before told).0
@@ -83,7 +85,7 @@ module _ {D : Type 0} (seen : D → DiskSeen)
     as_many : length (G ++ store.entries) ≡ count
     as_many = length-append G store.entries ∙ ap (λ (n : ℕ). n + length store.entries) f.front.count
 
-    opened_found : IsAsBefore opened_file
+    opened_found : IsStillAs opened_file
     opened_found = subst (λ (t : Bytes). IsFoundAs t opened_file (G ++ store.entries)) opened.policy
         (found_as store.policy P (G ++ store.entries) opened_file (so_told (seen store.disk).contents (Holds store.policy P (G ++ store.entries)) opened_file opened_told f.holds))
 
@@ -93,36 +95,36 @@ module _ {D : Type 0} (seen : D → DiskSeen)
     opened_places : point_places opened_file ≡ point_places before
     opened_places = places_told (seen disk).contents (seen store.disk).contents before opened_file told opened_told same_places
 
-    pointed_found : (c : Bytes) → IsFoundPointed store.policy (G ++ store.entries) (point_places opened_file) c → IsAsBefore c
+    pointed_found : (c : Bytes) → IsFoundPointed store.policy (G ++ store.entries) (point_places opened_file) c → IsStillAs c
     pointed_found c h = subst (λ (t : Bytes). IsFoundAs t c (G ++ store.entries)) opened.policy h.0
 
-    since_opened : IsAtRest (seen disk) before → LeavesOnly (seen disk) (seen store.disk) IsAsBefore
+    since_opened : IsAtRest (seen disk) before → LeavesOnly (seen disk) (seen store.disk) IsStillAs
     since_opened rest =
-        weaker (seen disk) (seen store.disk) (Opens text before) IsAsBefore (λ c o. o.same (G ++ store.entries) found) (opened.images_kept.each before rest)
+        weaker (seen disk) (seen store.disk) (Opens text before) IsStillAs (λ c o. o.same (G ++ store.entries) found) (opened.images_kept.each before rest)
 
     -- no call of the disk behind the opening: no image has a checkpoint more
     still_unpointed : (now : D) → now ≡ store.disk
-        → IsStillFound seen text before (G ++ store.entries) disk now (λ file c. point_places c ≡ point_places file)
+        → IsStillFound text before (G ++ store.entries) (seen disk) (seen now) (λ file c. point_places c ≡ point_places file)
     still_unpointed now same = record {
-      since = λ rest. subst (λ (d : D). LeavesOnly (seen disk) (seen d) IsAsBefore) (sym same) (since_opened rest);
+      since = λ rest. subst (λ (d : D). LeavesOnly (seen disk) (seen d) IsStillAs) (sym same) (since_opened rest);
       now = λ c image.
           let is = opened_only c (subst (λ (d : D). (seen d).images c) same image) in
-          (subst IsAsBefore (sym is) opened_found, ap point_places is ∙ opened_places);
+          (subst IsStillAs (sym is) opened_found, ap point_places is ∙ opened_places);
     }
 
     -- a checkpoint behind the opening
     module _ (now : D) (inside : LeavesPointed seen (whole G store) now) where
-      since_pointed : IsAtRest (seen disk) before → LeavesOnly (seen disk) (seen now) IsAsBefore
+      since_pointed : IsAtRest (seen disk) before → LeavesOnly (seen disk) (seen now) IsStillAs
       since_pointed rest =
-          joined (seen disk) (seen store.disk) (seen now) IsAsBefore (since_opened rest)
-          (weaker (seen store.disk) (seen now) (IsFoundPointed store.policy (G ++ store.entries) (point_places opened_file)) IsAsBefore pointed_found (inside opened_file opened_told))
+          joined (seen disk) (seen store.disk) (seen now) IsStillAs (since_opened rest)
+          (weaker (seen store.disk) (seen now) (IsFoundPointed store.policy (G ++ store.entries) (point_places opened_file)) IsStillAs pointed_found (inside opened_file opened_told))
 
-      still_pointed : (leaves : Bytes → Bytes → Type 0) → ((c : Bytes) → (seen now).images c → IsAsBefore c × leaves before c)
-          → IsStillFound seen text before (G ++ store.entries) disk now leaves
+      still_pointed : (leaves : Bytes → Bytes → Type 0) → ((c : Bytes) → (seen now).images c → IsStillAs c × leaves before c)
+          → IsStillFound text before (G ++ store.entries) (seen disk) (seen now) leaves
       still_pointed leaves left = record { since = since_pointed; now = left }
 
       -- each image now may have it
-      perhaps_pointed : (c : Bytes) → (seen now).images c → IsAsBefore c × ((point_places c ≡ point_places before) ⊎ IsPointedAt count before c)
+      perhaps_pointed : (c : Bytes) → (seen now).images c → IsStillAs c × ((point_places c ≡ point_places before) ⊎ IsPointedAt count before c)
       perhaps_pointed c image =
           let run = inside opened_file opened_told in
           let here = run.each c (moments.counts_now now (seen store.disk).moment c run.later image) in (
@@ -133,7 +135,7 @@ module _ {D : Type 0} (seen : D → DiskSeen)
           )
 
     written_there : (now : D) → HasPut seen P (whole G store) now
-        → (c : Bytes) → (seen now).images c → IsAsBefore c × IsPointedAt count before c
+        → (c : Bytes) → (seen now).images c → IsStillAs c × IsPointedAt count before c
     written_there now put c image =
         let left = put.left opened_file opened_told c image in
         (subst (λ (t : Bytes). IsFoundAs t c (G ++ store.entries)) opened.policy left.0, left.1 ∙ (λ i. opened_places i ++ as_many i ∷ []))
@@ -142,8 +144,8 @@ module _ {D : Type 0} (seen : D → DiskSeen)
 
   module _ (now : D) (went : ℕ → Type 0) (leaves : ℕ → Bytes → Bytes → Type 0) (so : PlainPolicy → History → Type 0) (goes : went count) where
     point_over : ((before : Bytes) (told : (seen disk).contents ≡ Some before) (G : History) → IsFounded seen P store G → IsFoundAs text before (G ++ store.entries)
-        → IsStillFound seen text before (G ++ store.entries) disk now (leaves count) × so P (G ++ store.entries))
-        → IsPointOver seen bytes disk now went leaves so
+        → IsStillFound text before (G ++ store.entries) (seen disk) (seen now) (leaves count) × so P (G ++ store.entries))
+        → IsPointOver bytes (seen disk) (seen now) went leaves so
     point_over still = record {
       policy = P;
       has_policy = has_policy;
@@ -155,13 +157,13 @@ module _ {D : Type 0} (seen : D → DiskSeen)
           let G = from.before in
           let here = subst (λ (H : History). IsFoundAs text before H) from.all found in
           let is = still before told G from.founded here in
-          subst (λ (H : History). (length H ≡ count) × IsStillFound seen text before H disk now (leaves count) × so P H) (sym from.all)
+          subst (λ (H : History). (length H ≡ count) × IsStillFound text before H (seen disk) (seen now) (leaves count) × so P H) (sym from.all)
           (as_many before told G from.founded here, is.0, is.1);
     }
 
   unpointed : (now : D) → now ≡ store.disk → (why : Type 0) → why → (so : PlainPolicy → History → Type 0)
       → ((G : History) → IsFounded seen P store G → so P (G ++ store.entries))
-      → HasNoPoint seen bytes disk now why so
+      → HasNoPoint bytes (seen disk) (seen now) why so
   unpointed now same why holds so is = point_over now (λ entries. ((seen now).faults ≡ (seen disk).faults) × why) (λ entries file c. point_places c ≡ point_places file) so
       (ap (λ d. (seen d).faults) same ∙ opened.unfailed, holds)
       (λ before told G f found. (still_unpointed before told G f found now same, is G f))
@@ -177,14 +179,14 @@ module _ {D : Type 0} (seen : D → DiskSeen)
   fits_so G is = subst (λ (t : Bytes). FitsRecord t P (G ++ store.entries)) opened.policy is
 
   written : (now : D) → IsPut seen P store now → (went : Bytes → Type 0) → went (point_line count)
-      → HasPoint seen bytes disk now went
+      → HasPoint bytes (seen disk) (seen now) went
   written now put went told = point_over now (λ entries. ((seen now).faults ≡ (seen disk).faults) × IfSome (seen disk).contents IsNotOld × went (point_line entries)) IsPointedAt (FitsRecord text)
       (put.2 ∙ opened.unfailed, not_old put.1, told)
       (λ before is G f found. let has = put.0 G f in
       (still_pointed before is G f found now has.inside (IsPointedAt count) (written_there before is G f found now has), fits_so G has.fits))
 
   failed : (now : D) → BehindEach seen P store (λ s. LeavesPointed seen s now)
-      → (seen now).faults ≡ raised (seen store.disk).faults → MayHavePoint seen bytes disk now
+      → (seen now).faults ≡ raised (seen store.disk).faults → MayHavePoint bytes (seen disk) (seen now)
   failed now inside fails = point_over now (λ entries. (seen now).faults ≡ raised (seen disk).faults)
       (λ entries file c. (point_places c ≡ point_places file) ⊎ IsPointedAt entries file c) (λ Q H. Unit {0})
       (fails ∙ ap raised opened.unfailed)
@@ -203,12 +205,12 @@ module _ {D : Type 0} (seen : D → DiskSeen)
       (old before file.0 told file.1).0 (so_told (seen store.disk).contents (λ f. has_points f ≡ false) file.0 file.1 none))
 
   -- how it ends, by how it ends over the open store
-  module _ {K : Type 0} (held : K → Option Bytes) (was got : K) (now : D) where
+  module _ (was got : SinkSeen) (now : D) where
     pub pointed : (outcome : Outcome) → (outcome ≡ outcomes.DiskFault → got ≡ was)
-        → EndsPoint seen P store now (held was) (held got) outcome
-        → HasPointed seen held outcome bytes disk now was got
-    pointed outcomes.Done silent e = written now e.0 (Appends (held was) (held got)) e.1
-    pointed outcomes.SinkFault silent e = written now e.0 (AppendsPrefix (held was) (held got)) e.1
+        → EndsPoint seen P store now was.contents got.contents outcome
+        → HasPointed outcome bytes (seen disk) (seen now) was got
+    pointed outcomes.Done silent e = written now e.0 (Appends was.contents got.contents) e.1
+    pointed outcomes.SinkFault silent e = written now e.0 (AppendsPrefix was.contents got.contents) e.1
     pointed outcomes.DiskFault silent e = (inl (failed now e.0 e.1), silent refl)
     pointed (outcomes.NoMemory m) silent e = inr (inr (unpointed now e (Unit {0}) tt (λ Q H. Unit {0}) (λ G f. tt)))
     pointed (outcomes.FullPoint size) silent e =
@@ -224,19 +226,18 @@ module _ {D : Type 0} (seen : D → DiskSeen)
     pointed outcomes.TooLong silent e = absurd e
 
 -- no checkpoint is written where the document wasn't read
-pub unread_pointed : {D : Type 0} (seen : D → DiskSeen)
-    {K : Type 0} (held : K → Option Bytes) (outcome : Outcome) (input : Option Bytes) (before now : ℕ) (disk : D) (was : K) → IsUnread input before now outcome
-    → HasPointedInput seen held outcome input disk disk was was
-unread_pointed seen held outcome input before now disk was unread = over_input input (λ bytes. by_outcome outcome bytes unread)
+pub unread_pointed : (outcome : Outcome) (input : Option Bytes) (before now : ℕ) (disk : DiskSeen) (was : SinkSeen) → IsUnread input before now outcome
+    → HasPointedInput outcome input disk disk was was
+unread_pointed outcome input before now disk was unread = over_input input (λ bytes. by_outcome outcome bytes unread)
   where
-    by_outcome : (o : Outcome) (bytes : Bytes) → IsUnread input before now o → HasPointed seen held o bytes disk disk was was
-    by_outcome outcomes.SourceFault bytes u = refl
-    by_outcome outcomes.TooLong bytes u = refl
-    by_outcome (outcomes.NoMemory e) bytes u = inl refl
+    by_outcome : (o : Outcome) (bytes : Bytes) → IsUnread input before now o → HasPointed o bytes disk disk was was
+    by_outcome outcomes.SourceFault bytes u = as_it_was disk
+    by_outcome outcomes.TooLong bytes u = as_it_was disk
+    by_outcome (outcomes.NoMemory e) bytes u = inl (as_it_was disk)
     by_outcome o bytes u = absurd u
 
-    over_input : (o : Option Bytes) → ((bytes : Bytes) → HasPointed seen held outcome bytes disk disk was was)
-        → HasPointedInput seen held outcome o disk disk was was
+    over_input : (o : Option Bytes) → ((bytes : Bytes) → HasPointed outcome bytes disk disk was was)
+        → HasPointedInput outcome o disk disk was was
     over_input None so = record { bytes = []; are = tt; pointed = so [] }
     over_input (Some bytes) so = record { bytes = bytes; are = refl; pointed = so bytes }
 

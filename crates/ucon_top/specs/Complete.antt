@@ -9,6 +9,7 @@ use Rattle.ucon_outcome.specs.declared.outcome.Outcome.{Outcome}
 use Rattle.ucon_outcome.specs.Ending.{ending}
 use Rattle.ucon_top.specs.Accepted.{IsAccepted}
 use Rattle.ucon_top.specs.Own.{IsOwnFile}
+use Rattle.ucon_top.specs.Seen.{Seen}
 use Rattle.ucon_top.specs.Traits.{traits}
 
 -- the disk tells its file, which opening sees as a fresh one or a journal under the policy of this text
@@ -23,13 +24,13 @@ abbrev pub FindsItsJournal : Form → Bytes → Option Bytes → Type 0
 FindsItsJournal form bytes contents = OnTrue (traits form).disk (IsOwnJournal (policy_part bytes) contents)
 
 -- Nothing hinders a run of a form over these bytes: they are an accepted document, the journal, as the disk tells it and opening sees it, is
--- fresh or the document's own, and no count of faults rose, of which each stands here before the call and after it.
-pub record IsUnhindered (form : Form) (bytes : Bytes) (contents : Option Bytes) (source source' sink sink' disk disk' : ℕ) : Type 0 where
+-- fresh or the document's own, and no count of faults rose.
+pub record IsUnhindered (form : Form) (bytes : Bytes) (before after : Seen) : Type 0 where
   pub accepted : IsAccepted bytes
-  pub journal : FindsItsJournal form bytes contents
-  pub source_works : ¬ Rose source source'
-  pub sink_works : ¬ Rose sink sink'
-  pub disk_works : ¬ Rose disk disk'
+  pub journal : FindsItsJournal form bytes before.disk.contents
+  pub source_works : ¬ Rose before.source.faults after.source.faults
+  pub sink_works : ¬ Rose before.sink.faults after.sink.faults
+  pub disk_works : ¬ Rose before.disk.faults after.disk.faults
 
 -- all lines were answered, or the checkpoint is written, and the output is whole; or there was no memory; or no checkpoint could be written
 -- of this history, or in this journal

@@ -1,5 +1,5 @@
 -- The forms of words.
-use Rattle.std.specs.Prelude.{Bool, false, IsTrue, IsFalse, ℕ, ◌^◌, ◌≤◌, nat_lt, nat_le, ◌&&◌, List, [], ◌∷◌, Option, Some, None, option_and_then, codes, if◌then◌else◌}
+use Rattle.std.specs.Prelude.{Bool, false, IsTrue, IsFalse, ℕ, ◌^◌, ◌≤◌, nat_lt, nat_le, ◌&&◌, List, [], ◌∷◌, Option, Some, None, option_and_then, codes, map, String, string_bytes, if◌then◌else◌}
 use Rattle.std.specs.Str.{bytes_eq}
 use Rattle.ucon_model.specs.declared.command.Caller.{Caller}
 use Rattle.ucon_model.specs.declared.command.Entry.{Entry}
@@ -40,6 +40,10 @@ form_of (word ∷ []) = word_form word
 form_of (word ∷ path ∷ []) = journal_form word path
 form_of (word ∷ seed ∷ size ∷ []) = if bytes_eq word (codes "gen") then gen_form seed size else None
 form_of words = None
+
+-- the form that a program's words are
+abbrev pub asked : {A : Type 0} → List (String A) → Option Form
+asked words = form_of (map (λ w. string_bytes w) words)
 
 -- a size that words can ask for
 abbrev pub HasSize : Form → Type 0

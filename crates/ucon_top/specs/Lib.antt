@@ -8,6 +8,8 @@ pub mod Played
 pub mod Pointed
 pub mod PointEnding
 pub mod Printed
+pub mod Ran
+pub mod Seen
 pub mod Stepping
 pub mod Traits
 pub mod Unread

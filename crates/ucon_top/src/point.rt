@@ -36,8 +36,7 @@ pub fn point<E: Engine, K: Sink, D: Disk>(
     ensures refused { IsRefusedBy result.outcome bytes.now }
     ensures accepted { IsOfAccepted result.outcome → IsAccepted bytes.now }
     ensures sink { IsCounted result.outcome Outcome.SinkFault (K.seen out.old).faults (K.seen out.new).faults }
-    ensures pointed { HasPointed D.seen K.contents
-        result.outcome bytes.now disk result.disk out.old out.new }
+    ensures pointed { HasPointed result.outcome bytes.now (D.seen disk) (D.seen result.disk) (K.seen out.old) (K.seen out.new) }
     ensures fault { result.outcome ≡ Outcome.DiskFault → (D.seen result.disk).faults ≡ raised (D.seen disk).faults }
     ensures untouched { IsUntouched result.outcome → result.disk ≡ disk }
     ensures unaccepted { (result.disk ≡ disk) ⊎ IsAccepted bytes.now }

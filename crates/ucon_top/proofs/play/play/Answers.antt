@@ -39,7 +39,7 @@ returns-in-Ok-open-clause-played g c =
     c.play_lines.result.outcome c.play_lines.result.disk (g.K.Sink.seen c.args.out.now).contents (g.K.Sink.seen c.play_lines.new.out).contents) same
     (c.play_lines.ensures.run P (ap accepted told.store.0 ∙ accepts)) in
     ends_run g.D.Disk.seen P text c.args.disk store opened Play bytes lines c.policy_part.ensures some.has_policy
-    c.in-Ok.ensures.says c.play_lines.result.disk (g.K.Sink.seen c.args.out.now).contents c.play_lines.new.out c.play_lines.result.outcome c.play_lines.ensures.of_run run
+    c.in-Ok.ensures.says c.play_lines.result.disk (g.K.Sink.seen c.args.out.now) (g.K.Sink.seen c.play_lines.new.out) c.play_lines.result.outcome c.play_lines.ensures.of_run run
 
 pub returns-in-Ok-open-clause-fault : goal.returns-in-Ok-open-clause-fault
 returns-in-Ok-open-clause-fault g c = λ is.

@@ -41,7 +41,7 @@ returns-in-Ok-open-clause-played g c =
     c.serve_lines.result.outcome c.serve_lines.result.disk (g.K.Sink.seen c.args.out.now).contents (g.K.Sink.seen c.serve_lines.new.out).contents) same
     (c.serve_lines.ensures.run P (ap accepted e.store.0 ∙ accepts)) in
     ends_run g.D.Disk.seen P text c.args.disk store opened Serve c.args.bytes.now said
-    c.policy_part.ensures some.has_policy c.in-Ok.ensures.says c.serve_lines.result.disk (g.K.Sink.seen c.args.out.now).contents c.serve_lines.new.out
+    c.policy_part.ensures some.has_policy c.in-Ok.ensures.says c.serve_lines.result.disk (g.K.Sink.seen c.args.out.now) (g.K.Sink.seen c.serve_lines.new.out)
     c.serve_lines.result.outcome c.serve_lines.ensures.of_run run
 
 pub returns-in-Ok-open-clause-fault : goal.returns-in-Ok-open-clause-fault
