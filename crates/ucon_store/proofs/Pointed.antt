@@ -193,7 +193,7 @@ abbrev pub on_disk : {D : Type 0} → Kept D → D → Kept D
 on_disk x disk = record x { disk = disk }
 
 -- a crash leaves what a store is founded on, with its entries, and its checkpoints with one more, behind all entries, or without
-abbrev pub LeavesPoint : {D : Type 0} → (D → Option (List ℕ)) → (D → List ℕ → Type 0) → (D → ℕ) → (D → ℕ → List ℕ → Type 0) → Kept D → D → Type 0
+abbrev pub LeavesPoint : {D : Type 0} → (D → DiskSeen) → Kept D → D → Type 0
 LeavesPoint seen x new = (P : PlainPolicy) (G : History) (file : List ℕ) → IsFounded seen P x G
     → (seen x.disk).contents ≡ Some file
     → LeavesOnly (seen x.disk) (seen new) (IsFoundPointed x.policy (G ++ x.entries) (point_places file))

@@ -19,6 +19,7 @@ use Rattle.ucon_store.specs.Steps.{IsPlaced, HasFailed}
 use Rattle.ucon_store.specs.Whole.{IsFront, whole}
 use Rattle.ucon_client.specs.Answers.{answer_of, answered_by}
 use Rattle.ucon_top.specs.Stepping.{Steps, HaveSteps}
+use Rattle.ucon_disk.specs.Seen.{DiskSeen}
 
 abbrev answered : Entry → Answer → Answered
 answered e a = record { line = e; answer = a }
@@ -86,7 +87,7 @@ not_marked : (mark : Option Entry) → (IsSome mark → ⊥) → mark ≡ None
 not_marked None none = refl
 not_marked (Some e) none = absurd (none refl)
 
-module _ {D : Type 0} (count : D → ℕ) (policy : Option PlainPolicy) (P : PlainPolicy) (is : policy ≡ Some P) (texts : (r : PlainReply) → tells_change (reply_spelling r) ≡ changes r)
+module _ {D : Type 0} (seen : D → DiskSeen) (policy : Option PlainPolicy) (P : PlainPolicy) (is : policy ≡ Some P) (texts : (r : PlainReply) → tells_change (reply_spelling r) ≡ changes r)
     (old new : Kept D) (G : History) (front : IsFront P old G) (e : Entry) where
   -- behind a history that leads to where it begins, a store answers by this and its own entries
   pub store_steps : (said_by : Result Placed StepFault)
@@ -94,7 +95,7 @@ module _ {D : Type 0} (count : D → ℕ) (policy : Option PlainPolicy) (P : Pla
       → IfOk said_by (λ p. (Q : PlainPolicy) (F : History) → policy ≡ Some Q → IsFront Q old F → IsPlaced Q (whole F old) (whole F new) e p)
       → (IsErrOf said_by (faults.NoMemory out_of_memory) → new ≡ old)
       → (IsErrOf said_by faults.Stopped → new ≡ old)
-      → (IsErrOf said_by faults.DiskFault → (Q : PlainPolicy) (F : History) → policy ≡ Some Q → IsFront Q old F → HasFailed count Q (whole F old) (whole F new) e)
+      → (IsErrOf said_by faults.DiskFault → (Q : PlainPolicy) (F : History) → policy ≡ Some Q → IsFront Q old F → HasFailed seen Q (whole F old) (whole F new) e)
       → Steps P (whole G old) (whole G new) e (answer_of (answered_by said_by))
   store_steps (Ok p) halted placed no_memory still failed =
       let h = placed P G is front in

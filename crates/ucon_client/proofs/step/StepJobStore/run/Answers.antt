@@ -24,7 +24,7 @@ returns-clause-did g c = λ (P : PlainPolicy) (G : History) led.
     (λ i. (events_behind G was.entries was.mark i, events_behind G now.entries now.mark i))
     (stepped c.texts_tell_changes.ensures P line (G ++ was.entries) was.mark (G ++ now.entries) now.mark (answer_of c.from.result)
     (subst (λ (a : Answer). Stepped P line (G ++ was.entries) was.mark (G ++ now.entries) now.mark (answer_of a)) (sym gives)
-    (answers_step (g.D.Disk.seen (accepted was.policy)).faults P G led.accepts was now front line c.step.result s.stopped s.placed s.no_memory s.still s.failed)))
+    (answers_step g.D.Disk.seen (accepted was.policy) P G led.accepts was now front line c.step.result s.stopped s.placed s.no_memory s.still s.failed)))
 
 pub returns-clause-base : goal.returns-clause-base
 returns-clause-base g c = λ i. record {
