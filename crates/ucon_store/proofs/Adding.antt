@@ -40,7 +40,7 @@ module _ {D : Type 0} (seen : D → DiskSeen)
       (λ c since. subst (AddsAtMost (step_payload P T x.entries e) file) (sym (only c (only_now x.disk c since)))
       (record { magic = refl; payloads = inl refl })))
 
-module _ {D : Type 0} (seen : D → DiskSeen) {x : Kept D} {k : Journal D} {e : Entry} {payload : Bytes}
+module _ {D : Type 0} {seen : D → DiskSeen} {x : Kept D} {k : Journal D} {e : Entry} {payload : Bytes}
     (ready : IsReady seen x k e payload) where
   -- once the record's making has begun
   pub adds_ready : {new : D} → LeavesAfter (seen (disk_of k)) (seen new) (PerhapsAdded payload)

@@ -87,7 +87,7 @@ module _ (one : OneByOne) (text : Bytes) (P : PlainPolicy) (H : History) (payloa
       (found_as text P H c (holds_point file c points h kind more.payloads), inr (places_more file c points h kind more.payloads)))
       perhaps
 
-  module _ {D : Type 0} (seen : D → DiskSeen) {journal : Journal D}
+  module _ {D : Type 0} {seen : D → DiskSeen} {journal : Journal D}
       (rest : HoldsAtRest seen journal text P H)
       (second : points_of (version_of journal) ≡ true) where
     kind_of : (file : Bytes) → (seen (disk_of journal)).contents ≡ Some file → has_points file ≡ true
@@ -151,7 +151,7 @@ unpointed seen P T store OldJournal points payload h is kind = same_points (seen
 unpointed seen P T store (TooLarge size) points payload h is kind = (same_points (seen store.disk).contents points true h.0 kind, h.1 ∙ ap (λ (l : Bytes). length l) is, h.2)
 unpointed seen P T store (NoMemory e) points payload h is kind = tt
 
-module _ {E D : Type 0} {follows : E → PlainPolicy → Trace → Type 0} (seen : D → DiskSeen) {engine : E}
+module _ {E D : Type 0} {follows : E → PlainPolicy → Trace → Type 0} {seen : D → DiskSeen} {engine : E}
     {j : Journal D} {text : Bytes} {point : Option Beginning} {before opening : ℕ} {H : History} {mark : Option Entry}
     (kept : IsKept follows seen engine j text point before H mark)
     {x : Kept D} (is : parts text point before opening H mark (disk_of j) ≡ x) (none : mark ≡ None) {start : Bytes}
@@ -198,7 +198,7 @@ LeavesPoint seen x new = (P : PlainPolicy) (G : History) (file : List ℕ) → I
     → (seen x.disk).contents ≡ Some file
     → LeavesOnly (seen x.disk) (seen new) (IsFoundPointed x.policy (G ++ x.entries) (point_places file))
 
-module _ {D : Type 0} (seen : D → DiskSeen) {x : Kept D} {k : Journal D} {payload : Bytes}
+module _ {D : Type 0} {seen : D → DiskSeen} {x : Kept D} {k : Journal D} {payload : Bytes}
     (ready : IsPointReady seen x k payload) where
   -- the file may have checkpoints
   pub points_ready : IfSome (seen x.disk).contents (λ file. has_points file ≡ true)

@@ -68,7 +68,7 @@ found_perhaps one text P H e payload file c takes h perhaps = ⊎_elim
     (λ (more : StillHolds file (journalled.counted file ++ payload ∷ []) c). inr (e, refl, found_as text P (H ++ e ∷ []) c (holds_more one text P H (H ++ e ∷ []) payload file c (steps_taken (has_points file) text P H (H ++ e ∷ []) payload takes) h (same_kind file c more.magic) more.payloads)))
     perhaps
 
-module _ {D : Type 0} (seen : D → DiskSeen) {journal : Journal D} {text : Bytes} {P : PlainPolicy}
+module _ {D : Type 0} {seen : D → DiskSeen} {journal : Journal D} {text : Bytes} {P : PlainPolicy}
     {H : History} (rest : HoldsAtRest seen journal text P H) where
   pub at_rest_as : (file : Bytes) → (seen (disk_of journal)).contents ≡ Some file → IsAtRest (seen (disk_of journal)) file
   at_rest_as file is = record { told = is; only = subst (λ (o : Option Bytes). Only o (seen (disk_of journal)).images) is rest.only }

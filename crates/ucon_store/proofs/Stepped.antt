@@ -55,7 +55,7 @@ pub record IsReady {D : Type 0} (seen : D → DiskSeen) (x : Kept D) (k : Journa
   pub takes : (P : PlainPolicy) (G : History) → accepted x.policy ≡ Some P → IsStart P x.point x.before (trace P G)
       → taken accepted P (G ++ x.entries) payload ≡ Some ((G ++ x.entries) ++ e ∷ [])
 
-module _ {E D : Type 0} {follows : E → PlainPolicy → Trace → Type 0} (seen : D → DiskSeen) {engine : E}
+module _ {E D : Type 0} {follows : E → PlainPolicy → Trace → Type 0} {seen : D → DiskSeen} {engine : E}
     {j : Journal D} {text : Bytes} {point : Option Beginning} {before opening : ℕ} {H : History} {mark : Option Entry}
     (kept : IsKept follows seen engine j text point before H mark)
     {x : Kept D} (is : parts text point before opening H mark (disk_of j) ≡ x) where
@@ -95,7 +95,7 @@ holds_founded {D} seen x k closed same P G f = record {
   holds = subst (λ (d : D). IfSome (seen d).contents (Holds x.policy P (G ++ x.entries))) (sym same) f.holds;
 }
 
-module _ {D : Type 0} (seen : D → DiskSeen) {x : Kept D} {k : Journal D} {e : Entry} {payload : Bytes}
+module _ {D : Type 0} {seen : D → DiskSeen} {x : Kept D} {k : Journal D} {e : Entry} {payload : Bytes}
     (ready : IsReady seen x k e payload) (one : OneByOne) where
   -- what a crash leaves, once the record's making has begun
   pub leaves_ready : {new : D} → LeavesAfter (seen (disk_of k)) (seen new) (PerhapsAdded payload)

@@ -39,7 +39,7 @@ one_policy text P Q p q = let e : Some P ≡ Some Q = sym p ∙ q in cc (e)
 pub said_behind : (P : PlainPolicy) (G H : History) (caller : Caller) (c : Command) → said P (G ++ H) caller c ≡ reply P (trace_from P (trace P G) H) caller c
 said_behind P G H caller c = ap (λ (T : Trace). reply P T caller c) (trace_append P [] G H)
 
-module _ {E D : Type 0} {follows : E → PlainPolicy → Trace → Type 0} (seen : D → DiskSeen) {engine : E}
+module _ {E D : Type 0} {follows : E → PlainPolicy → Trace → Type 0} {seen : D → DiskSeen} {engine : E}
     {journal : Journal D} {text : Bytes} {point : Option Beginning} {before : ℕ} {H : History} {mark : Option Entry}
     (kept : IsKept follows seen engine journal text point before H mark) where
   -- behind each trace that leads to where the store begins its engine follows the entries

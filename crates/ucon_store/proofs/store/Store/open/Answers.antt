@@ -87,7 +87,7 @@ returns-in-Ok-load-clause-founded g c = λ P file H accepts told found_so.
     let same : text ≡ c.args.policy.now = c.in-Ok-load.ensures.policy in
     let here : accepted text ≡ Some P = ap accepted same ∙ accepts in
     let m = (seen (disk_of c.in-Ok.journal)).contents in
-    goes_on_opened text P here point l.before l.entries.items c.found_histories_stand_around_their_last_checkpoint.ensures seen g.D.Disk.seen _ disk m file H
+    goes_on_opened text P here point l.before l.entries.items c.found_histories_stand_around_their_last_checkpoint.ensures seen _ disk m file H
     (c.in-Ok.ensures.bytes ∙ ap (option_map opened) told) (subst (λ (t : Bytes). IfSome m (IsRead t P point l.before l.entries.items)) (sym same) (c.in-Ok-load.ensures.read P accepts))
     c.in-Ok-load.ensures.payloads (subst (λ (t : Bytes). KeepsFound t m (seen disk).contents) (sym same) c.in-Ok-load.ensures.kept) c.in-Ok-load.ensures.only
     (subst (λ (t : Bytes). IsFoundAs t file H) (sym same) found_so)
@@ -102,7 +102,7 @@ returns-in-Ok-load-clause-first g c = λ first P accepts.
     let same : text ≡ c.args.policy.now = c.in-Ok-load.ensures.policy in
     let here : accepted text ≡ Some P = ap accepted same ∙ accepts in
     let m = (seen (disk_of c.in-Ok.journal)).contents in
-    founded_first text P here point l.before l.entries.items c.found_histories_stand_around_their_last_checkpoint.ensures seen g.D.Disk.seen _ disk first m
+    founded_first text P here point l.before l.entries.items c.found_histories_stand_around_their_last_checkpoint.ensures seen _ disk first m
     (subst (λ (t : Bytes). IfSome m (IsRead t P point l.before l.entries.items)) (sym same) (c.in-Ok-load.ensures.read P accepts))
     (subst (λ (t : Bytes). KeepsFound t m (seen disk).contents) (sym same) c.in-Ok-load.ensures.kept) c.in-Ok-load.ensures.tells c.in-Ok-load.ensures.only
 

@@ -27,7 +27,7 @@ append-requires-clause-closed g c =
 
 module _ (g : Over) (c : After-append g) where
   -- the checkpoint was ready
-  ready : IsPointReady (g.D.Disk.seen c.args.self).contents c.prepare_point.new.journal c.deref-2.result.now
+  ready : IsPointReady g.D.Disk.seen c.args.self c.prepare_point.new.journal c.deref-2.result.now
   ready =
       point_ready c.self.invariant c.self.view_is (unmarked c.self.inside.mark (search rules))
       (c.text_at_start-start.ensures ∙ ap (λ (t : Bytes). text_in t c.self.inside.point) c.deref.ensures.value)
