@@ -9,6 +9,7 @@ pub mod Adding
 pub mod Refusing
 pub mod Serving
 pub mod Stepwise
+pub mod Leaving
 pub mod Parted
 pub mod Playing
 pub mod Pointing

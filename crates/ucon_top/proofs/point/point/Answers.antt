@@ -36,7 +36,7 @@ returns-in-Ok-open-clause-pointed g c =
     let laws = g.met.D.Disk in
     let moments : HasMoments seen = record { counts_now = laws.counts_now; only_now = laws.only_now } in
     pointed seen moments bytes P some.has_policy c.args.disk store opened told.places told.old (g.K.Sink.seen c.args.out.now) (g.K.Sink.seen c.point_opened.new.out)
-    c.point_opened.result.disk c.point_opened.result.outcome c.point_opened.ensures.failed
+    c.point_opened.result.disk c.point_opened.result.outcome (λ is. ap g.K.Sink.seen (c.point_opened.ensures.failed is))
     (c.point_opened.ensures.ends P start.0 (ap accepted told.store.0 ∙ accepts) start.1)
 
 pub returns-in-Ok-open-clause-fault : goal.returns-in-Ok-open-clause-fault
