@@ -79,11 +79,11 @@ impl Disk for MemDisk {
     ghost use Rattle.ucon_disk.specs.MemDisk.{Makes};
 
     ghost seen = { λ d. record {
-        contents = Some (state_now d.log).file;
-        images = IsImage (state_now d.log);
-        moment = length d.log.changes;
-        images_since = IsImageSince d.log;
-        faults = d.plan.faults
+      contents = Some (state_now d.log).file;
+      images = IsImage (state_now d.log);
+      moment = length d.log.changes;
+      images_since = IsImageSince d.log;
+      faults = d.plan.faults;
     } };
 
     ghost makes = { Makes };

@@ -1,5 +1,5 @@
 -- What can be said of a source, a sink and a disk at one moment.
-use Rattle.std.proofs.Common.{◌≡◌, ℕ, List, refl, subst}
+use Rattle.std.proofs.Common.{◌≡◌, ℕ, refl, subst}
 use Rattle.ucon_disk.specs.Disk.{SameImages}
 use Rattle.ucon_disk.specs.Seen.{DiskSeen}
 use Rattle.ucon_flow.specs.Seen.{SinkSeen, SourceSeen}
