@@ -5,7 +5,6 @@ use Rattle.ucon_base.specs.Elements.{Each}
 use Rattle.ucon_model.specs.declared.command.Entry.{Entry}
 use Rattle.ucon_model.specs.History.{History}
 use Rattle.ucon_model.specs.Plain.{PlainPolicy}
-use Rattle.ucon_model.specs.Spelling.{reply_spelling}
 use Rattle.ucon_script.specs.declared.document.Line.{Line}
 use Rattle.ucon_store.specs.declared.placed.Placed.{Placed}
 use Rattle.ucon_store.specs.declared.fault.StepFault.{StepFault}
@@ -36,7 +35,7 @@ pub answers_step : {D : Type 0} (seen : D → DiskSeen) (policy : Option PlainPo
 answers_step {D} seen policy P H is old new front e (Ok p) stopped placed no_memory still failed =
     let h = placed P H is front in
     let none : old.mark ≡ None = no_mark old.mark (λ some. let no : Ok p ≡ Err faults.Stopped = stopped.1 some in absurd (cc no)) in
-    (none, ap reply_spelling h.reply, h.place, h.entries, h.unmarked)
+    (none, h.reply, h.place, h.entries, h.unmarked)
 answers_step {D} seen policy P H is old new front e (Err (faults.NoMemory m)) stopped placed no_memory still failed =
     let none : old.mark ≡ None = no_mark old.mark (λ some. let no : Err (faults.NoMemory m) ≡ Err faults.Stopped = stopped.1 some in absurd (cc no)) in
     let same : new ≡ old = no_memory refl in

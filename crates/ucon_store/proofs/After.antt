@@ -12,9 +12,9 @@ use Rattle.ucon_model.specs.Action.{Trace}
 use Rattle.ucon_model.specs.Block.{reply}
 use Rattle.ucon_model.specs.CommandLine.{command_spelling}
 use Rattle.ucon_model.specs.History.{History, changes, trace_from}
-use Rattle.ucon_model.specs.LegalRun.{tells_change}
 use Rattle.ucon_model.specs.Payload.{Told, entry_told, most_payload, payload_read, payload_spelling, told}
 use Rattle.ucon_model.specs.Plain.{Bytes, PlainPolicy, PlainReply}
+use Rattle.ucon_model.specs.ReplyText.{tells_change}
 use Rattle.ucon_model.specs.Spelling.{reply_spelling}
 use Rattle.ucon_syntax.specs.Policies.{accepted}
 use Rattle.ucon_store.specs.Opened.{steps_after, with_next}

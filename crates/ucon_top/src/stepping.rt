@@ -17,7 +17,7 @@ use ucon_base::{NoMemory, Rows};
 use ucon_client::Answer;
 use ucon_disk::Disk;
 use ucon_engine::Engine;
-use ucon_runs::{outputs_are_read_back, runs_over_a_store_are_legal, texts_tell_changes};
+use ucon_runs::{outputs_are_read_back, runs_over_a_store_are_legal};
 use ucon_script::LineText;
 use ucon_store::Store;
 
@@ -79,7 +79,6 @@ fn answer_line<E: Engine, D: Disk>(
         → Steps P (whole G store.old) (whole G store.new) (entry_of line.now) (answer_of result) }
     ensures stays { Stays D.seen store.old store.new }
 {
-    texts_tell_changes();
     if store.failed().is_some() {
         return Answer::Stopped;
     }
