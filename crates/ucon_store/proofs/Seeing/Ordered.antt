@@ -1,6 +1,6 @@
 -- What is there in order after a trace is all listed, whatever trace it is.
-use Rattle.std.proofs.Common.{◌≡◌, ◌∙◌, ℕ, zero, suc, ◌+◌, ◌<◌, ◌≤◌, Bool, true, false, cond, List, [], ◌∷◌, ◌++◌, length, Option, Some, None, is_some, refl, sym, ap, subst, arith, eqb-true}
-use Rattle.std.specs.Prelude.{◌||◌, nat_eq, pos, option_map, slice_get, IsSomeAnd}
+use Rattle.std.proofs.Common.{◌≡◌, ◌∙◌, ℕ, zero, suc, ◌<◌, ◌≤◌, Bool, true, false, cond, List, [], ◌∷◌, ◌++◌, length, Option, Some, None, is_some, refl, sym, ap, subst, arith, eqb-true}
+use Rattle.std.specs.Prelude.{◌||◌, nat_eq, pos, slice_get, IsSomeAnd}
 use Rattle.std.specs.Str.{bytes_eq}
 use Rattle.std.proofs.lemmas.Bool.{false≢true}
 use Rattle.std.proofs.lemmas.Bool.Decides.{nat_tests}

@@ -1,5 +1,5 @@
 -- The checkpoint of a history that is found is the one of the history's trace, and its text is read back.
-use Rattle.std.proofs.Common.{◌≡◌, ◌∙◌, ℕ, ◌<◌, ◌≤ℤ◌, ◌^◌, ℤ, pos, negsuc, true, [], ◌∷◌, length, Option, Some, None, Ok, refl, sym, ap, arith}
+use Rattle.std.proofs.Common.{◌≡◌, ◌∙◌, ℕ, ◌<◌, ◌≤ℤ◌, ◌^◌, ℤ, pos, negsuc, true, [], ◌∷◌, length, Option, Some, None, Ok, refl, ap, arith}
 use Rattle.std.specs.Prelude.{◌↔◌, IsSomeAnd}
 use Rattle.std.proofs.lemmas.Bool.{false≢true}
 use Rattle.std.proofs.lemmas.Int.{ints}

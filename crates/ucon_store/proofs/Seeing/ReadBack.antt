@@ -1,6 +1,6 @@
 -- The checkpoint of a trace is read as it, and what is read as a trace's checkpoint is that checkpoint.
-use Rattle.std.proofs.Common.{◌≡◌, ◌∙◌, ℕ, ◌<◌, ◌≤ℤ◌, ◌^◌, ℤ, pos, negsuc, true, List, Some, None, Ok, refl, sym, ap, subst, arith}
-use Rattle.std.specs.Prelude.{Option, ◌↔◌}
+use Rattle.std.proofs.Common.{◌≡◌, ◌∙◌, ℕ, ◌<◌, ◌≤ℤ◌, ◌^◌, ℤ, pos, negsuc, true, Some, None, Ok, refl, sym, ap, subst, arith}
+use Rattle.std.specs.Prelude.{◌↔◌}
 use Rattle.std.proofs.lemmas.Int.{ints}
 use Rattle.ucon_base.specs.Elements.{Each}
 use Rattle.ucon_base.specs.declared.value.Value.TheVariants.{Int}
@@ -10,7 +10,6 @@ use Rattle.ucon_model.specs.Readings.{in_force, tick_of}
 use Rattle.ucon_state.specs.Following.{Follows, IsFollowing, Keeps}
 use Rattle.ucon_state.specs.Held.{Held, ReadsAlike, held_after, held_in}
 use Rattle.ucon_state.specs.Shown.{Shown}
-use Rattle.ucon_row.specs.declared.row.Row.{Row}
 use Rattle.ucon_row.specs.Order.{awaited}
 use Rattle.ucon_row.specs.RowText.{IsRow, IsSpelled}
 use Rattle.ucon_point.specs.HeldRows.{point_held, rows_held}
