@@ -1,7 +1,10 @@
 -- What opening sees in a journal with checkpoints, of which it runs only what stands behind the last one.
-use Rattle.std.specs.Prelude.{◌≡◌, ◌⊎◌, ℕ, ◌+◌, nat_lt, Bool, ◌&&◌, List, [], ◌∷◌, ◌++◌, length, Option, Some, None, option_and_then, Result, Ok, Err, if◌then◌else◌}
+use Rattle.std.specs.Prelude.{◌≡◌, ◌⊎◌, ℕ, ◌+◌, ◌<◌, ◌^◌, nat_lt, ◌≤ℤ◌, pos, Bool, ◌&&◌, List, [], ◌∷◌, ◌++◌, length, Option, Some, None, option_and_then, Result, Ok, Err, if◌then◌else◌}
 use Rattle.std.specs.Result.{result_ok}
 use Rattle.std.specs.Str.{bytes_eq}
+use Rattle.ucon_base.specs.Elements.{Each}
+use Rattle.ucon_base.specs.declared.value.Side.{Side}
+use Rattle.ucon_base.specs.declared.value.Value.TheVariants.{Int}
 use Rattle.ucon_model.specs.Action.{Trace}
 use Rattle.ucon_model.specs.Block.{reply}
 use Rattle.ucon_model.specs.Found as model
@@ -9,13 +12,15 @@ use Rattle.ucon_model.specs.Found.{Finding, Takes, first_gate, found_behind, gat
 use Rattle.ucon_model.specs.History.{History, changes, trace, trace_from}
 use Rattle.ucon_model.specs.Payload.{Told, entry_told, most_payload, payload_read}
 use Rattle.ucon_model.specs.Plain.{Bytes, PlainPolicy}
+use Rattle.ucon_model.specs.Readings.{entities, entity_names, in_force, tick_of}
 use Rattle.ucon_model.specs.Spelling.{reply_spelling}
 use Rattle.ucon_model.specs.Work.{NobodyFails}
+use Rattle.ucon_point.specs.HeldRows.{rows_held}
+use Rattle.ucon_point.specs.Orderly.{IsOrderly}
 use Rattle.ucon_point.specs.PointRead.{Said, point_read}
-use Rattle.ucon_point.specs.Standing.{Standing, put_all, start}
-use Rattle.ucon_state.specs.Held.{Held, ReadsAlike, held_after}
-use Rattle.ucon_state.specs.Shown.{Shown}
-use Rattle.ucon_state.specs.Tables.{Tables}
+use Rattle.ucon_point.specs.PointText.{point_text}
+use Rattle.ucon_row.specs.RowText.{IsRow, IsSpelled}
+use Rattle.ucon_state.specs.Held.{Held, held_after}
 use Rattle.ucon_syntax.specs.Policies.{accepted}
 use Rattle.ucon_store.specs.Found.{found}
 use Rattle.ucon_store.specs.Points.{checkpoint, has_points, text_in_force}
@@ -43,19 +48,18 @@ last_point file = parted_behind (has_points file) (counted file)
 
 -- ---- from a checkpoint on
 
--- what a state shows that has these tables under this policy, and nothing to undo
-abbrev pub showing_only : PlainPolicy → Tables → Shown
-showing_only Q t = record { policy = Q; tables = t; opening_policy = Q; opening = t }
-
--- The payload is read as a checkpoint after so many entries, the trace gives to read what the checkpoint's rows make, and no accessing session
--- fails after it.
+-- The payload is the checkpoint after so many entries of what is there after the trace, in the text of the policy in force, and no accessing session
+-- fails after the trace. What is there has to be such as can be written, and in order: else bytes that no reading takes would be a checkpoint.
 pub record IsPointOf (entries : ℕ) (P : PlainPolicy) (T : Trace) (payload : Bytes) : Type 0 where
-  pub said : Said
-  pub reads : point_read payload ≡ Ok said
-  pub count : said.entries ≡ entries
-  pub end : Standing
-  pub made : put_all said.policy (start said.policy said.tick) said.rows ≡ Some end
-  pub alike : ReadsAlike (showing_only said.policy end.tables) P T
+  pub text : Bytes
+  pub in_force : accepted text ≡ Some (in_force P T)
+  pub few : entries < 2 ^ 64
+  pub since : pos 0 ≤ℤ tick_of T
+  pub tick : IsSpelled (Int (tick_of T))
+  pub rows : Each IsRow (rows_held (held_after P T))
+  pub orderly : IsOrderly (held_after P T)
+  pub written : payload ≡ point_text entries text (held_after P T)
+  pub made_once : (side : Side) → entities side T ≡ length (entity_names side T)
   pub settled : NobodyFails P T
 
 -- the step that is told is the next one after a trace and the entries behind it
