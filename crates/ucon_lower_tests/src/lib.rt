@@ -15,6 +15,8 @@ mod flow;
 #[cfg(test)]
 mod journal;
 #[cfg(test)]
+mod lines;
+#[cfg(test)]
 mod pend;
 #[cfg(test)]
 mod wheel;

@@ -19,17 +19,17 @@ loop-line-init g c = record {
   sink = refl;
 }
 
-pub returns-in_err-branch-clause-talked : goal.returns-in_err-branch-clause-talked
-returns-in_err-branch-clause-talked g c =
-    let is : c.from_residual.result ≡ Err c.in_err-branch.field-0.0 = search rules in
-    let next = next_fault c.in_err-branch.field-0.0 c.from_residual.result c.loop-line.lines.limit c.loop-line.lines.held c.hear.new.lines.held (g.S.Source.left c.loop-line.input) (g.S.Source.left c.hear.new.input) is c.in_err-branch.ensures.next in
+pub returns-in_err-heard-clause-talked : goal.returns-in_err-heard-clause-talked
+returns-in_err-heard-clause-talked g c =
+    let is : c.from_residual.result ≡ Err c.in_err-heard.field-0.0 = search rules in
+    let next = next_fault c.in_err-heard.field-0.0 c.from_residual.result c.loop-line.lines.limit c.loop-line.lines.held c.hear.new.lines.held (g.S.Source.left c.loop-line.input) (g.S.Source.left c.hear.new.input) is c.in_err-heard.ensures.next in
     ended g.K.Keeper.seen g.K.Keeper.stays g.met.K.Keeper.kept g.met.K.Keeper.onward g.met.K.Keeper.same g.met.K.Keeper.again g.K.Keeper.answers g.K.Keeper.refuses c.args.lines.now.limit c.from_residual.result c.args.keeper.now c.loop-line.keeper (g.V.Voice.seen c.args.out.now) (g.V.Voice.seen c.loop-line.out)
     (TakesLines c.loop-line._line c.args.lines.now.held c.loop-line.lines.held (g.S.Source.left c.args.input.now) (g.S.Source.left c.loop-line.input)) (Hears c.from_residual.result c.args.lines.now.held c.hear.new.lines.held (g.S.Source.left c.args.input.now) (g.S.Source.left c.hear.new.input))
     (λ lines p. hears_on c.from_residual.result c.loop-line._line c.args.lines.now.held c.loop-line.lines.held c.hear.new.lines.held (g.S.Source.left c.args.input.now) (g.S.Source.left c.loop-line.input) (g.S.Source.left c.hear.new.input) lines p next.0) next.1 c.loop-line.invariant.talked
 
 pub returns-in-None-clause-talked : goal.returns-in-None-clause-talked
 returns-in-None-clause-talked g c =
-    let next : Hears (Ok tt) c.loop-line.lines.held c.hear.new.lines.held (g.S.Source.left c.loop-line.input) (g.S.Source.left c.hear.new.input) [] = subst (λ (o : Option Heard). HearsNext (Ok o) c.loop-line.lines.limit c.loop-line.lines.held c.hear.new.lines.held (g.S.Source.left c.loop-line.input) (g.S.Source.left c.hear.new.input)) c.in-None.is c.in_ok-branch.ensures.next in
+    let next : Hears (Ok tt) c.loop-line.lines.held c.hear.new.lines.held (g.S.Source.left c.loop-line.input) (g.S.Source.left c.hear.new.input) [] = subst (λ (o : Option Heard). HearsNext (Ok o) c.loop-line.lines.limit c.loop-line.lines.held c.hear.new.lines.held (g.S.Source.left c.loop-line.input) (g.S.Source.left c.hear.new.input)) c.in-None.is c.in_ok-heard.ensures.next in
     ended g.K.Keeper.seen g.K.Keeper.stays g.met.K.Keeper.kept g.met.K.Keeper.onward g.met.K.Keeper.same g.met.K.Keeper.again g.K.Keeper.answers g.K.Keeper.refuses c.args.lines.now.limit (Ok tt) c.args.keeper.now c.loop-line.keeper (g.V.Voice.seen c.args.out.now) (g.V.Voice.seen c.loop-line.out)
     (TakesLines c.loop-line._line c.args.lines.now.held c.loop-line.lines.held (g.S.Source.left c.args.input.now) (g.S.Source.left c.loop-line.input)) (Hears (Ok tt) c.args.lines.now.held c.hear.new.lines.held (g.S.Source.left c.args.input.now) (g.S.Source.left c.hear.new.input))
     (λ lines p. hears_on (Ok tt) c.loop-line._line c.args.lines.now.held c.loop-line.lines.held c.hear.new.lines.held (g.S.Source.left c.args.input.now) (g.S.Source.left c.loop-line.input) (g.S.Source.left c.hear.new.input) lines p next) (λ bad. absurd (cc bad)) c.loop-line.invariant.talked
@@ -38,7 +38,7 @@ pub returns-in_err-exchange-in-Some-clause-talked : goal.returns-in_err-exchange
 returns-in_err-exchange-in-Some-clause-talked g c =
     let r = c.from_residual-in_err-exchange-in-Some.result in
     let is : r ≡ Err c.in_err-exchange-in-Some.field-0.0 = search rules in
-    let h : HearsLine c.loop-line.lines.limit c.loop-line.lines.held c.hear.new.lines.held (g.S.Source.left c.loop-line.input) (g.S.Source.left c.hear.new.input) c.in-Some.heard = subst (λ (o : Option Heard). HearsNext (Ok o) c.loop-line.lines.limit c.loop-line.lines.held c.hear.new.lines.held (g.S.Source.left c.loop-line.input) (g.S.Source.left c.hear.new.input)) c.in-Some.is c.in_ok-branch.ensures.next in
+    let h : HearsLine c.loop-line.lines.limit c.loop-line.lines.held c.hear.new.lines.held (g.S.Source.left c.loop-line.input) (g.S.Source.left c.hear.new.input) c.in-Some.heard = subst (λ (o : Option Heard). HearsNext (Ok o) c.loop-line.lines.limit c.loop-line.lines.held c.hear.new.lines.held (g.S.Source.left c.loop-line.input) (g.S.Source.left c.hear.new.input)) c.in-Some.is c.in_ok-heard.ensures.next in
     let heard_as : IsHeardAs c.args.lines.now.limit c.in-Some.heard h.line = subst (λ (n : ℕ). IsHeardAs n c.in-Some.heard h.line) c.loop-line.invariant.limit h.heard_as in
     let one = subst (λ (s : Result (Unit {0}) TalkFault). HasTalked g.K.Keeper.seen g.K.Keeper.stays g.K.Keeper.answers g.K.Keeper.refuses c.args.lines.now.limit s c.loop-line.keeper c.exchange.new.keeper (g.V.Voice.seen c.loop-line.out) (g.V.Voice.seen c.exchange.new.out) (adds_line s h.line)) (sym is)
     (c.in_err-exchange-in-Some.ensures.talked c.args.lines.now.limit h.line h.takes.bare heard_as) in
@@ -52,7 +52,7 @@ returns-in_err-exchange-in-Some-clause-stays g c = g.met.K.Keeper.again c.args.k
 
 pub loop-line-preserved : goal.loop-line-preserved
 loop-line-preserved g c =
-    let h : HearsLine c.loop-line.lines.limit c.loop-line.lines.held c.hear.new.lines.held (g.S.Source.left c.loop-line.input) (g.S.Source.left c.hear.new.input) c.in-Some.heard = subst (λ (o : Option Heard). HearsNext (Ok o) c.loop-line.lines.limit c.loop-line.lines.held c.hear.new.lines.held (g.S.Source.left c.loop-line.input) (g.S.Source.left c.hear.new.input)) c.in-Some.is c.in_ok-branch.ensures.next in
+    let h : HearsLine c.loop-line.lines.limit c.loop-line.lines.held c.hear.new.lines.held (g.S.Source.left c.loop-line.input) (g.S.Source.left c.hear.new.input) c.in-Some.heard = subst (λ (o : Option Heard). HearsNext (Ok o) c.loop-line.lines.limit c.loop-line.lines.held c.hear.new.lines.held (g.S.Source.left c.loop-line.input) (g.S.Source.left c.hear.new.input)) c.in-Some.is c.in_ok-heard.ensures.next in
     let heard_as : IsHeardAs c.args.lines.now.limit c.in-Some.heard h.line = subst (λ (n : ℕ). IsHeardAs n c.in-Some.heard h.line) c.loop-line.invariant.limit h.heard_as in
     record {
       talked =
