@@ -11,7 +11,7 @@ use crate::command_line::CommandLine;
 use crate::line_fault::LineFault;
 use crate::payload::{caller_in, cut_at};
 use std::alloc::Global;
-use ucon_model::Caller;
+use ucon_model::{Caller, texts_lack_bytes};
 
 /// A line that is a request: the number of a client, 0 to 63, a space, and the text of a command, which isn't built yet.
 #[derive(Clone, Copy)]
@@ -21,7 +21,7 @@ pub struct Request<'a> {
 }
 
 /// Why a line is no request.
-#[derive(Clone, Copy, Debug, PartialEq, Eq)]
+#[derive(Clone, Copy)]
 pub enum RequestFault {
     /// It doesn't begin with a client's number, 0 to 63 without leading zeros, and a space.
     BadClient,
@@ -39,6 +39,7 @@ pub fn read_request<'a>(alloc: Global, line: &'a [u8]) -> Result<Request<'a>, Re
     ensures asked { (caller : Caller') (text : Bytes) → IsAskedBy line.now caller text
         → MatchResult result (λ r. (r.caller ≡ caller) × (r.command.text.now ≡ text)) (IsRefusedTo caller text) }
 {
+    texts_lack_bytes();
     match asker(line) {
         Some((caller, text)) => match CommandLine::judge(alloc, text) {
             Ok(command) => Ok(Request { caller, command }),
@@ -52,6 +53,7 @@ pub fn read_request<'a>(alloc: Global, line: &'a [u8]) -> Result<Request<'a>, Re
 fn asker(line: &[u8]) -> Option<(Caller, &[u8])>
     ensures { MatchOption result ((caller : Caller') (text : Bytes) → IsAskedBy line.now caller text → ⊥) (λ p. IsAskedBy line.now p.0 p.1.now) }
 {
+    texts_lack_bytes();
     match cut_at(b' ', line) {
         Some((client, text)) => match caller_in(client) {
             Some(caller) => Some((caller, text)),

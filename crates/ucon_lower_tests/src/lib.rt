@@ -19,4 +19,6 @@ mod lines;
 #[cfg(test)]
 mod pend;
 #[cfg(test)]
+mod tell;
+#[cfg(test)]
 mod wheel;
