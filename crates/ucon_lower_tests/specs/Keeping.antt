@@ -1,0 +1,158 @@
+-- What a keeper has put on a disk, for a witness that a conversation's clauses can be met.
+use Rattle.std.proofs.Common.{◌≡◌, ◌⊎◌, inl, inr, ⊎_elim, ℕ, ◌+◌, ◌≤◌, ◌<◌, ◌^◌, List, [], ◌∷◌, ◌++◌, length, take, drop, min, Option, Some, None, refl, sym, ap, subst, ◌∙◌, arith, length-append}
+use Rattle.std.specs.Prelude.{IfSome, is_some, codes, true}
+use Rattle.std.specs.Option.{option_map}
+use Rattle.std.proofs.Math.Seq.{take-append_seam}
+use Rattle.std.proofs.lemmas.List.{append-nil, drop_all, length-take, take_all, take-take}
+use Rattle.ucon_disk.specs.Disk.{Elapses, Follows, HasPlace, NoneNew, Only, SameImages, Torn, overwritten}
+use Rattle.ucon_disk.specs.Run.{LeavesOnly, goes_on, joined, started, weaker}
+use Rattle.ucon_flow.specs.Lines.{IsLine}
+
+-- the file begins with these bytes
+abbrev pub BeginsWith : List ℕ → List ℕ → Type 0
+BeginsWith kept file = take (length kept) file ≡ kept
+
+begins_all : (kept : List ℕ) → BeginsWith kept kept
+begins_all kept = take_all (length kept) kept (omega arith)
+
+begins_trans : (a b c : List ℕ) → BeginsWith a b → BeginsWith b c → BeginsWith a c
+begins_trans a b c p q =
+    let long : length (take (length a) b) ≡ length a = ap (λ (l : List ℕ). length l) p in
+    let size = length-take (length a) b in
+    let le : length a ≤ length b = omega arith in
+    sym (take-take (length a) (length b) c le) ∙ (ap (λ (l : List ℕ). take (length a) l) q ∙ p)
+
+-- the reply to a line, from what was kept to what is: it is kept, or it is lost
+abbrev pub IsAnswer : List ℕ → List ℕ → List ℕ → List ℕ → Type 0
+IsAnswer old new line reply = ((reply ≡ codes "kept\n") × (new ≡ old ++ (line ++ 10 ∷ []))) ⊎ ((reply ≡ codes "lost\n") × (new ≡ old))
+
+pub kept_line : IsLine (codes "kept\n")
+kept_line = record { text = codes "kept"; bare = refl; line_is = refl }
+
+pub lost_line : IsLine (codes "lost\n")
+lost_line = record { text = codes "lost"; bare = refl; line_is = refl }
+
+pub long_line : IsLine (codes "too long\n")
+long_line = record { text = codes "too long"; bare = refl; line_is = refl }
+
+module _ {D : Type 0} (contents : D → Option (List ℕ)) (images : D → List ℕ → Type 0) where
+  -- the disk tells its file, and a crash leaves only files that begin with these bytes
+  pub record Keeps (d : D) (kept : List ℕ) : Type 0 where
+    pub file : List ℕ
+    pub told : contents d ≡ Some file
+    pub each : (c : List ℕ) → images d c → BeginsWith kept c
+
+module _ {D : Type 0} (contents : D → Option (List ℕ)) (images : D → List ℕ → Type 0) (moment : D → ℕ) (images_since : D → ℕ → List ℕ → Type 0) where
+  -- between these two a crash left only files that begin with the first bytes; the disk keeps the second, which begin with the first
+  pub record KeepsOn (x y : D) (old new : List ℕ) : Type 0 where
+    pub run : LeavesOnly moment images_since x y (BeginsWith old)
+    pub keeps : Keeps contents images y new
+    pub begun : BeginsWith old new
+
+  pub keeps_still : ((d : D) (c : List ℕ) → images_since d (moment d) c → images d c) → (x : D) (kept : List ℕ) → Keeps contents images x kept → KeepsOn x x kept kept
+  keeps_still only x kept k = record {
+    run = started moment images_since x (BeginsWith kept) (λ c since. k.each c (only x c since));
+    keeps = k;
+    begun = begins_all kept;
+  }
+
+  pub keeps_again : (x y z : D) (a b c : List ℕ) → KeepsOn x y a b → KeepsOn y z b c → KeepsOn x z a c
+  keeps_again x y z a b c p q = record {
+    run = joined moment images_since x y z (BeginsWith a) p.run (weaker moment images_since y z (BeginsWith b) (BeginsWith a) (λ file is. begins_trans a b file p.begun is) q.run);
+    keeps = q.keeps;
+    begun = begins_trans a b c p.begun q.begun;
+  }
+
+  -- one call more, after which a crash leaves what begins so
+  pub keeps_call : (x y z : D) (a b : List ℕ) → KeepsOn x y a b → Elapses (moment y) (moment z) (images_since y) (images_since z) (images z) → Keeps contents images z b → KeepsOn x z a b
+  keeps_call x y z a b p time k = record {
+    run = goes_on moment images_since x y z (BeginsWith a) (images z) p.run time (λ file image. begins_trans a b file p.begun (k.each file image));
+    keeps = k;
+    begun = p.begun;
+  }
+
+  -- what is kept is kept beside more
+  pub keeps_more : (x y : D) (a b more : List ℕ) → KeepsOn x y a b → Keeps contents images y (b ++ more) → KeepsOn x y a (b ++ more)
+  keeps_more x y a b more p k = record { run = p.run; keeps = k; begun = begins_trans a b (b ++ more) p.begun (take-append_seam b more) }
+
+-- ---- what calls leave
+
+has_file : (o p : Option (List ℕ)) (file : List ℕ) → o ≡ Some file → is_some p ≡ is_some o → (now : List ℕ) × (p ≡ Some now)
+has_file o None file e same = absurd (cc (same ∙ ap is_some e))
+has_file o (Some now) file e same = (now, refl)
+
+if_some : (o : Option (List ℕ)) (file : List ℕ) (P : List ℕ → Type 0) → o ≡ Some file → IfSome o P → P file
+if_some None file P e p = absurd (cc e)
+if_some (Some now) file P e p = let same : now ≡ file = cc e in subst P same p
+
+only_file : (o : Option (List ℕ)) (file : List ℕ) (P : List ℕ → Type 0) → o ≡ Some file → Only o P → (c : List ℕ) → P c → c ≡ file
+only_file None file P e only c p = absurd (cc e)
+only_file (Some now) file P e only c p = let same : now ≡ file = cc e in only c p ∙ same
+
+pub has_place : (o : Option (List ℕ)) (n at len : ℕ) → IfSome o (λ file. n ≡ length file) → n ≡ at → n < 2 ^ 63 → len < 2 ^ 63 → HasPlace o at len
+has_place None n at len is same small short = tt
+has_place (Some file) n at len is same small short = (omega arith, omega arith)
+
+module _ {D : Type 0} (contents : D → Option (List ℕ)) (images : D → List ℕ → Type 0) where
+  pub looked : (y z : D) (kept : List ℕ) → Keeps contents images y kept → contents z ≡ contents y → SameImages (images y) (images z) → Keeps contents images z kept
+  looked y z kept k same images_are = record { file = k.file; told = same ∙ k.told; each = λ c image. k.each c (images_are.no_more c image) }
+
+  pub written : (y z : D) (kept : List ℕ) (at n : ℕ) → Keeps contents images y kept → at ≡ length kept → is_some (contents z) ≡ is_some (contents y) → Follows (Torn at n) (images y) (images z) → Keeps contents images z kept
+  written y z kept at n k place same follows =
+      let now = has_file (contents y) (contents z) k.file k.told same in
+      record {
+        file = now.0;
+        told = now.1;
+        each = λ c image.
+            let torn = follows c image in
+            let before : take at c ≡ take at torn.0 = torn.2.before in
+            sym (ap (λ (m : ℕ). take m c) place) ∙ (before ∙ (ap (λ (m : ℕ). take m torn.0) place ∙ k.each torn.0 torn.1));
+      }
+
+  pub synced : (y z : D) (kept : List ℕ) → Keeps contents images y kept → is_some (contents z) ≡ is_some (contents y) → NoneNew (images y) (images z) → Keeps contents images z kept
+  synced y z kept k same none = let now = has_file (contents y) (contents z) k.file k.told same in record { file = now.0; told = now.1; each = λ c image. k.each c (none c image) }
+
+  -- bytes that were written at the end, and synced
+  pub put_behind : (y z w : D) (kept bytes : List ℕ) (at : ℕ) → Keeps contents images y kept → IfSome (contents y) (images y) → IfSome (contents y) (λ file. at ≡ length file) → at ≡ length kept
+      → contents z ≡ option_map (overwritten at bytes) (contents y) → contents w ≡ contents z → Only (contents z) (images w) → Keeps contents images w (kept ++ bytes)
+  put_behind y z w kept bytes at k as_read end place wrote same only =
+      let in_file : images y k.file = if_some (contents y) k.file (images y) k.told as_read in
+      let long : at ≡ length k.file = if_some (contents y) k.file (λ (file : List ℕ). at ≡ length file) k.told end in
+      let all : k.file ≡ kept = sym (take_all (length kept) k.file (omega arith)) ∙ k.each k.file in_file in
+      let front : take at k.file ≡ kept = take_all at k.file (omega arith) ∙ all in
+      let nothing : drop (at + length bytes) k.file ≡ [] = drop_all (at + length bytes) k.file (omega arith) in
+      let over : overwritten at bytes k.file ≡ kept ++ bytes = ap (λ (l : List ℕ). (l ++ bytes) ++ drop (at + length bytes) k.file) front ∙ (ap (λ (l : List ℕ). (kept ++ bytes) ++ l) nothing ∙ append-nil (kept ++ bytes)) in
+      let now : contents z ≡ Some (kept ++ bytes) = wrote ∙ (ap (option_map (overwritten at bytes)) k.told ∙ ap (λ (l : List ℕ). Some l) over) in
+      record {
+        file = kept ++ bytes;
+        told = same ∙ now;
+        each = λ c image. subst (λ (file : List ℕ). BeginsWith (kept ++ bytes) file) (sym (only_file (contents z) (kept ++ bytes) (images w) now only c image)) (begins_all (kept ++ bytes));
+      }
+
+-- ---- notes
+
+-- one of the notes says that these bytes were held by this moment
+abbrev pub IsNoted : List (List ℕ × ℕ) → List ℕ → ℕ → Type 0
+IsNoted [] b t = ⊥
+IsNoted (n ∷ ns) b t = ((b ≡ n.0) × (t ≡ n.1)) ⊎ IsNoted ns b t
+
+pub noted_before : (ns : List (List ℕ × ℕ)) (n : List ℕ × ℕ) (b : List ℕ) (t : ℕ) → IsNoted ns b t → IsNoted (ns ++ n ∷ []) b t
+noted_before [] n b t h = absurd h
+noted_before (m ∷ ns) n b t h = ⊎_elim inl (λ (rest : IsNoted ns b t). inr (noted_before ns n b t rest)) h
+
+pub noted_last : (ns : List (List ℕ × ℕ)) (n : List ℕ × ℕ) → IsNoted (ns ++ n ∷ []) n.0 n.1
+noted_last [] n = inl (refl, refl)
+noted_last (m ∷ ns) n = inr (noted_last ns n)
+
+pub noted_else : (ns : List (List ℕ × ℕ)) (n : List ℕ × ℕ) (b : List ℕ) (t : ℕ) → IsNoted (ns ++ n ∷ []) b t → IsNoted ns b t ⊎ ((t ≡ n.1) × (b ≡ n.0))
+noted_else [] n b t h = ⊎_elim (λ (is : (b ≡ n.0) × (t ≡ n.1)). inr (is.1, is.0)) (λ (none : ⊥). absurd none) h
+noted_else (m ∷ ns) n b t h = ⊎_elim (λ (is : (b ≡ m.0) × (t ≡ m.1)). inl (inl is))
+    (λ (rest : IsNoted (ns ++ n ∷ []) b t). ⊎_elim (λ (in_rest : IsNoted ns b t). inl (inr in_rest)) (λ (is : (t ≡ n.1) × (b ≡ n.0)). inr is) (noted_else ns n b t rest)) h
+
+-- ---- moments
+
+pub at_least : (n : ℕ) → n ≤ n
+at_least n = omega arith
+
+pub no_less : (a b c : ℕ) → a ≤ b → b ≤ c → a ≤ c
+no_less a b c p q = omega arith
