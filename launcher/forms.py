@@ -40,6 +40,7 @@ FORMS = [form for form in KNOWN if form.name not in COMING]
 # What the launcher itself does.
 OWN = [
     Form("test DIR ..", "runs each NAME.ucon of a folder, and compares with NAME.out", "./ucon test examples"),
+    Form("lint FILE", "warns of what a policy does that may surprise; lint --strict ends with 1 then", "./ucon lint examples/music.ucon"),
     Form("prove", "proves every crate below the program and builds it, about an hour; from then on that one is run", "./ucon prove"),
     Form("--help", "this page", ""),
     Form("--version", "the commit, and whether the program that is run is the proved one", ""),
