@@ -50,6 +50,13 @@ FORMS = [form for form in KNOWN if form.name not in COMING]
 OWN = [
     Form("quick FORM ..", "runs the program as it is written, unproved: a reply in about a minute", "./ucon quick trial < examples/first.ucon"),
     Form("test DIR ..", "runs each NAME.ucon of a folder, and compares with NAME.out", "./ucon test examples"),
+    Form(
+        "log JOURNAL [--from N] [--follow] [--json]",
+        "prints each step of a journal: its place, client, command and reply",
+        "./ucon log door.journal --from 100",
+    ),
+    Form("policy JOURNAL", "prints the policy that is in force in a journal", "./ucon policy door.journal"),
+    Form("copy JOURNAL NEW", "makes a copy that is whole, also while the journal is written", "./ucon copy door.journal backup.journal"),
     Form("--help", "this page", ""),
     Form("--version", "the commit, and the kit that it is proved with", ""),
 ]
@@ -81,7 +88,8 @@ def form_of(words: List[str]) -> Optional[Form]:
 
 def row(form: Form) -> str:
     example = f"{'':18}{in_place(form.example)}\n" if form.example else ""
-    return f"  {form.words:<16}{form.says}\n{example}"
+    words = f"{form.words:<15} " if len(form.words) < 16 else f"{form.words}\n{'':18}"
+    return f"  {words}{form.says}\n{example}"
 
 
 def in_place(example: str) -> str:
@@ -108,6 +116,8 @@ def help_text() -> str:
         "ucon: a usage control monitor. A document comes on standard input: a policy, a line %%, and a script.\n\n"
         f"{''.join(map(row, FORMS))}\n{''.join(map(row, own_forms()))}\n{OF_SOURCES if program.has_sources() else INSTALLED}"
         "After a fault of a document that is a file, the place, the line and a hint follow the program's own line.\n"
+        "A journal has one writer at a time, and what was told of it stands beside it, in JOURNAL.told. Where it lacks some of that, play,\n"
+        "serve and point are refused before anything is written; --accept-loss behind JOURNAL goes on with what is there.\n"
         "UCON_PROGRAM=FILE runs that program in place of the proved one.\n"
     )
 
@@ -116,7 +126,7 @@ def usage_hint(words: List[str]) -> str:
     """What stands behind the program's own line where the words are no form."""
     names = ", ".join(form.words for form in FORMS + own_forms() if form.example)
     first = words[0] if words else ""
-    near = next((form for form in FORMS if form.name == first), None)
+    near = next((form for form in FORMS + own_forms() if form.name == first and form.example), None)
     if not words:
         why = "no words were given"
     elif near and len(near.words.split()) == 1:
