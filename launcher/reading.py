@@ -1,8 +1,12 @@
 """The words that read a journal and never write it: `log`, `policy`, `copy`. They take no lock, and need no program."""
+import os
 import re
-from typing import List, Optional
+import signal
+import sys
+from typing import Callable, List, Optional
 
 from launcher import backup, in_force, log
+from launcher.journal import Refused
 
 
 def is_path(word: str) -> bool:
@@ -31,13 +35,28 @@ def asked_of_log(words: List[str]) -> Optional[log.Asked]:
     return asked
 
 
-def run(words: List[str]) -> Optional[int]:
-    """Runs such words. None where they are none."""
+def called(words: List[str]) -> Optional[Callable[[], int]]:
+    """What such words call. None where they are none."""
     asked = asked_of_log(words[1:]) if words[:1] == ["log"] else None
     if asked:
-        return log.run(asked)
+        return lambda: log.run(asked)
     if words[:1] == ["policy"] and len(words) == 2 and is_path(words[1]):
-        return in_force.run(words[1])
+        return lambda: in_force.run(words[1])
     if words[:1] == ["copy"] and len(words) == 3 and is_path(words[1]) and is_path(words[2]):
-        return backup.run(words[1], words[2])
+        return lambda: backup.run(words[1], words[2])
     return None
+
+
+def run(words: List[str]) -> Optional[int]:
+    """Runs such words, and says why where that can't be. None where they are none."""
+    call = called(words)
+    try:
+        return call() if call else None
+    except Refused as why:
+        sys.stderr.write(why.text())
+        return why.status
+    except KeyboardInterrupt:
+        # It ends as a program without a handler does, and what it began to write is gone.
+        signal.signal(signal.SIGINT, signal.SIG_DFL)
+        os.kill(os.getpid(), signal.SIGINT)
+        return 128 + signal.SIGINT
