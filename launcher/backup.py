@@ -5,7 +5,7 @@ import os
 import signal
 import sys
 
-from launcher.heads import Followed, follow, start
+from launcher.heads import Followed
 from launcher.journal import FILE_FAILED, NO_JOURNAL, Journal, Refused, open_journal
 from launcher.lock import Lock, take
 from launcher.log import say_cut_off, write
@@ -21,32 +21,25 @@ def run(path: str, new: str) -> int:
     if os.path.lexists(new):
         raise Refused(FILE_FAILED, f"{new} is there already, and was left as it is", "give the copy another name, or take the file away")
     with open_journal(path) as journal:
-        followed = whole(journal)
-        made(journal, followed, new)
-        say_cut_off(journal, followed.at)
-    write(f"records {followed.records}\nentries {followed.steps}\nhead {followed.head.hex()}\n".encode())
+        magic = journal.magic()
+        found = made(journal, magic, new) if magic else nothing_in(journal)
+        say_cut_off(journal, found.at)
+    write(f"records {found.records}\nentries {found.steps}\nhead {found.head.hex()}\n".encode())
     return 0
 
 
-def whole(journal: Journal) -> Followed:
-    """The journal up to the last record that counts now. Says so where it lacks what was told of it."""
-    if not journal.magic() or not (met := meet(journal)).followed.records:
-        raise Refused(NO_JOURNAL, f"{journal.name} holds no record yet, and nothing was copied", "look at the path")
-    if met.loss:
-        sys.stderr.write(f"ucon: {met.loss.text(journal.name)}; the copy is of what is there\n")
-    return met.followed
+def nothing_in(journal: Journal) -> Followed:
+    raise Refused(NO_JOURNAL, f"{journal.name} holds no record yet, and nothing was copied", "look at the path")
 
 
-def made(journal: Journal, followed: Followed, new: str) -> None:
+def made(journal: Journal, magic: bytes, new: str) -> Followed:
     """Writes beside the place, syncs, reads back, and gives the file its name. What a copy that was killed left there is written anew."""
-    part = f"{new}.part"
-    held = take(part)
+    held = take(f"{new}.part")
     if held is None:
         raise Refused(FILE_FAILED, f"{new} can't be made: no file can be written there", "look at the path, and at who may write in that folder")
     try:
-        os.ftruncate(held.file, 0)
-        filled(journal, followed, held)
-        read_back(journal, followed, held)
+        found = filled(journal, magic, held)
+        read_back(journal, found, held)
         named(held, new)
     except OSError as why:
         raise Refused(FILE_FAILED, f"{new} wasn't made: {why.strerror}", "make room there, or copy to another disk") from None
@@ -54,15 +47,35 @@ def made(journal: Journal, followed: Followed, new: str) -> None:
         if held.is_at_its_path():
             os.unlink(held.path)
         os.close(held.file)
+    return found
 
 
-def filled(journal: Journal, followed: Followed, held: Lock) -> None:
-    """All bytes up to the gate behind the last record, and that gate closed. It may be read by whoever may read the journal."""
+def filled(journal: Journal, magic: bytes, held: Lock) -> Followed:
+    """Writes all records that count now, as they are read and followed, and a closed gate behind them. Says so where the journal lacks
+    what was told of it. The copy may be read by whoever may read the journal."""
+    os.ftruncate(held.file, 0)
     os.fchmod(held.file, os.fstat(journal.file).st_mode & 0o777)
-    for at in range(0, followed.at, PART):
-        put(held.file, at, journal.read(at, min(PART, followed.at - at)))
-    put(held.file, followed.at, b"\0")
+    put(held.file, 0, magic)
+    met = meet(journal, lambda window: put(held.file, window.at, window.raw[: window.gates[-1]]))
+    if not met.followed.records:
+        nothing_in(journal)
+    if met.loss:
+        sys.stderr.write(f"ucon: {met.loss.text(journal.name)}; the copy is of what is there\n")
+    put(held.file, met.followed.at, b"\0")
     os.fsync(held.file)
+    return met.followed
+
+
+def read_back(journal: Journal, found: Followed, held: Lock) -> None:
+    """The copy has the journal's bytes, which don't change any more, up to a gate that is closed in it."""
+    if hasattr(os, "posix_fadvise"):
+        # So that it is read from the disk, as far as the system does so.
+        os.posix_fadvise(held.file, 0, 0, os.POSIX_FADV_DONTNEED)
+    copy = Journal(held.path, held.file)
+    parts = (range(at, min(at + PART, found.at)) for at in range(0, found.at, PART))
+    is_same = all(copy.read(part.start, len(part)) == journal.read(part.start, len(part)) for part in parts)
+    if not is_same or copy.read(found.at, 2) != b"\0":
+        raise Refused(FILE_FAILED, f"what was written for the copy of {journal.name} isn't what was read", "look at both disks, and copy again")
 
 
 def put(file: int, at: int, raw: bytes) -> None:
@@ -70,18 +83,6 @@ def put(file: int, at: int, raw: bytes) -> None:
     while view:
         count = os.pwrite(file, view, at)
         at, view = at + count, view[count:]
-
-
-def read_back(journal: Journal, followed: Followed, held: Lock) -> None:
-    """The copy is the journal that was followed: as many records, with the same head, and a closed gate behind them."""
-    if hasattr(os, "posix_fadvise"):
-        # So that it is read from the disk, as far as the system does so.
-        os.posix_fadvise(held.file, 0, 0, os.POSIX_FADV_DONTNEED)
-    copy = Journal(held.path, held.file)
-    found, _ = follow(copy, start(copy))
-    end = copy.end(found.at)
-    if found != followed or end.gate or end.is_torn:
-        raise Refused(FILE_FAILED, f"what was written for the copy of {journal.name} isn't what was read", "look at both disks, and copy again")
 
 
 def named(held: Lock, new: str) -> None:

@@ -4,9 +4,9 @@ The head after no record is SHA-256 (FIPS 180-4) of the file's first 8 bytes; th
 it, followed by the record's payload. Checkpoints count as records. `crates/ucon_audit` defines the same."""
 import hashlib
 import re
-from typing import Iterable, List, NamedTuple, Optional, Tuple
+from typing import Callable, Iterable, List, NamedTuple, Optional, Tuple
 
-from launcher.journal import FIRST_GATE, POINT, Journal
+from launcher.journal import FIRST_GATE, POINT, Journal, Window
 
 # The C library's own takes longer for each of many short texts, so Python's is used where it is there.
 try:
@@ -53,9 +53,12 @@ def start(journal: Journal) -> Followed:
     return Followed(FIRST_GATE, 0, 0, first_head(journal.magic()), b"")
 
 
-def follow(journal: Journal, begins: Followed, asked: int = 0, most: Optional[int] = None) -> Tuple[Followed, Optional[bytes]]:
+def follow(
+    journal: Journal, begins: Followed, asked: int = 0, most: Optional[int] = None, hear: Optional[Callable[[Window], None]] = None
+) -> Tuple[Followed, Optional[bytes]]:
     """Goes on over the records that count, each read once: up to so many in all, or to the gate behind the last one. With it comes the
-    head after so many records as are asked for, where there are so many and they weren't followed before."""
+    head after so many records as are asked for, where there are so many and they weren't followed before. Who hears is given what was
+    read, in order."""
     at, records, steps, head, marks = begins
     found, kept = [marks], None
     for window in journal.windows(at, records):
@@ -63,6 +66,8 @@ def follow(journal: Journal, begins: Followed, asked: int = 0, most: Optional[in
         for payload in payloads:
             head = sha256(head + payload).digest()
             heads.append(head)
+        if hear:
+            hear(window)
         if records < asked <= records + len(heads):
             kept = heads[asked - records - 1]
         # Record 0 is the policy, and a checkpoint is no step.

@@ -6,7 +6,7 @@ import os
 import re
 import select
 import sys
-from typing import Callable, Iterator, List, NamedTuple, Optional
+from typing import Dict, List, NamedTuple, Optional
 
 from launcher.journal import FIRST_GATE, POINT, STEP, Damaged, Journal, Refused, Window, open_journal
 
@@ -17,6 +17,14 @@ WAIT = 0.2
 NAMED = re.compile(rb"(permitted|ended) (\d+)|(denied|waiting|revoked) (\d+) (\w+)")
 # All that a line may show as it is; a policy's comment may hold any byte.
 PRINTABLE = bytes(range(0x20, 0x7F)) + b"\n"
+
+
+# What a payload of the clients that have one digit begins with.
+CLIENTS = {b"%d " % client for client in range(10)}
+QUICK_USE = (
+    b'{"place":%d,"client":%b,"command":"%b","reply":"%b","sessions":'
+    b'[{"outcome":"permitted","session":%b,"subject":"%b","right":"%b","object":"%b"}]}\n'
+)
 
 
 class Asked(NamedTuple):
@@ -68,31 +76,72 @@ class Lines:
         self.sessions = Sessions()
         self.place = 0
         self.records = 0
+        self.has_quotes = True
 
     def of(self, window: Window) -> bytes:
         """The lines of a window's steps, which stand behind those of the windows before."""
-        line_of = self.json_line if self.asked.as_json else self.text_line
-        found = b"".join(self.steps(window, line_of))
-        return found if not found.translate(None, PRINTABLE) else escaped(found)
+        payloads = window.payloads()
+        said_all = b"".join(payloads)
+        is_plain = not said_all.translate(None, PRINTABLE)
+        self.has_quotes = b'"' in said_all or b"\\" in said_all
+        quick, first = self.quick_json if self.asked.as_json else self.quick_text, self.asked.first
+        made: List[bytes] = []
+        for n, payload in enumerate(payloads):
+            line = None
+            # Most steps are of two forms, which take no search. Record 0 has none of them.
+            said, _, reply = payload.partition(b"\n")
+            if is_plain and said[:2] in CLIENTS and len(said) > 2 and self.records + n:
+                line = quick(said, reply)
+            if line is None:
+                line = self.line(self.records + n, window.at + window.gates[n], payload)
+            if line and self.place >= first:
+                made.append(line)
+        self.records += len(payloads)
+        lines = b"".join(made)
+        return lines if is_plain else escaped(lines)
 
-    def steps(self, window: Window, line_of: Callable[[bytes, bytes, bytes], bytes]) -> Iterator[bytes]:
-        form, note, first = STEP.fullmatch, self.sessions.note, self.asked.first
-        for (at, payload) in window.records():
-            self.records += 1
-            if self.records == 1 or (self.has_points and payload.startswith(POINT)):
-                continue
-            step = form(payload)
-            if step is None:
-                raise Damaged(self.journal.name, self.records - 1, at, "it has not the form of a step")
+    def quick_text(self, said: bytes, reply: bytes) -> Optional[bytes]:
+        """The line of a step that was answered `ok` alone, or of a `try` that was permitted and revoked nothing. None of others."""
+        if reply == b"ok":
             self.place += 1
-            client, command, reply = step.groups()
-            note(command, reply)
-            if self.place >= first:
-                yield line_of(client, command, reply)
+            return b"%d %b -> ok\n" % (self.place, said)
+        if self.is_new_use(said, reply):
+            return b"%d %b -> %b [%b]\n" % (self.place, said, reply, said[6:])
+        return None
+
+    def quick_json(self, said: bytes, reply: bytes) -> Optional[bytes]:
+        """The same as a JSON text."""
+        if self.has_quotes and (b'"' in said or b"\\" in said):
+            return None
+        if reply == b"ok":
+            self.place += 1
+            return b'{"place":%d,"client":%b,"command":"%b","reply":"ok","sessions":[]}\n' % (self.place, said[:1], said[2:])
+        if self.is_new_use(said, reply):
+            return QUICK_USE % (self.place, said[:1], said[2:], reply, reply[10:], *said[6:].split(b" "))
+        return None
+
+    def is_new_use(self, said: bytes, reply: bytes) -> bool:
+        """Whether this is a `try` with the reply `permitted n`, n the next number. If so, it is taken in."""
+        tries = self.sessions.tries
+        if said[1:6] != b" try " or said.count(b" ") != 4 or reply != b"permitted %d" % (len(tries) + 1):
+            return False
+        tries.append(said[6:])
+        self.place += 1
+        return True
+
+    def line(self, number: int, at: int, payload: bytes) -> bytes:
+        """The line of any record. Empty where it is no step; refused where it should be one."""
+        if number == 0 or (self.has_points and payload.startswith(POINT)):
+            return b""
+        step = STEP.fullmatch(payload)
+        if step is None:
+            raise Damaged(self.journal.name, number, at, "it has not the form of a step")
+        client, command, reply = step.groups()
+        self.place += 1
+        self.sessions.note(command, reply)
+        return self.json_line(client, command, reply) if self.asked.as_json else self.text_line(client, command, reply)
 
     def text_line(self, client: bytes, command: bytes, reply: bytes) -> bytes:
-        if reply == b"ok":
-            return b"%d %b %b -> ok\n" % (self.place, client, command)
         return b"%d %b %b -> %b\n" % (self.place, client, command, NAMED.sub(self.with_use, reply))
 
     def with_use(self, named: "re.Match[bytes]") -> bytes:
@@ -103,9 +152,9 @@ class Lines:
         said = {"place": self.place, "client": int(client), "command": text_of(command), "reply": text_of(reply), "sessions": self.uses(reply)}
         return json.dumps(said, separators=(",", ":")).encode() + b"\n"
 
-    def uses(self, reply: bytes) -> List[dict]:
+    def uses(self, reply: bytes) -> List[Dict[str, object]]:
         found = []
-        for use in [] if reply == b"ok" else uses_in(reply):
+        for use in uses_in(reply):
             names = text_of(self.sessions.of(use.session)).split()
             tried = dict(zip(("subject", "right", "object"), names))
             label = {} if use.label is None else {"label": use.label}

@@ -10,10 +10,10 @@ The file is text, a word and what it says on each line:
 
 A journal has what was told where its first so many records have this head, and it has at least so many steps."""
 import os
-from typing import Dict, NamedTuple, Optional, Tuple
+from typing import Callable, Dict, NamedTuple, Optional, Tuple
 
 from launcher.heads import HEAD, MARK, Followed, first_head, follow, points_in, start
-from launcher.journal import Journal, Refused
+from launcher.journal import Journal, Refused, Window
 
 # The journal lacks what was told of it, or something that no write of the program leaves stands behind its records.
 LOST = 123
@@ -118,8 +118,8 @@ class Met(NamedTuple):
     loss: Optional[Loss]
 
 
-def meet(journal: Journal) -> Met:
-    """Follows a journal, whose magic stands, to its end, and looks for what was told of it."""
+def meet(journal: Journal, hear: Optional[Callable[[Window], None]] = None) -> Met:
+    """Follows a journal, whose magic stands, to its end, and looks for what was told of it. Who hears is given what was read."""
     told = read_told(path_of(os.path.realpath(journal.name)))
-    followed, kept = follow(journal, start(journal), told.records if told else 0)
+    followed, kept = follow(journal, start(journal), told.records if told else 0, hear=hear)
     return Met(followed, told, lacks(journal, told, followed, kept) if told else None)
