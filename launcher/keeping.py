@@ -14,7 +14,7 @@ from launcher.heads import Followed, follow, start
 from launcher.journal import LONGEST_FRESH, End, Journal, Refused
 from launcher.lock import Lock
 from launcher.program import Ended
-from launcher.told import LOST, Told, lacks, path_of, read_told, told_of
+from launcher.told import LOST, Told, lacks, near, path_of, read_told, told_of
 
 # The forms whose last word is a journal that they write.
 WRITES = ("play", "serve", "point")
@@ -153,7 +153,7 @@ class Keeper:
             remove(tail.path)
             return
         count = len(tail.raw) - 1
-        self.say(f"{count} bytes behind the last whole step, at byte {tail.at}, were cut off, and are kept in {tail.path}")
+        self.say(f"{count} bytes behind the last whole step, at byte {tail.at}, were cut off, and are kept in {near(tail.path)}")
 
     def tell(self, found: Found, status: int) -> None:
         """Writes place and head, as the run ended. Its status stays, whatever comes of that."""
@@ -161,12 +161,12 @@ class Keeper:
             if found.accepted and os.path.lexists(self.told_path):
                 lost = free_name(f"{self.told_path}.lost")
                 os.replace(self.told_path, lost)
-                self.say(f"went on; what was told before is kept in {lost}")
+                self.say(f"went on; what was told before is kept in {near(lost)}")
             now = self.told_now(found, status)
             if now and not (found.told and (now.records, now.head) == (found.told.records, found.told.head)):
                 self.write_beside(self.told_path, now.text().encode())
         except (Refused, OSError) as why:
-            self.say(f"{self.told_path} doesn't say what this run told: {why}")
+            self.say(f"{near(self.told_path)} doesn't say what this run told: {why}")
 
     def told_now(self, found: Found, status: int) -> Optional[Told]:
         """What was told as the run ended: all that is in the journal. None where that is nothing."""
@@ -191,7 +191,7 @@ class Keeper:
         except OSError as why:
             remove(fresh)
             hint = "make room in the journal's folder, or see who may write there"
-            raise Refused(DISK_FAULT, f"{path} can't be written: {why.strerror}", hint) from None
+            raise Refused(DISK_FAULT, f"{near(path)} can't be written: {why.strerror}", hint) from None
 
 
 def changed_gate(end: End, followed: Followed, told: Optional[Told]) -> Optional[str]:

@@ -43,6 +43,12 @@ def path_of(real: str) -> str:
     return f"{real}.told"
 
 
+def near(path: str) -> str:
+    """A companion's path as a person here would write it."""
+    found = os.path.relpath(path)
+    return path if found.startswith("..") else found
+
+
 def read_told(path: str) -> Optional[Told]:
     """What a companion file says. None where there is none; refused where it is no such file."""
     try:
@@ -66,7 +72,7 @@ def read_told(path: str) -> Optional[Told]:
 
 def unread(path: str, why: str) -> Refused:
     hint = "put it back from a copy, or go on without it: --accept-loss"
-    return Refused(LOST, f"{path}, which keeps what was told of the journal, can't be read: {why}", hint)
+    return Refused(LOST, f"{near(path)}, which keeps what was told of the journal, can't be read: {why}", hint)
 
 
 # ---- whether it is there
