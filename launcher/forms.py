@@ -55,8 +55,13 @@ OWN = [
         "prints each step of a journal: its place, client, command and reply",
         "./ucon log door.journal --from 100",
     ),
-    Form("policy JOURNAL", "prints the policy that is in force in a journal", "./ucon policy door.journal"),
+    Form("policy JOURNAL [--first]", "prints the policy in force in a journal, or the one that it began with", "./ucon policy door.journal"),
     Form("copy JOURNAL NEW", "makes a copy that is whole, also while the journal is written", "./ucon copy door.journal backup.journal"),
+    Form(
+        "amend JOURNAL FILE [--dry-run] [--drop NAME ..]",
+        "puts the policy of a file in force, tried on a copy first, and says who is revoked",
+        "./ucon amend door.journal new.policy --dry-run",
+    ),
     Form("--help", "this page", ""),
     Form("--version", "the commit, and the kit that it is proved with", ""),
 ]

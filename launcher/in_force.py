@@ -1,5 +1,5 @@
 """`ucon policy JOURNAL`: the text of the policy in force: that of record 0, or of the last `amend`. Each one in a journal was answered `ok`
-and changed the policy, since a step that is refused has no record."""
+and changed the policy, since a step that is refused has no record. With `--first` it is that of record 0, which documents begin with."""
 from typing import NamedTuple
 
 from launcher.journal import NO_JOURNAL, Damaged, Journal, Refused, open_journal, step_of
@@ -38,9 +38,10 @@ def amended(journal: Journal, number: int, at: int, payload: bytes) -> bytes:
     return step.command[len(AMENDS) - 2 :]
 
 
-def run(path: str) -> int:
+def run(path: str, is_first: bool) -> int:
     """Prints the text: of record 0 to the byte, and an amendment, which is one line, with a newline behind it."""
     with open_journal(path) as journal:
         found = in_force(journal)
-    write(found.text + (b"\n" if found.place else b""))
+        text = next(payload for _, payload in journal.walk()) if is_first else found.text
+    write(text + (b"\n" if found.place and not is_first else b""))
     return 0

@@ -7,7 +7,7 @@ import pathlib
 import signal
 import subprocess
 from types import FrameType
-from typing import List, NamedTuple, Optional, Tuple
+from typing import IO, List, NamedTuple, Optional, Tuple
 
 from launcher import lock, program
 from launcher.heads import Followed, follow, start
@@ -83,10 +83,11 @@ class Keeper:
     def say(self, line: str) -> None:
         self.said.append(f"ucon: {self.journal.name}: {line}\n")
 
-    def run(self, words: List[str], catches: bool) -> Ended:
+    def run(self, words: List[str], catches: bool, source: Optional[IO[bytes]] = None, output: Optional[IO[bytes]] = None) -> Ended:
+        """Runs the program over standard input and output, or other files."""
         found = self.looked_at()
         tail = self.keep_tail(found)
-        ended = started(words, self.held.file, catches)
+        ended = started(words, self.held.file, catches, source, output)
         if tail:
             self.say_cut(tail)
         if ended.status not in UNTOUCHED:
@@ -229,14 +230,16 @@ def remove(path: str) -> None:
 # ---- the program
 
 
-def started(words: List[str], kept_open: Optional[int], catches: bool) -> Ended:
+def started(
+    words: List[str], kept_open: Optional[int], catches: bool, source: Optional[IO[bytes]] = None, output: Optional[IO[bytes]] = None
+) -> Ended:
     """Runs the program, which inherits the lock. A signal that would end this process is passed on to it."""
     files = () if kept_open is None else (kept_open,)
     # The program has no handlers, and ends at each of these that isn't ignored; this process goes on until the program has ended.
     heard = [number for number in (signal.SIGINT, signal.SIGTERM, signal.SIGHUP) if signal.getsignal(number) != signal.SIG_IGN]
     before = {number: signal.signal(number, lambda *_: None) for number in heard}
     try:
-        ran = subprocess.Popen(words, stderr=subprocess.PIPE if catches else None, pass_fds=files)
+        ran = subprocess.Popen(words, stdin=source, stdout=output, stderr=subprocess.PIPE if catches else None, pass_fds=files)
 
         def pass_on(number: int, _: Optional[FrameType]) -> None:
             ran.send_signal(number)

@@ -40,8 +40,8 @@ def called(words: List[str]) -> Optional[Callable[[], int]]:
     asked = asked_of_log(words[1:]) if words[:1] == ["log"] else None
     if asked:
         return lambda: log.run(asked)
-    if words[:1] == ["policy"] and len(words) == 2 and is_path(words[1]):
-        return lambda: in_force.run(words[1])
+    if words[:1] == ["policy"] and words[2:] in ([], ["--first"]) and words[1:] and is_path(words[1]):
+        return lambda: in_force.run(words[1], words[2:] != [])
     if words[:1] == ["copy"] and len(words) == 3 and is_path(words[1]) and is_path(words[2]):
         return lambda: backup.run(words[1], words[2])
     return None
