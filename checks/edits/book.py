@@ -13,8 +13,9 @@ RESULTS = "results.tsv"
 
 # What a try comes to. WRITTEN: the check refuses the proof that is written for the real body, which doesn't rule out another one. LOST: that
 # proof names what the edit took away, which says less still. LIMIT: the check gave up at one of its limits. GATE: a run of the gate refused it
-# before the edit came here, and by which goal wasn't kept.
-REFUSED, WRITTEN, LOST, LIMIT, GATE, PROVED, BROKEN, UNTRIED = "refused", "written", "lost", "limit", "gate", "proved", "broken", "untried"
+# before the edit came here, and by which goal wasn't kept. HAND: it was refused as it was planted by hand, before it was an edit.
+REFUSED, WRITTEN, LOST, LIMIT, GATE, HAND = "refused", "written", "lost", "limit", "gate", "hand"
+PROVED, BROKEN, UNTRIED = "proved", "broken", "untried"
 
 
 class Edit(NamedTuple):
@@ -78,7 +79,7 @@ def results_of(crate: str, top: pathlib.Path = TOP) -> Dict[str, Result]:
     """What the crate's edits came to last, by their names."""
     file = top / "checks" / "edits" / crate / RESULTS
     rows = [line.split("\t") for line in file.read_text().splitlines()[1:]] if file.exists() else []
-    return {row[0]: Result(*[*row[1:], ""][:4]) for row in rows}
+    return {row[0]: Result(*[*row[1:], "", "", ""][:4]) for row in rows}
 
 
 def keep(crate: str, results: Dict[str, Result], top: pathlib.Path = TOP) -> None:

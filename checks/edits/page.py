@@ -4,7 +4,7 @@ import re
 from typing import Dict, List
 
 import book
-from book import BROKEN, GATE, LIMIT, LOST, PROVED, REFUSED, UNTRIED, WRITTEN, Edit, Result
+from book import BROKEN, GATE, HAND, LIMIT, LOST, PROVED, REFUSED, UNTRIED, WRITTEN, Edit, Result
 
 WORDS = {
     REFUSED: "refused",
@@ -12,6 +12,7 @@ WORDS = {
     LOST: "refused, as a proof names what is gone",
     LIMIT: "refused at a limit of the check",
     GATE: "refused in the gate",
+    HAND: "refused as planted by hand",
     PROVED: "proved",
     BROKEN: "broken",
     UNTRIED: "not tried",
@@ -29,6 +30,7 @@ KINDS = """
 - *As a proof names what is gone*: it says next to nothing.
 - *At a limit of the check*: it gave up before a verdict, which says less, too.
 - *In the gate*: a run of the gate refused it before it was moved here. By which goal wasn't kept.
+- *As planted by hand*: it was refused before it was an edit, over an earlier state of its crate, and perhaps in other words. The date is the last of those days.
 - *Harmless*: nothing can refuse it, for the reason that its file gives.
 """
 
@@ -41,7 +43,7 @@ def goal_of(result: Result) -> str:
 
 def row_of(edit: Edit, kept: Dict[str, Result], top: pathlib.Path) -> str:
     result = kept.get(edit.name, Result(UNTRIED, "", "", ""))
-    is_changed = result.commit and result.sum != book.sum_of(edit, top)
+    is_changed = result.kind != HAND and result.commit and result.sum != book.sum_of(edit, top)
     at = f"{result.commit}{', changed' if is_changed else ''}"
     words = f"harmless: {edit.harmless}" if edit.harmless and result.kind == PROVED else WORDS[result.kind]
     return f"| `{edit.name}` | {words} | {goal_of(result)} | {at} |"

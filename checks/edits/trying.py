@@ -31,7 +31,7 @@ def goal_of(said: str) -> str:
     if not found:
         return said
     goal = re.match(r"`([^`]*)`:", found[2]) or re.search(r"\(`([^`]*)`\)", found[2]) or re.search(r"`([^`]*)`", found[2])
-    known = "limit" if "`search` gave" in said else "false" if re.search(r"the goal fails|allow values at which", said) else ""
+    known = "limit" if "`search` gave" in said else "false" if re.search(r"All of that holds|the facts known there allow", said) else ""
     return f"{found[1]} {goal[1] if goal else found[2]}{f' ({known})' if known else ''}"
 
 
