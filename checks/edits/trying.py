@@ -1,4 +1,5 @@
 """Lays edits over a scratch copy of the repository and reads what the check says of each."""
+import contextlib
 import os
 import pathlib
 import re
@@ -62,7 +63,8 @@ def copy_to(room: pathlib.Path, top: pathlib.Path) -> None:
 
 
 def ran(words: List[str], folder: pathlib.Path, seconds: float, jobs: int) -> Tuple[int, str]:
-    """Runs a command of the kit within its time: its status and what it printed. Without an end by then it and its children are ended, and the status is -1."""
+    """Runs a command of the kit within its time: its status and what it printed. Without an end by then the status is -1. It and its children are
+    ended with this call, however that ends."""
     env = {**os.environ, "RT_JOBS": str(jobs)}
     how = {"stdin": subprocess.DEVNULL, "stdout": subprocess.PIPE, "stderr": subprocess.STDOUT, "text": True, "errors": "replace"}
     with subprocess.Popen(words, cwd=folder, env=env, start_new_session=True, **how) as started:
@@ -70,9 +72,16 @@ def ran(words: List[str], folder: pathlib.Path, seconds: float, jobs: int) -> Tu
             printed, _ = started.communicate(timeout=seconds)
             return started.returncode, printed
         except subprocess.TimeoutExpired:
-            os.killpg(started.pid, signal.SIGKILL)
-            printed, _ = started.communicate()
-            return -1, printed or ""
+            end(started.pid)
+            return -1, started.communicate()[0] or ""
+        except BaseException:
+            end(started.pid)
+            raise
+
+
+def end(group: int) -> None:
+    with contextlib.suppress(ProcessLookupError):
+        os.killpg(group, signal.SIGKILL)
 
 
 def prove(room: pathlib.Path, crate: str, jobs: int) -> None:
