@@ -52,6 +52,27 @@ def edits_of(crate: str, top: pathlib.Path = TOP, is_gates: bool = False) -> Lis
     return [Edit(crate, path) for path in sorted(folder.glob("*.edit"))]
 
 
+def misfit(edit: Edit, top: pathlib.Path = TOP) -> str:
+    """Why the edit can't be laid over its crate as it stands, or nothing where it can: each old text stands in its file exactly once, after the pairs before it."""
+    texts: Dict[str, str] = {}
+    name = old = ""
+    for line in edit.path.read_text().splitlines():
+        word, _, rest = line.partition(": ")
+        if word == "file":
+            name = rest.strip()
+            file = top / "crates" / edit.crate / name
+            if not file.is_file():
+                return f"there is no {name}"
+            texts.setdefault(name, file.read_text())
+        elif word == "old":
+            old = rest
+            if not name or texts[name].count(old) != 1:
+                return f"not once in {name}: {old.strip()}"
+        elif line.startswith("new:"):
+            texts[name] = texts[name].replace(old, line[len("new:") :].removeprefix(" "))
+    return "" if texts and old else "it names no text"
+
+
 def sum_of(edit: Edit, top: pathlib.Path = TOP) -> str:
     """A sum of the edit and of its crate's own sources, definitions and proofs."""
     return hashlib.sha256(sum_of_crate(edit.crate, top) + edit.path.read_bytes()).hexdigest()[:16]
