@@ -53,7 +53,8 @@ def edits_of(crate: str, top: pathlib.Path = TOP, is_gates: bool = False) -> Lis
 
 
 def misfit(edit: Edit, top: pathlib.Path = TOP) -> str:
-    """Why the edit can't be laid over its crate as it stands, or nothing where it can: each old text stands in its file exactly once, after the pairs before it."""
+    """Why the edit can't be laid over its crate as it stands, or nothing where it can: each old text stands in its file exactly once, after the
+    pairs before it."""
     texts: Dict[str, str] = {}
     name = old = ""
     for line in edit.path.read_text().splitlines():

@@ -1,6 +1,5 @@
 """Writes docs/planted-bugs.md: the edits, and what each came to when it was tried last. What stands under its last heading is kept as it is."""
 import pathlib
-import re
 from typing import Dict, List
 
 import book
@@ -71,8 +70,8 @@ def counted(top: pathlib.Path) -> str:
     kept = {crate: book.results_of(crate, top) for crate in every}
     kinds = [kept[it.crate][it.name].kind if it.name in kept[it.crate] else UNTRIED for it in others]
     numbers = ", ".join(f"{kinds.count(kind)} {words}" for kind, words in WORDS.items() if kind in kinds)
-    crates = len({it.crate for it in gates})
-    return f"\nThe gate has {len(gates)} edits, of {crates} crates. Here are {len(others)} more, of {len({it.crate for it in others})} crates: {numbers}.\n"
+    here, there = (len({it.crate for it in some}) for some in (others, gates))
+    return f"\nThe gate has {len(gates)} edits, of {there} crates. Here are {len(others)} more, of {here} crates: {numbers}.\n"
 
 
 def text_of(top: pathlib.Path, by_hand: str) -> str:

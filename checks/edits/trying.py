@@ -27,7 +27,8 @@ class Unproved(Exception):
 
 
 def goal_of(said: str) -> str:
-    """The file and the goal of a refusal, as the check's line names them, and what is known of it: that a value makes it false, or that the search gave up."""
+    """The file and the goal of a refusal, as the check's line names them, and what is known of it: that a value makes it false, or that the search
+    gave up."""
     found = re.match(r"(?:note: )?(?:\./)?(\S+?):\d+:\d+: (?:error: )?(.*)", said)
     if not found:
         return said
