@@ -1,96 +1,204 @@
 """Proves the crates and builds the program, saying how far it is."""
+import contextlib
+import fcntl
 import os
 import pathlib
-import re
 import subprocess
 import sys
-from typing import Dict, List
+import time
+from typing import Dict, Iterator, List, NamedTuple, Optional
 
-from launcher import program
+from launcher import program, sources
 
 LOG = program.TOP / "out" / "build.log"
+LOCK = program.TOP / "out" / "prove.lock"
 STAMP = program.MAIN / "out" / "built_by_ucon"
-TIMES = program.TOP / "docs" / "gate-times.md"
+TIMES = program.TOP / "docs" / "lab" / "cheap-proofs.md"
+# How long one crate may take, in seconds. The longest take some minutes.
+LONGEST = 2 * 3600
 
 
 def say(line: str) -> None:
     print(f"ucon: {line}", file=sys.stderr, flush=True)
 
 
-def crates_below(name: str) -> List[str]:
-    """The crates of the repository that this one stands on, lowest first, and then this one."""
-    deps: Dict[str, List[str]] = {}
-    for line in (program.TOP / "crates.txt").read_text().splitlines():
-        head, found, rest = line.partition("#")[0].partition(":")
-        if found:
-            deps[head.split()[0]] = rest.split()
-    order: List[str] = []
-
-    def visit(crate: str) -> None:
-        for dep in deps[crate]:
-            if dep in deps and dep not in order:
-                visit(dep)
-        order.append(crate)
-
-    visit(name)
-    return order
-
-
-def sources() -> List[pathlib.Path]:
-    """What the program is built from."""
-    folders = [program.TOP / "crates" / name / part for name in crates_below("ucon_main") for part in ("src", "specs", "proofs")]
-    return [program.TOP / "crates.txt", *(file for folder in folders for file in folder.rglob("*") if file.is_file())]
+# ---- whether it is there
 
 
 def is_built() -> bool:
-    """Whether the program is there, and nothing that it is built from is newer than it, or than its last build."""
-    built = program.path()
+    """Whether the program that is chosen, or else the proved one of these sources, is there."""
+    chosen = program.chosen()
+    return is_proved() if chosen is None else os.access(chosen, os.X_OK)
+
+
+def is_proved() -> bool:
+    """Whether the proved program is there: nothing that it is built from is newer than it, or than its last build, or it is stamped."""
+    built = program.proved()
     if not os.access(built, os.X_OK):
         return False
-    if "UCON_PROGRAM" in os.environ or not program.has_sources():
+    if not program.has_sources():
         return True
     made = max(mark.stat().st_mtime for mark in (built, STAMP) if mark.exists())
-    return all(file.stat().st_mtime <= made for file in sources())
+    return all(file.stat().st_mtime <= made for file in sources.as_proved()) or is_stamped()
 
 
-def how_long() -> str:
-    """The sentence of the page of gate times that says how long a first build takes."""
-    found = re.search(r"\*\*A first build\*\* (.*?)\.\s", TIMES.read_text(), re.S)
-    return " ".join(found.group(1).split()) if found else "takes a while"
+def is_stamped() -> bool:
+    """Whether `./ucon prove` made this very program, of these sources."""
+    try:
+        return STAMP.read_text() == stamp_of(sources.sum_of(sources.as_proved()))
+    except OSError:
+        return False
+
+
+def stamp_of(sum_of_sources: str) -> str:
+    return f"sources {sum_of_sources}\nprogram {sources.sum_of([program.proved()])}\n"
+
+
+# ---- how long it takes
+
+
+def minutes_of_crates() -> Dict[str, float]:
+    """By crate, the minutes of its proof in the table of the page of gate times. Empty where there is none."""
+    found: Dict[str, float] = {}
+    column: Optional[int] = None
+    for line in TIMES.read_text().splitlines() if TIMES.is_file() else []:
+        cells = [cell.strip(" `") for cell in line.split("|")[1:-1]]
+        if "crate" in cells and "proof" in cells:
+            column = cells.index("proof")
+        elif column is not None and len(cells) > column and cells[column].replace(".", "", 1).isdigit():
+            found.setdefault(cells[0], float(cells[column]))
+    return found
+
+
+class Pace(NamedTuple):
+    """How far a build is, by what the table of gate times gives each crate; one that isn't in it takes what they take on average."""
+
+    order: List[str]
+    minutes: Dict[str, float]
+
+    def share(self, crates: List[str]) -> float:
+        known = [self.minutes[name] for name in self.order if name in self.minutes]
+        average = sum(known) / len(known) if known else 1.0
+        return sum(self.minutes.get(name, average) for name in crates)
+
+    def left(self, done: int, seconds: float) -> str:
+        """What is left behind the first crates, which took so long."""
+        if not done:
+            return "up to an hour left, less where crates were proved here before"
+        left = seconds * self.share(self.order[done:]) / max(self.share(self.order[:done]), 0.1)
+        return f"{in_words(seconds)} so far, about {in_words(left)} left"
+
+
+def in_words(seconds: float) -> str:
+    if seconds < 90:
+        return f"{seconds:.0f} seconds"
+    return f"{seconds / 60:.0f} minutes"
+
+
+# ---- proving
+
+
+@contextlib.contextmanager
+def alone() -> Iterator[bool]:
+    """Holds off another `./ucon prove` of this checkout. Whether there is none."""
+    LOCK.parent.mkdir(exist_ok=True)
+    with open(LOCK, "w") as lock:
+        try:
+            fcntl.flock(lock, fcntl.LOCK_EX | fcntl.LOCK_NB)
+        except BlockingIOError:
+            yield False
+        else:
+            yield True
 
 
 def step(name: str, words: List[str], log) -> int:
     log.write(f"== {name}: {' '.join(words)}\n".encode())
     log.flush()
-    return subprocess.run(words, cwd=program.TOP / "crates" / name, stdin=subprocess.DEVNULL, stdout=log, stderr=log, check=False).returncode
+    tool = subprocess.Popen(words, cwd=program.TOP / "crates" / name, stdin=subprocess.DEVNULL, stdout=log, stderr=log)
+    try:
+        return tool.wait(LONGEST)
+    except subprocess.TimeoutExpired:
+        log.write(f"{name} took more than {LONGEST} seconds\n".encode())
+        log.flush()
+        return 1
+    finally:
+        end(tool)
 
 
-def build() -> bool:
-    """Proves each crate in turn and builds the program. Whether that went well."""
+def end(tool: "subprocess.Popen[bytes]") -> None:
+    """Ends rt, where it still runs: it ends what it started, if it is let."""
+    if tool.poll() is None:
+        tool.terminate()
+        try:
+            tool.wait(20)
+        except subprocess.TimeoutExpired:
+            tool.kill()
+            tool.wait()
+
+
+def prove() -> bool:
+    """Proves each crate in turn and builds the program, where that isn't done. Whether it is there then."""
     if not program.has_sources():
-        say(f"{program.path()} is not there; ./install of the repository puts it there")
+        say("prove needs the repository; this copy has the proved program")
         return False
+    if is_stamped():
+        say(f"the proved program of these sources is there: {program.proved()}")
+        return True
     if not program.is_command("rt"):
-        say("rt, the command of the Rattle kit, is not on the PATH")
+        say("rt, the command of the Rattle kit, is not on the PATH: put the kit's folder bin there")
         return False
-    order = crates_below("ucon_main")
+    try:
+        with alone() as is_alone, program.ended_by_signals():
+            if not is_alone:
+                say(f"another ./ucon prove is at work in this checkout; its log is {LOG}")
+            return is_alone and prove_all()
+    except KeyboardInterrupt:
+        say("what was proved so far is kept, and ./ucon prove goes on from there")
+        raise
+    except OSError as why:
+        say(f"proving needs to write below {program.TOP}: {why}")
+        return False
+
+
+def prove_all() -> bool:
+    order = sources.crates_below(sources.PROGRAM)
     jobs = ["--jobs", str(len(os.sched_getaffinity(0)))]
-    say(f"proving {len(order)} crates and building the program: a first build {how_long()} (docs/gate-times.md)")
-    say(f"its log is {LOG}; for a reply in about a minute, unproved: ./ucon quick FORM")
-    LOG.parent.mkdir(exist_ok=True)
+    pace = Pace(order, minutes_of_crates())
+    began, of_sources = time.time(), sources.sum_of(sources.as_proved())
+    say(f"proving {len(order)} crates and building the program; the log is {LOG}")
     with open(LOG, "wb") as log:
-        began = LOG.stat().st_mtime
-        for n, name in enumerate(order, 1):
-            say(f"{name}, {n} of {len(order)}")
-            # An empty document is accepted, so the program's own status is 0.
-            words = ["rt", "run", *jobs, "--", "check"] if name == "ucon_main" else ["rt", "lib", *jobs]
-            if step(name, words, log):
+        for n, name in enumerate(order):
+            say(f"{name}, {n + 1} of {len(order)}: {pace.left(n, time.time() - began)}")
+            if step(name, words_for(name, jobs), log):
                 return failed(name)
-    STAMP.parent.mkdir(exist_ok=True)
-    STAMP.write_text("")
-    # What was changed while it was being built is not in it.
-    os.utime(STAMP, (began, began))
-    return os.access(program.path(), os.X_OK) or failed("ucon_main")
+    if not os.access(program.proved(), os.X_OK):
+        return failed(sources.PROGRAM)
+    # A later change is newer than the program, also one that was made while it was being built.
+    os.utime(program.proved(), (began, began))
+    if sources.sum_of(sources.as_proved()) != of_sources:
+        say("the sources changed while they were being proved: ./ucon prove again proves what changed")
+        return False
+    stamp(of_sources, began)
+    say(f"proved and built in {in_words(time.time() - began)}; from now on ./ucon runs {program.proved()}")
+    return True
+
+
+def words_for(name: str, jobs: List[str]) -> List[str]:
+    if name != sources.PROGRAM:
+        return ["rt", "lib", *jobs]
+    # So that what stands there then is what is built now, whoever put something else there.
+    with contextlib.suppress(FileNotFoundError):
+        program.proved().unlink()
+    # An empty document is accepted, so the program's own status is 0.
+    return ["rt", "run", *jobs, "--", "check"]
+
+
+def stamp(of_sources: str, began: float) -> None:
+    """Notes of which sources the program is."""
+    fresh = STAMP.with_name(f".{STAMP.name}.{os.getpid()}")
+    fresh.write_text(stamp_of(of_sources))
+    os.utime(fresh, (began, began))
+    fresh.replace(STAMP)
 
 
 def failed(name: str) -> bool:

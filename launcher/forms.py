@@ -11,12 +11,11 @@ FAILED = 125
 
 
 class Form(NamedTuple):
-    """One form of the program's words. `keeps` says that it writes a file, which `quick` would lose."""
+    """One form of words."""
 
     words: str
     says: str
     example: str
-    keeps: bool = False
 
     @property
     def name(self) -> str:
@@ -28,19 +27,9 @@ KNOWN = [
     Form("trial", "runs the script under the policy, and prints a reply for each command", "./ucon trial < examples/first.ucon"),
     Form("check", "prints which core models of usage control each right makes", "./ucon check < examples/music.ucon"),
     Form("gen SEED SIZE", "draws SIZE commands from a number, runs them, and prints counts; reads nothing", "./ucon gen 1 1000"),
-    Form("play JOURNAL", "runs the script over a journal, a file that keeps each step", "./ucon play door.journal < door.ucon", keeps=True),
-    Form(
-        "serve JOURNAL",
-        "runs each client of the script in a thread of its own, over a journal",
-        "./ucon serve door.journal < door.ucon",
-        keeps=True,
-    ),
-    Form(
-        "point JOURNAL",
-        "adds a checkpoint to a journal, and runs no line of the script",
-        "./ucon point door.journal < door.ucon",
-        keeps=True,
-    ),
+    Form("play JOURNAL", "runs the script over a journal, a file that keeps each step", "./ucon play door.journal < door.ucon"),
+    Form("serve JOURNAL", "runs each client of the script in a thread of its own, over a journal", "./ucon serve door.journal < door.ucon"),
+    Form("point JOURNAL", "adds a checkpoint to a journal, and runs no line of the script", "./ucon point door.journal < door.ucon"),
 ]
 # Forms that the program doesn't have yet. A name goes from here when its form comes.
 COMING: Tuple[str, ...] = ()
@@ -48,11 +37,13 @@ FORMS = [form for form in KNOWN if form.name not in COMING]
 
 # What the launcher itself does.
 OWN = [
-    Form("quick FORM ..", "runs the program as it is written, unproved: a reply in about a minute", "./ucon quick trial < examples/first.ucon"),
     Form("test DIR ..", "runs each NAME.ucon of a folder, and compares with NAME.out", "./ucon test examples"),
+    Form("prove", "proves every crate below the program and builds it, about an hour; from then on that one is run", "./ucon prove"),
     Form("--help", "this page", ""),
-    Form("--version", "the commit, and the kit that it is proved with", ""),
+    Form("--version", "the commit, and whether the program that is run is the proved one", ""),
 ]
+# Words that there were once, and what stands in their place.
+GONE = {"quick": "`quick` is gone, since `./ucon FORM` is as quick: where no proved program is built, the program as it is written is compiled once and kept"}
 
 
 def is_decimal(word: str, least: int, greatest: int) -> bool:
@@ -92,12 +83,13 @@ def in_place(example: str) -> str:
 
 
 def own_forms() -> List[Form]:
-    """What the launcher does here: an installed copy has no sources for `quick`."""
-    return [form for form in OWN if program.has_sources() or form.name != "quick"]
+    """What the launcher does here: an installed copy has no sources to prove."""
+    return [form for form in OWN if program.has_sources() or form.name != "prove"]
 
 
 OF_SOURCES = """\
-Where the program isn't built, or its sources are newer, every crate below it is proved and the program is built first.
+Where no proved program is built, or its sources changed, the program as it is written is compiled once, in about a minute, and kept
+below out/; then a line on standard error says so.
 Pages: docs/policy-language.md, docs/commands.md, docs/errors.md, docs/grammar.md; the manual page: man docs/ucon.1
 """
 INSTALLED = "The manual page: man ucon\n"
@@ -123,19 +115,25 @@ def usage_hint(words: List[str]) -> str:
         why = f"`{first}` takes no further words: its document comes on standard input, as in {in_place(near.example)}"
     elif near:
         why = f"the form is `{near.words}`, as in {in_place(near.example)}"
+    elif first in GONE:
+        why = GONE[first]
     else:
         why = f"`{first}` is no form"
     return f"hint: {why}\nhint: the forms are {names}; --help tells of each\n"
 
 
-def version_text() -> str:
+def commit_text() -> str:
+    """The commit that the launcher is of, as far as it is known."""
     kept = program.TOP / "version"
     if kept.is_file():
-        return kept.read_text()
+        return kept.read_text().split(", ")[1]
     ran = subprocess.run(
         ["git", "-C", str(program.TOP), "describe", "--always", "--dirty"], stdout=subprocess.PIPE, stderr=subprocess.DEVNULL, check=False
     ) if program.is_command("git") else None
-    commit = ran.stdout.decode().strip() if ran and ran.returncode == 0 else "unknown"
-    readme = (program.TOP / "README.md").read_text()
-    kit = re.search(r"Proved with `(.*?)`", readme)
-    return f"ucon, commit {commit}, proved with {kit.group(1) if kit else 'an unknown kit'}\n"
+    return f"commit {ran.stdout.decode().strip() if ran and ran.returncode == 0 else 'unknown'}"
+
+
+def kit_text() -> str:
+    """The kit that the program is proved with, as the README says."""
+    kit = re.search(r"Proved with `(.*?)`", (program.TOP / "README.md").read_text())
+    return kit.group(1) if kit else "an unknown kit"

@@ -1,4 +1,5 @@
 """Where the program is, and how it is run."""
+import contextlib
 import os
 import pathlib
 import shutil
@@ -6,7 +7,7 @@ import signal
 import stat
 import subprocess
 import sys
-from typing import List, NamedTuple, Optional
+from typing import Iterator, List, NamedTuple, Optional
 
 TOP = pathlib.Path(__file__).resolve().parent.parent
 MAIN = TOP / "crates" / "ucon_main"
@@ -21,12 +22,20 @@ def is_command(name: str) -> bool:
     return shutil.which(name) is not None
 
 
-def path() -> pathlib.Path:
-    """Where the program stands once it is built."""
-    chosen = os.environ.get("UCON_PROGRAM")
-    if chosen:
-        return pathlib.Path(chosen).resolve()
+def chosen() -> Optional[pathlib.Path]:
+    """The program that UCON_PROGRAM names."""
+    named = os.environ.get("UCON_PROGRAM")
+    return pathlib.Path(named).resolve() if named else None
+
+
+def proved() -> pathlib.Path:
+    """Where the proved program stands once it is built."""
     return MAIN / "out" / "ucon_main" if has_sources() else TOP / "ucon_main"
+
+
+def path() -> pathlib.Path:
+    """The program that was chosen, and else where the proved one stands once it is built."""
+    return chosen() or proved()
 
 
 class Input(NamedTuple):
@@ -73,13 +82,13 @@ def ended_as(returncode: int) -> int:
     return returncode if returncode >= 0 else 128 - returncode
 
 
-def run_kept(words: List[str]) -> Ended:
-    """Runs the program over this standard input and output, and keeps what it says on standard error."""
+def run_kept(path_of_program: pathlib.Path, words: List[str]) -> Ended:
+    """Runs a program over this standard input and output, and keeps what it says on standard error."""
     before = signal.signal(signal.SIGINT, signal.SIG_IGN)
     try:
         # The program itself still ends at Ctrl-C.
         ran = subprocess.Popen(
-            [str(path()), *words], stderr=subprocess.PIPE, preexec_fn=lambda: signal.signal(signal.SIGINT, signal.SIG_DFL)
+            [str(path_of_program), *words], stderr=subprocess.PIPE, preexec_fn=lambda: signal.signal(signal.SIGINT, signal.SIG_DFL)
         )
         errors = ran.communicate()[1]
     finally:
@@ -87,8 +96,23 @@ def run_kept(words: List[str]) -> Ended:
     return Ended(ended_as(ran.returncode), errors)
 
 
-def become(words: List[str]) -> None:
-    """Goes on as the program. Nothing stands behind what it says."""
+def become(path_of_program: pathlib.Path, words: List[str]) -> None:
+    """Goes on as a program. Nothing stands behind what it says."""
     sys.stdout.flush()
     sys.stderr.flush()
-    os.execv(str(path()), [str(path()), *words])
+    os.execv(str(path_of_program), [str(path_of_program), *words])
+
+
+@contextlib.contextmanager
+def ended_by_signals() -> Iterator[None]:
+    """Lets SIGTERM and SIGHUP end this call as Ctrl-C does, so that nothing stays behind."""
+
+    def end(number: int, _: object) -> None:
+        raise SystemExit(128 + number)
+
+    before = {it: signal.signal(it, end) for it in (signal.SIGTERM, signal.SIGHUP)}
+    try:
+        yield
+    finally:
+        for it, handler in before.items():
+            signal.signal(it, handler)

@@ -9,10 +9,20 @@ import difflib
 import pathlib
 import subprocess
 import sys
-from typing import Callable, Iterator, List, NamedTuple, Optional
+from typing import Iterator, List, NamedTuple, Optional
 
-from launcher import program, quick
-from launcher.quick import Answer
+from launcher import program
+
+# How long one test may take, in seconds.
+LONGEST = 120
+# The status of one that took longer.
+TOO_LONG = 124
+
+
+class Answer(NamedTuple):
+    status: int
+    output: bytes
+    errors: bytes
 
 
 class Case(NamedTuple):
@@ -28,25 +38,14 @@ class Case(NamedTuple):
         return ["trial"] if given is None else given.decode().split()
 
 
-Runner = Callable[[List[Case]], List[Answer]]
-
-
-def proved(cases: List[Case]) -> List[Answer]:
-    return [answer(case) for case in cases]
-
-
-def answer(case: Case) -> Answer:
+def answer(path_of_program: pathlib.Path, case: Case) -> Answer:
+    words = [str(path_of_program), *case.words]
     with open(case.path, "rb") as document:
-        ran = subprocess.run(
-            [str(program.path()), *case.words], stdin=document, stdout=subprocess.PIPE, stderr=subprocess.PIPE, check=False
-        )
+        try:
+            ran = subprocess.run(words, stdin=document, stdout=subprocess.PIPE, stderr=subprocess.PIPE, check=False, timeout=LONGEST)
+        except subprocess.TimeoutExpired as late:
+            return Answer(TOO_LONG, late.stdout or b"", b"it was ended after %d seconds\n" % LONGEST)
     return Answer(program.ended_as(ran.returncode), ran.stdout, ran.stderr)
-
-
-def tried(cases: List[Case]) -> List[Answer]:
-    answers = quick.run_all([(case.path.read_bytes(), case.words) for case in cases])
-    quick.say_unproved()
-    return answers
 
 
 def lines(text: bytes) -> List[str]:
@@ -75,14 +74,14 @@ def differences(case: Case, got: Answer) -> Iterator[str]:
         yield f"status {wanted} is wanted, and {got.status} came\n"
 
 
-def run(folders: List[str], runner: Runner) -> int:
-    """Runs all tests of these folders. 1 where one failed, or there was none."""
+def run(folders: List[str], path_of_program: pathlib.Path) -> int:
+    """Runs all tests of these folders over a program. 1 where one failed, or there was none."""
     cases = [Case(path) for folder in folders for path in sorted(pathlib.Path(folder).glob("*.ucon"))]
     if not cases:
         print(f"ucon: no NAME.ucon stands in {' '.join(folders)}", file=sys.stderr)
     failed = 0
-    for case, got in zip(cases, runner(cases) if cases else []):
-        found = "".join(differences(case, got))
+    for case in cases:
+        found = "".join(differences(case, answer(path_of_program, case)))
         failed += found != ""
         sys.stdout.write(found and f"FAILED {case.path}\n{found}")
     print(f"{len(cases) - failed} passed, {failed} failed")

@@ -1,0 +1,85 @@
+"""Which program a call runs: the one that UCON_PROGRAM names, the proved one, or else the program as it is written."""
+import enum
+import os
+import pathlib
+import sys
+from typing import NamedTuple, Optional
+
+from launcher import build, forms, kit, program, written
+
+
+class Kind(enum.Enum):
+    """What is known of a program."""
+
+    CHOSEN = "named by UCON_PROGRAM"
+    PROVED = "proved"
+    WRITTEN = "as written, not proved"
+
+
+class Found(NamedTuple):
+    """A program that can be run."""
+
+    kind: Kind
+    path: pathlib.Path
+
+
+PROVES = "`./ucon prove` proves and builds it, about an hour"
+PROVES_AGAIN = "the sources changed since the proof; `./ucon prove` proves and builds what changed"
+# The signals by which a check that fails ends the program as it is written.
+CHECK_FAILED = (128 + 4, 128 + 5)
+
+
+def is_there() -> Optional[Found]:
+    """The program to be run. None where it has to be compiled, or proved, first."""
+    chosen = program.chosen()
+    if chosen:
+        return Found(Kind.CHOSEN, chosen) if os.access(chosen, os.X_OK) and chosen.is_file() else None
+    if build.is_proved():
+        return Found(Kind.PROVED, program.proved())
+    kept = written.kept() if program.has_sources() else None
+    return Found(Kind.WRITTEN, kept) if kept else None
+
+
+def find() -> Found:
+    """The program to be run, compiled as it is written where there is none. Fails by `kit.Failed`."""
+    found = is_there()
+    if found:
+        return found
+    chosen = program.chosen()
+    if chosen:
+        raise kit.Failed(f"{chosen}, which UCON_PROGRAM names, is no program that can be run")
+    if not program.has_sources():
+        raise kit.Failed(f"{program.proved()} is not there; ./install of the repository puts it there")
+    return Found(Kind.WRITTEN, written.make())
+
+
+def why_unproved() -> str:
+    """What to do about a program that isn't proved."""
+    return PROVES_AGAIN if os.access(program.proved(), os.X_OK) else PROVES
+
+
+def say(found: Found) -> None:
+    """Says on standard error what is run, where it isn't proved."""
+    if found.kind is Kind.WRITTEN:
+        print(f"ucon: {found.kind.value}: {why_unproved()}", file=sys.stderr, flush=True)
+
+
+def say_check_failed(found: Found, status: int) -> None:
+    if found.kind is Kind.WRITTEN and status in CHECK_FAILED:
+        print("ucon: the program stopped at one of its own checks; no proved program does, so this is a fault of its code", file=sys.stderr)
+
+
+def proved_text() -> str:
+    """What `--version` says of the proved program."""
+    return f"ucon, {forms.commit_text()}, {Kind.PROVED.value} with {forms.kit_text()}\n"
+
+
+def version_text() -> str:
+    """The commit, and which program is run."""
+    found = is_there()
+    if program.chosen():
+        is_missing = "" if found else ", which isn't there"
+        return f"ucon, {forms.commit_text()}, runs {program.chosen()} ({Kind.CHOSEN.value}){is_missing}\n"
+    if program.has_sources() and not (found and found.kind is Kind.PROVED):
+        return f"ucon, {forms.commit_text()}, {Kind.WRITTEN.value}{'' if found else ' (nor compiled yet)'}: {why_unproved()}\n"
+    return proved_text() if program.has_sources() else (program.TOP / "version").read_text()
