@@ -19,7 +19,7 @@ WORDS = {
 BY_HAND = "\n## What no edit can be\n"
 HEAD = """# Wrong bodies, and what refuses them
 
-For who changes a crate, or asks what its contracts refuse. `checks/edits/run` writes all of this page but its last part, from the edits and from what each came to when it was tried last. So an edit's result is of the commit beside it; *changed* says that its crate's own files, or the edit, are others today.
+For who changes a crate, or asks what its contracts refuse. `checks/edits/run` writes all of this page but its last part. It takes the edits, and what each came to when it was tried last. So a result is of the commit beside it; *changed* says that its crate's own files, or the edit, are others today.
 
 An edit is a file that names a text in a crate and the text to lay over it. Those of the gate stand in `crates/NAME/must-fail`, and `rt ci` tries each of them. All others stand in `checks/edits/NAME`: try them for a crate that you changed, and all before a release.
 """
