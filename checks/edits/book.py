@@ -13,8 +13,9 @@ RESULTS = "results.tsv"
 
 # What a try comes to. WRITTEN: the check refuses the proof that is written for the real body, which doesn't rule out another one. LOST: that
 # proof names what the edit took away, which says less still. LIMIT: the check gave up at one of its limits. GATE: a run of the gate refused it
-# before the edit came here, and by which goal wasn't kept.
-REFUSED, WRITTEN, LOST, LIMIT, GATE, PROVED, BROKEN, UNTRIED = "refused", "written", "lost", "limit", "gate", "proved", "broken", "untried"
+# before the edit came here, and by which goal wasn't kept. HAND: it was refused as it was planted by hand, before it was an edit.
+REFUSED, WRITTEN, LOST, LIMIT, GATE, HAND = "refused", "written", "lost", "limit", "gate", "hand"
+PROVED, BROKEN, UNTRIED = "proved", "broken", "untried"
 
 
 class Edit(NamedTuple):
@@ -51,6 +52,28 @@ def edits_of(crate: str, top: pathlib.Path = TOP, is_gates: bool = False) -> Lis
     return [Edit(crate, path) for path in sorted(folder.glob("*.edit"))]
 
 
+def misfit(edit: Edit, top: pathlib.Path = TOP) -> str:
+    """Why the edit can't be laid over its crate as it stands, or nothing where it can: each old text stands in its file exactly once, after the
+    pairs before it."""
+    texts: Dict[str, str] = {}
+    name = old = ""
+    for line in edit.path.read_text().splitlines():
+        word, _, rest = line.partition(": ")
+        if word == "file":
+            name = rest.strip()
+            file = top / "crates" / edit.crate / name
+            if not file.is_file():
+                return f"there is no {name}"
+            texts.setdefault(name, file.read_text())
+        elif word == "old":
+            old = rest
+            if not name or texts[name].count(old) != 1:
+                return f"not once in {name}: {old.strip()}"
+        elif line.startswith("new:"):
+            texts[name] = texts[name].replace(old, line[len("new:") :].removeprefix(" "))
+    return "" if texts and old else "it names no text"
+
+
 def sum_of(edit: Edit, top: pathlib.Path = TOP) -> str:
     """A sum of the edit and of its crate's own sources, definitions and proofs."""
     return hashlib.sha256(sum_of_crate(edit.crate, top) + edit.path.read_bytes()).hexdigest()[:16]
@@ -78,7 +101,7 @@ def results_of(crate: str, top: pathlib.Path = TOP) -> Dict[str, Result]:
     """What the crate's edits came to last, by their names."""
     file = top / "checks" / "edits" / crate / RESULTS
     rows = [line.split("\t") for line in file.read_text().splitlines()[1:]] if file.exists() else []
-    return {row[0]: Result(*[*row[1:], ""][:4]) for row in rows}
+    return {row[0]: Result(*[*row[1:], "", "", ""][:4]) for row in rows}
 
 
 def keep(crate: str, results: Dict[str, Result], top: pathlib.Path = TOP) -> None:

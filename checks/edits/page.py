@@ -1,10 +1,9 @@
 """Writes docs/planted-bugs.md: the edits, and what each came to when it was tried last. What stands under its last heading is kept as it is."""
 import pathlib
-import re
 from typing import Dict, List
 
 import book
-from book import BROKEN, GATE, LIMIT, LOST, PROVED, REFUSED, UNTRIED, WRITTEN, Edit, Result
+from book import BROKEN, GATE, HAND, LIMIT, LOST, PROVED, REFUSED, UNTRIED, WRITTEN, Edit, Result
 
 WORDS = {
     REFUSED: "refused",
@@ -12,6 +11,7 @@ WORDS = {
     LOST: "refused, as a proof names what is gone",
     LIMIT: "refused at a limit of the check",
     GATE: "refused in the gate",
+    HAND: "refused as planted by hand",
     PROVED: "proved",
     BROKEN: "broken",
     UNTRIED: "not tried",
@@ -19,7 +19,7 @@ WORDS = {
 BY_HAND = "\n## What no edit can be\n"
 HEAD = """# Wrong bodies, and what refuses them
 
-For who changes a crate, or asks what its contracts refuse. `checks/edits/run` writes all of this page but its last part, from the edits and from what each came to when it was tried last. So an edit's result is of the commit beside it; *changed* says that its crate's own files, or the edit, are others today.
+For who changes a crate, or asks what its contracts refuse. `checks/edits/run` writes all of this page but its last part. It takes the edits, and what each came to when it was tried last. So a result is of the commit beside it; *changed* says that its crate's own files, or the edit, are others today.
 
 An edit is a file that names a text in a crate and the text to lay over it. Those of the gate stand in `crates/NAME/must-fail`, and `rt ci` tries each of them. All others stand in `checks/edits/NAME`: try them for a crate that you changed, and all before a release.
 """
@@ -29,6 +29,7 @@ KINDS = """
 - *As a proof names what is gone*: it says next to nothing.
 - *At a limit of the check*: it gave up before a verdict, which says less, too.
 - *In the gate*: a run of the gate refused it before it was moved here. By which goal wasn't kept.
+- *As planted by hand*: it was refused before it was an edit, over an earlier state of its crate, and perhaps in other words. The date is the last of those days.
 - *Harmless*: nothing can refuse it, for the reason that its file gives.
 """
 
@@ -41,7 +42,7 @@ def goal_of(result: Result) -> str:
 
 def row_of(edit: Edit, kept: Dict[str, Result], top: pathlib.Path) -> str:
     result = kept.get(edit.name, Result(UNTRIED, "", "", ""))
-    is_changed = result.commit and result.sum != book.sum_of(edit, top)
+    is_changed = result.kind != HAND and result.commit and result.sum != book.sum_of(edit, top)
     at = f"{result.commit}{', changed' if is_changed else ''}"
     words = f"harmless: {edit.harmless}" if edit.harmless and result.kind == PROVED else WORDS[result.kind]
     return f"| `{edit.name}` | {words} | {goal_of(result)} | {at} |"
@@ -69,8 +70,8 @@ def counted(top: pathlib.Path) -> str:
     kept = {crate: book.results_of(crate, top) for crate in every}
     kinds = [kept[it.crate][it.name].kind if it.name in kept[it.crate] else UNTRIED for it in others]
     numbers = ", ".join(f"{kinds.count(kind)} {words}" for kind, words in WORDS.items() if kind in kinds)
-    crates = len({it.crate for it in gates})
-    return f"\nThe gate has {len(gates)} edits, of {crates} crates. Here are {len(others)} more, of {len({it.crate for it in others})} crates: {numbers}.\n"
+    here, there = (len({it.crate for it in some}) for some in (others, gates))
+    return f"\nThe gate has {len(gates)} edits, of {there} crates. Here are {len(others)} more, of {here} crates: {numbers}.\n"
 
 
 def text_of(top: pathlib.Path, by_hand: str) -> str:

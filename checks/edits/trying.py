@@ -1,4 +1,5 @@
 """Lays edits over a scratch copy of the repository and reads what the check says of each."""
+import contextlib
 import os
 import pathlib
 import re
@@ -26,12 +27,13 @@ class Unproved(Exception):
 
 
 def goal_of(said: str) -> str:
-    """The file and the goal of a refusal, as the check's line names them, and what is known of it: that a value makes it false, or that the search gave up."""
+    """The file and the goal of a refusal, as the check's line names them, and what is known of it: that a value makes it false, or that the search
+    gave up."""
     found = re.match(r"(?:note: )?(?:\./)?(\S+?):\d+:\d+: (?:error: )?(.*)", said)
     if not found:
         return said
     goal = re.match(r"`([^`]*)`:", found[2]) or re.search(r"\(`([^`]*)`\)", found[2]) or re.search(r"`([^`]*)`", found[2])
-    known = "limit" if "gave up at one of its limit" in said else "false" if re.search(r"the goal fails|allow values at which", said) else ""
+    known = "limit" if "`search` gave" in said else "false" if re.search(r"All of that holds|the facts known there allow", said) else ""
     return f"{found[1]} {goal[1] if goal else found[2]}{f' ({known})' if known else ''}"
 
 
@@ -62,7 +64,8 @@ def copy_to(room: pathlib.Path, top: pathlib.Path) -> None:
 
 
 def ran(words: List[str], folder: pathlib.Path, seconds: float, jobs: int) -> Tuple[int, str]:
-    """Runs a command of the kit within its time: its status and what it printed. Without an end by then it and its children are ended, and the status is -1."""
+    """Runs a command of the kit within its time: its status and what it printed. Without an end by then the status is -1. It and its children are
+    ended with this call, however that ends."""
     env = {**os.environ, "RT_JOBS": str(jobs)}
     how = {"stdin": subprocess.DEVNULL, "stdout": subprocess.PIPE, "stderr": subprocess.STDOUT, "text": True, "errors": "replace"}
     with subprocess.Popen(words, cwd=folder, env=env, start_new_session=True, **how) as started:
@@ -70,9 +73,16 @@ def ran(words: List[str], folder: pathlib.Path, seconds: float, jobs: int) -> Tu
             printed, _ = started.communicate(timeout=seconds)
             return started.returncode, printed
         except subprocess.TimeoutExpired:
-            os.killpg(started.pid, signal.SIGKILL)
-            printed, _ = started.communicate()
-            return -1, printed or ""
+            end(started.pid)
+            return -1, started.communicate()[0] or ""
+        except BaseException:
+            end(started.pid)
+            raise
+
+
+def end(group: int) -> None:
+    with contextlib.suppress(ProcessLookupError):
+        os.killpg(group, signal.SIGKILL)
 
 
 def prove(room: pathlib.Path, crate: str, jobs: int) -> None:
