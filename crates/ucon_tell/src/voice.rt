@@ -1,6 +1,6 @@
 //! A sink that is written to beside a keeper.
 
-ghost use Rattle.std.specs.Prelude.{◌≡◌, ◌≤◌, ◌<◌, length, IfOk, Ok};
+ghost use Rattle.std.specs.Prelude.{◌≤◌, ◌<◌, length, IfOk};
 ghost use Rattle.std.specs.Io.KnownBytes.{WriteAppends};
 ghost use Rattle.ucon_flow.specs.Causes.{HasCause};
 ghost use Rattle.ucon_tell.specs.Seen.{VoiceSeen};
@@ -19,7 +19,6 @@ pub trait Voice<K: Keeper> {
     /// call. A voice over a real sink doesn't look at the keeper.
     fn write(&mut self, bytes: &[u8], keeper: &K) -> Result<usize, Failed>
         ensures bound { IfOk result (λ n. n ≤ length bytes.now) }
-        ensures empty { length bytes.now ≡ 0 → result ≡ Ok 0 }
         ensures some { IfOk result (λ n. 0 < length bytes.now → 0 < n) }
         ensures bytes { WriteAppends (seen self.old).contents (seen self.new).contents result bytes.now }
         ensures cause { HasCause (seen self.old).faults (seen self.new).faults result }
