@@ -1,6 +1,6 @@
 //! A keeper over a disk, a voice in memory, and what was told beside what a crash leaves.
-ghost use Rattle.std.specs.Prelude.{◌≡◌, ◌⊎◌, ◌≤◌, ◌<◌, ◌++◌, ◌^◌, ℕ, List, [], ◌∷◌, Some, length, map, codes, OnErr, OnOk};
-ghost use Rattle.ucon_lower_tests.specs.Keeping.{BeginsWith, IsAnswer, IsNoted, Keeps, KeepsOn, at_least, keeps_again, keeps_still, no_less};
+ghost use Rattle.std.specs.Prelude.{◌≡◌, ◌≤◌, ◌++◌, ℕ, List, [], ◌∷◌, length, codes, OnErr, OnOk};
+ghost use Rattle.ucon_lower_tests.specs.Keeping.{BeginsWith, IsAnswer, Keeps, KeepsOn, at_least, keeps_again, keeps_still, no_less, notes_in, page};
 
 use std::alloc::Global;
 use std::test::Fail;
@@ -104,7 +104,8 @@ impl Page {
     /// Adds bytes, and writes down that all of them were held by this moment.
     fn note(&mut self, bytes: &[u8], moment: u64) -> Result<(), NoMemory>
         ensures ok { OnOk result ((self.new.bytes.items ≡ self.old.bytes.items ++ bytes.now)
-            × (map (λ n. (n.bytes.items, n.moment)) self.new.notes.items ≡ map (λ n. (n.bytes.items, n.moment)) self.old.notes.items ++ (self.new.bytes.items, moment) ∷ [])) }
+            × (notes_in (λ n. n.bytes.items) (λ n. n.moment) self.new.notes.items
+            ≡ notes_in (λ n. n.bytes.items) (λ n. n.moment) self.old.notes.items ++ (self.new.bytes.items, moment) ∷ [])) }
         ensures err { OnErr result ((self.new.bytes.items ≡ self.old.bytes.items) × (self.new.notes.items ≡ self.old.notes.items)) }
         ensures faults { self.new.faults ≡ self.old.faults }
     {
@@ -121,11 +122,7 @@ impl Page {
 }
 
 impl Voice<Scribe<MemDisk>> for Page {
-    ghost seen = { λ v. record {
-      contents = Some v.bytes.items;
-      faults = v.faults;
-      told = IsNoted (map (λ n. (n.bytes.items, n.moment)) v.notes.items);
-    } };
+    ghost seen = { λ v. page v.bytes.items v.faults (notes_in (λ n. n.bytes.items) (λ n. n.moment) v.notes.items) };
 
     fn write(&mut self, bytes: &[u8], keeper: &Scribe<MemDisk>) -> Result<usize, Failed> {
         match self.note(bytes, keeper.disk.moment()) {

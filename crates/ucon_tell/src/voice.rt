@@ -1,6 +1,6 @@
 //! A sink that is written to beside a keeper.
 
-ghost use Rattle.std.specs.Prelude.{◌≤◌, ◌<◌, length, IfOk};
+ghost use Rattle.std.specs.Prelude.{◌≤◌, ◌<◌, length, IfOk, IfSome};
 ghost use Rattle.std.specs.Io.KnownBytes.{WriteAppends};
 ghost use Rattle.ucon_flow.specs.Causes.{HasCause};
 ghost use Rattle.ucon_tell.specs.Seen.{VoiceSeen};
@@ -22,5 +22,7 @@ pub trait Voice<K: Keeper> {
         ensures some { IfOk result (λ n. 0 < length bytes.now → 0 < n) }
         ensures bytes { WriteAppends (seen self.old).contents (seen self.new).contents result bytes.now }
         ensures cause { HasCause (seen self.old).faults (seen self.new).faults result }
+        // What it holds once it has taken them, where it tells, is told by the moment of the keeper's disk; nothing else is told.
+        ensures noted { IfOk result (λ _. IfSome (seen self.new).contents (λ all. (seen self.new).told all (K.seen keeper.now).moment)) }
         ensures notes { Notes (seen self.old) (seen self.new) (K.seen keeper.now).moment };
 }
