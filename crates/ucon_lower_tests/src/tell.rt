@@ -1,13 +1,13 @@
 //! A keeper over a disk, a voice in memory, and what was told beside what a crash leaves.
-ghost use Rattle.std.specs.Prelude.{◌≡◌, ◌⊎◌, ◌≤◌, ◌<◌, ◌++◌, ◌^◌, ℕ, List, Some, length, map, codes, OnOk};
-ghost use Rattle.ucon_lower_tests.specs.Keeping.{BeginsWith, IsAnswer, IsNoted, Keeps, KeepsOn, at_least, keeps_again, keeps_still, no_less};
+ghost use Rattle.std.specs.Prelude.{◌≡◌, ◌≤◌, ◌++◌, ℕ, List, [], ◌∷◌, length, codes, OnErr, OnOk};
+ghost use Rattle.ucon_lower_tests.specs.Keeping.{BeginsWith, IsAnswer, Keeps, KeepsOn, at_least, keeps_again, keeps_still, no_less, notes_in, page};
 
 use std::alloc::Global;
 use std::test::Fail;
 use ucon_base::NoMemory;
 use ucon_disk::{Disk, MemDisk};
 use ucon_flow::{Failed, LineReader, MemSource};
-use ucon_tell::{Keeper, Voice, talk, tell_all};
+use ucon_tell::{Keeper, TalkFault, Voice, talk, tell_all};
 
 /// Puts bytes on a disk behind the first `at`, where no more are there. They are there for good where it succeeds.
 fn put<D: Disk>(disk: &mut D, at: u64, bytes: &[u8]) -> Result<(), ucon_disk::Failed>
@@ -75,4 +75,150 @@ impl<D: Disk + Drop> Keeper for Scribe<D> {
         text.extend_from_slice(b"too long\n")?;
         Ok(())
     }
+}
+
+/// What a voice held by a moment.
+#[derive(Drop)]
+struct Note {
+    bytes: Vec<u8>,
+    moment: u64,
+}
+
+/// A voice in memory that writes down what it held when.
+#[derive(Drop)]
+struct Page {
+    bytes: Vec<u8>,
+    notes: Vec<Note>,
+    faults: u64,
+}
+
+impl Page {
+    fn new(alloc: Global) -> Page {
+        Page {
+            bytes: Vec::new(alloc),
+            notes: Vec::new(alloc),
+            faults: 0,
+        }
+    }
+
+    /// Adds bytes, and writes down that all of them were held by this moment.
+    fn note(&mut self, bytes: &[u8], moment: u64) -> Result<(), NoMemory>
+        ensures ok { OnOk result ((self.new.bytes.items ≡ self.old.bytes.items ++ bytes.now)
+            × (notes_in (λ n. n.bytes.items) (λ n. n.moment) self.new.notes.items
+            ≡ notes_in (λ n. n.bytes.items) (λ n. n.moment) self.old.notes.items ++ (self.new.bytes.items, moment) ∷ [])) }
+        ensures err { OnErr result ((self.new.bytes.items ≡ self.old.bytes.items) × (self.new.notes.items ≡ self.old.notes.items)) }
+        ensures faults { self.new.faults ≡ self.old.faults }
+    {
+        let mut all = self.bytes.clone()?;
+        all.extend_from_slice(bytes)?;
+        let held = all.clone()?;
+        self.notes.push(Note {
+            bytes: held,
+            moment,
+        })?;
+        self.bytes = all;
+        Ok(())
+    }
+}
+
+impl Voice<Scribe<MemDisk>> for Page {
+    ghost seen = { λ v. page v.bytes.items v.faults (notes_in (λ n. n.bytes.items) (λ n. n.moment) v.notes.items) };
+
+    fn write(&mut self, bytes: &[u8], keeper: &Scribe<MemDisk>) -> Result<usize, Failed> {
+        match self.note(bytes, keeper.disk.moment()) {
+            Ok(()) => Ok(bytes.len()),
+            Err(_) => {
+                self.faults = self.faults.saturating_add(1);
+                Err(Failed)
+            }
+        }
+    }
+}
+
+/// Twenty lines, of which two are too long with their newline.
+const LINES: &[&[u8]] = &[
+    b"a", b"bc", b"", b"def", b"ghij", b"klmno", b"pqrstu", b"vwxyzab", b"cdefghij", b"k", b"l", b"mn",
+    b"a line that is too long by far", b"o", b"pq", b"", b"r", b"s", b"t", b"u",
+];
+
+/// How many calls of the disk these take: three for each that is not too long.
+const CALLS: u64 = 54;
+
+/// The lines, and bytes without a newline.
+fn input(alloc: Global, faults: &[u64]) -> Result<MemSource, Fail> {
+    let mut bytes = Vec::new(alloc);
+    for line in LINES {
+        bytes.extend_from_slice(line)?;
+        bytes.push(b'\n')?;
+    }
+    bytes.extend_from_slice(b"rest")?;
+    Ok(MemSource::new(bytes, 7, Vec::from_slice(alloc, faults)?))
+}
+
+/// The lines to which `kept` was told, each with its newline.
+fn told(alloc: Global, page: &Page) -> Result<Vec<u8>, Fail> {
+    let mut all = Vec::new(alloc);
+    for (line, reply) in LINES.iter().zip(page.bytes.split(|b| *b == b'\n')) {
+        if reply == b"kept".as_slice() {
+            all.extend_from_slice(line)?;
+            all.push(b'\n')?;
+        }
+    }
+    Ok(all)
+}
+
+/// Whether each image of the disk begins with these bytes, whatever stands in its open places.
+fn is_found(disk: &MemDisk, told: &[u8]) -> Result<bool, Fail> {
+    for len in 0..200u64 {
+        for fill in [b"".as_slice(), b"????????????????????????????????".as_slice()] {
+            if let Some(image) = disk.image(len, fill).map_err(|_| "no memory")?
+                && !image.starts_with(told)
+            {
+                return Ok(false);
+            }
+        }
+    }
+    Ok(true)
+}
+
+#[test]
+fn what_was_told_is_found_behind_a_crash_at_any_call(rt: HostRuntime) -> Result<(), Fail> {
+    let alloc = rt.alloc();
+    for calls in 0..=CALLS {
+        let disk = MemDisk::new(alloc, Vec::new(alloc), Vec::new(alloc), Some(calls));
+        let mut keeper = Scribe {
+            disk,
+            kept: Vec::new(alloc),
+        };
+        let mut page = Page::new(alloc);
+        let mut input = input(alloc, &[])?;
+        let mut lines = LineReader::new(alloc, 8);
+        assert!(rt; talk(alloc, &mut keeper, &mut lines, &mut input, &mut page).is_ok());
+        let told = told(alloc, &page)?;
+        let replies = page.bytes.iter().filter(|b| **b == b'\n').count();
+        assert!(rt; replies == LINES.len() && keeper.kept.as_slice() == told.as_slice(), "{calls}");
+        assert!(rt; is_found(&keeper.disk, &told)?, "{calls}");
+        assert!(rt; calls < CALLS || keeper.disk.contents() == told.as_slice());
+    }
+    Ok(())
+}
+
+#[test]
+fn all_whole_lines_before_a_fault_are_answered_and_told(rt: HostRuntime) -> Result<(), Fail> {
+    let alloc = rt.alloc();
+    let disk = MemDisk::new(alloc, Vec::new(alloc), Vec::new(alloc), None);
+    let mut keeper = Scribe {
+        disk,
+        kept: Vec::new(alloc),
+    };
+    let mut page = Page::new(alloc);
+    assert!(rt; tell_all(&mut page, b"ready\n", &keeper).is_ok());
+    let mut input = input(alloc, &[1])?;
+    let mut lines = LineReader::new(alloc, 8);
+    let ended = talk(alloc, &mut keeper, &mut lines, &mut input, &mut page);
+    // The first seven bytes are three lines and one byte.
+    assert!(rt; ended == Err(TalkFault::SourceFault));
+    assert!(rt; page.bytes.as_slice() == b"ready\nkept\nkept\nkept\n".as_slice());
+    assert!(rt; keeper.kept.as_slice() == b"a\nbc\n\n".as_slice());
+    Ok(())
 }

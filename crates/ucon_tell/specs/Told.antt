@@ -3,10 +3,9 @@ use Rattle.std.specs.Prelude.{◌≡◌, ◌⊎◌, ℕ, List, ◌++◌, IfSome}
 use Rattle.ucon_flow.specs.Lines.{IsLine}
 use Rattle.ucon_tell.specs.Seen.{VoiceSeen}
 
--- After a write at this moment: what was told is told; what the sink holds now, where it tells, was told by this moment; and nothing else was.
+-- After a write at this moment: what was told is told, and nothing else was but what the sink holds now, where it tells, by this moment.
 pub record Notes (old new : VoiceSeen) (moment : ℕ) : Type 0 where
   pub kept : (b : List ℕ) (t : ℕ) → old.told b t → new.told b t
-  pub noted : IfSome new.contents (λ all. new.told all moment)
   pub nothing_else : (b : List ℕ) (t : ℕ) → new.told b t → old.told b t ⊎ ((t ≡ moment) × IfSome new.contents (λ all. b ≡ all))
 
 -- these bytes are a front of those

@@ -1,6 +1,6 @@
 //! A sink that is written to beside a keeper.
 
-ghost use Rattle.std.specs.Prelude.{◌≡◌, ◌≤◌, ◌<◌, length, IfOk, Ok};
+ghost use Rattle.std.specs.Prelude.{◌≤◌, ◌<◌, length, IfOk, IfSome};
 ghost use Rattle.std.specs.Io.KnownBytes.{WriteAppends};
 ghost use Rattle.ucon_flow.specs.Causes.{HasCause};
 ghost use Rattle.ucon_tell.specs.Seen.{VoiceSeen};
@@ -19,9 +19,10 @@ pub trait Voice<K: Keeper> {
     /// call. A voice over a real sink doesn't look at the keeper.
     fn write(&mut self, bytes: &[u8], keeper: &K) -> Result<usize, Failed>
         ensures bound { IfOk result (λ n. n ≤ length bytes.now) }
-        ensures empty { length bytes.now ≡ 0 → result ≡ Ok 0 }
         ensures some { IfOk result (λ n. 0 < length bytes.now → 0 < n) }
         ensures bytes { WriteAppends (seen self.old).contents (seen self.new).contents result bytes.now }
         ensures cause { HasCause (seen self.old).faults (seen self.new).faults result }
+        // What it holds once it has taken them, where it tells, is told by the moment of the keeper's disk; nothing else is told.
+        ensures noted { IfOk result (λ _. IfSome (seen self.new).contents (λ all. (seen self.new).told all (K.seen keeper.now).moment)) }
         ensures notes { Notes (seen self.old) (seen self.new) (K.seen keeper.now).moment };
 }
