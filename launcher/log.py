@@ -176,33 +176,30 @@ def escaped(lines: bytes) -> bytes:
 
 def run(asked: Asked) -> int:
     with open_journal(asked.path) as journal:
-        told = told_all(journal, asked)
-        while asked.follows and wait(journal, told.at):
-            told = told_all(journal, asked, told)
+        printed = print_all(journal, asked)
+        while asked.follows and wait(journal, printed.at):
+            printed = print_all(journal, asked, printed)
         if journal.magic():
-            say_cut_off(journal, told.at)
+            say_cut_off(journal, printed.at)
         else:
             sys.stderr.write(f"ucon: {journal.name} holds no record yet\n")
     return 0
 
 
-class Told(NamedTuple):
-    """Up to where the lines went out: the gate behind the last record."""
+class Printed(NamedTuple):
+    """Up to where the lines went out: the gate behind the last record, and the lines with what they know of sessions."""
 
     at: int
     lines: Lines
 
 
-def told_all(journal: Journal, asked: Asked, before: Optional[Told] = None) -> Told:
+def print_all(journal: Journal, asked: Asked, before: Optional[Printed] = None) -> Printed:
     """Prints the lines of all records behind those before."""
-    told = before or Told(FIRST_GATE, Lines(journal, asked))
-    if not journal.magic():
-        return told
-    at = told.at
-    for window in journal.windows(at, told.lines.records):
-        write(told.lines.of(window))
+    at, lines = before or Printed(FIRST_GATE, Lines(journal, asked))
+    for window in journal.windows(at, lines.records) if journal.magic() else ():
+        write(lines.of(window))
         at = window.at + window.gates[-1]
-    return Told(at, told.lines)
+    return Printed(at, lines)
 
 
 def write(lines: bytes) -> None:
@@ -235,6 +232,6 @@ def wait(journal: Journal, at: int) -> bool:
 def say_cut_off(journal: Journal, at: int) -> None:
     """Says what stands behind the last record, where an opening would cut it off."""
     end = journal.end(at)
-    if end.is_torn:
+    if end.is_torn and not (end.gate == 1 and end.has_whole):
         why = end.strange or "a write that is under way, or was never finished; an opening cuts them off"
         sys.stderr.write(f"ucon: {journal.name}: read up to byte {end.at}; {end.behind} bytes stand behind the last whole record: {why}\n")
