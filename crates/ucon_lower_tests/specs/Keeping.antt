@@ -161,10 +161,13 @@ page held faults ns = record { contents = Some held; faults = faults; told = IsN
 
 -- one note more
 pub page_notes : (a held : List ℕ) (f g : ℕ) (ns ms : List (List ℕ × ℕ)) (m moment : ℕ) → ms ≡ ns ++ (held, m) ∷ [] → m ≡ moment → Notes (page a f ns) (page held g ms) moment × IsNoted ms held moment
-page_notes a held f g ns ms m moment e at = (record {
-  kept = λ b t h. subst (λ (l : List (List ℕ × ℕ)). IsNoted l b t) (sym e) (noted_before ns (held, m) b t h);
-  nothing_else = λ b t h. ⊎_elim inl (λ (is : (t ≡ m) × (b ≡ held)). inr (is.0 ∙ at, is.1)) (noted_else ns (held, m) b t (subst (λ (l : List (List ℕ × ℕ)). IsNoted l b t) e h));
-}, subst (λ (l : List (List ℕ × ℕ)). IsNoted l held moment) (sym e) (subst (λ (t : ℕ). IsNoted (ns ++ (held, m) ∷ []) held t) at (noted_last ns (held, m))))
+page_notes a held f g ns ms m moment e at = (
+  record {
+    kept = λ b t h. subst (λ (l : List (List ℕ × ℕ)). IsNoted l b t) (sym e) (noted_before ns (held, m) b t h);
+    nothing_else = λ b t h. ⊎_elim inl (λ (is : (t ≡ m) × (b ≡ held)). inr (is.0 ∙ at, is.1)) (noted_else ns (held, m) b t (subst (λ (l : List (List ℕ × ℕ)). IsNoted l b t) e h));
+  },
+  subst (λ (l : List (List ℕ × ℕ)). IsNoted l held moment) (sym e) (subst (λ (t : ℕ). IsNoted (ns ++ (held, m) ∷ []) held t) at (noted_last ns (held, m))),
+)
 
 -- no note more
 pub page_still : (a b : List ℕ) (f g : ℕ) (ns ms : List (List ℕ × ℕ)) (moment : ℕ) → ms ≡ ns → Notes (page a f ns) (page b g ms) moment
