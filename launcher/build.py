@@ -12,7 +12,7 @@ from launcher import program, sources
 LOG = program.TOP / "out" / "build.log"
 LOCK = program.TOP / "out" / "prove.lock"
 STAMP = program.MAIN / "out" / "built_by_ucon"
-TIMES = program.TOP / "docs" / "gate-times.md"
+TIMES = program.TOP / "docs" / "lab" / "cheap-proofs.md"
 # How long one crate may take, in seconds. The longest take some minutes.
 LONGEST = 2 * 3600
 

@@ -42,6 +42,18 @@ OWN = [
     Form("test DIR ..", "runs each NAME.ucon of a folder, and compares with NAME.out", "./ucon test examples"),
     Form("lint FILE", "warns of what a policy does that may surprise; lint --strict ends with 1 then", "./ucon lint examples/music.ucon"),
     Form("prove", "proves every crate below the program and builds it, about an hour; from then on that one is run", "./ucon prove"),
+    Form(
+        "log JOURNAL [--from N] [--follow] [--json]",
+        "prints each step of a journal: its place, client, command and reply",
+        "./ucon log door.journal --from 100",
+    ),
+    Form("policy JOURNAL [--first]", "prints the policy in force in a journal, or the one that it began with", "./ucon policy door.journal"),
+    Form("copy JOURNAL NEW", "makes a copy that is whole, also while the journal is written", "./ucon copy door.journal backup.journal"),
+    Form(
+        "amend JOURNAL FILE [--dry-run] [--drop NAME ..]",
+        "puts the policy of a file in force, tried on a copy first, and says who is revoked",
+        "./ucon amend door.journal new.policy --dry-run",
+    ),
     Form("--help", "this page", ""),
     Form("--version", "the commit, and whether the program that is run is the proved one", ""),
 ]
@@ -77,7 +89,8 @@ def form_of(words: List[str]) -> Optional[Form]:
 
 def row(form: Form) -> str:
     example = f"{'':18}{in_place(form.example)}\n" if form.example else ""
-    return f"  {form.words:<16}{form.says}\n{example}"
+    words = f"{form.words:<15} " if len(form.words) < 16 else f"{form.words}\n{'':18}"
+    return f"  {words}{form.says}\n{example}"
 
 
 def in_place(example: str) -> str:
@@ -105,6 +118,8 @@ def help_text() -> str:
         "ucon: a usage control monitor. A document comes on standard input: a policy, a line %%, and a script.\n\n"
         f"{''.join(map(row, FORMS))}\n{''.join(map(row, own_forms()))}\n{OF_SOURCES if program.has_sources() else INSTALLED}"
         "After a fault of a document that is a file, the place, the line and a hint follow the program's own line.\n"
+        "A journal has one writer at a time, and what was told of it stands beside it, in JOURNAL.told. Where it lacks some of that, play,\n"
+        "serve and point are refused before anything is written; --accept-loss behind JOURNAL goes on with what is there.\n"
         "UCON_PROGRAM=FILE runs that program in place of the proved one.\n"
     )
 
