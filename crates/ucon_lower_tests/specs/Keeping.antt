@@ -1,14 +1,13 @@
 -- What a keeper has put on a disk, for a witness that a conversation's clauses can be met.
 use Rattle.std.proofs.Common.{◌≡◌, ◌⊎◌, inl, inr, ⊎_elim, ℕ, ◌+◌, ◌≤◌, ◌<◌, ◌^◌, List, [], ◌∷◌, ◌++◌, length, take, drop, min, Option, Some, None, refl, sym, ap, subst, ◌∙◌, arith, length-append}
-use Rattle.std.specs.Prelude.{IfSome, is_some, codes, map, true}
+use Rattle.std.specs.Prelude.{IfSome, is_some, codes, true}
 use Rattle.std.specs.Option.{option_map}
 use Rattle.std.proofs.Math.Seq.{take-append_seam}
 use Rattle.std.proofs.lemmas.List.{append-nil, drop_all, length-take, take_all, take-take}
 use Rattle.ucon_disk.specs.Disk.{Elapses, Follows, HasPlace, NoneNew, Only, SameImages, Torn, overwritten}
+use Rattle.ucon_disk.specs.Seen.{DiskSeen}
 use Rattle.ucon_disk.specs.Run.{LeavesOnly, goes_on, joined, started, weaker}
 use Rattle.ucon_flow.specs.Lines.{IsLine}
-use Rattle.ucon_tell.specs.Seen.{VoiceSeen}
-use Rattle.ucon_tell.specs.Told.{Notes}
 
 -- the file begins with these bytes
 abbrev pub BeginsWith : List ℕ → List ℕ → Type 0
@@ -37,45 +36,39 @@ lost_line = record { text = codes "lost"; bare = refl; line_is = refl }
 pub long_line : IsLine (codes "too long\n")
 long_line = record { text = codes "too long"; bare = refl; line_is = refl }
 
-module _ {D : Type 0} (contents : D → Option (List ℕ)) (images : D → List ℕ → Type 0) where
-  -- the disk tells its file, and a crash leaves only files that begin with these bytes
-  pub record Keeps (d : D) (kept : List ℕ) : Type 0 where
-    pub file : List ℕ
-    pub told : contents d ≡ Some file
-    pub each : (c : List ℕ) → images d c → BeginsWith kept c
+-- the disk tells its file, and a crash leaves only files that begin with these bytes
+pub record Keeps (disk : DiskSeen) (kept : List ℕ) : Type 0 where
+  pub file : List ℕ
+  pub told : disk.contents ≡ Some file
+  pub each : (c : List ℕ) → disk.images c → BeginsWith kept c
 
-module _ {D : Type 0} (contents : D → Option (List ℕ)) (images : D → List ℕ → Type 0) (moment : D → ℕ) (images_since : D → ℕ → List ℕ → Type 0) where
-  -- between these two a crash left only files that begin with the first bytes; the disk keeps the second, which begin with the first
-  pub record KeepsOn (x y : D) (old new : List ℕ) : Type 0 where
-    pub run : LeavesOnly moment images_since x y (BeginsWith old)
-    pub keeps : Keeps contents images y new
-    pub begun : BeginsWith old new
+-- between these two a crash left only files that begin with the first bytes; the disk keeps the second, which begin with the first
+pub record KeepsOn (x y : DiskSeen) (old new : List ℕ) : Type 0 where
+  pub run : LeavesOnly x y (BeginsWith old)
+  pub keeps : Keeps y new
+  pub begun : BeginsWith old new
 
-  pub keeps_still : ((d : D) (c : List ℕ) → images_since d (moment d) c → images d c) → (x : D) (kept : List ℕ) → Keeps contents images x kept → KeepsOn x x kept kept
-  keeps_still only x kept k = record {
-    run = started moment images_since x (BeginsWith kept) (λ c since. k.each c (only x c since));
-    keeps = k;
-    begun = begins_all kept;
-  }
+pub keeps_still : (x : DiskSeen) (kept : List ℕ) → ((c : List ℕ) → x.images_since x.moment c → x.images c) → Keeps x kept → KeepsOn x x kept kept
+keeps_still x kept only k = record {
+  run = started x (BeginsWith kept) (λ c since. k.each c (only c since));
+  keeps = k;
+  begun = begins_all kept;
+}
 
-  pub keeps_again : (x y z : D) (a b c : List ℕ) → KeepsOn x y a b → KeepsOn y z b c → KeepsOn x z a c
-  keeps_again x y z a b c p q = record {
-    run = joined moment images_since x y z (BeginsWith a) p.run (weaker moment images_since y z (BeginsWith b) (BeginsWith a) (λ file is. begins_trans a b file p.begun is) q.run);
-    keeps = q.keeps;
-    begun = begins_trans a b c p.begun q.begun;
-  }
+pub keeps_again : (x y z : DiskSeen) (a b c : List ℕ) → KeepsOn x y a b → KeepsOn y z b c → KeepsOn x z a c
+keeps_again x y z a b c p q = record {
+  run = joined x y z (BeginsWith a) p.run (weaker y z (BeginsWith b) (BeginsWith a) (λ file is. begins_trans a b file p.begun is) q.run);
+  keeps = q.keeps;
+  begun = begins_trans a b c p.begun q.begun;
+}
 
-  -- one call more, after which a crash leaves what begins so
-  pub keeps_call : (x y z : D) (a b : List ℕ) → KeepsOn x y a b → Elapses (moment y) (moment z) (images_since y) (images_since z) (images z) → Keeps contents images z b → KeepsOn x z a b
-  keeps_call x y z a b p time k = record {
-    run = goes_on moment images_since x y z (BeginsWith a) (images z) p.run time (λ file image. begins_trans a b file p.begun (k.each file image));
-    keeps = k;
-    begun = p.begun;
-  }
-
-  -- what is kept is kept beside more
-  pub keeps_more : (x y : D) (a b more : List ℕ) → KeepsOn x y a b → Keeps contents images y (b ++ more) → KeepsOn x y a (b ++ more)
-  keeps_more x y a b more p k = record { run = p.run; keeps = k; begun = begins_trans a b (b ++ more) p.begun (take-append_seam b more) }
+-- one call more, after which a crash leaves what begins so
+pub keeps_call : (x y z : DiskSeen) (a b : List ℕ) → KeepsOn x y a b → Elapses y.moment z.moment y.images_since z.images_since z.images → Keeps z b → KeepsOn x z a b
+keeps_call x y z a b p time k = record {
+  run = goes_on x y z (BeginsWith a) z.images p.run time (λ file image. begins_trans a b file p.begun (k.each file image));
+  keeps = k;
+  begun = p.begun;
+}
 
 -- ---- what calls leave
 
@@ -95,86 +88,40 @@ pub has_place : (o : Option (List ℕ)) (n at len : ℕ) → IfSome o (λ file. 
 has_place None n at len is same small short = tt
 has_place (Some file) n at len is same small short = (omega arith, omega arith)
 
-module _ {D : Type 0} (contents : D → Option (List ℕ)) (images : D → List ℕ → Type 0) where
-  pub looked : (y z : D) (kept : List ℕ) → Keeps contents images y kept → contents z ≡ contents y → SameImages (images y) (images z) → Keeps contents images z kept
-  looked y z kept k same images_are = record { file = k.file; told = same ∙ k.told; each = λ c image. k.each c (images_are.no_more c image) }
+pub looked : (y z : DiskSeen) (kept : List ℕ) → Keeps y kept → z.contents ≡ y.contents → SameImages y.images z.images → Keeps z kept
+looked y z kept k same images_are = record { file = k.file; told = same ∙ k.told; each = λ c image. k.each c (images_are.no_more c image) }
 
-  pub written : (y z : D) (kept : List ℕ) (at n : ℕ) → Keeps contents images y kept → at ≡ length kept → is_some (contents z) ≡ is_some (contents y) → Follows (Torn at n) (images y) (images z) → Keeps contents images z kept
-  written y z kept at n k place same follows =
-      let now = has_file (contents y) (contents z) k.file k.told same in
-      record {
-        file = now.0;
-        told = now.1;
-        each = λ c image.
-            let torn = follows c image in
-            let before : take at c ≡ take at torn.0 = torn.2.before in
-            sym (ap (λ (m : ℕ). take m c) place) ∙ (before ∙ (ap (λ (m : ℕ). take m torn.0) place ∙ k.each torn.0 torn.1));
-      }
+pub written : (y z : DiskSeen) (kept : List ℕ) (at n : ℕ) → Keeps y kept → at ≡ length kept → is_some z.contents ≡ is_some y.contents → Follows (Torn at n) y.images z.images → Keeps z kept
+written y z kept at n k place same follows =
+    let now = has_file y.contents z.contents k.file k.told same in
+    record {
+      file = now.0;
+      told = now.1;
+      each = λ c image.
+          let torn = follows c image in
+          let before : take at c ≡ take at torn.0 = torn.2.before in
+          sym (ap (λ (m : ℕ). take m c) place) ∙ (before ∙ (ap (λ (m : ℕ). take m torn.0) place ∙ k.each torn.0 torn.1));
+    }
 
-  pub synced : (y z : D) (kept : List ℕ) → Keeps contents images y kept → is_some (contents z) ≡ is_some (contents y) → NoneNew (images y) (images z) → Keeps contents images z kept
-  synced y z kept k same none = let now = has_file (contents y) (contents z) k.file k.told same in record { file = now.0; told = now.1; each = λ c image. k.each c (none c image) }
+pub synced : (y z : DiskSeen) (kept : List ℕ) → Keeps y kept → is_some z.contents ≡ is_some y.contents → NoneNew y.images z.images → Keeps z kept
+synced y z kept k same none = let now = has_file y.contents z.contents k.file k.told same in record { file = now.0; told = now.1; each = λ c image. k.each c (none c image) }
 
-  -- bytes that were written at the end, and synced
-  pub put_behind : (y z w : D) (kept bytes : List ℕ) (at : ℕ) → Keeps contents images y kept → IfSome (contents y) (images y) → IfSome (contents y) (λ file. at ≡ length file) → at ≡ length kept
-      → contents z ≡ option_map (overwritten at bytes) (contents y) → contents w ≡ contents z → Only (contents z) (images w) → Keeps contents images w (kept ++ bytes)
-  put_behind y z w kept bytes at k as_read end place wrote same only =
-      let in_file : images y k.file = if_some (contents y) k.file (images y) k.told as_read in
-      let long : at ≡ length k.file = if_some (contents y) k.file (λ (file : List ℕ). at ≡ length file) k.told end in
-      let all : k.file ≡ kept = sym (take_all (length kept) k.file (omega arith)) ∙ k.each k.file in_file in
-      let front : take at k.file ≡ kept = take_all at k.file (omega arith) ∙ all in
-      let nothing : drop (at + length bytes) k.file ≡ [] = drop_all (at + length bytes) k.file (omega arith) in
-      let over : overwritten at bytes k.file ≡ kept ++ bytes = ap (λ (l : List ℕ). (l ++ bytes) ++ drop (at + length bytes) k.file) front ∙ (ap (λ (l : List ℕ). (kept ++ bytes) ++ l) nothing ∙ append-nil (kept ++ bytes)) in
-      let now : contents z ≡ Some (kept ++ bytes) = wrote ∙ (ap (option_map (overwritten at bytes)) k.told ∙ ap (λ (l : List ℕ). Some l) over) in
-      record {
-        file = kept ++ bytes;
-        told = same ∙ now;
-        each = λ c image. subst (λ (file : List ℕ). BeginsWith (kept ++ bytes) file) (sym (only_file (contents z) (kept ++ bytes) (images w) now only c image)) (begins_all (kept ++ bytes));
-      }
-
--- ---- notes
-
--- one of the notes says that these bytes were held by this moment
-abbrev pub IsNoted : List (List ℕ × ℕ) → List ℕ → ℕ → Type 0
-IsNoted [] b t = ⊥
-IsNoted (n ∷ ns) b t = ((b ≡ n.0) × (t ≡ n.1)) ⊎ IsNoted ns b t
-
--- notes of any kind, by what they say
-abbrev pub notes_in : {N : Type 0} → (N → List ℕ) → (N → ℕ) → List N → List (List ℕ × ℕ)
-notes_in bytes moment ns = map {B = List ℕ × ℕ} (λ n. (bytes n, moment n)) ns
-
-pub noted_before : (ns : List (List ℕ × ℕ)) (n : List ℕ × ℕ) (b : List ℕ) (t : ℕ) → IsNoted ns b t → IsNoted (ns ++ n ∷ []) b t
-noted_before [] n b t h = absurd h
-noted_before (m ∷ ns) n b t h = ⊎_elim inl (λ (rest : IsNoted ns b t). inr (noted_before ns n b t rest)) h
-
-pub noted_last : (ns : List (List ℕ × ℕ)) (n : List ℕ × ℕ) → IsNoted (ns ++ n ∷ []) n.0 n.1
-noted_last [] n = inl (refl, refl)
-noted_last (m ∷ ns) n = inr (noted_last ns n)
-
-pub noted_else : (ns : List (List ℕ × ℕ)) (n : List ℕ × ℕ) (b : List ℕ) (t : ℕ) → IsNoted (ns ++ n ∷ []) b t → IsNoted ns b t ⊎ ((t ≡ n.1) × (b ≡ n.0))
-noted_else [] n b t h = ⊎_elim (λ (is : (b ≡ n.0) × (t ≡ n.1)). inr (is.1, is.0)) (λ (none : ⊥). absurd none) h
-noted_else (m ∷ ns) n b t h = ⊎_elim (λ (is : (b ≡ m.0) × (t ≡ m.1)). inl (inl is))
-    (λ (rest : IsNoted (ns ++ n ∷ []) b t). ⊎_elim (λ (in_rest : IsNoted ns b t). inl (inr in_rest)) (λ (is : (t ≡ n.1) × (b ≡ n.0)). inr is) (noted_else ns n b t rest)) h
-
--- what a voice in memory tells: what it holds, and its notes
-abbrev pub page : List ℕ → ℕ → List (List ℕ × ℕ) → VoiceSeen
-page held faults ns = record { contents = Some held; faults = faults; told = IsNoted ns }
-
--- one note more
-pub page_notes : (a held : List ℕ) (f g : ℕ) (ns ms : List (List ℕ × ℕ)) (m moment : ℕ) → ms ≡ ns ++ (held, m) ∷ [] → m ≡ moment → Notes (page a f ns) (page held g ms) moment × IsNoted ms held moment
-page_notes a held f g ns ms m moment e at = (
-  record {
-    kept = λ b t h. subst (λ (l : List (List ℕ × ℕ)). IsNoted l b t) (sym e) (noted_before ns (held, m) b t h);
-    nothing_else = λ b t h. ⊎_elim inl (λ (is : (t ≡ m) × (b ≡ held)). inr (is.0 ∙ at, is.1)) (noted_else ns (held, m) b t (subst (λ (l : List (List ℕ × ℕ)). IsNoted l b t) e h));
-  },
-  subst (λ (l : List (List ℕ × ℕ)). IsNoted l held moment) (sym e) (subst (λ (t : ℕ). IsNoted (ns ++ (held, m) ∷ []) held t) at (noted_last ns (held, m))),
-)
-
--- no note more
-pub page_still : (a b : List ℕ) (f g : ℕ) (ns ms : List (List ℕ × ℕ)) (moment : ℕ) → ms ≡ ns → Notes (page a f ns) (page b g ms) moment
-page_still a b f g ns ms moment e = record {
-  kept = λ c t h. subst (λ (l : List (List ℕ × ℕ)). IsNoted l c t) (sym e) h;
-  nothing_else = λ c t h. inl (subst (λ (l : List (List ℕ × ℕ)). IsNoted l c t) e h);
-}
+-- bytes that were written at the end, and synced
+pub put_behind : (y z w : DiskSeen) (kept bytes : List ℕ) (at : ℕ) → Keeps y kept → IfSome y.contents y.images → IfSome y.contents (λ file. at ≡ length file) → at ≡ length kept
+    → z.contents ≡ option_map (overwritten at bytes) y.contents → w.contents ≡ z.contents → Only z.contents w.images → Keeps w (kept ++ bytes)
+put_behind y z w kept bytes at k as_read end place wrote same only =
+    let in_file : y.images k.file = if_some y.contents k.file y.images k.told as_read in
+    let long : at ≡ length k.file = if_some y.contents k.file (λ (file : List ℕ). at ≡ length file) k.told end in
+    let all : k.file ≡ kept = sym (take_all (length kept) k.file (omega arith)) ∙ k.each k.file in_file in
+    let front : take at k.file ≡ kept = take_all at k.file (omega arith) ∙ all in
+    let nothing : drop (at + length bytes) k.file ≡ [] = drop_all (at + length bytes) k.file (omega arith) in
+    let over : overwritten at bytes k.file ≡ kept ++ bytes = ap (λ (l : List ℕ). (l ++ bytes) ++ drop (at + length bytes) k.file) front ∙ (ap (λ (l : List ℕ). (kept ++ bytes) ++ l) nothing ∙ append-nil (kept ++ bytes)) in
+    let now : z.contents ≡ Some (kept ++ bytes) = wrote ∙ (ap (option_map (overwritten at bytes)) k.told ∙ ap (λ (l : List ℕ). Some l) over) in
+    record {
+      file = kept ++ bytes;
+      told = same ∙ now;
+      each = λ c image. subst (λ (file : List ℕ). BeginsWith (kept ++ bytes) file) (sym (only_file z.contents (kept ++ bytes) w.images now only c image)) (begins_all (kept ++ bytes));
+    }
 
 -- ---- moments
 

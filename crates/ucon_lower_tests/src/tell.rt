@@ -1,6 +1,6 @@
-//! A keeper over a disk, a voice in memory, and what was told beside what a crash leaves.
-ghost use Rattle.std.specs.Prelude.{◌≡◌, ◌≤◌, ◌++◌, ℕ, List, [], ◌∷◌, length, codes, OnErr, OnOk};
-ghost use Rattle.ucon_lower_tests.specs.Keeping.{BeginsWith, IsAnswer, Keeps, KeepsOn, at_least, keeps_again, keeps_still, no_less, notes_in, page};
+//! A keeper over a disk, and what was told beside what a crash leaves.
+ghost use Rattle.std.specs.Prelude.{◌≡◌, ◌≤◌, ◌++◌, ℕ, List, None, length, codes, OnOk};
+ghost use Rattle.ucon_lower_tests.specs.Keeping.{BeginsWith, IsAnswer, Keeps, KeepsOn, at_least, keeps_again, keeps_still, no_less};
 
 use std::alloc::Global;
 use std::test::Fail;
@@ -11,10 +11,9 @@ use ucon_tell::{Keeper, TalkFault, Voice, talk, tell_all};
 
 /// Puts bytes on a disk behind the first `at`, where no more are there. They are there for good where it succeeds.
 fn put<D: Disk>(disk: &mut D, at: u64, bytes: &[u8]) -> Result<(), ucon_disk::Failed>
-    ensures later { D.moment disk.old ≤ D.moment disk.new }
-    ensures keeps { (kept : List ℕ) → at ≡ length kept → Keeps D.contents D.images disk.old kept
-        → KeepsOn D.contents D.images D.moment D.images_since disk.old disk.new kept kept }
-    ensures put { OnOk result ((kept : List ℕ) → at ≡ length kept → Keeps D.contents D.images disk.old kept → Keeps D.contents D.images disk.new (kept ++ bytes.now)) }
+    ensures later { (D.seen disk.old).moment ≤ (D.seen disk.new).moment }
+    ensures keeps { (kept : List ℕ) → at ≡ length kept → Keeps (D.seen disk.old) kept → KeepsOn (D.seen disk.old) (D.seen disk.new) kept kept }
+    ensures put { OnOk result ((kept : List ℕ) → at ≡ length kept → Keeps (D.seen disk.old) kept → Keeps (D.seen disk.new) (kept ++ bytes.now)) }
 {
     if disk.len()? != at {
         return Err(ucon_disk::Failed);
@@ -34,27 +33,27 @@ struct Scribe<D: Disk> {
 
 impl<D: Disk + Drop> Keeper for Scribe<D> {
     ghost seen = { λ s. record {
-      moment = D.moment s.disk;
-      images_since = D.images_since s.disk;
-      holds = λ c. Keeps D.contents D.images s.disk s.kept.items → BeginsWith s.kept.items c;
+      moment = (D.seen s.disk).moment;
+      images_since = (D.seen s.disk).images_since;
+      holds = λ c. Keeps (D.seen s.disk) s.kept.items → BeginsWith s.kept.items c;
     } };
 
-    ghost stays = { λ x y. (D.moment x.disk ≤ D.moment y.disk) × (Keeps D.contents D.images x.disk x.kept.items
-        → KeepsOn D.contents D.images D.moment D.images_since x.disk y.disk x.kept.items y.kept.items) };
+    ghost stays = { λ x y. ((D.seen x.disk).moment ≤ (D.seen y.disk).moment) × (Keeps (D.seen x.disk) x.kept.items
+        → KeepsOn (D.seen x.disk) (D.seen y.disk) x.kept.items y.kept.items) };
 
     ghost answers = { λ x y line reply. IsAnswer x.kept.items y.kept.items line reply };
 
     ghost refuses = { λ _ reply. reply ≡ codes "too long\n" };
 
-    ghost kept = { λ x y t c stays le lt since k. (stays.1 k).run.each c (D.since_earlier y.disk (D.moment x.disk) t c le lt since) };
+    ghost kept = { λ x y t c stays le lt since k. (stays.1 k).run.each c (D.since_earlier y.disk (D.seen x.disk).moment t c le lt since) };
 
     ghost onward = { λ x y stays. stays.0 };
 
-    ghost same = { λ x. (at_least (D.moment x.disk), λ k. keeps_still D.contents D.images D.moment D.images_since D.only_now x.disk x.kept.items k) };
+    ghost same = { λ x. (at_least (D.seen x.disk).moment, λ k. keeps_still (D.seen x.disk) x.kept.items (D.only_now x.disk) k) };
 
     ghost again = { λ x y z p q. (
-      no_less (D.moment x.disk) (D.moment y.disk) (D.moment z.disk) p.0 q.0,
-      λ k. keeps_again D.contents D.images D.moment D.images_since x.disk y.disk z.disk x.kept.items y.kept.items z.kept.items (p.1 k) (q.1 (p.1 k).keeps),
+      no_less (D.seen x.disk).moment (D.seen y.disk).moment (D.seen z.disk).moment p.0 q.0,
+      λ k. keeps_again (D.seen x.disk) (D.seen y.disk) (D.seen z.disk) x.kept.items y.kept.items z.kept.items (p.1 k) (q.1 (p.1 k).keeps),
     ) };
 
     fn answer(&mut self, alloc: Global, line: &[u8], text: &mut Vec<u8>) -> Result<(), NoMemory> {
@@ -79,18 +78,10 @@ impl<D: Disk + Drop> Keeper for Scribe<D> {
     }
 }
 
-/// What a voice held by a moment.
-#[derive(Drop)]
-struct Note {
-    bytes: Vec<u8>,
-    moment: u64,
-}
-
-/// A voice in memory that writes down what it held when.
+/// A voice in memory. It doesn't tell what it holds, since it takes no note of moments; the tests look at its bytes.
 #[derive(Drop)]
 struct Page {
     bytes: Vec<u8>,
-    notes: Vec<Note>,
     faults: u64,
 }
 
@@ -98,36 +89,16 @@ impl Page {
     fn new(alloc: Global) -> Page {
         Page {
             bytes: Vec::new(alloc),
-            notes: Vec::new(alloc),
             faults: 0,
         }
     }
-
-    /// Adds bytes, and writes down that all of them were held by this moment.
-    fn note(&mut self, bytes: &[u8], moment: u64) -> Result<(), NoMemory>
-        ensures ok { OnOk result ((self.new.bytes.items ≡ self.old.bytes.items ++ bytes.now)
-            × (notes_in (λ n. n.bytes.items) (λ n. n.moment) self.new.notes.items
-            ≡ notes_in (λ n. n.bytes.items) (λ n. n.moment) self.old.notes.items ++ (self.new.bytes.items, moment) ∷ [])) }
-        ensures err { OnErr result ((self.new.bytes.items ≡ self.old.bytes.items) × (self.new.notes.items ≡ self.old.notes.items)) }
-        ensures faults { self.new.faults ≡ self.old.faults }
-    {
-        let mut all = self.bytes.clone()?;
-        all.extend_from_slice(bytes)?;
-        let held = all.clone()?;
-        self.notes.push(Note {
-            bytes: held,
-            moment,
-        })?;
-        self.bytes = all;
-        Ok(())
-    }
 }
 
-impl Voice<Scribe<MemDisk>> for Page {
-    ghost seen = { λ v. page v.bytes.items v.faults (notes_in (λ n. n.bytes.items) (λ n. n.moment) v.notes.items) };
+impl<K: Keeper> Voice<K> for Page {
+    ghost seen = { λ v. record { contents = None; faults = v.faults; told = λ _ _. ⊥ } };
 
-    fn write(&mut self, bytes: &[u8], keeper: &Scribe<MemDisk>) -> Result<usize, Failed> {
-        match self.note(bytes, keeper.disk.moment()) {
+    fn write(&mut self, bytes: &[u8], _keeper: &K) -> Result<usize, Failed> {
+        match self.bytes.extend_from_slice(bytes) {
             Ok(()) => Ok(bytes.len()),
             Err(_) => {
                 self.faults = self.faults.saturating_add(1);
@@ -139,26 +110,8 @@ impl Voice<Scribe<MemDisk>> for Page {
 
 /// Twenty lines, of which two are too long with their newline.
 const LINES: &[&[u8]] = &[
-    b"a",
-    b"bc",
-    b"",
-    b"def",
-    b"ghij",
-    b"klmno",
-    b"pqrstu",
-    b"vwxyzab",
-    b"cdefghij",
-    b"k",
-    b"l",
-    b"mn",
-    b"a line that is too long by far",
-    b"o",
-    b"pq",
-    b"",
-    b"r",
-    b"s",
-    b"t",
-    b"u",
+    b"a", b"bc", b"", b"def", b"ghij", b"klmno", b"pqrstu", b"vwxyzab", b"cdefghij", b"k", b"l", b"mn",
+    b"a line that is too long by far", b"o", b"pq", b"", b"r", b"s", b"t", b"u",
 ];
 
 /// How many calls of the disk these take: three for each that is not too long.
@@ -190,10 +143,7 @@ fn told(alloc: Global, page: &Page) -> Result<Vec<u8>, Fail> {
 /// Whether each image of the disk begins with these bytes, whatever stands in its open places.
 fn is_found(disk: &MemDisk, told: &[u8]) -> Result<bool, Fail> {
     for len in 0..200u64 {
-        for fill in [
-            b"".as_slice(),
-            b"????????????????????????????????".as_slice(),
-        ] {
+        for fill in [b"".as_slice(), b"????????????????????????????????".as_slice()] {
             if let Some(image) = disk.image(len, fill).map_err(|_| "no memory")?
                 && !image.starts_with(told)
             {
@@ -219,10 +169,7 @@ fn what_was_told_is_found_behind_a_crash_at_any_call(rt: HostRuntime) -> Result<
         assert!(rt; talk(alloc, &mut keeper, &mut lines, &mut input, &mut page).is_ok());
         let told = told(alloc, &page)?;
         let replies = page.bytes.iter().filter(|b| **b == b'\n').count();
-        assert!(rt;
-            replies == LINES.len() && keeper.kept.as_slice() == told.as_slice(),
-            "{calls}"
-        );
+        assert!(rt; replies == LINES.len() && keeper.kept.as_slice() == told.as_slice(), "{calls}");
         assert!(rt; is_found(&keeper.disk, &told)?, "{calls}");
         assert!(rt; calls < CALLS || keeper.disk.contents() == told.as_slice());
     }
