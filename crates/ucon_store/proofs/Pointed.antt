@@ -68,7 +68,7 @@ module _ (one : OneByOne) (text : Bytes) (P : PlainPolicy) (H : History) (payloa
   pub places_more : (file c : Bytes) → has_points file ≡ true → Holds text P H file → has_points c ≡ has_points file → journalled.counted c ≡ journalled.counted file ++ payload ∷ []
       → point_places c ≡ point_places file ++ length H ∷ []
   places_more file c points h kind more =
-      let held : found_in accepted steps_and_points (journalled.counted file) ≡ holds text P H h.gate = ap (λ (b : Bool). found_in accepted (takes_with b) (journalled.counted file)) (sym points) ∙ counted_hold text P H file h in
+      let held : found_in accepted (steps_and_points accepted) (journalled.counted file) ≡ holds text P H h.gate = ap (λ (b : Bool). found_in accepted (takes_with b) (journalled.counted file)) (sym points) ∙ counted_hold text P H file h in
       let here : point_places file ≡ places_in (journalled.counted file) = ap (λ (b : Bool). if b then places_in (journalled.counted file) else []) points in
       ap (λ (b : Bool). if b then places_in (journalled.counted c) else []) (kind ∙ points)
       ∙ (ap places_in more ∙ (place_added payload begins text P H h.gate (journalled.counted file) held ∙ ap (λ (l : List ℕ). l ++ length H ∷ []) (sym here)))

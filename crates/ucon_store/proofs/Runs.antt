@@ -12,7 +12,7 @@ use Rattle.ucon_journal.specs.JournalBytes.{journal_bytes, newest, records}
 use Rattle.ucon_journal.specs.Journal.{told_payloads}
 use Rattle.ucon_journal.specs.Opened.{opened, StillHolds, SamePayloads, PerhapsAdded, Untouched}
 use Rattle.ucon_syntax.specs.Policies.{accepted}
-use Rattle.ucon_store.specs.Found.{finding_of, found, IsFoundAs, Tells, found_as}
+use Rattle.ucon_store.specs.Found.{finding_of, found, IsFoundAs, Tells, found_as, found_by}
 use Rattle.ucon_store.specs.Opened.{Seen, Sees}
 use Rattle.ucon_store.specs.Opening.{IsForeign, Opens}
 use Rattle.ucon_store.proofs.Finding.{takes_of}
@@ -30,7 +30,7 @@ at_most : (n : ℕ) → n ≤ 9 → nat_le n 9 ≡ true
 at_most n le = grind arith
 
 short_fresh : (file : Bytes) → nat_le (length file) 9 ≡ true → found file ≡ fresh
-unfolding found
+unfolding found_by
 short_fresh file short = ap (λ b. finding_of (takes_of file) (if b then journal.Fresh else if is_some (journal.version_told file) then journal.Holds (journal.payloads_from file 8) (8 + length (records (journal.payloads_from file 8))) else journal.NotJournal)) short
 
 pub short_counted : (file : Bytes) → nat_le (length file) 9 ≡ true → journal.counted file ≡ []

@@ -1,5 +1,5 @@
 -- A store as contracts see it, and what holds of it at every moment.
-use Rattle.std.specs.Prelude.{◌≡◌, refl, ℕ, ◌+◌, ◌*◌, ◌<◌, ◌≤◌, ◌^◌, List, length, Option, Some, None, option_map, unwrap_or}
+use Rattle.std.specs.Prelude.{◌≡◌, refl, ℕ, ◌+◌, ◌*◌, ◌<◌, ◌≤◌, ◌^◌, length, Option, Some, None, option_map, unwrap_or}
 use Rattle.std.specs.Coded.{Coded, code_by, coded_list, coded_option, coded_ℕ, coded×}
 use Rattle.ucon_model.specs.contracts.command.Entry as entry_row
 use Rattle.ucon_model.specs.declared.command.Caller.{Caller}

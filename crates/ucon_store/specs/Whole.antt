@@ -1,6 +1,6 @@
 -- A store that begins behind a checkpoint, seen with a history before it.
 use Rattle.std.proofs.Common.{refl, sym, subst, ap, ◌∙◌, ◌+◌, inl, arith}
-use Rattle.std.specs.Prelude.{◌≡◌, ℕ, List, [], ◌++◌, length, Option, Some, None, IsSome, IfSome}
+use Rattle.std.specs.Prelude.{◌≡◌, ℕ, [], ◌++◌, length, Option, Some, None, IsSome, IfSome}
 use Rattle.ucon_disk.specs.Disk.{Only}
 use Rattle.ucon_model.specs.Action.{Trace}
 use Rattle.ucon_model.specs.History.{History, trace, trace_from}

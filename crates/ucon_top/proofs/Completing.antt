@@ -12,15 +12,13 @@ use Rattle.ucon_top.specs.declared.form.Form.{Form}
 use Rattle.ucon_top.specs.declared.form.Form.TheVariants as forms
 use Rattle.ucon_outcome.specs.declared.outcome.Outcome.{Outcome}
 use Rattle.ucon_outcome.specs.declared.outcome.Outcome.TheVariants as outcomes
-use Rattle.ucon_top.specs.Accepted.{IsAccepted, IsRefusedBy}
-use Rattle.ucon_top.specs.Complete.{IsComplete, IsOwnJournal, IsUnhindered}
+use Rattle.ucon_top.specs.Complete.{IsComplete}
 use Rattle.ucon_top.specs.Ending.{IsCounted, IsOfDocument, IsOfPrinting, IsUnrefused, MayEnd}
 use Rattle.ucon_top.specs.Own.{HasEntries}
-use Rattle.ucon_top.specs.Played.{HasPlayed}
-use Rattle.ucon_top.specs.Pointed.{HasPointed}
 use Rattle.ucon_top.specs.Printed.{document_of}
 use Rattle.ucon_top.specs.Unread.{IsUnread}
 use Rattle.ucon_top.specs.Seen.{Seen as AllSeen}
+use Rattle.ucon_top.specs.OwnReading.{HasPlayed, HasPointed, IsAccepted, IsOwnJournal, IsRefusedBy, IsUnhindered}
 
 -- ---- no reason not to open holds of one's own journal
 

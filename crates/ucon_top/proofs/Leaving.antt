@@ -3,8 +3,8 @@ use Rattle.std.proofs.Common.{◌≡◌, ◌⊎◌, ⊎_elim, inl, inr, sym, sub
 use Rattle.std.specs.Prelude.{Option, Some, None, IfSome}
 use Rattle.ucon_disk.specs.Seen.{DiskSeen}
 use Rattle.ucon_model.specs.Plain.{Bytes}
-use Rattle.ucon_top.specs.Accepted.{IsAccepted}
 use Rattle.ucon_top.specs.Seen.{IsAsBefore, same_disk}
+use Rattle.ucon_top.specs.OwnReading.{IsAccepted}
 
 -- the disk is as it was, or the document is accepted, where it is told
 pub unless_accepted : {D : Type 0} (seen : D → DiskSeen) (document : Option Bytes) (bytes : Bytes) (old new : D) → IfSome document (λ d. d ≡ bytes)

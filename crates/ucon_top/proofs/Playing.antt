@@ -28,12 +28,11 @@ use Rattle.ucon_outcome.specs.declared.outcome.Outcome.TheVariants as outcomes
 use Rattle.ucon_top.specs.Accepted.{HasPolicy}
 use Rattle.ucon_top.specs.Closing.{Closes, EndsRun, IsClosedRun, IsMarkedBy, IsOfRun}
 use Rattle.ucon_top.specs.Form.{output_order, sees_by}
-use Rattle.ucon_top.specs.Own.{IsOwnFile}
-use Rattle.ucon_top.specs.Played.{HasPlayed, HasPlayedInput, HasRun, IsFoundSince, IsPlayed, IsRunOver}
 use Rattle.ucon_trial.specs.Runs.{IsUnfaulted}
 use Rattle.ucon_top.specs.Seen.{as_it_was}
 use Rattle.ucon_top.specs.Stepping.{AreAnswered, HaveOutput, IsRunBetween}
 use Rattle.ucon_top.specs.Unread.{IsUnread}
+use Rattle.ucon_top.specs.OwnReading.{HasPlayed, HasPlayedInput, HasRun, IsFoundSince, IsOwnFile, IsPlayed, IsRunOver}
 use Rattle.ucon_top.proofs.Answering.{none_faulted}
 use Rattle.ucon_top.proofs.Behind.{begins_behind}
 use Rattle.ucon_disk.specs.Seen.{DiskSeen}

@@ -25,10 +25,11 @@ use Rattle.ucon_outcome.specs.declared.outcome.Outcome.TheVariants as outcomes
 use Rattle.ucon_top.specs.Accepted.{HasPolicy}
 use Rattle.ucon_top.specs.Closing.{IsWritten}
 use Rattle.ucon_outcome.specs.Ending.{by_refusal}
-use Rattle.ucon_top.specs.Pointed.{FitsRecord, HasNoPoint, HasPoint, HasPointed, HasPointedInput, IsCheckpointSize, IsNotOld, IsPointOver, IsPointedAt, IsStillFound, MayHavePoint, point_line}
+use Rattle.ucon_top.specs.Pointed.{FitsRecord, IsCheckpointSize, IsNotOld, IsPointedAt, point_line}
 use Rattle.ucon_top.specs.PointEnding.{BehindEach, EndsPoint, HasPut, IsOfNoPoint, IsOfPoint, IsPut, LeavesPointed, MayHavePoints}
 use Rattle.ucon_top.specs.Seen.{as_it_was}
 use Rattle.ucon_top.specs.Unread.{IsUnread}
+use Rattle.ucon_top.specs.OwnReading.{HasNoPoint, HasPoint, HasPointed, HasPointedInput, IsPointOver, IsStillFound, MayHavePoint}
 use Rattle.ucon_top.proofs.Behind.{checkpoint_whole}
 use Rattle.ucon_top.proofs.Playing.{IsOpened}
 use Rattle.ucon_disk.specs.Seen.{DiskSeen}

@@ -16,12 +16,13 @@ use Rattle.ucon_command.specs.declared.line_fault.LineFault.TheVariants as lines
 use Rattle.ucon_script.specs.Document.{IsLineCause}
 use Rattle.ucon_script.specs.declared.doc_fault.DocFault.{DocFault}
 use Rattle.ucon_script.specs.declared.doc_fault.DocFault.TheVariants as faults
-use Rattle.ucon_top.specs.Accepted.{IsAccepted, HasTypeFault, IsPolicyFault, IsScriptFault, IsRefusedBy}
+use Rattle.ucon_top.specs.Accepted.{HasTypeFault, IsPolicyFault}
 use Rattle.ucon_outcome.specs.declared.outcome.PolicyFault.{PolicyFault}
 use Rattle.ucon_outcome.specs.declared.outcome.PolicyFault.TheVariants.{Syntax, Typing}
 use Rattle.ucon_outcome.specs.declared.outcome.Outcome.{Outcome}
 use Rattle.ucon_outcome.specs.declared.outcome.Outcome.TheVariants as outcomes
 use Rattle.ucon_top.specs.Ending.{IsUnrefused}
+use Rattle.ucon_top.specs.OwnReading.{IsAccepted, IsRefusedBy, IsScriptFault}
 
 -- what the grammar's laws say
 pub record HaveOneReading : Type 0 where

@@ -7,27 +7,28 @@ use Rattle.ucon_model.specs.Plain.{Bytes}
 use Rattle.ucon_top.specs.declared.form.Form.{Form}
 use Rattle.ucon_outcome.specs.declared.outcome.Outcome.{Outcome}
 use Rattle.ucon_outcome.specs.Ending.{ending}
-use Rattle.ucon_top.specs.Accepted.{IsAccepted}
-use Rattle.ucon_top.specs.Own.{IsOwnFile}
+use Rattle.ucon_top.specs.Accepted.{IsAcceptedBy}
+use Rattle.ucon_top.specs.Own.{IsOwnFileBy}
 use Rattle.ucon_top.specs.Seen.{Seen}
 use Rattle.ucon_top.specs.Traits.{traits}
+use Rattle.ucon_store.specs.Points.{PolicyReading}
 
 -- the disk tells its file, which opening sees as a fresh one or a journal under the policy of this text
-pub record IsOwnJournal (text : Bytes) (contents : Option Bytes) : Type 0 where
+pub record IsOwnJournalBy (reads : PolicyReading) (text : Bytes) (contents : Option Bytes) : Type 0 where
   pub file : Bytes
   pub told : contents ≡ Some file
   pub entries : ℕ
-  pub own : IsOwnFile text entries file
+  pub own : IsOwnFileBy reads text entries file
 
 -- a form with a journal finds one that is the document's own
-abbrev pub FindsItsJournal : Form → Bytes → Option Bytes → Type 0
-FindsItsJournal form bytes contents = OnTrue (traits form).disk (IsOwnJournal (policy_part bytes) contents)
+abbrev pub FindsItsJournalBy : PolicyReading → Form → Bytes → Option Bytes → Type 0
+FindsItsJournalBy reads form bytes contents = OnTrue (traits form).disk (IsOwnJournalBy reads (policy_part bytes) contents)
 
 -- Nothing hinders a run of a form over these bytes: they are an accepted document, the journal, as the disk tells it and opening sees it, is
 -- fresh or the document's own, and no count of faults rose.
-pub record IsUnhindered (form : Form) (bytes : Bytes) (before after : Seen) : Type 0 where
-  pub accepted : IsAccepted bytes
-  pub journal : FindsItsJournal form bytes before.disk.contents
+pub record IsUnhinderedBy (reads : PolicyReading) (form : Form) (bytes : Bytes) (before after : Seen) : Type 0 where
+  pub accepted : IsAcceptedBy reads bytes
+  pub journal : FindsItsJournalBy reads form bytes before.disk.contents
   pub source_works : ¬ Rose before.source.faults after.source.faults
   pub sink_works : ¬ Rose before.sink.faults after.sink.faults
   pub disk_works : ¬ Rose before.disk.faults after.disk.faults

@@ -4,9 +4,10 @@ ghost use Rattle.std.specs.Prelude.{◌≡◌, ◌≤◌, length, Ok, IfOk, IfEr
 ghost use Rattle.ucon_model.specs.Checked.{checked_policy};
 ghost use Rattle.ucon_model.specs.Document.{document_read, entries_of};
 ghost use Rattle.ucon_script.specs.Document.{lines_spelled};
-ghost use Rattle.ucon_top.specs.Accepted.{HasPolicy, HasSomePolicy, IsRefused};
+ghost use Rattle.ucon_top.specs.Accepted.{HasPolicy, HasSomePolicy};
 ghost use Rattle.ucon_top.specs.Form.{IsAlone};
-ghost use Rattle.ucon_top.specs.Printed.{IsFormOutput, IsOutputOf};
+ghost use Rattle.ucon_top.specs.Printed.{IsFormOutput};
+ghost use Rattle.ucon_top.specs.OwnReading.{IsOutputOf, IsRefused};
 ghost use Rattle.ucon_syntax.specs.Policies.{accepted};
 
 use crate::form::Form;

@@ -5,11 +5,10 @@ ghost use Rattle.ucon_disk.specs.Causes.{raised};
 ghost use Rattle.ucon_model.specs.LegalRun.{in_text_order};
 ghost use Rattle.ucon_model.specs.Plain.{PlainPolicy};
 ghost use Rattle.ucon_syntax.specs.Policies.{accepted};
-ghost use Rattle.ucon_top.specs.Accepted.{IsAccepted, IsRefusedBy};
 ghost use Rattle.ucon_top.specs.Closing.{IsClosedRun, IsOfRun, IsWritten};
 ghost use Rattle.ucon_top.specs.Ending.{IsCounted, IsOfAccepted, IsOfDocument, IsUntouched, IsUnwritten, MayEnd, status_of};
+ghost use Rattle.ucon_top.specs.OwnReading.{HasPlayed, IsAccepted, IsRefusedBy};
 ghost use Rattle.ucon_trial.specs.OneAnswer.{entry_of};
-ghost use Rattle.ucon_top.specs.Played.{HasPlayed};
 
 use crate::document::read_accepted;
 use crate::form::Form;

@@ -6,11 +6,11 @@ ghost use Rattle.ucon_model.specs.Action.{Trace};
 ghost use Rattle.ucon_model.specs.Plain.{PlainPolicy};
 ghost use Rattle.ucon_store.specs.Starts.{IsStart};
 ghost use Rattle.ucon_syntax.specs.Policies.{accepted};
-ghost use Rattle.ucon_top.specs.Accepted.{IsAccepted, IsRefusedBy};
 ghost use Rattle.ucon_top.specs.Closing.{IsWritten};
 ghost use Rattle.ucon_top.specs.Ending.{IsCounted, IsOfAccepted, IsOfDocument, IsUntouched, IsUnwritten, status_of};
 ghost use Rattle.ucon_top.specs.PointEnding.{EndsPoint, IsOfNoPoint, IsOfPoint, IsPut};
-ghost use Rattle.ucon_top.specs.Pointed.{HasPointed, point_line};
+ghost use Rattle.ucon_top.specs.Pointed.{point_line};
+ghost use Rattle.ucon_top.specs.OwnReading.{HasPointed, IsAccepted, IsRefusedBy};
 
 use crate::document::read_accepted;
 use std::alloc::Global;

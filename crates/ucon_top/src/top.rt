@@ -2,13 +2,14 @@
 
 ghost use Rattle.std.specs.Prelude.{◌≡◌, ◌≤◌, ◌+◌, false, Some, length, IfOk, IfErr, IfSome, OnOk};
 ghost use Rattle.std.specs.Io.KnownBytes.{IsAtEnd};
-ghost use Rattle.ucon_top.specs.Accepted.{IsRefusedBy, IsAccepted};
+ghost use Rattle.ucon_syntax.specs.Policies.{accepted};
 ghost use Rattle.ucon_top.specs.Ending.{status_of, IsCounted, IsOfAccepted, IsOfPrinting, IsUnwritten, MayEnd};
 ghost use Rattle.ucon_top.specs.Form.{asked, asks_for_threads, HasSize, IsAlone};
-ghost use Rattle.ucon_top.specs.Printed.{Adds, IsOutputOf, IsCutOutputOf, ReadsInput, document_of};
+ghost use Rattle.ucon_top.specs.Printed.{Adds, ReadsInput, document_of};
 ghost use Rattle.ucon_top.specs.Ran.{Causes, Makes, Leaves, Completes, HasCauses, HasMade, HasLeft, IsWhole};
 ghost use Rattle.ucon_top.specs.Seen.{all_seen};
 ghost use Rattle.ucon_top.specs.Unread.{IsUnread};
+ghost use Rattle.ucon_top.specs.OwnReading.{IsAccepted, IsCutOutputOf, IsOutputOf, IsRefusedBy};
 
 use crate::document::output_of;
 use crate::form::{Form, read_form};
@@ -26,6 +27,7 @@ use ucon_flow::{Sink, Source, read_all, write_all};
 use ucon_outcome::{Ended, Outcome};
 use ucon_script::generate;
 use ucon_store::opening_sees_one_thing;
+use ucon_syntax::accepted_texts_spell_typed_policies;
 
 /// The most bytes of input.
 const LIMIT: usize = 4_194_304;
@@ -53,6 +55,7 @@ pub fn run<S: Source, K: Sink, D: Disk + Send, G: Gate + Sync, R: Threads + Wait
     ensures complete { Completes (asked words.now) result.outcome (all_seen (S.seen input.old) (K.seen out.old) (D.seen disk))
         (all_seen (S.seen input.new) (K.seen out.new) (D.seen result.disk)) }
 {
+    accepted_texts_spell_typed_policies();
     match read_form(words) {
         None => Ended::by(Outcome::Usage, disk),
         Some(Form::Serve) => serve_input(rt, alloc, input, out, disk, gate),
@@ -77,13 +80,13 @@ pub fn run_alone<S: Source, K: Sink, D: Disk>(
     requires alone { asks_for_threads (Some form) ≡ false }
     requires size { HasSize form }
     ensures status { result.status ≡ status_of result.outcome }
-    ensures causes { HasCauses form result.outcome (all_seen (S.seen input.old) (K.seen out.old) (D.seen disk))
+    ensures causes { HasCauses accepted form result.outcome (all_seen (S.seen input.old) (K.seen out.old) (D.seen disk))
         (all_seen (S.seen input.new) (K.seen out.new) (D.seen result.disk)) }
-    ensures made { HasMade form result.outcome (all_seen (S.seen input.old) (K.seen out.old) (D.seen disk))
+    ensures made { HasMade accepted form result.outcome (all_seen (S.seen input.old) (K.seen out.old) (D.seen disk))
         (all_seen (S.seen input.new) (K.seen out.new) (D.seen result.disk)) }
-    ensures left { HasLeft form result.outcome (all_seen (S.seen input.old) (K.seen out.old) (D.seen disk))
+    ensures left { HasLeft accepted form result.outcome (all_seen (S.seen input.old) (K.seen out.old) (D.seen disk))
         (all_seen (S.seen input.new) (K.seen out.new) (D.seen result.disk)) }
-    ensures complete { IsWhole form result.outcome (all_seen (S.seen input.old) (K.seen out.old) (D.seen disk))
+    ensures complete { IsWhole accepted form result.outcome (all_seen (S.seen input.old) (K.seen out.old) (D.seen disk))
         (all_seen (S.seen input.new) (K.seen out.new) (D.seen result.disk)) }
 {
     accepted_documents_are_not_refused();
@@ -135,13 +138,13 @@ fn serve_input<S: Source, K: Sink, D: Disk + Send, G: Gate + Sync, R: Threads + 
     gate: &G,
 ) -> Ended<D>
     ensures status { result.status ≡ status_of result.outcome }
-    ensures causes { HasCauses Form.Serve result.outcome (all_seen (S.seen input.old) (K.seen out.old) (D.seen disk))
+    ensures causes { HasCauses accepted Form.Serve result.outcome (all_seen (S.seen input.old) (K.seen out.old) (D.seen disk))
         (all_seen (S.seen input.new) (K.seen out.new) (D.seen result.disk)) }
-    ensures made { HasMade Form.Serve result.outcome (all_seen (S.seen input.old) (K.seen out.old) (D.seen disk))
+    ensures made { HasMade accepted Form.Serve result.outcome (all_seen (S.seen input.old) (K.seen out.old) (D.seen disk))
         (all_seen (S.seen input.new) (K.seen out.new) (D.seen result.disk)) }
-    ensures left { HasLeft Form.Serve result.outcome (all_seen (S.seen input.old) (K.seen out.old) (D.seen disk))
+    ensures left { HasLeft accepted Form.Serve result.outcome (all_seen (S.seen input.old) (K.seen out.old) (D.seen disk))
         (all_seen (S.seen input.new) (K.seen out.new) (D.seen result.disk)) }
-    ensures complete { IsWhole Form.Serve result.outcome (all_seen (S.seen input.old) (K.seen out.old) (D.seen disk))
+    ensures complete { IsWhole accepted Form.Serve result.outcome (all_seen (S.seen input.old) (K.seen out.old) (D.seen disk))
         (all_seen (S.seen input.new) (K.seen out.new) (D.seen result.disk)) }
 {
     accepted_documents_are_not_refused();

@@ -26,7 +26,7 @@ use Rattle.ucon_journal.specs.Found as journal
 use Rattle.ucon_syntax.specs.Policies.{accepted}
 use Rattle.ucon_store.specs.Found.{found}
 use Rattle.ucon_store.specs.Opened as opened
-use Rattle.ucon_store.specs.Opened.{IsPointOf, Parted, Seen, Sees, SeesFrom, SeesIn, SeesPast, first_long, is_next_after, parted_with, seen_after, steps_after, steps_among, with_next}
+use Rattle.ucon_store.specs.Opened.{IsPointOf, Parted, Seen, Sees, SeesFrom, SeesIn, SeesPast, first_long, is_next_after, parted_with, seen_after, steps_after, steps_among, with_next, steps_by}
 use Rattle.ucon_store.specs.Points.{has_points}
 use Rattle.ucon_store.specs.ReadBack.{IsReadPointOf, showing_only}
 use Rattle.ucon_store.proofs.Seeing.SameReadings.{ReadTheSame}
@@ -119,7 +119,7 @@ module _ (keeps : (s : Shown) (P : PlainPolicy) (T : Trace) → Follows s P T �
       with_too H (Ok t) = ap (λ (b : Bool). cond b (Some (H ++ entry_told t ∷ [])) None) (next_too H t)
 
       steps_too : (H : History) (payload : Bytes) → steps_after T text P H payload ≡ steps_after U text Q H payload
-      unfolding steps_after
+      unfolding steps_by
       steps_too H payload = ap (λ (o : Option History). cond (nat_lt most_payload (length payload)) None o) (with_too H (payload_read accepted payload))
 
       seen_too : (entries : ℕ) (payloads : List Bytes) (H : History) (number gate : ℕ)
