@@ -110,7 +110,8 @@ class Keeper:
         if journal.size <= LONGEST_FRESH:
             if told:
                 says = "isn't there" if self.held.is_made else "holds no record"
-                raise Refused(LOST, f"{journal.name} {says}, and {told.place} steps of it were told", PUT_BACK)
+                hint = f"put a copy back that has them; to begin a new journal, take {near(self.told_path)} away, or say {ACCEPT} behind the name"
+                raise Refused(LOST, f"{journal.name} {says}, and {told.place} steps of it were told", hint)
             return Found()
         try:
             followed, kept = follow(journal, start(journal), told.records if told else 0)
