@@ -9,9 +9,10 @@ UCON = TOP / "ucon"
 # The program that whoever runs this has chosen. Each try names its own, or none.
 CHOSEN: Optional[str] = os.environ.pop("UCON_PROGRAM", None)
 
-# Answers as NAME.out, NAME.err and NAME.status of the case say.
+# Answers as NAME.out, NAME.err and NAME.status of the case say; to `check`, where that is asked of a policy inside it, as NAME.check says.
 STAND_IN = """#!/bin/sh
 cat >/dev/null
+[ "$1" != check ] || [ ! -e "$CASE.check" ] || { cat "$CASE.check" >&2; exit 2; }
 [ ! -e "$CASE.out" ] || cat "$CASE.out"
 [ ! -e "$CASE.err" ] || cat "$CASE.err" >&2
 [ ! -e "$CASE.status" ] || exit "$(cat "$CASE.status")"

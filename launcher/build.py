@@ -114,15 +114,14 @@ def alone() -> Iterator[bool]:
 def step(name: str, words: List[str], log) -> int:
     log.write(f"== {name}: {' '.join(words)}\n".encode())
     log.flush()
-    tool = subprocess.Popen(words, cwd=program.TOP / "crates" / name, stdin=subprocess.DEVNULL, stdout=log, stderr=log)
+    how = {"cwd": program.TOP / "crates" / name, "stdin": subprocess.DEVNULL, "stdout": log, "stderr": log}
     try:
-        return tool.wait(LONGEST)
+        with program.started(words, end, **how) as tool:
+            return tool.wait(LONGEST)
     except subprocess.TimeoutExpired:
         log.write(f"{name} took more than {LONGEST} seconds\n".encode())
         log.flush()
         return 1
-    finally:
-        end(tool)
 
 
 def end(tool: "subprocess.Popen[bytes]") -> None:

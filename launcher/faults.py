@@ -1,7 +1,8 @@
 """What stands behind the program's line of a fault: the place, the text with a caret, and a hint."""
 import re
+from typing import Iterator
 
-from launcher import script, syntax, typing_faults
+from launcher import amended, script, syntax, typing_faults
 from launcher.source import Document
 
 # The statuses of a refused policy and of a refused script.
@@ -13,22 +14,25 @@ RIGHT = re.compile(rb"ucon: policy: (not core|too many cells) (\w+)(?: \d+)?\n")
 LINE = re.compile(rb"ucon: script: ([a-z ]+) at line (\d+)\n")
 
 
-def explained(said: bytes, name: str, raw: bytes) -> str:
-    """What a person needs beside the program's line. Empty where the line names no place, or one that isn't in the document."""
-    document = Document(name, raw)
-    try:
-        return "".join(parts(said, document))
-    except Exception:  # pylint: disable=broad-except
-        # The program's line has been said. Where a hint can't be found, as in a file that was changed meanwhile, there is none.
-        return ""
+def parts(said: bytes, document: Document, judge: amended.Judge) -> Iterator[str]:
+    """What a person needs beside the program's line. Nothing where the line names no place."""
+    found = LINE.fullmatch(said)
+    if found:
+        yield from of_line(document, found[1].decode(), int(found[2]), judge)
+    else:
+        yield from of_policy(said, document, 0)
 
 
-def parts(said: bytes, document: Document):
+def of_policy(said: bytes, document: Document, start: int) -> Iterator[str]:
+    """The same of a policy that begins at this place of the document."""
     if found := SYNTAX.fullmatch(said):
-        yield from syntax.explained(document, found[1].decode(), int(found[2]))
+        yield from syntax.explained(document, found[1].decode(), start + int(found[2]))
     elif found := ITEM.fullmatch(said):
         yield from typing_faults.of_item(document, found[1].decode(), found[2], int(found[3]))
     elif found := RIGHT.fullmatch(said):
         yield from typing_faults.of_right(document, found[1].decode(), found[2])
-    elif found := LINE.fullmatch(said):
-        yield from script.explained(document, found[1].decode(), int(found[2]))
+
+
+def of_line(document: Document, kind: str, number: int, judge: amended.Judge) -> Iterator[str]:
+    inner = "".join(amended.explained(document, number, judge, of_policy)) if kind == "bad word" else ""
+    yield inner or "".join(script.explained(document, kind, number))

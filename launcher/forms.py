@@ -1,9 +1,11 @@
 """The forms of words that the program has, and what `--help` and `--version` say."""
+import os
 import re
 import subprocess
 from typing import Callable, Dict, List, NamedTuple, Optional, Tuple
 
 from launcher import program
+from launcher.near import near
 
 # The status with which the proved program answers words that are no form, and that of a launcher that can't run it.
 USAGE = 1
@@ -38,7 +40,20 @@ FORMS = [form for form in KNOWN if form.name not in COMING]
 # What the launcher itself does.
 OWN = [
     Form("test DIR ..", "runs each NAME.ucon of a folder, and compares with NAME.out", "./ucon test examples"),
+    Form("lint FILE", "warns of what a policy does that may surprise; lint --strict ends with 1 then", "./ucon lint examples/music.ucon"),
     Form("prove", "proves every crate below the program and builds it, about an hour; from then on that one is run", "./ucon prove"),
+    Form(
+        "log JOURNAL [--from N] [--follow] [--json]",
+        "prints each step of a journal: its place, client, command and reply",
+        "./ucon log door.journal --from 100",
+    ),
+    Form("policy JOURNAL [--first]", "prints the policy in force in a journal, or the one that it began with", "./ucon policy door.journal"),
+    Form("copy JOURNAL NEW", "makes a copy that is whole, also while the journal is written", "./ucon copy door.journal backup.journal"),
+    Form(
+        "amend JOURNAL FILE [--dry-run] [--drop NAME ..]",
+        "puts the policy of a file in force, tried on a copy first, and says who is revoked",
+        "./ucon amend door.journal new.policy --dry-run",
+    ),
     Form("--help", "this page", ""),
     Form("--version", "the commit, and whether the program that is run is the proved one", ""),
 ]
@@ -72,7 +87,8 @@ def form_of(words: List[str]) -> Optional[Form]:
 
 def row(form: Form) -> str:
     example = f"{'':18}{in_place(form.example)}\n" if form.example else ""
-    return f"  {form.words:<16}{form.says}\n{example}"
+    words = f"{form.words:<15} " if len(form.words) < 16 else f"{form.words}\n{'':18}"
+    return f"  {words}{form.says}\n{example}"
 
 
 def in_place(example: str) -> str:
@@ -100,25 +116,39 @@ def help_text() -> str:
         "ucon: a usage control monitor. A document comes on standard input: a policy, a line %%, and a script.\n\n"
         f"{''.join(map(row, FORMS))}\n{''.join(map(row, own_forms()))}\n{OF_SOURCES if program.has_sources() else INSTALLED}"
         "After a fault of a document that is a file, the place, the line and a hint follow the program's own line.\n"
+        "A journal has one writer at a time, and what was told of it stands beside it, in JOURNAL.told. Where it lacks some of that, play,\n"
+        "serve and point are refused before anything is written; --accept-loss behind JOURNAL goes on with what is there.\n"
         "UCON_PROGRAM=FILE runs that program in place of the proved one.\n"
     )
+
+
+def instead(first: str) -> str:
+    """What was probably meant by a first word that is none of the forms'."""
+    similar = near(first, [form.name for form in FORMS + own_forms()])
+    if similar:
+        return f"; a similar one is `{similar}`"
+    if os.path.isfile(first):
+        return f"; a document comes on standard input, as in {in_place('./ucon')} trial < {first}"
+    return ""
 
 
 def usage_hint(words: List[str]) -> str:
     """What stands behind the program's own line where the words are no form."""
     names = ", ".join(form.words for form in FORMS + own_forms() if form.example)
     first = words[0] if words else ""
-    near = next((form for form in FORMS if form.name == first), None)
+    named = next((form for form in FORMS + own_forms() if form.name == first), None)
     if not words:
         why = "no words were given"
-    elif near and len(near.words.split()) == 1:
-        why = f"`{first}` takes no further words: its document comes on standard input, as in {in_place(near.example)}"
-    elif near:
-        why = f"the form is `{near.words}`, as in {in_place(near.example)}"
+    elif named in OWN:
+        why = f"the form is `{named.words}`{', as in ' + in_place(named.example) if named.example else ', and no further word'}"
+    elif named and len(named.words.split()) == 1:
+        why = f"`{first}` takes no further words: its document comes on standard input, as in {in_place(named.example)}"
+    elif named:
+        why = f"the form is `{named.words}`, as in {in_place(named.example)}"
     elif first in GONE:
         why = GONE[first]
     else:
-        why = f"`{first}` is no form"
+        why = f"`{first}` is no form{instead(first)}"
     return f"hint: {why}\nhint: the forms are {names}; --help tells of each\n"
 
 

@@ -7,7 +7,7 @@ import signal
 import stat
 import subprocess
 import sys
-from typing import Iterator, List, NamedTuple, Optional
+from typing import Callable, Iterator, List, NamedTuple, Optional
 
 TOP = pathlib.Path(__file__).resolve().parent.parent
 MAIN = TOP / "crates" / "ucon_main"
@@ -116,3 +116,22 @@ def ended_by_signals() -> Iterator[None]:
     finally:
         for it, handler in before.items():
             signal.signal(it, handler)
+
+
+Tool = subprocess.Popen
+ENDING = (signal.SIGINT, signal.SIGTERM, signal.SIGHUP)
+
+
+@contextlib.contextmanager
+def started(words: List[str], ends: "Callable[[Tool[bytes]], None]", **how: object) -> "Iterator[Tool[bytes]]":
+    """Runs a tool that ends with this call, however that ends. A signal that comes while it starts waits until the tool can be ended, too."""
+    before = signal.pthread_sigmask(signal.SIG_BLOCK, ENDING)
+    tool = None
+    try:
+        tool = Tool(words, preexec_fn=lambda: signal.pthread_sigmask(signal.SIG_SETMASK, before), **how)
+        signal.pthread_sigmask(signal.SIG_SETMASK, before)
+        yield tool
+    finally:
+        signal.pthread_sigmask(signal.SIG_SETMASK, before)
+        if tool:
+            ends(tool)

@@ -2,6 +2,7 @@
 import re
 from typing import Iterator, List, NamedTuple, Optional
 
+from launcher.near import near
 from launcher.source import Document, Span, name_of_byte
 
 FORMS = {
@@ -103,7 +104,10 @@ HEADING = "a heading is `client N`, with N from 0 to 63 without needless zeros, 
 
 def bad_heading(line: bytes, at: int):
     words = words_of(line, at)
-    if words[0].raw != b"client":
+    first = words[0].raw.decode(errors="replace")
+    if first != "client" and (first.lower().startswith("client") or near(first, ["client"])):
+        return Span(at, at + len(line)), [HEADING]
+    if first != "client":
         return Span(at, at + len(line)), ["a command stands below a heading that says whose it is: put `client 0` above it"]
     if len(words) > 2:
         behind = name_of_byte(line[words[2].at - 1 - at :]) if words[2].raw == b"" else None
@@ -129,6 +133,10 @@ def no_word(line: bytes, at: int):
 def unknown_word(line: bytes, at: int):
     word = words_of(line, at)[0]
     mark = Span(word.at, word.at + len(word.raw))
+    tab = line.find(b"\t")
+    if 0 < tab and word.raw.split(b"\t")[0].decode(errors="replace") in (*FORMS, "client"):
+        return tabbed(at + tab)
+    similar = near(word.raw.decode(errors="replace"), (*FORMS, "client"))
     known = "a command begins with " + ", ".join(FORMS)
     unseen = name_of_byte(word.raw)
     if unseen:
@@ -139,7 +147,13 @@ def unknown_word(line: bytes, at: int):
         return mark, ["a comment begins with `#`, at the front of its line"]
     if word.raw != word.raw.lower():
         return mark, ["commands and names are small letters, digits and `_`", known]
-    return mark, [known]
+    if similar == "client" or word.raw.startswith(b"client"):
+        return mark, [HEADING]
+    return mark, [f"a similar command is `{similar}`: {form_text(similar)}" if similar else known]
+
+
+def tabbed(at: int):
+    return Span(at, at + 1), ["a tab (invisible) stands here, where one space divides words"]
 
 
 def form_text(first: str) -> str:
@@ -156,6 +170,8 @@ def wrong_count(line: bytes, at: int):
     wanted = len(FORMS[first].split()) + 1
     empty = next((word for word in words if word.raw == b""), None)
     comment = next((word for word in words[1:] if word.raw.startswith(b"#")), None)
+    if b"\t" in line and len(words) < wanted:
+        return tabbed(at + line.index(b"\t"))
     if comment:
         return Span(comment.at, at + len(line)), ["a comment stands on a line of its own, with `#` at its front", form_text(first)]
     if empty and not takes_rest(first):

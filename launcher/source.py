@@ -1,4 +1,5 @@
 """A document as a person sees it: places as lines and columns (both from 1, columns in bytes), and lines with a caret."""
+import re
 from typing import List, NamedTuple, Optional
 
 # How much of a long line is shown before and behind the mark.
@@ -32,19 +33,31 @@ def name_of_byte(raw: bytes) -> Optional[str]:
     return next((name for seen, name in INVISIBLE.items() if raw.startswith(seen)), None)
 
 
+def text_end(raw: bytes, at: int) -> int:
+    """Where the line ends that a place is on."""
+    end = raw.find(b"\n", at)
+    return len(raw) if end < 0 else end
+
+
 class Document:
     """A document's bytes with its file's name."""
 
-    def __init__(self, name: str, raw: bytes):
+    def __init__(self, name: str, raw: bytes, text: Optional[bytes] = None):
         self.name = name
+        # What is looked into, and what is shown of it: the same lines, whose columns are the same.
         self.raw = raw
+        self.text = raw if text is None else text
+
+    def part(self, span: "Span") -> "Document":
+        """This document with blanks before a passage and nothing behind it: places are the same."""
+        blank = re.sub(rb"[^\n]", b" ", self.raw[: span.start])
+        return Document(self.name, blank + self.raw[span.start : span.end], self.text)
 
     def line_start(self, at: int) -> int:
         return self.raw.rfind(b"\n", 0, at) + 1
 
     def line_end(self, at: int) -> int:
-        end = self.raw.find(b"\n", at)
-        return len(self.raw) if end < 0 else end
+        return text_end(self.raw, at)
 
     def line_span(self, number: int) -> Span:
         """The line of this number, from 1. The last one, empty, where there are fewer."""
@@ -63,12 +76,12 @@ class Document:
         return f"{head}\n{self.under(mark)}"
 
     def under(self, mark: Span) -> str:
-        start, end = self.line_start(mark.start), self.line_end(mark.start)
+        start, end = self.line_start(mark.start), text_end(self.text, mark.start)
         left = max(start, mark.start - BEFORE)
         right = min(end, max(mark.start + 1, min(mark.end, end)) + BEHIND)
-        before = shown(self.raw[left : mark.start])
-        within = shown(self.raw[mark.start : min(mark.end, end)])[:BEHIND] or " "
-        line = ".. " * (left > start) + shown(self.raw[left:right]) + " .." * (right < end)
+        before = shown(self.text[left : mark.start])
+        within = shown(self.text[mark.start : min(mark.end, end)])[:BEHIND] or " "
+        line = ".. " * (left > start) + shown(self.text[left:right]) + " .." * (right < end)
         blank = "".join("\t" if c == "\t" else " " for c in ".. " * (left > start) + before)
         return f"  {line}\n  {blank}{'^' * len(within)}\n"
 

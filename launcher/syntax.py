@@ -1,57 +1,11 @@
 """Faults of a policy's grammar: what stands at the place, and what was probably meant."""
-from typing import Callable, Iterator, List, NamedTuple, Optional
+from typing import Callable, Iterator, List, Optional
 
-from launcher.policy import DECLARATIONS, PREDICATES, UPDATES, Items, Token, items_of, tokens_of
+from launcher import habits
+from launcher.fault import Fault, Hint, fault_at
+from launcher.policy import DECLARATIONS, PREDICATES, UPDATES, Token
 from launcher.script import FORMS as COMMANDS
 from launcher.source import Document, Span, name_of_byte, shown
-
-
-class Hint(NamedTuple):
-    """A hint, and another place of the document that it speaks of."""
-
-    says: str
-    at: Optional[Span] = None
-
-
-class Fault(NamedTuple):
-    """A fault of the grammar with what stands around it."""
-
-    document: Document
-    at: int
-    end: int
-    before: List[Token]
-    items: Items
-    token: Token
-
-    @property
-    def last(self) -> Optional[Token]:
-        return self.before[-1] if self.before else None
-
-    @property
-    def is_at_end(self) -> bool:
-        return self.at >= self.end
-
-    def is_first_on_line(self, token: Token) -> bool:
-        start = self.document.line_start(token.start)
-        return self.document.raw[start : token.start].strip(b" \t") == b""
-
-
-def policy_end(raw: bytes) -> int:
-    """Where the policy part ends: at the line `%%`, or with the document."""
-    if raw.startswith(b"%%\n") or raw == b"%%":
-        return 0
-    found = raw.find(b"\n%%\n")
-    if found < 0:
-        return len(raw) - 2 if raw.endswith(b"\n%%") else len(raw)
-    return found + 1
-
-
-def fault_at(document: Document, at: int) -> Fault:
-    end = policy_end(document.raw)
-    before = tokens_of(document.raw[:at])
-    rest = tokens_of(document.raw[at:end])
-    token = rest[0] if rest and rest[0].start == 0 else Token("end", b"", 0)
-    return Fault(document, at, end, before, items_of(before), Token(token.kind, token.raw, at))
 
 
 def explained(document: Document, kind: str, at: int) -> Iterator[str]:
@@ -145,12 +99,14 @@ JOINING = (b"and", b"or", b"not", b"lasts")
 
 def unexpected(fault: Fault) -> Optional[Hint]:
     rules: List[Callable[[Fault], Optional[Hint]]] = [
+        habits.written_at_once,
         two_signs,
         quote_in_text,
         around_formula,
         missing_semicolon,
         missing_brace,
         missing_divider,
+        *habits.RULES,
         number_spelling,
         range_dots,
         missing_operand,

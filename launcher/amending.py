@@ -1,0 +1,237 @@
+"""`ucon amend JOURNAL FILE`: the policy of a file put in force in a journal, tried on a copy first.
+
+The file's tokens are made the one line of `amend`, and its comments are left out. The program judges the policy, and says on the copy who
+is revoked; of two policies that it accepted, what each declares is read here."""
+import os
+import pathlib
+import re
+import subprocess
+import sys
+import tempfile
+from typing import Dict, List, NamedTuple, Optional
+
+from launcher import hints, log, program
+from launcher.backup import filled
+from launcher.fault import policy_end
+from launcher.in_force import in_force
+from launcher.journal import FILE_FAILED, NO_JOURNAL, Journal, Refused, Step, open_journal
+from launcher.keeping import ACCEPT, Keeper
+from launcher.lock import Lock, take
+from launcher.policy import TOKEN, declared_in, items_of, tokens_of
+from launcher.program import Ended
+
+# The journal wasn't amended.
+NOT_AMENDED = 121
+PLACE = re.compile(r"(?:s|o|env)\.[a-z][a-z0-9_]{0,31}")
+KEPT_FIRST = "documents for this journal still begin with the policy that it began with: `ucon policy {} --first` prints it"
+
+
+class Asked(NamedTuple):
+    path: str
+    file: str
+    is_dry: bool
+    drops: List[str]
+    accepts_loss: bool
+
+
+def asked_of(words: List[str]) -> Optional[Asked]:
+    """What the words ask. None where they are no `amend`."""
+    if words[:1] != ["amend"] or len(words) < 3 or any(it == "" or it.startswith("--") for it in words[1:3]):
+        return None
+    asked, left = Asked(words[1], words[2], False, [], False), words[3:]
+    while left:
+        word = left.pop(0)
+        if word == "--dry-run":
+            asked = asked._replace(is_dry=True)
+        elif word == ACCEPT:
+            asked = asked._replace(accepts_loss=True)
+        elif word == "--drop" and left and PLACE.fullmatch(left[0]):
+            while left and PLACE.fullmatch(left[0]):
+                asked.drops.append(left.pop(0))
+        else:
+            return None
+    return asked
+
+
+# ---- policies
+
+
+def policy_in(file: str) -> bytes:
+    """The policy of a file: all of it, or of a document what stands before its divider."""
+    try:
+        raw = pathlib.Path(file).read_bytes()
+    except OSError as why:
+        raise Refused(FILE_FAILED, f"{file} can't be read: {why.strerror}", "name a file with a policy, as one that `ucon check` takes") from None
+    return raw[: policy_end(raw)]
+
+
+def one_line(policy: bytes) -> bytes:
+    """The same tokens on one line: a space where blanks and comments stood."""
+    parts = [(m.lastgroup == "blank", m.group()) for m in TOKEN.finditer(policy)]
+    return re.sub(rb"\0+", b" ", b"".join(b"\0" if is_blank else raw for is_blank, raw in parts)).strip(b" ")
+
+
+def declared(policy: bytes) -> Dict[str, bytes]:
+    """What a policy declares, as `s.NAME`, `o.NAME` and `env.NAME`, each with the tokens of its kind."""
+    found = declared_in(items_of(tokens_of(policy)).items, policy)
+    return {f"{side.decode()}.{name.decode()}": kind_of(it.kind) for side, names in found.items() for name, it in names.items()}
+
+
+def kind_of(raw: bytes) -> bytes:
+    """A kind in one spelling, as it stands behind the colon of a declaration."""
+    return b"".join(token.raw for token in tokens_of(raw)).replace(b"int", b"int ", 1)
+
+
+class Change(NamedTuple):
+    """What an amendment does to what is declared."""
+
+    gone: List[str]
+    new: List[str]
+    other: List[str]
+
+
+def change_of(old: Dict[str, bytes], new: Dict[str, bytes]) -> Change:
+    return Change(
+        [it for it in old if it not in new], [it for it in new if it not in old], [it for it in old if it in new and old[it] != new[it]]
+    )
+
+
+# ---- the trial
+
+
+class Tried(NamedTuple):
+    """What the copy was answered."""
+
+    place: int
+    reply: bytes
+
+
+def document_for(first: bytes, line: bytes) -> bytes:
+    return first + b"%%\nclient 0\namend " + line + b"\n"
+
+
+def tried(path_of_program: pathlib.Path, journal: Journal, document: bytes) -> Tried:
+    """Plays the amendment on a copy, which is then gone."""
+    with tempfile.TemporaryDirectory(prefix="ucon-amend-") as folder:
+        name = os.path.join(folder, "copy")
+        file = os.open(name, os.O_RDWR | os.O_CREAT | os.O_EXCL | os.O_CLOEXEC, 0o600)
+        try:
+            found = filled(journal, journal.magic(), Lock(name, file, True))
+        except OSError as why:
+            raise Refused(FILE_FAILED, f"the copy on which it is tried can't be made: {why.strerror}", "make room, or set TMPDIR") from None
+        finally:
+            os.close(file)
+        ended = ran([str(path_of_program), "play", name], document)
+        if ended.status:
+            raise Refused(ended.status, f"{journal.name}: on a copy: {ended.errors.decode(errors='replace').strip()}", "the journal was left as it is")
+        return Tried(found.steps, ended.output.split(b" ", 2)[2].rstrip(b"\n"))
+
+
+class Answered(NamedTuple):
+    status: int
+    output: bytes
+    errors: bytes
+
+
+def ran(words: List[str], document: bytes) -> Answered:
+    done = subprocess.run(words, input=document, stdout=subprocess.PIPE, stderr=subprocess.PIPE, check=False)
+    return Answered(program.ended_as(done.returncode), done.stdout, done.stderr)
+
+
+def hold_accepted(path_of_program: pathlib.Path, file: str, policy: bytes) -> None:
+    """The program accepts the policy. Refused with its own line, and the place in the file."""
+    ended = ran([str(path_of_program), "check"], policy)
+    if ended.status:
+        said = ended.errors.decode(errors="replace").rstrip().partition(": ")[2]
+        hint = hints.behind(path_of_program, ["check"], Ended(ended.status, ended.errors), file, policy).rstrip("\n")
+        raise Refused(ended.status, f"{file}: {said}" + (f"\n{hint}" if hint else ""))
+
+
+def report(journal: Journal, change: Change, kinds: Dict[str, bytes], reply: bytes) -> List[str]:
+    """What the amendment does, a line each."""
+    lines = [f"comes in: {it} : {kinds[it].decode()}" for it in change.new]
+    lines += [f"loses its values: {it}" for it in change.gone]
+    lines += [f"can't change: {it}, whose kind is another one" for it in change.other]
+    uses = log.uses_in(reply)
+    sessions = log.Sessions()
+    for record in journal.records() if uses else ():
+        if isinstance(record.says, Step):
+            sessions.note(record.says.command, record.says.reply)
+    return lines + [f"revokes: {use.session} [{sessions.of(use.session).decode()}] by {use.label}" for use in uses]
+
+
+# ---- the word
+
+
+def run(path_of_program: pathlib.Path, asked: Asked) -> int:
+    try:
+        return amended(path_of_program, asked)
+    except Refused as why:
+        sys.stderr.write(why.text())
+        return why.status
+
+
+def amended(path_of_program: pathlib.Path, asked: Asked) -> int:
+    policy = policy_in(asked.file)
+    hold_accepted(path_of_program, asked.file, policy)
+    if asked.is_dry:
+        with open_journal(asked.path) as journal:
+            document_and_report(path_of_program, journal, asked, policy)
+        return 0
+    open_journal(asked.path).__exit__()
+    held = take(asked.path)
+    if held is None:
+        raise Refused(FILE_FAILED, f"{asked.path} can't be opened", "look at the path")
+    try:
+        document = document_and_report(path_of_program, Journal(asked.path, held.file), asked, policy)
+        return put_in_force(path_of_program, held, asked, document)
+    finally:
+        held.release()
+
+
+def document_and_report(path_of_program: pathlib.Path, journal: Journal, asked: Asked, policy: bytes) -> bytes:
+    """Tries the amendment and says what it does. The document that makes it; refused where it can't be made, or drops what isn't named."""
+    if not journal.magic():
+        raise Refused(NO_JOURNAL, f"{journal.name} holds no record yet, and so no policy to amend", f"`ucon play {journal.name} < DOCUMENT` begins it")
+    first = next((payload for _, payload in journal.walk()), b"")
+    if first and not first.endswith(b"\n"):
+        raise Refused(NOT_AMENDED, f"{journal.name} began with a policy whose last line has no newline, so no document brings it with commands")
+    document = document_for(first, one_line(policy))
+    answer = tried(path_of_program, journal, document)
+    kinds = declared(policy)
+    change = change_of(declared(in_force(journal).text), kinds)
+    for line in report(journal, change, kinds, answer.reply):
+        print(line, flush=True)
+    if not answer.reply.startswith(b"ok"):
+        hint = "keep each kind as it is, bounds included, or give the attribute another name"
+        raise Refused(NOT_AMENDED, f"{journal.name}: the amendment is answered `{answer.reply.decode()}`", hint)
+    hold_drops(journal.name, change, asked.drops)
+    return document
+
+
+def hold_drops(name: str, change: Change, drops: List[str]) -> None:
+    missing = [it for it in change.gone if it not in drops]
+    if missing:
+        hint = f"`--drop {' '.join(change.gone)}` amends all the same; declare them in the new policy, and they keep their values"
+        raise Refused(NOT_AMENDED, f"{name} wasn't amended: {', '.join(missing)} would lose all values", hint)
+    others = [it for it in drops if it not in change.gone]
+    if others:
+        raise Refused(NOT_AMENDED, f"{name} wasn't amended: {', '.join(others)} isn't dropped by it", "name what loses its values")
+
+
+def put_in_force(path_of_program: pathlib.Path, held: Lock, asked: Asked, document: bytes) -> int:
+    with tempfile.TemporaryFile() as source, tempfile.TemporaryFile() as output:
+        source.write(document)
+        source.flush()
+        source.seek(0)
+        ended = Keeper(asked.path, held, asked.accepts_loss).run([str(path_of_program), "play", asked.path], True, source, output)
+        output.seek(0)
+        return say_made(asked, ended, output.read())
+
+
+def say_made(asked: Asked, ended: Ended, output: bytes) -> int:
+    sys.stderr.write(ended.errors.decode(errors="replace"))
+    if ended.status == 0:
+        print(f"amended: {output.split(b' ', 2)[2].decode().rstrip()}, at place {output.split()[1].decode()}")
+        print(KEPT_FIRST.format(asked.path))
+    return ended.status

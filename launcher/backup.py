@@ -1,0 +1,101 @@
+"""`ucon copy JOURNAL NEW`: a copy that is whole at one moment, read back, and put at its place in one go.
+
+It may be made while the journal is written. What counts never changes, so a copy of all records that counted at one moment is a journal."""
+import os
+import signal
+import sys
+
+from launcher.heads import Followed
+from launcher.journal import FILE_FAILED, NO_JOURNAL, Journal, Refused, open_journal
+from launcher.lock import Lock, take
+from launcher.log import say_cut_off, write
+from launcher.told import meet
+
+PART = 1 << 20
+
+
+def run(path: str, new: str) -> int:
+    """Makes the copy, and prints what an audit says first: how many records and entries it has, and its head."""
+    # A file that grows too large is a fault like others.
+    signal.signal(signal.SIGXFSZ, signal.SIG_IGN)
+    if os.path.lexists(new):
+        raise Refused(FILE_FAILED, f"{new} is there already, and was left as it is", "give the copy another name, or take the file away")
+    with open_journal(path) as journal:
+        magic = journal.magic()
+        found = made(journal, magic, new) if magic else nothing_in(journal)
+        say_cut_off(journal, found.at)
+    write(f"records {found.records}\nentries {found.steps}\nhead {found.head.hex()}\n".encode())
+    return 0
+
+
+def nothing_in(journal: Journal) -> Followed:
+    raise Refused(NO_JOURNAL, f"{journal.name} holds no record yet, and nothing was copied", "look at the path")
+
+
+def made(journal: Journal, magic: bytes, new: str) -> Followed:
+    """Writes beside the place, syncs, reads back, and gives the file its name. What a copy that was killed left there is written anew."""
+    held = take(f"{new}.part")
+    if held is None:
+        raise Refused(FILE_FAILED, f"{new} can't be made: no file can be written there", "look at the path, and at who may write in that folder")
+    try:
+        found = filled(journal, magic, held)
+        read_back(journal, found, held)
+        named(held, new)
+    except OSError as why:
+        raise Refused(FILE_FAILED, f"{new} wasn't made: {why.strerror}", "make room there, or copy to another disk") from None
+    finally:
+        if held.is_at_its_path():
+            os.unlink(held.path)
+        os.close(held.file)
+    return found
+
+
+def filled(journal: Journal, magic: bytes, held: Lock) -> Followed:
+    """Writes all records that count now, as they are read and followed, and a closed gate behind them. Says so where the journal lacks
+    what was told of it. The copy may be read by whoever may read the journal."""
+    os.ftruncate(held.file, 0)
+    os.fchmod(held.file, os.fstat(journal.file).st_mode & 0o777)
+    put(held.file, 0, magic)
+    met = meet(journal, lambda window: put(held.file, window.at, window.raw[: window.gates[-1]]))
+    if not met.followed.records:
+        nothing_in(journal)
+    if met.loss:
+        sys.stderr.write(f"ucon: {met.loss.text(journal.name)}; the copy is of what is there\n")
+    put(held.file, met.followed.at, b"\0")
+    os.fsync(held.file)
+    return met.followed
+
+
+def read_back(journal: Journal, found: Followed, held: Lock) -> None:
+    """The copy has the journal's bytes, which don't change any more, up to a gate that is closed in it."""
+    if hasattr(os, "posix_fadvise"):
+        # So that it is read from the disk, as far as the system does so.
+        os.posix_fadvise(held.file, 0, 0, os.POSIX_FADV_DONTNEED)
+    copy = Journal(held.path, held.file)
+    parts = (range(at, min(at + PART, found.at)) for at in range(0, found.at, PART))
+    is_same = all(copy.read(part.start, len(part)) == journal.read(part.start, len(part)) for part in parts)
+    if not is_same or copy.read(found.at, 2) != b"\0":
+        raise Refused(FILE_FAILED, f"what was written for the copy of {journal.name} isn't what was read", "look at both disks, and copy again")
+
+
+def put(file: int, at: int, raw: bytes) -> None:
+    view = memoryview(raw)
+    while view:
+        count = os.pwrite(file, view, at)
+        at, view = at + count, view[count:]
+
+
+def named(held: Lock, new: str) -> None:
+    """Gives the file its name, which it gets only where no other file has it."""
+    try:
+        os.link(held.path, new)
+    except FileExistsError:
+        raise Refused(FILE_FAILED, f"{new} has come to be meanwhile, and was left as it is", "give the copy another name") from None
+    except OSError:
+        # A file system without links.
+        os.rename(held.path, new)
+    folder = os.open(os.path.dirname(os.path.realpath(new)), os.O_RDONLY)
+    try:
+        os.fsync(folder)
+    finally:
+        os.close(folder)

@@ -1,0 +1,253 @@
+"""What stands around a form that writes a journal: one writer, never below what was told, and what was cut off is kept.
+
+The journal is locked; what was told of it is looked for in it; the program runs, and inherits the lock; then what is told now is written
+beside the journal. Nothing here changes the journal."""
+import os
+import pathlib
+import signal
+import subprocess
+from types import FrameType
+from typing import IO, List, NamedTuple, Optional, Tuple
+
+from launcher import lock, program
+from launcher.heads import Followed, follow, start
+from launcher.journal import LONGEST_FRESH, End, Journal, Refused
+from launcher.lock import Lock
+from launcher.program import Ended
+from launcher.told import LOST, Told, lacks, near, path_of, read_told, told_of
+
+# The forms whose last word is a journal that they write.
+WRITES = ("play", "serve", "point")
+ACCEPT = "--accept-loss"
+# The statuses behind which nothing of the journal was written, and nobody was told a place (docs/errors.md).
+UNTOUCHED = (1, 2, 3, 4, 7, 8, 10, 11)
+DISK_FAULT = 6
+GOES_ON = f"{ACCEPT} behind the journal's name goes on with what is there"
+PUT_BACK = f"nothing was written: put a copy back that has them (`ucon copy` makes one); {GOES_ON}"
+
+
+def without_accepting(words: List[str]) -> Tuple[List[str], bool]:
+    """The words of a form, and whether the word behind its journal accepts a loss."""
+    accepts = len(words) == 3 and words[0] in WRITES and words[2] == ACCEPT
+    return (words[:2], True) if accepts else (words, False)
+
+
+def writes(words: List[str]) -> bool:
+    return len(words) == 2 and words[0] in WRITES
+
+
+def run(path_of_program: pathlib.Path, words: List[str], accepts_loss: bool, catches: bool) -> Ended:
+    """Runs a form that writes a journal. What is to be said on standard error comes back; what the program says there only where
+    `catches` says so, and else it goes out by itself."""
+    try:
+        held = lock.take(words[-1])
+        if held is None:
+            # The program says what is wrong with the path.
+            return started([str(path_of_program), *words], None, catches)
+        try:
+            return Keeper(words[-1], held, accepts_loss).run([str(path_of_program), *words], catches)
+        finally:
+            held.release()
+    except Refused as why:
+        return Ended(why.status, why.text().encode())
+
+
+class Found(NamedTuple):
+    """What a journal was found as before the program opens it: up to where it was followed, what was told, and what stands behind.
+    `accepted` is why it would have been refused, where that was accepted."""
+
+    followed: Optional[Followed] = None
+    told: Optional[Told] = None
+    end: Optional[End] = None
+    accepted: str = ""
+
+
+class Tail(NamedTuple):
+    """What stands behind the records of a journal, its gate included, kept beside it."""
+
+    path: str
+    at: int
+    raw: bytes
+
+
+class Keeper:
+    """One run over a journal that is locked."""
+
+    def __init__(self, name: str, held: Lock, accepts_loss: bool) -> None:
+        self.journal = Journal(name, held.file)
+        self.held = held
+        self.told_path = path_of(held.path)
+        self.accepts_loss = accepts_loss
+        self.said: List[str] = []
+
+    def say(self, line: str) -> None:
+        self.said.append(f"ucon: {self.journal.name}: {line}\n")
+
+    def run(self, words: List[str], catches: bool, source: Optional[IO[bytes]] = None, output: Optional[IO[bytes]] = None) -> Ended:
+        """Runs the program over standard input and output, or other files."""
+        found = self.looked_at()
+        tail = self.keep_tail(found)
+        ended = started(words, self.held.file, catches, source, output)
+        if tail:
+            self.say_cut(tail)
+        if ended.status not in UNTOUCHED:
+            self.tell(found, ended.status)
+        return Ended(ended.status, ended.errors + "".join(self.said).encode())
+
+    # ---- before
+
+    def looked_at(self) -> Found:
+        """What the journal is found as. Refused where it lacks what was told, or no write of the program leaves what stands behind it."""
+        try:
+            return self.judged()
+        except Refused as why:
+            if not self.accepts_loss:
+                raise
+            return self.found_plainly()._replace(accepted=why.sentence)
+
+    def judged(self) -> Found:
+        journal, told = self.journal, read_told(self.told_path)
+        if journal.size <= LONGEST_FRESH:
+            if told:
+                says = "isn't there" if self.held.is_made else "holds no record"
+                raise Refused(LOST, f"{journal.name} {says}, and {told.place} steps of it were told", PUT_BACK)
+            return Found()
+        try:
+            followed, kept = follow(journal, start(journal), told.records if told else 0)
+        except Refused as why:
+            if told:
+                raise Refused(LOST, f"{why.sentence}; {told.place} steps of it were told", PUT_BACK) from None
+            # The program says what is wrong with it, and writes nothing.
+            return Found()
+        loss = lacks(journal, told, followed, kept) if told else None
+        if loss:
+            raise Refused(LOST, loss.text(journal.name), PUT_BACK)
+        end = journal.end(followed.at)
+        strange = end.strange or changed_gate(end, followed, told)
+        if strange:
+            says = f"{journal.name}: behind {followed.steps} whole steps, at byte {end.at}, stands what no write of the program leaves: {strange}"
+            raise Refused(LOST, says, f"nothing was written: put a copy back, or see what wrote there; {GOES_ON}")
+        return Found(followed, told, end)
+
+    def found_plainly(self) -> Found:
+        """What the journal is found as, whatever was told of it."""
+        try:
+            followed, _ = follow(self.journal, start(self.journal))
+            return Found(followed, None, self.journal.end(followed.at))
+        except Refused:
+            return Found()
+
+    def keep_tail(self, found: Found) -> Optional[Tail]:
+        """Writes what an opening will cut off beside the journal."""
+        if not found.end or not found.end.is_torn:
+            return None
+        raw = self.journal.read(found.end.at, found.end.behind + 1)
+        path = free_name(f"{self.held.path}.torn")
+        self.write_beside(path, raw)
+        return Tail(path, found.end.at, raw)
+
+    # ---- behind
+
+    def say_cut(self, tail: Tail) -> None:
+        if self.journal.read(tail.at, len(tail.raw)) == tail.raw:
+            # The program didn't open the journal.
+            remove(tail.path)
+            return
+        count = len(tail.raw) - 1
+        self.say(f"{count} bytes behind the last whole step, at byte {tail.at}, were cut off, and are kept in {near(tail.path)}")
+
+    def tell(self, found: Found, status: int) -> None:
+        """Writes place and head, as the run ended. Its status stays, whatever comes of that."""
+        try:
+            if found.accepted and os.path.lexists(self.told_path):
+                lost = free_name(f"{self.told_path}.lost")
+                os.replace(self.told_path, lost)
+                self.say(f"went on; what was told before is kept in {near(lost)}")
+            now = self.told_now(found, status)
+            if now and not (found.told and (now.records, now.head) == (found.told.records, found.told.head)):
+                self.write_beside(self.told_path, now.text().encode())
+        except (Refused, OSError) as why:
+            self.say(f"{near(self.told_path)} doesn't say what this run told: {why}")
+
+    def told_now(self, found: Found, status: int) -> Optional[Told]:
+        """What was told as the run ended: all that is in the journal. None where that is nothing."""
+        if status:
+            # A program that was killed may have left something that isn't on the disk yet.
+            os.fsync(self.held.file)
+        if not self.journal.magic():
+            return None
+        begins = found.followed or start(self.journal)
+        now, _ = follow(self.journal, begins)
+        if status == DISK_FAULT and now.records > begins.records:
+            # The last one may be the one that failed, of which nobody was told.
+            now, _ = follow(self.journal, begins, most=now.records - 1)
+        return told_of(now) if now.records else None
+
+    def write_beside(self, path: str, raw: bytes) -> None:
+        """Writes a file whole: beside its place, synced, and then renamed. It may be read by whoever may read the journal."""
+        fresh = f"{path}.new"
+        try:
+            write_whole(fresh, raw, os.fstat(self.held.file).st_mode & 0o777)
+            os.replace(fresh, path)
+        except OSError as why:
+            remove(fresh)
+            hint = "make room in the journal's folder, or see who may write there"
+            raise Refused(DISK_FAULT, f"{near(path)} can't be written: {why.strerror}", hint) from None
+
+
+def changed_gate(end: End, followed: Followed, told: Optional[Told]) -> Optional[str]:
+    """The last gate was closed where a run ended, and a later run opens it only behind a whole record."""
+    if told and told.records == followed.records and end.gate != 0:
+        return f"the gate there was closed as the last run ended, and its byte is 0x{end.gate:02x}"
+    return None
+
+
+def free_name(path: str) -> str:
+    """This name, or where it is taken the first one with a number behind it."""
+    names = (path if n == 1 else f"{path}.{n}" for n in range(1, 1_000_000))
+    return next(name for name in names if not os.path.lexists(name))
+
+
+def write_whole(path: str, raw: bytes, mode: int) -> None:
+    file = os.open(path, os.O_WRONLY | os.O_CREAT | os.O_TRUNC | os.O_CLOEXEC, 0o600)
+    try:
+        os.fchmod(file, mode)
+        view = memoryview(raw)
+        while view:
+            view = view[os.write(file, view) :]
+        os.fsync(file)
+    finally:
+        os.close(file)
+
+
+def remove(path: str) -> None:
+    try:
+        os.unlink(path)
+    except OSError:
+        pass
+
+
+# ---- the program
+
+
+def started(
+    words: List[str], kept_open: Optional[int], catches: bool, source: Optional[IO[bytes]] = None, output: Optional[IO[bytes]] = None
+) -> Ended:
+    """Runs the program, which inherits the lock. A signal that would end this process is passed on to it."""
+    files = () if kept_open is None else (kept_open,)
+    # The program has no handlers, and ends at each of these that isn't ignored; this process goes on until the program has ended.
+    heard = [number for number in (signal.SIGINT, signal.SIGTERM, signal.SIGHUP) if signal.getsignal(number) != signal.SIG_IGN]
+    before = {number: signal.signal(number, lambda *_: None) for number in heard}
+    try:
+        ran = subprocess.Popen(words, stdin=source, stdout=output, stderr=subprocess.PIPE if catches else None, pass_fds=files)
+
+        def pass_on(number: int, _: Optional[FrameType]) -> None:
+            ran.send_signal(number)
+
+        for number in set(heard) & {signal.SIGTERM, signal.SIGHUP}:
+            signal.signal(number, pass_on)
+        errors = ran.communicate()[1] or b""
+    finally:
+        for number, handler in before.items():
+            signal.signal(number, handler)
+    return Ended(program.ended_as(ran.returncode), errors)

@@ -1,0 +1,131 @@
+"""What was told of a journal, kept beside it in JOURNAL.told, and whether the journal still has it.
+
+The file is text, a word and what it says on each line:
+
+    ucon told 1
+    place 20            the last place that somebody was told
+    records 21          how many records the head is after
+    head 5f1c..         the head after them, 64 digits
+    marks 9a03..        of the head after each of them the first 2 bytes, so that the first record that differs can be named
+
+A journal has what was told where its first so many records have this head, and it has at least so many steps."""
+import os
+from typing import Callable, Dict, NamedTuple, Optional, Tuple
+
+from launcher.heads import HEAD, MARK, Followed, first_head, follow, points_in, start
+from launcher.journal import Journal, Refused, Window
+
+# The journal lacks what was told of it, or something that no write of the program leaves stands behind its records.
+LOST = 123
+FIRST_LINE = "ucon told 1"
+
+
+class Told(NamedTuple):
+    """The last place that somebody was told, and the head after so many records. `marks` may be short, or empty."""
+
+    place: int
+    records: int
+    head: bytes
+    marks: bytes
+
+    def text(self) -> str:
+        return (
+            f"{FIRST_LINE}\nplace {self.place}\nrecords {self.records}\nhead {self.head.hex()}\n"
+            + (f"marks {self.marks.hex()}\n" if self.marks else "")
+        )
+
+
+def told_of(followed: Followed) -> Told:
+    return Told(followed.steps, followed.records, followed.head, followed.marks)
+
+
+def path_of(real: str) -> str:
+    return f"{real}.told"
+
+
+def near(path: str) -> str:
+    """A companion's path as a person here would write it."""
+    found = os.path.relpath(path)
+    return path if found.startswith("..") else found
+
+
+def read_told(path: str) -> Optional[Told]:
+    """What a companion file says. None where there is none; refused where it is no such file."""
+    try:
+        with open(path, encoding="ascii") as file:
+            text = file.read()
+    except FileNotFoundError:
+        return None
+    except (OSError, UnicodeDecodeError) as why:
+        raise unread(path, str(why)) from None
+    lines = text.splitlines()
+    said: Dict[str, str] = {word: rest for word, _, rest in (line.partition(" ") for line in lines[1:])}
+    if lines[:1] != [FIRST_LINE] or not text.endswith("\n"):
+        raise unread(path, f"it doesn't begin with `{FIRST_LINE}`, or has no end")
+    try:
+        if not HEAD.fullmatch(said["head"]):
+            raise ValueError("its head isn't 64 digits")
+        return Told(int(said["place"]), int(said["records"]), bytes.fromhex(said["head"]), bytes.fromhex(said.get("marks", "")))
+    except (KeyError, ValueError) as why:
+        raise unread(path, str(why)) from None
+
+
+def unread(path: str, why: str) -> Refused:
+    hint = "put it back from a copy, or go on without it: --accept-loss"
+    return Refused(LOST, f"{near(path)}, which keeps what was told of the journal, can't be read: {why}", hint)
+
+
+# ---- whether it is there
+
+
+class Loss(NamedTuple):
+    """What a journal lacks of what was told: the first record that differs, or those among which it is, and the first step missing."""
+
+    first: int
+    last: int
+    at: int
+    step: int
+    place: int
+
+    def text(self, name: str) -> str:
+        which = f"record {self.first}" if self.first == self.last else f"one of the records {self.first} to {self.last}"
+        missing = self.place - self.step + 1
+        steps = f"{missing} of the {self.place} steps that were told {'is' if missing == 1 else 'are'} missing, from step {self.step} on"
+        if missing <= 0:
+            steps = f"all {self.place} steps that were told are before it"
+        return f"{name} isn't what was told: {which}, at byte {self.at}, is the first that differs, and {steps}"
+
+
+def lacks(journal: Journal, told: Told, followed: Followed, kept: Optional[bytes]) -> Optional[Loss]:
+    """What the journal lacks. It was followed to its end, and `kept` is its head after as many records as were told."""
+    head = first_head(journal.magic()) if told.records == 0 else kept
+    if head == told.head and followed.steps >= told.place:
+        return None
+    first, last = (followed.records, followed.records) if head == told.head else differing(told, followed)
+    before, _ = follow(journal, start(journal), most=first)
+    return Loss(first, last, before.at, before.steps + 1, told.place)
+
+
+def differing(told: Told, followed: Followed) -> Tuple[int, int]:
+    """The first record that differs, by the marks of the two; where these don't tell, the records among which it is."""
+    both = min(len(told.marks), len(followed.marks)) // MARK
+    pairs = ((told.marks[MARK * n : MARK * n + MARK], followed.marks[MARK * n : MARK * n + MARK]) for n in range(both))
+    same = next((n for n, (a, b) in enumerate(pairs) if a != b), both)
+    if same < both or followed.records == same < told.records:
+        return same, same
+    return (same if same < told.records else 0), max(min(told.records - 1, followed.records), 0)
+
+
+class Met(NamedTuple):
+    """A journal that was followed to its end, what was told of it, and what it lacks of that."""
+
+    followed: Followed
+    told: Optional[Told]
+    loss: Optional[Loss]
+
+
+def meet(journal: Journal, hear: Optional[Callable[[Window], None]] = None) -> Met:
+    """Follows a journal, whose magic stands, to its end, and looks for what was told of it. Who hears is given what was read."""
+    told = read_told(path_of(os.path.realpath(journal.name)))
+    followed, kept = follow(journal, start(journal), told.records if told else 0, hear=hear)
+    return Met(followed, told, lacks(journal, told, followed, kept) if told else None)
