@@ -20,15 +20,11 @@ pub record IsOwnJournalBy (reads : PolicyReading) (text : Bytes) (contents : Opt
   pub entries : ℕ
   pub own : IsOwnFileBy reads text entries file
 
--- a form with a journal finds one that is the document's own
-abbrev pub FindsItsJournalBy : PolicyReading → Form → Bytes → Option Bytes → Type 0
-FindsItsJournalBy reads form bytes contents = OnTrue (traits form).disk (IsOwnJournalBy reads (policy_part bytes) contents)
-
--- Nothing hinders a run of a form over these bytes: they are an accepted document, the journal, as the disk tells it and opening sees it, is
--- fresh or the document's own, and no count of faults rose.
+-- Nothing hinders a run of a form over these bytes: they are an accepted document, the journal of a form that has one, as the
+-- disk tells it and opening sees it, is fresh or the document's own, and no count of faults rose.
 pub record IsUnhinderedBy (reads : PolicyReading) (form : Form) (bytes : Bytes) (before after : Seen) : Type 0 where
   pub accepted : IsAcceptedBy reads bytes
-  pub journal : FindsItsJournalBy reads form bytes before.disk.contents
+  pub journal : OnTrue (traits form).disk (IsOwnJournalBy reads (policy_part bytes) before.disk.contents)
   pub source_works : ¬ Rose before.source.faults after.source.faults
   pub sink_works : ¬ Rose before.sink.faults after.sink.faults
   pub disk_works : ¬ Rose before.disk.faults after.disk.faults
