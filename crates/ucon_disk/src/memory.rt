@@ -53,13 +53,6 @@ impl MemDisk {
         self.log.bytes()
     }
 
-    /// The moment: how many calls are recorded.
-    pub fn moment(&self) -> u64
-        ensures { result ≡ length (history_of self.now).changes }
-    {
-        self.log.len()
-    }
-
     /// How often a call found no memory.
     pub fn short(&self) -> u64
         ensures { result ≡ short_of self.now }

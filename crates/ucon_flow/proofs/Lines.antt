@@ -177,6 +177,7 @@ module _ {S : Type 0} (left : S → Option (List ℕ)) (calls : S → ℕ) where
             let longest : length (first_line b.held) ≡ length b.held = ap (λ (x : List ℕ). length x) (no_line b.held at.0) in
             inr (subst IsBare (sym line_is) at.0, omega arith, sym rest ∙ drop_all len b.held (omega arith), at.1)) o) whole;
       }
+
 -- a test that finds no newline
 pub not_there : (bytes : List ℕ) (whole : Bool) → whole ≡ nat_lt (newline bytes) (length bytes) → whole ≡ false → IsBare bytes
 not_there bytes whole e bare = let w = newline_within bytes in grind arith

@@ -35,23 +35,29 @@ module _ {S : Type 0} (left : S → Option (List ℕ)) (calls : S → ℕ) where
   -- what is held goes, too, and a piece is read
   pub skipped_on : (a b c d : Reading) (first mid last : S) (s : Skipping left calls a b first mid) → IsBare b.held → c ≡ record b { held = [] } → Asks left calls c d mid last
       → (t : Skipping left calls a d first last) × (t.skipped ≡ s.skipped ++ b.held)
-  skipped_on a b c d first mid last s bare e (inl same) = (record {
-    read = s.read;
-    reads = subst (λ (x : S). Reads left calls a.held first x s.read) (sym same.0) s.reads;
-    skipped = s.skipped ++ b.held;
-    all = s.all ∙ (sym (append-nil (s.skipped ++ b.held)) ∙ ap (λ (x : List ℕ). (s.skipped ++ b.held) ++ x) (sym (ap (λ (r : Reading). r.held) same.1 ∙ ap (λ (r : Reading). r.held) e)));
-    limit = ap (λ (r : Reading). r.limit) same.1 ∙ (ap (λ (r : Reading). r.limit) e ∙ s.limit);
-    bare = bare_append s.skipped b.held s.bare bare;
-  }, refl)
-  skipped_on a b c d first mid last s bare e (inr once) = (record {
-    read = s.read ++ once.piece;
-    reads = asked_more left calls a.held s.read once.piece first mid last s.reads (subst IsBare (sym s.all) (bare_append s.skipped b.held s.bare bare)) once.consumed once.one_call;
-    skipped = s.skipped ++ b.held;
-    all = sym (append_assoc a.held s.read once.piece) ∙ (ap (λ (x : List ℕ). x ++ once.piece) s.all
-        ∙ ap (λ (x : List ℕ). (s.skipped ++ b.held) ++ x) (sym (held_of c d once.piece once.same ∙ ap (λ (x : List ℕ). x ++ once.piece) (ap (λ (r : Reading). r.held) e))));
-    limit = limit_of c d once.piece once.same ∙ (ap (λ (r : Reading). r.limit) e ∙ s.limit);
-    bare = bare_append s.skipped b.held s.bare bare;
-  }, refl)
+  skipped_on a b c d first mid last s bare e (inl same) = (
+    record {
+      read = s.read;
+      reads = subst (λ (x : S). Reads left calls a.held first x s.read) (sym same.0) s.reads;
+      skipped = s.skipped ++ b.held;
+      all = s.all ∙ (sym (append-nil (s.skipped ++ b.held)) ∙ ap (λ (x : List ℕ). (s.skipped ++ b.held) ++ x) (sym (ap (λ (r : Reading). r.held) same.1 ∙ ap (λ (r : Reading). r.held) e)));
+      limit = ap (λ (r : Reading). r.limit) same.1 ∙ (ap (λ (r : Reading). r.limit) e ∙ s.limit);
+      bare = bare_append s.skipped b.held s.bare bare;
+    },
+    refl,
+  )
+  skipped_on a b c d first mid last s bare e (inr once) = (
+    record {
+      read = s.read ++ once.piece;
+      reads = asked_more left calls a.held s.read once.piece first mid last s.reads (subst IsBare (sym s.all) (bare_append s.skipped b.held s.bare bare)) once.consumed once.one_call;
+      skipped = s.skipped ++ b.held;
+      all = sym (append_assoc a.held s.read once.piece) ∙ (ap (λ (x : List ℕ). x ++ once.piece) s.all
+          ∙ ap (λ (x : List ℕ). (s.skipped ++ b.held) ++ x) (sym (held_of c d once.piece once.same ∙ ap (λ (x : List ℕ). x ++ once.piece) (ap (λ (r : Reading). r.held) e))));
+      limit = limit_of c d once.piece once.same ∙ (ap (λ (r : Reading). r.limit) e ∙ s.limit);
+      bare = bare_append s.skipped b.held s.bare bare;
+    },
+    refl,
+  )
 
   -- the line's newline was found
   pub skipped_whole : (a b : Reading) (first last : S) (seen : List ℕ) (limit gone len : ℕ) → Skipping left calls a b first last → b ≡ record { limit = limit; held = drop gone seen } → HasNewline b.held

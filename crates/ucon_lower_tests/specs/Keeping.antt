@@ -1,14 +1,12 @@
 -- What a keeper has put on a disk, for a witness that a conversation's clauses can be met.
 use Rattle.std.proofs.Common.{◌≡◌, ◌⊎◌, inl, inr, ⊎_elim, ℕ, ◌+◌, ◌≤◌, ◌<◌, ◌^◌, List, [], ◌∷◌, ◌++◌, length, take, drop, min, Option, Some, None, refl, sym, ap, subst, ◌∙◌, arith, length-append}
-use Rattle.std.specs.Prelude.{IfSome, is_some, codes, map, true}
+use Rattle.std.specs.Prelude.{IfSome, is_some, codes, true}
 use Rattle.std.specs.Option.{option_map}
 use Rattle.std.proofs.Math.Seq.{take-append_seam}
 use Rattle.std.proofs.lemmas.List.{append-nil, drop_all, length-take, take_all, take-take}
 use Rattle.ucon_disk.specs.Disk.{Elapses, Follows, HasPlace, NoneNew, Only, SameImages, Torn, overwritten}
 use Rattle.ucon_disk.specs.Run.{LeavesOnly, goes_on, joined, started, weaker}
 use Rattle.ucon_flow.specs.Lines.{IsLine}
-use Rattle.ucon_tell.specs.Seen.{VoiceSeen}
-use Rattle.ucon_tell.specs.Told.{Notes}
 
 -- the file begins with these bytes
 abbrev pub BeginsWith : List ℕ → List ℕ → Type 0
@@ -130,48 +128,6 @@ module _ {D : Type 0} (contents : D → Option (List ℕ)) (images : D → List 
         told = same ∙ now;
         each = λ c image. subst (λ (file : List ℕ). BeginsWith (kept ++ bytes) file) (sym (only_file (contents z) (kept ++ bytes) (images w) now only c image)) (begins_all (kept ++ bytes));
       }
-
--- ---- notes
-
--- one of the notes says that these bytes were held by this moment
-abbrev pub IsNoted : List (List ℕ × ℕ) → List ℕ → ℕ → Type 0
-IsNoted [] b t = ⊥
-IsNoted (n ∷ ns) b t = ((b ≡ n.0) × (t ≡ n.1)) ⊎ IsNoted ns b t
-
--- notes of any kind, by what they say
-abbrev pub notes_in : {N : Type 0} → (N → List ℕ) → (N → ℕ) → List N → List (List ℕ × ℕ)
-notes_in bytes moment ns = map {B = List ℕ × ℕ} (λ n. (bytes n, moment n)) ns
-
-pub noted_before : (ns : List (List ℕ × ℕ)) (n : List ℕ × ℕ) (b : List ℕ) (t : ℕ) → IsNoted ns b t → IsNoted (ns ++ n ∷ []) b t
-noted_before [] n b t h = absurd h
-noted_before (m ∷ ns) n b t h = ⊎_elim inl (λ (rest : IsNoted ns b t). inr (noted_before ns n b t rest)) h
-
-pub noted_last : (ns : List (List ℕ × ℕ)) (n : List ℕ × ℕ) → IsNoted (ns ++ n ∷ []) n.0 n.1
-noted_last [] n = inl (refl, refl)
-noted_last (m ∷ ns) n = inr (noted_last ns n)
-
-pub noted_else : (ns : List (List ℕ × ℕ)) (n : List ℕ × ℕ) (b : List ℕ) (t : ℕ) → IsNoted (ns ++ n ∷ []) b t → IsNoted ns b t ⊎ ((t ≡ n.1) × (b ≡ n.0))
-noted_else [] n b t h = ⊎_elim (λ (is : (b ≡ n.0) × (t ≡ n.1)). inr (is.1, is.0)) (λ (none : ⊥). absurd none) h
-noted_else (m ∷ ns) n b t h = ⊎_elim (λ (is : (b ≡ m.0) × (t ≡ m.1)). inl (inl is))
-    (λ (rest : IsNoted (ns ++ n ∷ []) b t). ⊎_elim (λ (in_rest : IsNoted ns b t). inl (inr in_rest)) (λ (is : (t ≡ n.1) × (b ≡ n.0)). inr is) (noted_else ns n b t rest)) h
-
--- what a voice in memory tells: what it holds, and its notes
-abbrev pub page : List ℕ → ℕ → List (List ℕ × ℕ) → VoiceSeen
-page held faults ns = record { contents = Some held; faults = faults; told = IsNoted ns }
-
--- one note more
-pub page_notes : (a held : List ℕ) (f g : ℕ) (ns ms : List (List ℕ × ℕ)) (m moment : ℕ) → ms ≡ ns ++ (held, m) ∷ [] → m ≡ moment → Notes (page a f ns) (page held g ms) moment × IsNoted ms held moment
-page_notes a held f g ns ms m moment e at = (record {
-  kept = λ b t h. subst (λ (l : List (List ℕ × ℕ)). IsNoted l b t) (sym e) (noted_before ns (held, m) b t h);
-  nothing_else = λ b t h. ⊎_elim inl (λ (is : (t ≡ m) × (b ≡ held)). inr (is.0 ∙ at, is.1)) (noted_else ns (held, m) b t (subst (λ (l : List (List ℕ × ℕ)). IsNoted l b t) e h));
-}, subst (λ (l : List (List ℕ × ℕ)). IsNoted l held moment) (sym e) (subst (λ (t : ℕ). IsNoted (ns ++ (held, m) ∷ []) held t) at (noted_last ns (held, m))))
-
--- no note more
-pub page_still : (a b : List ℕ) (f g : ℕ) (ns ms : List (List ℕ × ℕ)) (moment : ℕ) → ms ≡ ns → Notes (page a f ns) (page b g ms) moment
-page_still a b f g ns ms moment e = record {
-  kept = λ c t h. subst (λ (l : List (List ℕ × ℕ)). IsNoted l c t) (sym e) h;
-  nothing_else = λ c t h. inl (subst (λ (l : List (List ℕ × ℕ)). IsNoted l c t) e h);
-}
 
 -- ---- moments
 

@@ -1,6 +1,6 @@
-//! A keeper over a disk, a voice in memory, and what was told beside what a crash leaves.
-ghost use Rattle.std.specs.Prelude.{◌≡◌, ◌≤◌, ◌++◌, ℕ, List, [], ◌∷◌, length, codes, OnErr, OnOk};
-ghost use Rattle.ucon_lower_tests.specs.Keeping.{BeginsWith, IsAnswer, Keeps, KeepsOn, at_least, keeps_again, keeps_still, no_less, notes_in, page};
+//! A keeper over a disk, and what was told beside what a crash leaves.
+ghost use Rattle.std.specs.Prelude.{◌≡◌, ◌≤◌, ◌++◌, ℕ, List, None, length, codes, OnOk};
+ghost use Rattle.ucon_lower_tests.specs.Keeping.{BeginsWith, IsAnswer, Keeps, KeepsOn, at_least, keeps_again, keeps_still, no_less};
 
 use std::alloc::Global;
 use std::test::Fail;
@@ -52,8 +52,10 @@ impl<D: Disk + Drop> Keeper for Scribe<D> {
 
     ghost same = { λ x. (at_least (D.moment x.disk), λ k. keeps_still D.contents D.images D.moment D.images_since D.only_now x.disk x.kept.items k) };
 
-    ghost again = { λ x y z p q. (no_less (D.moment x.disk) (D.moment y.disk) (D.moment z.disk) p.0 q.0,
-        λ k. keeps_again D.contents D.images D.moment D.images_since x.disk y.disk z.disk x.kept.items y.kept.items z.kept.items (p.1 k) (q.1 (p.1 k).keeps)) };
+    ghost again = { λ x y z p q. (
+      no_less (D.moment x.disk) (D.moment y.disk) (D.moment z.disk) p.0 q.0,
+      λ k. keeps_again D.contents D.images D.moment D.images_since x.disk y.disk z.disk x.kept.items y.kept.items z.kept.items (p.1 k) (q.1 (p.1 k).keeps),
+    ) };
 
     fn answer(&mut self, alloc: Global, line: &[u8], text: &mut Vec<u8>) -> Result<(), NoMemory> {
         let mut bytes = line.to_vec(alloc)?;
@@ -77,18 +79,10 @@ impl<D: Disk + Drop> Keeper for Scribe<D> {
     }
 }
 
-/// What a voice held by a moment.
-#[derive(Drop)]
-struct Note {
-    bytes: Vec<u8>,
-    moment: u64,
-}
-
-/// A voice in memory that writes down what it held when.
+/// A voice in memory. It doesn't tell what it holds, since it takes no note of moments; the tests look at its bytes.
 #[derive(Drop)]
 struct Page {
     bytes: Vec<u8>,
-    notes: Vec<Note>,
     faults: u64,
 }
 
@@ -96,36 +90,16 @@ impl Page {
     fn new(alloc: Global) -> Page {
         Page {
             bytes: Vec::new(alloc),
-            notes: Vec::new(alloc),
             faults: 0,
         }
     }
-
-    /// Adds bytes, and writes down that all of them were held by this moment.
-    fn note(&mut self, bytes: &[u8], moment: u64) -> Result<(), NoMemory>
-        ensures ok { OnOk result ((self.new.bytes.items ≡ self.old.bytes.items ++ bytes.now)
-            × (notes_in (λ n. n.bytes.items) (λ n. n.moment) self.new.notes.items
-            ≡ notes_in (λ n. n.bytes.items) (λ n. n.moment) self.old.notes.items ++ (self.new.bytes.items, moment) ∷ [])) }
-        ensures err { OnErr result ((self.new.bytes.items ≡ self.old.bytes.items) × (self.new.notes.items ≡ self.old.notes.items)) }
-        ensures faults { self.new.faults ≡ self.old.faults }
-    {
-        let mut all = self.bytes.clone()?;
-        all.extend_from_slice(bytes)?;
-        let held = all.clone()?;
-        self.notes.push(Note {
-            bytes: held,
-            moment,
-        })?;
-        self.bytes = all;
-        Ok(())
-    }
 }
 
-impl Voice<Scribe<MemDisk>> for Page {
-    ghost seen = { λ v. page v.bytes.items v.faults (notes_in (λ n. n.bytes.items) (λ n. n.moment) v.notes.items) };
+impl<K: Keeper> Voice<K> for Page {
+    ghost seen = { λ v. record { contents = None; faults = v.faults; told = λ _ _. ⊥ } };
 
-    fn write(&mut self, bytes: &[u8], keeper: &Scribe<MemDisk>) -> Result<usize, Failed> {
-        match self.note(bytes, keeper.disk.moment()) {
+    fn write(&mut self, bytes: &[u8], _keeper: &K) -> Result<usize, Failed> {
+        match self.bytes.extend_from_slice(bytes) {
             Ok(()) => Ok(bytes.len()),
             Err(_) => {
                 self.faults = self.faults.saturating_add(1);
@@ -137,8 +111,26 @@ impl Voice<Scribe<MemDisk>> for Page {
 
 /// Twenty lines, of which two are too long with their newline.
 const LINES: &[&[u8]] = &[
-    b"a", b"bc", b"", b"def", b"ghij", b"klmno", b"pqrstu", b"vwxyzab", b"cdefghij", b"k", b"l", b"mn",
-    b"a line that is too long by far", b"o", b"pq", b"", b"r", b"s", b"t", b"u",
+    b"a",
+    b"bc",
+    b"",
+    b"def",
+    b"ghij",
+    b"klmno",
+    b"pqrstu",
+    b"vwxyzab",
+    b"cdefghij",
+    b"k",
+    b"l",
+    b"mn",
+    b"a line that is too long by far",
+    b"o",
+    b"pq",
+    b"",
+    b"r",
+    b"s",
+    b"t",
+    b"u",
 ];
 
 /// How many calls of the disk these take: three for each that is not too long.
@@ -170,7 +162,10 @@ fn told(alloc: Global, page: &Page) -> Result<Vec<u8>, Fail> {
 /// Whether each image of the disk begins with these bytes, whatever stands in its open places.
 fn is_found(disk: &MemDisk, told: &[u8]) -> Result<bool, Fail> {
     for len in 0..200u64 {
-        for fill in [b"".as_slice(), b"????????????????????????????????".as_slice()] {
+        for fill in [
+            b"".as_slice(),
+            b"????????????????????????????????".as_slice(),
+        ] {
             if let Some(image) = disk.image(len, fill).map_err(|_| "no memory")?
                 && !image.starts_with(told)
             {
@@ -196,7 +191,10 @@ fn what_was_told_is_found_behind_a_crash_at_any_call(rt: HostRuntime) -> Result<
         assert!(rt; talk(alloc, &mut keeper, &mut lines, &mut input, &mut page).is_ok());
         let told = told(alloc, &page)?;
         let replies = page.bytes.iter().filter(|b| **b == b'\n').count();
-        assert!(rt; replies == LINES.len() && keeper.kept.as_slice() == told.as_slice(), "{calls}");
+        assert!(rt;
+            replies == LINES.len() && keeper.kept.as_slice() == told.as_slice(),
+            "{calls}"
+        );
         assert!(rt; is_found(&keeper.disk, &told)?, "{calls}");
         assert!(rt; calls < CALLS || keeper.disk.contents() == told.as_slice());
     }
