@@ -84,7 +84,7 @@ module _ {S : Type 0} (left : S → Option (List ℕ)) (calls : S → ℕ) where
     heard_as = (
       refl,
       (let fits : length line ≤ a.limit = g.fits in
-      let size : length line ≡ length text.items + 1 = ap (λ (x : List ℕ). length x) cut ∙ length-append text.items (10 ∷ []) in omega arith)
+          let size : length line ≡ length text.items + 1 = ap (λ (x : List ℕ). length x) cut ∙ length-append text.items (10 ∷ []) in omega arith),
     );
   }
   given_next (Some TooLong) a b first last line g cut none = absurd cut
