@@ -110,8 +110,26 @@ impl<K: Keeper> Voice<K> for Page {
 
 /// Twenty lines, of which two are too long with their newline.
 const LINES: &[&[u8]] = &[
-    b"a", b"bc", b"", b"def", b"ghij", b"klmno", b"pqrstu", b"vwxyzab", b"cdefghij", b"k", b"l", b"mn",
-    b"a line that is too long by far", b"o", b"pq", b"", b"r", b"s", b"t", b"u",
+    b"a",
+    b"bc",
+    b"",
+    b"def",
+    b"ghij",
+    b"klmno",
+    b"pqrstu",
+    b"vwxyzab",
+    b"cdefghij",
+    b"k",
+    b"l",
+    b"mn",
+    b"a line that is too long by far",
+    b"o",
+    b"pq",
+    b"",
+    b"r",
+    b"s",
+    b"t",
+    b"u",
 ];
 
 /// How many calls of the disk these take: three for each that is not too long.
@@ -143,7 +161,10 @@ fn told(alloc: Global, page: &Page) -> Result<Vec<u8>, Fail> {
 /// Whether each image of the disk begins with these bytes, whatever stands in its open places.
 fn is_found(disk: &MemDisk, told: &[u8]) -> Result<bool, Fail> {
     for len in 0..200u64 {
-        for fill in [b"".as_slice(), b"????????????????????????????????".as_slice()] {
+        for fill in [
+            b"".as_slice(),
+            b"????????????????????????????????".as_slice(),
+        ] {
             if let Some(image) = disk.image(len, fill).map_err(|_| "no memory")?
                 && !image.starts_with(told)
             {
@@ -169,7 +190,10 @@ fn what_was_told_is_found_behind_a_crash_at_any_call(rt: HostRuntime) -> Result<
         assert!(rt; talk(alloc, &mut keeper, &mut lines, &mut input, &mut page).is_ok());
         let told = told(alloc, &page)?;
         let replies = page.bytes.iter().filter(|b| **b == b'\n').count();
-        assert!(rt; replies == LINES.len() && keeper.kept.as_slice() == told.as_slice(), "{calls}");
+        assert!(rt;
+            replies == LINES.len() && keeper.kept.as_slice() == told.as_slice(),
+            "{calls}"
+        );
         assert!(rt; is_found(&keeper.disk, &told)?, "{calls}");
         assert!(rt; calls < CALLS || keeper.disk.contents() == told.as_slice());
     }
