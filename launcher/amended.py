@@ -19,8 +19,8 @@ def judge_of(path_of_program: str) -> Judge:
     """Judges by a program's `check`."""
 
     def judge(policy: bytes) -> bytes:
-        ran = subprocess.run([path_of_program, "check"], input=policy, stdout=subprocess.DEVNULL, stderr=subprocess.PIPE, timeout=LONGEST, check=False)
-        return ran.stderr
+        words, quiet = [path_of_program, "check"], subprocess.DEVNULL
+        return subprocess.run(words, input=policy, stdout=quiet, stderr=subprocess.PIPE, timeout=LONGEST, check=False).stderr
 
     return judge
 

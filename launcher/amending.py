@@ -123,7 +123,8 @@ def tried(path_of_program: pathlib.Path, journal: Journal, document: bytes) -> T
             os.close(file)
         ended = ran([str(path_of_program), "play", name], document)
         if ended.status:
-            raise Refused(ended.status, f"{journal.name}: on a copy: {ended.errors.decode(errors='replace').strip()}", "the journal was left as it is")
+            said = ended.errors.decode(errors="replace").strip()
+            raise Refused(ended.status, f"{journal.name}: on a copy: {said}", "the journal was left as it is")
         return Tried(found.steps, ended.output.split(b" ", 2)[2].rstrip(b"\n"))
 
 
@@ -192,7 +193,8 @@ def amended(path_of_program: pathlib.Path, asked: Asked) -> int:
 def document_and_report(path_of_program: pathlib.Path, journal: Journal, asked: Asked, policy: bytes) -> bytes:
     """Tries the amendment and says what it does. The document that makes it; refused where it can't be made, or drops what isn't named."""
     if not journal.magic():
-        raise Refused(NO_JOURNAL, f"{journal.name} holds no record yet, and so no policy to amend", f"`ucon play {journal.name} < DOCUMENT` begins it")
+        hint = f"`ucon play {journal.name} < DOCUMENT` begins it"
+        raise Refused(NO_JOURNAL, f"{journal.name} holds no record yet, and so no policy to amend", hint)
     first = next((payload for _, payload in journal.walk()), b"")
     if first and not first.endswith(b"\n"):
         raise Refused(NOT_AMENDED, f"{journal.name} began with a policy whose last line has no newline, so no document brings it with commands")

@@ -4,6 +4,7 @@ It may be made while the journal is written. What counts never changes, so a cop
 import os
 import signal
 import sys
+from typing import NoReturn
 
 from launcher.heads import Followed
 from launcher.journal import FILE_FAILED, NO_JOURNAL, Journal, Refused, open_journal
@@ -28,7 +29,7 @@ def run(path: str, new: str) -> int:
     return 0
 
 
-def nothing_in(journal: Journal) -> Followed:
+def nothing_in(journal: Journal) -> NoReturn:
     raise Refused(NO_JOURNAL, f"{journal.name} holds no record yet, and nothing was copied", "look at the path")
 
 

@@ -58,7 +58,9 @@ OWN = [
     Form("--version", "the commit, and whether the program that is run is the proved one", ""),
 ]
 # Words that there were once, and what stands in their place.
-GONE = {"quick": "`quick` is gone, since `./ucon FORM` is as quick: where no proved program is built, the program as it is written is compiled once and kept"}
+GONE = {
+    "quick": "`quick` is gone, since `./ucon FORM` is as quick: where no proved program is built, the program as it is written is compiled once",
+}
 
 
 def is_decimal(word: str, least: int, greatest: int) -> bool:

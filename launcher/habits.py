@@ -39,7 +39,9 @@ def written_at_once(fault: Fault) -> Optional[Hint]:
         return None
     place = text_of(fault, item.tokens[1].start, item.tokens[3].end)
     sign = signs[:1].decode()
-    return Hint(f"an update is written in full, as `{item.tokens[0].raw.decode()} {place} = {place} {sign} 1;`") if signs[1:] in (b"=", b"+", b"-") else None
+    if signs[1:] not in (b"=", b"+", b"-"):
+        return None
+    return Hint(f"an update is written in full, as `{item.tokens[0].raw.decode()} {place} = {place} {sign} 1;`")
 
 
 def kind_of_a_declaration(fault: Fault) -> Optional[Hint]:
@@ -50,7 +52,8 @@ def kind_of_a_declaration(fault: Fault) -> Optional[Hint]:
     if count == at and fault.token.raw == b"=":
         return Hint(f"`:` and a kind are missing behind the name: {ALL_KINDS}")
     if count == at + 1 and fault.token.kind == "word":
-        return Hint(KINDS.get(name) or (f"a similar kind is `{near(name, ('int', 'text', 'set'))}`" if near(name, ("int", "text", "set")) else ALL_KINDS))
+        similar = near(name, ("int", "text", "set"))
+        return Hint(KINDS.get(name) or (f"a similar kind is `{similar}`" if similar else ALL_KINDS))
     if count == at + 2 and item.tokens[-1].raw == b"int" and fault.token.kind != "number" and fault.token.raw != b"-":
         return Hint("an `int` has a range, as `int 0..100`", Span(item.tokens[-1].start, item.tokens[-1].end))
     return None
@@ -76,7 +79,8 @@ def label_of_a_predicate(fault: Fault) -> Optional[Hint]:
         return None
     time, words = item.tokens[0].raw.decode(), [token.raw for token in item.tokens]
     if len(words) == 1 and fault.token.raw not in SORTS and fault.token.kind == "word":
-        return Hint(f"behind `{time}` stands `a` (an authorisation), `b` (an obligation) or `c` (a condition), and then a label, as `{time} a LABEL: ..;`")
+        sorts = "`a` (an authorisation), `b` (an obligation) or `c` (a condition)"
+        return Hint(f"behind `{time}` stands {sorts}, and then a label, as `{time} a LABEL: ..;`")
     sort = words[1].decode() if len(words) > 1 else ""
     form = f"`{time} {sort} LABEL: ..;`"
     if len(words) == 2 and fault.token.kind != "word":

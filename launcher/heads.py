@@ -2,17 +2,16 @@
 
 The head after no record is SHA-256 (FIPS 180-4) of the file's first 8 bytes; the head after one record more is SHA-256 of the head before
 it, followed by the record's payload. Checkpoints count as records. `crates/ucon_audit` defines the same."""
-import hashlib
 import re
 from typing import Callable, Iterable, List, NamedTuple, Optional, Tuple
 
 from launcher.journal import FIRST_GATE, POINT, Journal, Window
 
-# The C library's own takes longer for each of many short texts, so Python's is used where it is there.
+# Python's own takes less time for each of many short texts than the one of OpenSSL, which `hashlib` has. Not every Python has it.
 try:
     from _sha256 import sha256  # type: ignore[import-not-found]
 except ImportError:
-    sha256 = hashlib.sha256
+    from hashlib import sha256
 
 HEAD = re.compile("[0-9a-f]{64}")
 SIZE = 32

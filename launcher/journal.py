@@ -147,6 +147,9 @@ class End(NamedTuple):
         """Why no write of the program leaves this, even one that was killed or stopped by a crash. None where one may have left it."""
         if not self.is_torn:
             return None
+        if self.gate == 1 and self.has_whole:
+            # It was added since the walk.
+            return None
         if self.gate == 1:
             return "its gate is open, and the file ends within the record"
         if self.gate != 0 and self.has_whole:

@@ -110,7 +110,8 @@ class Keeper:
         if journal.size <= LONGEST_FRESH:
             if told:
                 says = "isn't there" if self.held.is_made else "holds no record"
-                raise Refused(LOST, f"{journal.name} {says}, and {told.place} steps of it were told", PUT_BACK)
+                hint = f"put a copy back that has them; to begin a new journal, take {near(self.told_path)} away, or say {ACCEPT} behind the name"
+                raise Refused(LOST, f"{journal.name} {says}, and {told.place} steps of it were told", hint)
             return Found()
         try:
             followed, kept = follow(journal, start(journal), told.records if told else 0)
@@ -131,6 +132,8 @@ class Keeper:
 
     def found_plainly(self) -> Found:
         """What the journal is found as, whatever was told of it."""
+        if self.journal.size <= LONGEST_FRESH:
+            return Found()
         try:
             followed, _ = follow(self.journal, start(self.journal))
             return Found(followed, None, self.journal.end(followed.at))
@@ -143,7 +146,13 @@ class Keeper:
             return None
         raw = self.journal.read(found.end.at, found.end.behind + 1)
         path = free_name(f"{self.held.path}.torn")
-        self.write_beside(path, raw)
+        try:
+            self.write_beside(path, raw)
+        except Refused as why:
+            if not self.accepts_loss:
+                raise
+            self.say(f"what is cut off isn't kept: {why}")
+            return None
         return Tail(path, found.end.at, raw)
 
     # ---- behind
@@ -191,7 +200,7 @@ class Keeper:
             os.replace(fresh, path)
         except OSError as why:
             remove(fresh)
-            hint = "make room in the journal's folder, or see who may write there"
+            hint = f"make room in the journal's folder, or see who may write there; {GOES_ON}"
             raise Refused(DISK_FAULT, f"{near(path)} can't be written: {why.strerror}", hint) from None
 
 

@@ -196,7 +196,8 @@ def never(policy: Policy) -> Iterator[Finding]:
                 known = known.holds(it.formula)
                 if alone or known.is_impossible() or truth(known, it.formula) is False:
                     why = "is false whatever the values are" if alone else "is false where those before it hold"
-                    yield Finding("never", it.span, f"`{it.label}` {why}, {says} `{right.name}`", "look at the comparison, and at the ranges of what it reads")
+                    mend = "look at the comparison, and at the ranges of what it reads"
+                    yield Finding("never", it.span, f"`{it.label}` {why}, {says} `{right.name}`", mend)
                     break
 
 

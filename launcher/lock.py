@@ -62,12 +62,12 @@ def take(path: str) -> Optional[Lock]:
 
 
 def opened(real: str) -> Optional[Lock]:
-    for how, is_made in ((os.O_RDWR, False), (os.O_RDONLY, False), (os.O_RDWR | os.O_CREAT | os.O_EXCL, True)):
+    """The file, opened as far as that is possible: a lock needs no leave to write."""
+    for how, is_made in ((os.O_RDWR, False), (os.O_RDWR | os.O_CREAT | os.O_EXCL, True), (os.O_RDWR, False), (os.O_RDONLY, False)):
         try:
             file = os.open(real, how | os.O_CLOEXEC | os.O_NONBLOCK, 0o666)
-        except FileExistsError:
-            return opened(real)
         except OSError:
+            # Not there, there already, or not to be opened so: the next way is tried.
             continue
         if stat.S_ISREG(os.fstat(file).st_mode):
             return Lock(real, file, is_made)

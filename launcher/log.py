@@ -18,13 +18,8 @@ NAMED = re.compile(rb"(permitted|ended) (\d+)|(denied|waiting|revoked) (\d+) (\w
 # All that a line may show as it is; a policy's comment may hold any byte.
 PRINTABLE = bytes(range(0x20, 0x7F)) + b"\n"
 
-
 # What a payload of the clients that have one digit begins with.
-CLIENTS = {b"%d " % client for client in range(10)}
-QUICK_USE = (
-    b'{"place":%d,"client":%b,"command":"%b","reply":"%b","sessions":'
-    b'[{"outcome":"permitted","session":%b,"subject":"%b","right":"%b","object":"%b"}]}\n'
-)
+CLIENTS = {f"{client} " for client in range(10)}
 
 
 class Asked(NamedTuple):
@@ -76,70 +71,62 @@ class Lines:
         self.sessions = Sessions()
         self.place = 0
         self.records = 0
-        self.has_quotes = True
+        # The record at which the lines end, since it isn't what it should be.
+        self.wrong: Optional[Damaged] = None
 
     def of(self, window: Window) -> bytes:
-        """The lines of a window's steps, which stand behind those of the windows before."""
-        payloads = window.payloads()
-        said_all = b"".join(payloads)
-        is_plain = not said_all.translate(None, PRINTABLE)
-        self.has_quotes = b'"' in said_all or b"\\" in said_all
-        quick, first = self.quick_json if self.asked.as_json else self.quick_text, self.asked.first
-        made: List[bytes] = []
-        for n, payload in enumerate(payloads):
-            line = None
-            # Most steps are of two forms, which take no search. Record 0 has none of them.
-            said, _, reply = payload.partition(b"\n")
-            if is_plain and said[:2] in CLIENTS and len(said) > 2 and self.records + n:
-                line = quick(said, reply)
-            if line is None:
-                line = self.line(self.records + n, window.at + window.gates[n], payload)
-            if line and self.place >= first:
-                made.append(line)
+        """The lines of a window's steps, which stand behind those of the windows before. They end at a record that is wrong."""
+        # Text of one character a byte is put together in a third of the time that bytes take.
+        raw = window.raw.decode("latin-1")
+        payloads = [raw[a + 5 : b] for a, b in zip(window.gates, window.gates[1:])]
+        said = "".join(payloads)
+        is_plain = said.isascii() and not said.encode().translate(None, PRINTABLE)
+        # A text within quotes has to be spelled anew for JSON.
+        is_quick = is_plain and not (self.asked.as_json and ('"' in said or "\\" in said))
+        left_out = max(self.asked.first - self.place - 1, 0)
+        made: List[str] = []
+        try:
+            self.add_lines(made, window, payloads, is_quick)
+        except Damaged as why:
+            self.wrong = why
         self.records += len(payloads)
-        lines = b"".join(made)
+        lines = "".join(made[left_out:]).encode("latin-1")
         return lines if is_plain else escaped(lines)
 
-    def quick_text(self, said: bytes, reply: bytes) -> Optional[bytes]:
-        """The line of a step that was answered `ok` alone, or of a `try` that was permitted and revoked nothing. None of others."""
-        if reply == b"ok":
-            self.place += 1
-            return b"%d %b -> ok\n" % (self.place, said)
-        if self.is_new_use(said, reply):
-            return b"%d %b -> %b [%b]\n" % (self.place, said, reply, said[6:])
-        return None
+    def add_lines(self, made: List[str], window: Window, payloads: List[str], is_quick: bool) -> None:
+        """Adds a line for each step. One that is answered `ok` alone takes no search, nor does a `try` that is only permitted."""
+        clients, as_json, tries, place = CLIENTS if is_quick else (), self.asked.as_json, self.sessions.tries, self.place
+        for n, payload in enumerate(payloads, self.records):
+            said, _, reply = payload.partition("\n")
+            if reply == "ok" and said[:2] in clients and len(said) > 2 and n:
+                place += 1
+                made.append(quick_json(place, said, "ok") if as_json else f"{place} {said} -> ok\n")
+            elif said[:2] in clients and reply == f"permitted {len(tries) + 1}" and said[1:6] == " try " and said.count(" ") == 4 and n:
+                place += 1
+                tries.append(said[6:].encode())
+                made.append(quick_json(place, said, reply) if as_json else f"{place} {said} -> {reply} [{said[6:]}]\n")
+            else:
+                self.place = place
+                line = self.line(n, window, payload)
+                place = self.place
+                if line:
+                    made.append(line)
+        self.place = place
 
-    def quick_json(self, said: bytes, reply: bytes) -> Optional[bytes]:
-        """The same as a JSON text."""
-        if self.has_quotes and (b'"' in said or b"\\" in said):
-            return None
-        if reply == b"ok":
-            self.place += 1
-            return b'{"place":%d,"client":%b,"command":"%b","reply":"ok","sessions":[]}\n' % (self.place, said[:1], said[2:])
-        if self.is_new_use(said, reply):
-            return QUICK_USE % (self.place, said[:1], said[2:], reply, reply[10:], *said[6:].split(b" "))
-        return None
-
-    def is_new_use(self, said: bytes, reply: bytes) -> bool:
-        """Whether this is a `try` with the reply `permitted n`, n the next number. If so, it is taken in."""
-        tries = self.sessions.tries
-        if said[1:6] != b" try " or said.count(b" ") != 4 or reply != b"permitted %d" % (len(tries) + 1):
-            return False
-        tries.append(said[6:])
-        self.place += 1
-        return True
-
-    def line(self, number: int, at: int, payload: bytes) -> bytes:
+    def line(self, number: int, window: Window, payload: str) -> str:
         """The line of any record. Empty where it is no step; refused where it should be one."""
-        if number == 0 or (self.has_points and payload.startswith(POINT)):
-            return b""
-        step = STEP.fullmatch(payload)
+        raw = payload.encode("latin-1")
+        if number == 0 or (self.has_points and raw.startswith(POINT)):
+            return ""
+        step = STEP.fullmatch(raw)
         if step is None:
+            at = window.at + window.gates[number - self.records]
             raise Damaged(self.journal.name, number, at, "it has not the form of a step")
         client, command, reply = step.groups()
         self.place += 1
         self.sessions.note(command, reply)
-        return self.json_line(client, command, reply) if self.asked.as_json else self.text_line(client, command, reply)
+        line = self.json_line(client, command, reply) if self.asked.as_json else self.text_line(client, command, reply)
+        return line.decode("latin-1")
 
     def text_line(self, client: bytes, command: bytes, reply: bytes) -> bytes:
         return b"%d %b %b -> %b\n" % (self.place, client, command, NAMED.sub(self.with_use, reply))
@@ -162,6 +149,15 @@ class Lines:
         return found
 
 
+def quick_json(place: int, said: str, reply: str) -> str:
+    """The JSON text of a step that is answered `ok`, or of a `try` that is permitted, whose texts are spelled as they are."""
+    uses = ""
+    if reply != "ok":
+        subject, right, name = said[6:].split(" ")
+        uses = f'{{"outcome":"permitted","session":{reply[10:]},"subject":"{subject}","right":"{right}","object":"{name}"}}'
+    return f'{{"place":{place},"client":{said[:1]},"command":"{said[2:]}","reply":"{reply}","sessions":[{uses}]}}\n'
+
+
 def text_of(raw: bytes) -> str:
     return raw.decode(errors="backslashreplace")
 
@@ -176,33 +172,32 @@ def escaped(lines: bytes) -> bytes:
 
 def run(asked: Asked) -> int:
     with open_journal(asked.path) as journal:
-        told = told_all(journal, asked)
-        while asked.follows and wait(journal, told.at):
-            told = told_all(journal, asked, told)
+        printed = print_all(journal, asked)
+        while asked.follows and wait(journal, printed.at):
+            printed = print_all(journal, asked, printed)
         if journal.magic():
-            say_cut_off(journal, told.at)
+            say_cut_off(journal, printed.at)
         else:
             sys.stderr.write(f"ucon: {journal.name} holds no record yet\n")
     return 0
 
 
-class Told(NamedTuple):
-    """Up to where the lines went out: the gate behind the last record."""
+class Printed(NamedTuple):
+    """Up to where the lines went out: the gate behind the last record, and the lines with what they know of sessions."""
 
     at: int
     lines: Lines
 
 
-def told_all(journal: Journal, asked: Asked, before: Optional[Told] = None) -> Told:
+def print_all(journal: Journal, asked: Asked, before: Optional[Printed] = None) -> Printed:
     """Prints the lines of all records behind those before."""
-    told = before or Told(FIRST_GATE, Lines(journal, asked))
-    if not journal.magic():
-        return told
-    at = told.at
-    for window in journal.windows(at, told.lines.records):
-        write(told.lines.of(window))
+    at, lines = before or Printed(FIRST_GATE, Lines(journal, asked))
+    for window in journal.windows(at, lines.records) if journal.magic() else ():
+        write(lines.of(window))
+        if lines.wrong:
+            raise lines.wrong
         at = window.at + window.gates[-1]
-    return Told(at, told.lines)
+    return Printed(at, lines)
 
 
 def write(lines: bytes) -> None:
@@ -235,6 +230,6 @@ def wait(journal: Journal, at: int) -> bool:
 def say_cut_off(journal: Journal, at: int) -> None:
     """Says what stands behind the last record, where an opening would cut it off."""
     end = journal.end(at)
-    if end.is_torn:
+    if end.is_torn and not (end.gate == 1 and end.has_whole):
         why = end.strange or "a write that is under way, or was never finished; an opening cuts them off"
         sys.stderr.write(f"ucon: {journal.name}: read up to byte {end.at}; {end.behind} bytes stand behind the last whole record: {why}\n")

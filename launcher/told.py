@@ -12,7 +12,7 @@ A journal has what was told where its first so many records have this head, and 
 import os
 from typing import Callable, Dict, NamedTuple, Optional, Tuple
 
-from launcher.heads import HEAD, MARK, Followed, first_head, follow, points_in, start
+from launcher.heads import HEAD, MARK, Followed, first_head, follow, start
 from launcher.journal import Journal, Refused, Window
 
 # The journal lacks what was told of it, or something that no write of the program leaves stands behind its records.

@@ -5,7 +5,6 @@ use Rattle.ucon_base.specs.Elements.{Each}
 use Rattle.ucon_model.specs.declared.command.Entry.{Entry}
 use Rattle.ucon_model.specs.History.{History}
 use Rattle.ucon_model.specs.Plain.{PlainPolicy}
-use Rattle.ucon_model.specs.Spelling.{reply_spelling}
 use Rattle.ucon_script.specs.declared.document.Line.{Line}
 use Rattle.ucon_store.specs.declared.placed.Placed.{Placed}
 use Rattle.ucon_store.specs.declared.fault.StepFault.{StepFault}
@@ -17,6 +16,7 @@ use Rattle.ucon_store.specs.Steps.{IsPlaced, HasFailed}
 use Rattle.ucon_store.specs.Whole.{IsFront, whole}
 use Rattle.ucon_client.specs.Answers.{entry_of, answer_of, answered_by}
 use Rattle.ucon_client.specs.Clients.{Stepped, answered}
+use Rattle.ucon_disk.specs.Seen.{DiskSeen}
 
 -- ---- what a step answers
 
@@ -25,26 +25,26 @@ no_mark None none = refl
 no_mark (Some e) none = absurd (none refl)
 
 -- a step's answer, from what the store says of it with a history before it
-pub answers_step : {D : Type 0} (count : D → ℕ) (policy : Option PlainPolicy) (P : PlainPolicy) (H : History) → policy ≡ Some P → (old new : Kept D) → IsFront P old H → (e : Entry) (said_by : Result Placed StepFault)
+pub answers_step : {D : Type 0} (seen : D → DiskSeen) (policy : Option PlainPolicy) (P : PlainPolicy) (H : History) → policy ≡ Some P → (old new : Kept D) → IsFront P old H → (e : Entry) (said_by : Result Placed StepFault)
     → (IsErrOf said_by faults.Stopped ↔ IsSome old.mark)
     → IfOk said_by (λ p. (Q : PlainPolicy) (G : History) → policy ≡ Some Q → IsFront Q old G → IsPlaced Q (whole G old) (whole G new) e p)
     → (IsErrOf said_by (faults.NoMemory out_of_memory) → new ≡ old)
     → (IsErrOf said_by faults.Stopped → new ≡ old)
-    → (IsErrOf said_by faults.DiskFault → (Q : PlainPolicy) (G : History) → policy ≡ Some Q → IsFront Q old G → HasFailed count Q (whole G old) (whole G new) e)
+    → (IsErrOf said_by faults.DiskFault → (Q : PlainPolicy) (G : History) → policy ≡ Some Q → IsFront Q old G → HasFailed seen Q (whole G old) (whole G new) e)
     → Stepped P e (H ++ old.entries) old.mark (H ++ new.entries) new.mark (answer_of (answered_by said_by))
-answers_step {D} count policy P H is old new front e (Ok p) stopped placed no_memory still failed =
+answers_step {D} seen policy P H is old new front e (Ok p) stopped placed no_memory still failed =
     let h = placed P H is front in
     let none : old.mark ≡ None = no_mark old.mark (λ some. let no : Ok p ≡ Err faults.Stopped = stopped.1 some in absurd (cc no)) in
-    (none, ap reply_spelling h.reply, h.place, h.entries, h.unmarked)
-answers_step {D} count policy P H is old new front e (Err (faults.NoMemory m)) stopped placed no_memory still failed =
+    (none, h.reply, h.place, h.entries, h.unmarked)
+answers_step {D} seen policy P H is old new front e (Err (faults.NoMemory m)) stopped placed no_memory still failed =
     let none : old.mark ≡ None = no_mark old.mark (λ some. let no : Err (faults.NoMemory m) ≡ Err faults.Stopped = stopped.1 some in absurd (cc no)) in
     let same : new ≡ old = no_memory refl in
     (none, ap (λ (s : Kept D). H ++ s.entries) same, ap (λ (s : Kept D). s.mark) same ∙ none)
-answers_step {D} count policy P H is old new front e (Err faults.DiskFault) stopped placed no_memory still failed =
+answers_step {D} seen policy P H is old new front e (Err faults.DiskFault) stopped placed no_memory still failed =
     let h = failed refl P H is front in
     let none : old.mark ≡ None = no_mark old.mark (λ some. let no : Err faults.DiskFault ≡ Err faults.Stopped = stopped.1 some in absurd (cc no)) in
     (none, h.would_change, h.entries, h.mark)
-answers_step {D} count policy P H is old new front e (Err faults.Stopped) stopped placed no_memory still failed =
+answers_step {D} seen policy P H is old new front e (Err faults.Stopped) stopped placed no_memory still failed =
     let same : new ≡ old = still refl in
     (stopped.0 refl, ap (λ (s : Kept D). H ++ s.entries) same, ap (λ (s : Kept D). s.mark) same)
 

@@ -11,9 +11,8 @@ use Rattle.ucon_client.proofs.Seats.{has_each, continues_map}
 use Rattle.ucon_model.specs.declared.command.Caller.{Caller}
 use Rattle.ucon_model.specs.declared.command.Entry.{Entry}
 use Rattle.ucon_model.specs.Plain.{PlainPolicy}
-use Rattle.ucon_model.specs.Spelling.{reply_spelling}
 use Rattle.ucon_model.specs.History.{History, said, changes}
-use Rattle.ucon_model.specs.LegalRun.{Answer, no_memory, disk_fault, stopped, placed, Answered, tells_change, with_record, recorded, stands_on, IsSaid, Saw, StaysStopped, AreInOrder, own_answers, is_disk_fault}
+use Rattle.ucon_model.specs.LegalRun.{Answer, no_memory, disk_fault, stopped, placed, Answered, with_record, recorded, stands_on, IsSaid, Saw, StaysStopped, AreInOrder, own_answers, is_disk_fault}
 use Rattle.ucon_store.specs.declared.event.Event.{Event}
 use Rattle.ucon_store.specs.declared.event.Event.TheVariants.{Done, Failed}
 use Rattle.ucon_store.specs.Events.{number_of}
@@ -40,7 +39,7 @@ with_record-append : (line : Entry) (a : Answer) (xs ys : List (ℕ × Entry)) �
 with_record-append line no_memory xs ys = refl
 with_record-append line disk_fault xs ys = refl
 with_record-append line stopped xs ys = refl
-with_record-append line (placed place text) xs ys = kept_append (tells_change text) (place, line) xs ys
+with_record-append line (placed place reply) xs ys = kept_append (changes reply) (place, line) xs ys
 
 pub recorded-append : (xs ys : List Answered) → recorded (xs ++ ys) ≡ recorded xs ++ recorded ys
 recorded-append [] ys = refl
@@ -69,10 +68,10 @@ said_on : (P : PlainPolicy) (opening : ℕ) (H more : History) (line : Entry) (a
 said_on P opening H more line no_memory h = tt
 said_on P opening H more line disk_fault h = tt
 said_on P opening H more line stopped h = tt
-said_on P opening H more line (placed place text) h = (
+said_on P opening H more line (placed place reply) h = (
   h.0,
   omega (arith, h.1, length-append H more),
-  h.2 ∙ ap (λ K. reply_spelling (said P K line.caller line.command)) (sym (take-append-le (stands_on place text) H more h.1)),
+  h.2 ∙ ap (λ K. said P K line.caller line.command) (sym (take-append-le (stands_on place reply) H more h.1)),
 )
 
 some_marks_on : (log more : List Event) → marks_in log ≢ [] → marks_in (log ++ more) ≢ []
@@ -82,7 +81,7 @@ shows_on : (log more : List Event) (a : Answer) → Shows log a → Shows (log +
 shows_on log more no_memory h = tt
 shows_on log more disk_fault h = some_marks_on log more h
 shows_on log more stopped h = some_marks_on log more h
-shows_on log more (placed place text) h = omega (arith, h, ap length (entries_append log more), length-append (entries_in log) (entries_in more))
+shows_on log more (placed place reply) h = omega (arith, h, ap length (entries_append log more), length-append (entries_in log) (entries_in more))
 
 -- a disk fault's reply would still change something, since nothing was appended behind its mark
 changes_on : (P : PlainPolicy) (log more : List Event) (line : Entry) (a : Answer) → EndsAtMark (log ++ more) → Shows log a
@@ -90,7 +89,7 @@ changes_on : (P : PlainPolicy) (log more : List Event) (line : Entry) (a : Answe
     → IsTrue (is_disk_fault a) → IsTrue (changes (said P (entries_in (log ++ more)) line.caller line.command))
 changes_on P log more line no_memory ends shows h f = absurd (true≢false (sym f))
 changes_on P log more line stopped ends shows h f = absurd (true≢false (sym f))
-changes_on P log more line (placed place text) ends shows h f = absurd (true≢false (sym f))
+changes_on P log more line (placed place reply) ends shows h f = absurd (true≢false (sym f))
 changes_on P log more line disk_fault ends shows h f =
     let same : log ≡ log ++ more = sym (ap (λ l. log ++ l) (nothing_more log more ends shows) ∙ append-nil log) in
     subst (λ l. IsTrue (changes (said P (entries_in l) line.caller line.command))) same (h f)
@@ -216,15 +215,15 @@ after_earlier P log line no_memory a shows t = (tt, tt)
 after_earlier P log line disk_fault no_memory shows t = absurd (shows t)
 after_earlier P log line disk_fault disk_fault shows t = absurd (shows t.0)
 after_earlier P log line disk_fault stopped shows t = (tt, refl)
-after_earlier P log line disk_fault (placed place text) shows t = absurd (shows t.0)
+after_earlier P log line disk_fault (placed place reply) shows t = absurd (shows t.0)
 after_earlier P log line stopped no_memory shows t = absurd (shows t)
 after_earlier P log line stopped disk_fault shows t = absurd (shows t.0)
 after_earlier P log line stopped stopped shows t = (tt, refl)
-after_earlier P log line stopped (placed place text) shows t = absurd (shows t.0)
-after_earlier P log line (placed place text) no_memory shows t = (tt, tt)
-after_earlier P log line (placed place text) disk_fault shows t = (tt, tt)
-after_earlier P log line (placed place text) stopped shows t = (tt, tt)
-after_earlier P log line (placed place text) (placed later more) shows t = (omega (arith, shows, stands_by (tells_change more) log line later t.2), tt)
+after_earlier P log line stopped (placed place reply) shows t = absurd (shows t.0)
+after_earlier P log line (placed place reply) no_memory shows t = (tt, tt)
+after_earlier P log line (placed place reply) disk_fault shows t = (tt, tt)
+after_earlier P log line (placed place reply) stopped shows t = (tt, tt)
+after_earlier P log line (placed place reply) (placed later more) shows t = (omega (arith, shows, stands_by (changes more) log line later t.2), tt)
 
 recorded_by : (b : Bool) (client : ℕ) (log : List Event) (line : Entry) (place : ℕ) → line.caller.0 ≡ client
     → place ≡ length (entries_in (log ++ (if b then Done line ∷ [] else [])))
@@ -276,25 +275,25 @@ next_by_step P client G log line disk_fault own le t = record {
   would_change = ((λ f. subst (λ H. IsTrue (changes (said P H line.caller line.command))) (sym (entries_append log (Failed line ∷ []) ∙ append-nil (entries_in log))) t.1), tt);
   shown = (marked_last log line, tt);
 }
-next_by_step P client G log line (placed place text) own le t =
-    let more : List Event = appended line (placed place text) in
-    let stands : stands_on place text ≡ length (entries_in log) = stands_by (tells_change text) log line place t.2 in
-    let seen : take (stands_on place text) (entries_in (log ++ more)) ≡ entries_in log =
-    ap (take (stands_on place text)) (entries_append log more) ∙ take_at (entries_in log) (entries_in more) (stands_on place text) (sym stands) in
+next_by_step P client G log line (placed place reply) own le t =
+    let more : List Event = appended line (placed place reply) in
+    let stands : stands_on place reply ≡ length (entries_in log) = stands_by (changes reply) log line place t.2 in
+    let seen : take (stands_on place reply) (entries_in (log ++ more)) ≡ entries_in log =
+    ap (take (stands_on place reply)) (entries_append log more) ∙ take_at (entries_in log) (entries_in more) (stands_on place reply) (sym stands) in
     record {
       callers = (own, tt);
       replies = (
         (
           omega (arith, le, stands),
           omega (arith, stands, ap length (entries_append log more), length-append (entries_in log) (entries_in more)),
-          t.1 ∙ ap (λ K. reply_spelling (said P K line.caller line.command)) (sym seen),
+          t.1 ∙ ap (λ K. said P K line.caller line.command) (sym seen),
         ),
         tt,
       );
       order = (tt, tt);
-      earlier = λ b h. (after_earlier P log line b (placed place text) h t, tt);
-      records = recorded_by (tells_change text) client log line place own t.2;
-      faults = no_marks_by (tells_change text) client line;
+      earlier = λ b h. (after_earlier P log line b (placed place reply) h t, tt);
+      records = recorded_by (changes reply) client log line place own t.2;
+      faults = no_marks_by (changes reply) client line;
       would_change = ((λ f. absurd (true≢false (sym f))), tt);
       shown = (omega (arith, t.2), tt);
     }
@@ -304,7 +303,7 @@ ends_after : (P : PlainPolicy) (log : List Event) (line : Entry) (a : Answer) �
 ends_after P log line no_memory h t = ends_more log [] t tt
 ends_after P log line disk_fault h t = ends_more log (Failed line ∷ []) t.0 refl
 ends_after P log line stopped h t = subst EndsAtMark (sym (append-nil log)) h
-ends_after P log line (placed place text) h t = ends_more log (appended line (placed place text)) t.0 (ends_by (tells_change text) line)
+ends_after P log line (placed place reply) h t = ends_more log (appended line (placed place reply)) t.0 (ends_by (changes reply) line)
 
 -- one answer more
 answered_none : (lines : List Entry) → answered lines [] ≡ []
@@ -334,4 +333,4 @@ pub seen_mark_stops : (P : PlainPolicy) (seen before after : List Event) (line :
 seen_mark_stops P seen before after line no_memory b s some = absurd (some_marks_on seen b.0 some (subst (λ l. marks_in l ≡ []) (sym b.1) s.tells))
 seen_mark_stops P seen before after line disk_fault b s some = absurd (some_marks_on seen b.0 some (subst (λ l. marks_in l ≡ []) (sym b.1) s.tells.0))
 seen_mark_stops P seen before after line stopped b s some = refl
-seen_mark_stops P seen before after line (placed place text) b s some = absurd (some_marks_on seen b.0 some (subst (λ l. marks_in l ≡ []) (sym b.1) s.tells.0))
+seen_mark_stops P seen before after line (placed place reply) b s some = absurd (some_marks_on seen b.0 some (subst (λ l. marks_in l ≡ []) (sym b.1) s.tells.0))

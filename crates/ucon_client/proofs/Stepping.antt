@@ -6,10 +6,9 @@ use Rattle.std.proofs.lemmas.List.{append-nil, append_cancel_left, map-append}
 use Rattle.ucon_base.specs.Elements.{Each}
 use Rattle.ucon_turn.specs.Lists.{Continues}
 use Rattle.ucon_model.specs.declared.command.Entry.{Entry}
-use Rattle.ucon_model.specs.Plain.{PlainPolicy, PlainReply}
-use Rattle.ucon_model.specs.Spelling.{reply_spelling}
+use Rattle.ucon_model.specs.Plain.{PlainPolicy}
 use Rattle.ucon_model.specs.History.{History, said, changes}
-use Rattle.ucon_model.specs.LegalRun.{Answer, no_memory, disk_fault, stopped, placed, tells_change}
+use Rattle.ucon_model.specs.LegalRun.{Answer, no_memory, disk_fault, stopped, placed}
 use Rattle.ucon_store.specs.declared.event.Event.{Event}
 use Rattle.ucon_store.specs.declared.event.Event.TheVariants.{Done, Failed}
 use Rattle.ucon_store.specs.Events.{events, number_of}
@@ -23,20 +22,14 @@ done_grown : (b : Bool) (H : History) (line : Entry) → map Done (if b then H +
 done_grown true H line = map-append Done H (line ∷ [])
 done_grown false H line = sym (append-nil (map Done H))
 
--- what a reply's text tells
-abbrev pub TextsTell : Type 0
-TextsTell = (r : PlainReply) → tells_change (reply_spelling r) ≡ changes r
-
-appends : TextsTell → (P : PlainPolicy) (line : Entry) (H : History) (mark : Option Entry) (later : History) (next : Option Entry) (a : Answer)
+appends : (P : PlainPolicy) (line : Entry) (H : History) (mark : Option Entry) (later : History) (next : Option Entry) (a : Answer)
     → Stepped P line H mark later next a → events later next ≡ events H mark ++ appended line a
-appends texts P line H mark later next no_memory s = (λ i. events (s.1 i) ((s.2 ∙ sym s.0) i)) ∙ sym (append-nil (events H mark))
-appends texts P line H mark later next stopped s = (λ i. events (s.1 i) (s.2 i)) ∙ sym (append-nil (events H mark))
-appends texts P line H mark later next disk_fault s = (λ i. events (s.2 i) (s.3 i)) ∙ ap (λ m. events H m ++ Failed line ∷ []) (sym s.0)
-appends texts P line H mark later next (placed place text) s =
-    let tells : changes (said P H line.caller line.command) ≡ tells_change text =
-    sym (ap tells_change s.1 ∙ texts (said P H line.caller line.command)) in
+appends P line H mark later next no_memory s = (λ i. events (s.1 i) ((s.2 ∙ sym s.0) i)) ∙ sym (append-nil (events H mark))
+appends P line H mark later next stopped s = (λ i. events (s.1 i) (s.2 i)) ∙ sym (append-nil (events H mark))
+appends P line H mark later next disk_fault s = (λ i. events (s.2 i) (s.3 i)) ∙ ap (λ m. events H m ++ Failed line ∷ []) (sym s.0)
+appends P line H mark later next (placed place reply) s =
     (λ i. events (s.3 i) (s.4 i)) ∙ (done_grown (changes (said P H line.caller line.command)) H line
-    ∙ (ap (λ b. map Done H ++ (if b then Done line ∷ [] else [])) tells ∙ ap (λ m. events H m ++ appended line (placed place text)) (sym s.0)))
+    ∙ (ap (λ reply. map Done H ++ (if changes reply then Done line ∷ [] else [])) (sym s.1) ∙ ap (λ m. events H m ++ appended line (placed place reply)) (sym s.0)))
 
 no_marks : (H : History) (mark : Option Entry) → mark ≡ None → marks_in (events H mark) ≡ []
 no_marks H mark e = marks_in-events H mark ∙ ap option_to_list e
@@ -53,16 +46,16 @@ tells P line H mark later next disk_fault s = (
   no_marks H mark s.0,
   ap (λ K. changes (said P K line.caller line.command)) (entries_in-events H mark) ∙ s.1,
 )
-tells P line H mark later next (placed place text) s = (
+tells P line H mark later next (placed place reply) s = (
   no_marks H mark s.0,
-  s.1 ∙ ap (λ K. reply_spelling (said P K line.caller line.command)) (sym (entries_in-events H mark)),
+  s.1 ∙ ap (λ K. said P K line.caller line.command) (sym (entries_in-events H mark)),
   s.2 ∙ ap length (sym (entries_in-events later next)),
 )
 
-pub stepped : TextsTell → (P : PlainPolicy) (line : Entry) (H : History) (mark : Option Entry) (later : History) (next : Option Entry) (a : Answer)
+pub stepped : (P : PlainPolicy) (line : Entry) (H : History) (mark : Option Entry) (later : History) (next : Option Entry) (a : Answer)
     → Stepped P line H mark later next a → Steps P line (events H mark) (events later next) a
-stepped texts P line H mark later next a s =
-    record { ends = ends_events H mark; appends = appends texts P line H mark later next a s; tells = tells P line H mark later next a s }
+stepped P line H mark later next a s =
+    record { ends = ends_events H mark; appends = appends P line H mark later next a s; tells = tells P line H mark later next a s }
 
 -- ---- what is appended
 
@@ -74,7 +67,7 @@ marks_by_fault : (line : Entry) (a : Answer) → appended line a ≡ Failed line
 marks_by_fault line no_memory e = absurd (cc)
 marks_by_fault line disk_fault e = refl
 marks_by_fault line stopped e = absurd (cc)
-marks_by_fault line (placed place text) e = absurd (no_mark_by (tells_change text) line e)
+marks_by_fault line (placed place reply) e = absurd (no_mark_by (changes reply) line e)
 
 pub faults_are_marked : (P : PlainPolicy) (line : Entry) (before after : List Event) (a : Answer) → Steps P line before after a
     → (a ≡ disk_fault) ↔ (after ≡ before ++ Failed line ∷ [])
@@ -91,7 +84,7 @@ appended_own : (line : Entry) (a : Answer) → Each (λ i. number_of i ≡ line.
 appended_own line no_memory = tt
 appended_own line disk_fault = (refl, tt)
 appended_own line stopped = tt
-appended_own line (placed place text) = own_by (tells_change text) line
+appended_own line (placed place reply) = own_by (changes reply) line
 
 pub step_appends_own : (P : PlainPolicy) (line : Entry) (before after : List Event) (a : Answer) → Steps P line before after a
     → Continues (λ i. number_of i ≡ line.caller.0 + 1) before after

@@ -110,7 +110,7 @@ stop_shows : (log : List Event) (a : Answer) → Shows log a → is_stopped a �
 stop_shows log no_memory h e = absurd (true≢false (sym e))
 stop_shows log disk_fault h e = h
 stop_shows log stopped h e = h
-stop_shows log (placed place text) h e = absurd (true≢false (sym e))
+stop_shows log (placed place reply) h e = absurd (true≢false (sym e))
 
 -- lines are stopped by a mark alone
 some_mark : (log : List Event) (told : List Answered) → Each (λ t. Shows log t.answer) told → list_any (λ t. is_stopped t.answer) told ≡ true → marks_in log ≢ []

@@ -6,7 +6,6 @@ use Rattle.ucon_turn.specs.Turns.{Opening, Knowledge, IsSeatOf}
 use Rattle.ucon_model.specs.declared.command.Entry.{Entry}
 use Rattle.ucon_model.specs.History.{History, trace}
 use Rattle.ucon_model.specs.Plain.{PlainPolicy}
-use Rattle.ucon_model.specs.Spelling.{reply_spelling}
 use Rattle.ucon_model.specs.Views.{reply_of}
 use Rattle.ucon_model.specs.LegalRun.{Answer as Told, placed, no_memory, disk_fault, stopped, Answered}
 use Rattle.ucon_script.specs.declared.document.Line.{Line}
@@ -40,7 +39,7 @@ answered_by (Err faults.Stopped) = answers.Stopped
 
 -- an answer without its rows
 abbrev pub answer_of : Answer → Told
-answer_of (answers.Placed p) = placed p.place (reply_spelling (reply_of p.reply))
+answer_of (answers.Placed p) = placed p.place (reply_of p.reply)
 answer_of answers.NoMemory = no_memory
 answer_of answers.DiskFault = disk_fault
 answer_of answers.Stopped = stopped

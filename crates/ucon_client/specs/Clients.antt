@@ -5,7 +5,6 @@ use Rattle.ucon_base.specs.Elements.{Each}
 use Rattle.ucon_turn.specs.Lists.{Has}
 use Rattle.ucon_model.specs.declared.command.Entry.{Entry}
 use Rattle.ucon_model.specs.Plain.{PlainPolicy}
-use Rattle.ucon_model.specs.Spelling.{reply_spelling}
 use Rattle.ucon_model.specs.History.{History, said, changes, grown}
 use Rattle.ucon_model.specs.LegalRun.{Answer, no_memory, disk_fault, stopped, placed, Answered, IsSaid, AreInOrder, own_answers, recorded, is_disk_fault}
 use Rattle.ucon_store.specs.declared.event.Event.{Event}
@@ -15,8 +14,8 @@ use Rattle.ucon_client.specs.Events.{entries_in, marks_in, EndsAtMark, appended}
 
 -- what a store's step does to its history and its mark, by the answer to the line
 abbrev pub Stepped : PlainPolicy → Entry → History → Option Entry → History → Option Entry → Answer → Type 0
-Stepped P line H mark later next (placed place text) =
-    (mark ≡ None) × (text ≡ reply_spelling (said P H line.caller line.command)) × (place ≡ length later) × (later ≡ grown P H line) × (next ≡ None)
+Stepped P line H mark later next (placed place reply) =
+    (mark ≡ None) × (reply ≡ said P H line.caller line.command) × (place ≡ length later) × (later ≡ grown P H line) × (next ≡ None)
 Stepped P line H mark later next no_memory = (mark ≡ None) × (later ≡ H) × (next ≡ None)
 Stepped P line H mark later next disk_fault =
     (mark ≡ None) × IsTrue (changes (said P H line.caller line.command)) × (later ≡ H) × (next ≡ Some line)
@@ -24,8 +23,8 @@ Stepped P line H mark later next stopped = IsSome mark × (later ≡ H) × (next
 
 -- what the answer to a line says of the lists before and after its step
 abbrev pub Tells : PlainPolicy → Entry → List Event → List Event → Answer → Type 0
-Tells P line before after (placed place text) =
-    (marks_in before ≡ []) × (text ≡ reply_spelling (said P (entries_in before) line.caller line.command)) × (place ≡ length (entries_in after))
+Tells P line before after (placed place reply) =
+    (marks_in before ≡ []) × (reply ≡ said P (entries_in before) line.caller line.command) × (place ≡ length (entries_in after))
 Tells P line before after no_memory = marks_in before ≡ []
 Tells P line before after disk_fault = (marks_in before ≡ []) × IsTrue (changes (said P (entries_in before) line.caller line.command))
 Tells P line before after stopped = marks_in before ≢ []
@@ -59,7 +58,7 @@ faulted told = map (λ t. t.line) (filter (λ t. is_disk_fault t.answer) told)
 
 -- the list has all that an answer tells
 abbrev pub Shows : List Event → Answer → Type 0
-Shows log (placed place text) = place ≤ length (entries_in log)
+Shows log (placed place reply) = place ≤ length (entries_in log)
 Shows log no_memory = Unit {0}
 Shows log disk_fault = marks_in log ≢ []
 Shows log stopped = marks_in log ≢ []

@@ -1,8 +1,8 @@
 -- The list of a store behind a turn, part by part: the entries of its history and, after a disk fault, one mark with the entry that failed.
 use Rattle.std.specs.Prelude.{◌≡◌, List, [], ◌∷◌, if◌then◌else◌}
 use Rattle.ucon_model.specs.declared.command.Entry.{Entry}
-use Rattle.ucon_model.specs.History.{History}
-use Rattle.ucon_model.specs.LegalRun.{Answer, no_memory, disk_fault, stopped, placed, tells_change}
+use Rattle.ucon_model.specs.History.{History, changes}
+use Rattle.ucon_model.specs.LegalRun.{Answer, no_memory, disk_fault, stopped, placed}
 use Rattle.ucon_store.specs.declared.event.Event.{Event}
 use Rattle.ucon_store.specs.declared.event.Event.TheVariants.{Done, Failed}
 
@@ -26,7 +26,7 @@ EndsAtMark (Failed e ∷ log) = log ≡ []
 
 -- what a line's step appends, by its answer
 abbrev pub appended : Entry → Answer → List Event
-appended line (placed place text) = if tells_change text then Done line ∷ [] else []
+appended line (placed place reply) = if changes reply then Done line ∷ [] else []
 appended line no_memory = []
 appended line disk_fault = Failed line ∷ []
 appended line stopped = []

@@ -115,7 +115,7 @@ pub fn serve<E: Engine + Send, D: Disk + Send, G: Gate + Sync, R: Threads + Wait
     requires rising { AreRising (map number parts.items) }
     ensures err { IfErr result (λ e. (e.0 ≡ store) × (e.1 ≡ parts)) }
     ensures policy { IfOk result (λ r. r.0.policy ≡ store.policy) }
-    ensures stays { IfOk result (λ r. Stays D.contents D.images D.moment D.images_since D.faults store r.0) }
+    ensures stays { IfOk result (λ r. Stays D.seen store r.0) }
     ensures asked { IfOk result (λ r. map asked r.1.items ≡ map asked parts.items) }
     ensures all { IfOk result (λ r. Each IsAnswered r.1.items) }
     ensures lines { IfOk result (λ r. map (λ t. t.line) (told_in r.1.items) ≡ lines_in parts.items) }

@@ -11,7 +11,6 @@ use crate::answer::Answer;
 use std::alloc::Global;
 use ucon_disk::Disk;
 use ucon_engine::Engine;
-use ucon_runs::texts_tell_changes;
 use ucon_script::Line;
 use ucon_store::Store;
 use ucon_turn::Job;
@@ -37,7 +36,6 @@ impl<E: Engine, D: Disk> Job<Store<E, D>> for Step<'_> {
     }
 
     fn run(&mut self, store: &mut Store<E, D>) -> Answer {
-        texts_tell_changes();
         Answer::from(store.step(self.alloc, self.line.caller, &self.line.command))
     }
 }

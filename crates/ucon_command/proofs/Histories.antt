@@ -11,9 +11,9 @@ use Rattle.ucon_model.specs.declared.command.Entry.{Entry}
 use Rattle.ucon_model.specs.CommandLine.{command_spelling}
 use Rattle.ucon_model.specs.Found.{Finding, damaged, holds, first_gate, next_gate, gate_behind, with_step, Takes, TakesSteps, taken, only_steps, policy_taken, found_behind, found_in, payloads_behind, payloads_of}
 use Rattle.ucon_model.specs.History.{History, IsProper, IsProperFrom, changes, said}
-use Rattle.ucon_model.specs.LegalRun.{tells_change}
 use Rattle.ucon_model.specs.Payload.{Told, entry_told, most_payload, payload_read, payload_spelling, told}
 use Rattle.ucon_model.specs.Plain.{Bytes, PlainPolicy, PlainReply}
+use Rattle.ucon_model.specs.ReplyText.{tells_change}
 use Rattle.ucon_model.specs.Spelling.{reply_spelling}
 use Rattle.ucon_command.specs.Payloads.{AreSteps, IsStep, most_told}
 use Rattle.ucon_command.proofs.Lengths.{CommandsAreShort}

@@ -12,4 +12,5 @@ pub mod Plain
 pub mod Proper
 pub mod ReadLines
 pub mod Refusals
+pub mod Requests
 pub mod SpelledLines

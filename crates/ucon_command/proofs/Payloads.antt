@@ -30,7 +30,7 @@ use Rattle.ucon_command.proofs.SpelledLines.{same_bytes}
 
 -- ---- what is written is read
 
-cut_at-append : (byte : ℕ) (xs ys : Bytes) → Lacks byte xs → cut_at byte (xs ++ byte ∷ ys) ≡ Some (xs, ys)
+pub cut_at-append : (byte : ℕ) (xs ys : Bytes) → Lacks byte xs → cut_at byte (xs ++ byte ∷ ys) ≡ Some (xs, ys)
 cut_at-append byte [] ys h = rw (eq-eqb byte byte refl) refl
 cut_at-append byte (x ∷ xs) ys h = rw (h.0, cut_at-append byte xs ys h.1) refl
 
@@ -106,7 +106,7 @@ mutual_cut byte b bs p next false is h =
     ap (λ (q : Bytes × Bytes). q.0 ++ byte ∷ q.1) (sym k.1.1) ∙ ap (λ (r : Bytes). b ∷ r) (next k.0 k.1.0)
 
 -- what is cut is joined again
-cut_is : (byte : ℕ) (bs : Bytes) (p : Bytes × Bytes) → cut_at byte bs ≡ Some p → p.0 ++ byte ∷ p.1 ≡ bs
+pub cut_is : (byte : ℕ) (bs : Bytes) (p : Bytes × Bytes) → cut_at byte bs ≡ Some p → p.0 ++ byte ∷ p.1 ≡ bs
 cut_is byte [] p h = absurd (nothing h)
 cut_is byte (b ∷ bs) p h = mutual_cut byte b bs p (cut_is byte bs) (b == byte) refl h
 

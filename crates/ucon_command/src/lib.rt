@@ -1,4 +1,4 @@
-//! Command lines, and the payloads of steps: the one text of each, both ways.
+//! Command lines, the payloads of steps, and requests: the one text of each, both ways.
 #![tactic(auto)]
 
 mod amendment;
@@ -14,6 +14,7 @@ mod line_fault;
 mod lines;
 mod payload;
 mod payload_fault;
+mod request;
 
 pub use amendment::read_accepted;
 pub use command_line::CommandLine;
@@ -27,3 +28,4 @@ pub use line_fault::LineFault;
 pub use lines::read_command;
 pub use payload::{put_payload, read_entry, read_payload};
 pub use payload_fault::PayloadFault;
+pub use request::{Request, RequestFault, read_request};

@@ -160,7 +160,7 @@ fn reply_at(alloc: Global, place: usize, text: &[u8]) -> Result<Reply, PayloadFa
 }
 
 /// What stands before the first of these bytes, and what stands behind it.
-fn cut_at(byte: u8, bytes: &[u8]) -> Option<(&[u8], &[u8])>
+pub(crate) fn cut_at(byte: u8, bytes: &[u8]) -> Option<(&[u8], &[u8])>
     ensures cut { MatchOption result (cut_at byte bytes.now ≡ None) (λ p. cut_at byte bytes.now ≡ Some (p.0.now, p.1.now)) }
     ensures within { IfSome result (λ p. length p.0.now + 1 + length p.1.now ≡ length bytes.now) }
 {
@@ -178,7 +178,7 @@ fn first_place(byte: u8, bytes: &[u8]) -> Option<usize>
 }
 
 /// The client, 0 to 63, whose number in decimal the bytes are.
-fn caller_in(bytes: &[u8]) -> Option<Caller>
+pub(crate) fn caller_in(bytes: &[u8]) -> Option<Caller>
     ensures { result ≡ caller_read bytes.now }
 {
     match two_digits(bytes) {

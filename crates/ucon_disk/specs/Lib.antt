@@ -9,3 +9,4 @@ pub mod Recorded
 pub mod Started
 pub mod Replayed
 pub mod Run
+pub mod Seen

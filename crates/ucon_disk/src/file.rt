@@ -1,7 +1,7 @@
 //! A disk over a real file: the edge of what is proved. No clause says what a real file keeps.
 
 ghost use Rattle.std.specs.Prelude.{◌≡◌, ◌+◌, ◌^◌, ◌<◌, ◌≤◌, ⊤, None, length, MatchResult, IfOk, OnOk, IsErr};
-ghost use Rattle.ucon_disk.specs.Causes.{HasCause};
+ghost use Rattle.ucon_disk.specs.Causes.{HasCause, raised};
 
 use crate::parts::{MAX_END, read_whole, write_whole};
 use crate::{Disk, Failed};
@@ -16,6 +16,7 @@ pub struct FileDisk<R> {
     rt: R,
     path: String,
     file: Option<File>,
+    calls: u64,
     faults: u64,
 }
 
@@ -29,13 +30,18 @@ impl<R: Files<File = File>> FileDisk<R> {
             rt,
             path,
             file: None,
+            calls: 0,
             faults: 0,
         }
     }
 
-    fn open(&mut self) -> Result<(), Failed>
-        ensures { HasCause self.old.faults self.new.faults result }
+    /// Counts a call, and opens the file where it isn't open.
+    fn begin_call(&mut self) -> Result<(), Failed>
+        ensures calls { self.new.calls ≡ raised self.old.calls }
+        ensures later { self.old.calls ≤ self.new.calls }
+        ensures cause { HasCause self.old.faults self.new.faults result }
     {
+        self.calls = self.calls.saturating_add(1);
         if self.file.is_some() {
             return Ok(());
         }
@@ -46,15 +52,10 @@ impl<R: Files<File = File>> FileDisk<R> {
 }
 
 impl<R: Files<File = File>> Disk for FileDisk<R> {
-    ghost contents = { λ _. None };
+    // A file tells nothing of its bytes. Its moment is how many calls were made, so where that stays, no call was.
+    ghost seen = { λ d. record { contents = None; images = λ _. ⊤; moment = d.calls; images_since = λ _ _. ⊤; faults = d.faults } };
 
-    ghost images = { λ _ _. ⊤ };
-
-    ghost moment = { λ _. 0 };
-
-    ghost images_since = { λ _ _ _. ⊤ };
-
-    ghost faults = { λ d. d.faults };
+    ghost makes = { λ old new _ _. new.calls ≡ raised old.calls };
 
     ghost as_read = { λ d. tt };
 
@@ -65,7 +66,7 @@ impl<R: Files<File = File>> Disk for FileDisk<R> {
     ghost since_earlier = { λ d t u c le within since. tt };
 
     fn len(&mut self) -> Result<u64, Failed> {
-        self.open()?;
+        self.begin_call()?;
         let answer = match &self.file {
             Some(file) => measure(file),
             None => Err(not_open()),
@@ -74,7 +75,7 @@ impl<R: Files<File = File>> Disk for FileDisk<R> {
     }
 
     fn read_at(&mut self, at: u64, buf: &mut [u8]) -> Result<usize, Failed> {
-        self.open()?;
+        self.begin_call()?;
         let answer = match &mut self.file {
             Some(file) => read_whole(file, at, buf),
             None => Err(not_open()),
@@ -83,7 +84,7 @@ impl<R: Files<File = File>> Disk for FileDisk<R> {
     }
 
     fn write_at(&mut self, at: u64, bytes: &[u8]) -> Result<(), Failed> {
-        self.open()?;
+        self.begin_call()?;
         let answer = match &mut self.file {
             Some(file) => write_whole(file, at, bytes),
             None => Err(not_open()),
@@ -92,7 +93,7 @@ impl<R: Files<File = File>> Disk for FileDisk<R> {
     }
 
     fn cut(&mut self, len: u64) -> Result<(), Failed> {
-        self.open()?;
+        self.begin_call()?;
         let answer = match &self.file {
             Some(file) => file.set_len(len),
             None => Err(not_open()),
@@ -101,7 +102,7 @@ impl<R: Files<File = File>> Disk for FileDisk<R> {
     }
 
     fn sync(&mut self) -> Result<(), Failed> {
-        self.open()?;
+        self.begin_call()?;
         let answer = match &self.file {
             Some(file) => file.sync_data(),
             None => Err(not_open()),

@@ -63,6 +63,13 @@ impl Log {
         &self.bytes
     }
 
+    /// How many calls are recorded.
+    pub fn len(&self) -> u64
+        ensures { result ≡ length self.now.changes }
+    {
+        self.calls.len() as u64
+    }
+
     pub fn allocator(&self) -> Global {
         self.alloc
     }

@@ -53,6 +53,13 @@ impl MemDisk {
         self.log.bytes()
     }
 
+    /// The moment: how many calls are recorded.
+    pub fn moment(&self) -> u64
+        ensures { result ≡ length (history_of self.now).changes }
+    {
+        self.log.len()
+    }
+
     /// How often a call found no memory.
     pub fn short(&self) -> u64
         ensures { result ≡ short_of self.now }
@@ -78,15 +85,13 @@ impl MemDisk {
 impl Disk for MemDisk {
     ghost use Rattle.ucon_disk.specs.MemDisk.{Makes};
 
-    ghost contents = { λ d. Some (state_now d.log).file };
-
-    ghost images = { λ d. IsImage (state_now d.log) };
-
-    ghost moment = { λ d. length d.log.changes };
-
-    ghost images_since = { λ d. IsImageSince d.log };
-
-    ghost faults = { λ d. d.plan.faults };
+    ghost seen = { λ d. record {
+      contents = Some (state_now d.log).file;
+      images = IsImage (state_now d.log);
+      moment = length d.log.changes;
+      images_since = IsImageSince d.log;
+      faults = d.plan.faults;
+    } };
 
     ghost makes = { Makes };
 

@@ -1,3 +1,2 @@
 pub mod Inbox
-pub mod Lines
 pub mod Rule

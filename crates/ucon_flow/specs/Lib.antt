@@ -1,7 +1,10 @@
 pub mod Calls
 pub mod Causes
 pub mod Counted
+pub mod Lines
+pub mod Pieces
 pub mod Reading
 pub mod Stock
 pub mod Supply
 pub mod Writing
+pub mod Seen

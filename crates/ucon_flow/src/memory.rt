@@ -50,11 +50,7 @@ impl MemSource {
 }
 
 impl Source for MemSource {
-    ghost left = { λ s. Some s.left };
-
-    ghost faults = { λ s. s.calls.faults };
-
-    ghost reads = { λ s. s.calls.made };
+    ghost seen = { λ s. record { left = Some s.left; faults = s.calls.faults; reads = s.calls.made } };
 
     fn read(&mut self, buf: &mut [u8]) -> Result<usize, Failed>
         ensures bound { ReadsAtMost result buf.new }
@@ -131,11 +127,7 @@ impl MemSink {
 }
 
 impl Sink for MemSink {
-    ghost contents = { λ s. Some s.bytes };
-
-    ghost faults = { λ s. s.calls.faults };
-
-    ghost writes = { λ s. s.calls.made };
+    ghost seen = { λ s. record { contents = Some s.bytes; faults = s.calls.faults; writes = s.calls.made } };
 
     fn write(&mut self, bytes: &[u8]) -> Result<usize, Failed>
         ensures bound { IfOk result (λ n. n ≤ length bytes.now) }

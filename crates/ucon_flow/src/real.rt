@@ -39,11 +39,7 @@ impl<R: Read> ReadSource<R> {
 }
 
 impl<R: Read> Source for ReadSource<R> {
-    ghost left = { λ s. R.remaining s.inner };
-
-    ghost faults = { λ s. s.faults };
-
-    ghost reads = { λ s. s.calls };
+    ghost seen = { λ s. record { left = R.remaining s.inner; faults = s.faults; reads = s.calls } };
 
     fn read(&mut self, buf: &mut [u8]) -> Result<usize, Failed>
         ensures bound { ReadsAtMost result buf.new }
@@ -91,11 +87,7 @@ impl<W: Write> WriteSink<W> {
 }
 
 impl<W: Write> Sink for WriteSink<W> {
-    ghost contents = { λ k. W.contents k.inner };
-
-    ghost faults = { λ k. k.faults };
-
-    ghost writes = { λ k. k.calls };
+    ghost seen = { λ k. record { contents = W.contents k.inner; faults = k.faults; writes = k.calls } };
 
     fn write(&mut self, bytes: &[u8]) -> Result<usize, Failed>
         ensures bound { IfOk result (λ n. n ≤ length bytes.now) }

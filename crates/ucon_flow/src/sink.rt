@@ -3,20 +3,15 @@
 ghost use Rattle.std.specs.Prelude.{◌≡◌, ◌+◌, ◌≤◌, ◌<◌, List, ℕ, length, Option, IfOk, OnOk, OnErr};
 ghost use Rattle.std.specs.Io.KnownBytes.{WriteAppends, Appends};
 ghost use Rattle.ucon_flow.specs.Causes.{HasCause, raised};
+ghost use Rattle.ucon_flow.specs.Seen.{SinkSeen};
 ghost use Rattle.ucon_flow.specs.Writing.{AppendsPrefix};
 
 use crate::Failed;
 use thiserror::Error;
 
 pub trait Sink {
-    /// What it holds, where the sink tells.
-    ghost contents: { Self → Option (List ℕ) };
-
-    /// How often the sink has failed.
-    ghost faults: { Self → ℕ };
-
-    /// How often it was written to.
-    ghost writes: { Self → ℕ };
+    /// What can be said of the sink at this moment.
+    ghost seen: { Self → SinkSeen };
 
     /// Takes bytes from the front of a piece, and tells how many, at least one of a piece that isn't empty. Where it fails
     /// it has taken none. An empty piece is taken by every sink.
@@ -24,9 +19,9 @@ pub trait Sink {
         ensures bound { IfOk result (λ n. n ≤ length bytes.now) }
         ensures empty { length bytes.now ≡ 0 → result ≡ Ok 0 }
         ensures some { IfOk result (λ n. 0 < length bytes.now → 0 < n) }
-        ensures bytes { WriteAppends (contents self.old) (contents self.new) result bytes.now }
-        ensures cause { HasCause (faults self.old) (faults self.new) result }
-        ensures counted { writes self.new ≡ raised (writes self.old) };
+        ensures bytes { WriteAppends (seen self.old).contents (seen self.new).contents result bytes.now }
+        ensures cause { HasCause (seen self.old).faults (seen self.new).faults result }
+        ensures counted { (seen self.new).writes ≡ raised (seen self.old).writes };
 }
 
 /// The sink failed.
@@ -36,12 +31,12 @@ pub struct SinkFault;
 
 /// Writes all the bytes, or a front part of them where the sink fails.
 pub fn write_all<K: Sink>(sink: &mut K, bytes: &[u8]) -> Result<(), SinkFault>
-    ensures ok { OnOk result (Appends (K.contents sink.old) (K.contents sink.new) bytes.now) }
-    ensures err { OnErr result (AppendsPrefix (K.contents sink.old) (K.contents sink.new) bytes.now) }
-    ensures cause { HasCause (K.faults sink.old) (K.faults sink.new) result }
+    ensures ok { OnOk result (Appends (K.seen sink.old).contents (K.seen sink.new).contents bytes.now) }
+    ensures err { OnErr result (AppendsPrefix (K.seen sink.old).contents (K.seen sink.new).contents bytes.now) }
+    ensures cause { HasCause (K.seen sink.old).faults (K.seen sink.new).faults result }
 
     // At most one write for each byte.
-    ensures writes { K.writes sink.new ≤ K.writes sink.old + length bytes.now }
+    ensures writes { (K.seen sink.new).writes ≤ (K.seen sink.old).writes + length bytes.now }
 {
     let mut at = 0;
     while at < bytes.len() {

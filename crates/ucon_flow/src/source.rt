@@ -5,6 +5,7 @@ ghost use Rattle.std.specs.Io.{ReadsAtMost};
 ghost use Rattle.std.specs.Io.KnownBytes.{ReadConsumes};
 ghost use Rattle.ucon_base.specs.Memory.{out_of_memory};
 ghost use Rattle.ucon_flow.specs.Causes.{HasCause, raised};
+ghost use Rattle.ucon_flow.specs.Seen.{SourceSeen};
 ghost use Rattle.ucon_flow.specs.Reading.{ReadsWhole, ReadsFront, HasMoreThan, HasAtMost};
 ghost use Rattle.ucon_flow.specs.declared.source.ReadFault.TheVariants as faults_of_reading;
 
@@ -17,21 +18,15 @@ use ucon_base::NoMemory;
 pub struct Failed;
 
 pub trait Source {
-    /// What is left, where the source tells.
-    ghost left: { Self → Option (List ℕ) };
-
-    /// How often the source has failed.
-    ghost faults: { Self → ℕ };
-
-    /// How often it was read.
-    ghost reads: { Self → ℕ };
+    /// What can be said of the source at this moment.
+    ghost seen: { Self → SourceSeen };
 
     /// Puts bytes into the front of the buffer, and tells how many. None into a buffer that isn't empty is the end.
     fn read(&mut self, buf: &mut [u8]) -> Result<usize, Failed>
         ensures bound { ReadsAtMost result buf.new }
-        ensures bytes { ReadConsumes (left self.old) (left self.new) result buf.new }
-        ensures cause { HasCause (faults self.old) (faults self.new) result }
-        ensures counted { reads self.new ≡ raised (reads self.old) };
+        ensures bytes { ReadConsumes (seen self.old).left (seen self.new).left result buf.new }
+        ensures cause { HasCause (seen self.old).faults (seen self.new).faults result }
+        ensures counted { (seen self.new).reads ≡ raised (seen self.old).reads };
 }
 
 /// Why a source could not be read whole.
@@ -67,18 +62,18 @@ pub fn read_all<S: Source>(
     source: &mut S,
     limit: usize,
 ) -> Result<Vec<u8>, ReadFault>
-    ensures ok { IfOk result (λ bytes. ReadsWhole (S.left source.old) (S.left source.new) bytes.items) }
+    ensures ok { IfOk result (λ bytes. ReadsWhole (S.seen source.old).left (S.seen source.new).left bytes.items) }
     ensures within { IfOk result (λ bytes. length bytes.items ≤ limit) }
-    ensures fits { OnOk result (HasAtMost (S.left source.old) limit) }
-    ensures err { OnErr result (ReadsFront (S.left source.old) (S.left source.new)) }
+    ensures fits { OnOk result (HasAtMost (S.seen source.old).left limit) }
+    ensures err { OnErr result (ReadsFront (S.seen source.old).left (S.seen source.new).left) }
 
     // The cause of each fault.
-    ensures too_long { IsErrOf result ReadFault.TooLong → HasMoreThan (S.left source.old) limit }
-    ensures failed { IsErrOf result ReadFault.SourceFault → S.faults source.new ≡ raised (S.faults source.old) }
-    ensures unfailed { result ≢ Err ReadFault.SourceFault → S.faults source.new ≡ S.faults source.old }
+    ensures too_long { IsErrOf result ReadFault.TooLong → HasMoreThan (S.seen source.old).left limit }
+    ensures failed { IsErrOf result ReadFault.SourceFault → (S.seen source.new).faults ≡ raised (S.seen source.old).faults }
+    ensures unfailed { result ≢ Err ReadFault.SourceFault → (S.seen source.new).faults ≡ (S.seen source.old).faults }
 
     // At most one read for each byte within the limit, and one more.
-    ensures reads { S.reads source.new ≤ S.reads source.old + limit + 1 }
+    ensures reads { (S.seen source.new).reads ≤ (S.seen source.old).reads + limit + 1 }
 {
     let mut bytes = Vec::new(alloc);
     let mut buf = [0u8; 65536];

@@ -3,6 +3,7 @@ use Rattle.std.proofs.Common.{◌≡◌, ◌≢◌, ℕ, ◌+◌, ◌^◌, ◌<�
 use Rattle.std.specs.Option.{option_map}
 use Rattle.ucon_disk.specs.Disk.{overwritten, Only}
 use Rattle.ucon_disk.specs.Run.{IsAtRest}
+use Rattle.ucon_disk.specs.Seen.{DiskSeen}
 use Rattle.ucon_journal.specs.JournalBytes.{newest, journal_bytes}
 use Rattle.ucon_journal.specs.Found.{Fresh, NotJournal, found, version_told, counted, payloads_from, StandsAt}
 use Rattle.ucon_journal.specs.Opened.{opened, shut_at, with_payload}
@@ -19,10 +20,10 @@ if_told None P each = tt
 if_told (Some x) P each = each x refl
 
 -- what a call made of the bytes is on the disk
-pub rests_after : (old new : Option (List ℕ)) (images : List ℕ → Type 0) (f : List ℕ → List ℕ) (file : List ℕ) → new ≡ option_map f old → Only new images → old ≡ Some file → IsAtRest new images (f file)
-rests_after old new images f file made only is =
-    let told : new ≡ Some (f file) = made ∙ ap (option_map f) is in
-    record { told = told; only = subst (λ o. Only o images) told only }
+pub rests_after : (old : Option (List ℕ)) (new : DiskSeen) (f : List ℕ → List ℕ) (file : List ℕ) → new.contents ≡ option_map f old → Only new.contents new.images → old ≡ Some file → IsAtRest new (f file)
+rests_after old new f file made only is =
+    let told : new.contents ≡ Some (f file) = made ∙ ap (option_map f) is in
+    record { told = told; only = subst (λ o. Only o new.images) told only }
 
 -- read to the end; its last byte is a closed gate
 abbrev pub EndsAt : ℕ → ℕ → List ℕ → Type 0

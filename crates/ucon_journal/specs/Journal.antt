@@ -1,5 +1,6 @@
 -- A journal over a disk.
 use Rattle.std.specs.Prelude.{◌≡◌, ◌⊎◌, ℕ, ◌+◌, ◌≤◌, List, [], ◌∷◌, length, drop, Option, None, Some, IfSome, vec_capacity}
+use Rattle.ucon_disk.specs.Seen.{DiskSeen}
 use Rattle.ucon_journal.specs.declared.journal.Journal.{Journal}
 use Rattle.ucon_journal.specs.declared.phase.Phase.{Phase}
 use Rattle.ucon_journal.specs.declared.phase.Phase.TheVariants.{Reading, Ended, Closed, Broken}
@@ -35,21 +36,21 @@ abbrev pub IsUnmended : Phase → Type 0
 IsUnmended phase = (phase ≡ Reading) ⊎ (phase ≡ Ended)
 
 -- it is being read, up to the gate, and the bytes that were read ahead are the file's
-pub record IsReading {D : Type 0} (contents : D → Option (List ℕ)) (j : Journal D) : Type 0 where
+pub record IsReading {D : Type 0} (seen : D → DiskSeen) (j : Journal D) : Type 0 where
   pub phase : IsUnmended j.phase
-  pub told : IfSome (contents j.disk) (λ file. (payloads : List (List ℕ)) × StandsAt file j.version j.gate payloads)
-  pub len : IfSome (contents j.disk) (λ file. j.len ≡ length file)
-  pub ahead : IfSome (contents j.disk) (IsPartOf j.ahead)
+  pub told : IfSome (seen j.disk).contents (λ file. (payloads : List (List ℕ)) × StandsAt file j.version j.gate payloads)
+  pub len : IfSome (seen j.disk).contents (λ file. j.len ≡ length file)
+  pub ahead : IfSome (seen j.disk).contents (IsPartOf j.ahead)
 
 -- it was read to the first gate whose record doesn't count
-pub record HasEnded {D : Type 0} (contents : D → Option (List ℕ)) (j : Journal D) : Type 0 where
+pub record HasEnded {D : Type 0} (seen : D → DiskSeen) (j : Journal D) : Type 0 where
   pub phase : j.phase ≡ Ended
-  pub told : IfSome (contents j.disk) (λ file. StandsAt file j.version j.gate (counted file) × (payloads_from file j.gate ≡ []))
+  pub told : IfSome (seen j.disk).contents (λ file. StandsAt file j.version j.gate (counted file) × (payloads_from file j.gate ≡ []))
 
 -- its last byte is a closed gate, behind the records of all its payloads
-pub record IsClosed {D : Type 0} (contents : D → Option (List ℕ)) (j : Journal D) : Type 0 where
+pub record IsClosed {D : Type 0} (seen : D → DiskSeen) (j : Journal D) : Type 0 where
   pub phase : j.phase ≡ Closed
-  pub told : IfSome (contents j.disk) (λ file. StandsAt file j.version j.gate (counted file) × (drop j.gate file ≡ 0 ∷ []))
+  pub told : IfSome (seen j.disk).contents (λ file. StandsAt file j.version j.gate (counted file) × (drop j.gate file ≡ 0 ∷ []))
 
 -- a device call that changes the file failed, and the file has to be opened again
 abbrev pub IsBroken : {D : Type 0} → Journal D → Type 0

@@ -39,14 +39,14 @@ impl Ahead {
         at: u64,
         n: usize,
     ) -> Result<(), TakeFault>
-        requires { IfSome (D.contents disk.old) (IsPartOf self.old) }
-        ensures part { IfSome (D.contents disk.new) (IsPartOf self.new) }
-        ensures there { OnOk result (IfSome (D.contents disk.old) (λ file. bytes_at self.new at n ≡ take n (drop at file))) }
-        ensures contents { D.contents disk.new ≡ D.contents disk.old }
-        ensures images { SameImages (D.images disk.old) (D.images disk.new) }
-        ensures time { Elapses (D.moment disk.old) (D.moment disk.new) (D.images_since disk.old) (D.images_since disk.new) (D.images disk.new) }
-        ensures failed { IsErrOf result TakeFault.DiskFault → D.faults disk.new ≡ raised (D.faults disk.old) }
-        ensures unfailed { result ≢ Err TakeFault.DiskFault → D.faults disk.new ≡ D.faults disk.old }
+        requires { IfSome (D.seen disk.old).contents (IsPartOf self.old) }
+        ensures part { IfSome (D.seen disk.new).contents (IsPartOf self.new) }
+        ensures there { OnOk result (IfSome (D.seen disk.old).contents (λ file. bytes_at self.new at n ≡ take n (drop at file))) }
+        ensures contents { (D.seen disk.new).contents ≡ (D.seen disk.old).contents }
+        ensures images { SameImages (D.seen disk.old).images (D.seen disk.new).images }
+        ensures time { Elapses (D.seen disk.old).moment (D.seen disk.new).moment (D.seen disk.old).images_since (D.seen disk.new).images_since (D.seen disk.new).images }
+        ensures failed { IsErrOf result TakeFault.DiskFault → (D.seen disk.new).faults ≡ raised (D.seen disk.old).faults }
+        ensures unfailed { result ≢ Err TakeFault.DiskFault → (D.seen disk.new).faults ≡ (D.seen disk.old).faults }
         ensures whole { (place : ℕ) → result ≢ Err (TakeFault.TooLong place) }
     {
         if self.has(at, n) {
@@ -100,13 +100,13 @@ impl Ahead {
     #[inline(never)]
     fn fill<D: Disk>(&mut self, disk: &mut D, at: u64, size: usize) -> Result<(), Failed>
         requires { size ≤ vec_capacity self.old.bytes }
-        ensures part { IfSome (D.contents disk.new) (IsPartOf self.new) }
+        ensures part { IfSome (D.seen disk.new).contents (IsPartOf self.new) }
         ensures place { OnOk result (self.new.place ≡ at) }
-        ensures filled { OnOk result (IfSome (D.contents disk.old) (λ file. min size (length file - at) ≤ length self.new.bytes.items)) }
-        ensures contents { D.contents disk.new ≡ D.contents disk.old }
-        ensures images { SameImages (D.images disk.old) (D.images disk.new) }
-        ensures time { Elapses (D.moment disk.old) (D.moment disk.new) (D.images_since disk.old) (D.images_since disk.new) (D.images disk.new) }
-        ensures cause { HasCause (D.faults disk.old) (D.faults disk.new) result }
+        ensures filled { OnOk result (IfSome (D.seen disk.old).contents (λ file. min size (length file - at) ≤ length self.new.bytes.items)) }
+        ensures contents { (D.seen disk.new).contents ≡ (D.seen disk.old).contents }
+        ensures images { SameImages (D.seen disk.old).images (D.seen disk.new).images }
+        ensures time { Elapses (D.seen disk.old).moment (D.seen disk.new).moment (D.seen disk.old).images_since (D.seen disk.new).images_since (D.seen disk.new).images }
+        ensures cause { HasCause (D.seen disk.old).faults (D.seen disk.new).faults result }
     {
         let Ok(()) = self.bytes.resize(size, 0) else {
             unreachable!()

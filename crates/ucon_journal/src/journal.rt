@@ -52,21 +52,21 @@ impl<D: Disk> Journal<D> {
     /// Opens the journal in a file, and makes a new one, of version 2, in a file of at most 9 bytes. A longer file isn't
     /// written. A refusal hands the disk back.
     pub fn open(alloc: Global, mut disk: D) -> Result<Journal<D>, (D, OpenFault)>
-        ensures reading { IfOk result (λ j. IsReading D.contents j × (gate_of j ≡ 8)) }
-        ensures version { IfOk result (λ j. IfSome (D.contents (disk_of j)) (λ file. version_told file ≡ Some (version_of j))) }
-        ensures bytes { IfOk result (λ j. D.contents (disk_of j) ≡ option_map opened (D.contents disk)) }
-        ensures same { IfOk result (λ j. told_payloads (D.contents (disk_of j)) ≡ told_payloads (D.contents disk)) }
-        ensures all { IfOk result (λ j. IfSome (D.contents (disk_of j)) (λ file. payloads_from file 8 ≡ counted file)) }
-        ensures only { IfOk result (λ j. Only (D.contents (disk_of j)) (D.images (disk_of j))) }
-        ensures images { IfOk result (λ j. LeavesAfter D.contents D.images D.moment D.images_since disk (disk_of j) Untouched) }
-        ensures unfailed { IfOk result (λ j. D.faults (disk_of j) ≡ D.faults disk) }
+        ensures reading { IfOk result (λ j. IsReading D.seen j × (gate_of j ≡ 8)) }
+        ensures version { IfOk result (λ j. IfSome (D.seen (disk_of j)).contents (λ file. version_told file ≡ Some (version_of j))) }
+        ensures bytes { IfOk result (λ j. (D.seen (disk_of j)).contents ≡ option_map opened (D.seen disk).contents) }
+        ensures same { IfOk result (λ j. told_payloads (D.seen (disk_of j)).contents ≡ told_payloads (D.seen disk).contents) }
+        ensures all { IfOk result (λ j. IfSome (D.seen (disk_of j)).contents (λ file. payloads_from file 8 ≡ counted file)) }
+        ensures only { IfOk result (λ j. Only (D.seen (disk_of j)).contents (D.seen (disk_of j)).images) }
+        ensures images { IfOk result (λ j. LeavesAfter (D.seen disk) (D.seen (disk_of j)) Untouched) }
+        ensures unfailed { IfOk result (λ j. (D.seen (disk_of j)).faults ≡ (D.seen disk).faults) }
 
-        ensures is_journal { IfOk result (λ _. IfSome (D.contents disk) (λ file. found file ≢ finding.NotJournal)) }
+        ensures is_journal { IfOk result (λ _. IfSome (D.seen disk).contents (λ file. found file ≢ finding.NotJournal)) }
         ensures not_journal { IfErr result (λ e. e.1 ≡ OpenFault.NotJournal
-            → IfSome (D.contents disk) (λ file. (found file ≡ finding.NotJournal) × (D.contents e.0 ≡ Some file))) }
-        ensures images_err { IfErr result (λ e. LeavesAfter D.contents D.images D.moment D.images_since disk e.0 Untouched) }
-        ensures failed { IfErr result (λ e. e.1 ≡ OpenFault.DiskFault → D.faults e.0 ≡ raised (D.faults disk)) }
-        ensures unfailed_err { IfErr result (λ e. e.1 ≢ OpenFault.DiskFault → D.faults e.0 ≡ D.faults disk) }
+            → IfSome (D.seen disk).contents (λ file. (found file ≡ finding.NotJournal) × ((D.seen e.0).contents ≡ Some file))) }
+        ensures images_err { IfErr result (λ e. LeavesAfter (D.seen disk) (D.seen e.0) Untouched) }
+        ensures failed { IfErr result (λ e. e.1 ≡ OpenFault.DiskFault → (D.seen e.0).faults ≡ raised (D.seen disk).faults) }
+        ensures unfailed_err { IfErr result (λ e. e.1 ≢ OpenFault.DiskFault → (D.seen e.0).faults ≡ (D.seen disk).faults) }
     {
         match begin(&mut disk) {
             Ok(opened) => Ok(Journal {
@@ -94,24 +94,24 @@ impl<D: Disk> Journal<D> {
 
     /// Takes the next record, whose payload `payload` gives then, and tells whether there was one.
     pub fn next(&mut self) -> Result<bool, TakeFault>
-        requires { IsReading D.contents self.old }
-        ensures reading { IsReading D.contents self.new }
-        ensures taken { IfOk result (λ more. IfSome (D.contents (disk_of self.old)) (λ file. MatchBool more
+        requires { IsReading D.seen self.old }
+        ensures reading { IsReading D.seen self.new }
+        ensures taken { IfOk result (λ more. IfSome (D.seen (disk_of self.old)).contents (λ file. MatchBool more
             (payloads_from file (gate_of self.old) ≡ payload_of self.new ∷ payloads_from file (gate_of self.new))
             (payloads_from file (gate_of self.old) ≡ []))) }
         ensures short { result ≡ Ok true → length (payload_of self.new) ≤ MAX_PAYLOAD }
         ensures advance { result ≡ Ok true → gate_of self.new ≡ gate_of self.old + 5 + length (payload_of self.new) }
-        ensures ended { IfOk result (λ more. more ≡ false → HasEnded D.contents self.new) }
+        ensures ended { IfOk result (λ more. more ≡ false → HasEnded D.seen self.new) }
         ensures too_long { IfErr result (λ e. (place : ℕ) → e ≡ TakeFault.TooLong place → (place ≡ gate_of self.old)
-            × IfSome (D.contents (disk_of self.old)) (λ file. NextIsLonger MAX_PAYLOAD file place)) }
+            × IfSome (D.seen (disk_of self.old)).contents (λ file. NextIsLonger MAX_PAYLOAD file place)) }
         ensures stays { result ≢ Ok true → gate_of self.new ≡ gate_of self.old }
         ensures version { version_of self.new ≡ version_of self.old }
 
-        ensures contents { D.contents (disk_of self.new) ≡ D.contents (disk_of self.old) }
-        ensures images { SameImages (D.images (disk_of self.old)) (D.images (disk_of self.new)) }
-        ensures run { LeavesOnly D.moment D.images_since (disk_of self.old) (disk_of self.new) (D.images (disk_of self.old)) }
-        ensures failed { IsErrOf result TakeFault.DiskFault → D.faults (disk_of self.new) ≡ raised (D.faults (disk_of self.old)) }
-        ensures unfailed { result ≢ Err TakeFault.DiskFault → D.faults (disk_of self.new) ≡ D.faults (disk_of self.old) }
+        ensures contents { (D.seen (disk_of self.new)).contents ≡ (D.seen (disk_of self.old)).contents }
+        ensures images { SameImages (D.seen (disk_of self.old)).images (D.seen (disk_of self.new)).images }
+        ensures run { LeavesOnly (D.seen (disk_of self.old)) (D.seen (disk_of self.new)) (D.seen (disk_of self.old)).images }
+        ensures failed { IsErrOf result TakeFault.DiskFault → (D.seen (disk_of self.new)).faults ≡ raised (D.seen (disk_of self.old)).faults }
+        ensures unfailed { result ≢ Err TakeFault.DiskFault → (D.seen (disk_of self.new)).faults ≡ (D.seen (disk_of self.old)).faults }
     {
         self.ahead
             .bring(&mut self.disk, self.gate, HEADER as usize)?;
@@ -157,10 +157,10 @@ impl<D: Disk> Journal<D> {
 
     /// Goes back before the first record, which `next` takes then.
     pub fn rewind(&mut self)
-        requires { IsReading D.contents self.old }
-        ensures reading { IsReading D.contents self.new }
+        requires { IsReading D.seen self.old }
+        ensures reading { IsReading D.seen self.new }
         ensures gate { gate_of self.new ≡ 8 }
-        ensures all { IfSome (D.contents (disk_of self.new)) (λ file. payloads_from file 8 ≡ counted file) }
+        ensures all { IfSome (D.seen (disk_of self.new)).contents (λ file. payloads_from file 8 ≡ counted file) }
         ensures version { version_of self.new ≡ version_of self.old }
         ensures disk { disk_of self.new ≡ disk_of self.old }
     {
@@ -170,13 +170,13 @@ impl<D: Disk> Journal<D> {
 
     /// Goes on to a gate that a walk has passed, whose record `next` takes then. None of the records before it is read.
     pub fn go_to(&mut self, gate: u64)
-        requires reading { IsReading D.contents self.old }
-        requires leads { IfSome (D.contents (disk_of self.old)) (λ file. (ps : List (List ℕ)) × (qs : List (List ℕ))
+        requires reading { IsReading D.seen self.old }
+        requires leads { IfSome (D.seen (disk_of self.old)).contents (λ file. (ps : List (List ℕ)) × (qs : List (List ℕ))
             × LeadTo file (gate_of self.old) ps gate qs) }
         requires small { gate < 2 ^ 63 }
-        ensures reading { IsReading D.contents self.new }
+        ensures reading { IsReading D.seen self.new }
         ensures gate { gate_of self.new ≡ gate }
-        ensures left { IfSome (D.contents (disk_of self.old)) (λ file. (ps qs : List (List ℕ)) → LeadTo file (gate_of self.old) ps gate qs
+        ensures left { IfSome (D.seen (disk_of self.old)).contents (λ file. (ps qs : List (List ℕ)) → LeadTo file (gate_of self.old) ps gate qs
             → payloads_from file gate ≡ qs) }
         ensures version { version_of self.new ≡ version_of self.old }
         ensures disk { disk_of self.new ≡ disk_of self.old }
@@ -187,17 +187,17 @@ impl<D: Disk> Journal<D> {
 
     /// Takes away what stands behind the last whole record, and closes the gate there. After a fault, open the file again.
     pub fn mend(&mut self) -> Result<(), DiskFault>
-        requires { HasEnded D.contents self.old }
-        ensures closed { OnOk result (IsClosed D.contents self.new) }
+        requires { HasEnded D.seen self.old }
+        ensures closed { OnOk result (IsClosed D.seen self.new) }
         ensures broken { OnErr result (IsBroken self.new) }
-        ensures same { OnOk result (told_payloads (D.contents (disk_of self.new)) ≡ told_payloads (D.contents (disk_of self.old))) }
-        ensures bytes { OnOk result (D.contents (disk_of self.new) ≡ option_map (shut_at (gate_of self.old)) (D.contents (disk_of self.old))) }
+        ensures same { OnOk result (told_payloads (D.seen (disk_of self.new)).contents ≡ told_payloads (D.seen (disk_of self.old)).contents) }
+        ensures bytes { OnOk result ((D.seen (disk_of self.new)).contents ≡ option_map (shut_at (gate_of self.old)) (D.seen (disk_of self.old)).contents) }
         ensures gate { gate_of self.new ≡ gate_of self.old }
         ensures version { version_of self.new ≡ version_of self.old }
-        ensures only { OnOk result (Only (D.contents (disk_of self.new)) (D.images (disk_of self.new))) }
-        ensures images { LeavesAfter D.contents D.images D.moment D.images_since (disk_of self.old) (disk_of self.new) SamePayloads }
+        ensures only { OnOk result (Only (D.seen (disk_of self.new)).contents (D.seen (disk_of self.new)).images) }
+        ensures images { LeavesAfter (D.seen (disk_of self.old)) (D.seen (disk_of self.new)) SamePayloads }
         ensures room { (n : ℕ) → HasRoomFor self.old n → HasRoomFor self.new n }
-        ensures cause { HasCause (D.faults (disk_of self.old)) (D.faults (disk_of self.new)) result }
+        ensures cause { HasCause (D.seen (disk_of self.old)).faults (D.seen (disk_of self.new)).faults result }
     {
         self.phase = Phase::Broken;
         cut_synced(&mut self.disk, self.gate + 1)?;
@@ -213,9 +213,9 @@ impl<D: Disk> Journal<D> {
         ensures gate { gate_of self.new ≡ gate_of self.old }
         ensures version { version_of self.new ≡ version_of self.old }
         ensures payload { payload_of self.new ≡ payload_of self.old }
-        ensures reading { IsReading D.contents self.old → IsReading D.contents self.new }
-        ensures ended { HasEnded D.contents self.old → HasEnded D.contents self.new }
-        ensures closed { IsClosed D.contents self.old → IsClosed D.contents self.new }
+        ensures reading { IsReading D.seen self.old → IsReading D.seen self.new }
+        ensures ended { HasEnded D.seen self.old → HasEnded D.seen self.new }
+        ensures closed { IsClosed D.seen self.old → IsClosed D.seen self.new }
     {
         // Where the sum passes the last number there is no such room.
         self.buffer.reserve(n.saturating_add(5))?;
@@ -225,24 +225,24 @@ impl<D: Disk> Journal<D> {
     /// Adds a payload. At `Ok` it is acknowledged: from then on each crash leaves a file that has it.
     /// After a fault, open the file again.
     pub fn append(&mut self, payload: &[u8]) -> Result<(), DiskFault>
-        requires closed { IsClosed D.contents self.old }
+        requires closed { IsClosed D.seen self.old }
         requires short { length payload.now ≤ MAX_PAYLOAD }
         requires room { HasRoomFor self.old (length payload.now) }
-        ensures closed { OnOk result (IsClosed D.contents self.new) }
-        ensures tells { is_some (D.contents (disk_of self.new)) ≡ is_some (D.contents (disk_of self.old)) }
+        ensures closed { OnOk result (IsClosed D.seen self.new) }
+        ensures tells { is_some (D.seen (disk_of self.new)).contents ≡ is_some (D.seen (disk_of self.old)).contents }
         ensures broken { OnErr result (IsBroken self.new) }
         ensures room { (n : ℕ) → HasRoomFor self.old n → HasRoomFor self.new n }
-        ensures added { OnOk result (IfSome (D.contents (disk_of self.old)) (λ file.
-            told_payloads (D.contents (disk_of self.new)) ≡ told_payloads (D.contents (disk_of self.old)) ++ payload.now ∷ [])) }
-        ensures bytes { OnOk result (D.contents (disk_of self.new)
-            ≡ option_map (with_payload (gate_of self.old) payload.now) (D.contents (disk_of self.old))) }
+        ensures added { OnOk result (IfSome (D.seen (disk_of self.old)).contents (λ file.
+            told_payloads (D.seen (disk_of self.new)).contents ≡ told_payloads (D.seen (disk_of self.old)).contents ++ payload.now ∷ [])) }
+        ensures bytes { OnOk result ((D.seen (disk_of self.new)).contents
+            ≡ option_map (with_payload (gate_of self.old) payload.now) (D.seen (disk_of self.old)).contents) }
         ensures gate { OnOk result (gate_of self.new ≡ gate_of self.old + 5 + length payload.now) }
         ensures version { version_of self.new ≡ version_of self.old }
-        ensures only { OnOk result (Only (D.contents (disk_of self.new)) (D.images (disk_of self.new))) }
+        ensures only { OnOk result (Only (D.seen (disk_of self.new)).contents (D.seen (disk_of self.new)).images) }
 
         // A crash at any moment of the call leaves the payloads from before it, with the new one or without.
-        ensures images { LeavesAfter D.contents D.images D.moment D.images_since (disk_of self.old) (disk_of self.new) (PerhapsAdded payload.now) }
-        ensures cause { HasCause (D.faults (disk_of self.old)) (D.faults (disk_of self.new)) result }
+        ensures images { LeavesAfter (D.seen (disk_of self.old)) (D.seen (disk_of self.new)) (PerhapsAdded payload.now) }
+        ensures cause { HasCause (D.seen (disk_of self.old)).faults (D.seen (disk_of self.new)).faults result }
     {
         self.phase = Phase::Broken;
         stage(&mut self.buffer, payload);

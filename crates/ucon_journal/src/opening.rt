@@ -31,17 +31,17 @@ pub(crate) struct Opened {
 /// Syncs the file, and sees that it is a journal, or makes it one.
 pub(crate) fn begin<D: Disk>(disk: &mut D) -> Result<Opened, OpenFault>
     ensures small { IfOk result (λ o. o.len < 2 ^ 63) }
-    ensures len { IfOk result (λ o. IfSome (D.contents disk.new) (λ file. o.len ≡ length file)) }
+    ensures len { IfOk result (λ o. IfSome (D.seen disk.new).contents (λ file. o.len ≡ length file)) }
     ensures known { IfOk result (λ o. IsVersion o.version) }
-    ensures version { IfOk result (λ o. IfSome (D.contents disk.new) (λ file. version_told file ≡ Some o.version)) }
-    ensures bytes { OnOk result (D.contents disk.new ≡ option_map opened (D.contents disk.old)) }
-    ensures only { OnOk result (Only (D.contents disk.new) (D.images disk.new)) }
-    ensures is_journal { OnOk result (IfSome (D.contents disk.old) (λ file. found file ≢ finding.NotJournal)) }
+    ensures version { IfOk result (λ o. IfSome (D.seen disk.new).contents (λ file. version_told file ≡ Some o.version)) }
+    ensures bytes { OnOk result ((D.seen disk.new).contents ≡ option_map opened (D.seen disk.old).contents) }
+    ensures only { OnOk result (Only (D.seen disk.new).contents (D.seen disk.new).images) }
+    ensures is_journal { OnOk result (IfSome (D.seen disk.old).contents (λ file. found file ≢ finding.NotJournal)) }
     ensures not_journal { IfErr result (λ e. e ≡ OpenFault.NotJournal
-        → IfSome (D.contents disk.old) (λ file. (found file ≡ finding.NotJournal) × (D.contents disk.new ≡ Some file))) }
-    ensures images { LeavesAfter D.contents D.images D.moment D.images_since disk.old disk.new Untouched }
-    ensures failed { IsErrOf result OpenFault.DiskFault → D.faults disk.new ≡ raised (D.faults disk.old) }
-    ensures unfailed { result ≢ Err OpenFault.DiskFault → D.faults disk.new ≡ D.faults disk.old }
+        → IfSome (D.seen disk.old).contents (λ file. (found file ≡ finding.NotJournal) × ((D.seen disk.new).contents ≡ Some file))) }
+    ensures images { LeavesAfter (D.seen disk.old) (D.seen disk.new) Untouched }
+    ensures failed { IsErrOf result OpenFault.DiskFault → (D.seen disk.new).faults ≡ raised (D.seen disk.old).faults }
+    ensures unfailed { result ≢ Err OpenFault.DiskFault → (D.seen disk.new).faults ≡ (D.seen disk.old).faults }
 {
     disk.sync()?;
     let len = disk.len()?;

@@ -25,9 +25,9 @@ fn put_ended(all: &mut Vec<u8>, payload: &[u8]) -> Result<(), AllocError> {
 
 // Puts the payloads that are read behind what is there, each ended by a bar.
 fn read_into<D: Disk>(all: &mut Vec<u8>, journal: &mut Journal<D>) -> Result<(), TakeFault>
-    requires { IsReading D.contents journal.old }
-    ensures reading { IsReading D.contents journal.new }
-    ensures ended { OnOk result (HasEnded D.contents journal.new) }
+    requires { IsReading D.seen journal.old }
+    ensures reading { IsReading D.seen journal.new }
+    ensures ended { OnOk result (HasEnded D.seen journal.new) }
 {
     'records: for _ in 0..u64::MAX {
         if !journal.next()? {
@@ -40,9 +40,9 @@ fn read_into<D: Disk>(all: &mut Vec<u8>, journal: &mut Journal<D>) -> Result<(),
 
 // The payloads that are read, each ended by a bar.
 fn read_all<D: Disk>(alloc: Global, journal: &mut Journal<D>) -> Result<Vec<u8>, TakeFault>
-    requires { IsReading D.contents journal.old }
-    ensures reading { IsReading D.contents journal.new }
-    ensures ended { OnOk result (HasEnded D.contents journal.new) }
+    requires { IsReading D.seen journal.old }
+    ensures reading { IsReading D.seen journal.new }
+    ensures ended { OnOk result (HasEnded D.seen journal.new) }
 {
     let mut all = Vec::new(alloc);
     read_into(&mut all, journal)?;
@@ -50,8 +50,8 @@ fn read_all<D: Disk>(alloc: Global, journal: &mut Journal<D>) -> Result<Vec<u8>,
 }
 
 fn add<D: Disk>(journal: &mut Journal<D>, payload: &[u8]) -> Result<(), DiskFault>
-    requires { IsClosed D.contents journal.old }
-    ensures { OnOk result (IsClosed D.contents journal.new) }
+    requires { IsClosed D.seen journal.old }
+    ensures { OnOk result (IsClosed D.seen journal.new) }
 {
     if payload.len() > 100 || journal.reserve(payload.len()).is_err() {
         return Err(DiskFault);
@@ -64,7 +64,7 @@ fn add_all<D: Disk>(
     journal: &mut Journal<D>,
     payloads: &[&[u8]],
 ) -> Result<(), DiskFault>
-    requires { IsReading D.contents journal.old }
+    requires { IsReading D.seen journal.old }
 {
     if read_all(alloc, journal).is_err() {
         return Err(DiskFault);
@@ -89,7 +89,7 @@ fn run(alloc: Global, disk: MemDisk, payloads: &[&[u8]]) -> (MemDisk, bool) {
 
 // The payloads that are read, and the same once more.
 fn read_twice<D: Disk>(alloc: Global, journal: &mut Journal<D>) -> Option<Vec<u8>>
-    requires { IsReading D.contents journal.old }
+    requires { IsReading D.seen journal.old }
 {
     let first = read_all(alloc, journal).ok()?;
     journal.rewind();

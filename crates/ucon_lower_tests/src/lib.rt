@@ -15,6 +15,10 @@ mod flow;
 #[cfg(test)]
 mod journal;
 #[cfg(test)]
+mod lines;
+#[cfg(test)]
 mod pend;
+#[cfg(test)]
+mod tell;
 #[cfg(test)]
 mod wheel;

@@ -1,36 +1,29 @@
 -- Legal runs: which answers the lines of a run may have.
-use Rattle.std.specs.Prelude.{◌≡◌, ℕ, ◌+◌, ◌-◌, ◌≤◌, Bool, true, false, ◌||◌, IsTrue, nat_eq, nat_le, List, [], ◌∷◌, ◌++◌, length, take, map, count_by, codes, if◌then◌else◌}
-use Rattle.std.specs.List.{list_any, starts_with}
+use Rattle.std.specs.Prelude.{◌≡◌, ℕ, ◌+◌, ◌-◌, ◌≤◌, Bool, true, false, IsTrue, nat_eq, nat_le, List, [], ◌∷◌, ◌++◌, length, take, map, count_by, if◌then◌else◌}
+use Rattle.std.specs.List.{list_any}
 use Rattle.ucon_base.specs.Elements.{Each}
 use Rattle.ucon_model.specs.declared.command.Caller.{Caller}
 use Rattle.ucon_model.specs.declared.command.Entry.{Entry}
-use Rattle.ucon_model.specs.Plain.{Bytes, PlainPolicy}
-use Rattle.ucon_model.specs.Spelling.{reply_spelling}
+use Rattle.ucon_model.specs.Plain.{PlainPolicy, PlainReply}
 use Rattle.ucon_model.specs.History.{History, said, changes}
 
--- what a line is answered: that there was no memory, that the disk failed, that it had failed before, or a reply's text with its place
+-- what a line is answered: that there was no memory, that the disk failed, that it had failed before, or a reply with its place
 pub data Answer : Type 0 where
   no_memory : Answer
   disk_fault : Answer
   stopped : Answer
-  placed : (place : ℕ) (reply : Bytes) → Answer
+  placed : (place : ℕ) (reply : PlainReply) → Answer
 
 -- a command line with its answer
 pub record Answered : Type 0 where
   pub line : Entry
   pub answer : Answer
 
--- whether a reply's text tells that something changed: its first word is `ok`, `permitted`, `denied`, `waiting` or `ended`
-abbrev pub tells_change : Bytes → Bool
-tells_change text =
-    starts_with nat_eq text (codes "ok") || starts_with nat_eq text (codes "permitted ") || starts_with nat_eq text (codes "denied ")
-    || starts_with nat_eq text (codes "waiting ") || starts_with nat_eq text (codes "ended ")
-
 -- ---- the history that is made
 
 -- a line with a changing reply, under its place, before the others
 abbrev pub with_record : Entry → Answer → List (ℕ × Entry) → List (ℕ × Entry)
-with_record line (placed place text) others = if tells_change text then (place, line) ∷ others else others
+with_record line (placed place reply) others = if changes reply then (place, line) ∷ others else others
 with_record line no_memory others = others
 with_record line disk_fault others = others
 with_record line stopped others = others
@@ -62,21 +55,21 @@ AreNumberedFrom n [] = Unit {0}
 AreNumberedFrom n (x ∷ xs) = (x.0 ≡ n + 1) × AreNumberedFrom (n + 1) xs
 
 -- how many entries a reply stands on: those before its place where it changes something, and those up to it where it doesn't
-abbrev pub stands_on : ℕ → Bytes → ℕ
-stands_on place text = if tells_change text then place - 1 else place
+abbrev pub stands_on : ℕ → PlainReply → ℕ
+stands_on place reply = if changes reply then place - 1 else place
 
 -- a placed reply is the serial run's, after the entries that it stands on, of which the opening history is a part
 abbrev pub IsSaid : PlainPolicy → ℕ → History → Entry → Answer → Type 0
-IsSaid P opening H line (placed place text) =
-    (opening ≤ stands_on place text) × (stands_on place text ≤ length H)
-    × (text ≡ reply_spelling (said P (take (stands_on place text) H) line.caller line.command))
+IsSaid P opening H line (placed place reply) =
+    (opening ≤ stands_on place reply) × (stands_on place reply ≤ length H)
+    × (reply ≡ said P (take (stands_on place reply) H) line.caller line.command)
 IsSaid P opening H line no_memory = Unit {0}
 IsSaid P opening H line disk_fault = Unit {0}
 IsSaid P opening H line stopped = Unit {0}
 
 -- a later reply stands on all that an earlier one told
 abbrev pub Saw : Answer → Answer → Type 0
-Saw (placed place text) (placed later more) = place ≤ stands_on later more
+Saw (placed place reply) (placed later more) = place ≤ stands_on later more
 Saw earlier later = Unit {0}
 
 -- after a disk fault, and after being stopped, a line is stopped
@@ -129,14 +122,14 @@ own_answers earlier later = nat_eq earlier.0 later.0
 
 -- the history after an answer
 abbrev pub history_after : History → Entry → Answer → History
-history_after H line (placed place text) = if tells_change text then H ++ line ∷ [] else H
+history_after H line (placed place reply) = if changes reply then H ++ line ∷ [] else H
 history_after H line a = H
 
 -- want of memory, or the serial run's reply at its place
 abbrev pub IsNext : PlainPolicy → History → Entry → Answer → Type 0
 IsNext P H line no_memory = Unit {0}
-IsNext P H line (placed place text) =
-    (text ≡ reply_spelling (said P H line.caller line.command)) × (place ≡ length (history_after H line (placed place text)))
+IsNext P H line (placed place reply) =
+    (reply ≡ said P H line.caller line.command) × (place ≡ length (history_after H line (placed place reply)))
 IsNext P H line disk_fault = ⊥
 IsNext P H line stopped = ⊥
 

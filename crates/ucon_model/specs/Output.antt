@@ -7,15 +7,17 @@ use Rattle.ucon_model.specs.declared.command.Entry.{Entry}
 use Rattle.ucon_model.specs.Plain.{Bytes}
 use Rattle.ucon_base.specs.Elements.{Each}
 use Rattle.ucon_model.specs.LegalRun.{Answer, no_memory, disk_fault, stopped, placed, Answered}
+use Rattle.ucon_model.specs.ReplyText.{reply_read}
+use Rattle.ucon_model.specs.Spelling.{reply_spelling}
 
 -- ---- what is written
 
--- the place, or `-` where there is none, a space, and the reply
+-- the place, or `-` where there is none, a space, and the reply's text
 abbrev pub answer_spelling : Answer → Bytes
 answer_spelling no_memory = codes "- no memory"
 answer_spelling disk_fault = codes "- disk fault"
 answer_spelling stopped = codes "- stopped"
-answer_spelling (placed place text) = decimal place ++ 32 ∷ text
+answer_spelling (placed place reply) = decimal place ++ 32 ∷ reply_spelling reply
 
 -- the client's number, a space, the answer, a newline
 abbrev pub answer_line : Answered → Bytes
@@ -30,9 +32,9 @@ output (t ∷ told) = answer_line t ++ output told
 abbrev pub Lacks : ℕ → Bytes → Type 0
 Lacks byte text = Each (λ b. (b == byte) ≡ false) text
 
--- what fits its line: a place below 2^64, and a text without a newline
+-- what fits its line: a place below 2^64, and a reply whose text has no newline and is read back as it
 abbrev pub FitsLine : Answer → Type 0
-FitsLine (placed place text) = (place < 2 ^ 64) × Lacks 10 text
+FitsLine (placed place reply) = (place < 2 ^ 64) × Lacks 10 (reply_spelling reply) × (reply_read (reply_spelling reply) ≡ Some reply)
 FitsLine a = Unit {0}
 
 -- ---- what is read
@@ -53,9 +55,13 @@ unplaced_read text =
     if bytes_eq text (codes "disk fault") then Some disk_fault else
     if bytes_eq text (codes "stopped") then Some stopped else None
 
+-- a place, and the reply of which this is the text
+abbrev pub placed_read : Bytes → ℕ → Option Answer
+placed_read text place = option_map (placed place) (reply_read text)
+
 -- the answer that a place, or `-`, and a text tell
 abbrev pub answer_read : Bytes × Bytes → Option Answer
-answer_read p = if bytes_eq p.0 (codes "-") then unplaced_read p.1 else option_map (λ n. placed n p.1) (number_read p.0)
+answer_read p = if bytes_eq p.0 (codes "-") then unplaced_read p.1 else option_and_then (placed_read p.1) (number_read p.0)
 
 -- the answer that a line of output tells, where it is this client's
 abbrev pub line_read : Entry → Bytes × Bytes → Option Answer

@@ -1,5 +1,6 @@
 -- Which replies there are, and which bytes are the text of one.
-use Rattle.std.specs.Prelude.{◌≡◌, ℕ, ◌<◌, ◌^◌, IsTrue, ⊤, List, [], ◌∷◌, find, Option, Some, None, option_map, option_and_then, codes, if◌then◌else◌}
+use Rattle.std.specs.Prelude.{◌≡◌, ℕ, ◌<◌, ◌^◌, Bool, ◌||◌, IsTrue, ⊤, nat_eq, List, [], ◌∷◌, find, Option, Some, None, option_map, option_and_then, codes, if◌then◌else◌}
+use Rattle.std.specs.List.{starts_with}
 use Rattle.std.specs.Str.{bytes_eq}
 use Rattle.ucon_base.specs.NameBytes.{is_name}
 use Rattle.ucon_base.specs.Spelling.{IsValue}
@@ -37,6 +38,12 @@ IsReply (status n state) = n < 2 ^ 32
 -- bytes that are the text of a reply
 abbrev pub IsReplyText : Bytes → Type 0
 IsReplyText bytes = (r : PlainReply) × (IsReply r × (reply_spelling r ≡ bytes))
+
+-- whether a reply's text tells that something changed: its first word is `ok`, `permitted`, `denied`, `waiting` or `ended`
+abbrev pub tells_change : Bytes → Bool
+tells_change text =
+    starts_with nat_eq text (codes "ok") || starts_with nat_eq text (codes "permitted ") || starts_with nat_eq text (codes "denied ")
+    || starts_with nat_eq text (codes "waiting ") || starts_with nat_eq text (codes "ended ")
 
 -- ---- how a reply is read
 

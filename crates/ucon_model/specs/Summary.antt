@@ -5,7 +5,6 @@ use Rattle.ucon_model.specs.declared.command.Entry.{Entry}
 use Rattle.ucon_model.specs.declared.reply.Head.{Head}
 use Rattle.ucon_model.specs.declared.reply.Head.TheVariants as heads
 use Rattle.ucon_model.specs.Plain.{Bytes, PlainPolicy, PlainReply, refused, made, value_is, status}
-use Rattle.ucon_model.specs.Spelling.{reply_spelling}
 use Rattle.ucon_model.specs.History.{History, said, grown}
 use Rattle.ucon_model.specs.LegalRun.{Answer, Answered, no_memory, placed}
 
@@ -19,7 +18,7 @@ pub record LineReply : Type 0 where
 -- the answer that it is
 abbrev pub answer_of : Option (ℕ × PlainReply) → Answer
 answer_of None = no_memory
-answer_of (Some r) = placed r.0 (reply_spelling r.1)
+answer_of (Some r) = placed r.0 r.1
 
 abbrev pub answered : LineReply → Answered
 answered t = record { line = t.line; answer = answer_of t.reply }

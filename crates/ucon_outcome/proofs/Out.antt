@@ -10,7 +10,7 @@ use Rattle.ucon_flow.specs.Causes.{raised}
 use Rattle.ucon_flow.specs.Writing.{AppendsPrefix}
 use Rattle.ucon_model.specs.Plain.{Bytes}
 use Rattle.ucon_outcome.specs.declared.outcome.Outcome.{Outcome}
-use Rattle.ucon_outcome.specs.declared.outcome.Outcome.TheVariants.{Done, Usage, Policy, Script, SourceFault, SinkFault, DiskFault, Damaged, NotJournal, NoMemory, OtherPolicy, TooLong, FullPoint, OldJournal}
+use Rattle.ucon_outcome.specs.declared.outcome.Outcome.TheVariants.{Done}
 use Rattle.ucon_outcome.specs.FaultWords.{cause_words, fault_line, fault_words}
 use Rattle.ucon_outcome.specs.Out.{GoesOut}
 
@@ -41,16 +41,4 @@ goes_cut a b f g e (Err x) xs ys err first = record { went = (cut_first a b xs y
 -- what is printed is a line, but of what is done
 pub its_line : (o : Outcome) → (o ≡ Done → ⊥) → fault_words o ≡ fault_line (cause_words o)
 its_line Done done = absurd (done refl)
-its_line Usage done = refl
-its_line (Policy f) done = refl
-its_line (Script f) done = refl
-its_line SourceFault done = refl
-its_line SinkFault done = refl
-its_line DiskFault done = refl
-its_line (Damaged number place) done = refl
-its_line NotJournal done = refl
-its_line (OtherPolicy place) done = refl
-its_line (NoMemory e) done = refl
-its_line TooLong done = refl
-its_line (FullPoint size) done = refl
-its_line OldJournal done = refl
+its_line outcome done = refl

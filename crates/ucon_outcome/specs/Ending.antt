@@ -1,5 +1,5 @@
 -- How a run ends.
-use Rattle.std.specs.Prelude.{◌≡◌, ◌≢◌, ℕ}
+use Rattle.std.specs.Prelude.{◌≡◌, ◌≢◌, ℕ, Bool, true, false, IsTrue, IsFalse}
 use Rattle.ucon_flow.specs.Causes.{raised}
 use Rattle.ucon_outcome.specs.declared.outcome.Outcome.{Outcome}
 use Rattle.ucon_outcome.specs.declared.outcome.Outcome.TheVariants.{Done, Usage, Policy, Script, SourceFault, SinkFault, DiskFault, Damaged, NotJournal, NoMemory, OtherPolicy, TooLong, FullPoint, OldJournal}
@@ -18,22 +18,87 @@ use Rattle.ucon_outcome.specs.declared.outcome.PolicyFault.TheVariants.{Syntax, 
 use Rattle.ucon_outcome.specs.declared.outcome.Refused.{Refused}
 use Rattle.ucon_outcome.specs.declared.outcome.Refused.TheVariants as refusals
 
+-- What is so of each run that ended in one way.
+pub record Row : Type 0 where
+  -- it may have had its document; that was refused; it was accepted
+  pub had : Bool
+  pub refused : Bool
+  pub accepted : Bool
+  -- it may have made a call of the disk; its journal may have been open; it may have written something
+  pub touched : Bool
+  pub opened : Bool
+  pub wrote : Bool
+  -- the disk or the journal on it ended it; a checkpoint did; it may end so where nothing hinders it
+  pub by_disk : Bool
+  pub by_point : Bool
+  pub complete : Bool
+  -- its number, with which the program ends
+  pub status : ℕ
+
+abbrev row : Bool → Bool → Bool → Bool → Bool → Bool → Bool → Bool → Bool → ℕ → Row
+row had refused accepted touched opened wrote by_disk by_point complete status = record {
+  had = had;
+  refused = refused;
+  accepted = accepted;
+  touched = touched;
+  opened = opened;
+  wrote = wrote;
+  by_disk = by_disk;
+  by_point = by_point;
+  complete = complete;
+  status = status;
+}
+
+abbrev pub y : Bool
+y = true
+
+abbrev pub n : Bool
+n = false
+
+-- Each way to end with its row, from which the words of an ending are read.
+--      had
+--      | refused
+--      | | accepted
+--      | | | touched
+--      | | | | opened
+--      | | | | | wrote
+--      | | | | | | by_disk
+--      | | | | | | | by_point
+--      | | | | | | | | complete
+--      | | | | | | | | | status
+abbrev pub ending : Outcome → Row
+ending Done =
+    row y n y y y y n n y 0
+ending Usage =
+    row n n n n n n n n n 1
+ending (Policy f) =
+    row y y n n n n n n n 2
+ending (Script f) =
+    row y y n n n n n n n 3
+ending SourceFault =
+    row n n n n n n n n n 4
+ending SinkFault =
+    row y n y y y y n n n 5
+ending DiskFault =
+    row y n y y y y y n n 6
+ending (Damaged number place) =
+    row y n y y n n y n n 7
+ending NotJournal =
+    row y n y y n n y n n 8
+ending (NoMemory e) =
+    row y n n y y n n n y 9
+ending (OtherPolicy place) =
+    row y n y y n n y n n 10
+ending TooLong =
+    row n n n n n n n n n 11
+ending (FullPoint size) =
+    row y n y y y n y y y 13
+ending OldJournal =
+    row y n y y y n y y y 14
+
 -- the outcome's number
 abbrev pub status_of : Outcome → ℕ
-status_of Done = 0
-status_of Usage = 1
-status_of (Policy f) = 2
-status_of (Script f) = 3
-status_of SourceFault = 4
-status_of SinkFault = 5
-status_of DiskFault = 6
-status_of (Damaged number place) = 7
-status_of NotJournal = 8
-status_of (NoMemory e) = 9
-status_of (OtherPolicy place) = 10
-status_of TooLong = 11
-status_of (FullPoint size) = 13
-status_of OldJournal = 14
+status_of outcome = (ending outcome).status
 
 -- a count of faults, before and after: one more where the run ended by this fault, and otherwise as it was
 abbrev pub IsCounted : (outcome fault : Outcome) → (before now : ℕ) → Type 0
@@ -80,66 +145,32 @@ by_refusal (points.NoMemory e) = NoMemory e
 
 -- how a run ends that had its document
 abbrev pub IsOfDocument : Outcome → Type 0
-IsOfDocument Usage = ⊥
-IsOfDocument SourceFault = ⊥
-IsOfDocument TooLong = ⊥
-IsOfDocument outcome = Unit {0}
+IsOfDocument outcome = IsTrue (ending outcome).had
 
 -- how a run without a journal ends that had its document
 abbrev pub IsOfPrinting : Outcome → Type 0
-IsOfPrinting Done = Unit {0}
-IsOfPrinting (Policy f) = Unit {0}
-IsOfPrinting (Script f) = Unit {0}
-IsOfPrinting SinkFault = Unit {0}
-IsOfPrinting (NoMemory e) = Unit {0}
-IsOfPrinting outcome = ⊥
+IsOfPrinting outcome = IsTrue (ending outcome).had × IsFalse (ending outcome).by_disk
 
 -- how a run ends whose document was accepted
 abbrev pub IsOfAccepted : Outcome → Type 0
-IsOfAccepted Done = Unit {0}
-IsOfAccepted SinkFault = Unit {0}
-IsOfAccepted DiskFault = Unit {0}
-IsOfAccepted (Damaged number place) = Unit {0}
-IsOfAccepted NotJournal = Unit {0}
-IsOfAccepted (OtherPolicy place) = Unit {0}
-IsOfAccepted (FullPoint size) = Unit {0}
-IsOfAccepted OldJournal = Unit {0}
-IsOfAccepted outcome = ⊥
+IsOfAccepted outcome = IsTrue (ending outcome).accepted
 
 -- how a run ends that wrote nothing
 abbrev pub IsUnwritten : Outcome → Type 0
-IsUnwritten Done = ⊥
-IsUnwritten SinkFault = ⊥
-IsUnwritten DiskFault = ⊥
-IsUnwritten outcome = Unit {0}
+IsUnwritten outcome = IsFalse (ending outcome).wrote
 
 -- how a run ends that made no call of the disk: its words or its document were refused, or the document wasn't read
 abbrev pub IsUntouched : Outcome → Type 0
-IsUntouched Usage = Unit {0}
-IsUntouched (Policy f) = Unit {0}
-IsUntouched (Script f) = Unit {0}
-IsUntouched SourceFault = Unit {0}
-IsUntouched TooLong = Unit {0}
-IsUntouched outcome = ⊥
+IsUntouched outcome = IsFalse (ending outcome).touched
 
 -- how a run ends whose document was not refused
 abbrev pub IsUnrefused : Outcome → Type 0
-IsUnrefused (Policy f) = ⊥
-IsUnrefused (Script f) = ⊥
-IsUnrefused outcome = Unit {0}
+IsUnrefused outcome = IsFalse (ending outcome).refused
 
 -- how a run ends that no checkpoint ended
 abbrev pub IsOffPoint : Outcome → Type 0
-IsOffPoint (FullPoint size) = ⊥
-IsOffPoint OldJournal = ⊥
-IsOffPoint outcome = Unit {0}
+IsOffPoint outcome = IsFalse (ending outcome).by_point
 
 -- how a run ends that nothing of a disk ended
 abbrev pub IsOffDisk : Outcome → Type 0
-IsOffDisk DiskFault = ⊥
-IsOffDisk (Damaged number place) = ⊥
-IsOffDisk NotJournal = ⊥
-IsOffDisk (OtherPolicy place) = ⊥
-IsOffDisk (FullPoint size) = ⊥
-IsOffDisk OldJournal = ⊥
-IsOffDisk outcome = Unit {0}
+IsOffDisk outcome = IsFalse (ending outcome).by_disk

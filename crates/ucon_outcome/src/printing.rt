@@ -16,7 +16,7 @@ use ucon_syntax::SyntaxFault;
 
 /// Writes what is printed of an outcome: a line, and nothing where all is done.
 pub(crate) fn put_fault<W: Sink>(out: &mut W, outcome: &Outcome) -> Result<(), SinkFault>
-    ensures { GoesOut (W.contents out.old) (W.contents out.new) (W.faults out.old) (W.faults out.new) result (fault_words outcome.now) }
+    ensures { GoesOut (W.seen out.old).contents (W.seen out.new).contents (W.seen out.old).faults (W.seen out.new).faults result (fault_words outcome.now) }
 {
     if let Outcome::Done = outcome {
         return Ok(());
@@ -26,7 +26,7 @@ pub(crate) fn put_fault<W: Sink>(out: &mut W, outcome: &Outcome) -> Result<(), S
 
 /// Writes the line of a cause.
 fn put_line<W: Sink>(out: &mut W, outcome: &Outcome) -> Result<(), SinkFault>
-    ensures { GoesOut (W.contents out.old) (W.contents out.new) (W.faults out.old) (W.faults out.new) result
+    ensures { GoesOut (W.seen out.old).contents (W.seen out.new).contents (W.seen out.old).faults (W.seen out.new).faults result
         (fault_line (cause_words outcome.now)) }
 {
     put(out, b"ucon: ")?;
@@ -35,7 +35,7 @@ fn put_line<W: Sink>(out: &mut W, outcome: &Outcome) -> Result<(), SinkFault>
 }
 
 fn put_cause<W: Sink>(out: &mut W, outcome: &Outcome) -> Result<(), SinkFault>
-    ensures { GoesOut (W.contents out.old) (W.contents out.new) (W.faults out.old) (W.faults out.new) result (cause_words outcome.now) }
+    ensures { GoesOut (W.seen out.old).contents (W.seen out.new).contents (W.seen out.old).faults (W.seen out.new).faults result (cause_words outcome.now) }
 {
     match outcome {
         Outcome::Policy(fault) => put_policy(out, fault),
@@ -57,14 +57,14 @@ fn put_cause<W: Sink>(out: &mut W, outcome: &Outcome) -> Result<(), SinkFault>
 
 /// Writes the line that tells how many entries stand before a checkpoint.
 pub fn put_point_line<W: Sink>(out: &mut W, entries: u64) -> Result<(), SinkFault>
-    ensures { GoesOut (W.contents out.old) (W.contents out.new) (W.faults out.old) (W.faults out.new) result (point_line entries) }
+    ensures { GoesOut (W.seen out.old).contents (W.seen out.new).contents (W.seen out.old).faults (W.seen out.new).faults result (point_line entries) }
 {
     put_at(out, b"point ", entries)?;
     put(out, b"\n")
 }
 
 fn put_damaged<W: Sink>(out: &mut W, number: u64, place: u64) -> Result<(), SinkFault>
-    ensures { GoesOut (W.contents out.old) (W.contents out.new) (W.faults out.old) (W.faults out.new) result
+    ensures { GoesOut (W.seen out.old).contents (W.seen out.new).contents (W.seen out.old).faults (W.seen out.new).faults result
         (cause_words (Outcome.Damaged number place)) }
 {
     put_at(out, b"damaged record ", number)?;
@@ -72,7 +72,7 @@ fn put_damaged<W: Sink>(out: &mut W, number: u64, place: u64) -> Result<(), Sink
 }
 
 fn put_policy<W: Sink>(out: &mut W, fault: &PolicyFault) -> Result<(), SinkFault>
-    ensures { GoesOut (W.contents out.old) (W.contents out.new) (W.faults out.old) (W.faults out.new) result
+    ensures { GoesOut (W.seen out.old).contents (W.seen out.new).contents (W.seen out.old).faults (W.seen out.new).faults result
         (cause_words (Outcome.Policy fault.now)) }
 {
     put(out, b"policy: ")?;
@@ -80,7 +80,7 @@ fn put_policy<W: Sink>(out: &mut W, fault: &PolicyFault) -> Result<(), SinkFault
 }
 
 fn put_policy_fault<W: Sink>(out: &mut W, fault: &PolicyFault) -> Result<(), SinkFault>
-    ensures { GoesOut (W.contents out.old) (W.contents out.new) (W.faults out.old) (W.faults out.new) result (policy_words fault.now) }
+    ensures { GoesOut (W.seen out.old).contents (W.seen out.new).contents (W.seen out.old).faults (W.seen out.new).faults result (policy_words fault.now) }
 {
     match fault {
         PolicyFault::Syntax(fault) => put_syntax(out, fault),
@@ -89,7 +89,7 @@ fn put_policy_fault<W: Sink>(out: &mut W, fault: &PolicyFault) -> Result<(), Sin
 }
 
 fn put_syntax<W: Sink>(out: &mut W, fault: &SyntaxFault) -> Result<(), SinkFault>
-    ensures { GoesOut (W.contents out.old) (W.contents out.new) (W.faults out.old) (W.faults out.new) result (syntax_words fault.now) }
+    ensures { GoesOut (W.seen out.old).contents (W.seen out.new).contents (W.seen out.old).faults (W.seen out.new).faults result (syntax_words fault.now) }
 {
     match fault {
         SyntaxFault::UnknownByte(place) => put_at(out, b"unknown byte at ", *place as u64),
@@ -102,7 +102,7 @@ fn put_syntax<W: Sink>(out: &mut W, fault: &SyntaxFault) -> Result<(), SinkFault
 }
 
 fn put_typing<W: Sink>(out: &mut W, fault: &CheckFault) -> Result<(), SinkFault>
-    ensures { GoesOut (W.contents out.old) (W.contents out.new) (W.faults out.old) (W.faults out.new) result (typing_words fault.now) }
+    ensures { GoesOut (W.seen out.old).contents (W.seen out.new).contents (W.seen out.old).faults (W.seen out.new).faults result (typing_words fault.now) }
 {
     match fault {
         CheckFault::Twice(name, item) => put_item(out, b"twice ", name, *item as u64),
@@ -117,7 +117,7 @@ fn put_typing<W: Sink>(out: &mut W, fault: &CheckFault) -> Result<(), SinkFault>
 }
 
 fn put_script<W: Sink>(out: &mut W, fault: &DocFault) -> Result<(), SinkFault>
-    ensures { GoesOut (W.contents out.old) (W.contents out.new) (W.faults out.old) (W.faults out.new) result
+    ensures { GoesOut (W.seen out.old).contents (W.seen out.new).contents (W.seen out.old).faults (W.seen out.new).faults result
         (cause_words (Outcome.Script fault.now)) }
 {
     put(out, b"script: ")?;
@@ -125,7 +125,7 @@ fn put_script<W: Sink>(out: &mut W, fault: &DocFault) -> Result<(), SinkFault>
 }
 
 fn put_script_fault<W: Sink>(out: &mut W, fault: &DocFault) -> Result<(), SinkFault>
-    ensures { GoesOut (W.contents out.old) (W.contents out.new) (W.faults out.old) (W.faults out.new) result (script_words fault.now) }
+    ensures { GoesOut (W.seen out.old).contents (W.seen out.new).contents (W.seen out.old).faults (W.seen out.new).faults result (script_words fault.now) }
 {
     match fault {
         DocFault::BadHeading(line) => put_at(out, b"bad heading at line ", *line as u64),
@@ -152,13 +152,13 @@ fn line_words(fault: &LineFault) -> &'static [u8]
 }
 
 fn put<W: Sink>(out: &mut W, words: &[u8]) -> Result<(), SinkFault>
-    ensures { GoesOut (W.contents out.old) (W.contents out.new) (W.faults out.old) (W.faults out.new) result words.now }
+    ensures { GoesOut (W.seen out.old).contents (W.seen out.new).contents (W.seen out.old).faults (W.seen out.new).faults result words.now }
 {
     write_all(out, words)
 }
 
 fn put_number<W: Sink>(out: &mut W, n: u64) -> Result<(), SinkFault>
-    ensures { GoesOut (W.contents out.old) (W.contents out.new) (W.faults out.old) (W.faults out.new) result (decimal n) }
+    ensures { GoesOut (W.seen out.old).contents (W.seen out.new).contents (W.seen out.old).faults (W.seen out.new).faults result (decimal n) }
 {
     let mut digits = Buffer::new();
     put(out, digits.format(n).as_bytes())
@@ -166,7 +166,7 @@ fn put_number<W: Sink>(out: &mut W, n: u64) -> Result<(), SinkFault>
 
 /// Writes words and a name.
 fn put_name<W: Sink>(out: &mut W, words: &[u8], name: &Name) -> Result<(), SinkFault>
-    ensures { GoesOut (W.contents out.old) (W.contents out.new) (W.faults out.old) (W.faults out.new) result (words.now ++ name.now) }
+    ensures { GoesOut (W.seen out.old).contents (W.seen out.new).contents (W.seen out.old).faults (W.seen out.new).faults result (words.now ++ name.now) }
 {
     put(out, words)?;
     put(out, name.bytes())
@@ -174,7 +174,7 @@ fn put_name<W: Sink>(out: &mut W, words: &[u8], name: &Name) -> Result<(), SinkF
 
 /// Writes words and the number of a place, an item or a line, or of bytes.
 fn put_at<W: Sink>(out: &mut W, words: &[u8], n: u64) -> Result<(), SinkFault>
-    ensures { GoesOut (W.contents out.old) (W.contents out.new) (W.faults out.old) (W.faults out.new) result (told_at words.now n) }
+    ensures { GoesOut (W.seen out.old).contents (W.seen out.new).contents (W.seen out.old).faults (W.seen out.new).faults result (told_at words.now n) }
 {
     put(out, words)?;
     put_number(out, n)
@@ -182,7 +182,7 @@ fn put_at<W: Sink>(out: &mut W, words: &[u8], n: u64) -> Result<(), SinkFault>
 
 /// Writes words, a name, and the number of the item that it stands in.
 fn put_item<W: Sink>(out: &mut W, words: &[u8], name: &Name, item: u64) -> Result<(), SinkFault>
-    ensures { GoesOut (W.contents out.old) (W.contents out.new) (W.faults out.old) (W.faults out.new) result
+    ensures { GoesOut (W.seen out.old).contents (W.seen out.new).contents (W.seen out.old).faults (W.seen out.new).faults result
         (words.now ++ (name.now ++ told_at (codes " at item ") item)) }
 {
     put(out, words)?;
@@ -192,7 +192,7 @@ fn put_item<W: Sink>(out: &mut W, words: &[u8], name: &Name, item: u64) -> Resul
 
 /// Writes words, a name, a space and a count.
 fn put_counted<W: Sink>(out: &mut W, words: &[u8], name: &Name, count: u64) -> Result<(), SinkFault>
-    ensures { GoesOut (W.contents out.old) (W.contents out.new) (W.faults out.old) (W.faults out.new) result
+    ensures { GoesOut (W.seen out.old).contents (W.seen out.new).contents (W.seen out.old).faults (W.seen out.new).faults result
         (words.now ++ (name.now ++ (codes " " ++ decimal count))) }
 {
     put(out, words)?;

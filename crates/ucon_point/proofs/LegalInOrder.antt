@@ -21,7 +21,7 @@ use Rattle.ucon_model.specs.declared.session.SessionState.TheVariants.{Requestin
 use Rattle.ucon_model.specs.Action.{Trace, subject, object, write, env, tick, act, tries, wait, permit, deny, ends, revoke, amend}
 use Rattle.ucon_model.specs.Plain.{Bytes, PlainPolicy}
 use Rattle.ucon_model.specs.Readings.{in_force, tick_of, has_entity, entities, entity_names, same_side, declared_attr, declared_env, attrs_of, attr_default, env_default, given_attr, given_env, attribute, variable, moment, act_rows, acts, changed_if, session, sessions, is_accessing, is_accessing_state, accessing_up_to, accessing}
-use Rattle.ucon_model.specs.Sound.{IsGrounded}
+use Rattle.ucon_model.specs.Sound.{IsGrounded, IsSound}
 use Rattle.ucon_model.specs.Typing.{IsTyped}
 use Rattle.ucon_state.specs.declared.counts.Counts.{Counts}
 use Rattle.ucon_state.specs.Applied.{opening_tables, tables_of}
@@ -29,7 +29,7 @@ use Rattle.ucon_state.specs.Following.{Follows, IsLegalTrace, Keeps, row_of}
 use Rattle.ucon_state.specs.Held.{held_after}
 use Rattle.ucon_state.specs.Putting.{StartsAtZero}
 use Rattle.ucon_state.specs.Shown.{Shown, changed_by}
-use Rattle.ucon_state.specs.Tables.{accessing_among}
+use Rattle.ucon_state.specs.Tables.{Tables, accessing_among}
 use Rattle.ucon_point.specs.Orderly.{HasRoomBehind, IsActInOrder, IsBy, IsOrderly, IsSessionInOrder, one_session, same_names, sessions_to}
 use Rattle.ucon_point.specs.PointRead.{is_whole}
 use Rattle.ucon_point.proofs.Declared.{attr_once, env_declared}
@@ -47,7 +47,7 @@ mapped_some : {A B : Type 0} (f : A → B) (o : Option A) → is_some o ≡ true
 mapped_some f None h = absurd (false≢true h)
 mapped_some f (Some x) h = refl
 
-the_one : {A : Type 0} (o : Option A) → is_some o ≡ true → (x : A) × (o ≡ Some x)
+pub the_one : {A : Type 0} (o : Option A) → is_some o ≡ true → (x : A) × (o ≡ Some x)
 the_one None h = absurd (false≢true h)
 the_one (Some x) h = (x, refl)
 
@@ -55,21 +55,21 @@ or_true : (a b : Bool) → b ≡ true → (a || b) ≡ true
 or_true true b h = refl
 or_true false b h = h
 
-get_there : {X : Type 0} (xs : List X) (i : ℕ) → i < length xs → is_some (slice_get xs i) ≡ true
+pub get_there : {X : Type 0} (xs : List X) (i : ℕ) → i < length xs → is_some (slice_get xs i) ≡ true
 get_there [] i lt = absurd (omega (arith, lt))
 get_there (x ∷ xs) zero lt = refl
 get_there (x ∷ xs) (suc i) lt = get_there xs i (omega (arith, lt))
 
-each_get : {X : Type 0} (P : X → Type 0) (xs : List X) (k : ℕ) (x : X) → Each P xs → slice_get xs k ≡ Some x → P x
+pub each_get : {X : Type 0} (P : X → Type 0) (xs : List X) (k : ℕ) (x : X) → Each P xs → slice_get xs k ≡ Some x → P x
 each_get P [] k x h at = absurd (nothing at)
 each_get P (y ∷ xs) zero x h at = subst P (same y x at) h.0
 each_get P (y ∷ xs) (suc k) x h at = each_get P xs k x h.1 at
 
-each_so : {X : Type 0} (P R : X → Type 0) (xs : List X) → ((x : X) → P x → R x) → Each P xs → Each R xs
+pub each_so : {X : Type 0} (P R : X → Type 0) (xs : List X) → ((x : X) → P x → R x) → Each P xs → Each R xs
 each_so P R [] f h = tt
 each_so P R (x ∷ xs) f h = (f x h.0, each_so P R xs f h.1)
 
-each_more : {X : Type 0} (P : X → Type 0) (xs : List X) (x : X) → Each P xs → P x → Each P (xs ++ x ∷ [])
+pub each_more : {X : Type 0} (P : X → Type 0) (xs : List X) (x : X) → Each P xs → P x → Each P (xs ++ x ∷ [])
 each_more P [] x h p = (p, tt)
 each_more P (y ∷ xs) x h p = (h.0, each_more P xs x h.1 p)
 
@@ -101,27 +101,27 @@ none_before_place p xs k h =
     ap (λ (n : ℕ). find p (take n xs)) (sym (placed_at (nat_lt (position_or_len p xs) (length xs)) (position_or_len p xs) k h)) ∙ none_before p xs
 
 -- each stands once, and one more
-take_before : {X : Type 0} (xs ys : List X) (k : ℕ) → k ≤ length xs → take k (xs ++ ys) ≡ take k xs
+pub take_before : {X : Type 0} (xs ys : List X) (k : ℕ) → k ≤ length xs → take k (xs ++ ys) ≡ take k xs
 take_before [] [] zero le = refl
 take_before [] (y ∷ ys) zero le = refl
 take_before [] ys (suc k) le = absurd (omega (arith, le))
 take_before (x ∷ xs) ys zero le = refl
 take_before {X} (x ∷ xs) ys (suc k) le = ap (λ (l : List X). x ∷ l) (take_before xs ys k (omega (arith, le)))
 
-take_whole : {X : Type 0} (xs ys : List X) → take (length xs) (xs ++ ys) ≡ xs
+pub take_whole : {X : Type 0} (xs ys : List X) → take (length xs) (xs ++ ys) ≡ xs
 take_whole [] [] = refl
 take_whole [] (y ∷ ys) = refl
 take_whole {X} (x ∷ xs) ys = ap (λ (l : List X). x ∷ l) (take_whole xs ys)
 
-record IsLastOf {X : Type 0} (xs : List X) (x : X) (k : ℕ) (y : X) : Type 0 where
-  place : k ≡ length xs
-  is : x ≡ y
+pub record IsLastOf {X : Type 0} (xs : List X) (x : X) (k : ℕ) (y : X) : Type 0 where
+  pub place : k ≡ length xs
+  pub is : x ≡ y
 
-record IsBefore {X : Type 0} (xs : List X) (k : ℕ) (y : X) : Type 0 where
-  within : k < length xs
-  at : slice_get xs k ≡ Some y
+pub record IsBefore {X : Type 0} (xs : List X) (k : ℕ) (y : X) : Type 0 where
+  pub within : k < length xs
+  pub at : slice_get xs k ≡ Some y
 
-get_more : {X : Type 0} (xs : List X) (x : X) (k : ℕ) (y : X) → slice_get (xs ++ x ∷ []) k ≡ Some y → IsBefore xs k y ⊎ IsLastOf xs x k y
+pub get_more : {X : Type 0} (xs : List X) (x : X) (k : ℕ) (y : X) → slice_get (xs ++ x ∷ []) k ≡ Some y → IsBefore xs k y ⊎ IsLastOf xs x k y
 get_more [] x zero y at = inr (record { place = refl; is = same x y at })
 get_more [] x (suc k) y at = absurd (nothing at)
 get_more (z ∷ xs) x zero y at = inl (record { within = omega (arith); at = at })
@@ -131,7 +131,7 @@ get_more {X} (z ∷ xs) x (suc k) y at = by (get_more xs x k y at)
     by (inl b) = inl (record { within = omega (arith, b.within); at = b.at })
     by (inr l) = inr (record { place = ap suc l.place; is = l.is })
 
-abbrev StandOnce : List (Bytes × Bytes × Bytes) → Type 0
+abbrev pub StandOnce : List (Bytes × Bytes × Bytes) → Type 0
 StandOnce rows = (k : ℕ) (a : Bytes × Bytes × Bytes) → slice_get rows k ≡ Some a → find (same_names a) (take k rows) ≡ None
 
 once_more : (xs : List (Bytes × Bytes × Bytes)) (x : Bytes × Bytes × Bytes) → StandOnce xs → find (same_names x) xs ≡ None → StandOnce (xs ++ x ∷ [])
@@ -399,7 +399,7 @@ none_said : {A : Type 0} (o : Option A) → is_none o ≡ true → o ≡ None
 none_said None h = refl
 none_said (Some x) h = absurd (false≢true h)
 
-rows_once : (T : Trace) → StandOnce (act_rows T)
+pub rows_once : (T : Trace) → StandOnce (act_rows T)
 rows_once [] = λ k a at. absurd (nothing at)
 rows_once (subject e1 ∷ T) = rows_once T
 rows_once (object e1 ∷ T) = rows_once T
@@ -521,6 +521,42 @@ room_behind T n row lt few at = by row.state refl
         let all : accessing_up_to T (suc n) ≤ accessing_up_to T (sessions T) = subst (λ (k : ℕ). accessing_up_to T (suc n) ≤ accessing_up_to T k) end rest in
         omega (arith, accessing_counted T n, more, all, few)
 
+-- ---- what a state follows
+
+module _ (P : PlainPolicy) (T : Trace) (typed : IsTyped (in_force P T)) (sound : IsSound P T) (Q : PlainPolicy) (t : Tables) (keeps : Keeps Q t P T) where
+  pub variable_there : (i : ℕ) (d : EnvDecl) → slice_get (in_force P T).envs i ≡ Some d → IsSomeAnd (variable P T d.name) (λ v. IsTrue (admits d.kind v))
+  variable_there i d at =
+      let declared = env_declared (in_force P T) typed i d at in
+      let there : is_some (declared_env (in_force P T).envs d.name) ≡ true = ap is_some declared in
+      let one = the_one (given_env P d.name T) (env_given P d.name T there) in
+      let is : variable P T d.name ≡ Some one.0 = rw there one.1 in
+      let fit = some_and (declared_env (in_force P T).envs d.name) (λ e. IsTrue (admits e.kind one.0)) (sound.fit.variables d.name one.0 is) in
+      let fits : IsTrue (admits d.kind one.0) = ap (λ (e : EnvDecl). admits e.kind one.0) (same d fit.0 (sym declared ∙ fit.1.0)) ∙ fit.1.1 in
+      subst (λ (o : Option Value). IsSomeAnd o (λ v. IsTrue (admits d.kind v))) (sym is) fits
+
+  given_there : (side : Side) (e x : Bytes) → has_entity side e T ≡ true → is_some (declared_attr (in_force P T).attrs side x) ≡ true → is_some (given_attr P side e x T) ≡ true
+  given_there sides.Subject e x there h = subject_given P e x T there h
+  given_there sides.Object e x there h = object_given P e x T there h
+
+  name_there : (side : Side) (k : ℕ) (e : Bytes) → slice_get (entity_names side T) k ≡ Some e → has_entity side e T ≡ true
+  name_there side k e at = sym (keeps.entity_is_there side e) ∙ ap is_some ((keeps.number_is_position side e k).1 at)
+
+  pub attribute_there : (side : Side) (k : ℕ) (e : Bytes) (i : ℕ) (d : AttrDecl) → slice_get (entity_names side T) k ≡ Some e → slice_get (attrs_of (in_force P T) side) i ≡ Some d
+      → IsSomeAnd (attribute P T side e d.name) (λ v. IsTrue (admits d.kind v))
+  attribute_there side k e i d at_name at =
+      let declared = (attr_once (in_force P T) typed side i d at).declared in
+      let has = name_there side k e at_name in
+      let there : is_some (declared_attr (in_force P T).attrs side d.name) ≡ true = ap is_some declared in
+      let one = the_one (given_attr P side e d.name T) (given_there side e d.name has there) in
+      let is : attribute P T side e d.name ≡ Some one.0 = rw (has, there) one.1 in
+      let fit = some_and (declared_attr (in_force P T).attrs side d.name) (λ c. IsTrue (admits c.kind one.0)) (sound.fit.attributes side e d.name one.0 is) in
+      let fits : IsTrue (admits d.kind one.0) = ap (λ (c : AttrDecl). admits c.kind one.0) (same d fit.0 (sym declared ∙ fit.1.0)) ∙ fit.1.1 in
+      subst (λ (o : Option Value). IsSomeAnd o (λ v. IsTrue (admits d.kind v))) (sym is) fits
+
+  pub name_once : (side : Side) (k : ℕ) (e : Bytes) → slice_get (entity_names side T) k ≡ Some e → find (bytes_eq e) (take k (entity_names side T)) ≡ None
+  name_once side k e at =
+      none_before_place (bytes_eq e) (entity_names side T) k (ap (position (bytes_eq e)) (sym (keeps.names side)) ∙ (keeps.number_is_position side e k).1 at)
+
 -- ---- all of it
 
 module _ (laws : StateLaws) (kept : (P : PlainPolicy) (T : Trace) → IsLegalTrace P T → Keeps (in_force P T) (tables_of P T) P T) where
@@ -534,39 +570,6 @@ module _ (laws : StateLaws) (kept : (P : PlainPolicy) (T : Trace) → IsLegalTra
 
     keeps : Keeps (in_force P T) (tables_of P T) P T
     keeps = kept P T legal
-
-    variable_there : (i : ℕ) (d : EnvDecl) → slice_get (in_force P T).envs i ≡ Some d → IsSomeAnd (variable P T d.name) (λ v. IsTrue (admits d.kind v))
-    variable_there i d at =
-        let declared = env_declared (in_force P T) here.typed i d at in
-        let there : is_some (declared_env (in_force P T).envs d.name) ≡ true = ap is_some declared in
-        let one = the_one (given_env P d.name T) (env_given P d.name T there) in
-        let is : variable P T d.name ≡ Some one.0 = rw there one.1 in
-        let fit = some_and (declared_env (in_force P T).envs d.name) (λ e. IsTrue (admits e.kind one.0)) (here.sound.fit.variables d.name one.0 is) in
-        let fits : IsTrue (admits d.kind one.0) = ap (λ (e : EnvDecl). admits e.kind one.0) (same d fit.0 (sym declared ∙ fit.1.0)) ∙ fit.1.1 in
-        subst (λ (o : Option Value). IsSomeAnd o (λ v. IsTrue (admits d.kind v))) (sym is) fits
-
-    given_there : (side : Side) (e x : Bytes) → has_entity side e T ≡ true → is_some (declared_attr (in_force P T).attrs side x) ≡ true → is_some (given_attr P side e x T) ≡ true
-    given_there sides.Subject e x there h = subject_given P e x T there h
-    given_there sides.Object e x there h = object_given P e x T there h
-
-    name_there : (side : Side) (k : ℕ) (e : Bytes) → slice_get (entity_names side T) k ≡ Some e → has_entity side e T ≡ true
-    name_there side k e at = sym (keeps.entity_is_there side e) ∙ ap is_some ((keeps.number_is_position side e k).1 at)
-
-    attribute_there : (side : Side) (k : ℕ) (e : Bytes) (i : ℕ) (d : AttrDecl) → slice_get (entity_names side T) k ≡ Some e → slice_get (attrs_of (in_force P T) side) i ≡ Some d
-        → IsSomeAnd (attribute P T side e d.name) (λ v. IsTrue (admits d.kind v))
-    attribute_there side k e i d at_name at =
-        let declared = (attr_once (in_force P T) here.typed side i d at).declared in
-        let has = name_there side k e at_name in
-        let there : is_some (declared_attr (in_force P T).attrs side d.name) ≡ true = ap is_some declared in
-        let one = the_one (given_attr P side e d.name T) (given_there side e d.name has there) in
-        let is : attribute P T side e d.name ≡ Some one.0 = rw (has, there) one.1 in
-        let fit = some_and (declared_attr (in_force P T).attrs side d.name) (λ c. IsTrue (admits c.kind one.0)) (here.sound.fit.attributes side e d.name one.0 is) in
-        let fits : IsTrue (admits d.kind one.0) = ap (λ (c : AttrDecl). admits c.kind one.0) (same d fit.0 (sym declared ∙ fit.1.0)) ∙ fit.1.1 in
-        subst (λ (o : Option Value). IsSomeAnd o (λ v. IsTrue (admits d.kind v))) (sym is) fits
-
-    name_once : (side : Side) (k : ℕ) (e : Bytes) → slice_get (entity_names side T) k ≡ Some e → find (bytes_eq e) (take k (entity_names side T)) ≡ None
-    name_once side k e at =
-        none_before_place (bytes_eq e) (entity_names side T) k (ap (position (bytes_eq e)) (sym (keeps.names side)) ∙ (keeps.number_is_position side e k).1 at)
 
     names_few : (side : Side) → length (entity_names side T) ≤ 16384
     names_few sides.Subject =
@@ -615,9 +618,9 @@ module _ (laws : StateLaws) (kept : (P : PlainPolicy) (T : Trace) → IsLegalTra
 
     pub in_order_after : IsOrderly (held_after P T)
     in_order_after = record {
-      variables = variable_there;
-      attributes = attribute_there;
-      once = name_once;
+      variables = variable_there P T here.typed here.sound (in_force P T) (tables_of P T) keeps;
+      attributes = attribute_there P T here.typed here.sound (in_force P T) (tables_of P T) keeps;
+      once = name_once P T here.typed here.sound (in_force P T) (tables_of P T) keeps;
       few_entities = names_few;
       acts = act_in_order;
       few_acts = act_rows_few;

@@ -7,6 +7,7 @@ pub mod LineWalk
 pub mod Listed
 pub mod LowerLaws
 pub mod Made
+pub mod MadeInOrder
 pub mod MayPut
 pub mod Opening
 pub mod PointsRead

@@ -60,7 +60,7 @@ moved s s' P T p q f = record { policy = p ∙ f.policy; typed = f.typed; tables
 pub moved_so : (s s' : Shown) → s'.policy ≡ s.policy → s'.tables ≡ s.tables → IsFollowing s → IsFollowing s'
 moved_so s s' p q f = record { policy = f.policy; trace = f.trace; follows = moved s s' f.policy f.trace p q f.follows }
 
-not_found : {X : Type 0} (p : X → Bool) (xs : List X) → position p xs ≡ None → find p xs ≡ None
+pub not_found : {X : Type 0} (p : X → Bool) (xs : List X) → position p xs ≡ None → find p xs ≡ None
 not_found p xs h =
     find_at p xs ∙ slice_get_past xs (position_or_len p xs) (ltb-false (position_or_len p xs) (length xs) (no_place (nat_lt (position_or_len p xs) (length xs)) (position_or_len p xs) h))
 

@@ -29,10 +29,10 @@ whole_since (pos n) h = grind (arith, ints)
 whole_since (negsuc n) h = absurd (false≢true h)
 
 module _ (laws : StateLaws) (p : Said) (end : Standing) (is : IsPoint p) (made : put_all p.policy (start p.policy p.tick) p.rows ≡ Some end) where
-  typed : IsTyped p.policy
+  pub typed : IsTyped p.policy
   typed = accepted_typed p.text p.policy is.policy
 
-  since : pos 0 ≤ℤ p.tick
+  pub since : pos 0 ≤ℤ p.tick
   since = whole_since p.tick is.from_zero
 
   complete : awaited p.policy end.reached ≡ None

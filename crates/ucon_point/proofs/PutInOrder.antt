@@ -58,7 +58,7 @@ get_end [] = refl
 get_end (x ∷ xs) = get_end xs
 
 -- nothing is at the place that is found nowhere
-not_placed : {X : Type 0} (p : X → Bool) (xs : List X) → find p xs ≡ None → position p xs ≡ None
+pub not_placed : {X : Type 0} (p : X → Bool) (xs : List X) → find p xs ≡ None → position p xs ≡ None
 not_placed p xs none = by (nat_lt (position_or_len p xs) (length xs)) refl
   where
     by : (b : Bool) → nat_lt (position_or_len p xs) (length xs) ≡ b → cond b (Some (position_or_len p xs)) None ≡ None

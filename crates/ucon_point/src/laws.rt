@@ -45,13 +45,15 @@ pub fn texts_are_of_rows()
     points_are_read_back();
 }
 
-/// What the rows of a checkpoint make is what they say: their tables, listed, are these rows; and a state with these tables follows some
-/// trace.
+/// What the rows of a checkpoint make is what they say: their tables, listed, are these rows, and what they list is in order; and a state with
+/// these tables follows some trace.
 pub fn rows_make_what_they_say()
     ensures held { (p : Said) (end : Standing) → IsPoint p → put_all p.policy (start p.policy p.tick) p.rows ≡ Some end
         → point_held p.entries p.text (held_in p.policy end.tables) ≡ p }
     ensures followed { (p : Said) (end : Standing) → IsPoint p → put_all p.policy (start p.policy p.tick) p.rows ≡ Some end
         → (s : Shown) → s.policy ≡ p.policy → s.tables ≡ end.tables → IsFollowing s }
+    ensures order { (p : Said) (end : Standing) → IsPoint p → put_all p.policy (start p.policy p.tick) p.rows ≡ Some end
+        → IsOrderly (held_in p.policy end.tables) }
 {
     each_action_is_followed();
     tables_keep_what_is_followed();

@@ -9,9 +9,8 @@ use Rattle.ucon_base.specs.Elements.{Each, each_append, each_both, each_map}
 use Rattle.ucon_model.specs.declared.command.Caller.{Caller}
 use Rattle.ucon_model.specs.declared.command.Entry.{Entry}
 use Rattle.ucon_model.specs.Plain.{PlainPolicy}
-use Rattle.ucon_model.specs.Spelling.{reply_spelling}
 use Rattle.ucon_model.specs.History.{History, said, changes}
-use Rattle.ucon_model.specs.LegalRun.{Answer, no_memory, disk_fault, stopped, placed, Answered, tells_change, with_record, recorded, put_by_place, by_place, history_made, AreNumberedFrom, stands_on, IsSaid, Saw, StaysStopped, AreInOrder, is_disk_fault, is_stopped, HaveCauses, IsLegalRun}
+use Rattle.ucon_model.specs.LegalRun.{Answer, no_memory, disk_fault, stopped, placed, Answered, with_record, recorded, put_by_place, by_place, history_made, AreNumberedFrom, stands_on, IsSaid, Saw, StaysStopped, AreInOrder, is_disk_fault, is_stopped, HaveCauses, IsLegalRun}
 use Rattle.ucon_model.specs.StoredRun.{failed_line}
 use Rattle.ucon_runs.proofs.SerialRuns.{IsSound, no_faults}
 
@@ -28,7 +27,7 @@ recorded_by : (line : Entry) (a : Answer) (xs ys : List (ℕ × Entry)) → with
 recorded_by line no_memory xs ys = refl
 recorded_by line disk_fault xs ys = refl
 recorded_by line stopped xs ys = refl
-recorded_by line (placed place text) xs ys = by_change (tells_change text)
+recorded_by line (placed place reply) xs ys = by_change (changes reply)
   where
     by_change : (b : Bool) → cond b ((place, line) ∷ xs ++ ys) (xs ++ ys) ≡ cond b ((place, line) ∷ xs) xs ++ ys
     by_change true = refl
@@ -85,14 +84,14 @@ abbrev Told : ℕ → Answer → Type 0
 Told m no_memory = Unit {0}
 Told m disk_fault = Unit {0}
 Told m stopped = Unit {0}
-Told m (placed place text) = place ≤ m
+Told m (placed place reply) = place ≤ m
 
 told_by : (P : PlainPolicy) (opening m : ℕ) (H : History) (line : Entry) (a : Answer) (others : List (ℕ × Entry)) → length H ≤ m → IsSaid P opening H line a
     → Each (UpTo m) (with_record line a others) → Told m a × Each (UpTo m) others
 told_by P opening m H line no_memory others le is low = (tt, low)
 told_by P opening m H line disk_fault others le is low = (tt, low)
 told_by P opening m H line stopped others le is low = (tt, low)
-told_by P opening m H line (placed place text) others le is low = by_change (tells_change text) is.1 low
+told_by P opening m H line (placed place reply) others le is low = by_change (changes reply) is.1 low
   where
     by_change : (b : Bool) → cond b (place - 1) place ≤ length H → Each (UpTo m) (cond b ((place, line) ∷ others) others) → (place ≤ m) × Each (UpTo m) others
     by_change true stands low = low
@@ -110,10 +109,10 @@ follows : (P : PlainPolicy) (m : ℕ) (H : History) (line : Entry) (earlier late
 follows P m H line no_memory later has sound is = (tt, tt)
 follows P m H line disk_fault later has sound is = absurd (let no = sound.0 in (cc))
 follows P m H line stopped later has sound is = absurd (let no = sound.1 in (cc))
-follows P m H line (placed place text) no_memory has sound is = (tt, tt)
-follows P m H line (placed place text) disk_fault has sound is = (tt, tt)
-follows P m H line (placed place text) stopped has sound is = (tt, tt)
-follows P m H line (placed place text) (placed later more) has sound is = (omega (arith, has, is.0), tt)
+follows P m H line (placed place reply) no_memory has sound is = (tt, tt)
+follows P m H line (placed place reply) disk_fault has sound is = (tt, tt)
+follows P m H line (placed place reply) stopped has sound is = (tt, tt)
+follows P m H line (placed place reply) (placed later more) has sound is = (omega (arith, has, is.0), tt)
 
 in_order : (P : PlainPolicy) (sees : Caller → Caller → Bool) (m : ℕ) (H : History) (told more : List Answered) → Each (λ t. Told m t.answer) told
     → Each (λ t. IsSound t.answer) told → Each (λ t. IsSaid P m H t.line t.answer) more → AreInOrder sees told → AreInOrder sees more
@@ -134,17 +133,17 @@ said_longer : (P : PlainPolicy) (n : ℕ) (H later : History) (line : Entry) (a 
 said_longer P n H later line no_memory is = tt
 said_longer P n H later line disk_fault is = tt
 said_longer P n H later line stopped is = tt
-said_longer P n H later line (placed place text) is = (
+said_longer P n H later line (placed place reply) is = (
   is.0,
   omega (arith, is.1, length-append H later),
-  is.2 ∙ ap (λ K. reply_spelling (said P K line.caller line.command)) (sym (take-append-le (stands_on place text) H later is.1)),
+  is.2 ∙ ap (λ K. said P K line.caller line.command) (sym (take-append-le (stands_on place reply) H later is.1)),
 )
 
 said_sooner : (P : PlainPolicy) (n m : ℕ) (H : History) (line : Entry) (a : Answer) → n ≤ m → IsSaid P m H line a → IsSaid P n H line a
 said_sooner P n m H line no_memory le is = tt
 said_sooner P n m H line disk_fault le is = tt
 said_sooner P n m H line stopped le is = tt
-said_sooner P n m H line (placed place text) le is = (omega (arith, le, is.0), is.1, is.2)
+said_sooner P n m H line (placed place reply) le is = (omega (arith, le, is.0), is.1, is.2)
 
 -- ---- the causes
 

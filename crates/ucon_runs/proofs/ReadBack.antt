@@ -7,8 +7,9 @@ use Rattle.std.specs.Str.{bytes_eq}
 use Rattle.std.proofs.lemmas.Bool.{eq-eqb}
 use Rattle.std.proofs.lemmas.Fmt.{decimal_is_IsNumeral}
 use Rattle.std.proofs.lemmas.Slice.Eq.{bytes_eq-Decides}
-use Rattle.ucon_model.specs.Plain.{Bytes}
 use Rattle.ucon_base.specs.Elements.{Each}
+use Rattle.ucon_model.specs.Plain.{Bytes}
+use Rattle.ucon_model.specs.Spelling.{reply_spelling}
 use Rattle.ucon_model.specs.LegalRun.{Answer, no_memory, disk_fault, stopped, placed, Answered}
 use Rattle.ucon_model.specs.Output.{Lacks, answer_spelling, answer_line, output, FitsLine, cut_at, number_read, answer_read, line_read, answers_read}
 
@@ -43,19 +44,20 @@ module _ (lack : TextsLack) where
   answer_spelling-read no_memory fits = refl
   answer_spelling-read disk_fault fits = refl
   answer_spelling-read stopped fits = refl
-  answer_spelling-read (placed place text) fits =
+  answer_spelling-read (placed place reply) fits =
       rw (
-        cut_at-append 32 (decimal place) text (lack.numbers 32 place (omega arith) fits.0),
+        cut_at-append 32 (decimal place) (reply_spelling reply) (lack.numbers 32 place (omega arith) fits.0),
         not_dash (decimal place) (lack.numbers 45 place (omega arith) fits.0),
         number_read-decimal place fits.0,
+        fits.2,
       )
 
   answer_spelling-lacks : (a : Answer) → FitsLine a → Lacks 10 (answer_spelling a)
   answer_spelling-lacks no_memory fits = lack.tested 10 (codes "- no memory") refl
   answer_spelling-lacks disk_fault fits = lack.tested 10 (codes "- disk fault") refl
   answer_spelling-lacks stopped fits = lack.tested 10 (codes "- stopped") refl
-  answer_spelling-lacks (placed place text) fits =
-      lack.joined 10 (decimal place) (32 ∷ text) (lack.numbers 10 place (omega arith) fits.0) (refl, fits.1)
+  answer_spelling-lacks (placed place reply) fits =
+      lack.joined 10 (decimal place) (32 ∷ reply_spelling reply) (lack.numbers 10 place (omega arith) fits.0) (refl, fits.1)
 
   -- ---- lines
 

@@ -6,10 +6,9 @@ use Rattle.std.proofs.lemmas.Bool.{le-leb}
 use Rattle.std.proofs.lemmas.List.{length_push, length-append, take_at}
 use Rattle.ucon_model.specs.declared.command.Entry.{Entry}
 use Rattle.ucon_model.specs.Plain.{PlainPolicy}
-use Rattle.ucon_model.specs.Spelling.{reply_spelling}
 use Rattle.ucon_model.specs.History.{History, said, changes}
 use Rattle.ucon_base.specs.Elements.{Each}
-use Rattle.ucon_model.specs.LegalRun.{Answer, no_memory, disk_fault, stopped, placed, Answered, tells_change, with_record, recorded, put_by_place, by_place, history_made, AreNumberedFrom, stands_on, IsSaid, Saw, StaysStopped, AreInOrder, is_disk_fault, is_stopped, IsLegalRun, in_text_order, history_after, IsNext, IsSerialRun}
+use Rattle.ucon_model.specs.LegalRun.{Answer, no_memory, disk_fault, stopped, placed, Answered, with_record, recorded, put_by_place, by_place, history_made, AreNumberedFrom, stands_on, IsSaid, Saw, StaysStopped, AreInOrder, is_disk_fault, is_stopped, IsLegalRun, in_text_order, history_after, IsNext, IsSerialRun}
 
 -- ---- the places
 
@@ -24,7 +23,7 @@ pub numbered_next : (P : PlainPolicy) (H : History) (line : Entry) (a : Answer) 
 numbered_next P H line no_memory others is h = h
 numbered_next P H line disk_fault others is h = absurd is
 numbered_next P H line stopped others is h = absurd is
-numbered_next P H line (placed place text) others is h = numbered_by (tells_change text) H line place others is.1 h
+numbered_next P H line (placed place reply) others is h = numbered_by (changes reply) H line place others is.1 h
 
 numbered : (P : PlainPolicy) (H : History) (told : List Answered) → IsSerialRun P H told → AreNumberedFrom (length H) (recorded told)
 numbered P H [] run = tt
@@ -53,7 +52,7 @@ pub led_next : (H : History) (line : Entry) (a : Answer) (others : List (ℕ × 
 led_next H line no_memory others = refl
 led_next H line disk_fault others = refl
 led_next H line stopped others = refl
-led_next H line (placed place text) others = led_by (tells_change text) H line place others
+led_next H line (placed place reply) others = led_by (changes reply) H line place others
 
 grown_by : (b : Bool) (H : History) (line : Entry) → length H ≤ length (cond b (H ++ line ∷ []) H)
 grown_by true H line = omega (arith, length_push H line)
@@ -63,7 +62,7 @@ pub grown_after : (H : History) (line : Entry) (a : Answer) → length H ≤ len
 grown_after H line no_memory = omega arith
 grown_after H line disk_fault = omega arith
 grown_after H line stopped = omega arith
-grown_after H line (placed place text) = grown_by (tells_change text) H line
+grown_after H line (placed place reply) = grown_by (changes reply) H line
 
 -- ---- the replies
 
@@ -76,10 +75,10 @@ pub said_next : (P : PlainPolicy) (opening : ℕ) (whole H later : History) (lin
 said_next P opening whole H later line no_memory is le e = tt
 said_next P opening whole H later line disk_fault is le e = tt
 said_next P opening whole H later line stopped is le e = tt
-said_next P opening whole H later line (placed place text) is le e =
-    let on : stands_on place text ≡ length H = stands_by (tells_change text) H line place is.1 in
-    let seen : take (stands_on place text) whole ≡ H = ap (take (stands_on place text)) e ∙ take_at H later (stands_on place text) (sym on) in
-    (omega (arith, le, on), omega (arith, on, ap length e, length-append H later), is.0 ∙ ap (λ K. reply_spelling (said P K line.caller line.command)) (sym seen))
+said_next P opening whole H later line (placed place reply) is le e =
+    let on : stands_on place reply ≡ length H = stands_by (changes reply) H line place is.1 in
+    let seen : take (stands_on place reply) whole ≡ H = ap (take (stands_on place reply)) e ∙ take_at H later (stands_on place reply) (sym on) in
+    (omega (arith, le, on), omega (arith, on, ap length e, length-append H later), is.0 ∙ ap (λ K. said P K line.caller line.command) (sym seen))
 
 all_said : (P : PlainPolicy) (opening : ℕ) (whole H : History) (told : List Answered) → IsSerialRun P H told → opening ≤ length H
     → whole ≡ led_to H told → Each (λ t. IsSaid P opening whole t.line t.answer) told
@@ -96,28 +95,28 @@ abbrev pub Has : History → Answer → Type 0
 Has H no_memory = Unit {0}
 Has H disk_fault = ⊥
 Has H stopped = ⊥
-Has H (placed place text) = place ≤ length H
+Has H (placed place reply) = place ≤ length H
 
 pub has_still : (H : History) (line : Entry) (a earlier : Answer) → Has H earlier → Has (history_after H line a) earlier
 has_still H line a no_memory has = tt
 has_still H line a disk_fault has = has
 has_still H line a stopped has = has
-has_still H line a (placed place text) has = omega (arith, has, grown_after H line a)
+has_still H line a (placed place reply) has = omega (arith, has, grown_after H line a)
 
 pub has_next : (P : PlainPolicy) (H : History) (line : Entry) (a : Answer) → IsNext P H line a → Has (history_after H line a) a
 has_next P H line no_memory is = tt
 has_next P H line disk_fault is = is
 has_next P H line stopped is = is
-has_next P H line (placed place text) is = omega (arith, is.1)
+has_next P H line (placed place reply) is = omega (arith, is.1)
 
 pub saw_next : (P : PlainPolicy) (H : History) (line : Entry) (earlier a : Answer) → Has H earlier → IsNext P H line a → Saw earlier a × StaysStopped earlier a
 saw_next P H line no_memory a has is = (tt, tt)
 saw_next P H line disk_fault a has is = absurd has
 saw_next P H line stopped a has is = absurd has
-saw_next P H line (placed place text) no_memory has is = (tt, tt)
-saw_next P H line (placed place text) disk_fault has is = absurd is
-saw_next P H line (placed place text) stopped has is = absurd is
-saw_next P H line (placed place text) (placed later more) has is = (omega (arith, has, stands_by (tells_change more) H line later is.1), tt)
+saw_next P H line (placed place reply) no_memory has is = (tt, tt)
+saw_next P H line (placed place reply) disk_fault has is = absurd is
+saw_next P H line (placed place reply) stopped has is = absurd is
+saw_next P H line (placed place reply) (placed later more) has is = (omega (arith, has, stands_by (changes more) H line later is.1), tt)
 
 saw_later : (P : PlainPolicy) (H : History) (earlier : Answer) (told : List Answered) → Has H earlier → IsSerialRun P H told
     → Each (λ later. IsTrue true → Saw earlier later.answer × StaysStopped earlier later.answer) told
@@ -142,7 +141,7 @@ pub sound_next : (P : PlainPolicy) (H : History) (line : Entry) (a : Answer) →
 sound_next P H line no_memory is = (refl, refl)
 sound_next P H line disk_fault is = absurd is
 sound_next P H line stopped is = absurd is
-sound_next P H line (placed place text) is = (refl, refl)
+sound_next P H line (placed place reply) is = (refl, refl)
 
 all_sound : (P : PlainPolicy) (H : History) (told : List Answered) → IsSerialRun P H told → Each (λ t. IsSound t.answer) told
 all_sound P H [] run = tt

@@ -66,13 +66,13 @@ module _ (P : PlainPolicy) where
   saw_stopped G no_memory has = (tt, tt)
   saw_stopped G disk_fault has = absurd has
   saw_stopped G stopped has = absurd has
-  saw_stopped G (placed place text) has = (tt, tt)
+  saw_stopped G (placed place reply) has = (tt, tt)
 
   saw_fault : (G : History) (earlier : Answer) → Has G earlier → Saw earlier disk_fault × StaysStopped earlier disk_fault
   saw_fault G no_memory has = (tt, tt)
   saw_fault G disk_fault has = absurd has
   saw_fault G stopped has = absurd has
-  saw_fault G (placed place text) has = (tt, tt)
+  saw_fault G (placed place reply) has = (tt, tt)
 
   abbrev Follows : Answer → Answered → Type 0
   Follows earlier later = IsTrue true → Saw earlier later.answer × StaysStopped earlier later.answer

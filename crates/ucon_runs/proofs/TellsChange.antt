@@ -5,7 +5,7 @@ use Rattle.ucon_model.specs.declared.reply.Refusal.TheVariants.{NotAdmin, NoRigh
 use Rattle.ucon_model.specs.Plain.{PlainReply, refused, made, value_is, status}
 use Rattle.ucon_model.specs.Spelling.{reply_spelling}
 use Rattle.ucon_model.specs.History.{changes}
-use Rattle.ucon_model.specs.LegalRun.{tells_change}
+use Rattle.ucon_model.specs.ReplyText.{tells_change}
 
 pub tells_change-reply_spelling : (r : PlainReply) → tells_change (reply_spelling r) ≡ changes r
 tells_change-reply_spelling (refused NotAdmin) = refl

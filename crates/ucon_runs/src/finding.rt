@@ -3,8 +3,8 @@
 ghost use Rattle.std.specs.Prelude.{◌≡◌, ◌++◌, List, Option, length};
 ghost use Rattle.ucon_model.specs.Found.{Takes, found_in, found_on};
 ghost use Rattle.ucon_model.specs.History.{changes};
-ghost use Rattle.ucon_model.specs.LegalRun.{tells_change};
 ghost use Rattle.ucon_model.specs.Plain.{Bytes, PlainPolicy, PlainReply};
+ghost use Rattle.ucon_model.specs.ReplyText.{tells_change};
 ghost use Rattle.ucon_model.specs.Spelling.{reply_spelling};
 
 /// What is found in payloads is what is found in the first of them, and then in the others.

@@ -15,6 +15,7 @@ use Rattle.ucon_store.specs.Starts.{IsStart}
 use Rattle.ucon_store.specs.Steps.{AddsAtMost, step_payload}
 use Rattle.ucon_store.proofs.Recorded.{IsAppended, some_told}
 use Rattle.ucon_store.proofs.Stepped.{IsReady}
+use Rattle.ucon_disk.specs.Seen.{DiskSeen}
 
 adds_perhaps : (payload file c : Bytes) → PerhapsAdded payload file c → AddsAtMost payload file c
 adds_perhaps payload file c perhaps = ⊎_elim
@@ -22,44 +23,43 @@ adds_perhaps payload file c perhaps = ⊎_elim
     (λ (more : StillHolds file (counted file ++ payload ∷ []) c). record { magic = more.magic; payloads = inr more.payloads })
     perhaps
 
-module _ {D : Type 0} (contents : D → Option (List ℕ)) (images : D → List ℕ → Type 0) (moment : D → ℕ) (images_since : D → ℕ → List ℕ → Type 0)
+module _ {D : Type 0} (seen : D → DiskSeen)
     (x : Kept D) (e : Entry) where
   -- behind each trace that leads to the store's beginning, each image since the step began has at most its record more
   abbrev pub Adds : D → Type 0
   Adds new = (P : PlainPolicy) (T : Trace) (file : List ℕ) → accepted x.policy ≡ Some P → IsStart P x.point x.before T → x.mark ≡ None
-      → contents x.disk ≡ Some file → LeavesOnly moment images_since x.disk new (AddsAtMost (step_payload P T x.entries e) file)
+      → (seen x.disk).contents ≡ Some file → LeavesOnly (seen x.disk) (seen new) (AddsAtMost (step_payload P T x.entries e) file)
 
   -- before a call of the disk
-  pub adds_nothing : ((d : D) (c : List ℕ) → images_since d (moment d) c → images d c) → (x.mark ≡ None → Only (contents x.disk) (images x.disk))
+  pub adds_nothing : ((d : D) (c : List ℕ) → (seen d).images_since (seen d).moment c → (seen d).images c) → (x.mark ≡ None → Only (seen x.disk).contents (seen x.disk).images)
       → (new : D) → new ≡ x.disk → Adds new
   adds_nothing only_now rests new same P T file accepts start none is =
-      let only : Only (Some file) (images x.disk) = subst (λ (o : Option (List ℕ)). Only o (images x.disk)) is (rests none) in
-      subst (λ (d : D). LeavesOnly moment images_since x.disk d (AddsAtMost (step_payload P T x.entries e) file)) (sym same)
-      (started moment images_since x.disk (AddsAtMost (step_payload P T x.entries e) file)
+      let only : Only (Some file) (seen x.disk).images = subst (λ (o : Option (List ℕ)). Only o (seen x.disk).images) is (rests none) in
+      subst (λ (d : D). LeavesOnly (seen x.disk) (seen d) (AddsAtMost (step_payload P T x.entries e) file)) (sym same)
+      (started (seen x.disk) (AddsAtMost (step_payload P T x.entries e) file)
       (λ c since. subst (AddsAtMost (step_payload P T x.entries e) file) (sym (only c (only_now x.disk c since)))
       (record { magic = refl; payloads = inl refl })))
 
-module _ {D : Type 0} {contents : D → Option (List ℕ)} {images : D → List ℕ → Type 0} {x : Kept D} {k : Journal D} {e : Entry} {payload : Bytes}
-    (ready : IsReady contents images x k e payload) where
+module _ {D : Type 0} {seen : D → DiskSeen} {x : Kept D} {k : Journal D} {e : Entry} {payload : Bytes}
+    (ready : IsReady seen x k e payload) where
   -- once the record's making has begun
-  pub adds_ready : {moment : D → ℕ} {images_since : D → ℕ → List ℕ → Type 0} {new : D}
-      → LeavesAfter contents images moment images_since (disk_of k) new (PerhapsAdded payload)
-      → Adds contents images moment images_since x e new
-  adds_ready {moment} {images_since} {new} run P T file accepts start none is =
-      let only : Only (contents (disk_of k)) (images (disk_of k)) = subst (λ (d : D). Only (contents d) (images d)) (sym ready.same) ready.only in
-      let here : contents (disk_of k) ≡ Some file = ap contents ready.same ∙ is in
-      let left = run.each file (record { told = here; only = subst (λ (o : Option (List ℕ)). Only o (images (disk_of k))) here only }) in
-      subst (λ (z : D × Bytes). LeavesOnly moment images_since z.0 new (AddsAtMost z.1 file))
+  pub adds_ready : {new : D} → LeavesAfter (seen (disk_of k)) (seen new) (PerhapsAdded payload)
+      → Adds seen x e new
+  adds_ready {new} run P T file accepts start none is =
+      let only : Only (seen (disk_of k)).contents (seen (disk_of k)).images = subst (λ (d : D). Only (seen d).contents (seen d).images) (sym ready.same) ready.only in
+      let here : (seen (disk_of k)).contents ≡ Some file = ap (λ d. (seen d).contents) ready.same ∙ is in
+      let left = run.each file (record { told = here; only = subst (λ (o : Option (List ℕ)). Only o (seen (disk_of k)).images) here only }) in
+      subst (λ (z : D × Bytes). LeavesOnly (seen z.0) (seen new) (AddsAtMost z.1 file))
       (λ i. (ready.same i, ready.spelled P T accepts start i))
-      (weaker moment images_since (disk_of k) new (PerhapsAdded payload file) (AddsAtMost payload file) (adds_perhaps payload file) left)
+      (weaker (seen (disk_of k)) (seen new) (PerhapsAdded payload file) (AddsAtMost payload file) (adds_perhaps payload file) left)
 
   -- and once it is there
-  pub added_ready : {next : Journal D} → IsAppended contents images k next payload
+  pub added_ready : {next : Journal D} → IsAppended seen k next payload
       → (P : PlainPolicy) (T : Trace) (file : List ℕ) → accepted x.policy ≡ Some P → IsStart P x.point x.before T
-      → contents x.disk ≡ Some file → told_payloads (contents (disk_of next)) ≡ counted file ++ step_payload P T x.entries e ∷ []
+      → (seen x.disk).contents ≡ Some file → told_payloads (seen (disk_of next)).contents ≡ counted file ++ step_payload P T x.entries e ∷ []
   added_ready {next} appended P T file accepts start is =
-      let here : contents (disk_of k) ≡ Some file = ap contents ready.same ∙ is in
-      some_told (λ _. told_payloads (contents (disk_of next)) ≡ told_payloads (contents (disk_of k)) ++ payload ∷ [])
-      (contents (disk_of k)) file here appended.added
+      let here : (seen (disk_of k)).contents ≡ Some file = ap (λ d. (seen d).contents) ready.same ∙ is in
+      some_told (λ _. told_payloads (seen (disk_of next)).contents ≡ told_payloads (seen (disk_of k)).contents ++ payload ∷ [])
+      (seen (disk_of k)).contents file here appended.added
       ∙ (ap (λ (o : Option (List ℕ)). told_payloads o ++ payload ∷ []) here
       ∙ ap (λ (p : Bytes). counted file ++ p ∷ []) (ready.spelled P T accepts start))

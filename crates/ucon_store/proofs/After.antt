@@ -12,12 +12,12 @@ use Rattle.ucon_model.specs.Action.{Trace}
 use Rattle.ucon_model.specs.Block.{reply}
 use Rattle.ucon_model.specs.CommandLine.{command_spelling}
 use Rattle.ucon_model.specs.History.{History, changes, trace_from}
-use Rattle.ucon_model.specs.LegalRun.{tells_change}
 use Rattle.ucon_model.specs.Payload.{Told, entry_told, most_payload, payload_read, payload_spelling, told}
 use Rattle.ucon_model.specs.Plain.{Bytes, PlainPolicy, PlainReply}
+use Rattle.ucon_model.specs.ReplyText.{tells_change}
 use Rattle.ucon_model.specs.Spelling.{reply_spelling}
 use Rattle.ucon_syntax.specs.Policies.{accepted}
-use Rattle.ucon_store.specs.Opened.{steps_after, with_next}
+use Rattle.ucon_store.specs.Opened.{steps_after, with_next, steps_by}
 
 -- the test by which a payload is taken
 abbrev pub tested : {A : Type 0} → A → Bool → Bool → Option A
@@ -49,13 +49,13 @@ either_none false = refl
 module _ (T : Trace) (text : Bytes) (P : PlainPolicy) (H : History) (payload : Bytes) where
   -- what isn't read as a step isn't taken
   pub unread_after : (place : ℕ) → payload_read accepted payload ≡ Err place → steps_after T text P H payload ≡ None
-  unfolding steps_after
+  unfolding steps_by
   unread_after place read =
       ap (λ r. cond (nat_lt most_payload (length payload)) None (option_and_then (with_next T P H) (result_ok r))) read ∙ either_none (nat_lt most_payload (length payload))
 
   -- nor what is too long
   pub long_after : most_payload < length payload → steps_after T text P H payload ≡ None
-  unfolding steps_after
+  unfolding steps_by
   long_after long = ap (λ b. cond b None (option_and_then (with_next T P H) (result_ok (payload_read accepted payload)))) (lt-ltb most_payload (length payload) long)
 
   module _ (tells : (r : PlainReply) → tells_change (reply_spelling r) ≡ changes r)
@@ -79,7 +79,7 @@ module _ (T : Trace) (text : Bytes) (P : PlainPolicy) (H : History) (payload : B
     pub taken_after : (t : Told) → length payload ≤ most_payload → payload_read accepted payload ≡ Ok t
         → let r = reply P (trace_from P T H) t.caller t.command in
         steps_after T text P H payload ≡ tested (H ++ entry_told t ∷ []) (changes r) (bytes_eq (payload_spelling (told (entry_told t) r)) payload)
-    unfolding steps_after
+    unfolding steps_by
     taken_after t short read =
         let r = reply P (trace_from P T H) t.caller t.command in
         let fits : nat_lt most_payload (length payload) ≡ false = le-ltb most_payload (length payload) short in

@@ -12,7 +12,7 @@ use Rattle.ucon_journal.specs.Opened.{opened as opened_as}
 use Rattle.ucon_store.specs.declared.fault.StoreFault.{StoreFault}
 use Rattle.ucon_store.specs.declared.fault.StoreFault.TheVariants.{NotJournal, Damaged, OtherPolicy, DiskFault, NoMemory}
 use Rattle.ucon_store.specs.Faults.{of_open}
-use Rattle.ucon_store.specs.Found.{finding_of, found}
+use Rattle.ucon_store.specs.Found.{finding_of, found, found_by}
 use Rattle.ucon_store.specs.Opened.{Seen, Sees, SeesIn, last_point, parted_behind, seen_after}
 use Rattle.ucon_store.specs.Opened as opened
 use Rattle.ucon_store.specs.Opening.{HasReason, HasOtherPolicy}
@@ -21,7 +21,7 @@ use Rattle.ucon_store.specs.Points.{has_points}
 use Rattle.ucon_store.proofs.Runs.{true_or_false, opened_short, opened_long, short_counted, found_opened}
 
 pub found_none : (file : Bytes) → journal.found file ≡ journal.NotJournal → found file ≡ not_journal
-unfolding found
+unfolding found_by
 found_none file is = ap (finding_of (takes_of file)) is
 
 opened_is_journal : (file : Bytes) → journal.found file ≢ journal.NotJournal → journal.found (opened_as file) ≢ journal.NotJournal

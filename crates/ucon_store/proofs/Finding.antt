@@ -6,7 +6,7 @@ use Rattle.ucon_model.specs.History.{History}
 use Rattle.ucon_model.specs.Found.{Finding, fresh, not_journal, holds, Takes, next_gate, found_behind, found_in, found_on}
 use Rattle.ucon_journal.specs.Found as journal
 use Rattle.ucon_syntax.specs.Policies.{accepted}
-use Rattle.ucon_store.specs.Found.{finding_of, found, Holds}
+use Rattle.ucon_store.specs.Found.{finding_of, Holds, found_by}
 use Rattle.ucon_store.specs.Points.{has_points, takes_with}
 
 -- a finding by records that count is that by their payloads, where a policy and a history are found
@@ -25,11 +25,11 @@ abbrev pub takes_of : Bytes → Takes
 takes_of file = takes_with (has_points file)
 
 pub counted_hold : (text : Bytes) (P : PlainPolicy) (H : History) (file : Bytes) (h : Holds text P H file) → found_in accepted (takes_of file) (journal.counted file) ≡ holds text P H h.gate
-unfolding found
+unfolding found_by
 counted_hold text P H file h = by_payloads (takes_of file) (journal.found file) text P H h.gate h.is
 
 pub hold_counted : (text : Bytes) (P : PlainPolicy) (H : History) (gate : ℕ) (file : Bytes) → found_in accepted (takes_of file) (journal.counted file) ≡ holds text P H gate → Holds text P H file
-unfolding found
+unfolding found_by
 hold_counted text P H gate file is = record { gate = gate; is = from_payloads (takes_of file) (journal.found file) text P H gate is }
 
 -- the same payloads hold the same, in files of one kind

@@ -28,6 +28,7 @@ use Rattle.ucon_store.proofs.Seeing.Found.{from_first}
 use Rattle.ucon_store.proofs.Seeing.Nothing.{found_untold, is_told}
 use Rattle.ucon_store.proofs.Seeing.Walk.{goes_on, same_told}
 use Rattle.ucon_store.proofs.Stepping.{one_policy}
+use Rattle.ucon_disk.specs.Seen.{DiskSeen}
 
 -- ---- as many entries as payloads at most
 
@@ -187,7 +188,7 @@ module _ (text : Bytes) (P : PlainPolicy) (accepts : accepted text ≡ Some P) (
         parts_at file whole.0 whole.1 all found_so few (parted_with (has_points file) whole.1.payloads) refl whole.1.begins
 
     -- the store goes on from it
-    module _ {D : Type 0} (contents : D → Option (List ℕ)) (images : D → List ℕ → Type 0) (opening : ℕ) (disk : D) where
+    module _ {D : Type 0} (seen : D → DiskSeen) (opening : ℕ) (disk : D) where
       abbrev opened_store : Kept D
       opened_store = record { policy = text; point = point; before = before; opening = opening; entries = H; mark = None; disk = disk }
 
@@ -198,8 +199,8 @@ module _ (text : Bytes) (P : PlainPolicy) (accepts : accepted text ≡ Some P) (
           let same : f ≡ file = cc is in keeps P all accepts (subst (λ (x : Bytes). IsFoundAs text x all) (sym same) found_so)
 
       pub goes_on_opened : (m : Option Bytes) (file : Bytes) (all : History) → m ≡ Some (opened_as file) → IfSome m (IsRead text P point before H)
-          → IfSome m (λ c. length (journal.counted c) < 2 ^ 63) → KeepsFound text m (contents disk) → Only (contents disk) (images disk) → IsFoundAs text file all
-          → GoesOnFrom contents images P opened_store all
+          → IfSome m (λ c. length (journal.counted c) < 2 ^ 63) → KeepsFound text m (seen disk).contents → Only (seen disk).contents (seen disk).images → IsFoundAs text file all
+          → GoesOnFrom seen P opened_store all
       goes_on_opened None file all is r few keeps only found_so = absurd (let bad : None ≡ Some (opened_as file) = is in cc bad)
       goes_on_opened (Some c) file all is r few keeps only found_so =
           let same : c ≡ opened_as file = cc is in
@@ -211,7 +212,7 @@ module _ (text : Bytes) (P : PlainPolicy) (accepts : accepted text ≡ Some P) (
               accepts = accepts;
               front = record { starts = parts.front.starts; count = parts.front.count; text = parts.front.text };
               unmarked = refl;
-              holds = subst (λ (l : History). IfSome (contents disk) (Holds text P l)) parts.is (held_by (Some c) (contents disk) c all refl keeps there);
+              holds = subst (λ (l : History). IfSome (seen disk).contents (Holds text P l)) parts.is (held_by (Some c) (seen disk).contents c all refl keeps there);
               only = only;
             };
           }
@@ -222,13 +223,13 @@ module _ (text : Bytes) (P : PlainPolicy) (accepts : accepted text ≡ Some P) (
       holds_first first None (Some c) r keeps tells = absurd (let bad : true ≡ false = tells in cc bad)
       holds_first first (Some f) (Some c) r keeps tells = keeps P H accepts (first_found first f r)
 
-      pub founded_first : IsBeforeAll point before → (m : Option Bytes) → IfSome m (IsRead text P point before H) → KeepsFound text m (contents disk) → is_some (contents disk) ≡ is_some m
-          → Only (contents disk) (images disk) → IsFounded contents images P opened_store []
+      pub founded_first : IsBeforeAll point before → (m : Option Bytes) → IfSome m (IsRead text P point before H) → KeepsFound text m (seen disk).contents → is_some (seen disk).contents ≡ is_some m
+          → Only (seen disk).contents (seen disk).images → IsFounded seen P opened_store []
       founded_first first m r keeps tells only =
           let front = front_before_all P opened_store first in record {
             accepts = accepts;
             front = record { starts = front.starts; count = front.count; text = front.text };
             unmarked = refl;
-            holds = holds_first first m (contents disk) r keeps tells;
+            holds = holds_first first m (seen disk).contents r keeps tells;
             only = only;
           }

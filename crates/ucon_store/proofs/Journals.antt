@@ -10,7 +10,7 @@ use Rattle.ucon_model.specs.History.{History}
 use Rattle.ucon_model.specs.Payload.{most_payload}
 use Rattle.ucon_model.specs.Plain.{Bytes, PlainPolicy}
 use Rattle.ucon_syntax.specs.Policies.{accepted}
-use Rattle.ucon_store.specs.Found.{finding_of, found}
+use Rattle.ucon_store.specs.Found.{finding_of, found, found_by}
 use Rattle.ucon_store.proofs.Finding.{takes_of}
 
 length-record : (p : Bytes) → length (record_bytes p) ≡ 5 + length p
@@ -30,7 +30,7 @@ short [] h = tt
 short (p ∷ ps) h = (omega (arith, h.0), short ps h.1)
 
 pub found_as_read : (file : Bytes) (payloads : List Bytes) (gate : ℕ) → journal.found file ≡ journal.Holds payloads gate → found file ≡ found_in accepted (takes_of file) payloads
-unfolding found
+unfolding found_by
 found_as_read file payloads gate is = ap (finding_of (takes_of file)) is
 
 pub journal_found : ((v : ℕ) (p : Bytes) (ps : List Bytes) → IsVersion v → AreShort (p ∷ ps) → journal.found (journal_bytes v (p ∷ ps)) ≡ journal.Holds (p ∷ ps) (length (journal_bytes v (p ∷ ps)) - 1))

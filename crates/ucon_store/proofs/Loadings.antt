@@ -30,6 +30,7 @@ use Rattle.ucon_store.proofs.SamePlaces.{same_kind, same_told}
 use Rattle.ucon_store.proofs.Stepping.{one_policy}
 use Rattle.ucon_store.proofs.Taking.{long_here, long_seen}
 use Rattle.ucon_store.proofs.Versions.{closed_kind, ended_kind}
+use Rattle.ucon_disk.specs.Seen.{DiskSeen}
 
 -- these payloads may stand in the file, where the disk tells
 abbrev pub IsOfKind : Bool → Bytes → Type 0
@@ -100,15 +101,15 @@ pub record IsMended (points : Bool) (o n : Option Bytes) : Type 0 where
   pub was : IfSome o (IsOfKind points)
   pub now : IfSome n (IsOfKind points)
 
-pub mended_told : {D : Type 0} (contents : D → Option (List ℕ)) (ended mended : Journal D) {o : Option Bytes} → contents (disk_of ended) ≡ o
-    → HasEnded contents ended → IsClosed contents mended → version_of mended ≡ version_of ended
-    → told_payloads (contents (disk_of mended)) ≡ told_payloads (contents (disk_of ended))
-    → IsMended (points_of (version_of ended)) o (contents (disk_of mended))
-mended_told contents ended mended told ends closed version same =
-    subst (λ (x : Option Bytes). IsMended (points_of (version_of ended)) x (contents (disk_of mended))) told (record {
+pub mended_told : {D : Type 0} (seen : D → DiskSeen) (ended mended : Journal D) {o : Option Bytes} → (seen (disk_of ended)).contents ≡ o
+    → HasEnded seen ended → IsClosed seen mended → version_of mended ≡ version_of ended
+    → told_payloads (seen (disk_of mended)).contents ≡ told_payloads (seen (disk_of ended)).contents
+    → IsMended (points_of (version_of ended)) o (seen (disk_of mended)).contents
+mended_told seen ended mended told ends closed version same =
+    subst (λ (x : Option Bytes). IsMended (points_of (version_of ended)) x (seen (disk_of mended)).contents) told (record {
       same = same;
-      was = ended_kind contents ended ends;
-      now = subst (λ (v : ℕ). IfSome (contents (disk_of mended)) (IsOfKind (points_of v))) version (closed_kind contents mended closed);
+      was = ended_kind seen ended ends;
+      now = subst (λ (v : ℕ). IfSome (seen (disk_of mended)).contents (IsOfKind (points_of v))) version (closed_kind seen mended closed);
     })
 
 -- mending leaves what was found
@@ -145,10 +146,10 @@ few_records (payload ∷ payloads) =
 few_standing : (file : Bytes) (version gate : ℕ) → StandsAt file version gate (counted file) → gate < 2 ^ 63 → length (counted file) < 2 ^ 63
 few_standing file version gate s below = let few = few_records (counted file) in omega (arith, s.place, s.size, below, few)
 
-pub few_payloads : {D : Type 0} (contents : D → Option (List ℕ)) (j : Journal D) (o : Option Bytes) → gate_of j < 2 ^ 63
+pub few_payloads : {D : Type 0} (seen : D → DiskSeen) (j : Journal D) (o : Option Bytes) → gate_of j < 2 ^ 63
     → IfSome o (λ file. StandsAt file (version_of j) (gate_of j) (counted file) × (payloads_from file (gate_of j) ≡ [])) → IfSome o (λ file. length (counted file) < 2 ^ 63)
-few_payloads contents j None below told = tt
-few_payloads contents j (Some file) below told = few_standing file (version_of j) (gate_of j) told.0 below
+few_payloads seen j None below told = tt
+few_payloads seen j (Some file) below told = few_standing file (version_of j) (gate_of j) told.0 below
 
 -- ---- record 0 is too long
 

@@ -92,28 +92,28 @@ module _ (one : OneByOne) (text : Bytes) (P : PlainPolicy)
 module _ (text : Bytes) (P : PlainPolicy) where
   -- what is found behind entries that are taken is what is found behind more of them
   over_entries : (H rest : History) (number gate : ℕ) (more : List Bytes) → AreTaken P H rest
-      → found_behind steps_and_points text P H number gate (payloads_behind P H rest ++ more)
-      ≡ found_behind steps_and_points text P (H ++ rest) (number + length rest) (gate_behind gate (payloads_behind P H rest)) more
+      → found_behind (steps_and_points accepted) text P H number gate (payloads_behind P H rest ++ more)
+      ≡ found_behind (steps_and_points accepted) text P (H ++ rest) (number + length rest) (gate_behind gate (payloads_behind P H rest)) more
   over_entries H [] number gate more are =
-      ap (λ (K : History). found_behind steps_and_points text P K number gate more) (sym (append-nil H))
-      ∙ ap (λ (n : ℕ). found_behind steps_and_points text P (H ++ []) n gate more) (let e : number ≡ number + 0 = omega arith in e)
+      ap (λ (K : History). found_behind (steps_and_points accepted) text P K number gate more) (sym (append-nil H))
+      ∙ ap (λ (n : ℕ). found_behind (steps_and_points accepted) text P (H ++ []) n gate more) (let e : number ≡ number + 0 = omega arith in e)
   over_entries H (e ∷ rest) number gate more are =
       let payload = payload_of P H e in
       let later = H ++ e ∷ [] in
-      ap (λ (o : Option History). unwrap_or (option_map (λ K. found_behind steps_and_points text P K (number + 1) (next_gate gate payload) (payloads_behind P later rest ++ more)) o) (damaged number gate))
+      ap (λ (o : Option History). unwrap_or (option_map (λ K. found_behind (steps_and_points accepted) text P K (number + 1) (next_gate gate payload) (payloads_behind P later rest ++ more)) o) (damaged number gate))
       (steps_taken true text P H later payload are.0)
       ∙ (over_entries later rest (number + 1) (next_gate gate payload) more are.1
-      ∙ (ap (λ (K : History). found_behind steps_and_points text P K (number + 1 + length rest) (gate_behind (next_gate gate payload) (payloads_behind P later rest)) more) (append_assoc H (e ∷ []) rest)
-      ∙ ap (λ (n : ℕ). found_behind steps_and_points text P (H ++ e ∷ rest) n (gate_behind (next_gate gate payload) (payloads_behind P later rest)) more)
+      ∙ (ap (λ (K : History). found_behind (steps_and_points accepted) text P K (number + 1 + length rest) (gate_behind (next_gate gate payload) (payloads_behind P later rest)) more) (append_assoc H (e ∷ []) rest)
+      ∙ ap (λ (n : ℕ). found_behind (steps_and_points accepted) text P (H ++ e ∷ rest) n (gate_behind (next_gate gate payload) (payloads_behind P later rest)) more)
       (let same : number + 1 + length rest ≡ number + suc (length rest) = omega arith in same)))
 
   -- and a checkpoint changes nothing
   over_point : (H : History) (number gate : ℕ) (more : List Bytes) → length (checkpoint text P H) ≤ most_payload
-      → found_behind steps_and_points text P H number gate (checkpoint text P H ∷ more)
-      ≡ found_behind steps_and_points text P H (number + 1) (next_gate gate (checkpoint text P H)) more
+      → found_behind (steps_and_points accepted) text P H number gate (checkpoint text P H ∷ more)
+      ≡ found_behind (steps_and_points accepted) text P H (number + 1) (next_gate gate (checkpoint text P H)) more
   over_point H number gate more fits =
       let payload = checkpoint text P H in
-      ap (λ (o : Option History). unwrap_or (option_map (λ K. found_behind steps_and_points text P K (number + 1) (next_gate gate payload) more) o) (damaged number gate))
+      ap (λ (o : Option History). unwrap_or (option_map (λ K. found_behind (steps_and_points accepted) text P K (number + 1) (next_gate gate payload) more) o) (damaged number gate))
       (ap (λ (b : Bool). if b then point_taken text P H payload else taken accepted P H payload) (point_begins text P H) ∙ point_here text P H payload refl fits)
 
 -- none of them begins as a checkpoint
@@ -186,10 +186,10 @@ module _ (text : Bytes) (P : PlainPolicy) (H : History)
       )
 
   found_at : (places : List ℕ) (before number gate : ℕ) → ArePlaces before (length H) places → Fit places
-      → found_behind steps_and_points text P (take before H) number gate (pointed_behind text P H before places) ≡ holds text P H (gate_behind gate (pointed_behind text P H before places))
+      → found_behind (steps_and_points accepted) text P (take before H) number gate (pointed_behind text P H before places) ≡ holds text P H (gate_behind gate (pointed_behind text P H before places))
   found_at [] before number gate are fit =
       let payloads = payloads_behind P (take before H) (drop before H) in
-      ap (found_behind steps_and_points text P (take before H) number gate) (sym (append-nil payloads))
+      ap (found_behind (steps_and_points accepted) text P (take before H) number gate) (sym (append-nil payloads))
       ∙ (over_entries text P (take before H) (drop before H) number gate [] (rest_taken before)
       ∙ ap (λ (K : History). holds text P K (gate_behind gate payloads)) (take-append-drop before H))
   found_at (place ∷ places) before number gate are fit =
@@ -199,7 +199,7 @@ module _ (text : Bytes) (P : PlainPolicy) (H : History)
       let reached = gate_behind gate front in
       let n = number + length (between before place H) in
       over_entries text P (take before H) (between before place H) number gate (point ∷ others) (between_taken before place are.0)
-      ∙ (ap (λ (K : History). found_behind steps_and_points text P K n reached (point ∷ others)) (up_to before place are.0)
+      ∙ (ap (λ (K : History). found_behind (steps_and_points accepted) text P K n reached (point ∷ others)) (up_to before place are.0)
       ∙ (over_point text P (take place H) n reached others fit.0
       ∙ (found_at places place (n + 1) (next_gate reached point) are.2 fit.1
       ∙ ap (holds text P H) (sym (gate_behind-append gate front (point ∷ others))))))
@@ -255,9 +255,9 @@ module _ (gates : (v : ℕ) (p : Bytes) (ps : List Bytes) → IsVersion v → Ar
   kind : has_points file ≡ true
   kind = refl
 
-  found_payloads : found_in accepted steps_and_points payloads ≡ holds text P H (gate_behind first_gate payloads)
+  found_payloads : found_in accepted (steps_and_points accepted) payloads ≡ holds text P H (gate_behind first_gate payloads)
   found_payloads =
-      ap (λ (o : Option PlainPolicy). unwrap_or (option_map (λ Q. found_behind steps_and_points text Q [] 1 (next_gate first_gate text) (pointed_behind text P H 0 places)) o) (damaged 0 first_gate))
+      ap (λ (o : Option PlainPolicy). unwrap_or (option_map (λ Q. found_behind (steps_and_points accepted) text Q [] 1 (next_gate first_gate text) (pointed_behind text P H 0 places)) o) (damaged 0 first_gate))
       (policy_is text P (nat_lt most_payload (length text)) refl (not_above most_payload (length text) fits.0) accepts)
       ∙ found_at text P H all clients proper places 0 1 (next_gate first_gate text) are fit
 

@@ -11,7 +11,7 @@ use Rattle.ucon_journal.specs.Journal.{told_payloads}
 use Rattle.ucon_journal.specs.JournalBytes.{magic}
 use Rattle.ucon_journal.specs.Opened.{StillHolds}
 use Rattle.ucon_syntax.specs.Policies.{accepted}
-use Rattle.ucon_store.specs.Found.{finding_of, found, Holds, Tells, IsFoundAs}
+use Rattle.ucon_store.specs.Found.{finding_of, found, Holds, Tells, IsFoundAs, found_by}
 use Rattle.ucon_store.specs.Opened as seeing
 use Rattle.ucon_store.specs.Opened.{Seen, Sees, SeesIn, seen_after}
 use Rattle.ucon_store.specs.Opening.{IsForeign, Opens}
@@ -52,7 +52,7 @@ by_count takes (journal.Holds payloads gate) is = refl
 
 -- in a journal, what is found is what the payloads say that count
 pub found_counted : (file : Bytes) → journal.found file ≢ journal.NotJournal → found file ≡ found_in accepted (takes_of file) (journal.counted file)
-unfolding found
+unfolding found_by
 found_counted file is = by_count (takes_of file) (journal.found file) is
 
 pub found_fresh : (file : Bytes) → journal.found file ≢ journal.NotJournal → journal.counted file ≡ [] → found file ≡ fresh

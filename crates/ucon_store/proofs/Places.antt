@@ -56,12 +56,12 @@ length_by text P H later payload n false h = omega (arith, step_longer P H later
 
 module _ (text : Bytes) (P : PlainPolicy) (found_text : Bytes) (Q : PlainPolicy) (G : History) (end : ℕ) where
   abbrev Finds : History → ℕ → ℕ → List Bytes → Type 0
-  Finds H number gate payloads = found_behind steps_and_points text P H number gate payloads ≡ holds found_text Q G end
+  Finds H number gate payloads = found_behind (steps_and_points accepted) text P H number gate payloads ≡ holds found_text Q G end
 
   first_taken : (H : History) (number gate : ℕ) (payload : Bytes) (payloads : List Bytes)
       → ((later : History) → Finds later (number + 1) (next_gate gate payload) payloads → length G ≡ length later + steps_among payloads)
-      → (o : Option History) → steps_and_points text P H payload ≡ o
-      → unwrap_or (option_map (λ later. found_behind steps_and_points text P later (number + 1) (next_gate gate payload) payloads) o) (damaged number gate) ≡ holds found_text Q G end
+      → (o : Option History) → steps_and_points accepted text P H payload ≡ o
+      → unwrap_or (option_map (λ later. found_behind (steps_and_points accepted) text P later (number + 1) (next_gate gate payload) payloads) o) (damaged number gate) ≡ holds found_text Q G end
       → length G ≡ length H + steps_among (payload ∷ payloads)
   first_taken H number gate payload payloads next None is h = absurd (cc h)
   first_taken H number gate payload payloads next (Some later) is h = next later h ∙ length_by text P H later payload (steps_among payloads) (is_point payload) is
@@ -70,7 +70,7 @@ module _ (text : Bytes) (P : PlainPolicy) (found_text : Bytes) (Q : PlainPolicy)
   pub entries_counted : (payloads : List Bytes) (H : History) (number gate : ℕ) → Finds H number gate payloads → length G ≡ length H + steps_among payloads
   entries_counted [] H number gate h = let is : holds text P H gate ≡ holds found_text Q G end = h in let same : H ≡ G = cc is in omega (arith, ap (λ (l : History). length l) same)
   entries_counted (payload ∷ payloads) H number gate h =
-      first_taken H number gate payload payloads (λ later. entries_counted payloads later (number + 1) (next_gate gate payload)) (steps_and_points text P H payload) refl h
+      first_taken H number gate payload payloads (λ later. entries_counted payloads later (number + 1) (next_gate gate payload)) (steps_and_points accepted text P H payload) refl h
 
 -- with a checkpoint more behind
 place_here : (before : ℕ) (payload point : Bytes) (payloads : List Bytes) (b : Bool)
@@ -89,7 +89,7 @@ places_behind-more point is (payload ∷ payloads) before = place_here before pa
 
 module _ (point : Bytes) (is : is_point point ≡ true) (text : Bytes) (P : PlainPolicy) (H : History) (gate : ℕ) where
   by_policy : (first : Bytes) (payloads : List Bytes) (o : Option PlainPolicy)
-      → unwrap_or (option_map (λ Q. found_behind steps_and_points first Q [] 1 (next_gate first_gate first) payloads) o) (damaged 0 first_gate) ≡ holds text P H gate
+      → unwrap_or (option_map (λ Q. found_behind (steps_and_points accepted) first Q [] 1 (next_gate first_gate first) payloads) o) (damaged 0 first_gate) ≡ holds text P H gate
       → places_in (first ∷ payloads ++ point ∷ []) ≡ places_in (first ∷ payloads) ++ length H ∷ []
   by_policy first payloads None h = absurd (cc h)
   by_policy first payloads (Some Q) h =
@@ -97,6 +97,6 @@ module _ (point : Bytes) (is : is_point point ≡ true) (text : Bytes) (P : Plai
       places_behind-more point is payloads 0 ∙ ap (λ (k : ℕ). places_behind 0 payloads ++ k ∷ []) (let e : 0 + steps_among payloads ≡ length H = omega (arith, count) in e)
 
   -- a checkpoint behind the records of a history stands behind all entries
-  pub place_added : (payloads : List Bytes) → found_in accepted steps_and_points payloads ≡ holds text P H gate → places_in (payloads ++ point ∷ []) ≡ places_in payloads ++ length H ∷ []
+  pub place_added : (payloads : List Bytes) → found_in accepted (steps_and_points accepted) payloads ≡ holds text P H gate → places_in (payloads ++ point ∷ []) ≡ places_in payloads ++ length H ∷ []
   place_added [] h = absurd (cc h)
   place_added (first ∷ payloads) h = by_policy first payloads (policy_taken accepted first) h

@@ -13,6 +13,7 @@ use Rattle.ucon_store.specs.Starts.{IsStart}
 use Rattle.ucon_store.specs.Steps.{IsPlaced, IsPlacedBehind, HasFailed, HasFailedBehind}
 use Rattle.ucon_store.specs.Whole.{IsFront, whole}
 use Rattle.ucon_store.proofs.Stepping.{said_behind}
+use Rattle.ucon_disk.specs.Seen.{DiskSeen}
 
 grown_by : (b : Bool) (G H : History) (e : Entry) → G ++ (if b then H ++ e ∷ [] else H) ≡ (if b then (G ++ H) ++ e ∷ [] else G ++ H)
 grown_by true G H e = sym (append_assoc G H (e ∷ []))
@@ -40,9 +41,9 @@ module _ {D : Type 0} {old new : Kept D} {e : Entry} where
       → (P : PlainPolicy) (G : History) → accepted old.policy ≡ Some P → IsFront P old G → IsPlaced P (whole G old) (whole G new) e p
   placed_whole {p} same behind P G accepts front = whole_placed P G old new e p front.count same (behind P (trace P G) accepts front.starts)
 
-  pub failed_whole : {faults : D → ℕ}
-      → ((P : PlainPolicy) (T : Trace) → accepted old.policy ≡ Some P → IsStart P old.point old.before T → HasFailedBehind faults P T old new e)
-      → (P : PlainPolicy) (G : History) → accepted old.policy ≡ Some P → IsFront P old G → HasFailed faults P (whole G old) (whole G new) e
+  pub failed_whole : {seen : D → DiskSeen}
+      → ((P : PlainPolicy) (T : Trace) → accepted old.policy ≡ Some P → IsStart P old.point old.before T → HasFailedBehind seen P T old new e)
+      → (P : PlainPolicy) (G : History) → accepted old.policy ≡ Some P → IsFront P old G → HasFailed seen P (whole G old) (whole G new) e
   failed_whole behind P G accepts front =
       let h = behind P (trace P G) accepts front.starts in
       let same = says P G old new e in

@@ -37,6 +37,7 @@ use Rattle.ucon_store.proofs.SamePlaces.{places_same}
 use Rattle.ucon_store.proofs.Recorded.{HoldsAtRest, IsAppended, OneByOne, at_rest_as, counted_then, holds_now, kind_now, kind_then, rest_with, same_kind, some_told, told_file}
 use Rattle.ucon_store.proofs.Stepped.{holds_founded, parts}
 use Rattle.ucon_store.proofs.Stepping.{stands_as, trace_append}
+use Rattle.ucon_disk.specs.Seen.{DiskSeen}
 
 pub point_begins : (text : Bytes) (P : PlainPolicy) (H : History) → is_point (checkpoint text P H) ≡ true
 point_begins text P H = refl
@@ -67,7 +68,7 @@ module _ (one : OneByOne) (text : Bytes) (P : PlainPolicy) (H : History) (payloa
   pub places_more : (file c : Bytes) → has_points file ≡ true → Holds text P H file → has_points c ≡ has_points file → journalled.counted c ≡ journalled.counted file ++ payload ∷ []
       → point_places c ≡ point_places file ++ length H ∷ []
   places_more file c points h kind more =
-      let held : found_in accepted steps_and_points (journalled.counted file) ≡ holds text P H h.gate = ap (λ (b : Bool). found_in accepted (takes_with b) (journalled.counted file)) (sym points) ∙ counted_hold text P H file h in
+      let held : found_in accepted (steps_and_points accepted) (journalled.counted file) ≡ holds text P H h.gate = ap (λ (b : Bool). found_in accepted (takes_with b) (journalled.counted file)) (sym points) ∙ counted_hold text P H file h in
       let here : point_places file ≡ places_in (journalled.counted file) = ap (λ (b : Bool). if b then places_in (journalled.counted file) else []) points in
       ap (λ (b : Bool). if b then places_in (journalled.counted c) else []) (kind ∙ points)
       ∙ (ap places_in more ∙ (place_added payload begins text P H h.gate (journalled.counted file) held ∙ ap (λ (l : List ℕ). l ++ length H ∷ []) (sym here)))
@@ -86,28 +87,28 @@ module _ (one : OneByOne) (text : Bytes) (P : PlainPolicy) (H : History) (payloa
       (found_as text P H c (holds_point file c points h kind more.payloads), inr (places_more file c points h kind more.payloads)))
       perhaps
 
-  module _ {D : Type 0} {contents : D → Option (List ℕ)} {images : D → List ℕ → Type 0} {journal : Journal D}
-      (rest : HoldsAtRest contents images journal text P H)
+  module _ {D : Type 0} {seen : D → DiskSeen} {journal : Journal D}
+      (rest : HoldsAtRest seen journal text P H)
       (second : points_of (version_of journal) ≡ true) where
-    kind_of : (file : Bytes) → contents (disk_of journal) ≡ Some file → has_points file ≡ true
+    kind_of : (file : Bytes) → (seen (disk_of journal)).contents ≡ Some file → has_points file ≡ true
     kind_of file told = kind_now rest file told ∙ second
 
     -- each image inside the call is found as the history, with the checkpoint or without
-    pub run_pointed : (moment : D → ℕ) (images_since : D → ℕ → List ℕ → Type 0) (new : D) → LeavesAfter contents images moment images_since (disk_of journal) new (PerhapsAdded payload)
-        → (file : Bytes) → contents (disk_of journal) ≡ Some file → LeavesOnly moment images_since (disk_of journal) new (IsFoundPointed text H (point_places file))
-    run_pointed moment images_since new run file told =
-        weaker moment images_since (disk_of journal) new (PerhapsAdded payload file) (IsFoundPointed text H (point_places file))
+    pub run_pointed : (new : D) → LeavesAfter (seen (disk_of journal)) (seen new) (PerhapsAdded payload)
+        → (file : Bytes) → (seen (disk_of journal)).contents ≡ Some file → LeavesOnly (seen (disk_of journal)) (seen new) (IsFoundPointed text H (point_places file))
+    run_pointed new run file told =
+        weaker (seen (disk_of journal)) (seen new) (PerhapsAdded payload file) (IsFoundPointed text H (point_places file))
         (λ c. pointed_perhaps file c (kind_of file told) (holds_now rest file told)) (run.each file (at_rest_as rest file told))
 
-    module _ {next : Journal D} (appended : IsAppended contents images journal next payload) where
+    module _ {next : Journal D} (appended : IsAppended seen journal next payload) where
       -- where the checkpoints stand then
-      pub added_places : (file c : Bytes) → contents (disk_of journal) ≡ Some file → contents (disk_of next) ≡ Some c → point_places c ≡ point_places file ++ length H ∷ []
+      pub added_places : (file c : Bytes) → (seen (disk_of journal)).contents ≡ Some file → (seen (disk_of next)).contents ≡ Some c → point_places c ≡ point_places file ++ length H ∷ []
       added_places file c was now =
           places_more file c (kind_of file was) (holds_now rest file was) (kind_then rest appended file c was now)
           (counted_then rest appended file c was now)
 
       -- the journal is at rest with the same entries
-      pub rest_pointed : HoldsAtRest contents images next text P H
+      pub rest_pointed : HoldsAtRest seen next text P H
       rest_pointed = rest_with rest appended one H (λ file told. takes file (kind_of file told))
 
 -- ---- behind a history that a store is founded on
@@ -127,9 +128,9 @@ checkpoint_whole text start before P G H is count =
 
 -- A checkpoint of a store is ready for the disk: no step has failed, the journal is closed over the store's disk, and may have checkpoints, and the
 -- payload isn't too long, and is the store's checkpoint behind each trace that leads to its beginning.
-pub record IsPointReady {D : Type 0} (contents : D → Option (List ℕ)) (x : Kept D) (k : Journal D) (payload : Bytes) : Type 0 where
+pub record IsPointReady {D : Type 0} (seen : D → DiskSeen) (x : Kept D) (k : Journal D) (payload : Bytes) : Type 0 where
   pub unmarked : x.mark ≡ None
-  pub closed : IsClosed contents k
+  pub closed : IsClosed seen k
   pub same : disk_of k ≡ x.disk
   pub second : points_of (version_of k) ≡ true
   pub short : length payload ≤ most_payload
@@ -141,31 +142,31 @@ same_points : (o : Option Bytes) (points b : Bool) → points ≡ b → IfSome o
 same_points o points b is kind = subst (λ (x : Bool). IfSome o (λ file. has_points file ≡ x)) is kind
 
 -- why a checkpoint wasn't prepared is why the store has none more
-unpointed : {D : Type 0} (contents : D → Option Bytes) (P : PlainPolicy) (T : Trace) (store : Kept D) (refusal : PointRefusal) (points : Bool)
+unpointed : {D : Type 0} (seen : D → DiskSeen) (P : PlainPolicy) (T : Trace) (store : Kept D) (refusal : PointRefusal) (points : Bool)
     (payload : Bytes)
-    → IsUnprepared points payload refusal → payload ≡ checkpoint_behind store.policy store.point store.before P T store.entries → IfSome (contents store.disk) (λ file. has_points file ≡ points)
-    → IsUnpointed contents P T store refusal
-unpointed contents P T store Stopped points payload h is kind = absurd h
-unpointed contents P T store OldJournal points payload h is kind = same_points (contents store.disk) points false h kind
-unpointed contents P T store (TooLarge size) points payload h is kind = (same_points (contents store.disk) points true h.0 kind, h.1 ∙ ap (λ (l : Bytes). length l) is, h.2)
-unpointed contents P T store (NoMemory e) points payload h is kind = tt
+    → IsUnprepared points payload refusal → payload ≡ checkpoint_behind store.policy store.point store.before P T store.entries → IfSome (seen store.disk).contents (λ file. has_points file ≡ points)
+    → IsUnpointed seen P T store refusal
+unpointed seen P T store Stopped points payload h is kind = absurd h
+unpointed seen P T store OldJournal points payload h is kind = same_points (seen store.disk).contents points false h kind
+unpointed seen P T store (TooLarge size) points payload h is kind = (same_points (seen store.disk).contents points true h.0 kind, h.1 ∙ ap (λ (l : Bytes). length l) is, h.2)
+unpointed seen P T store (NoMemory e) points payload h is kind = tt
 
-module _ {E D : Type 0} {follows : E → PlainPolicy → Trace → Type 0} {contents : D → Option (List ℕ)} {images : D → List ℕ → Type 0} {engine : E}
+module _ {E D : Type 0} {follows : E → PlainPolicy → Trace → Type 0} {seen : D → DiskSeen} {engine : E}
     {j : Journal D} {text : Bytes} {point : Option Beginning} {before opening : ℕ} {H : History} {mark : Option Entry}
-    (kept : IsKept follows contents images engine j text point before H mark)
+    (kept : IsKept follows seen engine j text point before H mark)
     {x : Kept D} (is : parts text point before opening H mark (disk_of j) ≡ x) (none : mark ≡ None) {start : Bytes}
     (begins_as : start ≡ text_in text point) where
   point_is : (P : PlainPolicy) (T : Trace) → point_behind start before P T H ≡ checkpoint_behind text (payload_in point) before P T H
   point_is P T = ap (λ (t : Bytes). point_behind t before P T H) (begins_as ∙ kept.in_force)
 
   -- a store's checkpoint is ready where it was written after what the engine follows
-  pub point_ready : {k : Journal D} → (IsClosed contents j → IsClosed contents k) → disk_of k ≡ disk_of j → version_of k ≡ version_of j
+  pub point_ready : {k : Journal D} → (IsClosed seen j → IsClosed seen k) → disk_of k ≡ disk_of j → version_of k ≡ version_of j
       → points_of (version_of j) ≡ true
       → {payload written : Bytes} → payload ≡ written → length written ≤ most_payload
       → ((P : PlainPolicy) (T : Trace) → follows engine P (trace_from P T H) → written ≡ point_behind start before P T H)
-      → IsPointReady contents x k payload
+      → IsPointReady seen x k payload
   point_ready {k} closed same version second {payload} is_written short writes =
-      subst (λ (s : Kept D). IsPointReady contents s k payload) is (record {
+      subst (λ (s : Kept D). IsPointReady seen s k payload) is (record {
         unmarked = none;
         closed = closed (kept.rests none).closed;
         same = same;
@@ -178,32 +179,32 @@ module _ {E D : Type 0} {follows : E → PlainPolicy → Trace → Type 0} {cont
   pub point_refused : (refusal : PointRefusal)
       → ((P : PlainPolicy) (T : Trace) → follows engine P (trace_from P T H)
       → IsUnprepared (points_of (version_of j)) (point_behind start before P T H) refusal)
-      → (P : PlainPolicy) (T : Trace) → accepted x.policy ≡ Some P → IsStart P x.point x.before T → IsUnpointed contents P T x refusal
+      → (P : PlainPolicy) (T : Trace) → accepted x.policy ≡ Some P → IsStart P x.point x.before T → IsUnpointed seen P T x refusal
   point_refused refusal refused =
       subst (λ (s : Kept D). (P : PlainPolicy) (T : Trace) → accepted s.policy ≡ Some P → IsStart P s.point s.before T
-      → IsUnpointed contents P T s refusal) is
+      → IsUnpointed seen P T s refusal) is
       (λ P T accepts leads.
-      unpointed contents P T (parts text point before opening H mark (disk_of j)) refusal (points_of (version_of j))
+      unpointed seen P T (parts text point before opening H mark (disk_of j)) refusal (points_of (version_of j))
       (point_behind start before P T H)
-      (refused P T (stands_as kept P accepts T leads)) (point_is P T) (closed_kind contents j (kept.rests none).closed))
+      (refused P T (stands_as kept P accepts T leads)) (point_is P T) (closed_kind seen j (kept.rests none).closed))
 
 -- the store on this disk
 abbrev pub on_disk : {D : Type 0} → Kept D → D → Kept D
 on_disk x disk = record x { disk = disk }
 
 -- a crash leaves what a store is founded on, with its entries, and its checkpoints with one more, behind all entries, or without
-abbrev pub LeavesPoint : {D : Type 0} → (D → Option (List ℕ)) → (D → List ℕ → Type 0) → (D → ℕ) → (D → ℕ → List ℕ → Type 0) → Kept D → D → Type 0
-LeavesPoint contents images moment images_since x new = (P : PlainPolicy) (G : History) (file : List ℕ) → IsFounded contents images P x G
-    → contents x.disk ≡ Some file
-    → LeavesOnly moment images_since x.disk new (IsFoundPointed x.policy (G ++ x.entries) (point_places file))
+abbrev pub LeavesPoint : {D : Type 0} → (D → DiskSeen) → Kept D → D → Type 0
+LeavesPoint seen x new = (P : PlainPolicy) (G : History) (file : List ℕ) → IsFounded seen P x G
+    → (seen x.disk).contents ≡ Some file
+    → LeavesOnly (seen x.disk) (seen new) (IsFoundPointed x.policy (G ++ x.entries) (point_places file))
 
-module _ {D : Type 0} {contents : D → Option (List ℕ)} {x : Kept D} {k : Journal D} {payload : Bytes}
-    (ready : IsPointReady contents x k payload) where
+module _ {D : Type 0} {seen : D → DiskSeen} {x : Kept D} {k : Journal D} {payload : Bytes}
+    (ready : IsPointReady seen x k payload) where
   -- the file may have checkpoints
-  pub points_ready : IfSome (contents x.disk) (λ file. has_points file ≡ true)
+  pub points_ready : IfSome (seen x.disk).contents (λ file. has_points file ≡ true)
   points_ready =
-      subst (λ (d : D). IfSome (contents d) (λ file. has_points file ≡ true)) ready.same
-      (same_points (contents (disk_of k)) (points_of (version_of k)) true ready.second (closed_kind contents k ready.closed))
+      subst (λ (d : D). IfSome (seen d).contents (λ file. has_points file ≡ true)) ready.same
+      (same_points (seen (disk_of k)).contents (points_of (version_of k)) true ready.second (closed_kind seen k ready.closed))
 
   -- the checkpoint isn't too long
   pub fits_ready : (P : PlainPolicy) (T : Trace) → accepted x.policy ≡ Some P → IsStart P x.point x.before T
@@ -211,51 +212,50 @@ module _ {D : Type 0} {contents : D → Option (List ℕ)} {x : Kept D} {k : Jou
   fits_ready P T accepts leads = subst (λ (l : Bytes). length l ≤ most_payload) (ready.writes P T accepts leads) ready.short
 
   -- once it is there, it stands behind the payloads of before, whatever is found in them
-  pub written_point : {images : D → List ℕ → Type 0} {next : Journal D} → IsAppended contents images k next payload
-      → (P : PlainPolicy) (T : Trace) (file : Bytes) → accepted x.policy ≡ Some P → IsStart P x.point x.before T → contents x.disk ≡ Some file
-      → told_payloads (contents (disk_of next)) ≡ journalled.counted file ++ checkpoint_behind x.policy x.point x.before P T x.entries ∷ []
-  written_point {images} {next} appended P T file accepts leads is =
-      let here : contents (disk_of k) ≡ Some file = ap contents ready.same ∙ is in
-      some_told (λ _. told_payloads (contents (disk_of next)) ≡ told_payloads (contents (disk_of k)) ++ payload ∷ [])
-      (contents (disk_of k)) file here appended.added
+  pub written_point : {next : Journal D} → IsAppended seen k next payload
+      → (P : PlainPolicy) (T : Trace) (file : Bytes) → accepted x.policy ≡ Some P → IsStart P x.point x.before T → (seen x.disk).contents ≡ Some file
+      → told_payloads (seen (disk_of next)).contents ≡ journalled.counted file ++ checkpoint_behind x.policy x.point x.before P T x.entries ∷ []
+  written_point {next} appended P T file accepts leads is =
+      let here : (seen (disk_of k)).contents ≡ Some file = ap (λ d. (seen d).contents) ready.same ∙ is in
+      some_told (λ _. told_payloads (seen (disk_of next)).contents ≡ told_payloads (seen (disk_of k)).contents ++ payload ∷ [])
+      (seen (disk_of k)).contents file here appended.added
       ∙ (ap (λ (o : Option Bytes). told_payloads o ++ payload ∷ []) here
       ∙ ap (λ (p : Bytes). journalled.counted file ++ p ∷ []) (ready.writes P T accepts leads))
 
-  module _ {images : D → List ℕ → Type 0} (P : PlainPolicy) (G : History) (f : IsFounded contents images P x G) where
+  module _ (P : PlainPolicy) (G : History) (f : IsFounded seen P x G) where
     is_checkpoint : payload ≡ checkpoint x.policy P (G ++ x.entries)
     is_checkpoint =
         ready.writes P (trace P G) f.accepts f.front.starts
         ∙ checkpoint_whole x.policy (text_at_start x.policy x.point) x.before P G x.entries (sym f.front.text) f.front.count
 
-    rest : HoldsAtRest contents images k x.policy P (G ++ x.entries)
-    rest = holds_founded contents images x k ready.closed ready.same P G f
+    rest : HoldsAtRest seen k x.policy P (G ++ x.entries)
+    rest = holds_founded seen x k ready.closed ready.same P G f
 
   module _ (one : OneByOne) where
     -- what a crash inside leaves
-    pub leaves_point : {images : D → List ℕ → Type 0} {moment : D → ℕ} {images_since : D → ℕ → List ℕ → Type 0} {new : D}
-        → LeavesAfter contents images moment images_since (disk_of k) new (PerhapsAdded payload)
-        → LeavesPoint contents images moment images_since x new
-    leaves_point {images} {moment} {images_since} {new} run P G file f told =
-        subst (λ (d : D). contents d ≡ Some file
-        → LeavesOnly moment images_since d new (IsFoundPointed x.policy (G ++ x.entries) (point_places file))) ready.same
+    pub leaves_point : {new : D} → LeavesAfter (seen (disk_of k)) (seen new) (PerhapsAdded payload)
+        → LeavesPoint seen x new
+    leaves_point {new} run P G file f told =
+        subst (λ (d : D). (seen d).contents ≡ Some file
+        → LeavesOnly (seen d) (seen new) (IsFoundPointed x.policy (G ++ x.entries) (point_places file))) ready.same
         (run_pointed one x.policy P (G ++ x.entries) payload (is_checkpoint P G f) ready.short
-        (rest P G f) ready.second moment images_since new run file) told
+        (rest P G f) ready.second new run file) told
 
-    module _ {images : D → List ℕ → Type 0} {next : Journal D} (appended : IsAppended contents images k next payload) where
+    module _ {next : Journal D} (appended : IsAppended seen k next payload) where
       -- where the checkpoints stand then
-      pub places_point : (P : PlainPolicy) (G : History) (was file : Bytes) → IsFounded contents images P x G → contents x.disk ≡ Some was
-          → contents (disk_of next) ≡ Some file
+      pub places_point : (P : PlainPolicy) (G : History) (was file : Bytes) → IsFounded seen P x G → (seen x.disk).contents ≡ Some was
+          → (seen (disk_of next)).contents ≡ Some file
           → point_places file ≡ point_places was ++ length (G ++ x.entries) ∷ []
       places_point P G was file f told now =
           added_places one x.policy P (G ++ x.entries) payload (is_checkpoint P G f) ready.short (rest P G f) ready.second appended was file
-          (ap contents ready.same ∙ told) now
+          (ap (λ d. (seen d).contents) ready.same ∙ told) now
 
       -- the store is founded still
-      pub founded_point : {y : Kept D} → y ≡ on_disk x (disk_of next) → (P : PlainPolicy) (G : History) → IsFounded contents images P x G
-          → IsFounded contents images P y G
+      pub founded_point : {y : Kept D} → y ≡ on_disk x (disk_of next) → (P : PlainPolicy) (G : History) → IsFounded seen P x G
+          → IsFounded seen P y G
       founded_point is P G f =
           let now = rest_pointed one x.policy P (G ++ x.entries) payload (is_checkpoint P G f) ready.short (rest P G f) ready.second appended in
-          subst (λ (s : Kept D). IsFounded contents images P s G) (sym is) (record {
+          subst (λ (s : Kept D). IsFounded seen P s G) (sym is) (record {
             accepts = f.accepts;
             front = record { starts = f.front.starts; count = f.front.count; text = f.front.text };
             unmarked = f.unmarked;
@@ -264,30 +264,29 @@ module _ {D : Type 0} {contents : D → Option (List ℕ)} {x : Kept D} {k : Jou
           })
 
       -- and it stays
-      pub stays_point : (faults : D → ℕ) {moment : D → ℕ} {images_since : D → ℕ → List ℕ → Type 0}
-          → LeavesAfter contents images moment images_since (disk_of k) (disk_of next) (PerhapsAdded payload)
-          → faults (disk_of next) ≡ faults (disk_of k)
-          → {y : Kept D} → y ≡ on_disk x (disk_of next) → Stays contents images moment images_since faults x y
-      stays_point faults {moment} {images_since} run unfailed is =
-          subst (Stays contents images moment images_since faults x) (sym is) (record {
+      pub stays_point : LeavesAfter (seen (disk_of k)) (seen (disk_of next)) (PerhapsAdded payload)
+          → (seen (disk_of next)).faults ≡ (seen (disk_of k)).faults
+          → {y : Kept D} → y ≡ on_disk x (disk_of next) → Stays seen x y
+      stays_point run unfailed is =
+          subst (Stays seen x) (sym is) (record {
             policy = refl;
             point = refl;
             before = refl;
             opening = refl;
             entries = begins_refl x.entries;
             mark = λ e some. let no : None ≡ Some e = sym ready.unmarked ∙ some in absurd (cc no);
-            unfailed = λ _. unfailed ∙ ap faults ready.same;
+            unfailed = λ _. unfailed ∙ ap (λ d. (seen d).faults) ready.same;
             failed = λ _ e some. let no : None ≡ Some e = sym ready.unmarked ∙ some in absurd (cc no);
-            tells = λ told. appended.tells ∙ (ap (λ (d : D). is_some (contents d)) ready.same ∙ told);
+            tells = λ told. appended.tells ∙ (ap (λ (d : D). is_some (seen d).contents) ready.same ∙ told);
             left = λ P G f told.
-                let file = told_file (contents x.disk) told in
-                weaker moment images_since x.disk (disk_of next) (IsFoundPointed x.policy (G ++ x.entries) (point_places file.0)) _
+                let file = told_file (seen x.disk).contents told in
+                weaker (seen x.disk) (seen (disk_of next)) (IsFoundPointed x.policy (G ++ x.entries) (point_places file.0)) _
                 (λ c h.
                 let all = begins_refl (G ++ x.entries) in
                 inr (record { history = G ++ x.entries; found = h.0; begun = all; within = inl all }))
                 (leaves_point run P G file.0 f file.1);
             founded = λ P G f _. founded_point refl P G f;
-            left_now = λ P G f. left_founded contents images P (on_disk x (disk_of next)) G (founded_point refl P G f);
+            left_now = λ P G f. left_founded seen P (on_disk x (disk_of next)) G (founded_point refl P G f);
           })
 
 -- ---- what a call that failed, or didn't, tells

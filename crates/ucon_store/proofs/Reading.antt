@@ -17,7 +17,7 @@ use Rattle.ucon_walk.specs.Walking.{IsAtParted, IsWalked}
 use Rattle.ucon_store.specs.Found.{found}
 use Rattle.ucon_store.specs.Loading.{IsOfNone, IsReadAs, IsReadTo, IsReadWhole, found_from}
 use Rattle.ucon_store.specs.Opened as opened
-use Rattle.ucon_store.specs.Opened.{IsPointOf, Parted, Seen, Sees, SeesIn, SeesPast, first_long, parted, parted_with, preceded_by, seen_after, steps_after, steps_among}
+use Rattle.ucon_store.specs.Opened.{IsPointOf, Parted, Seen, Sees, SeesIn, SeesPast, first_long, parted, parted_with, preceded_by, seen_after, steps_after, steps_among, steps_by}
 use Rattle.ucon_store.specs.Points.{has_points, is_point, point_taken, takes_with}
 use Rattle.ucon_store.specs.Starts.{BeginsAt, IsBeforeAll, IsStart}
 use Rattle.ucon_store.proofs.After.{long_after}
@@ -29,7 +29,7 @@ use Rattle.ucon_store.proofs.Seeing.Walk.{none_parts}
 
 -- from the empty trace on each step is the next one of a history
 first_step : (text : Bytes) (P : PlainPolicy) (H : History) (payload : Bytes) → taken accepted P H payload ≡ steps_after [] text P H payload
-unfolding taken steps_after
+unfolding taken steps_by
 first_step text P H payload = refl
 
 kind_step : (points : Bool) (text : Bytes) (P : PlainPolicy) (H : History) (payload : Bytes) (payloads : List Bytes) → parted_with points (payload ∷ payloads) ≡ None

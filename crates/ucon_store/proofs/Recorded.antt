@@ -26,24 +26,25 @@ use Rattle.ucon_store.specs.Points.{has_points, points_of}
 use Rattle.ucon_store.proofs.Finding.{holds_same, holds_more, takes_of}
 use Rattle.ucon_store.proofs.Versions.{closed_kind, steps_taken}
 use Rattle.ucon_disk.specs.Causes.{raised}
+use Rattle.ucon_disk.specs.Seen.{DiskSeen}
 
 -- a closed journal whose file holds the policy and the history, where the disk tells, of which a crash leaves nothing else
-pub record HoldsAtRest {D : Type 0} (contents : D → Option (List ℕ)) (images : D → List ℕ → Type 0) (journal : Journal D) (text : Bytes) (P : PlainPolicy) (H : History) : Type 0 where
-  pub closed : IsClosed contents journal
-  pub only : Only (contents (disk_of journal)) (images (disk_of journal))
-  pub holds : IfSome (contents (disk_of journal)) (Holds text P H)
+pub record HoldsAtRest {D : Type 0} (seen : D → DiskSeen) (journal : Journal D) (text : Bytes) (P : PlainPolicy) (H : History) : Type 0 where
+  pub closed : IsClosed seen journal
+  pub only : Only (seen (disk_of journal)).contents (seen (disk_of journal)).images
+  pub holds : IfSome (seen (disk_of journal)).contents (Holds text P H)
 
 -- The record of a payload is on the disk: the journal is closed again, at the same version, its next gate is five bytes further at least, and where
 -- the disk tells, the payload counts behind those of before, and a crash leaves nothing else.
-pub record IsAppended {D : Type 0} (contents : D → Option (List ℕ)) (images : D → List ℕ → Type 0) (old new : Journal D)
+pub record IsAppended {D : Type 0} (seen : D → DiskSeen) (old new : Journal D)
     (payload : Bytes) : Type 0 where
-  pub closed : IsClosed contents new
+  pub closed : IsClosed seen new
   pub version : version_of new ≡ version_of old
   pub gate : gate_of old + 5 ≤ gate_of new
-  pub only : Only (contents (disk_of new)) (images (disk_of new))
-  pub tells : is_some (contents (disk_of new)) ≡ is_some (contents (disk_of old))
-  pub added : IfSome (contents (disk_of old))
-      (λ file. told_payloads (contents (disk_of new)) ≡ told_payloads (contents (disk_of old)) ++ payload ∷ [])
+  pub only : Only (seen (disk_of new)).contents (seen (disk_of new)).images
+  pub tells : is_some (seen (disk_of new)).contents ≡ is_some (seen (disk_of old)).contents
+  pub added : IfSome (seen (disk_of old)).contents
+      (λ file. told_payloads (seen (disk_of new)).contents ≡ told_payloads (seen (disk_of old)).contents ++ payload ∷ [])
 
 abbrev pub OneByOne : Type 0
 OneByOne = (takes : Takes) (front rest : List Bytes) → found_in accepted takes (front ++ rest) ≡ found_on accepted takes (found_in accepted takes front) (length front) rest
@@ -67,54 +68,54 @@ found_perhaps one text P H e payload file c takes h perhaps = ⊎_elim
     (λ (more : StillHolds file (journalled.counted file ++ payload ∷ []) c). inr (e, refl, found_as text P (H ++ e ∷ []) c (holds_more one text P H (H ++ e ∷ []) payload file c (steps_taken (has_points file) text P H (H ++ e ∷ []) payload takes) h (same_kind file c more.magic) more.payloads)))
     perhaps
 
-module _ {D : Type 0} {contents : D → Option (List ℕ)} {images : D → List ℕ → Type 0} {journal : Journal D} {text : Bytes} {P : PlainPolicy}
-    {H : History} (rest : HoldsAtRest contents images journal text P H) where
-  pub at_rest_as : (file : Bytes) → contents (disk_of journal) ≡ Some file → IsAtRest (contents (disk_of journal)) (images (disk_of journal)) file
-  at_rest_as file is = record { told = is; only = subst (λ (o : Option Bytes). Only o (images (disk_of journal))) is rest.only }
+module _ {D : Type 0} {seen : D → DiskSeen} {journal : Journal D} {text : Bytes} {P : PlainPolicy}
+    {H : History} (rest : HoldsAtRest seen journal text P H) where
+  pub at_rest_as : (file : Bytes) → (seen (disk_of journal)).contents ≡ Some file → IsAtRest (seen (disk_of journal)) file
+  at_rest_as file is = record { told = is; only = subst (λ (o : Option Bytes). Only o (seen (disk_of journal)).images) is rest.only }
 
-  pub holds_now : (file : Bytes) → contents (disk_of journal) ≡ Some file → Holds text P H file
-  holds_now file is = some_told (Holds text P H) (contents (disk_of journal)) file is rest.holds
+  pub holds_now : (file : Bytes) → (seen (disk_of journal)).contents ≡ Some file → Holds text P H file
+  holds_now file is = some_told (Holds text P H) (seen (disk_of journal)).contents file is rest.holds
 
-  pub kind_now : (file : Bytes) → contents (disk_of journal) ≡ Some file → has_points file ≡ points_of (version_of journal)
+  pub kind_now : (file : Bytes) → (seen (disk_of journal)).contents ≡ Some file → has_points file ≡ points_of (version_of journal)
   kind_now file is =
-      some_told (λ f. has_points f ≡ points_of (version_of journal)) (contents (disk_of journal)) file is (closed_kind contents journal rest.closed)
+      some_told (λ f. has_points f ≡ points_of (version_of journal)) (seen (disk_of journal)).contents file is (closed_kind seen journal rest.closed)
 
   -- each image inside the call is found as the history, or as it with the step
   pub run_perhaps : OneByOne → (e : Entry) (payload : Bytes) → taken accepted P H payload ≡ Some (H ++ e ∷ [])
-      → (moment : D → ℕ) (images_since : D → ℕ → List ℕ → Type 0) (new : D)
-      → LeavesAfter contents images moment images_since (disk_of journal) new (PerhapsAdded payload) → IsSome (contents (disk_of journal))
-      → LeavesOnly moment images_since (disk_of journal) new (IsFoundWith text H (Some e))
-  run_perhaps one e payload takes moment images_since new run told =
-      let f = told_file (contents (disk_of journal)) told in
-      weaker moment images_since (disk_of journal) new (PerhapsAdded payload f.0) (IsFoundWith text H (Some e))
+      → (new : D)
+      → LeavesAfter (seen (disk_of journal)) (seen new) (PerhapsAdded payload) → IsSome (seen (disk_of journal)).contents
+      → LeavesOnly (seen (disk_of journal)) (seen new) (IsFoundWith text H (Some e))
+  run_perhaps one e payload takes new run told =
+      let f = told_file (seen (disk_of journal)).contents told in
+      weaker (seen (disk_of journal)) (seen new) (PerhapsAdded payload f.0) (IsFoundWith text H (Some e))
       (λ c. found_perhaps one text P H e payload f.0 c takes (holds_now f.0 f.1)) (run.each f.0 (at_rest_as f.0 f.1))
 
   -- ---- once the record of a payload is there
 
-  module _ {payload : Bytes} {next : Journal D} (appended : IsAppended contents images journal next payload) where
+  module _ {payload : Bytes} {next : Journal D} (appended : IsAppended seen journal next payload) where
     -- the file is of the kind that it was
-    pub kind_then : (file c : Bytes) → contents (disk_of journal) ≡ Some file → contents (disk_of next) ≡ Some c → has_points c ≡ has_points file
+    pub kind_then : (file c : Bytes) → (seen (disk_of journal)).contents ≡ Some file → (seen (disk_of next)).contents ≡ Some c → has_points c ≡ has_points file
     kind_then file c was now =
-        some_told (λ f. has_points f ≡ points_of (version_of next)) (contents (disk_of next)) c now (closed_kind contents next appended.closed)
+        some_told (λ f. has_points f ≡ points_of (version_of next)) (seen (disk_of next)).contents c now (closed_kind seen next appended.closed)
         ∙ (ap points_of appended.version ∙ sym (kind_now file was))
 
     -- its payloads are those of before and this one
-    pub counted_then : (file c : Bytes) → contents (disk_of journal) ≡ Some file → contents (disk_of next) ≡ Some c
+    pub counted_then : (file c : Bytes) → (seen (disk_of journal)).contents ≡ Some file → (seen (disk_of next)).contents ≡ Some c
         → journalled.counted c ≡ journalled.counted file ++ payload ∷ []
     counted_then file c was now =
         sym (ap told_payloads now)
-        ∙ (some_told (λ _. told_payloads (contents (disk_of next)) ≡ told_payloads (contents (disk_of journal)) ++ payload ∷ [])
-        (contents (disk_of journal)) file was appended.added
+        ∙ (some_told (λ _. told_payloads (seen (disk_of next)).contents ≡ told_payloads (seen (disk_of journal)).contents ++ payload ∷ [])
+        (seen (disk_of journal)).contents file was appended.added
         ∙ ap (λ (x : Option Bytes). told_payloads x ++ payload ∷ []) was)
 
     -- and where it is taken, the journal is at rest with what it is taken as
     pub rest_with : OneByOne → (later : History)
-        → ((file : Bytes) → contents (disk_of journal) ≡ Some file → takes_of file text P H payload ≡ Some later)
-        → HoldsAtRest contents images next text P later
+        → ((file : Bytes) → (seen (disk_of journal)).contents ≡ Some file → takes_of file text P H payload ≡ Some later)
+        → HoldsAtRest seen next text P later
     rest_with one later takes =
-        record { closed = appended.closed; only = appended.only; holds = each (contents (disk_of journal)) (contents (disk_of next)) refl refl }
+        record { closed = appended.closed; only = appended.only; holds = each (seen (disk_of journal)).contents (seen (disk_of next)).contents refl refl }
       where
-        each : (o n : Option Bytes) → contents (disk_of journal) ≡ o → contents (disk_of next) ≡ n → IfSome n (Holds text P later)
+        each : (o n : Option Bytes) → (seen (disk_of journal)).contents ≡ o → (seen (disk_of next)).contents ≡ n → IfSome n (Holds text P later)
         each None None was now = tt
         each (Some file) None was now = tt
         each None (Some c) was now = absurd (let bad : true ≡ false = sym (ap is_some now) ∙ (appended.tells ∙ ap is_some was) in cc bad)
@@ -132,99 +133,98 @@ with_entry x e disk = record x { entries = x.entries ++ e ∷ []; mark = None; d
 abbrev pub with_mark : {D : Type 0} → Kept D → Entry → D → Kept D
 with_mark x e disk = record x { mark = Some e; disk = disk }
 
-module _ {D : Type 0} (contents : D → Option (List ℕ)) (images : D → List ℕ → Type 0) (moment : D → ℕ) (images_since : D → ℕ → List ℕ → Type 0)
+module _ {D : Type 0} (seen : D → DiskSeen)
     (x : Kept D) (e : Entry) where
   -- a crash inside a step of x leaves the history that x is founded on with x's entries, or with the step's entry behind them
   abbrev pub LeavesStep : D → Type 0
-  LeavesStep new = (P : PlainPolicy) (G : History) → IsFounded contents images P x G → IsSome (contents x.disk)
-      → LeavesOnly moment images_since x.disk new (IsFoundWith x.policy (G ++ x.entries) (Some e))
+  LeavesStep new = (P : PlainPolicy) (G : History) → IsFounded seen P x G → IsSome (seen x.disk).contents
+      → LeavesOnly (seen x.disk) (seen new) (IsFoundWith x.policy (G ++ x.entries) (Some e))
 
   -- before a call of the disk
-  pub unbegun : ((d : D) (c : List ℕ) → images_since d (moment d) c → images d c) → (new : D) → new ≡ x.disk → LeavesStep new
+  pub unbegun : ((d : D) (c : List ℕ) → (seen d).images_since (seen d).moment c → (seen d).images c) → (new : D) → new ≡ x.disk → LeavesStep new
   unbegun only new same P G f told =
-      subst (λ (d : D). LeavesOnly moment images_since x.disk d (IsFoundWith x.policy (G ++ x.entries) (Some e))) (sym same)
-      (started moment images_since x.disk (IsFoundWith x.policy (G ++ x.entries) (Some e))
-      (λ c since. inl (found_founded contents images P x G f told c (only x.disk c since))))
+      subst (λ (d : D). LeavesOnly (seen x.disk) (seen d) (IsFoundWith x.policy (G ++ x.entries) (Some e))) (sym same)
+      (started (seen x.disk) (IsFoundWith x.policy (G ++ x.entries) (Some e))
+      (λ c since. inl (found_founded seen P x G f told c (only x.disk c since))))
 
-  module _ (faults : D → ℕ) where
-    -- what a step did that put a record on the disk, or met a fault there
-    goes : (y : Kept D) → x.mark ≡ None → y.policy ≡ x.policy → y.point ≡ x.point → y.before ≡ x.before → y.opening ≡ x.opening
-        → Begins x.entries y.entries
-        → (is_some y.mark ≡ is_some x.mark → faults y.disk ≡ faults x.disk) → ((a : Entry) → y.mark ≡ Some a → faults y.disk ≡ raised (faults x.disk))
-        → is_some (contents y.disk) ≡ is_some (contents x.disk)
-        → ((G : History) (c : Bytes) → IsFoundWith x.policy (G ++ x.entries) (Some e) c → IsFoundBetween (whole G x) (whole G y) c)
-        → LeavesStep y.disk
-        → ((P : PlainPolicy) (G : History) → IsFounded contents images P x G → y.mark ≡ None → IsFounded contents images P y G)
-        → ((P : PlainPolicy) (G : History) → IsFounded contents images P x G → IsSome (contents y.disk) → (c : Bytes) → images y.disk c → IsFoundWith y.policy (G ++ y.entries) y.mark c)
-        → Stays contents images moment images_since faults x y
-    goes y none policy point before opening entries unfailed failed tells found run founded now = record {
-      policy = policy;
-      point = point;
-      before = before;
-      opening = opening;
-      entries = entries;
-      mark = λ a some. let no : None ≡ Some a = sym none ∙ some in absurd (cc no);
-      unfailed = unfailed;
-      failed = λ _. failed;
-      tells = λ told. tells ∙ told;
-      left = λ P G f told. weaker moment images_since x.disk y.disk (IsFoundWith x.policy (G ++ x.entries) (Some e)) _ (λ c h. inr (found G c h)) (run P G f told);
-      founded = founded;
-      left_now = now;
-    }
+  -- what a step did that put a record on the disk, or met a fault there
+  goes : (y : Kept D) → x.mark ≡ None → y.policy ≡ x.policy → y.point ≡ x.point → y.before ≡ x.before → y.opening ≡ x.opening
+      → Begins x.entries y.entries
+      → (is_some y.mark ≡ is_some x.mark → (seen y.disk).faults ≡ (seen x.disk).faults) → ((a : Entry) → y.mark ≡ Some a → (seen y.disk).faults ≡ raised (seen x.disk).faults)
+      → is_some (seen y.disk).contents ≡ is_some (seen x.disk).contents
+      → ((G : History) (c : Bytes) → IsFoundWith x.policy (G ++ x.entries) (Some e) c → IsFoundBetween (whole G x) (whole G y) c)
+      → LeavesStep y.disk
+      → ((P : PlainPolicy) (G : History) → IsFounded seen P x G → y.mark ≡ None → IsFounded seen P y G)
+      → ((P : PlainPolicy) (G : History) → IsFounded seen P x G → IsSome (seen y.disk).contents → (c : Bytes) → (seen y.disk).images c → IsFoundWith y.policy (G ++ y.entries) y.mark c)
+      → Stays seen x y
+  goes y none policy point before opening entries unfailed failed tells found run founded now = record {
+    policy = policy;
+    point = point;
+    before = before;
+    opening = opening;
+    entries = entries;
+    mark = λ a some. let no : None ≡ Some a = sym none ∙ some in absurd (cc no);
+    unfailed = unfailed;
+    failed = λ _. failed;
+    tells = λ told. tells ∙ told;
+    left = λ P G f told. weaker (seen x.disk) (seen y.disk) (IsFoundWith x.policy (G ++ x.entries) (Some e)) _ (λ c h. inr (found G c h)) (run P G f told);
+    founded = founded;
+    left_now = now;
+  }
 
-    -- a store stays with the entry of a step more
-    pub stays_more : {y : Kept D} (new : D) → y ≡ with_entry x e new → x.mark ≡ None → faults new ≡ faults x.disk
-        → is_some (contents new) ≡ is_some (contents x.disk)
-        → LeavesStep new → ((P : PlainPolicy) (G : History) → IsFounded contents images P x G → IsFounded contents images P (with_entry x e new) G)
-        → Stays contents images moment images_since faults x y
-    stays_more new is none unfailed tells run founded =
-        subst (Stays contents images moment images_since faults x) (sym is)
-        (goes (with_entry x e new) none refl refl refl refl (e ∷ [], refl) (λ _. unfailed)
-        (λ a some. let no : None ≡ Some a = some in absurd (cc no)) tells found run
-        (λ P G f _. founded P G f) (λ P G f. left_founded contents images P (with_entry x e new) G (founded P G f)))
-      where
-        found : (G : History) (c : Bytes) → IsFoundWith x.policy (G ++ x.entries) (Some e) c
-            → IsFoundBetween (whole G x) (whole G (with_entry x e new)) c
-        found G c h = ⊎_elim
-            (λ (old : IsFoundAs x.policy c (G ++ x.entries)).
-            record {
-              history = G ++ x.entries;
-              found = old;
-              begun = begins_refl (G ++ x.entries);
-              within = inl (e ∷ [], append_assoc G x.entries (e ∷ []));
-            })
-            (λ (more : (a : Entry) × (Some e ≡ Some a) × IsFoundAs x.policy c ((G ++ x.entries) ++ a ∷ [])).
-            let same : more.0 ≡ e = cc (more.1) in
-            let all : (G ++ x.entries) ++ more.0 ∷ [] ≡ G ++ (x.entries ++ e ∷ []) =
-            ap (λ (a : Entry). (G ++ x.entries) ++ a ∷ []) same ∙ append_assoc G x.entries (e ∷ []) in
-            record {
-              history = (G ++ x.entries) ++ more.0 ∷ [];
-              found = more.2;
-              begun = (more.0 ∷ [], refl);
-              within = inl (subst (Begins ((G ++ x.entries) ++ more.0 ∷ [])) all (begins_refl ((G ++ x.entries) ++ more.0 ∷ [])));
-            })
-            h
+  -- a store stays with the entry of a step more
+  pub stays_more : {y : Kept D} (new : D) → y ≡ with_entry x e new → x.mark ≡ None → (seen new).faults ≡ (seen x.disk).faults
+      → is_some (seen new).contents ≡ is_some (seen x.disk).contents
+      → LeavesStep new → ((P : PlainPolicy) (G : History) → IsFounded seen P x G → IsFounded seen P (with_entry x e new) G)
+      → Stays seen x y
+  stays_more new is none unfailed tells run founded =
+      subst (Stays seen x) (sym is)
+      (goes (with_entry x e new) none refl refl refl refl (e ∷ [], refl) (λ _. unfailed)
+      (λ a some. let no : None ≡ Some a = some in absurd (cc no)) tells found run
+      (λ P G f _. founded P G f) (λ P G f. left_founded seen P (with_entry x e new) G (founded P G f)))
+    where
+      found : (G : History) (c : Bytes) → IsFoundWith x.policy (G ++ x.entries) (Some e) c
+          → IsFoundBetween (whole G x) (whole G (with_entry x e new)) c
+      found G c h = ⊎_elim
+          (λ (old : IsFoundAs x.policy c (G ++ x.entries)).
+          record {
+            history = G ++ x.entries;
+            found = old;
+            begun = begins_refl (G ++ x.entries);
+            within = inl (e ∷ [], append_assoc G x.entries (e ∷ []));
+          })
+          (λ (more : (a : Entry) × (Some e ≡ Some a) × IsFoundAs x.policy c ((G ++ x.entries) ++ a ∷ [])).
+          let same : more.0 ≡ e = cc (more.1) in
+          let all : (G ++ x.entries) ++ more.0 ∷ [] ≡ G ++ (x.entries ++ e ∷ []) =
+          ap (λ (a : Entry). (G ++ x.entries) ++ a ∷ []) same ∙ append_assoc G x.entries (e ∷ []) in
+          record {
+            history = (G ++ x.entries) ++ more.0 ∷ [];
+            found = more.2;
+            begun = (more.0 ∷ [], refl);
+            within = inl (subst (Begins ((G ++ x.entries) ++ more.0 ∷ [])) all (begins_refl ((G ++ x.entries) ++ more.0 ∷ [])));
+          })
+          h
 
-    -- and with the mark of its entry
-    pub stays_marked : {y : Kept D} (new : D) → y ≡ with_mark x e new → x.mark ≡ None → faults new ≡ raised (faults x.disk)
-        → is_some (contents new) ≡ is_some (contents x.disk)
-        → ((d : D) (t : ℕ) (c : List ℕ) → t ≤ moment d → images d c → images_since d t c) → LeavesStep new
-        → Stays contents images moment images_since faults x y
-    stays_marked new is none failed tells counts run =
-        subst (Stays contents images moment images_since faults x) (sym is)
-        (goes (with_mark x e new) none refl refl refl refl (begins_refl x.entries)
-        (λ alike. absurd (let bad : true ≡ false = alike ∙ ap is_some none in cc bad)) (λ _ _. failed) tells found run
-        (λ P G f unmarked. absurd (let no : None ≡ Some e = sym unmarked in cc no))
-        (λ P G f told c image. let left = run P G f (sym tells ∙ told) in left.each c (counts new (moment x.disk) c left.later image)))
-      where
-        found : (G : History) (c : Bytes) → IsFoundWith x.policy (G ++ x.entries) (Some e) c
-            → IsFoundBetween (whole G x) (whole G (with_mark x e new)) c
-        found G c h = ⊎_elim
-            (λ (old : IsFoundAs x.policy c (G ++ x.entries)).
-            record { history = G ++ x.entries; found = old; begun = begins_refl (G ++ x.entries); within = inl (begins_refl (G ++ x.entries)) })
-            (λ (more : (a : Entry) × (Some e ≡ Some a) × IsFoundAs x.policy c ((G ++ x.entries) ++ a ∷ [])).
-            record { history = (G ++ x.entries) ++ more.0 ∷ []; found = more.2; begun = (more.0 ∷ [], refl); within = inr (more.0, more.1, refl) })
-            h
+  -- and with the mark of its entry
+  pub stays_marked : {y : Kept D} (new : D) → y ≡ with_mark x e new → x.mark ≡ None → (seen new).faults ≡ raised (seen x.disk).faults
+      → is_some (seen new).contents ≡ is_some (seen x.disk).contents
+      → ((d : D) (t : ℕ) (c : List ℕ) → t ≤ (seen d).moment → (seen d).images c → (seen d).images_since t c) → LeavesStep new
+      → Stays seen x y
+  stays_marked new is none failed tells counts run =
+      subst (Stays seen x) (sym is)
+      (goes (with_mark x e new) none refl refl refl refl (begins_refl x.entries)
+      (λ alike. absurd (let bad : true ≡ false = alike ∙ ap is_some none in cc bad)) (λ _ _. failed) tells found run
+      (λ P G f unmarked. absurd (let no : None ≡ Some e = sym unmarked in cc no))
+      (λ P G f told c image. let left = run P G f (sym tells ∙ told) in left.each c (counts new (seen x.disk).moment c left.later image)))
+    where
+      found : (G : History) (c : Bytes) → IsFoundWith x.policy (G ++ x.entries) (Some e) c
+          → IsFoundBetween (whole G x) (whole G (with_mark x e new)) c
+      found G c h = ⊎_elim
+          (λ (old : IsFoundAs x.policy c (G ++ x.entries)).
+          record { history = G ++ x.entries; found = old; begun = begins_refl (G ++ x.entries); within = inl (begins_refl (G ++ x.entries)) })
+          (λ (more : (a : Entry) × (Some e ≡ Some a) × IsFoundAs x.policy c ((G ++ x.entries) ++ a ∷ [])).
+          record { history = (G ++ x.entries) ++ more.0 ∷ []; found = more.2; begun = (more.0 ∷ [], refl); within = inr (more.0, more.1, refl) })
+          h
 
 -- ---- the list of a turn's store
 

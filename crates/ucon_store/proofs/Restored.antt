@@ -25,7 +25,8 @@ use Rattle.ucon_point.specs.PointRead.{IsPoint, Said, point_read, point_spelling
 use Rattle.ucon_point.specs.Standing.{Standing, put_all, start}
 use Rattle.ucon_store.specs.declared.beginning.Beginning.{Beginning}
 use Rattle.ucon_store.specs.Loading.{IsOfNone, TakesUp}
-use Rattle.ucon_store.specs.Opened.{IsPointOf, showing_only, text_said}
+use Rattle.ucon_store.specs.Opened.{IsPointOf, text_said}
+use Rattle.ucon_store.specs.ReadBack.{IsReadPointOf, showing_only}
 use Rattle.ucon_store.proofs.FewPut.{points_few}
 use Rattle.ucon_store.proofs.Seeing.Always.{least_none}
 use Rattle.ucon_store.proofs.Seeing.Histories.{nothing}
@@ -94,7 +95,8 @@ module _ (keeps : (s : Shown) (P : PlainPolicy) (T : Trace) → Follows s P T �
     (alike : (s : Shown) (P : PlainPolicy) (T : Trace) → IsFollowing s → Follows s P T ↔ ReadsAlike s P T)
     (points : (bytes : Bytes) (p : Said) → point_read bytes ≡ Ok p → IsPoint p × (point_spelling p ≡ bytes))
     (followed : (p : Said) (end : Standing) → IsPoint p → put_all p.policy (start p.policy p.tick) p.rows ≡ Some end
-    → (s : Shown) → s.policy ≡ p.policy → s.tables ≡ end.tables → IsFollowing s) where
+    → (s : Shown) → s.policy ≡ p.policy → s.tables ≡ end.tables → IsFollowing s)
+    (back : (entries : ℕ) (P : PlainPolicy) (T : Trace) (payload : Bytes) → IsPointOf entries P T payload ↔ IsReadPointOf entries P T payload) where
   -- a state that follows a trace follows one under each policy
   followed_under : (s : Shown) → IsFollowing s → (P : PlainPolicy) → (T : Trace) × Follows s P T
   followed_under s f P =
@@ -119,10 +121,11 @@ module _ (keeps : (s : Shown) (P : PlainPolicy) (T : Trace) → Follows s P T �
 
     -- the state follows each trace that leads there
     pub follows_point : (P : PlainPolicy) (T : Trace) → IsPointOf entries P T payload → Follows state P T
-    follows_point P T k = point_followed keeps alike points followed entries payload P T k said end reads made
+    follows_point P T k = point_followed keeps alike points followed back entries payload P T k said end reads made
 
     pub other_count : (said.entries ≡ entries → ⊥) → IsOfNone entries payload
-    other_count other P T k =
+    other_count other P T point =
+        let k = (back entries P T payload).0 point in
         let same : k.said ≡ said = ap (λ (r : Result Said ℕ). result_unwrap_or r said) (sym k.reads ∙ reads) in
         other (ap (λ (p : Said). p.entries) (sym same) ∙ k.count)
 
@@ -142,11 +145,14 @@ module _ (keeps : (s : Shown) (P : PlainPolicy) (T : Trace) → Follows s P T �
         in_force = λ text. ap (text_said text) reads ∙ sym text_is;
         leads = λ P.
             let f = followed_under state is_following P in
-            (f.0, record { said = said; reads = reads; count = count; end = end; made = made; alike = (alike state P f.0 is_following).0 f.1; settled = (up P f.0 f.1).1 });
+            let k : IsReadPointOf entries P f.0 payload =
+            record { said = said; reads = reads; count = count; end = end; made = made; alike = (alike state P f.0 is_following).0 f.1; settled = (up P f.0 f.1).1 } in
+            (f.0, (back entries P f.0 payload).1 k);
         stands = λ P T k. (up P T (follows_point P T k)).0;
         revokes = λ P T k. let f = follows_point P T k in usages P T f.sound (few_there P T f);
       }
 
 -- the payload isn't read
-pub unread_none : (entries : ℕ) (payload : Bytes) (place : ℕ) → point_read payload ≡ Err place → IsOfNone entries payload
-unread_none entries payload place read P T k = absurd (let bad : Err place ≡ Ok k.said = sym read ∙ k.reads in cc bad)
+pub unread_none : ((entries : ℕ) (P : PlainPolicy) (T : Trace) (payload : Bytes) → IsPointOf entries P T payload ↔ IsReadPointOf entries P T payload)
+    → (entries : ℕ) (payload : Bytes) (place : ℕ) → point_read payload ≡ Err place → IsOfNone entries payload
+unread_none back entries payload place read P T point = absurd (let k = (back entries P T payload).0 point in let bad : Err place ≡ Ok k.said = sym read ∙ k.reads in cc bad)

@@ -12,12 +12,13 @@ use Rattle.ucon_journal.specs.JournalBytes.{journal_bytes, newest, records}
 use Rattle.ucon_journal.specs.Journal.{told_payloads}
 use Rattle.ucon_journal.specs.Opened.{opened, StillHolds, SamePayloads, PerhapsAdded, Untouched}
 use Rattle.ucon_syntax.specs.Policies.{accepted}
-use Rattle.ucon_store.specs.Found.{finding_of, found, IsFoundAs, Tells, found_as}
+use Rattle.ucon_store.specs.Found.{finding_of, found, IsFoundAs, Tells, found_as, found_by}
 use Rattle.ucon_store.specs.Opened.{Seen, Sees}
 use Rattle.ucon_store.specs.Opening.{IsForeign, Opens}
 use Rattle.ucon_store.proofs.Finding.{takes_of}
 use Rattle.ucon_store.proofs.Openings.{found_fresh, fresh_found, itself_opens, same_opens, mended_opens, made_opens, not_foreign, policy_holds}
 use Rattle.ucon_store.proofs.Recorded.{some_told}
+use Rattle.ucon_disk.specs.Seen.{DiskSeen}
 
 -- ---- a file of at most nine bytes
 
@@ -29,7 +30,7 @@ at_most : (n : ℕ) → n ≤ 9 → nat_le n 9 ≡ true
 at_most n le = grind arith
 
 short_fresh : (file : Bytes) → nat_le (length file) 9 ≡ true → found file ≡ fresh
-unfolding found
+unfolding found_by
 short_fresh file short = ap (λ b. finding_of (takes_of file) (if b then journal.Fresh else if is_some (journal.version_told file) then journal.Holds (journal.payloads_from file 8) (8 + length (records (journal.payloads_from file 8))) else journal.NotJournal)) short
 
 pub short_counted : (file : Bytes) → nat_le (length file) 9 ≡ true → journal.counted file ≡ []
@@ -72,31 +73,31 @@ opened_opens text file c h = record {
 abbrev pub IsAtHome : Bytes → Bytes → Type 0
 IsAtHome text file = (journal.found file ≢ journal.NotJournal) × ((seen : Seen) → Sees file seen → IsForeign seen text → ⊥)
 
-module _ {D : Type 0} (contents : D → Option (List ℕ)) (images : D → List ℕ → Type 0) (moment : D → ℕ) (images_since : D → ℕ → List ℕ → Type 0) (text : Bytes) where
-  rest_only : (d : D) (file : Bytes) → contents d ≡ Some file → Only (contents d) (images d) → IsAtRest (contents d) (images d) file
-  rest_only d file told only = record { told = told; only = subst (λ (o : Option Bytes). Only o (images d)) told only }
+module _ {D : Type 0} (seen : D → DiskSeen) (text : Bytes) where
+  rest_only : (d : D) (file : Bytes) → (seen d).contents ≡ Some file → Only (seen d).contents (seen d).images → IsAtRest (seen d) file
+  rest_only d file told only = record { told = told; only = subst (λ (o : Option Bytes). Only o (seen d).images) told only }
 
   -- ---- reading
 
-  rest_same : (old new : D) (file : Bytes) → contents new ≡ contents old → SameImages (images old) (images new) → IsAtRest (contents old) (images old) file → IsAtRest (contents new) (images new) file
+  rest_same : (old new : D) (file : Bytes) → (seen new).contents ≡ (seen old).contents → SameImages (seen old).images (seen new).images → IsAtRest (seen old) file → IsAtRest (seen new) file
   rest_same old new file same images_same rest = record { told = same ∙ rest.told; only = λ c image. rest.only c (images_same.no_more c image) }
 
-  pub read_opens : (old new : D) → LeavesOnly moment images_since old new (images old) → LeavesAfter contents images moment images_since old new (Opens text)
-  read_opens old new run = record { each = λ file rest. weaker moment images_since old new (images old) (Opens text file) (λ c image. itself_opens text file c (rest.only c image)) run }
+  pub read_opens : (old new : D) → LeavesOnly (seen old) (seen new) (seen old).images → LeavesAfter (seen old) (seen new) (Opens text)
+  read_opens old new run = record { each = λ file rest. weaker (seen old) (seen new) (seen old).images (Opens text file) (λ c image. itself_opens text file c (rest.only c image)) run }
 
-  pub then_opens : (old mid new : D) → contents mid ≡ contents old → SameImages (images old) (images mid) → LeavesOnly moment images_since old mid (images old)
-      → LeavesAfter contents images moment images_since mid new (Opens text) → LeavesAfter contents images moment images_since old new (Opens text)
+  pub then_opens : (old mid new : D) → (seen mid).contents ≡ (seen old).contents → SameImages (seen old).images (seen mid).images → LeavesOnly (seen old) (seen mid) (seen old).images
+      → LeavesAfter (seen mid) (seen new) (Opens text) → LeavesAfter (seen old) (seen new) (Opens text)
   then_opens old mid new same images_same run next = record {
-    each = λ file rest. joined moment images_since old mid new (Opens text file) ((read_opens old mid run).each file rest) (next.each file (rest_same old mid file same images_same rest));
+    each = λ file rest. joined (seen old) (seen mid) (seen new) (Opens text file) ((read_opens old mid run).each file rest) (next.each file (rest_same old mid file same images_same rest));
   }
 
   -- ---- mending a journal of this policy
 
-  pub mend_opens : (old new : D) → IfSome (contents old) (IsAtHome text) → LeavesAfter contents images moment images_since old new SamePayloads → LeavesAfter contents images moment images_since old new (Opens text)
+  pub mend_opens : (old new : D) → IfSome (seen old).contents (IsAtHome text) → LeavesAfter (seen old) (seen new) SamePayloads → LeavesAfter (seen old) (seen new) (Opens text)
   mend_opens old new home run = record {
     each = λ file rest.
-        let h = some_told (IsAtHome text) (contents old) file rest.told home in
-        weaker moment images_since old new (SamePayloads file) (Opens text file) (λ c. mended_opens text file c h.0 h.1) (run.each file rest);
+        let h = some_told (IsAtHome text) (seen old).contents file rest.told home in
+        weaker (seen old) (seen new) (SamePayloads file) (Opens text file) (λ c. mended_opens text file c h.0 h.1) (run.each file rest);
   }
 
   -- ---- making a journal of this policy
@@ -107,45 +108,45 @@ module _ {D : Type 0} (contents : D → Option (List ℕ)) (images : D → List 
   empty_found : (c : Bytes) → journal.counted c ≡ [] → journal.found c ≢ journal.NotJournal → IsFoundAs text c []
   empty_found c none is = fresh_found text c (found_fresh c is none)
 
-  pub mend_fresh_opens : (old new : D) → IfSome (contents old) (λ file. (journal.counted file ≡ []) × (journal.found file ≢ journal.NotJournal)) → LeavesAfter contents images moment images_since old new SamePayloads
-      → LeavesAfter contents images moment images_since old new (Opens text)
+  pub mend_fresh_opens : (old new : D) → IfSome (seen old).contents (λ file. (journal.counted file ≡ []) × (journal.found file ≢ journal.NotJournal)) → LeavesAfter (seen old) (seen new) SamePayloads
+      → LeavesAfter (seen old) (seen new) (Opens text)
   mend_fresh_opens old new empty run = record {
     each = λ file rest.
-        let none = some_told (λ file. (journal.counted file ≡ []) × (journal.found file ≢ journal.NotJournal)) (contents old) file rest.told empty in
-        weaker moment images_since old new (SamePayloads file) (Opens text file)
+        let none = some_told (λ file. (journal.counted file ≡ []) × (journal.found file ≢ journal.NotJournal)) (seen old).contents file rest.told empty in
+        weaker (seen old) (seen new) (SamePayloads file) (Opens text file)
         (λ c (still : StillHolds file (journal.counted file) c). made_opens text file c none.0 (found_fresh file none.1 none.0) (empty_found c (still.payloads ∙ none.0) still.journal)) (run.each file rest);
   }
 
   pub make_opens : (P : PlainPolicy) (old mid new : D) → length text ≤ most_payload → accepted text ≡ Some P
-      → IfSome (contents old) (λ file. (journal.counted file ≡ []) × (journal.found file ≢ journal.NotJournal))
-      → (shut : List ℕ → List ℕ) → contents mid ≡ option_map shut (contents old) → told_payloads (contents mid) ≡ told_payloads (contents old) → Only (contents mid) (images mid)
-      → LeavesAfter contents images moment images_since old mid SamePayloads → LeavesAfter contents images moment images_since mid new (PerhapsAdded text)
-      → LeavesAfter contents images moment images_since old new (Opens text)
+      → IfSome (seen old).contents (λ file. (journal.counted file ≡ []) × (journal.found file ≢ journal.NotJournal))
+      → (shut : List ℕ → List ℕ) → (seen mid).contents ≡ option_map shut (seen old).contents → told_payloads (seen mid).contents ≡ told_payloads (seen old).contents → Only (seen mid).contents (seen mid).images
+      → LeavesAfter (seen old) (seen mid) SamePayloads → LeavesAfter (seen mid) (seen new) (PerhapsAdded text)
+      → LeavesAfter (seen old) (seen new) (Opens text)
   make_opens P old mid new short accepts empty shut bytes same only mended appended = record {
     each = λ file rest.
-        let none = some_told (λ file. (journal.counted file ≡ []) × (journal.found file ≢ journal.NotJournal)) (contents old) file rest.told empty in
+        let none = some_told (λ file. (journal.counted file ≡ []) × (journal.found file ≢ journal.NotJournal)) (seen old).contents file rest.told empty in
         let is = found_fresh file none.1 none.0 in
-        let told : contents mid ≡ Some (shut file) = bytes ∙ ap (option_map shut) rest.told in
+        let told : (seen mid).contents ≡ Some (shut file) = bytes ∙ ap (option_map shut) rest.told in
         let nothing : journal.counted (shut file) ≡ [] = sym (ap told_payloads told) ∙ (same ∙ (ap told_payloads rest.told ∙ none.0)) in
         let opens : (c : Bytes) → PerhapsAdded text (shut file) c → Opens text file c = λ c h. ⊎_elim
         (λ (still : StillHolds (shut file) (journal.counted (shut file)) c). made_opens text file c none.0 is (empty_found c (still.payloads ∙ nothing) still.journal))
         (λ (more : StillHolds (shut file) (journal.counted (shut file) ++ text ∷ []) c).
         made_opens text file c none.0 is (found_as text P [] c (policy_holds text P c short accepts (more.payloads ∙ ap (λ l. l ++ text ∷ []) nothing))))
         h in
-        joined moment images_since old mid new (Opens text file) ((mend_fresh_opens old mid empty mended).each file rest)
-        (weaker moment images_since mid new (PerhapsAdded text (shut file)) (Opens text file) opens (appended.each (shut file) (rest_only mid (shut file) told only)));
+        joined (seen old) (seen mid) (seen new) (Opens text file) ((mend_fresh_opens old mid empty mended).each file rest)
+        (weaker (seen mid) (seen new) (PerhapsAdded text (shut file)) (Opens text file) opens (appended.each (shut file) (rest_only mid (shut file) told only)));
   }
 
   -- ---- from the bytes as they were found
 
-  pub begin_opens : (old mid : D) → LeavesAfter contents images moment images_since old mid Untouched → LeavesAfter contents images moment images_since old mid (Opens text)
-  begin_opens old mid run = record { each = λ file rest. weaker moment images_since old mid (Untouched file) (Opens text file) (λ c. untouched_opens text file c) (run.each file rest) }
+  pub begin_opens : (old mid : D) → LeavesAfter (seen old) (seen mid) Untouched → LeavesAfter (seen old) (seen mid) (Opens text)
+  begin_opens old mid run = record { each = λ file rest. weaker (seen old) (seen mid) (Untouched file) (Opens text file) (λ c. untouched_opens text file c) (run.each file rest) }
 
-  pub whole_opens : (old mid new : D) → LeavesAfter contents images moment images_since old mid Untouched → contents mid ≡ option_map opened (contents old) → Only (contents mid) (images mid)
-      → LeavesAfter contents images moment images_since mid new (Opens text) → LeavesAfter contents images moment images_since old new (Opens text)
+  pub whole_opens : (old mid new : D) → LeavesAfter (seen old) (seen mid) Untouched → (seen mid).contents ≡ option_map opened (seen old).contents → Only (seen mid).contents (seen mid).images
+      → LeavesAfter (seen mid) (seen new) (Opens text) → LeavesAfter (seen old) (seen new) (Opens text)
   whole_opens old mid new begun bytes only loaded = record {
     each = λ file rest.
-        let told : contents mid ≡ Some (opened file) = bytes ∙ ap (option_map opened) rest.told in
-        joined moment images_since old mid new (Opens text file) ((begin_opens old mid begun).each file rest)
-        (weaker moment images_since mid new (Opens text (opened file)) (Opens text file) (λ c. opened_opens text file c) (loaded.each (opened file) (rest_only mid (opened file) told only)));
+        let told : (seen mid).contents ≡ Some (opened file) = bytes ∙ ap (option_map opened) rest.told in
+        joined (seen old) (seen mid) (seen new) (Opens text file) ((begin_opens old mid begun).each file rest)
+        (weaker (seen mid) (seen new) (Opens text (opened file)) (Opens text file) (λ c. opened_opens text file c) (loaded.each (opened file) (rest_only mid (opened file) told only)));
   }

@@ -8,7 +8,9 @@ pub mod SameHeld
 pub mod SpelledRows
 pub mod Histories
 pub mod Walk
+pub mod Ordered
 pub mod Points
+pub mod ReadBack
 pub mod Found
 pub mod Nothing
 pub mod OneThing

@@ -26,6 +26,7 @@ use Rattle.ucon_store.specs.Whole.{IsFounded}
 use Rattle.ucon_store.proofs.Recorded.{HoldsAtRest, IsAppended, LeavesStep, OneByOne, rest_with, run_perhaps, stays_marked, stays_more, with_entry, with_mark}
 use Rattle.ucon_store.proofs.Stepping.{said_behind, stands_as}
 use Rattle.ucon_store.proofs.Versions.{steps_taken}
+use Rattle.ucon_disk.specs.Seen.{DiskSeen}
 
 -- a store of these parts
 abbrev pub parts : {D : Type 0} → Bytes → Option Beginning → (before opening : ℕ) → History → Option Entry → D → Kept D
@@ -44,33 +45,33 @@ module _ {D : Type 0} {text : Bytes} (point : Option Beginning) {before opening 
 
 -- A store is ready for the record of a step: no step has failed, its journal is closed over its disk, of which a crash leaves nothing but the file,
 -- and the payload is the step's, behind each trace that leads to the store's beginning, and is taken so.
-pub record IsReady {D : Type 0} (contents : D → Option (List ℕ)) (images : D → List ℕ → Type 0) (x : Kept D) (k : Journal D) (e : Entry)
+pub record IsReady {D : Type 0} (seen : D → DiskSeen) (x : Kept D) (k : Journal D) (e : Entry)
     (payload : Bytes) : Type 0 where
   pub unmarked : x.mark ≡ None
-  pub closed : IsClosed contents k
+  pub closed : IsClosed seen k
   pub same : disk_of k ≡ x.disk
-  pub only : Only (contents x.disk) (images x.disk)
+  pub only : Only (seen x.disk).contents (seen x.disk).images
   pub spelled : (P : PlainPolicy) (T : Trace) → accepted x.policy ≡ Some P → IsStart P x.point x.before T → payload ≡ step_payload P T x.entries e
   pub takes : (P : PlainPolicy) (G : History) → accepted x.policy ≡ Some P → IsStart P x.point x.before (trace P G)
       → taken accepted P (G ++ x.entries) payload ≡ Some ((G ++ x.entries) ++ e ∷ [])
 
-module _ {E D : Type 0} {follows : E → PlainPolicy → Trace → Type 0} {contents : D → Option (List ℕ)} {images : D → List ℕ → Type 0} {engine : E}
+module _ {E D : Type 0} {follows : E → PlainPolicy → Trace → Type 0} {seen : D → DiskSeen} {engine : E}
     {j : Journal D} {text : Bytes} {point : Option Beginning} {before opening : ℕ} {H : History} {mark : Option Entry}
-    (kept : IsKept follows contents images engine j text point before H mark)
+    (kept : IsKept follows seen engine j text point before H mark)
     {x : Kept D} (is : parts text point before opening H mark (disk_of j) ≡ x) where
   -- without a mark a crash leaves nothing but the file of a store
-  pub only_kept : x.mark ≡ None → Only (contents x.disk) (images x.disk)
-  only_kept = subst (λ (s : Kept D). s.mark ≡ None → Only (contents s.disk) (images s.disk)) is (λ none. (kept.rests none).only)
+  pub only_kept : x.mark ≡ None → Only (seen x.disk).contents (seen x.disk).images
+  only_kept = subst (λ (s : Kept D). s.mark ≡ None → Only (seen s.disk).contents (seen s.disk).images) is (λ none. (kept.rests none).only)
 
   -- a store is ready for a step's record where the engine has drafted its reply, and the payload is spelled of it
-  pub ready_for : mark ≡ None → {k : Journal D} → (IsClosed contents j → IsClosed contents k) → disk_of k ≡ disk_of j → (e : Entry) (r : PlainReply)
+  pub ready_for : mark ≡ None → {k : Journal D} → (IsClosed seen j → IsClosed seen k) → disk_of k ≡ disk_of j → (e : Entry) (r : PlainReply)
       → changes r ≡ true
       → ((P : PlainPolicy) (T : Trace) → follows engine P T → r ≡ reply_to P T e.caller e.command)
       → {payload spelled : Bytes} → payload ≡ spelled → spelled ≡ payload_spelling (told e r) → {made : Entry} → made ≡ e
       → ((P : PlainPolicy) (G : History) → r ≡ said P G e.caller e.command → changes r ≡ true → taken accepted P G spelled ≡ Some (G ++ made ∷ []))
-      → IsReady contents images x k e payload
+      → IsReady seen x k e payload
   ready_for none {k} closed same e r changing says {payload} is_spelled spelling made_is taking =
-      subst (λ (s : Kept D). IsReady contents images s k e payload) is (record {
+      subst (λ (s : Kept D). IsReady seen s k e payload) is (record {
         unmarked = none;
         closed = closed (kept.rests none).closed;
         same = same;
@@ -85,56 +86,53 @@ module _ {E D : Type 0} {follows : E → PlainPolicy → Trace → Type 0} {cont
       })
 
 -- a journal closed over a store's disk holds what the store is founded on, with its entries behind that
-pub holds_founded : {D : Type 0} (contents : D → Option (List ℕ)) (images : D → List ℕ → Type 0) (x : Kept D) (k : Journal D) → IsClosed contents k
+pub holds_founded : {D : Type 0} (seen : D → DiskSeen) (x : Kept D) (k : Journal D) → IsClosed seen k
     → disk_of k ≡ x.disk
-    → (P : PlainPolicy) (G : History) → IsFounded contents images P x G → HoldsAtRest contents images k x.policy P (G ++ x.entries)
-holds_founded {D} contents images x k closed same P G f = record {
+    → (P : PlainPolicy) (G : History) → IsFounded seen P x G → HoldsAtRest seen k x.policy P (G ++ x.entries)
+holds_founded {D} seen x k closed same P G f = record {
   closed = closed;
-  only = subst (λ (d : D). Only (contents d) (images d)) (sym same) f.only;
-  holds = subst (λ (d : D). IfSome (contents d) (Holds x.policy P (G ++ x.entries))) (sym same) f.holds;
+  only = subst (λ (d : D). Only (seen d).contents (seen d).images) (sym same) f.only;
+  holds = subst (λ (d : D). IfSome (seen d).contents (Holds x.policy P (G ++ x.entries))) (sym same) f.holds;
 }
 
-module _ {D : Type 0} {contents : D → Option (List ℕ)} {images : D → List ℕ → Type 0} {x : Kept D} {k : Journal D} {e : Entry} {payload : Bytes}
-    (ready : IsReady contents images x k e payload) (one : OneByOne) where
+module _ {D : Type 0} {seen : D → DiskSeen} {x : Kept D} {k : Journal D} {e : Entry} {payload : Bytes}
+    (ready : IsReady seen x k e payload) (one : OneByOne) where
   -- what a crash leaves, once the record's making has begun
-  pub leaves_ready : {moment : D → ℕ} {images_since : D → ℕ → List ℕ → Type 0} {new : D}
-      → LeavesAfter contents images moment images_since (disk_of k) new (PerhapsAdded payload)
-      → LeavesStep contents images moment images_since x e new
-  leaves_ready {moment} {images_since} {new} run P G f =
-      subst (λ (d : D). IsSome (contents d) → LeavesOnly moment images_since d new (IsFoundWith x.policy (G ++ x.entries) (Some e))) ready.same
-      (run_perhaps (holds_founded contents images x k ready.closed ready.same P G f) one e payload
-      (ready.takes P G f.accepts f.front.starts) moment images_since new run)
+  pub leaves_ready : {new : D} → LeavesAfter (seen (disk_of k)) (seen new) (PerhapsAdded payload)
+      → LeavesStep seen x e new
+  leaves_ready {new} run P G f =
+      subst (λ (d : D). IsSome (seen d).contents → LeavesOnly (seen d) (seen new) (IsFoundWith x.policy (G ++ x.entries) (Some e))) ready.same
+      (run_perhaps (holds_founded seen x k ready.closed ready.same P G f) one e payload
+      (ready.takes P G f.accepts f.front.starts) new run)
 
   -- at Ok the store is founded on the same history, with the entry more
-  pub founded_ready : {next : Journal D} → IsAppended contents images k next payload → {y : Kept D} → y ≡ with_entry x e (disk_of next)
-      → (P : PlainPolicy) (G : History) → IsFounded contents images P x G → IsFounded contents images P y G
+  pub founded_ready : {next : Journal D} → IsAppended seen k next payload → {y : Kept D} → y ≡ with_entry x e (disk_of next)
+      → (P : PlainPolicy) (G : History) → IsFounded seen P x G → IsFounded seen P y G
   founded_ready {next} appended is P G f =
-      let rest = rest_with (holds_founded contents images x k ready.closed ready.same P G f) appended one ((G ++ x.entries) ++ e ∷ [])
+      let rest = rest_with (holds_founded seen x k ready.closed ready.same P G f) appended one ((G ++ x.entries) ++ e ∷ [])
       (λ file _. steps_taken (has_points file) x.policy P (G ++ x.entries) ((G ++ x.entries) ++ e ∷ []) payload
       (ready.takes P G f.accepts f.front.starts)) in
-      subst (λ (s : Kept D). IsFounded contents images P s G) (sym is) (record {
+      subst (λ (s : Kept D). IsFounded seen P s G) (sym is) (record {
         accepts = f.accepts;
         front = record { starts = f.front.starts; count = f.front.count; text = f.front.text };
         unmarked = refl;
-        holds = subst (λ (l : History). IfSome (contents (disk_of next)) (Holds x.policy P l)) (append_assoc G x.entries (e ∷ [])) rest.holds;
+        holds = subst (λ (l : History). IfSome (seen (disk_of next)).contents (Holds x.policy P l)) (append_assoc G x.entries (e ∷ [])) rest.holds;
         only = appended.only;
       })
 
   -- and it stays
-  pub stays_ready : (faults : D → ℕ) {moment : D → ℕ} {images_since : D → ℕ → List ℕ → Type 0} {next : Journal D}
-      → LeavesAfter contents images moment images_since (disk_of k) (disk_of next) (PerhapsAdded payload) → IsAppended contents images k next payload
-      → faults (disk_of next) ≡ faults (disk_of k) → {y : Kept D} → y ≡ with_entry x e (disk_of next)
-      → Stays contents images moment images_since faults x y
-  stays_ready faults {moment} {images_since} {next} run appended unfailed is =
-      stays_more contents images moment images_since x e faults (disk_of next) is ready.unmarked (unfailed ∙ ap faults ready.same)
-      (appended.tells ∙ ap (λ (d : D). is_some (contents d)) ready.same) (leaves_ready run) (founded_ready appended refl)
+  pub stays_ready : {next : Journal D} → LeavesAfter (seen (disk_of k)) (seen (disk_of next)) (PerhapsAdded payload) → IsAppended seen k next payload
+      → (seen (disk_of next)).faults ≡ (seen (disk_of k)).faults → {y : Kept D} → y ≡ with_entry x e (disk_of next)
+      → Stays seen x y
+  stays_ready {next} run appended unfailed is =
+      stays_more seen x e (disk_of next) is ready.unmarked (unfailed ∙ ap (λ d. (seen d).faults) ready.same)
+      (appended.tells ∙ ap (λ (d : D). is_some (seen d).contents) ready.same) (leaves_ready run) (founded_ready appended refl)
 
   -- as it does at Err, with the entry's mark
-  pub stays_failed : (faults : D → ℕ) {moment : D → ℕ} {images_since : D → ℕ → List ℕ → Type 0} {new : D}
-      → LeavesAfter contents images moment images_since (disk_of k) new (PerhapsAdded payload)
-      → is_some (contents new) ≡ is_some (contents (disk_of k))
-      → faults new ≡ raised (faults (disk_of k)) → ((d : D) (t : ℕ) (c : List ℕ) → t ≤ moment d → images d c → images_since d t c)
-      → {y : Kept D} → y ≡ with_mark x e new → Stays contents images moment images_since faults x y
-  stays_failed faults {moment} {images_since} {new} run tells failed counts is =
-      stays_marked contents images moment images_since x e faults new is ready.unmarked (failed ∙ ap (λ (d : D). raised (faults d)) ready.same)
-      (tells ∙ ap (λ (d : D). is_some (contents d)) ready.same) counts (leaves_ready run)
+  pub stays_failed : {new : D} → LeavesAfter (seen (disk_of k)) (seen new) (PerhapsAdded payload)
+      → is_some (seen new).contents ≡ is_some (seen (disk_of k)).contents
+      → (seen new).faults ≡ raised (seen (disk_of k)).faults → ((d : D) (t : ℕ) (c : List ℕ) → t ≤ (seen d).moment → (seen d).images c → (seen d).images_since t c)
+      → {y : Kept D} → y ≡ with_mark x e new → Stays seen x y
+  stays_failed {new} run tells failed counts is =
+      stays_marked seen x e new is ready.unmarked (failed ∙ ap (λ (d : D). raised (seen d).faults) ready.same)
+      (tells ∙ ap (λ (d : D). is_some (seen d).contents) ready.same) counts (leaves_ready run)

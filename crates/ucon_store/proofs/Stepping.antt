@@ -1,5 +1,5 @@
 -- What holds of a store after a step.
-use Rattle.std.proofs.Common.{◌≡◌, ℕ, ◌+◌, ◌*◌, ◌<◌, ◌≤◌, ◌^◌, List, [], ◌∷◌, ◌++◌, length, length-append, Option, Some, None, refl, sym, ap, ◌∙◌, subst, false, arith}
+use Rattle.std.proofs.Common.{◌≡◌, ℕ, ◌+◌, ◌*◌, ◌<◌, ◌≤◌, ◌^◌, [], ◌∷◌, ◌++◌, length, length-append, Option, Some, None, refl, sym, ap, ◌∙◌, subst, false, arith}
 use Rattle.std.specs.Prelude.{is_some}
 use Rattle.ucon_model.specs.declared.command.Caller.{Caller}
 use Rattle.ucon_model.specs.declared.command.Command.{Command}
@@ -16,6 +16,7 @@ use Rattle.ucon_store.specs.declared.beginning.Beginning.{Beginning}
 use Rattle.ucon_store.specs.Kept.{IsKept, IsAtRestWith, RevokesFew, payload_in}
 use Rattle.ucon_store.specs.Starts.{IsStart}
 use Rattle.ucon_store.proofs.Recorded.{IsAppended}
+use Rattle.ucon_disk.specs.Seen.{DiskSeen}
 
 pub unmarked : {A : Type 0} (o : Option A) → is_some o ≡ false → o ≡ None
 unmarked None e = refl
@@ -38,9 +39,9 @@ one_policy text P Q p q = let e : Some P ≡ Some Q = sym p ∙ q in cc (e)
 pub said_behind : (P : PlainPolicy) (G H : History) (caller : Caller) (c : Command) → said P (G ++ H) caller c ≡ reply P (trace_from P (trace P G) H) caller c
 said_behind P G H caller c = ap (λ (T : Trace). reply P T caller c) (trace_append P [] G H)
 
-module _ {E D : Type 0} {follows : E → PlainPolicy → Trace → Type 0} {contents : D → Option (List ℕ)} {images : D → List ℕ → Type 0} {engine : E}
+module _ {E D : Type 0} {follows : E → PlainPolicy → Trace → Type 0} {seen : D → DiskSeen} {engine : E}
     {journal : Journal D} {text : Bytes} {point : Option Beginning} {before : ℕ} {H : History} {mark : Option Entry}
-    (kept : IsKept follows contents images engine journal text point before H mark) where
+    (kept : IsKept follows seen engine journal text point before H mark) where
   -- behind each trace that leads to where the store begins its engine follows the entries
   pub stands_as : (P : PlainPolicy) → accepted text ≡ Some P → (T : Trace) → IsStart P (payload_in point) before T
       → follows engine P (trace_from P T H)
@@ -52,8 +53,8 @@ module _ {E D : Type 0} {follows : E → PlainPolicy → Trace → Type 0} {cont
   kept_as : {next : E} {k : Journal D} {items : History} {m : Option Entry}
       → ((T : Trace) → IsStart kept.P (payload_in point) before T → follows next kept.P (trace_from kept.P T items))
       → ((T : Trace) → IsStart kept.P (payload_in point) before T → NobodyFails kept.P (trace_from kept.P T items))
-      → 5 * (before + length items) < 2 ^ 63 → (m ≡ None → IsAtRestWith contents images k (before + length items))
-      → IsKept follows contents images next k text point before items m
+      → 5 * (before + length items) < 2 ^ 63 → (m ≡ None → IsAtRestWith seen k (before + length items))
+      → IsKept follows seen next k text point before items m
   kept_as stands settled few rests = record {
     P = kept.P;
     accepts = kept.accepts;
@@ -69,7 +70,7 @@ module _ {E D : Type 0} {follows : E → PlainPolicy → Trace → Type 0} {cont
 
   -- a payload more that is no step leaves it kept
   pub kept_on : mark ≡ None → {prepared k : Journal D} {payload : Bytes} → gate_of prepared ≡ gate_of journal
-      → IsAppended contents images prepared k payload → IsKept follows contents images engine k text point before H mark
+      → IsAppended seen prepared k payload → IsKept follows seen engine k text point before H mark
   kept_on none {prepared} {k} same appended =
       let few : 5 * (before + length H) ≤ gate_of k = omega (arith, (kept.rests none).few, same, appended.gate) in
       kept_as kept.stands kept.settled kept.few (λ _. record { closed = appended.closed; few = few; only = appended.only })
@@ -81,31 +82,31 @@ module _ {E D : Type 0} {follows : E → PlainPolicy → Trace → Type 0} {cont
 
     -- and so does the entry of a step that met a disk fault, as the mark
     pub kept_marked : ((P : PlainPolicy) (T : Trace) (a : Entry) → has_pending P T a → follows next P T) → {items : History} → items ≡ H
-        → {failed : Entry} → failed ≡ e → IsKept follows contents images next k text point before items (Some failed)
+        → {failed : Entry} → failed ≡ e → IsKept follows seen next k text point before items (Some failed)
     kept_marked undone same is =
-        subst (λ (z : History × Entry). IsKept follows contents images next k text point before z.0 (Some z.1)) (λ i. (sym same i, sym is i))
+        subst (λ (z : History × Entry). IsKept follows seen next k text point before z.0 (Some z.1)) (λ i. (sym same i, sym is i))
         (kept_as (λ T start. undone kept.P (trace_from kept.P T H) e (pends T start)) kept.settled kept.few (λ none. absurd (cc none)))
 
     -- and that of one that was kept, behind the others
     pub kept_more : mark ≡ None → {prepared : Journal D} {payload : Bytes} → gate_of prepared ≡ gate_of journal
-        → IsAppended contents images prepared k payload → gate_of k < 2 ^ 63
+        → IsAppended seen prepared k payload → gate_of k < 2 ^ 63
         → ((P : PlainPolicy) (T : Trace) (a : Entry) → has_pending P T a → follows next P (after P T a.caller a.command))
         → ((P : PlainPolicy) (T : Trace) (a : Entry) → has_pending P T a → NobodyFails P (after P T a.caller a.command)) → {items : History}
-        → items ≡ H ++ e ∷ [] → IsKept follows contents images next k text point before items mark
+        → items ≡ H ++ e ∷ [] → IsKept follows seen next k text point before items mark
     kept_more none same appended small follow settle grown =
         let few : 5 * (before + length (H ++ e ∷ [])) ≤ gate_of k =
         omega (arith, (kept.rests none).few, same, appended.gate, length-append H (e ∷ [])) in
-        subst (λ (l : History). IsKept follows contents images next k text point before l mark) (sym grown)
+        subst (λ (l : History). IsKept follows seen next k text point before l mark) (sym grown)
         (kept_as
         (λ T start. subst (follows next kept.P) (sym (trace_longer kept.P T H e)) (follow kept.P (trace_from kept.P T H) e (pends T start)))
         (λ T start. subst (NobodyFails kept.P) (sym (trace_longer kept.P T H e)) (settle kept.P (trace_from kept.P T H) e (pends T start)))
         (omega (arith, few, small)) (λ _. record { closed = appended.closed; few = few; only = appended.only }))
 
 -- a store that begins before all entries
-pub begins_first : {E D : Type 0} (follows : E → PlainPolicy → Trace → Type 0) (contents : D → Option (List ℕ)) (images : D → List ℕ → Type 0) (engine : E) (journal : Journal D) (text : Bytes)
+pub begins_first : {E D : Type 0} (follows : E → PlainPolicy → Trace → Type 0) (seen : D → DiskSeen) (engine : E) (journal : Journal D) (text : Bytes)
     (P : PlainPolicy) (H : History) → accepted text ≡ Some P → follows engine P (trace P H) → NobodyFails P (trace P H) → RevokesFew P [] → 5 * length H < 2 ^ 63
-    → IsAtRestWith contents images journal (length H) → IsKept follows contents images engine journal text None 0 H None
-begins_first follows contents images engine journal text P H accepts stands settled revokes few rest =
+    → IsAtRestWith seen journal (length H) → IsKept follows seen engine journal text None 0 H None
+begins_first follows seen engine journal text P H accepts stands settled revokes few rest =
     let all : 0 + length H ≡ length H = omega arith in record {
       P = P;
       accepts = accepts;

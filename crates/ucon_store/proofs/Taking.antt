@@ -12,9 +12,9 @@ use Rattle.ucon_model.specs.Action.{Trace}
 use Rattle.ucon_model.specs.Block.{reply as reply_to}
 use Rattle.ucon_model.specs.Found.{Finding, first_gate, next_gate, taken}
 use Rattle.ucon_model.specs.History.{History, said, changes, trace_from}
-use Rattle.ucon_model.specs.LegalRun.{tells_change}
 use Rattle.ucon_model.specs.Payload.{most_payload, Told, entry_told, told, payload_spelling, payload_read}
 use Rattle.ucon_model.specs.Plain.{Bytes, PlainPolicy, PlainReply}
+use Rattle.ucon_model.specs.ReplyText.{tells_change}
 use Rattle.ucon_model.specs.Spelling.{reply_spelling}
 use Rattle.ucon_syntax.specs.Policies.{accepted}
 use Rattle.ucon_store.specs.declared.fault.StoreFault.{StoreFault}

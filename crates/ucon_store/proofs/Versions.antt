@@ -15,6 +15,7 @@ use Rattle.ucon_journal.specs.Found.{StandsAt, counted, payloads_from}
 use Rattle.ucon_journal.specs.Journal.{disk_of, gate_of, version_of, HasEnded, IsClosed}
 use Rattle.ucon_syntax.specs.Policies.{accepted}
 use Rattle.ucon_store.specs.Points.{checkpoint, has_points, is_point, point_taken, points_of, takes_with}
+use Rattle.ucon_disk.specs.Seen.{DiskSeen}
 
 -- ---- steps and checkpoints are apart
 
@@ -77,7 +78,7 @@ long_refused false text P H payload long = long_step P H payload long
 pub stands_with : (file : Bytes) (version gate : ℕ) (payloads : List Bytes) → StandsAt file version gate payloads → has_points file ≡ points_of version
 stands_with file version gate payloads s = ap has_points s.is
 
-module _ {D : Type 0} (contents : D → Option (List ℕ)) (j : Journal D) where
+module _ {D : Type 0} (seen : D → DiskSeen) (j : Journal D) where
   told_kind : (o : Option (List ℕ)) (payloads : List ℕ → List Bytes) → IfSome o (λ file. StandsAt file (version_of j) (gate_of j) (payloads file)) → IfSome o (λ file. has_points file ≡ points_of (version_of j))
   told_kind None payloads h = tt
   told_kind (Some file) payloads h = stands_with file (version_of j) (gate_of j) (payloads file) h
@@ -87,10 +88,10 @@ module _ {D : Type 0} (contents : D → Option (List ℕ)) (j : Journal D) where
   first_part (Some file) A B h = h.0
 
   -- the file of a journal is of its version
-  pub ended_kind : HasEnded contents j → IfSome (contents (disk_of j)) (λ file. has_points file ≡ points_of (version_of j))
-  ended_kind r = told_kind (contents (disk_of j)) counted
-      (first_part (contents (disk_of j)) (λ file. StandsAt file (version_of j) (gate_of j) (counted file)) (λ file. payloads_from file (gate_of j) ≡ []) r.told)
+  pub ended_kind : HasEnded seen j → IfSome (seen (disk_of j)).contents (λ file. has_points file ≡ points_of (version_of j))
+  ended_kind r = told_kind (seen (disk_of j)).contents counted
+      (first_part (seen (disk_of j)).contents (λ file. StandsAt file (version_of j) (gate_of j) (counted file)) (λ file. payloads_from file (gate_of j) ≡ []) r.told)
 
-  pub closed_kind : IsClosed contents j → IfSome (contents (disk_of j)) (λ file. has_points file ≡ points_of (version_of j))
-  closed_kind r = told_kind (contents (disk_of j)) counted
-      (first_part (contents (disk_of j)) (λ file. StandsAt file (version_of j) (gate_of j) (counted file)) (λ file. drop (gate_of j) file ≡ 0 ∷ []) r.told)
+  pub closed_kind : IsClosed seen j → IfSome (seen (disk_of j)).contents (λ file. has_points file ≡ points_of (version_of j))
+  closed_kind r = told_kind (seen (disk_of j)).contents counted
+      (first_part (seen (disk_of j)).contents (λ file. StandsAt file (version_of j) (gate_of j) (counted file)) (λ file. drop (gate_of j) file ≡ 0 ∷ []) r.told)

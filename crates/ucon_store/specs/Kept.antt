@@ -1,5 +1,5 @@
 -- A store as contracts see it, and what holds of it at every moment.
-use Rattle.std.specs.Prelude.{◌≡◌, refl, ℕ, ◌+◌, ◌*◌, ◌<◌, ◌≤◌, ◌^◌, List, length, Option, Some, None, option_map, unwrap_or}
+use Rattle.std.specs.Prelude.{◌≡◌, refl, ℕ, ◌+◌, ◌*◌, ◌<◌, ◌≤◌, ◌^◌, length, Option, Some, None, option_map, unwrap_or}
 use Rattle.std.specs.Coded.{Coded, code_by, coded_list, coded_option, coded_ℕ, coded×}
 use Rattle.ucon_model.specs.contracts.command.Entry as entry_row
 use Rattle.ucon_model.specs.declared.command.Caller.{Caller}
@@ -17,6 +17,7 @@ use Rattle.ucon_journal.specs.Journal.{disk_of, gate_of, IsClosed}
 use Rattle.ucon_syntax.specs.Policies.{accepted}
 use Rattle.ucon_store.specs.declared.beginning.Beginning.{Beginning}
 use Rattle.ucon_store.specs.Starts.{IsStart, text_at_start}
+use Rattle.ucon_disk.specs.Seen.{DiskSeen}
 
 -- the policy's text; the payload of the checkpoint that opening used, if it used one, and the number of entries before it, or 0; the number
 -- of entries that were found at the opening; the entries behind that checkpoint, or all; the entry of the step that met a disk fault, if there
@@ -49,11 +50,11 @@ abbrev pub text_in : Bytes → Option Beginning → Bytes
 text_in text point = unwrap_or (option_map (λ (b : Beginning). b.text.items) point) text
 
 -- the journal is closed, behind so many records of five bytes at least, and where the disk tells, a crash leaves nothing but its file
-pub record IsAtRestWith {D : Type 0} (contents : D → Option (List ℕ)) (images : D → List ℕ → Type 0)
+pub record IsAtRestWith {D : Type 0} (seen : D → DiskSeen)
     (journal : Journal D) (entries : ℕ) : Type 0 where
-  pub closed : IsClosed contents journal
+  pub closed : IsClosed seen journal
   pub few : 5 * entries ≤ gate_of journal
-  pub only : Only (contents (disk_of journal)) (images (disk_of journal))
+  pub only : Only (seen (disk_of journal)).contents (seen (disk_of journal)).images
 
 -- behind a trace no reply ever has more than 65,536 revocations
 abbrev pub RevokesFew : PlainPolicy → Trace → Type 0
@@ -62,7 +63,7 @@ RevokesFew P T = (H : History) (caller : Caller) (c : Command) → length (revoc
 -- Some trace leads to where the store begins, and behind each such trace the engine follows the store's entries, no accessing session fails, and
 -- no reply will have too many revocations. Without a mark the journal is at rest. What its file is found as isn't said here, since a store that
 -- begins behind a checkpoint may be of no history: where there is one, the calls pass it on (`IsFounded`).
-pub record IsKept {E D : Type 0} (follows : E → PlainPolicy → Trace → Type 0) (contents : D → Option (List ℕ)) (images : D → List ℕ → Type 0)
+pub record IsKept {E D : Type 0} (follows : E → PlainPolicy → Trace → Type 0) (seen : D → DiskSeen)
     (engine : E) (journal : Journal D) (text : Bytes) (point : Option Beginning) (before : ℕ) (H : History) (mark : Option Entry) : Type 0 where
   pub P : PlainPolicy
   pub accepts : accepted text ≡ Some P
@@ -73,4 +74,4 @@ pub record IsKept {E D : Type 0} (follows : E → PlainPolicy → Trace → Type
   pub revokes : (T : Trace) → IsStart P (payload_in point) before T → RevokesFew P T
   pub in_force : text_in text point ≡ text_at_start text (payload_in point)
   pub few : 5 * (before + length H) < 2 ^ 63
-  pub rests : mark ≡ None → IsAtRestWith contents images journal (before + length H)
+  pub rests : mark ≡ None → IsAtRestWith seen journal (before + length H)

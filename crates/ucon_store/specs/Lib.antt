@@ -8,6 +8,7 @@ pub mod Opened
 pub mod Opening
 pub mod Pointing
 pub mod Points
+pub mod ReadBack
 pub mod Starts
 pub mod Stays
 pub mod Steps

@@ -17,6 +17,7 @@ use Rattle.ucon_store.specs.Opened.{IsPointOf, Parted, first_long, parted_with, 
 use Rattle.ucon_store.specs.Points.{has_points}
 use Rattle.ucon_store.specs.Starts.{BeginsAt, IsBeforeAll, IsStart, text_at_start}
 use Rattle.ucon_syntax.specs.Policies.{accepted}
+use Rattle.ucon_disk.specs.Seen.{DiskSeen}
 
 -- ---- at the last checkpoint
 
@@ -82,18 +83,18 @@ IsRead text P point before H file = ((counted file ≡ []) × (found file ≡ fr
 
 -- Where the disk tells, the file is read up to the next gate. So many records were taken in, record 0 and as many more as there are entries among
 -- them, of five bytes at least each.
-pub record IsLoading {E D : Type 0} (follows : E → PlainPolicy → Trace → Type 0) (contents : D → Option (List ℕ))
+pub record IsLoading {E D : Type 0} (follows : E → PlainPolicy → Trace → Type 0) (seen : D → DiskSeen)
     (loaded : Loaded E) (journal : Journal D) : Type 0 where
   pub standing : IsStanding follows loaded
   pub entries : loaded.before + length loaded.entries.items < loaded.records
   pub few : 5 * loaded.records ≤ gate_of journal
-  pub says : IfSome (contents (disk_of journal))
+  pub says : IfSome (seen (disk_of journal)).contents
       (IsReadTo loaded.policy.items standing.P (payload_in loaded.point) loaded.before loaded.entries.items loaded.records (gate_of journal))
 
 -- where the disk tells, the file is read, and these are its entries
-pub record HasLoaded {E D : Type 0} (follows : E → PlainPolicy → Trace → Type 0) (contents : D → Option (List ℕ))
+pub record HasLoaded {E D : Type 0} (follows : E → PlainPolicy → Trace → Type 0) (seen : D → DiskSeen)
     (loaded : Loaded E) (journal : Journal D) : Type 0 where
   pub standing : IsStanding follows loaded
   pub few : 5 * (loaded.before + length loaded.entries.items) ≤ gate_of journal
-  pub says : IfSome (contents (disk_of journal))
+  pub says : IfSome (seen (disk_of journal)).contents
       (IsReadWhole loaded.policy.items standing.P (payload_in loaded.point) loaded.before loaded.entries.items)

@@ -1,7 +1,11 @@
--- What opening sees in a journal with checkpoints, of which it runs only what stands behind the last one.
-use Rattle.std.specs.Prelude.{◌≡◌, ◌⊎◌, ℕ, ◌+◌, nat_lt, Bool, ◌&&◌, List, [], ◌∷◌, ◌++◌, length, Option, Some, None, option_and_then, Result, Ok, Err, if◌then◌else◌}
+-- What opening sees in a journal with checkpoints, of which it runs only what stands behind the last one. It is said by a reading of policies'
+-- texts, and then by the program's own.
+use Rattle.std.specs.Prelude.{◌≡◌, ◌⊎◌, ℕ, ◌+◌, ◌<◌, ◌^◌, nat_lt, ◌≤ℤ◌, pos, Bool, ◌&&◌, List, [], ◌∷◌, ◌++◌, length, Option, Some, None, option_and_then, Result, Ok, Err, if◌then◌else◌}
 use Rattle.std.specs.Result.{result_ok}
 use Rattle.std.specs.Str.{bytes_eq}
+use Rattle.ucon_base.specs.Elements.{Each}
+use Rattle.ucon_base.specs.declared.value.Side.{Side}
+use Rattle.ucon_base.specs.declared.value.Value.TheVariants.{Int}
 use Rattle.ucon_model.specs.Action.{Trace}
 use Rattle.ucon_model.specs.Block.{reply}
 use Rattle.ucon_model.specs.Found as model
@@ -9,16 +13,18 @@ use Rattle.ucon_model.specs.Found.{Finding, Takes, first_gate, found_behind, gat
 use Rattle.ucon_model.specs.History.{History, changes, trace, trace_from}
 use Rattle.ucon_model.specs.Payload.{Told, entry_told, most_payload, payload_read}
 use Rattle.ucon_model.specs.Plain.{Bytes, PlainPolicy}
+use Rattle.ucon_model.specs.Readings.{entities, entity_names, in_force, tick_of}
 use Rattle.ucon_model.specs.Spelling.{reply_spelling}
 use Rattle.ucon_model.specs.Work.{NobodyFails}
+use Rattle.ucon_point.specs.HeldRows.{rows_held}
+use Rattle.ucon_point.specs.Orderly.{IsOrderly}
 use Rattle.ucon_point.specs.PointRead.{Said, point_read}
-use Rattle.ucon_point.specs.Standing.{Standing, put_all, start}
-use Rattle.ucon_state.specs.Held.{Held, ReadsAlike, held_after}
-use Rattle.ucon_state.specs.Shown.{Shown}
-use Rattle.ucon_state.specs.Tables.{Tables}
+use Rattle.ucon_point.specs.PointText.{point_text}
+use Rattle.ucon_row.specs.RowText.{IsRow, IsSpelled}
+use Rattle.ucon_state.specs.Held.{Held, held_after}
 use Rattle.ucon_syntax.specs.Policies.{accepted}
-use Rattle.ucon_store.specs.Found.{found}
-use Rattle.ucon_store.specs.Points.{checkpoint, has_points, text_in_force}
+use Rattle.ucon_store.specs.Found.{found_by}
+use Rattle.ucon_store.specs.Points.{checkpoint, has_points, text_in_force, PolicyReading}
 use Rattle.ucon_journal.specs.Found.{counted}
 pub use Rattle.ucon_walk.specs.Parted.{Parted, first_long, parted, parted_here, parted_with, preceded_by, steps_among}
 
@@ -43,19 +49,18 @@ last_point file = parted_behind (has_points file) (counted file)
 
 -- ---- from a checkpoint on
 
--- what a state shows that has these tables under this policy, and nothing to undo
-abbrev pub showing_only : PlainPolicy → Tables → Shown
-showing_only Q t = record { policy = Q; tables = t; opening_policy = Q; opening = t }
-
--- The payload is read as a checkpoint after so many entries, the trace gives to read what the checkpoint's rows make, and no accessing session
--- fails after it.
-pub record IsPointOf (entries : ℕ) (P : PlainPolicy) (T : Trace) (payload : Bytes) : Type 0 where
-  pub said : Said
-  pub reads : point_read payload ≡ Ok said
-  pub count : said.entries ≡ entries
-  pub end : Standing
-  pub made : put_all said.policy (start said.policy said.tick) said.rows ≡ Some end
-  pub alike : ReadsAlike (showing_only said.policy end.tables) P T
+-- The payload is the checkpoint after so many entries of what is there after the trace, in the text of the policy in force, and no accessing session
+-- fails after the trace. What is there has to be such as can be written, and in order: else bytes that no reading takes would be a checkpoint.
+pub record IsPointBy (reads : PolicyReading) (entries : ℕ) (P : PlainPolicy) (T : Trace) (payload : Bytes) : Type 0 where
+  pub text : Bytes
+  pub in_force : reads text ≡ Some (in_force P T)
+  pub few : entries < 2 ^ 64
+  pub since : pos 0 ≤ℤ tick_of T
+  pub tick : IsSpelled (Int (tick_of T))
+  pub rows : Each IsRow (rows_held (held_after P T))
+  pub orderly : IsOrderly (held_after P T)
+  pub written : payload ≡ point_text entries text (held_after P T)
+  pub made_once : (side : Side) → entities side T ≡ length (entity_names side T)
   pub settled : NobodyFails P T
 
 -- the step that is told is the next one after a trace and the entries behind it
@@ -66,9 +71,9 @@ abbrev pub with_next : Trace → PlainPolicy → History → Told → Option His
 with_next T P H t = if is_next_after T P H t then Some (H ++ entry_told t ∷ []) else None
 
 -- behind a trace each payload has to tell the next step
-unfoldable pub steps_after : Trace → Takes
-steps_after T text P H payload =
-    if nat_lt most_payload (length payload) then None else option_and_then (with_next T P H) (result_ok (payload_read accepted payload))
+unfoldable pub steps_by : PolicyReading → Trace → Takes
+steps_by reads T text P H payload =
+    if nat_lt most_payload (length payload) then None else option_and_then (with_next T P H) (result_ok (payload_read reads payload))
 
 -- what is seen where this is found behind a trace after so many entries
 abbrev pub seen_after : ℕ → Trace → Finding → Seen
@@ -80,30 +85,50 @@ seen_after entries T (model.holds text P H gate) = holds text (entries + length 
 -- ---- the whole walk
 
 -- From the last checkpoint: either it is the one of no trace, and wrong; or some trace leads to it, and the records behind it are run after that.
-abbrev pub SeesFrom : Bytes → Parted → Seen → Type 0
-SeesFrom text p seen =
-    (((P : PlainPolicy) (T : Trace) → IsPointOf (steps_among p.before) P T p.point → ⊥)
+abbrev pub SeesFromBy : PolicyReading → Bytes → Parted → Seen → Type 0
+SeesFromBy reads text p seen =
+    (((P : PlainPolicy) (T : Trace) → IsPointBy reads (steps_among p.before) P T p.point → ⊥)
     × (seen ≡ damaged (length p.before + 1) (gate_behind (next_gate first_gate text) p.before)))
-    ⊎ ((P : PlainPolicy) × (T : Trace) × IsPointOf (steps_among p.before) P T p.point
-    × (seen ≡ seen_after (steps_among p.before) T (found_behind (steps_after T) text P [] (length p.before + 2)
+    ⊎ ((P : PlainPolicy) × (T : Trace) × IsPointBy reads (steps_among p.before) P T p.point
+    × (seen ≡ seen_after (steps_among p.before) T (found_behind (steps_by reads T) text P [] (length p.before + 2)
     (next_gate (gate_behind (next_gate first_gate text) p.before) p.point) p.behind)))
 
 -- by the first record that is too long, and by the last checkpoint; this is found from record 0 on
-abbrev pub SeesPast : Option (ℕ × ℕ) → Bytes → Option PlainPolicy → Option Parted → Finding → Seen → Type 0
-SeesPast (Some long) text policy p found seen = seen ≡ damaged long.0 long.1
-SeesPast None text None p found seen = seen ≡ damaged 0 first_gate
-SeesPast None text (Some P) None found seen = seen ≡ seen_after 0 [] found
-SeesPast None text (Some P) (Some p) found seen = SeesFrom text p seen
+abbrev pub SeesPastBy : PolicyReading → Option (ℕ × ℕ) → Bytes → Option PlainPolicy → Option Parted → Finding → Seen → Type 0
+SeesPastBy reads (Some long) text policy p found seen = seen ≡ damaged long.0 long.1
+SeesPastBy reads None text None p found seen = seen ≡ damaged 0 first_gate
+SeesPastBy reads None text (Some P) None found seen = seen ≡ seen_after 0 [] found
+SeesPastBy reads None text (Some P) (Some p) found seen = SeesFromBy reads text p seen
 
 -- by whether there may be checkpoints
-abbrev pub SeesIn : Bool → List Bytes → Finding → Seen → Type 0
-SeesIn points [] found seen = seen ≡ seen_after 0 [] found
-SeesIn points (text ∷ payloads) found seen =
-    SeesPast (first_long 0 first_gate (text ∷ payloads)) text (accepted text) (parted_with points payloads) found seen
+abbrev pub SeesInBy : PolicyReading → Bool → List Bytes → Finding → Seen → Type 0
+SeesInBy reads points [] found seen = seen ≡ seen_after 0 [] found
+SeesInBy reads points (text ∷ payloads) found seen =
+    SeesPastBy reads (first_long 0 first_gate (text ∷ payloads)) text (reads text) (parted_with points payloads) found seen
 
 -- what opening sees in a file
+abbrev pub SeesBy : PolicyReading → Bytes → Seen → Type 0
+SeesBy reads file seen = SeesInBy reads (has_points file) (counted file) (found_by reads file) seen
+
+-- ---- by the program's own reading
+
+abbrev pub IsPointOf : ℕ → PlainPolicy → Trace → Bytes → Type 0
+IsPointOf = IsPointBy accepted
+
+abbrev pub steps_after : Trace → Takes
+steps_after = steps_by accepted
+
+abbrev pub SeesFrom : Bytes → Parted → Seen → Type 0
+SeesFrom = SeesFromBy accepted
+
+abbrev pub SeesPast : Option (ℕ × ℕ) → Bytes → Option PlainPolicy → Option Parted → Finding → Seen → Type 0
+SeesPast = SeesPastBy accepted
+
+abbrev pub SeesIn : Bool → List Bytes → Finding → Seen → Type 0
+SeesIn = SeesInBy accepted
+
 abbrev pub Sees : Bytes → Seen → Type 0
-Sees file seen = SeesIn (has_points file) (counted file) (found file) seen
+Sees = SeesBy accepted
 
 -- ---- around the last checkpoint of what is found
 

@@ -8,9 +8,10 @@ use Rattle.ucon_state.specs.Held.{Held, held_after}
 use Rattle.ucon_syntax.specs.Policies.{accepted}
 use Rattle.ucon_store.specs.declared.fault.StoreFault.{StoreFault}
 use Rattle.ucon_store.specs.declared.fault.StoreFault.TheVariants.{NotJournal, Damaged, OtherPolicy, DiskFault, NoMemory}
-use Rattle.ucon_store.specs.Found.{Holds, IsFoundAs}
-use Rattle.ucon_store.specs.Opened.{Seen, Sees, fresh, not_journal, damaged, holds}
+use Rattle.ucon_store.specs.Found.{Holds, IsFoundAs, IsFoundBy}
+use Rattle.ucon_store.specs.Opened.{Seen, Sees, SeesBy, fresh, not_journal, damaged, holds}
 use Rattle.ucon_store.specs.Starts.{IsBeforeAll, IsStart}
+use Rattle.ucon_store.specs.Points.{PolicyReading}
 
 -- ---- a store that is opened
 
@@ -31,22 +32,22 @@ first_difference (a ∷ one) [] = Some 0
 first_difference (a ∷ one) (b ∷ other) = if a == b then option_map (λ place. place + 1) (first_difference one other) else Some 0
 
 -- the file's policy has another text, which differs first at this place
-pub record HasOtherPolicy (text : Bytes) (place : ℕ) (file : Bytes) : Type 0 where
+pub record HasOtherBy (reads : PolicyReading) (text : Bytes) (place : ℕ) (file : Bytes) : Type 0 where
   pub other : Bytes
   pub entries : ℕ
   pub there : Held
   pub gate : ℕ
-  pub is : Sees file (holds other entries there gate)
+  pub is : SeesBy reads file (holds other entries there gate)
   pub differs : first_difference other text ≡ Some place
 
 -- why a store isn't opened under the policy of this text: by what opening sees in the bytes as read, where the disk tells, or by the disk's count
 -- of faults before and after, which is one more at a disk fault, and otherwise as it was; want of memory may come at any moment
-abbrev pub HasReason : StoreFault → Bytes → Option Bytes → ℕ → ℕ → Type 0
-HasReason NotJournal text file before now = IfSome file (λ bytes. Sees bytes not_journal) × (now ≡ before)
-HasReason (Damaged number place) text file before now = IfSome file (λ bytes. Sees bytes (damaged number place)) × (now ≡ before)
-HasReason (OtherPolicy place) text file before now = IfSome file (HasOtherPolicy text place) × (now ≡ before)
-HasReason DiskFault text file before now = now ≡ raised before
-HasReason (NoMemory e) text file before now = now ≡ before
+abbrev pub HasReasonBy : PolicyReading → StoreFault → Bytes → Option Bytes → ℕ → ℕ → Type 0
+HasReasonBy reads NotJournal text file before now = IfSome file (λ bytes. SeesBy reads bytes not_journal) × (now ≡ before)
+HasReasonBy reads (Damaged number place) text file before now = IfSome file (λ bytes. SeesBy reads bytes (damaged number place)) × (now ≡ before)
+HasReasonBy reads (OtherPolicy place) text file before now = IfSome file (HasOtherBy reads text place) × (now ≡ before)
+HasReasonBy reads DiskFault text file before now = now ≡ raised before
+HasReasonBy reads (NoMemory e) text file before now = now ≡ before
 
 -- ---- what is left in the file
 
@@ -58,9 +59,20 @@ IsForeign (damaged number place) text = ⊤
 IsForeign (holds other entries there gate) text = ¬ (other ≡ text)
 
 -- what opening under the policy of this text may make of a file: what was found is still found, and where it sees a foreign one the file is as it was
-pub record Opens (text file c : Bytes) : Type 0 where
-  pub same : (H : History) → IsFoundAs text file H → IsFoundAs text c H
-  pub untouched : (seen : Seen) → Sees file seen → IsForeign seen text → c ≡ file
+pub record OpensBy (reads : PolicyReading) (text file c : Bytes) : Type 0 where
+  pub same : (H : History) → IsFoundBy reads text file H → IsFoundBy reads text c H
+  pub untouched : (seen : Seen) → SeesBy reads file seen → IsForeign seen text → c ≡ file
+
+-- ---- by the program's own reading
+
+abbrev pub HasOtherPolicy : Bytes → ℕ → Bytes → Type 0
+HasOtherPolicy = HasOtherBy accepted
+
+abbrev pub HasReason : StoreFault → Bytes → Option Bytes → ℕ → ℕ → Type 0
+HasReason = HasReasonBy accepted
+
+abbrev pub Opens : (text file c : Bytes) → Type 0
+Opens = OpensBy accepted
 
 -- what was found in the file is held in it after, where the disk tells before and after
 abbrev pub KeepsFound : Bytes → Option Bytes → Option Bytes → Type 0

@@ -1,5 +1,5 @@
 -- What writing a checkpoint answers and does.
-use Rattle.std.specs.Prelude.{◌≡◌, ◌⊎◌, ℕ, ◌<◌, Bool, true, false, List, [], ◌∷◌, ◌++◌, length, Option, IsSome, IfSome, ⊤}
+use Rattle.std.specs.Prelude.{◌≡◌, ◌⊎◌, ℕ, ◌<◌, Bool, true, false, List, [], ◌∷◌, ◌++◌, length, IsSome, IfSome, ⊤}
 use Rattle.ucon_model.specs.Action.{Trace}
 use Rattle.ucon_model.specs.History.{History}
 use Rattle.ucon_model.specs.Payload.{most_payload}
@@ -10,6 +10,7 @@ use Rattle.ucon_store.specs.Found.{IsFoundAs}
 use Rattle.ucon_store.specs.Kept.{Kept}
 use Rattle.ucon_store.specs.Points.{has_points, point_places}
 use Rattle.ucon_store.specs.Starts.{checkpoint_behind}
+use Rattle.ucon_disk.specs.Seen.{DiskSeen}
 
 -- Why a checkpoint isn't prepared: there may be none; or there may, and it has more bytes than a payload may have, and so many; or memory is
 -- wanting.
@@ -21,13 +22,13 @@ IsUnprepared points text (NoMemory e) = ⊤
 
 -- Why a store of the policy P, to whose beginning the trace T leads, has no checkpoint more: a step had failed; the file may have none; it may,
 -- but this one is too long, and how long; or memory is wanting.
-abbrev pub IsUnpointed : {D : Type 0} → (D → Option Bytes) → PlainPolicy → Trace → Kept D → PointRefusal → Type 0
-IsUnpointed contents P T store Stopped = IsSome store.mark
-IsUnpointed contents P T store OldJournal = IfSome (contents store.disk) (λ file. has_points file ≡ false)
-IsUnpointed contents P T store (TooLarge size) =
-    IfSome (contents store.disk) (λ file. has_points file ≡ true)
+abbrev pub IsUnpointed : {D : Type 0} → (D → DiskSeen) → PlainPolicy → Trace → Kept D → PointRefusal → Type 0
+IsUnpointed seen P T store Stopped = IsSome store.mark
+IsUnpointed seen P T store OldJournal = IfSome (seen store.disk).contents (λ file. has_points file ≡ false)
+IsUnpointed seen P T store (TooLarge size) =
+    IfSome (seen store.disk).contents (λ file. has_points file ≡ true)
     × (size ≡ length (checkpoint_behind store.policy store.point store.before P T store.entries)) × (most_payload < size)
-IsUnpointed contents P T store (NoMemory e) = ⊤
+IsUnpointed seen P T store (NoMemory e) = ⊤
 
 -- it is found as the history, with checkpoints at these places, or with one more, behind all entries
 abbrev pub IsFoundPointed : Bytes → History → List ℕ → Bytes → Type 0

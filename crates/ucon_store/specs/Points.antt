@@ -30,18 +30,26 @@ checkpoint text P H = point_after (text_in_force text H) P H
 
 -- ---- which payloads may stand behind record 0
 
+-- a way of reading policies' texts: the policy that a text is, or none
+abbrev pub PolicyReading : Type 0
+PolicyReading = Bytes → Option PlainPolicy
+
 -- the checkpoint of the entries before it, which stay; none where the record is wrong
 unfoldable pub point_taken : Takes
 point_taken text P H payload =
     if nat_lt most_payload (length payload) then None else if bytes_eq payload (checkpoint text P H) then Some H else None
 
 -- what begins as a checkpoint has to be one, and each other payload has to tell the next step
-abbrev pub steps_and_points : Takes
-steps_and_points text P H payload = if is_point payload then point_taken text P H payload else taken accepted P H payload
+abbrev pub steps_and_points : PolicyReading → Takes
+steps_and_points reads text P H payload = if is_point payload then point_taken text P H payload else taken reads P H payload
 
 -- by whether there may be checkpoints
+abbrev pub takes_by : PolicyReading → Bool → Takes
+takes_by reads points = if points then steps_and_points reads else only_steps reads
+
+-- the same by the program's own reading of policies
 abbrev pub takes_with : Bool → Takes
-takes_with points = if points then steps_and_points else only_steps accepted
+takes_with = takes_by accepted
 
 -- ---- where the checkpoints stand
 

@@ -10,6 +10,7 @@ use Rattle.ucon_turn.specs.Lists.{Begins, begins_refl, begins_trans}
 use Rattle.ucon_store.specs.Found.{IsFoundAs, IsFoundWith}
 use Rattle.ucon_store.specs.Kept.{Kept}
 use Rattle.ucon_store.specs.Whole.{IsFounded, left_founded, whole}
+use Rattle.ucon_disk.specs.Seen.{DiskSeen}
 
 -- found as a beginning of y's entries that isn't shorter than x's, or as them with y's mark
 pub record IsFoundBetween {D : Type 0} (x y : Kept D) (c : Bytes) : Type 0 where
@@ -22,22 +23,21 @@ pub record IsFoundBetween {D : Type 0} (x y : Kept D) (c : Bytes) : Type 0 where
 -- faults is one more where there is a mark now and was none, and otherwise as it was. Where the disk tells, it still does. Behind each history
 -- that x is founded on, each image since is one of those at first, or is found between the two; y is founded on that history, too, if it has no
 -- mark; and each image now is found as that history with y's entries behind it, or as these with y's mark.
-pub record Stays {D : Type 0} (contents : D → Option (List ℕ)) (images : D → List ℕ → Type 0) (moment : D → ℕ)
-    (images_since : D → ℕ → List ℕ → Type 0) (faults : D → ℕ) (x y : Kept D) : Type 0 where
+pub record Stays {D : Type 0} (seen : D → DiskSeen) (x y : Kept D) : Type 0 where
   pub policy : y.policy ≡ x.policy
   pub point : y.point ≡ x.point
   pub before : y.before ≡ x.before
   pub opening : y.opening ≡ x.opening
   pub entries : Begins x.entries y.entries
   pub mark : (e : Entry) → x.mark ≡ Some e → y ≡ x
-  pub unfailed : is_some y.mark ≡ is_some x.mark → faults y.disk ≡ faults x.disk
-  pub failed : x.mark ≡ None → (e : Entry) → y.mark ≡ Some e → faults y.disk ≡ raised (faults x.disk)
-  pub tells : IsSome (contents x.disk) → IsSome (contents y.disk)
-  pub left : (P : PlainPolicy) (G : History) → IsFounded contents images P x G → IsSome (contents x.disk)
-      → LeavesOnly moment images_since x.disk y.disk (λ c. images x.disk c ⊎ IsFoundBetween (whole G x) (whole G y) c)
-  pub founded : (P : PlainPolicy) (G : History) → IsFounded contents images P x G → y.mark ≡ None → IsFounded contents images P y G
-  pub left_now : (P : PlainPolicy) (G : History) → IsFounded contents images P x G → IsSome (contents y.disk)
-      → (c : Bytes) → images y.disk c → IsFoundWith y.policy (G ++ y.entries) y.mark c
+  pub unfailed : is_some y.mark ≡ is_some x.mark → (seen y.disk).faults ≡ (seen x.disk).faults
+  pub failed : x.mark ≡ None → (e : Entry) → y.mark ≡ Some e → (seen y.disk).faults ≡ raised (seen x.disk).faults
+  pub tells : IsSome (seen x.disk).contents → IsSome (seen y.disk).contents
+  pub left : (P : PlainPolicy) (G : History) → IsFounded seen P x G → IsSome (seen x.disk).contents
+      → LeavesOnly (seen x.disk) (seen y.disk) (λ c. (seen x.disk).images c ⊎ IsFoundBetween (whole G x) (whole G y) c)
+  pub founded : (P : PlainPolicy) (G : History) → IsFounded seen P x G → y.mark ≡ None → IsFounded seen P y G
+  pub left_now : (P : PlainPolicy) (G : History) → IsFounded seen P x G → IsSome (seen y.disk).contents
+      → (c : Bytes) → (seen y.disk).images c → IsFoundWith y.policy (G ++ y.entries) y.mark c
 
 none_or_some : {A : Type 0} (o : Option A) → (o ≡ None) ⊎ ((a : A) × (o ≡ Some a))
 none_or_some None = inl refl
@@ -48,10 +48,9 @@ begins_behind : (G xs ys : History) → Begins xs ys → Begins (G ++ xs) (G ++ 
 begins_behind G xs ys b = (b.0, append_assoc G xs b.0 ∙ ap (λ (l : History). G ++ l) b.1)
 
 -- it is reflexive and composes, for disks whose images keep these laws
-module _ {D : Type 0} (contents : D → Option (List ℕ)) (images : D → List ℕ → Type 0) (moment : D → ℕ)
-    (images_since : D → ℕ → List ℕ → Type 0) (faults : D → ℕ) where
-  pub stays_same : ((d : D) (c : List ℕ) → images_since d (moment d) c → images d c) → (x : Kept D)
-      → Stays contents images moment images_since faults x x
+module _ {D : Type 0} (seen : D → DiskSeen) where
+  pub stays_same : ((d : D) (c : List ℕ) → (seen d).images_since (seen d).moment c → (seen d).images c) → (x : Kept D)
+      → Stays seen x x
   stays_same only x = record {
     policy = refl;
     point = refl;
@@ -64,11 +63,11 @@ module _ {D : Type 0} (contents : D → Option (List ℕ)) (images : D → List 
     tells = λ told. told;
     left = λ P G f told. record { later = omega arith; each = λ c since. inl (only x.disk c since); before = λ t c le since. inl since };
     founded = λ P G f none. f;
-    left_now = λ P G f. left_founded contents images P x G f;
+    left_now = λ P G f. left_founded seen P x G f;
   }
 
-  module _ (counts : (d : D) (t : ℕ) (c : List ℕ) → t ≤ moment d → images d c → images_since d t c) (x y z : Kept D)
-      (p : Stays contents images moment images_since faults x y) (q : Stays contents images moment images_since faults y z) where
+  module _ (counts : (d : D) (t : ℕ) (c : List ℕ) → t ≤ (seen d).moment → (seen d).images c → (seen d).images_since t c) (x y z : Kept D)
+      (p : Stays seen x y) (q : Stays seen y z) where
     module _ (G : History) where
       found_later : (c : List ℕ) → IsFoundBetween (whole G x) (whole G y) c → y.mark ≡ None → IsFoundBetween (whole G x) (whole G z) c
       found_later c f none = record {
@@ -91,22 +90,22 @@ module _ {D : Type 0} (contents : D → Option (List ℕ)) (images : D → List 
         within = f.within;
       }
 
-      first : y.mark ≡ None → (c : List ℕ) → images x.disk c ⊎ IsFoundBetween (whole G x) (whole G y) c
-          → images x.disk c ⊎ IsFoundBetween (whole G x) (whole G z) c
+      first : y.mark ≡ None → (c : List ℕ) → (seen x.disk).images c ⊎ IsFoundBetween (whole G x) (whole G y) c
+          → (seen x.disk).images c ⊎ IsFoundBetween (whole G x) (whole G z) c
       first none c h = ⊎_elim inl (λ f. inr (found_later c f none)) h
 
-      second : y.mark ≡ None → LeavesOnly moment images_since x.disk y.disk (λ c. images x.disk c ⊎ IsFoundBetween (whole G x) (whole G y) c)
-          → (c : List ℕ) → images y.disk c ⊎ IsFoundBetween (whole G y) (whole G z) c → images x.disk c ⊎ IsFoundBetween (whole G x) (whole G z) c
+      second : y.mark ≡ None → LeavesOnly (seen x.disk) (seen y.disk) (λ c. (seen x.disk).images c ⊎ IsFoundBetween (whole G x) (whole G y) c)
+          → (c : List ℕ) → (seen y.disk).images c ⊎ IsFoundBetween (whole G y) (whole G z) c → (seen x.disk).images c ⊎ IsFoundBetween (whole G x) (whole G z) c
       second none run c h =
-          ⊎_elim (λ i. first none c (run.each c (counts y.disk (moment x.disk) c run.later i))) (λ f. inr (found_sooner c f)) h
+          ⊎_elim (λ i. first none c (run.each c (counts y.disk (seen x.disk).moment c run.later i))) (λ f. inr (found_sooner c f)) h
 
-      left_unmarked : (P : PlainPolicy) → IsFounded contents images P x G → y.mark ≡ None → IsSome (contents x.disk)
-          → LeavesOnly moment images_since x.disk z.disk (λ c. images x.disk c ⊎ IsFoundBetween (whole G x) (whole G z) c)
+      left_unmarked : (P : PlainPolicy) → IsFounded seen P x G → y.mark ≡ None → IsSome (seen x.disk).contents
+          → LeavesOnly (seen x.disk) (seen z.disk) (λ c. (seen x.disk).images c ⊎ IsFoundBetween (whole G x) (whole G z) c)
       left_unmarked P f none told =
           let run = p.left P G f told in
           let next = q.left P G (p.founded P G f none) (p.tells told) in record {
             later = omega (arith, run.later, next.later);
-            each = λ c since. ⊎_elim (λ s. first none c (run.each c s)) (second none run c) (next.before (moment x.disk) c run.later since);
+            each = λ c since. ⊎_elim (λ s. first none c (run.each c s)) (second none run c) (next.before (seen x.disk).moment c run.later since);
             before = λ t c le since. ⊎_elim (λ s. ⊎_elim (λ i. inl i) (λ h. inr (first none c h)) (run.before t c le s))
                 (λ h. inr (second none run c h)) (next.before t c (omega (arith, le, run.later)) since);
           }
@@ -115,12 +114,12 @@ module _ {D : Type 0} (contents : D → Option (List ℕ)) (images : D → List 
     stopped : (Q : Kept D → Type 0) (e : Entry) → y.mark ≡ Some e → Q y → Q z
     stopped Q e is h = subst Q (sym (q.mark e is)) h
 
-    left_again : (P : PlainPolicy) (G : History) → IsFounded contents images P x G → IsSome (contents x.disk)
-        → LeavesOnly moment images_since x.disk z.disk (λ c. images x.disk c ⊎ IsFoundBetween (whole G x) (whole G z) c)
+    left_again : (P : PlainPolicy) (G : History) → IsFounded seen P x G → IsSome (seen x.disk).contents
+        → LeavesOnly (seen x.disk) (seen z.disk) (λ c. (seen x.disk).images c ⊎ IsFoundBetween (whole G x) (whole G z) c)
     left_again P G f told = ⊎_elim
         (λ (unmarked : y.mark ≡ None). left_unmarked G P f unmarked told)
         (λ (marked : (a : Entry) × (y.mark ≡ Some a)).
-        stopped (λ (s : Kept D). LeavesOnly moment images_since x.disk s.disk (λ c. images x.disk c ⊎ IsFoundBetween (whole G x) (whole G s) c))
+        stopped (λ (s : Kept D). LeavesOnly (seen x.disk) (seen s.disk) (λ c. (seen x.disk).images c ⊎ IsFoundBetween (whole G x) (whole G s) c))
         marked.0 marked.1 (p.left P G f told))
         (none_or_some y.mark)
 
@@ -130,23 +129,23 @@ module _ {D : Type 0} (contents : D → Option (List ℕ)) (images : D → List 
         (λ (marked : (a : Entry) × (y.mark ≡ Some a)). ap (λ (s : Kept D). s.mark) (sym (q.mark marked.0 marked.1)) ∙ none)
         (none_or_some y.mark)
 
-    left_now_again : (P : PlainPolicy) (G : History) → IsFounded contents images P x G → IsSome (contents z.disk)
-        → (c : Bytes) → images z.disk c → IsFoundWith z.policy (G ++ z.entries) z.mark c
+    left_now_again : (P : PlainPolicy) (G : History) → IsFounded seen P x G → IsSome (seen z.disk).contents
+        → (c : Bytes) → (seen z.disk).images c → IsFoundWith z.policy (G ++ z.entries) z.mark c
     left_now_again P G f = ⊎_elim
         (λ (unmarked : y.mark ≡ None). q.left_now P G (p.founded P G f unmarked))
         (λ (marked : (a : Entry) × (y.mark ≡ Some a)).
-        stopped (λ (s : Kept D). IsSome (contents s.disk) → (c : Bytes) → images s.disk c → IsFoundWith s.policy (G ++ s.entries) s.mark c)
+        stopped (λ (s : Kept D). IsSome (seen s.disk).contents → (c : Bytes) → (seen s.disk).images c → IsFoundWith s.policy (G ++ s.entries) s.mark c)
         marked.0 marked.1 (p.left_now P G f))
         (none_or_some y.mark)
 
-    unfailed_again : is_some z.mark ≡ is_some x.mark → faults z.disk ≡ faults x.disk
+    unfailed_again : is_some z.mark ≡ is_some x.mark → (seen z.disk).faults ≡ (seen x.disk).faults
     unfailed_again same = by_mark x.mark refl
       where
-        by_mark : (m : Option Entry) → x.mark ≡ m → faults z.disk ≡ faults x.disk
+        by_mark : (m : Option Entry) → x.mark ≡ m → (seen z.disk).faults ≡ (seen x.disk).faults
         by_mark (Some e) is =
             let here : y ≡ x = p.mark e is in
             let there : z ≡ y = q.mark e (ap (λ (s : Kept D). s.mark) here ∙ is) in
-            ap (λ (s : Kept D). faults s.disk) (there ∙ here)
+            ap (λ (s : Kept D). (seen s.disk).faults) (there ∙ here)
         by_mark None is = ⊎_elim
             (λ (unmarked : y.mark ≡ None). q.unfailed (same ∙ ap is_some (is ∙ sym unmarked)) ∙ p.unfailed (ap is_some (unmarked ∙ sym is)))
             (λ (marked : (a : Entry) × (y.mark ≡ Some a)).
@@ -154,14 +153,14 @@ module _ {D : Type 0} (contents : D → Option (List ℕ)) (images : D → List 
             let bad : true ≡ false = sym (ap is_some there) ∙ (same ∙ ap is_some is) in absurd (cc bad))
             (none_or_some y.mark)
 
-    failed_again : x.mark ≡ None → (e : Entry) → z.mark ≡ Some e → faults z.disk ≡ raised (faults x.disk)
+    failed_again : x.mark ≡ None → (e : Entry) → z.mark ≡ Some e → (seen z.disk).faults ≡ raised (seen x.disk).faults
     failed_again none e some = ⊎_elim
         (λ (unmarked : y.mark ≡ None). q.failed unmarked e some ∙ ap raised (p.unfailed (ap is_some (unmarked ∙ sym none))))
         (λ (marked : (a : Entry) × (y.mark ≡ Some a)).
-        ap (λ (s : Kept D). faults s.disk) (q.mark marked.0 marked.1) ∙ p.failed none marked.0 marked.1)
+        ap (λ (s : Kept D). (seen s.disk).faults) (q.mark marked.0 marked.1) ∙ p.failed none marked.0 marked.1)
         (none_or_some y.mark)
 
-    pub stays_again : Stays contents images moment images_since faults x z
+    pub stays_again : Stays seen x z
     stays_again = record {
       policy = q.policy ∙ p.policy;
       point = q.point ∙ p.point;

@@ -1,5 +1,5 @@
 -- What a step answers and does.
-use Rattle.std.specs.Prelude.{◌≡◌, ◌⊎◌, ℕ, ◌+◌, List, [], ◌∷◌, ◌++◌, length, take, true, Some, None, if◌then◌else◌}
+use Rattle.std.specs.Prelude.{◌≡◌, ◌⊎◌, ◌+◌, [], ◌∷◌, ◌++◌, length, take, true, Some, None, if◌then◌else◌}
 use Rattle.ucon_model.specs.declared.command.Entry.{Entry}
 use Rattle.ucon_model.specs.Action.{Trace}
 use Rattle.ucon_model.specs.Block.{reply as reply_to}
@@ -11,6 +11,7 @@ use Rattle.ucon_disk.specs.Causes.{raised}
 use Rattle.ucon_journal.specs.Found.{counted}
 use Rattle.ucon_store.specs.declared.placed.Placed.{Placed}
 use Rattle.ucon_store.specs.Kept.{Kept}
+use Rattle.ucon_disk.specs.Seen.{DiskSeen}
 
 -- ---- behind a history
 
@@ -22,9 +23,9 @@ pub record IsPlaced {D : Type 0} (P : PlainPolicy) (old new : Kept D) (e : Entry
   pub unmarked : new.mark ≡ None
 
 -- the entry's step would have changed something, and met a disk fault: it is the mark, and nothing else is other
-pub record HasFailed {D : Type 0} (faults : D → ℕ) (P : PlainPolicy) (old new : Kept D) (e : Entry) : Type 0 where
+pub record HasFailed {D : Type 0} (seen : D → DiskSeen) (P : PlainPolicy) (old new : Kept D) (e : Entry) : Type 0 where
   pub would_change : changes (said P old.entries e.caller e.command) ≡ true
-  pub rose : faults new.disk ≡ raised (faults old.disk)
+  pub rose : (seen new.disk).faults ≡ raised (seen old.disk).faults
   pub mark : new.mark ≡ Some e
   pub entries : new.entries ≡ old.entries
 
@@ -43,9 +44,9 @@ pub record IsPlacedBehind {D : Type 0} (P : PlainPolicy) (T : Trace) (old new : 
   pub unmarked : new.mark ≡ None
 
 -- the entry's step would have changed something after the trace and the store's entries, and met a disk fault
-pub record HasFailedBehind {D : Type 0} (faults : D → ℕ) (P : PlainPolicy) (T : Trace) (old new : Kept D) (e : Entry) : Type 0 where
+pub record HasFailedBehind {D : Type 0} (seen : D → DiskSeen) (P : PlainPolicy) (T : Trace) (old new : Kept D) (e : Entry) : Type 0 where
   pub would_change : changes (reply_to P (trace_from P T old.entries) e.caller e.command) ≡ true
-  pub rose : faults new.disk ≡ raised (faults old.disk)
+  pub rose : (seen new.disk).faults ≡ raised (seen old.disk).faults
   pub mark : new.mark ≡ Some e
   pub entries : new.entries ≡ old.entries
 

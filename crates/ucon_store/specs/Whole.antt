@@ -1,6 +1,6 @@
 -- A store that begins behind a checkpoint, seen with a history before it.
 use Rattle.std.proofs.Common.{refl, sym, subst, ap, ◌∙◌, ◌+◌, inl, arith}
-use Rattle.std.specs.Prelude.{◌≡◌, ℕ, List, [], ◌++◌, length, Option, Some, None, IsSome, IfSome}
+use Rattle.std.specs.Prelude.{◌≡◌, ℕ, [], ◌++◌, length, Option, Some, None, IsSome, IfSome}
 use Rattle.ucon_disk.specs.Disk.{Only}
 use Rattle.ucon_model.specs.Action.{Trace}
 use Rattle.ucon_model.specs.History.{History, trace, trace_from}
@@ -13,6 +13,7 @@ use Rattle.ucon_store.specs.Kept.{Kept}
 use Rattle.ucon_store.specs.Opened.{Parted, StandsAround, steps_among}
 use Rattle.ucon_store.specs.Points.{checkpoint, text_in_force}
 use Rattle.ucon_store.specs.Starts.{IsBeforeAll, IsStart, checkpoint_behind, text_at_start}
+use Rattle.ucon_disk.specs.Seen.{DiskSeen}
 
 -- the trace that a store's entries make, from a trace on
 abbrev pub trace_behind : {D : Type 0} → PlainPolicy → Trace → Kept D → Trace
@@ -31,33 +32,33 @@ whole G s = record { policy = s.policy; point = None; before = 0; opening = s.op
 -- The store's policy is this one, this history leads to where the store begins, and no step has failed. Where the disk tells, its file holds
 -- the policy and this history with the store's entries behind it, and a crash leaves nothing else. Where the file was found when the store was
 -- opened there is one such history; where opening alone accepted it there is none.
-pub record IsFounded {D : Type 0} (contents : D → Option (List ℕ)) (images : D → List ℕ → Type 0) (P : PlainPolicy) (s : Kept D) (G : History) : Type 0 where
+pub record IsFounded {D : Type 0} (seen : D → DiskSeen) (P : PlainPolicy) (s : Kept D) (G : History) : Type 0 where
   pub accepts : accepted s.policy ≡ Some P
   pub front : IsFront P s G
   pub unmarked : s.mark ≡ None
-  pub holds : IfSome (contents s.disk) (Holds s.policy P (G ++ s.entries))
-  pub only : Only (contents s.disk) (images s.disk)
+  pub holds : IfSome (seen s.disk).contents (Holds s.policy P (G ++ s.entries))
+  pub only : Only (seen s.disk).contents (seen s.disk).images
 
 -- The store goes on from a history: the first entries of it lead to where the store begins, which is founded on them, and the others are its own.
-pub record GoesOnFrom {D : Type 0} (contents : D → Option (List ℕ)) (images : D → List ℕ → Type 0) (P : PlainPolicy) (s : Kept D) (H : History) : Type 0 where
+pub record GoesOnFrom {D : Type 0} (seen : D → DiskSeen) (P : PlainPolicy) (s : Kept D) (H : History) : Type 0 where
   pub before : History
   pub all : H ≡ before ++ s.entries
-  pub founded : IsFounded contents images P s before
+  pub founded : IsFounded seen P s before
 
 -- a crash leaves what a store is founded on, with its entries behind that
-pub found_founded : {D : Type 0} (contents : D → Option (List ℕ)) (images : D → List ℕ → Type 0) (P : PlainPolicy) (s : Kept D) (G : History)
-    → IsFounded contents images P s G → IsSome (contents s.disk) → (c : Bytes) → images s.disk c → IsFoundAs s.policy c (G ++ s.entries)
-found_founded contents images P s G f told c image = by_contents (contents s.disk) f.holds f.only told
+pub found_founded : {D : Type 0} (seen : D → DiskSeen) (P : PlainPolicy) (s : Kept D) (G : History)
+    → IsFounded seen P s G → IsSome (seen s.disk).contents → (c : Bytes) → (seen s.disk).images c → IsFoundAs s.policy c (G ++ s.entries)
+found_founded seen P s G f told c image = by_contents (seen s.disk).contents f.holds f.only told
   where
-    by_contents : (o : Option Bytes) → IfSome o (Holds s.policy P (G ++ s.entries)) → Only o (images s.disk) → IsSome o
+    by_contents : (o : Option Bytes) → IfSome o (Holds s.policy P (G ++ s.entries)) → Only o (seen s.disk).images → IsSome o
         → IsFoundAs s.policy c (G ++ s.entries)
     by_contents None holds only some = absurd (cc some)
     by_contents (Some file) holds only some =
         subst (λ (f : Bytes). IsFoundAs s.policy f (G ++ s.entries)) (sym (only c image)) (found_as s.policy P (G ++ s.entries) file holds)
 
-pub left_founded : {D : Type 0} (contents : D → Option (List ℕ)) (images : D → List ℕ → Type 0) (P : PlainPolicy) (s : Kept D) (G : History)
-    → IsFounded contents images P s G → IsSome (contents s.disk) → (c : Bytes) → images s.disk c → IsFoundWith s.policy (G ++ s.entries) s.mark c
-left_founded contents images P s G f told c image = inl (found_founded contents images P s G f told c image)
+pub left_founded : {D : Type 0} (seen : D → DiskSeen) (P : PlainPolicy) (s : Kept D) (G : History)
+    → IsFounded seen P s G → IsSome (seen s.disk).contents → (c : Bytes) → (seen s.disk).images c → IsFoundWith s.policy (G ++ s.entries) s.mark c
+left_founded seen P s G f told c image = inl (found_founded seen P s G f told c image)
 
 -- ---- a store that begins before all entries: the empty history leads there, and with it before its own entries the store is itself
 

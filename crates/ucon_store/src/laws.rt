@@ -13,6 +13,7 @@ ghost use Rattle.ucon_model.specs.Found.{fresh, holds, not_journal, payloads_of}
 ghost use Rattle.ucon_model.specs.History.{History, IsProper, trace, trace_from};
 ghost use Rattle.ucon_model.specs.Plain.{Bytes, PlainPolicy};
 ghost use Rattle.ucon_point.specs.HeldRows.{rows_held};
+ghost use Rattle.ucon_point.specs.PointRead.{point_read};
 ghost use Rattle.ucon_row.specs.RowText.{IsRow};
 ghost use Rattle.ucon_state.specs.Following.{Follows};
 ghost use Rattle.ucon_state.specs.Held.{held_after};
@@ -20,8 +21,9 @@ ghost use Rattle.ucon_state.specs.Shown.{Shown};
 ghost use Rattle.ucon_store.specs.Found.{found};
 ghost use Rattle.ucon_store.specs.Made.{ArePlaces, pointed_payloads};
 ghost use Rattle.ucon_store.specs.Opened as opened;
-ghost use Rattle.ucon_store.specs.Opened.{Parted, Seen, Sees, StandsAround, parted};
+ghost use Rattle.ucon_store.specs.Opened.{IsPointOf, Parted, Seen, Sees, StandsAround, parted, text_said};
 ghost use Rattle.ucon_store.specs.Points.{checkpoint, has_points, point_places};
+ghost use Rattle.ucon_store.specs.ReadBack.{IsReadPointOf};
 ghost use Rattle.ucon_syntax.specs.Policies.{accepted};
 
 use ucon_base::values_are_read_back;
@@ -32,6 +34,7 @@ use ucon_journal::{MAX_PAYLOAD, reads_back};
 use ucon_model::{no_usage_goes_on_failing, the_least_failing_is_found};
 use ucon_point::{
     histories_are_in_order, points_are_read_back, rows_make_what_they_say, texts_are_of_rows,
+    what_is_in_order_can_be_put,
 };
 use ucon_runs::payloads_are_found_one_by_one;
 use ucon_state::{
@@ -81,11 +84,24 @@ pub fn opening_sees_what_is_found()
     no_usage_goes_on_failing();
     each_action_is_followed();
     traces_of_histories_are_legal();
-    tables_keep_what_is_followed();
     states_follow_what_reads_alike();
     texts_are_of_rows();
     histories_are_in_order();
+}
+
+/// The payload is the checkpoint of a trace, by what writes it, exactly where it is read as one: as a checkpoint after so many entries, whose rows
+/// make what is there after the trace. And the text of the policy in force that is read in it is the one that it was written with.
+pub fn checkpoints_of_traces_are_read_back()
+    ensures read { (entries : ℕ) (P : PlainPolicy) (T : Trace) (payload : Bytes) → IsPointOf entries P T payload ↔ IsReadPointOf entries P T payload }
+    ensures text { (entries : ℕ) (P : PlainPolicy) (T : Trace) (payload : Bytes) → (point : IsPointOf entries P T payload) → (text : Bytes)
+        → text_said text (point_read payload) ≡ point.text }
+{
+    tables_keep_what_is_followed();
+    states_follow_what_reads_alike();
+    points_are_read_back();
+    texts_are_of_rows();
     rows_make_what_they_say();
+    what_is_in_order_can_be_put();
 }
 
 /// Opening sees something in every file, and one thing only: so where a history is found, it sees nothing else.
@@ -93,6 +109,7 @@ pub fn opening_sees_one_thing()
     ensures something { (file : Bytes) → (seen : Seen) × Sees file seen }
     ensures one { (file : Bytes) (one other : Seen) → Sees file one → Sees file other → one ≡ other }
 {
+    checkpoints_of_traces_are_read_back();
     points_are_read_back();
     rows_make_what_they_say();
     tables_keep_what_is_followed();
@@ -124,11 +141,9 @@ pub fn found_histories_stand_around_their_last_checkpoint()
     no_usage_goes_on_failing();
     each_action_is_followed();
     traces_of_histories_are_legal();
-    tables_keep_what_is_followed();
     states_follow_what_reads_alike();
     texts_are_of_rows();
     histories_are_in_order();
-    rows_make_what_they_say();
 }
 
 /// All traces that a state follows give the same replies behind them, whatever is done, and leave the same there.

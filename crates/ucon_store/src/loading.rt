@@ -112,20 +112,20 @@ impl<E: Engine> Loaded<E> {
         alloc: Global,
         journal: &mut Journal<D>,
     ) -> Result<bool, StoreFault>
-        requires loading { IsLoading E.follows D.contents self.old journal.old }
-        requires reading { IsReading D.contents journal.old }
-        ensures loading { result ≡ Ok true → IsLoading E.follows D.contents self.new journal.new }
-        ensures loaded { result ≡ Ok false → HasLoaded E.follows D.contents self.new journal.new }
+        requires loading { IsLoading E.follows D.seen self.old journal.old }
+        requires reading { IsReading D.seen journal.old }
+        ensures loading { result ≡ Ok true → IsLoading E.follows D.seen self.new journal.new }
+        ensures loaded { result ≡ Ok false → HasLoaded E.follows D.seen self.new journal.new }
         ensures advance { result ≡ Ok true → gate_of journal.old < gate_of journal.new }
         ensures small { gate_of journal.new < 2 ^ 63 }
-        ensures reading { IsReading D.contents journal.new }
-        ensures ended { result ≡ Ok false → HasEnded D.contents journal.new }
+        ensures reading { IsReading D.seen journal.new }
+        ensures ended { result ≡ Ok false → HasEnded D.seen journal.new }
         ensures reason { IfErr result (λ fault. (text : List ℕ)
-            → HasReason fault text (D.contents (disk_of journal.old)) (D.faults (disk_of journal.old)) (D.faults (disk_of journal.new))) }
-        ensures contents { D.contents (disk_of journal.new) ≡ D.contents (disk_of journal.old) }
-        ensures images { SameImages (D.images (disk_of journal.old)) (D.images (disk_of journal.new)) }
-        ensures run { LeavesOnly D.moment D.images_since (disk_of journal.old) (disk_of journal.new) (D.images (disk_of journal.old)) }
-        ensures unfailed { OnOk result (D.faults (disk_of journal.new) ≡ D.faults (disk_of journal.old)) }
+            → HasReason fault text (D.seen (disk_of journal.old)).contents (D.seen (disk_of journal.old)).faults (D.seen (disk_of journal.new)).faults) }
+        ensures contents { (D.seen (disk_of journal.new)).contents ≡ (D.seen (disk_of journal.old)).contents }
+        ensures images { SameImages (D.seen (disk_of journal.old)).images (D.seen (disk_of journal.new)).images }
+        ensures run { LeavesOnly (D.seen (disk_of journal.old)) (D.seen (disk_of journal.new)) (D.seen (disk_of journal.old)).images }
+        ensures unfailed { OnOk result ((D.seen (disk_of journal.new)).faults ≡ (D.seen (disk_of journal.old)).faults) }
     {
         let place = journal.gate();
         let number = self.records;
@@ -149,16 +149,16 @@ impl<E: Engine> Loaded<E> {
         alloc: Global,
         journal: &mut Journal<D>,
     ) -> Result<(), StoreFault>
-        requires loading { IsLoading E.follows D.contents self.old journal.old }
-        requires reading { IsReading D.contents journal.old }
-        ensures loaded { OnOk result (HasLoaded E.follows D.contents self.new journal.new) }
-        ensures ended { OnOk result (HasEnded D.contents journal.new) }
+        requires loading { IsLoading E.follows D.seen self.old journal.old }
+        requires reading { IsReading D.seen journal.old }
+        ensures loaded { OnOk result (HasLoaded E.follows D.seen self.new journal.new) }
+        ensures ended { OnOk result (HasEnded D.seen journal.new) }
         ensures reason { IfErr result (λ fault. (text : List ℕ)
-            → HasReason fault text (D.contents (disk_of journal.old)) (D.faults (disk_of journal.old)) (D.faults (disk_of journal.new))) }
-        ensures contents { D.contents (disk_of journal.new) ≡ D.contents (disk_of journal.old) }
-        ensures images { SameImages (D.images (disk_of journal.old)) (D.images (disk_of journal.new)) }
-        ensures run { LeavesOnly D.moment D.images_since (disk_of journal.old) (disk_of journal.new) (D.images (disk_of journal.old)) }
-        ensures unfailed { OnOk result (D.faults (disk_of journal.new) ≡ D.faults (disk_of journal.old)) }
+            → HasReason fault text (D.seen (disk_of journal.old)).contents (D.seen (disk_of journal.old)).faults (D.seen (disk_of journal.new)).faults) }
+        ensures contents { (D.seen (disk_of journal.new)).contents ≡ (D.seen (disk_of journal.old)).contents }
+        ensures images { SameImages (D.seen (disk_of journal.old)).images (D.seen (disk_of journal.new)).images }
+        ensures run { LeavesOnly (D.seen (disk_of journal.old)) (D.seen (disk_of journal.new)) (D.seen (disk_of journal.old)).images }
+        ensures unfailed { OnOk result ((D.seen (disk_of journal.new)).faults ≡ (D.seen (disk_of journal.old)).faults) }
     {
         'records: while self.take_next(alloc, journal)? {}
         Ok(())

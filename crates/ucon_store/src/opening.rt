@@ -33,26 +33,26 @@ pub(crate) fn load<E: Engine, D: Disk>(
     journal: &mut Journal<D>,
 ) -> Result<Loaded<E>, StoreFault>
     requires accepted { IsSome (accepted policy.now) }
-    requires reading { IsReading D.contents journal.old }
-    requires journal { IfSome (D.contents (disk_of journal.old)) (λ file.
+    requires reading { IsReading D.seen journal.old }
+    requires journal { IfSome (D.seen (disk_of journal.old)).contents (λ file.
         (payloads_from file 8 ≡ counted file) × (journalled.found file ≢ journalled.NotJournal)) }
     requires first { gate_of journal.old ≡ 8 }
     ensures policy { IfOk result (λ l. l.policy.items ≡ policy.now) }
     ensures standing { IfOk result (λ l. IsStanding E.follows l) }
-    ensures read { IfOk result (λ l. (P : PlainPolicy) → accepted policy.now ≡ Some P → IfSome (D.contents (disk_of journal.old))
+    ensures read { IfOk result (λ l. (P : PlainPolicy) → accepted policy.now ≡ Some P → IfSome (D.seen (disk_of journal.old)).contents
         (IsRead policy.now P (payload_in l.point) l.before l.entries.items)) }
-    ensures kept { OnOk result (KeepsFound policy.now (D.contents (disk_of journal.old)) (D.contents (disk_of journal.new))) }
+    ensures kept { OnOk result (KeepsFound policy.now (D.seen (disk_of journal.old)).contents (D.seen (disk_of journal.new)).contents) }
     ensures few { IfOk result (λ l. 5 * (l.before + length l.entries.items) ≤ gate_of journal.new) }
-    ensures payloads { OnOk result (IfSome (D.contents (disk_of journal.old)) (λ file. length (counted file) < 2 ^ 63)) }
-    ensures closed { OnOk result (IsClosed D.contents journal.new) }
-    ensures places { OnOk result (SamePlaces (D.contents (disk_of journal.old)) (D.contents (disk_of journal.new))) }
-    ensures kind { OnOk result (SameKind (D.contents (disk_of journal.old)) (D.contents (disk_of journal.new))) }
-    ensures only { OnOk result (Only (D.contents (disk_of journal.new)) (D.images (disk_of journal.new))) }
-    ensures reason { IfErr result (λ fault. HasReason fault policy.now (D.contents (disk_of journal.old))
-        (D.faults (disk_of journal.old)) (D.faults (disk_of journal.new))) }
-    ensures images { LeavesAfter D.contents D.images D.moment D.images_since (disk_of journal.old) (disk_of journal.new) (Opens policy.now) }
-    ensures tells { OnOk result (is_some (D.contents (disk_of journal.new)) ≡ is_some (D.contents (disk_of journal.old))) }
-    ensures unfailed { OnOk result (D.faults (disk_of journal.new) ≡ D.faults (disk_of journal.old)) }
+    ensures payloads { OnOk result (IfSome (D.seen (disk_of journal.old)).contents (λ file. length (counted file) < 2 ^ 63)) }
+    ensures closed { OnOk result (IsClosed D.seen journal.new) }
+    ensures places { OnOk result (SamePlaces (D.seen (disk_of journal.old)).contents (D.seen (disk_of journal.new)).contents) }
+    ensures kind { OnOk result (SameKind (D.seen (disk_of journal.old)).contents (D.seen (disk_of journal.new)).contents) }
+    ensures only { OnOk result (Only (D.seen (disk_of journal.new)).contents (D.seen (disk_of journal.new)).images) }
+    ensures reason { IfErr result (λ fault. HasReason fault policy.now (D.seen (disk_of journal.old)).contents
+        (D.seen (disk_of journal.old)).faults (D.seen (disk_of journal.new)).faults) }
+    ensures images { LeavesAfter (D.seen (disk_of journal.old)) (D.seen (disk_of journal.new)) (Opens policy.now) }
+    ensures tells { OnOk result (is_some (D.seen (disk_of journal.new)).contents ≡ is_some (D.seen (disk_of journal.old)).contents) }
+    ensures unfailed { OnOk result ((D.seen (disk_of journal.new)).faults ≡ (D.seen (disk_of journal.old)).faults) }
 {
     let last = last_point(journal)?;
     journal.rewind();
@@ -70,28 +70,28 @@ fn go_on<E: Engine, D: Disk>(
     last: Option<LastPoint>,
     journal: &mut Journal<D>,
 ) -> Result<Loaded<E>, StoreFault>
-    requires reading { IsReading D.contents journal.old }
-    requires walked { IfSome (D.contents (disk_of journal.old)) (λ file.
+    requires reading { IsReading D.seen journal.old }
+    requires walked { IfSome (D.seen (disk_of journal.old)).contents (λ file.
         (counted file ≡ payload_of journal.old ∷ payloads_from file (gate_of journal.old)) × IsWalked (has_points file) (counted file) last) }
     requires below { IfSome last (IsPlacedBelow (2 ^ 63)) }
     requires gate { gate_of journal.old ≡ 13 + length (payload_of journal.old) }
     requires short { length (payload_of journal.old) ≤ MAX_PAYLOAD }
     ensures policy { IfOk result (λ l. l.policy.items ≡ policy.now) }
     ensures standing { IfOk result (λ l. IsStanding E.follows l) }
-    ensures read { IfOk result (λ l. (P : PlainPolicy) → accepted policy.now ≡ Some P → IfSome (D.contents (disk_of journal.old))
+    ensures read { IfOk result (λ l. (P : PlainPolicy) → accepted policy.now ≡ Some P → IfSome (D.seen (disk_of journal.old)).contents
         (IsRead policy.now P (payload_in l.point) l.before l.entries.items)) }
-    ensures kept { OnOk result (KeepsFound policy.now (D.contents (disk_of journal.old)) (D.contents (disk_of journal.new))) }
+    ensures kept { OnOk result (KeepsFound policy.now (D.seen (disk_of journal.old)).contents (D.seen (disk_of journal.new)).contents) }
     ensures few { IfOk result (λ l. 5 * (l.before + length l.entries.items) ≤ gate_of journal.new) }
-    ensures payloads { OnOk result (IfSome (D.contents (disk_of journal.old)) (λ file. length (counted file) < 2 ^ 63)) }
-    ensures closed { OnOk result (IsClosed D.contents journal.new) }
-    ensures places { OnOk result (SamePlaces (D.contents (disk_of journal.old)) (D.contents (disk_of journal.new))) }
-    ensures kind { OnOk result (SameKind (D.contents (disk_of journal.old)) (D.contents (disk_of journal.new))) }
-    ensures only { OnOk result (Only (D.contents (disk_of journal.new)) (D.images (disk_of journal.new))) }
-    ensures reason { IfErr result (λ fault. HasReason fault policy.now (D.contents (disk_of journal.old))
-        (D.faults (disk_of journal.old)) (D.faults (disk_of journal.new))) }
-    ensures images { LeavesAfter D.contents D.images D.moment D.images_since (disk_of journal.old) (disk_of journal.new) (Opens policy.now) }
-    ensures tells { OnOk result (is_some (D.contents (disk_of journal.new)) ≡ is_some (D.contents (disk_of journal.old))) }
-    ensures unfailed { OnOk result (D.faults (disk_of journal.new) ≡ D.faults (disk_of journal.old)) }
+    ensures payloads { OnOk result (IfSome (D.seen (disk_of journal.old)).contents (λ file. length (counted file) < 2 ^ 63)) }
+    ensures closed { OnOk result (IsClosed D.seen journal.new) }
+    ensures places { OnOk result (SamePlaces (D.seen (disk_of journal.old)).contents (D.seen (disk_of journal.new)).contents) }
+    ensures kind { OnOk result (SameKind (D.seen (disk_of journal.old)).contents (D.seen (disk_of journal.new)).contents) }
+    ensures only { OnOk result (Only (D.seen (disk_of journal.new)).contents (D.seen (disk_of journal.new)).images) }
+    ensures reason { IfErr result (λ fault. HasReason fault policy.now (D.seen (disk_of journal.old)).contents
+        (D.seen (disk_of journal.old)).faults (D.seen (disk_of journal.new)).faults) }
+    ensures images { LeavesAfter (D.seen (disk_of journal.old)) (D.seen (disk_of journal.new)) (Opens policy.now) }
+    ensures tells { OnOk result (is_some (D.seen (disk_of journal.new)).contents ≡ is_some (D.seen (disk_of journal.old)).contents) }
+    ensures unfailed { OnOk result ((D.seen (disk_of journal.new)).faults ≡ (D.seen (disk_of journal.old)).faults) }
 {
     opening_sees_one_thing();
     let mut loaded = start(alloc, last, journal)?;
@@ -110,24 +110,24 @@ fn make<E: Engine, D: Disk>(
     journal: &mut Journal<D>,
 ) -> Result<Loaded<E>, StoreFault>
     requires accepted { IsSome (accepted policy.now) }
-    requires ended { HasEnded D.contents journal.old }
-    requires fresh { IfSome (D.contents (disk_of journal.old)) (λ file. (counted file ≡ []) × (journalled.found file ≢ journalled.NotJournal)) }
+    requires ended { HasEnded D.seen journal.old }
+    requires fresh { IfSome (D.seen (disk_of journal.old)).contents (λ file. (counted file ≡ []) × (journalled.found file ≢ journalled.NotJournal)) }
     ensures policy { IfOk result (λ l. l.policy.items ≡ policy.now) }
     ensures standing { IfOk result (λ l. IsStanding E.follows l) }
-    ensures read { IfOk result (λ l. (P : PlainPolicy) → accepted policy.now ≡ Some P → IfSome (D.contents (disk_of journal.old))
+    ensures read { IfOk result (λ l. (P : PlainPolicy) → accepted policy.now ≡ Some P → IfSome (D.seen (disk_of journal.old)).contents
         (IsRead policy.now P (payload_in l.point) l.before l.entries.items)) }
-    ensures kept { OnOk result (KeepsFound policy.now (D.contents (disk_of journal.old)) (D.contents (disk_of journal.new))) }
+    ensures kept { OnOk result (KeepsFound policy.now (D.seen (disk_of journal.old)).contents (D.seen (disk_of journal.new)).contents) }
     ensures few { IfOk result (λ l. 5 * (l.before + length l.entries.items) ≤ gate_of journal.new) }
-    ensures payloads { OnOk result (IfSome (D.contents (disk_of journal.old)) (λ file. length (counted file) < 2 ^ 63)) }
-    ensures closed { OnOk result (IsClosed D.contents journal.new) }
-    ensures places { OnOk result (SamePlaces (D.contents (disk_of journal.old)) (D.contents (disk_of journal.new))) }
-    ensures kind { OnOk result (SameKind (D.contents (disk_of journal.old)) (D.contents (disk_of journal.new))) }
-    ensures only { OnOk result (Only (D.contents (disk_of journal.new)) (D.images (disk_of journal.new))) }
-    ensures reason { IfErr result (λ fault. HasReason fault policy.now (D.contents (disk_of journal.old))
-        (D.faults (disk_of journal.old)) (D.faults (disk_of journal.new))) }
-    ensures images { LeavesAfter D.contents D.images D.moment D.images_since (disk_of journal.old) (disk_of journal.new) (Opens policy.now) }
-    ensures tells { OnOk result (is_some (D.contents (disk_of journal.new)) ≡ is_some (D.contents (disk_of journal.old))) }
-    ensures unfailed { OnOk result (D.faults (disk_of journal.new) ≡ D.faults (disk_of journal.old)) }
+    ensures payloads { OnOk result (IfSome (D.seen (disk_of journal.old)).contents (λ file. length (counted file) < 2 ^ 63)) }
+    ensures closed { OnOk result (IsClosed D.seen journal.new) }
+    ensures places { OnOk result (SamePlaces (D.seen (disk_of journal.old)).contents (D.seen (disk_of journal.new)).contents) }
+    ensures kind { OnOk result (SameKind (D.seen (disk_of journal.old)).contents (D.seen (disk_of journal.new)).contents) }
+    ensures only { OnOk result (Only (D.seen (disk_of journal.new)).contents (D.seen (disk_of journal.new)).images) }
+    ensures reason { IfErr result (λ fault. HasReason fault policy.now (D.seen (disk_of journal.old)).contents
+        (D.seen (disk_of journal.old)).faults (D.seen (disk_of journal.new)).faults) }
+    ensures images { LeavesAfter (D.seen (disk_of journal.old)) (D.seen (disk_of journal.new)) (Opens policy.now) }
+    ensures tells { OnOk result (is_some (D.seen (disk_of journal.new)).contents ≡ is_some (D.seen (disk_of journal.old)).contents) }
+    ensures unfailed { OnOk result ((D.seen (disk_of journal.new)).faults ≡ (D.seen (disk_of journal.old)).faults) }
 {
     let loaded = start_first(alloc, policy)?;
     journal.reserve(policy.len())?;

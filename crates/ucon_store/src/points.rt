@@ -82,7 +82,7 @@ pub(crate) fn prepare_point<E: Engine, D: Disk>(
 ) -> Result<Vec<u8>, PointRefusal>
     requires { before + length entries.now.items < 2 ^ 64 }
     ensures disk { disk_of journal.new ≡ disk_of journal.old }
-    ensures closed { IsClosed D.contents journal.old → IsClosed D.contents journal.new }
+    ensures closed { IsClosed D.seen journal.old → IsClosed D.seen journal.new }
     ensures gate { gate_of journal.new ≡ gate_of journal.old }
     ensures version { version_of journal.new ≡ version_of journal.old }
     ensures second { OnOk result (points_of (version_of journal.old) ≡ true) }

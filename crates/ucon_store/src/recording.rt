@@ -40,7 +40,7 @@ pub(crate) fn prepare<D: Disk>(
     requires client { caller.0 < 64 }
     requires few { length (revocations_in (reply_of reply.now)) ≤ 65536 }
     ensures disk { disk_of journal.new ≡ disk_of journal.old }
-    ensures closed { IsClosed D.contents journal.old → IsClosed D.contents journal.new }
+    ensures closed { IsClosed D.seen journal.old → IsClosed D.seen journal.new }
     ensures gate { gate_of journal.new ≡ gate_of journal.old }
     ensures entries { entries.new.items ≡ entries.old.items }
     ensures entry { IfOk result (λ e. e ≡ record { caller = caller; command = command.now }) }
@@ -71,7 +71,7 @@ pub(crate) fn record<E: Engine, D: Disk>(
     entry: Entry,
 ) -> Result<(), Entry>
     requires pending { IsPending E.has_pending engine.old }
-    requires closed { IsClosed D.contents journal.old }
+    requires closed { IsClosed D.seen journal.old }
     requires short { length payload.now ≤ MAX_PAYLOAD }
     requires room { HasRoomFor journal.old (length payload.now) }
     requires spare { 1 ≤ entries.old.spare }
@@ -83,16 +83,16 @@ pub(crate) fn record<E: Engine, D: Disk>(
     ensures added { OnOk result (entries.new.items ≡ entries.old.items ++ entry ∷ []) }
     ensures same { OnErr result (entries.new.items ≡ entries.old.items) }
     ensures entry { IfErr result (λ e. e ≡ entry) }
-    ensures closed { OnOk result (IsClosed D.contents journal.new) }
+    ensures closed { OnOk result (IsClosed D.seen journal.new) }
     ensures gate { OnOk result (gate_of journal.old + 5 ≤ gate_of journal.new) }
     ensures small { gate_of journal.new < 2 ^ 63 }
     ensures version { version_of journal.new ≡ version_of journal.old }
-    ensures only { OnOk result (Only (D.contents (disk_of journal.new)) (D.images (disk_of journal.new))) }
-    ensures payloads { OnOk result (IfSome (D.contents (disk_of journal.old)) (λ file.
-        told_payloads (D.contents (disk_of journal.new)) ≡ told_payloads (D.contents (disk_of journal.old)) ++ payload.now ∷ [])) }
-    ensures tells { is_some (D.contents (disk_of journal.new)) ≡ is_some (D.contents (disk_of journal.old)) }
-    ensures images { LeavesAfter D.contents D.images D.moment D.images_since (disk_of journal.old) (disk_of journal.new) (PerhapsAdded payload.now) }
-    ensures cause { HasCause (D.faults (disk_of journal.old)) (D.faults (disk_of journal.new)) result }
+    ensures only { OnOk result (Only (D.seen (disk_of journal.new)).contents (D.seen (disk_of journal.new)).images) }
+    ensures payloads { OnOk result (IfSome (D.seen (disk_of journal.old)).contents (λ file.
+        told_payloads (D.seen (disk_of journal.new)).contents ≡ told_payloads (D.seen (disk_of journal.old)).contents ++ payload.now ∷ [])) }
+    ensures tells { is_some (D.seen (disk_of journal.new)).contents ≡ is_some (D.seen (disk_of journal.old)).contents }
+    ensures images { LeavesAfter (D.seen (disk_of journal.old)) (D.seen (disk_of journal.new)) (PerhapsAdded payload.now) }
+    ensures cause { HasCause (D.seen (disk_of journal.old)).faults (D.seen (disk_of journal.new)).faults result }
 {
     if journal.append(payload).is_err() {
         engine.undo();

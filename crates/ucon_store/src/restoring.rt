@@ -4,6 +4,7 @@ ghost use Rattle.std.specs.Prelude.{◌≡◌, IfOk, MatchOption};
 ghost use Rattle.ucon_store.specs.Loading.{IsOfNone, TakesUp};
 
 use crate::beginning::Beginning;
+use crate::laws::checkpoints_of_traces_are_read_back;
 use std::alloc::Global;
 use ucon_base::NoMemory;
 use ucon_engine::{Engine, RestoreFault};
@@ -28,6 +29,7 @@ pub(crate) fn take_up<E: Engine>(
     ensures { IfOk result (λ restored. MatchOption restored (IsOfNone entries payload.now)
         (λ r. TakesUp E.follows entries payload.now r.engine r.point)) }
 {
+    checkpoints_of_traces_are_read_back();
     points_are_read_back();
     rows_make_what_they_say();
     states_follow_what_reads_alike();

@@ -35,21 +35,21 @@ pub(crate) fn start<E: Engine, D: Disk>(
     last: Option<LastPoint>,
     journal: &mut Journal<D>,
 ) -> Result<Loaded<E>, StoreFault>
-    requires reading { IsReading D.contents journal.old }
-    requires walked { IfSome (D.contents (disk_of journal.old)) (λ file.
+    requires reading { IsReading D.seen journal.old }
+    requires walked { IfSome (D.seen (disk_of journal.old)).contents (λ file.
         (counted file ≡ payload_of journal.old ∷ payloads_from file (gate_of journal.old)) × IsWalked (has_points file) (counted file) last) }
     requires below { IfSome last (IsPlacedBelow (2 ^ 63)) }
     requires gate { gate_of journal.old ≡ 13 + length (payload_of journal.old) }
     requires short { length (payload_of journal.old) ≤ MAX_PAYLOAD }
-    ensures loading { IfOk result (λ l. IsLoading E.follows D.contents l journal.new) }
+    ensures loading { IfOk result (λ l. IsLoading E.follows D.seen l journal.new) }
     ensures reason { IfErr result (λ fault. (text : List ℕ)
-        → HasReason fault text (D.contents (disk_of journal.old)) (D.faults (disk_of journal.old)) (D.faults (disk_of journal.new))) }
-    ensures reading { IsReading D.contents journal.new }
+        → HasReason fault text (D.seen (disk_of journal.old)).contents (D.seen (disk_of journal.old)).faults (D.seen (disk_of journal.new)).faults) }
+    ensures reading { IsReading D.seen journal.new }
     ensures version { version_of journal.new ≡ version_of journal.old }
-    ensures contents { D.contents (disk_of journal.new) ≡ D.contents (disk_of journal.old) }
-    ensures images { SameImages (D.images (disk_of journal.old)) (D.images (disk_of journal.new)) }
-    ensures run { LeavesOnly D.moment D.images_since (disk_of journal.old) (disk_of journal.new) (D.images (disk_of journal.old)) }
-    ensures unfailed { OnOk result (D.faults (disk_of journal.new) ≡ D.faults (disk_of journal.old)) }
+    ensures contents { (D.seen (disk_of journal.new)).contents ≡ (D.seen (disk_of journal.old)).contents }
+    ensures images { SameImages (D.seen (disk_of journal.old)).images (D.seen (disk_of journal.new)).images }
+    ensures run { LeavesOnly (D.seen (disk_of journal.old)) (D.seen (disk_of journal.new)) (D.seen (disk_of journal.old)).images }
+    ensures unfailed { OnOk result ((D.seen (disk_of journal.new)).faults ≡ (D.seen (disk_of journal.old)).faults) }
 {
     match last {
         None => start_first(alloc, journal.payload()),
@@ -94,21 +94,21 @@ fn start_behind<E: Engine, D: Disk>(
     last: LastPoint,
     journal: &mut Journal<D>,
 ) -> Result<Loaded<E>, StoreFault>
-    requires reading { IsReading D.contents journal.old }
-    requires walked { IfSome (D.contents (disk_of journal.old)) (λ file.
+    requires reading { IsReading D.seen journal.old }
+    requires walked { IfSome (D.seen (disk_of journal.old)).contents (λ file.
         (counted file ≡ payload_of journal.old ∷ payloads_from file (gate_of journal.old)) × IsWalked (has_points file) (counted file) (Some last)) }
     requires below { IsPlacedBelow (2 ^ 63) last }
     requires gate { gate_of journal.old ≡ 13 + length (payload_of journal.old) }
     requires short { length (payload_of journal.old) ≤ MAX_PAYLOAD }
-    ensures loading { IfOk result (λ l. IsLoading E.follows D.contents l journal.new) }
+    ensures loading { IfOk result (λ l. IsLoading E.follows D.seen l journal.new) }
     ensures reason { IfErr result (λ fault. (text : List ℕ)
-        → HasReason fault text (D.contents (disk_of journal.old)) (D.faults (disk_of journal.old)) (D.faults (disk_of journal.new))) }
-    ensures reading { IsReading D.contents journal.new }
+        → HasReason fault text (D.seen (disk_of journal.old)).contents (D.seen (disk_of journal.old)).faults (D.seen (disk_of journal.new)).faults) }
+    ensures reading { IsReading D.seen journal.new }
     ensures version { version_of journal.new ≡ version_of journal.old }
-    ensures contents { D.contents (disk_of journal.new) ≡ D.contents (disk_of journal.old) }
-    ensures images { SameImages (D.images (disk_of journal.old)) (D.images (disk_of journal.new)) }
-    ensures run { LeavesOnly D.moment D.images_since (disk_of journal.old) (disk_of journal.new) (D.images (disk_of journal.old)) }
-    ensures unfailed { OnOk result (D.faults (disk_of journal.new) ≡ D.faults (disk_of journal.old)) }
+    ensures contents { (D.seen (disk_of journal.new)).contents ≡ (D.seen (disk_of journal.old)).contents }
+    ensures images { SameImages (D.seen (disk_of journal.old)).images (D.seen (disk_of journal.new)).images }
+    ensures run { LeavesOnly (D.seen (disk_of journal.old)) (D.seen (disk_of journal.new)) (D.seen (disk_of journal.old)).images }
+    ensures unfailed { OnOk result ((D.seen (disk_of journal.new)).faults ≡ (D.seen (disk_of journal.old)).faults) }
 {
     let policy = copied(alloc, journal.payload())?;
     if read_accepted(alloc, &policy)?.is_none() {

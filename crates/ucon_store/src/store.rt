@@ -83,7 +83,7 @@ impl<E: Engine, D: Disk> Model for Store<E, D> {
       disk = disk_of s.journal;
     } };
 
-    ghost invariant = { λ s. IsKept E.follows D.contents D.images s.engine s.journal s.policy.items s.point s.before s.entries.items
+    ghost invariant = { λ s. IsKept E.follows D.seen s.engine s.journal s.policy.items s.point s.before s.entries.items
         s.mark };
 }
 
@@ -95,24 +95,24 @@ impl<E: Engine, D: Disk> Store<E, D> {
     pub fn open(alloc: Global, policy: &[u8], disk: D) -> Result<Store<E, D>, (D, StoreFault)>
         requires { IsSome (accepted policy.now) }
         ensures store { IfOk result (λ s. (s.policy ≡ policy.now) × (s.opening ≡ s.before + length s.entries) × (s.mark ≡ None)) }
-        ensures begins { IfOk result (λ s. IfSome (D.contents disk) (λ file. BeginsAt (last_point file) s.point s.before)) }
+        ensures begins { IfOk result (λ s. IfSome (D.seen disk).contents (λ file. BeginsAt (last_point file) s.point s.before)) }
         ensures leads { IfOk result (λ s. (P : PlainPolicy) → accepted policy.now ≡ Some P → (T : Trace) × IsStart P s.point s.before T) }
         ensures seen { IfOk result (λ s. (P : PlainPolicy) → accepted policy.now ≡ Some P
-            → IfSome (D.contents disk) (IsSeenAs P s.policy s.point s.before s.entries)) }
+            → IfSome (D.seen disk).contents (IsSeenAs P s.policy s.point s.before s.entries)) }
         ensures founded { IfOk result (λ s. (P : PlainPolicy) (file : List ℕ) (H : History) → accepted policy.now ≡ Some P
-            → D.contents disk ≡ Some file → IsFoundAs policy.now file H → GoesOnFrom D.contents D.images P s H) }
+            → (D.seen disk).contents ≡ Some file → IsFoundAs policy.now file H → GoesOnFrom D.seen P s H) }
         ensures first { IfOk result (λ s. IsBeforeAll s.point s.before → (P : PlainPolicy) → accepted policy.now ≡ Some P
-            → IsFounded D.contents D.images P s []) }
-        ensures found { IfOk result (λ s. IsBeforeAll s.point s.before → IfSome (D.contents disk) (λ file. IsFoundAs policy.now file s.entries)) }
-        ensures images { IfOk result (λ s. LeavesAfter D.contents D.images D.moment D.images_since disk s.disk (Opens policy.now)) }
-        ensures at_rest { IfOk result (λ s. Only (D.contents s.disk) (D.images s.disk)) }
-        ensures places { IfOk result (λ s. SamePlaces (D.contents disk) (D.contents s.disk)) }
-        ensures old { IfOk result (λ s. (before now : List ℕ) → D.contents disk ≡ Some before → D.contents s.disk ≡ Some now
+            → IsFounded D.seen P s []) }
+        ensures found { IfOk result (λ s. IsBeforeAll s.point s.before → IfSome (D.seen disk).contents (λ file. IsFoundAs policy.now file s.entries)) }
+        ensures images { IfOk result (λ s. LeavesAfter (D.seen disk) (D.seen s.disk) (Opens policy.now)) }
+        ensures at_rest { IfOk result (λ s. Only (D.seen s.disk).contents (D.seen s.disk).images) }
+        ensures places { IfOk result (λ s. SamePlaces (D.seen disk).contents (D.seen s.disk).contents) }
+        ensures old { IfOk result (λ s. (before now : List ℕ) → (D.seen disk).contents ≡ Some before → (D.seen s.disk).contents ≡ Some now
             → (has_points now ≡ false) ↔ IsOld before) }
-        ensures tells { IfOk result (λ s. is_some (D.contents s.disk) ≡ is_some (D.contents disk)) }
-        ensures unfailed { IfOk result (λ s. D.faults s.disk ≡ D.faults disk) }
-        ensures reason { IfErr result (λ e. HasReason e.1 policy.now (D.contents disk) (D.faults disk) (D.faults e.0)) }
-        ensures images_err { IfErr result (λ e. LeavesAfter D.contents D.images D.moment D.images_since disk e.0 (Opens policy.now)) }
+        ensures tells { IfOk result (λ s. is_some (D.seen s.disk).contents ≡ is_some (D.seen disk).contents) }
+        ensures unfailed { IfOk result (λ s. (D.seen s.disk).faults ≡ (D.seen disk).faults) }
+        ensures reason { IfErr result (λ e. HasReason e.1 policy.now (D.seen disk).contents (D.seen disk).faults (D.seen e.0).faults) }
+        ensures images_err { IfErr result (λ e. LeavesAfter (D.seen disk) (D.seen e.0) (Opens policy.now)) }
     {
         found_histories_stand_around_their_last_checkpoint();
         let mut journal = match Journal::open(alloc, disk) {
@@ -167,26 +167,26 @@ impl<E: Engine, D: Disk> Store<E, D> {
         ensures still { IsErrOf result StepFault.Stopped → self.new ≡ self.old }
         ensures failed_behind { IsErrOf result StepFault.DiskFault → (P : PlainPolicy) (T : Trace) → accepted self.old.policy ≡ Some P
             → IsStart P self.old.point self.old.before T
-            → HasFailedBehind D.faults P T self.old self.new (record { caller = caller; command = command.now }) }
+            → HasFailedBehind D.seen P T self.old self.new (record { caller = caller; command = command.now }) }
         ensures failed { IsErrOf result StepFault.DiskFault → (P : PlainPolicy) (G : History) → accepted self.old.policy ≡ Some P
-            → IsFront P self.old G → HasFailed D.faults P (whole G self.old) (whole G self.new) (record { caller = caller; command = command.now }) }
-        ensures inside { (P : PlainPolicy) (G : History) → IsFounded D.contents D.images P self.old G → IsSome (D.contents self.old.disk)
-            → LeavesOnly D.moment D.images_since self.old.disk self.new.disk
+            → IsFront P self.old G → HasFailed D.seen P (whole G self.old) (whole G self.new) (record { caller = caller; command = command.now }) }
+        ensures inside { (P : PlainPolicy) (G : History) → IsFounded D.seen P self.old G → IsSome (D.seen self.old.disk).contents
+            → LeavesOnly (D.seen self.old.disk) (D.seen self.new.disk)
             (IsFoundWith self.old.policy (G ++ self.old.entries) (Some (record { caller = caller; command = command.now }))) }
         ensures adds { (P : PlainPolicy) (T : Trace) (file : List ℕ) → accepted self.old.policy ≡ Some P
-            → IsStart P self.old.point self.old.before T → self.old.mark ≡ None → D.contents self.old.disk ≡ Some file
-            → LeavesOnly D.moment D.images_since self.old.disk self.new.disk
+            → IsStart P self.old.point self.old.before T → self.old.mark ≡ None → (D.seen self.old.disk).contents ≡ Some file
+            → LeavesOnly (D.seen self.old.disk) (D.seen self.new.disk)
             (AddsAtMost (step_payload P T self.old.entries (record { caller = caller; command = command.now })) file) }
         ensures added { IfOk result (λ p. changes (reply_of p.reply) ≡ true → (P : PlainPolicy) (T : Trace) (file : List ℕ)
-            → accepted self.old.policy ≡ Some P → IsStart P self.old.point self.old.before T → D.contents self.old.disk ≡ Some file
-            → told_payloads (D.contents self.new.disk)
+            → accepted self.old.policy ≡ Some P → IsStart P self.old.point self.old.before T → (D.seen self.old.disk).contents ≡ Some file
+            → told_payloads (D.seen self.new.disk).contents
             ≡ counted file ++ step_payload P T self.old.entries (record { caller = caller; command = command.now }) ∷ []) }
-        ensures at_rest { OnOk result (Only (D.contents self.new.disk) (D.images self.new.disk)) }
-        ensures founded { OnOk result ((P : PlainPolicy) (G : History) → IsFounded D.contents D.images P self.old G
-            → IsFounded D.contents D.images P self.new G) }
-        ensures unfailed { OnOk result (D.faults self.new.disk ≡ D.faults self.old.disk) }
+        ensures at_rest { OnOk result (Only (D.seen self.new.disk).contents (D.seen self.new.disk).images) }
+        ensures founded { OnOk result ((P : PlainPolicy) (G : History) → IsFounded D.seen P self.old G
+            → IsFounded D.seen P self.new G) }
+        ensures unfailed { OnOk result ((D.seen self.new.disk).faults ≡ (D.seen self.old.disk).faults) }
         ensures events { Continues (λ event. number_of event ≡ caller.0 + 1) (events_of self.old) (events_of self.new) }
-        ensures stays { Stays D.contents D.images D.moment D.images_since D.faults self.old self.new }
+        ensures stays { Stays D.seen self.old self.new }
     {
         payloads_are_found_one_by_one();
         if self.mark.is_some() {
@@ -238,29 +238,29 @@ impl<E: Engine, D: Disk> Store<E, D> {
         ensures stopped { IfOk result (λ r. IsErrOf r.1 PointRefusal.Stopped ↔ IsSome self.mark) }
         ensures same { IfOk result (λ r. IfErr r.1 (λ _. r.0 ≡ self)) }
         ensures why { IfOk result (λ r. IfErr r.1 (λ refusal. (P : PlainPolicy) (T : Trace) → accepted self.policy ≡ Some P
-            → IsStart P self.point self.before T → IsUnpointed D.contents P T self refusal)) }
+            → IsStart P self.point self.before T → IsUnpointed D.seen P T self refusal)) }
         ensures pointed { IfOk result (λ r. IfOk r.1 (λ entries. IsSameStore self r.0 × (entries ≡ self.before + length self.entries)
             × (self.mark ≡ None))) }
-        ensures second { IfOk result (λ r. OnOk r.1 (IfSome (D.contents self.disk) (λ file. has_points file ≡ true))) }
+        ensures second { IfOk result (λ r. OnOk r.1 (IfSome (D.seen self.disk).contents (λ file. has_points file ≡ true))) }
         ensures added { IfOk result (λ r. OnOk r.1 ((P : PlainPolicy) (G : History) (before file : List ℕ)
-            → IsFounded D.contents D.images P self G → D.contents self.disk ≡ Some before → D.contents r.0.disk ≡ Some file
+            → IsFounded D.seen P self G → (D.seen self.disk).contents ≡ Some before → (D.seen r.0.disk).contents ≡ Some file
             → point_places file ≡ point_places before ++ length (G ++ self.entries) ∷ [])) }
         ensures written { IfOk result (λ r. OnOk r.1 ((P : PlainPolicy) (T : Trace) (file : List ℕ) → accepted self.policy ≡ Some P
-            → IsStart P self.point self.before T → D.contents self.disk ≡ Some file → told_payloads (D.contents r.0.disk)
+            → IsStart P self.point self.before T → (D.seen self.disk).contents ≡ Some file → told_payloads (D.seen r.0.disk).contents
             ≡ counted file ++ checkpoint_behind self.policy self.point self.before P T self.entries ∷ [])) }
         ensures fits { IfOk result (λ r. OnOk r.1 ((P : PlainPolicy) (T : Trace) → accepted self.policy ≡ Some P
             → IsStart P self.point self.before T → length (checkpoint_behind self.policy self.point self.before P T self.entries) ≤ MAX_PAYLOAD)) }
-        ensures inside { IfOk result (λ r. OnOk r.1 ((P : PlainPolicy) (G : History) (file : List ℕ) → IsFounded D.contents D.images P self G
-            → D.contents self.disk ≡ Some file
-            → LeavesOnly D.moment D.images_since self.disk r.0.disk (IsFoundPointed self.policy (G ++ self.entries) (point_places file)))) }
-        ensures at_rest { IfOk result (λ r. OnOk r.1 (Only (D.contents r.0.disk) (D.images r.0.disk))) }
-        ensures founded { IfOk result (λ r. OnOk r.1 ((P : PlainPolicy) (G : History) → IsFounded D.contents D.images P self G
-            → IsFounded D.contents D.images P r.0 G)) }
-        ensures stays { IfOk result (λ r. OnOk r.1 (Stays D.contents D.images D.moment D.images_since D.faults self r.0)) }
-        ensures failed { IfErr result (λ disk. (self.mark ≡ None) × (D.faults disk ≡ raised (D.faults self.disk))) }
-        ensures inside_err { IfErr result (λ disk. (P : PlainPolicy) (G : History) (file : List ℕ) → IsFounded D.contents D.images P self G
-            → D.contents self.disk ≡ Some file
-            → LeavesOnly D.moment D.images_since self.disk disk (IsFoundPointed self.policy (G ++ self.entries) (point_places file))) }
+        ensures inside { IfOk result (λ r. OnOk r.1 ((P : PlainPolicy) (G : History) (file : List ℕ) → IsFounded D.seen P self G
+            → (D.seen self.disk).contents ≡ Some file
+            → LeavesOnly (D.seen self.disk) (D.seen r.0.disk) (IsFoundPointed self.policy (G ++ self.entries) (point_places file)))) }
+        ensures at_rest { IfOk result (λ r. OnOk r.1 (Only (D.seen r.0.disk).contents (D.seen r.0.disk).images)) }
+        ensures founded { IfOk result (λ r. OnOk r.1 ((P : PlainPolicy) (G : History) → IsFounded D.seen P self G
+            → IsFounded D.seen P r.0 G)) }
+        ensures stays { IfOk result (λ r. OnOk r.1 (Stays D.seen self r.0)) }
+        ensures failed { IfErr result (λ disk. (self.mark ≡ None) × ((D.seen disk).faults ≡ raised (D.seen self.disk).faults)) }
+        ensures inside_err { IfErr result (λ disk. (P : PlainPolicy) (G : History) (file : List ℕ) → IsFounded D.seen P self G
+            → (D.seen self.disk).contents ≡ Some file
+            → LeavesOnly (D.seen self.disk) (D.seen disk) (IsFoundPointed self.policy (G ++ self.entries) (point_places file))) }
     {
         payloads_are_found_one_by_one();
         if self.mark.is_some() {
@@ -356,7 +356,7 @@ impl<E: Engine, D: Disk> Store<E, D> {
     /// Gives the disk back.
     pub fn close(self) -> D
         ensures disk { result ≡ self.disk }
-        ensures at_rest { self.mark ≡ None → Only (D.contents result) (D.images result) }
+        ensures at_rest { self.mark ≡ None → Only (D.seen result).contents (D.seen result).images }
     {
         let Store {
             engine: _,

@@ -19,7 +19,7 @@ impl<E: Engine, D: Disk> Turned for Store<E, D> {
 
     ghost entries = { events_of };
 
-    ghost stays = { Stays D.contents D.images D.moment D.images_since D.faults };
+    ghost stays = { Stays D.seen };
 
     ghost first = { λ b. b.before + 1 };
 
@@ -34,7 +34,7 @@ impl<E: Engine, D: Disk> Turned for Store<E, D> {
         }
     }
 
-    ghost same = { λ x. stays_same D.contents D.images D.moment D.images_since D.faults D.only_now x };
+    ghost same = { λ x. stays_same D.seen D.only_now x };
 
-    ghost again = { λ x y z p q. stays_again D.contents D.images D.moment D.images_since D.faults D.counts_now x y z p q };
+    ghost again = { λ x y z p q. stays_again D.seen D.counts_now x y z p q };
 }

@@ -4,7 +4,8 @@ use std::alloc::{AllocError, Global};
 use std::test::Fail;
 use ucon_base::{Name, Rows, Side, Value};
 use ucon_command::{
-    LineFault, PayloadFault, command_text, put_payload, read_command, read_entry, read_payload,
+    LineFault, PayloadFault, RequestFault, command_text, put_payload, read_command, read_entry,
+    read_payload, read_request,
 };
 use ucon_model::{Caller, Command, Head, Refusal, Reply, Revoked, SessionState};
 use ucon_reply::{ReplyFault, read_reply, reply_text};
@@ -400,5 +401,43 @@ fn is_bad_at(alloc: Global, payload: &[u8], place: usize) -> bool {
 fn the_first_part_that_is_none_is_told(rt: HostRuntime) {
     for &(payload, place) in NO_PAYLOADS {
         assert!(rt; is_bad_at(rt.alloc(), payload, place), "{payload:?}");
+    }
+}
+
+/// A line of a conversation, whose it is, if anybody's, and why its command is refused, if it is.
+const REQUESTS: &[(&[u8], Option<u8>, Option<LineFault>)] = &[
+    (b"0 look 1", Some(0), None),
+    (b"9 amend right r {}", Some(9), None),
+    (b"63 try ann read doc1", Some(63), None),
+    (b"", None, None),
+    (b"7", None, None),
+    (b" look 1", None, None),
+    (b"look 1", None, None),
+    (b"7look 1", None, None),
+    (b"7\tlook 1", None, None),
+    (b"07 look 1", None, None),
+    (b"-1 look 1", None, None),
+    (b"64 look 1", None, None),
+    (b"100 look 1", None, None),
+    (b"7 ", Some(7), Some(LineFault::NoWord)),
+    (b"7  look 1", Some(7), Some(LineFault::NoWord)),
+    (b"7 watch 1", Some(7), Some(LineFault::UnknownWord)),
+    (b"7 look", Some(7), Some(LineFault::WrongCount(1))),
+    (b"7 look 1 2", Some(7), Some(LineFault::WrongCount(3))),
+    (b"7 look one", Some(7), Some(LineFault::BadWord(5))),
+];
+
+fn is_asked(alloc: Global, line: &[u8], caller: Option<u8>, fault: Option<LineFault>) -> bool {
+    match read_request(alloc, line) {
+        Ok(request) => caller == Some(request.caller.0) && fault.is_none(),
+        Err(RequestFault::BadClient) => caller.is_none(),
+        Err(RequestFault::BadCommand(whose, why)) => caller == Some(whose.0) && fault == Some(why),
+    }
+}
+
+#[test]
+fn each_request_is_read_or_refused(rt: HostRuntime) {
+    for &(line, caller, fault) in REQUESTS {
+        assert!(rt; is_asked(rt.alloc(), line, caller, fault), "{line:?}");
     }
 }

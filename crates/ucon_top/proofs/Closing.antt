@@ -19,20 +19,10 @@ no_mark (Some e) is = absurd (cc is)
 
 -- an output was written in one of these ways
 pub of_run : (outcome : Outcome) (text : Bytes) (stopped : Bool) (before now : Option Bytes) (failed fails : ℕ) → IsWritten outcome text stopped before now failed fails → IsOfRun outcome
-of_run outcomes.Done text stopped before now failed fails w = tt
-of_run outcomes.SinkFault text stopped before now failed fails w = tt
-of_run outcomes.DiskFault text stopped before now failed fails w = tt
-of_run (outcomes.NoMemory e) text stopped before now failed fails w = tt
-of_run outcomes.Usage text stopped before now failed fails w = w
-of_run (outcomes.Policy f) text stopped before now failed fails w = w
-of_run (outcomes.Script f) text stopped before now failed fails w = w
-of_run outcomes.SourceFault text stopped before now failed fails w = w
-of_run (outcomes.Damaged number place) text stopped before now failed fails w = w
-of_run outcomes.NotJournal text stopped before now failed fails w = w
-of_run (outcomes.OtherPolicy place) text stopped before now failed fails w = w
-of_run outcomes.TooLong text stopped before now failed fails w = w
-of_run (outcomes.FullPoint size) text stopped before now failed fails w = w
-of_run outcomes.OldJournal text stopped before now failed fails w = w
+of_run outcomes.Done text stopped before now failed fails w = (refl, refl)
+of_run outcomes.SinkFault text stopped before now failed fails w = (refl, refl)
+of_run outcomes.DiskFault text stopped before now failed fails w = (refl, refl)
+of_run outcome text stopped before now failed fails w = absurd w
 
 -- and the sink's count tells whether it failed
 pub counted : (outcome : Outcome) (text : Bytes) (stopped : Bool) (before now : Option Bytes) (failed fails : ℕ) → IsWritten outcome text stopped before now failed fails
@@ -40,35 +30,14 @@ pub counted : (outcome : Outcome) (text : Bytes) (stopped : Bool) (before now : 
 counted outcomes.Done text stopped before now failed fails w = ((λ is. absurd (cc is)), (λ other. w.1.1))
 counted outcomes.DiskFault text stopped before now failed fails w = ((λ is. absurd (cc is)), (λ other. w.1.1))
 counted outcomes.SinkFault text stopped before now failed fails w = ((λ is. w.0), (λ other. absurd (other refl)))
-counted (outcomes.NoMemory e) text stopped before now failed fails w = absurd w
-counted outcomes.Usage text stopped before now failed fails w = absurd w
-counted (outcomes.Policy f) text stopped before now failed fails w = absurd w
-counted (outcomes.Script f) text stopped before now failed fails w = absurd w
-counted outcomes.SourceFault text stopped before now failed fails w = absurd w
-counted (outcomes.Damaged number place) text stopped before now failed fails w = absurd w
-counted outcomes.NotJournal text stopped before now failed fails w = absurd w
-counted (outcomes.OtherPolicy place) text stopped before now failed fails w = absurd w
-counted outcomes.TooLong text stopped before now failed fails w = absurd w
-counted (outcomes.FullPoint size) text stopped before now failed fails w = absurd w
-counted outcomes.OldJournal text stopped before now failed fails w = absurd w
+counted outcome text stopped before now failed fails w = absurd w
 
 -- and it tells of the store's mark
 pub marked_so : (outcome : Outcome) (mark : Option Entry) (text : Bytes) (stopped : Bool) (before now : Option Bytes) (failed fails : ℕ)
     → is_some mark ≡ stopped → IsWritten outcome text stopped before now failed fails → IsMarkedBy outcome mark
 marked_so outcomes.Done mark text stopped before now failed fails is w = no_mark mark (is ∙ w.0)
 marked_so outcomes.DiskFault mark text stopped before now failed fails is w = is ∙ w.0
-marked_so outcomes.SinkFault mark text stopped before now failed fails is w = tt
-marked_so (outcomes.NoMemory e) mark text stopped before now failed fails is w = tt
-marked_so outcomes.Usage mark text stopped before now failed fails is w = tt
-marked_so (outcomes.Policy f) mark text stopped before now failed fails is w = tt
-marked_so (outcomes.Script f) mark text stopped before now failed fails is w = tt
-marked_so outcomes.SourceFault mark text stopped before now failed fails is w = tt
-marked_so (outcomes.Damaged number place) mark text stopped before now failed fails is w = tt
-marked_so outcomes.NotJournal mark text stopped before now failed fails is w = tt
-marked_so (outcomes.OtherPolicy place) mark text stopped before now failed fails is w = tt
-marked_so outcomes.TooLong mark text stopped before now failed fails is w = tt
-marked_so (outcomes.FullPoint size) mark text stopped before now failed fails is w = tt
-marked_so outcomes.OldJournal mark text stopped before now failed fails is w = tt
+marked_so outcome mark text stopped before now failed fails is w = tt
 
 module _ {D : Type 0} (sees : Caller → Caller → Bool) (P : PlainPolicy) (store closed : Kept D) (lines : List Entry) (text : Bytes) (stopped : Bool) (before now : Option Bytes) (failed fails : ℕ)
     (answers : AreAnswered sees P store closed lines (HaveOutput (λ out. out ≡ text) lines)) (is_stopped : is_some closed.mark ≡ stopped) where
@@ -79,14 +48,4 @@ module _ {D : Type 0} (sees : Caller → Caller → Bool) (P : PlainPolicy) (sto
   ends_so outcomes.Done w = went_out (Appends before now) w.1.0
   ends_so outcomes.DiskFault w = went_out (Appends before now) w.1.0
   ends_so outcomes.SinkFault w = went_out (AppendsPrefix before now) w.1
-  ends_so (outcomes.NoMemory e) w = absurd w
-  ends_so outcomes.Usage w = absurd w
-  ends_so (outcomes.Policy f) w = absurd w
-  ends_so (outcomes.Script f) w = absurd w
-  ends_so outcomes.SourceFault w = absurd w
-  ends_so (outcomes.Damaged number place) w = absurd w
-  ends_so outcomes.NotJournal w = absurd w
-  ends_so (outcomes.OtherPolicy place) w = absurd w
-  ends_so outcomes.TooLong w = absurd w
-  ends_so (outcomes.FullPoint size) w = absurd w
-  ends_so outcomes.OldJournal w = absurd w
+  ends_so outcome w = absurd w

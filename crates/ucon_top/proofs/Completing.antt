@@ -1,5 +1,5 @@
 -- A run that nothing hinders is complete: the causes of all other ends are excluded.
-use Rattle.std.proofs.Common.{◌≡◌, ℕ, ◌+◌, ◌<◌, ◌≤◌, List, [], ◌∷◌, refl, sym, ap, subst, ◌∙◌, arith}
+use Rattle.std.proofs.Common.{◌≡◌, false, true, ℕ, ◌+◌, ◌<◌, ◌≤◌, [], ◌∷◌, refl, sym, ap, subst, ◌∙◌, arith}
 use Rattle.std.specs.Prelude.{Option, Some, None, IfSome, length, option_map, if◌then◌else◌}
 use Rattle.std.proofs.lemmas.Bool.{eq-eqb}
 use Rattle.ucon_flow.specs.Causes.{Rose}
@@ -12,14 +12,13 @@ use Rattle.ucon_top.specs.declared.form.Form.{Form}
 use Rattle.ucon_top.specs.declared.form.Form.TheVariants as forms
 use Rattle.ucon_outcome.specs.declared.outcome.Outcome.{Outcome}
 use Rattle.ucon_outcome.specs.declared.outcome.Outcome.TheVariants as outcomes
-use Rattle.ucon_top.specs.Accepted.{IsAccepted, IsRefusedBy}
-use Rattle.ucon_top.specs.Complete.{IsComplete, IsOwnJournal, IsUnhindered}
+use Rattle.ucon_top.specs.Complete.{IsComplete}
 use Rattle.ucon_top.specs.Ending.{IsCounted, IsOfDocument, IsOfPrinting, IsUnrefused, MayEnd}
 use Rattle.ucon_top.specs.Own.{HasEntries}
-use Rattle.ucon_top.specs.Played.{HasPlayed}
-use Rattle.ucon_top.specs.Pointed.{HasPointed}
 use Rattle.ucon_top.specs.Printed.{document_of}
 use Rattle.ucon_top.specs.Unread.{IsUnread}
+use Rattle.ucon_top.specs.Seen.{Seen as AllSeen}
+use Rattle.ucon_top.specs.OwnReading.{HasPlayed, HasPointed, IsAccepted, IsOwnJournal, IsRefusedBy, IsUnhindered}
 
 -- ---- no reason not to open holds of one's own journal
 
@@ -60,42 +59,28 @@ too_much n le less = omega (arith, le, less)
 
 not_long : (form : Form) (input : Option Bytes) (bytes : Bytes) → MayEnd form outcomes.TooLong → document_of form input ≡ Some bytes → IsAccepted bytes
     → IfSome input (λ b. 4194304 < length b) → ⊥
-not_long forms.Trial input bytes may is accepted long = too_much (length bytes) accepted.short (subst (λ (o : Option Bytes). IfSome o (λ b. 4194304 < length b)) is long)
-not_long forms.Check input bytes may is accepted long = too_much (length bytes) accepted.short (subst (λ (o : Option Bytes). IfSome o (λ b. 4194304 < length b)) is long)
-not_long forms.Play input bytes may is accepted long = too_much (length bytes) accepted.short (subst (λ (o : Option Bytes). IfSome o (λ b. 4194304 < length b)) is long)
-not_long forms.Serve input bytes may is accepted long = too_much (length bytes) accepted.short (subst (λ (o : Option Bytes). IfSome o (λ b. 4194304 < length b)) is long)
-not_long forms.Point input bytes may is accepted long = too_much (length bytes) accepted.short (subst (λ (o : Option Bytes). IfSome o (λ b. 4194304 < length b)) is long)
-not_long (forms.Gen seed size) input bytes may is accepted long = may
+not_long (forms.Gen seed size) input bytes may is accepted long = (let bad : false ≡ true = may.0 in cc bad)
+not_long form input bytes may is accepted long = too_much (length bytes) accepted.short (subst (λ (o : Option Bytes). IfSome o (λ b. 4194304 < length b)) is long)
 
 -- ---- by how the run ended
 
 rose : (before now : ℕ) → now ≡ raised before → Rose before now
 rose before now is = subst (λ (n : ℕ). raised before ≤ n) (sym is) (omega arith)
 
-module _ (contents : Option Bytes) (source source' sink sink' disk disk' : ℕ) where
+module _ (before after : AllSeen) where
   abbrev Completes : Form → Outcome → Bytes → Type 0
-  Completes form outcome bytes = IsUnhindered form bytes contents source source' sink sink' disk disk' → IsComplete outcome
+  Completes form outcome bytes = IsUnhindered form bytes before after → IsComplete outcome
 
   -- the document wasn't read
-  pub unread_complete : (form : Form) (outcome : Outcome) (input : Option Bytes) → IsUnread input source source' outcome → MayEnd form outcome
+  pub unread_complete : (form : Form) (outcome : Outcome) (input : Option Bytes) → IsUnread input before.source.faults after.source.faults outcome → MayEnd form outcome
       → IfSome (document_of form input) (Completes form outcome)
   unread_complete form outcome input unread may = over (document_of form input) refl
     where
-      by_outcome : (o : Outcome) (bytes : Bytes) → IsUnread input source source' o → MayEnd form o → document_of form input ≡ Some bytes → Completes form o bytes
+      by_outcome : (o : Outcome) (bytes : Bytes) → IsUnread input before.source.faults after.source.faults o → MayEnd form o → document_of form input ≡ Some bytes → Completes form o bytes
       by_outcome outcomes.SourceFault bytes h m is u = absurd (u.source_works (rose _ _ h))
       by_outcome outcomes.TooLong bytes h m is u = absurd (not_long form input bytes m is u.accepted h.0)
-      by_outcome (outcomes.NoMemory e) bytes h m is u = tt
-      by_outcome outcomes.Done bytes h m is u = tt
-      by_outcome outcomes.Usage bytes h m is u = absurd h
-      by_outcome (outcomes.Policy f) bytes h m is u = absurd h
-      by_outcome (outcomes.Script f) bytes h m is u = absurd h
-      by_outcome outcomes.SinkFault bytes h m is u = absurd h
-      by_outcome outcomes.DiskFault bytes h m is u = absurd h
-      by_outcome (outcomes.Damaged number place) bytes h m is u = absurd h
-      by_outcome outcomes.NotJournal bytes h m is u = absurd h
-      by_outcome (outcomes.OtherPolicy place) bytes h m is u = absurd h
-      by_outcome (outcomes.FullPoint size) bytes h m is u = absurd h
-      by_outcome outcomes.OldJournal bytes h m is u = absurd h
+      by_outcome (outcomes.NoMemory e) bytes h m is u = refl
+      by_outcome o bytes h m is u = absurd h
 
       over : (o : Option Bytes) → document_of form input ≡ o → IfSome o (Completes form outcome)
       over None is = tt
@@ -109,66 +94,53 @@ module _ (contents : Option Bytes) (source source' sink sink' disk disk' : ℕ) 
 
   -- nothing but its document and the sink can end a run without a journal
   pub printed_complete : (form : Form) (outcome : Outcome) (bytes : Bytes) → (IsAccepted bytes → IsRefusedBy outcome bytes → IsUnrefused outcome)
-      → IsRefusedBy outcome bytes → IsOfPrinting outcome → IsCounted outcome outcomes.SinkFault sink sink' → Completes form outcome bytes
-  printed_complete form outcomes.Done bytes unrefused refused ends sink u = tt
-  printed_complete form (outcomes.NoMemory e) bytes unrefused refused ends sink u = tt
-  printed_complete form (outcomes.Policy f) bytes unrefused refused ends sink u = absurd (unrefused u.accepted refused)
-  printed_complete form (outcomes.Script f) bytes unrefused refused ends sink u = absurd (unrefused u.accepted refused)
+      → IsRefusedBy outcome bytes → IsOfPrinting outcome → IsCounted outcome outcomes.SinkFault before.sink.faults after.sink.faults → Completes form outcome bytes
+  printed_complete form outcomes.Done bytes unrefused refused ends sink u = refl
+  printed_complete form (outcomes.NoMemory e) bytes unrefused refused ends sink u = refl
+  printed_complete form (outcomes.Policy f) bytes unrefused refused ends sink u = absurd (cc (unrefused u.accepted refused))
+  printed_complete form (outcomes.Script f) bytes unrefused refused ends sink u = absurd (cc (unrefused u.accepted refused))
   printed_complete form outcomes.SinkFault bytes unrefused refused ends sink u = absurd (u.sink_works (rose _ _ (sink.0 refl)))
-  printed_complete form outcomes.Usage bytes unrefused refused ends sink u = absurd ends
-  printed_complete form outcomes.SourceFault bytes unrefused refused ends sink u = absurd ends
-  printed_complete form outcomes.DiskFault bytes unrefused refused ends sink u = absurd ends
-  printed_complete form (outcomes.Damaged number place) bytes unrefused refused ends sink u = absurd ends
-  printed_complete form outcomes.NotJournal bytes unrefused refused ends sink u = absurd ends
-  printed_complete form (outcomes.OtherPolicy place) bytes unrefused refused ends sink u = absurd ends
-  printed_complete form outcomes.TooLong bytes unrefused refused ends sink u = absurd ends
-  printed_complete form (outcomes.FullPoint size) bytes unrefused refused ends sink u = absurd ends
-  printed_complete form outcomes.OldJournal bytes unrefused refused ends sink u = absurd ends
+  printed_complete form outcome bytes unrefused refused ends sink u = absurd (cc (ends.0, ends.1))
 
 -- nor anything but these and its journal one over a journal
-module _ {D : Type 0} (contents : D → Option (List ℕ)) (images : D → List ℕ → Type 0) (moment : D → ℕ) (images_since : D → ℕ → List ℕ → Type 0) (faults : D → ℕ)
-    {K : Type 0} (held : K → Option Bytes) (form : Form) (old new : D) (was written : K) (source source' sink sink' : ℕ) (bytes : Bytes) (sees_one : SeesOneThing) where
+module _ (form : Form) (before after : AllSeen) (bytes : Bytes) (sees_one : SeesOneThing) where
   pub played_complete : (outcome : Outcome) → (IsAccepted bytes → IsRefusedBy outcome bytes → IsUnrefused outcome) → IsRefusedBy outcome bytes → IsOfDocument outcome
-      → IsCounted outcome outcomes.SinkFault sink sink' → (outcome ≡ outcomes.DiskFault → faults new ≡ raised (faults old))
-      → HasPlayed contents images moment images_since faults held form outcome bytes old new was written
-      → (IsUnhindered form bytes (contents old) source source' sink sink' (faults old) (faults new) → IsOwnJournal (policy_part bytes) (contents old))
-      → Completes (contents old) source source' sink sink' (faults old) (faults new) form outcome bytes
-  played_complete outcomes.Done unrefused refused ends sink disk played own u = tt
-  played_complete (outcomes.NoMemory e) unrefused refused ends sink disk played own u = tt
-  played_complete (outcomes.Policy f) unrefused refused ends sink disk played own u = absurd (unrefused u.accepted refused)
-  played_complete (outcomes.Script f) unrefused refused ends sink disk played own u = absurd (unrefused u.accepted refused)
+      → IsCounted outcome outcomes.SinkFault before.sink.faults after.sink.faults → (outcome ≡ outcomes.DiskFault → after.disk.faults ≡ raised before.disk.faults)
+      → HasPlayed form outcome bytes before.disk after.disk before.sink after.sink
+      → (IsUnhindered form bytes before after → IsOwnJournal (policy_part bytes) before.disk.contents)
+      → Completes before after form outcome bytes
+  played_complete outcomes.Done unrefused refused ends sink disk played own u = refl
+  played_complete (outcomes.NoMemory e) unrefused refused ends sink disk played own u = refl
+  played_complete (outcomes.Policy f) unrefused refused ends sink disk played own u = absurd (cc (unrefused u.accepted refused))
+  played_complete (outcomes.Script f) unrefused refused ends sink disk played own u = absurd (cc (unrefused u.accepted refused))
   played_complete outcomes.SinkFault unrefused refused ends sink disk played own u = absurd (u.sink_works (rose _ _ (sink.0 refl)))
   played_complete outcomes.DiskFault unrefused refused ends sink disk played own u = absurd (u.disk_works (rose _ _ (disk refl)))
   played_complete (outcomes.Damaged number place) unrefused refused ends sink disk played own u =
-      absurd (not_damaged sees_one (policy_part bytes) (contents old) (own u) number place played.reason.0)
-  played_complete outcomes.NotJournal unrefused refused ends sink disk played own u = absurd (not_foreign sees_one (policy_part bytes) (contents old) (own u) played.reason.0)
+      absurd (not_damaged sees_one (policy_part bytes) before.disk.contents (own u) number place played.reason.0)
+  played_complete outcomes.NotJournal unrefused refused ends sink disk played own u = absurd (not_foreign sees_one (policy_part bytes) before.disk.contents (own u) played.reason.0)
   played_complete (outcomes.OtherPolicy place) unrefused refused ends sink disk played own u =
-      absurd (not_others sees_one (policy_part bytes) (contents old) (own u) place played.reason.0)
-  played_complete outcomes.Usage unrefused refused ends sink disk played own u = absurd ends
-  played_complete outcomes.SourceFault unrefused refused ends sink disk played own u = absurd ends
-  played_complete outcomes.TooLong unrefused refused ends sink disk played own u = absurd ends
-  played_complete (outcomes.FullPoint size) unrefused refused ends sink disk played own u = tt
-  played_complete outcomes.OldJournal unrefused refused ends sink disk played own u = tt
+      absurd (not_others sees_one (policy_part bytes) before.disk.contents (own u) place played.reason.0)
+  played_complete (outcomes.FullPoint size) unrefused refused ends sink disk played own u = refl
+  played_complete outcomes.OldJournal unrefused refused ends sink disk played own u = refl
+  played_complete outcome unrefused refused ends sink disk played own u = absurd (cc ends)
 
   -- the same of a checkpoint
   pub pointed_complete : (outcome : Outcome) → (IsAccepted bytes → IsRefusedBy outcome bytes → IsUnrefused outcome) → IsRefusedBy outcome bytes → IsOfDocument outcome
-      → IsCounted outcome outcomes.SinkFault sink sink' → (outcome ≡ outcomes.DiskFault → faults new ≡ raised (faults old))
-      → HasPointed contents images moment images_since faults held outcome bytes old new was written
-      → (IsUnhindered form bytes (contents old) source source' sink sink' (faults old) (faults new) → IsOwnJournal (policy_part bytes) (contents old))
-      → Completes (contents old) source source' sink sink' (faults old) (faults new) form outcome bytes
-  pointed_complete outcomes.Done unrefused refused ends sink disk pointed own u = tt
-  pointed_complete (outcomes.NoMemory e) unrefused refused ends sink disk pointed own u = tt
-  pointed_complete (outcomes.FullPoint size) unrefused refused ends sink disk pointed own u = tt
-  pointed_complete outcomes.OldJournal unrefused refused ends sink disk pointed own u = tt
-  pointed_complete (outcomes.Policy f) unrefused refused ends sink disk pointed own u = absurd (unrefused u.accepted refused)
-  pointed_complete (outcomes.Script f) unrefused refused ends sink disk pointed own u = absurd (unrefused u.accepted refused)
+      → IsCounted outcome outcomes.SinkFault before.sink.faults after.sink.faults → (outcome ≡ outcomes.DiskFault → after.disk.faults ≡ raised before.disk.faults)
+      → HasPointed outcome bytes before.disk after.disk before.sink after.sink
+      → (IsUnhindered form bytes before after → IsOwnJournal (policy_part bytes) before.disk.contents)
+      → Completes before after form outcome bytes
+  pointed_complete outcomes.Done unrefused refused ends sink disk pointed own u = refl
+  pointed_complete (outcomes.NoMemory e) unrefused refused ends sink disk pointed own u = refl
+  pointed_complete (outcomes.FullPoint size) unrefused refused ends sink disk pointed own u = refl
+  pointed_complete outcomes.OldJournal unrefused refused ends sink disk pointed own u = refl
+  pointed_complete (outcomes.Policy f) unrefused refused ends sink disk pointed own u = absurd (cc (unrefused u.accepted refused))
+  pointed_complete (outcomes.Script f) unrefused refused ends sink disk pointed own u = absurd (cc (unrefused u.accepted refused))
   pointed_complete outcomes.SinkFault unrefused refused ends sink disk pointed own u = absurd (u.sink_works (rose _ _ (sink.0 refl)))
   pointed_complete outcomes.DiskFault unrefused refused ends sink disk pointed own u = absurd (u.disk_works (rose _ _ (disk refl)))
   pointed_complete (outcomes.Damaged number place) unrefused refused ends sink disk pointed own u =
-      absurd (not_damaged sees_one (policy_part bytes) (contents old) (own u) number place pointed.reason.0)
-  pointed_complete outcomes.NotJournal unrefused refused ends sink disk pointed own u = absurd (not_foreign sees_one (policy_part bytes) (contents old) (own u) pointed.reason.0)
+      absurd (not_damaged sees_one (policy_part bytes) before.disk.contents (own u) number place pointed.reason.0)
+  pointed_complete outcomes.NotJournal unrefused refused ends sink disk pointed own u = absurd (not_foreign sees_one (policy_part bytes) before.disk.contents (own u) pointed.reason.0)
   pointed_complete (outcomes.OtherPolicy place) unrefused refused ends sink disk pointed own u =
-      absurd (not_others sees_one (policy_part bytes) (contents old) (own u) place pointed.reason.0)
-  pointed_complete outcomes.Usage unrefused refused ends sink disk pointed own u = absurd ends
-  pointed_complete outcomes.SourceFault unrefused refused ends sink disk pointed own u = absurd ends
-  pointed_complete outcomes.TooLong unrefused refused ends sink disk pointed own u = absurd ends
+      absurd (not_others sees_one (policy_part bytes) before.disk.contents (own u) place pointed.reason.0)
+  pointed_complete outcome unrefused refused ends sink disk pointed own u = absurd (cc ends)

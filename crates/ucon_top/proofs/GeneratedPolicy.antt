@@ -19,7 +19,7 @@ use Rattle.ucon_syntax.specs.Policies.{preds_at, updates_at, right_at, attrs_at,
 use Rattle.ucon_syntax.specs.Starts.{factor_start, sum_sign, unit_start, op_of, side_of, kind_word, phase_of, test_sort, duty_word, when_of, name_in}
 use Rattle.ucon_syntax.specs.declared.read.SyntaxFault.{SyntaxFault}
 use Rattle.ucon_token.specs.Tokens.{is_symbol, is_word, is_joined, word_of, number_of, text_of as token_text, sign_of, flaw_at}
-use Rattle.ucon_top.specs.Accepted.{IsAccepted}
+use Rattle.ucon_top.specs.OwnReading.{IsAccepted}
 
 -- a text is read as a well typed policy
 abbrev is_fine : Result PlainPolicy SyntaxFault → Bool

@@ -1,3 +1,4 @@
+pub mod Reading
 pub mod Answering
 pub mod Behind
 pub mod Forms
@@ -9,6 +10,7 @@ pub mod Adding
 pub mod Refusing
 pub mod Serving
 pub mod Stepwise
+pub mod Leaving
 pub mod Parted
 pub mod Playing
 pub mod Pointing

@@ -28,34 +28,36 @@ use Rattle.ucon_outcome.specs.declared.outcome.Outcome.TheVariants as outcomes
 use Rattle.ucon_top.specs.Accepted.{HasPolicy}
 use Rattle.ucon_top.specs.Closing.{Closes, EndsRun, IsClosedRun, IsMarkedBy, IsOfRun}
 use Rattle.ucon_top.specs.Form.{output_order, sees_by}
-use Rattle.ucon_top.specs.Own.{IsOwnFile}
-use Rattle.ucon_top.specs.Played.{HasPlayed, HasPlayedInput, HasRun, IsFoundSince, IsPlayed, IsRunOver}
 use Rattle.ucon_trial.specs.Runs.{IsUnfaulted}
+use Rattle.ucon_top.specs.Seen.{as_it_was}
 use Rattle.ucon_top.specs.Stepping.{AreAnswered, HaveOutput, IsRunBetween}
 use Rattle.ucon_top.specs.Unread.{IsUnread}
+use Rattle.ucon_top.specs.OwnReading.{HasPlayed, HasPlayedInput, HasRun, IsFoundSince, IsOwnFile, IsPlayed, IsRunOver}
 use Rattle.ucon_top.proofs.Answering.{none_faulted}
 use Rattle.ucon_top.proofs.Behind.{begins_behind}
+use Rattle.ucon_disk.specs.Seen.{DiskSeen}
+use Rattle.ucon_flow.specs.Seen.{SinkSeen}
 
-module _ {D : Type 0} (contents : D → Option (List ℕ)) (images : D → List ℕ → Type 0) (moment : D → ℕ) (images_since : D → ℕ → List ℕ → Type 0) (faults : D → ℕ) where
+module _ {D : Type 0} (seen : D → DiskSeen) where
   -- what the opening of a store under a policy told
   pub record IsOpened (P : PlainPolicy) (text : Bytes) (disk : D) (store : Kept D) : Type 0 where
     pub policy : store.policy ≡ text
     pub unmarked : store.mark ≡ None
-    pub images_kept : LeavesAfter contents images moment images_since disk store.disk (Opens text)
-    pub unfailed : faults store.disk ≡ faults disk
-    pub tells : IsSome (contents disk) → IsSome (contents store.disk)
-    pub own : IfSome (contents disk) (IsOwnFile text (store.before + length store.entries))
-    pub founded : (file : Bytes) (H : History) → contents disk ≡ Some file → IsFoundAs text file H → GoesOnFrom contents images P store H
+    pub images_kept : LeavesAfter (seen disk) (seen store.disk) (Opens text)
+    pub unfailed : (seen store.disk).faults ≡ (seen disk).faults
+    pub tells : IsSome (seen disk).contents → IsSome (seen store.disk).contents
+    pub own : IfSome (seen disk).contents (IsOwnFile text (store.before + length store.entries))
+    pub founded : (file : Bytes) (H : History) → (seen disk).contents ≡ Some file → IsFoundAs text file H → GoesOnFrom seen P store H
 
   module _ (P : PlainPolicy) (text : Bytes) (disk : D) (store closed : Kept D) (now : D) (opened : IsOpened P text disk store)
-      (closes : Closes contents images moment images_since faults store closed now) where
+      (closes : Closes seen store closed now) where
     -- ---- images, behind a history on which the store is founded and as which with its entries the file was found
 
-    module _ (file : Bytes) (told : contents disk ≡ Some file) (G : History) (f : IsFounded contents images P store G) (found : IsFoundAs text file (G ++ store.entries)) where
+    module _ (file : Bytes) (told : (seen disk).contents ≡ Some file) (G : History) (f : IsFounded seen P store G) (found : IsFoundAs text file (G ++ store.entries)) where
       abbrev Since : Bytes → Type 0
       Since c = IsFoundSince text (G ++ store.entries) (G ++ closed.entries) closed.mark c
 
-      told_opened : IsSome (contents store.disk)
+      told_opened : IsSome (seen store.disk).contents
       told_opened = opened.tells (rw told refl)
 
       found_at_first : (c : Bytes) → IsFoundAs text c (G ++ store.entries) → Since c
@@ -75,36 +77,36 @@ module _ {D : Type 0} (contents : D → Option (List ℕ)) (images : D → List 
       }
 
       -- what a crash leaves where the store was opened
-      found_resting : (c : Bytes) → images store.disk c → IsFoundAs text c (G ++ store.entries)
+      found_resting : (c : Bytes) → (seen store.disk).images c → IsFoundAs text c (G ++ store.entries)
       found_resting c image =
-          subst (λ (t : Bytes). IsFoundAs t c (G ++ store.entries)) opened.policy (found_founded contents images P store G f told_opened c image)
+          subst (λ (t : Bytes). IsFoundAs t c (G ++ store.entries)) opened.policy (found_founded seen P store G f told_opened c image)
 
-      since_opened : IsAtRest (contents disk) (images disk) file → LeavesOnly moment images_since disk closed.disk Since
+      since_opened : IsAtRest (seen disk) file → LeavesOnly (seen disk) (seen closed.disk) Since
       since_opened rest =
-          joined moment images_since disk store.disk closed.disk Since
-          (weaker moment images_since disk store.disk (Opens text file) Since (λ c o. found_at_first c (o.same (G ++ store.entries) found)) (opened.images_kept.each file rest))
-          (weaker moment images_since store.disk closed.disk (λ c. images store.disk c ⊎ IsFoundBetween (whole G store) (whole G closed) c) Since
+          joined (seen disk) (seen store.disk) (seen closed.disk) Since
+          (weaker (seen disk) (seen store.disk) (Opens text file) Since (λ c o. found_at_first c (o.same (G ++ store.entries) found)) (opened.images_kept.each file rest))
+          (weaker (seen store.disk) (seen closed.disk) (λ c. (seen store.disk).images c ⊎ IsFoundBetween (whole G store) (whole G closed) c) Since
           (λ c. ⊎_elim (λ image. found_at_first c (found_resting c image)) (found_between c)) (closes.stays.left P G f told_opened))
 
-      since_now : IsAtRest (contents disk) (images disk) file → LeavesOnly moment images_since disk now Since
-      since_now rest = subst (λ (d : D). LeavesOnly moment images_since disk d Since) (sym closes.disk_is) (since_opened rest)
+      since_now : IsAtRest (seen disk) file → LeavesOnly (seen disk) (seen now) Since
+      since_now rest = subst (λ (d : D). LeavesOnly (seen disk) (seen d) Since) (sym closes.disk_is) (since_opened rest)
 
       -- what a crash leaves behind the closing
-      left_now : (c : Bytes) → images now c → IsFoundWith text (G ++ closed.entries) closed.mark c
+      left_now : (c : Bytes) → (seen now).images c → IsFoundWith text (G ++ closed.entries) closed.mark c
       left_now c image =
           subst (λ (t : Bytes). IsFoundWith t (G ++ closed.entries) closed.mark c) (closes.stays.policy ∙ opened.policy)
-          (closes.stays.left_now P G f (closes.stays.tells told_opened) c (subst (λ (d : D). images d c) closes.disk_is image))
+          (closes.stays.left_now P G f (closes.stays.tells told_opened) c (subst (λ (d : D). (seen d).images c) closes.disk_is image))
 
       -- ---- the run
 
       played : (sees : Caller → Caller → Bool) (told : List Answered) → IsRunBetween sees P (whole G store) (whole G closed) told
-          → IsPlayed contents images moment images_since faults sees text P file (G ++ store.entries) disk now told
+          → IsPlayed sees text P file (G ++ store.entries) (seen disk) (seen now) told
       played sees told run =
           let made : history_made (G ++ store.entries) told ≡ G ++ closed.entries = run.made in
           let marked : failed_line told ≡ closed.mark = run.failed in record {
             legal = run.legal;
-            unfailed = λ none. ap faults closes.disk_is ∙ closes.stays.unfailed (ap is_some (sym marked ∙ none) ∙ sym (ap is_some opened.unmarked)) ∙ opened.unfailed;
-            failed = λ e is. ap faults closes.disk_is ∙ closes.stays.failed opened.unmarked e (sym marked ∙ is) ∙ ap raised opened.unfailed;
+            unfailed = λ none. ap (λ d. (seen d).faults) closes.disk_is ∙ closes.stays.unfailed (ap is_some (sym marked ∙ none) ∙ sym (ap is_some opened.unmarked)) ∙ opened.unfailed;
+            failed = λ e is. ap (λ d. (seen d).faults) closes.disk_is ∙ closes.stays.failed opened.unmarked e (sym marked ∙ is) ∙ ap raised opened.unfailed;
             since = λ rest. rw (made, marked) (since_now rest);
             now = λ c image. rw (made, marked) (left_now c image);
           }
@@ -112,7 +114,7 @@ module _ {D : Type 0} (contents : D → Option (List ℕ)) (images : D → List 
       has_run : (sees : Caller → Caller → Bool) (lines : List Entry) (so : List Entry → List Answered → Type 0) (given : List Answered → Type 0)
           → AreAnswered sees P (whole G store) (whole G closed) lines given
           → ((told : List Answered) → IsRunBetween sees P (whole G store) (whole G closed) told → given told → so lines told)
-          → HasRun contents images moment images_since faults sees text P lines file (G ++ store.entries) disk now so
+          → HasRun sees text P lines file (G ++ store.entries) (seen disk) (seen now) so
       has_run sees lines so given run makes = record {
         told = run.told;
         lines_are = run.lines_are;
@@ -125,91 +127,82 @@ module _ {D : Type 0} (contents : D → Option (List ℕ)) (images : D → List 
       abbrev Lines : List Entry
       Lines = output_order form (entries_of lines)
 
-      behind : (file : Bytes) (opening : History) → contents disk ≡ Some file → IsFoundAs text file opening
+      behind : (file : Bytes) (opening : History) → (seen disk).contents ≡ Some file → IsFoundAs text file opening
           → ((G : History) → IsFront P store G → AreAnswered (sees_by form) P (whole G store) (whole G closed) Lines given)
           → ((G : History) (told : List Answered) → IsRunBetween (sees_by form) P (whole G store) (whole G closed) told → given told → so Lines told)
-          → HasRun contents images moment images_since faults (sees_by form) text P Lines file opening disk now so
+          → HasRun (sees_by form) text P Lines file opening (seen disk) (seen now) so
       behind file opening is found run makes =
           let goes = opened.founded file opening is found in
           let G = goes.before in
           let found_so = subst (λ (H : History). IsFoundAs text file H) goes.all found in
-          subst (λ (H : History). HasRun contents images moment images_since faults (sees_by form) text P Lines file H disk now so) (sym goes.all)
+          subst (λ (H : History). HasRun (sees_by form) text P Lines file H (seen disk) (seen now) so) (sym goes.all)
           (has_run file is G goes.founded found_so (sees_by form) Lines so given (run G goes.founded.front) (makes G))
 
       pub run_over : ((G : History) → IsFront P store G → AreAnswered (sees_by form) P (whole G store) (whole G closed) Lines given)
           → ((G : History) (told : List Answered) → IsRunBetween (sees_by form) P (whole G store) (whole G closed) told → given told → so Lines told)
-          → IsRunOver contents images moment images_since faults form bytes disk now so
+          → IsRunOver form bytes (seen disk) (seen now) so
       run_over run makes = record {
         policy = P;
         lines = lines;
         has_policy = has_policy;
         says = says;
         entries = store.before + length store.entries;
-        own = subst (λ (t : Bytes). IfSome (contents disk) (IsOwnFile t (store.before + length store.entries))) is_text opened.own;
-        run = subst (λ (t : Bytes). (file : Bytes) (opening : History) → contents disk ≡ Some file → IsFoundAs t file opening
-            → HasRun contents images moment images_since faults (sees_by form) t P Lines file opening disk now so) is_text
+        own = subst (λ (t : Bytes). IfSome (seen disk).contents (IsOwnFile t (store.before + length store.entries))) is_text opened.own;
+        run = subst (λ (t : Bytes). (file : Bytes) (opening : History) → (seen disk).contents ≡ Some file → IsFoundAs t file opening
+            → HasRun (sees_by form) t P Lines file opening (seen disk) (seen now) so) is_text
             (λ file opening is found. behind file opening is found run makes);
       }
 
   -- how playing ends, by how the run over the store does
   module _ (P : PlainPolicy) (text : Bytes) (disk : D) (store : Kept D) (opened : IsOpened P text disk store) (form : Form) (bytes : Bytes) (lines : List ScriptLine)
-      (is_text : text ≡ policy_part bytes) (has_policy : HasPolicy bytes P) (says : document_read accepted bytes ≡ Ok lines) (now : D) {K : Type 0} (held : K → Option Bytes) (was written : K) where
+      (is_text : text ≡ policy_part bytes) (has_policy : HasPolicy bytes P) (says : document_read accepted bytes ≡ Ok lines) (now : D) (was written : SinkSeen) where
     abbrev Entries : List Entry
     Entries = output_order form (entries_of lines)
 
     abbrev EndsSo : Kept D → Outcome → Type 0
-    EndsSo closed outcome = (G : History) → IsFront P store G → EndsRun (sees_by form) P (whole G store) (whole G closed) Entries (held was) (held written) outcome
+    EndsSo closed outcome = (G : History) → IsFront P store G → EndsRun (sees_by form) P (whole G store) (whole G closed) Entries was.contents written.contents outcome
 
-    module _ (closed : Kept D) (closes : Closes contents images moment images_since faults store closed now) where
+    module _ (closed : Kept D) (closes : Closes seen store closed now) where
       over : (so : List Entry → List Answered → Type 0) (given : List Answered → Type 0)
           → ((G : History) → IsFront P store G → AreAnswered (sees_by form) P (whole G store) (whole G closed) Entries given)
           → ((G : History) (told : List Answered) → IsRunBetween (sees_by form) P (whole G store) (whole G closed) told → given told → so Entries told)
-          → IsRunOver contents images moment images_since faults form bytes disk now so
+          → IsRunOver form bytes (seen disk) (seen now) so
       over = run_over P text disk store closed now opened closes form bytes lines is_text has_policy says
 
-      unfailed : closed.mark ≡ None → faults now ≡ faults disk
-      unfailed none = ap faults closes.disk_is ∙ closes.stays.unfailed (ap is_some (none ∙ sym opened.unmarked)) ∙ opened.unfailed
+      unfailed : closed.mark ≡ None → (seen now).faults ≡ (seen disk).faults
+      unfailed none = ap (λ d. (seen d).faults) closes.disk_is ∙ closes.stays.unfailed (ap is_some (none ∙ sym opened.unmarked)) ∙ opened.unfailed
 
       ends : (outcome : Outcome) → IsOfRun outcome → IsMarkedBy outcome closed.mark → EndsSo closed outcome
-          → HasPlayed contents images moment images_since faults held form outcome bytes disk now was written
+          → HasPlayed form outcome bytes (seen disk) (seen now) was written
       ends outcomes.Done of marked e = (
-        over (λ (es : List Entry) (told : List Answered). (failed_line told ≡ None) × IsUnfaulted told × HaveOutput (Appends (held was) (held written)) es told)
-            (HaveOutput (Appends (held was) (held written)) Entries) e
+        over (λ (es : List Entry) (told : List Answered). (failed_line told ≡ None) × IsUnfaulted told × HaveOutput (Appends was.contents written.contents) es told)
+            (HaveOutput (Appends was.contents written.contents) Entries) e
             (λ G told run output. let none = run.failed ∙ marked in (none, none_faulted P (sees_by form) (G ++ store.entries) told run.legal none, output)),
         unfailed marked,
       )
       ends outcomes.SinkFault of marked e =
-          over (HaveOutput (AppendsPrefix (held was) (held written))) (HaveOutput (AppendsPrefix (held was) (held written)) Entries) e (λ G told run output. output)
+          over (HaveOutput (AppendsPrefix was.contents written.contents)) (HaveOutput (AppendsPrefix was.contents written.contents) Entries) e (λ G told run output. output)
       ends outcomes.DiskFault of marked e = inl (
-          over (λ (es : List Entry) (told : List Answered). IsSome (failed_line told) × HaveOutput (Appends (held was) (held written)) es told)
-          (HaveOutput (Appends (held was) (held written)) Entries) e (λ G told run output. (subst (λ (o : Option Entry). IsSome o) (sym run.failed) marked, output))
+          over (λ (es : List Entry) (told : List Answered). IsSome (failed_line told) × HaveOutput (Appends was.contents written.contents) es told)
+          (HaveOutput (Appends was.contents written.contents) Entries) e (λ G told run output. (subst (λ (o : Option Entry). IsSome o) (sym run.failed) marked, output))
           )
       ends (outcomes.NoMemory m) of marked e =
           inr (inr (over (λ (es : List Entry) (told : List Answered). Unit {0}) (λ (told : List Answered). Unit {0}) e (λ G told run nothing. tt)))
-      ends outcomes.Usage of marked e = absurd of
-      ends (outcomes.Policy f) of marked e = absurd of
-      ends (outcomes.Script f) of marked e = absurd of
-      ends outcomes.SourceFault of marked e = absurd of
-      ends (outcomes.Damaged number place) of marked e = absurd of
-      ends outcomes.NotJournal of marked e = absurd of
-      ends (outcomes.OtherPolicy place) of marked e = absurd of
-      ends outcomes.TooLong of marked e = absurd of
-      ends (outcomes.FullPoint size) of marked e = absurd of
-      ends outcomes.OldJournal of marked e = absurd of
+      ends outcome of marked e = absurd (cc (of.0, of.1))
 
     pub ends_run : (outcome : Outcome) → IsOfRun outcome
-        → IsClosedRun contents images moment images_since faults (sees_by form) P store Entries outcome now (held was) (held written)
-        → HasPlayed contents images moment images_since faults held form outcome bytes disk now was written
+        → IsClosedRun seen (sees_by form) P store Entries outcome now was.contents written.contents
+        → HasPlayed form outcome bytes (seen disk) (seen now) was written
     ends_run outcome of run = ends run.closed run.closes outcome of run.marked run.ends
 
   -- a run that met a disk fault raised the disk's count
-  pub run_raised : (sees : Caller → Caller → Bool) (P : PlainPolicy) (disk : D) (store : Kept D) → store.mark ≡ None → faults store.disk ≡ faults disk → (lines : List Entry) (now : D) (was written : Option Bytes)
-      → IsClosedRun contents images moment images_since faults sees P store lines outcomes.DiskFault now was written → faults now ≡ raised (faults disk)
+  pub run_raised : (sees : Caller → Caller → Bool) (P : PlainPolicy) (disk : D) (store : Kept D) → store.mark ≡ None → (seen store.disk).faults ≡ (seen disk).faults → (lines : List Entry) (now : D) (was written : Option Bytes)
+      → IsClosedRun seen sees P store lines outcomes.DiskFault now was written → (seen now).faults ≡ raised (seen disk).faults
   run_raised sees P disk store unmarked unfailed lines now was written run = by_mark run.closed.mark refl run.marked
     where
-      by_mark : (mark : Option Entry) → run.closed.mark ≡ mark → IsSome mark → faults now ≡ raised (faults disk)
+      by_mark : (mark : Option Entry) → run.closed.mark ≡ mark → IsSome mark → (seen now).faults ≡ raised (seen disk).faults
       by_mark None is some = absurd (let no : false ≡ true = some in (cc))
-      by_mark (Some e) is some = ap faults run.closes.disk_is ∙ run.closes.stays.failed unmarked e is ∙ ap raised unfailed
+      by_mark (Some e) is some = ap (λ d. (seen d).faults) run.closes.disk_is ∙ run.closes.stays.failed unmarked e is ∙ ap raised unfailed
 
   -- what opening saw is the document's own file
   pub own_seen : (P : PlainPolicy) (text : Bytes) (store : Kept D) → store.policy ≡ text → (T : Trace) → IsStart P store.point store.before T
@@ -224,20 +217,20 @@ module _ {D : Type 0} (contents : D → Option (List ℕ)) (images : D → List 
   -- all that is told where a store is opened
   pub opened_so : (P : PlainPolicy) (text : Bytes) (disk : D) (store : Kept D) → accepted text ≡ Some P
       → (store.policy ≡ text) × (store.opening ≡ store.before + length store.entries) × (store.mark ≡ None)
-      → LeavesAfter contents images moment images_since disk store.disk (Opens text) → faults store.disk ≡ faults disk
-      → is_some (contents store.disk) ≡ is_some (contents disk)
+      → LeavesAfter (seen disk) (seen store.disk) (Opens text) → (seen store.disk).faults ≡ (seen disk).faults
+      → is_some (seen store.disk).contents ≡ is_some (seen disk).contents
       → ((P : PlainPolicy) → accepted text ≡ Some P → (T : Trace) × IsStart P store.point store.before T)
-      → ((P : PlainPolicy) → accepted text ≡ Some P → IfSome (contents disk) (IsSeenAs P store.policy store.point store.before store.entries))
-      → ((P : PlainPolicy) (file : Bytes) (H : History) → accepted text ≡ Some P → contents disk ≡ Some file → IsFoundAs text file H
-      → GoesOnFrom contents images P store H)
+      → ((P : PlainPolicy) → accepted text ≡ Some P → IfSome (seen disk).contents (IsSeenAs P store.policy store.point store.before store.entries))
+      → ((P : PlainPolicy) (file : Bytes) (H : History) → accepted text ≡ Some P → (seen disk).contents ≡ Some file → IsFoundAs text file H
+      → GoesOnFrom seen P store H)
       → IsOpened P text disk store
-  opened_so P text disk store accepts is images_kept unfailed tells leads seen founded = record {
+  opened_so P text disk store accepts is images_kept unfailed tells leads saw founded = record {
     policy = is.0;
     unmarked = is.2;
     images_kept = images_kept;
     unfailed = unfailed;
     tells = λ some. tells ∙ some;
-    own = let start = leads P accepts in if_so (contents disk) (own_seen P text store is.0 start.0 start.1) (seen P accepts);
+    own = let start = leads P accepts in if_so (seen disk).contents (own_seen P text store is.0 start.0 start.1) (saw P accepts);
     founded = λ file H told found. founded P file H accepts told found;
   }
     where
@@ -246,29 +239,19 @@ module _ {D : Type 0} (contents : D → Option (List ℕ)) (images : D → List 
       if_so (Some file) each h = each file h
 
 -- how playing ends that comes to no run
-module _ {D : Type 0} (contents : D → Option (List ℕ)) (images : D → List ℕ → Type 0) (moment : D → ℕ) (images_since : D → ℕ → List ℕ → Type 0) (faults : D → ℕ) {K : Type 0} (held : K → Option Bytes) (form : Form) where
+module _ (form : Form) where
   -- a document that wasn't read was not played
-  pub unread_played : (outcome : Outcome) (input : Option Bytes) (before now : ℕ) (disk : D) (was : K) → IsUnread input before now outcome
-      → HasPlayedInput contents images moment images_since faults held form outcome input disk disk was was
+  pub unread_played : (outcome : Outcome) (input : Option Bytes) (before now : ℕ) (disk : DiskSeen) (was : SinkSeen) → IsUnread input before now outcome
+      → HasPlayedInput form outcome input disk disk was was
   unread_played outcome input before now disk was unread = over_input input (λ bytes. by_outcome outcome bytes unread)
     where
-      by_outcome : (o : Outcome) (bytes : Bytes) → IsUnread input before now o → HasPlayed contents images moment images_since faults held form o bytes disk disk was was
-      by_outcome outcomes.SourceFault bytes u = refl
-      by_outcome outcomes.TooLong bytes u = refl
-      by_outcome (outcomes.NoMemory e) bytes u = inl refl
-      by_outcome outcomes.Done bytes u = absurd u
-      by_outcome outcomes.Usage bytes u = absurd u
-      by_outcome (outcomes.Policy f) bytes u = absurd u
-      by_outcome (outcomes.Script f) bytes u = absurd u
-      by_outcome outcomes.SinkFault bytes u = absurd u
-      by_outcome outcomes.DiskFault bytes u = absurd u
-      by_outcome (outcomes.Damaged number place) bytes u = absurd u
-      by_outcome outcomes.NotJournal bytes u = absurd u
-      by_outcome (outcomes.OtherPolicy place) bytes u = absurd u
-      by_outcome (outcomes.FullPoint size) bytes u = absurd u
-      by_outcome outcomes.OldJournal bytes u = absurd u
+      by_outcome : (o : Outcome) (bytes : Bytes) → IsUnread input before now o → HasPlayed form o bytes disk disk was was
+      by_outcome outcomes.SourceFault bytes u = as_it_was disk
+      by_outcome outcomes.TooLong bytes u = as_it_was disk
+      by_outcome (outcomes.NoMemory e) bytes u = inl (as_it_was disk)
+      by_outcome o bytes u = absurd u
 
-      over_input : (o : Option Bytes) → ((bytes : Bytes) → HasPlayed contents images moment images_since faults held form outcome bytes disk disk was was)
-          → HasPlayedInput contents images moment images_since faults held form outcome o disk disk was was
+      over_input : (o : Option Bytes) → ((bytes : Bytes) → HasPlayed form outcome bytes disk disk was was)
+          → HasPlayedInput form outcome o disk disk was was
       over_input None so = record { bytes = []; are = tt; played = so [] }
       over_input (Some bytes) so = record { bytes = bytes; are = refl; played = so bytes }

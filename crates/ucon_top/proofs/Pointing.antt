@@ -25,11 +25,15 @@ use Rattle.ucon_outcome.specs.declared.outcome.Outcome.TheVariants as outcomes
 use Rattle.ucon_top.specs.Accepted.{HasPolicy}
 use Rattle.ucon_top.specs.Closing.{IsWritten}
 use Rattle.ucon_outcome.specs.Ending.{by_refusal}
-use Rattle.ucon_top.specs.Pointed.{FitsRecord, HasNoPoint, HasPoint, HasPointed, HasPointedInput, IsCheckpointSize, IsNotOld, IsPointOver, IsPointedAt, IsStillFound, MayHavePoint, point_line}
+use Rattle.ucon_top.specs.Pointed.{FitsRecord, IsCheckpointSize, IsNotOld, IsPointedAt, point_line}
 use Rattle.ucon_top.specs.PointEnding.{BehindEach, EndsPoint, HasPut, IsOfNoPoint, IsOfPoint, IsPut, LeavesPointed, MayHavePoints}
+use Rattle.ucon_top.specs.Seen.{as_it_was}
 use Rattle.ucon_top.specs.Unread.{IsUnread}
+use Rattle.ucon_top.specs.OwnReading.{HasNoPoint, HasPoint, HasPointed, HasPointedInput, IsPointOver, IsStillFound, MayHavePoint}
 use Rattle.ucon_top.proofs.Behind.{checkpoint_whole}
 use Rattle.ucon_top.proofs.Playing.{IsOpened}
+use Rattle.ucon_disk.specs.Seen.{DiskSeen}
+use Rattle.ucon_flow.specs.Seen.{SinkSeen}
 
 -- where a disk tells its file, something is so of it
 if_told : (o : Option Bytes) (so : Bytes → Type 0) → ((file : Bytes) → o ≡ Some file → so file) → IfSome o so
@@ -47,15 +51,15 @@ places_told : (o n : Option Bytes) (before now : Bytes) → o ≡ Some before �
 places_told o n before now was is same = subst (λ (p : Option Bytes). SamePlaces (Some before) p) is (subst (λ (p : Option Bytes). SamePlaces p n) was same)
 
 -- what a disk's laws say of moments
-pub record HasMoments {D : Type 0} (images : D → List ℕ → Type 0) (moment : D → ℕ) (images_since : D → ℕ → List ℕ → Type 0) : Type 0 where
-  pub counts_now : (disk : D) (t : ℕ) (c : List ℕ) → t ≤ moment disk → images disk c → images_since disk t c
-  pub only_now : (disk : D) (c : List ℕ) → images_since disk (moment disk) c → images disk c
+pub record HasMoments {D : Type 0} (seen : D → DiskSeen) : Type 0 where
+  pub counts_now : (disk : D) (t : ℕ) (c : List ℕ) → t ≤ (seen disk).moment → (seen disk).images c → (seen disk).images_since t c
+  pub only_now : (disk : D) (c : List ℕ) → (seen disk).images_since (seen disk).moment c → (seen disk).images c
 
-module _ {D : Type 0} (contents : D → Option (List ℕ)) (images : D → List ℕ → Type 0) (moment : D → ℕ) (images_since : D → ℕ → List ℕ → Type 0) (faults : D → ℕ)
-    (moments : HasMoments images moment images_since) (bytes : Bytes) (P : PlainPolicy) (has_policy : HasPolicy bytes P) (disk : D) (store : Kept D)
-    (opened : IsOpened contents images moment images_since faults P (policy_part bytes) disk store)
-    (same_places : SamePlaces (contents disk) (contents store.disk))
-    (old : (before now : Bytes) → contents disk ≡ Some before → contents store.disk ≡ Some now → (has_points now ≡ false) ↔ IsOld before) where
+module _ {D : Type 0} (seen : D → DiskSeen)
+    (moments : HasMoments seen) (bytes : Bytes) (P : PlainPolicy) (has_policy : HasPolicy bytes P) (disk : D) (store : Kept D)
+    (opened : IsOpened seen P (policy_part bytes) disk store)
+    (same_places : SamePlaces (seen disk).contents (seen store.disk).contents)
+    (old : (before now : Bytes) → (seen disk).contents ≡ Some before → (seen store.disk).contents ≡ Some now → (has_points now ≡ false) ↔ IsOld before) where
   abbrev text : Bytes
   text = policy_part bytes
 
@@ -63,76 +67,76 @@ module _ {D : Type 0} (contents : D → Option (List ℕ)) (images : D → List 
   count = store.before + length store.entries
 
   -- the file of the open store
-  abbrev file_of : (before : Bytes) → contents disk ≡ Some before → (file : Bytes) × (contents store.disk ≡ Some file)
-  file_of before told = told_file (contents store.disk) (opened.tells (subst (λ (o : Option Bytes). IsSome o) (sym told) refl))
+  abbrev file_of : (before : Bytes) → (seen disk).contents ≡ Some before → (file : Bytes) × ((seen store.disk).contents ≡ Some file)
+  file_of before told = told_file (seen store.disk).contents (opened.tells (subst (λ (o : Option Bytes). IsSome o) (sym told) refl))
 
   -- ---- behind a history on which the store is founded, and as which with its entries the file was found
 
-  module _ (before : Bytes) (told : contents disk ≡ Some before) (G : History) (f : IsFounded contents images P store G)
+  module _ (before : Bytes) (told : (seen disk).contents ≡ Some before) (G : History) (f : IsFounded seen P store G)
       (found : IsFoundAs text before (G ++ store.entries)) where
-    abbrev IsAsBefore : Bytes → Type 0
-    IsAsBefore c = IsFoundAs text c (G ++ store.entries)
+    abbrev IsStillAs : Bytes → Type 0
+    IsStillAs c = IsFoundAs text c (G ++ store.entries)
 
     abbrev opened_file : Bytes
     opened_file = (file_of before told).0
 
-    opened_told : contents store.disk ≡ Some opened_file
+    opened_told : (seen store.disk).contents ≡ Some opened_file
     opened_told = (file_of before told).1
 
     as_many : length (G ++ store.entries) ≡ count
     as_many = length-append G store.entries ∙ ap (λ (n : ℕ). n + length store.entries) f.front.count
 
-    opened_found : IsAsBefore opened_file
+    opened_found : IsStillAs opened_file
     opened_found = subst (λ (t : Bytes). IsFoundAs t opened_file (G ++ store.entries)) opened.policy
-        (found_as store.policy P (G ++ store.entries) opened_file (so_told (contents store.disk) (Holds store.policy P (G ++ store.entries)) opened_file opened_told f.holds))
+        (found_as store.policy P (G ++ store.entries) opened_file (so_told (seen store.disk).contents (Holds store.policy P (G ++ store.entries)) opened_file opened_told f.holds))
 
-    opened_only : (c : Bytes) → images store.disk c → c ≡ opened_file
-    opened_only = subst (λ (o : Option Bytes). Only o (images store.disk)) opened_told f.only
+    opened_only : (c : Bytes) → (seen store.disk).images c → c ≡ opened_file
+    opened_only = subst (λ (o : Option Bytes). Only o (seen store.disk).images) opened_told f.only
 
     opened_places : point_places opened_file ≡ point_places before
-    opened_places = places_told (contents disk) (contents store.disk) before opened_file told opened_told same_places
+    opened_places = places_told (seen disk).contents (seen store.disk).contents before opened_file told opened_told same_places
 
-    pointed_found : (c : Bytes) → IsFoundPointed store.policy (G ++ store.entries) (point_places opened_file) c → IsAsBefore c
+    pointed_found : (c : Bytes) → IsFoundPointed store.policy (G ++ store.entries) (point_places opened_file) c → IsStillAs c
     pointed_found c h = subst (λ (t : Bytes). IsFoundAs t c (G ++ store.entries)) opened.policy h.0
 
-    since_opened : IsAtRest (contents disk) (images disk) before → LeavesOnly moment images_since disk store.disk IsAsBefore
+    since_opened : IsAtRest (seen disk) before → LeavesOnly (seen disk) (seen store.disk) IsStillAs
     since_opened rest =
-        weaker moment images_since disk store.disk (Opens text before) IsAsBefore (λ c o. o.same (G ++ store.entries) found) (opened.images_kept.each before rest)
+        weaker (seen disk) (seen store.disk) (Opens text before) IsStillAs (λ c o. o.same (G ++ store.entries) found) (opened.images_kept.each before rest)
 
     -- no call of the disk behind the opening: no image has a checkpoint more
     still_unpointed : (now : D) → now ≡ store.disk
-        → IsStillFound contents images moment images_since faults text before (G ++ store.entries) disk now (λ file c. point_places c ≡ point_places file)
+        → IsStillFound text before (G ++ store.entries) (seen disk) (seen now) (λ file c. point_places c ≡ point_places file)
     still_unpointed now same = record {
-      since = λ rest. subst (λ (d : D). LeavesOnly moment images_since disk d IsAsBefore) (sym same) (since_opened rest);
+      since = λ rest. subst (λ (d : D). LeavesOnly (seen disk) (seen d) IsStillAs) (sym same) (since_opened rest);
       now = λ c image.
-          let is = opened_only c (subst (λ (d : D). images d c) same image) in
-          (subst IsAsBefore (sym is) opened_found, ap point_places is ∙ opened_places);
+          let is = opened_only c (subst (λ (d : D). (seen d).images c) same image) in
+          (subst IsStillAs (sym is) opened_found, ap point_places is ∙ opened_places);
     }
 
     -- a checkpoint behind the opening
-    module _ (now : D) (inside : LeavesPointed contents images moment images_since faults (whole G store) now) where
-      since_pointed : IsAtRest (contents disk) (images disk) before → LeavesOnly moment images_since disk now IsAsBefore
+    module _ (now : D) (inside : LeavesPointed seen (whole G store) now) where
+      since_pointed : IsAtRest (seen disk) before → LeavesOnly (seen disk) (seen now) IsStillAs
       since_pointed rest =
-          joined moment images_since disk store.disk now IsAsBefore (since_opened rest)
-          (weaker moment images_since store.disk now (IsFoundPointed store.policy (G ++ store.entries) (point_places opened_file)) IsAsBefore pointed_found (inside opened_file opened_told))
+          joined (seen disk) (seen store.disk) (seen now) IsStillAs (since_opened rest)
+          (weaker (seen store.disk) (seen now) (IsFoundPointed store.policy (G ++ store.entries) (point_places opened_file)) IsStillAs pointed_found (inside opened_file opened_told))
 
-      still_pointed : (leaves : Bytes → Bytes → Type 0) → ((c : Bytes) → images now c → IsAsBefore c × leaves before c)
-          → IsStillFound contents images moment images_since faults text before (G ++ store.entries) disk now leaves
+      still_pointed : (leaves : Bytes → Bytes → Type 0) → ((c : Bytes) → (seen now).images c → IsStillAs c × leaves before c)
+          → IsStillFound text before (G ++ store.entries) (seen disk) (seen now) leaves
       still_pointed leaves left = record { since = since_pointed; now = left }
 
       -- each image now may have it
-      perhaps_pointed : (c : Bytes) → images now c → IsAsBefore c × ((point_places c ≡ point_places before) ⊎ IsPointedAt count before c)
+      perhaps_pointed : (c : Bytes) → (seen now).images c → IsStillAs c × ((point_places c ≡ point_places before) ⊎ IsPointedAt count before c)
       perhaps_pointed c image =
           let run = inside opened_file opened_told in
-          let here = run.each c (moments.counts_now now (moment store.disk) c run.later image) in (
+          let here = run.each c (moments.counts_now now (seen store.disk).moment c run.later image) in (
             pointed_found c here,
             ⊎_elim (λ same. inl (same ∙ opened_places))
                 (λ more. inr (more ∙ (λ i. opened_places i ++ as_many i ∷ [])))
                 here.1,
           )
 
-    written_there : (now : D) → HasPut contents images moment images_since faults P (whole G store) now
-        → (c : Bytes) → images now c → IsAsBefore c × IsPointedAt count before c
+    written_there : (now : D) → HasPut seen P (whole G store) now
+        → (c : Bytes) → (seen now).images c → IsStillAs c × IsPointedAt count before c
     written_there now put c image =
         let left = put.left opened_file opened_told c image in
         (subst (λ (t : Bytes). IsFoundAs t c (G ++ store.entries)) opened.policy left.0, left.1 ∙ (λ i. opened_places i ++ as_many i ∷ []))
@@ -140,9 +144,9 @@ module _ {D : Type 0} (contents : D → Option (List ℕ)) (images : D → List 
   -- ---- all of it
 
   module _ (now : D) (went : ℕ → Type 0) (leaves : ℕ → Bytes → Bytes → Type 0) (so : PlainPolicy → History → Type 0) (goes : went count) where
-    point_over : ((before : Bytes) (told : contents disk ≡ Some before) (G : History) → IsFounded contents images P store G → IsFoundAs text before (G ++ store.entries)
-        → IsStillFound contents images moment images_since faults text before (G ++ store.entries) disk now (leaves count) × so P (G ++ store.entries))
-        → IsPointOver contents images moment images_since faults bytes disk now went leaves so
+    point_over : ((before : Bytes) (told : (seen disk).contents ≡ Some before) (G : History) → IsFounded seen P store G → IsFoundAs text before (G ++ store.entries)
+        → IsStillFound text before (G ++ store.entries) (seen disk) (seen now) (leaves count) × so P (G ++ store.entries))
+        → IsPointOver bytes (seen disk) (seen now) went leaves so
     point_over still = record {
       policy = P;
       has_policy = has_policy;
@@ -154,37 +158,37 @@ module _ {D : Type 0} (contents : D → Option (List ℕ)) (images : D → List 
           let G = from.before in
           let here = subst (λ (H : History). IsFoundAs text before H) from.all found in
           let is = still before told G from.founded here in
-          subst (λ (H : History). (length H ≡ count) × IsStillFound contents images moment images_since faults text before H disk now (leaves count) × so P H) (sym from.all)
+          subst (λ (H : History). (length H ≡ count) × IsStillFound text before H (seen disk) (seen now) (leaves count) × so P H) (sym from.all)
           (as_many before told G from.founded here, is.0, is.1);
     }
 
   unpointed : (now : D) → now ≡ store.disk → (why : Type 0) → why → (so : PlainPolicy → History → Type 0)
-      → ((G : History) → IsFounded contents images P store G → so P (G ++ store.entries))
-      → HasNoPoint contents images moment images_since faults bytes disk now why so
-  unpointed now same why holds so is = point_over now (λ entries. (faults now ≡ faults disk) × why) (λ entries file c. point_places c ≡ point_places file) so
-      (ap faults same ∙ opened.unfailed, holds)
+      → ((G : History) → IsFounded seen P store G → so P (G ++ store.entries))
+      → HasNoPoint bytes (seen disk) (seen now) why so
+  unpointed now same why holds so is = point_over now (λ entries. ((seen now).faults ≡ (seen disk).faults) × why) (λ entries file c. point_places c ≡ point_places file) so
+      (ap (λ d. (seen d).faults) same ∙ opened.unfailed, holds)
       (λ before told G f found. (still_unpointed before told G f found now same, is G f))
 
   -- a file that may have checkpoints wasn't old
-  not_old : MayHavePoints contents images moment images_since faults store → IfSome (contents disk) IsNotOld
-  not_old may = if_told (contents disk) IsNotOld (λ before told was.
+  not_old : MayHavePoints seen store → IfSome (seen disk).contents IsNotOld
+  not_old may = if_told (seen disk).contents IsNotOld (λ before told was.
       let file = file_of before told in
-      let is : has_points file.0 ≡ true = so_told (contents store.disk) (λ f. has_points f ≡ true) file.0 file.1 may in
+      let is : has_points file.0 ≡ true = so_told (seen store.disk).contents (λ f. has_points f ≡ true) file.0 file.1 may in
       let bad : true ≡ false = sym is ∙ (old before file.0 told file.1).1 was in absurd (cc bad))
 
   fits_so : (G : History) → FitsRecord store.policy P (G ++ store.entries) → FitsRecord text P (G ++ store.entries)
   fits_so G is = subst (λ (t : Bytes). FitsRecord t P (G ++ store.entries)) opened.policy is
 
-  written : (now : D) → IsPut contents images moment images_since faults P store now → (went : Bytes → Type 0) → went (point_line count)
-      → HasPoint contents images moment images_since faults bytes disk now went
-  written now put went told = point_over now (λ entries. (faults now ≡ faults disk) × IfSome (contents disk) IsNotOld × went (point_line entries)) IsPointedAt (FitsRecord text)
+  written : (now : D) → IsPut seen P store now → (went : Bytes → Type 0) → went (point_line count)
+      → HasPoint bytes (seen disk) (seen now) went
+  written now put went told = point_over now (λ entries. ((seen now).faults ≡ (seen disk).faults) × IfSome (seen disk).contents IsNotOld × went (point_line entries)) IsPointedAt (FitsRecord text)
       (put.2 ∙ opened.unfailed, not_old put.1, told)
       (λ before is G f found. let has = put.0 G f in
       (still_pointed before is G f found now has.inside (IsPointedAt count) (written_there before is G f found now has), fits_so G has.fits))
 
-  failed : (now : D) → BehindEach contents images moment images_since faults P store (λ s. LeavesPointed contents images moment images_since faults s now)
-      → faults now ≡ raised (faults store.disk) → MayHavePoint contents images moment images_since faults bytes disk now
-  failed now inside fails = point_over now (λ entries. faults now ≡ raised (faults disk))
+  failed : (now : D) → BehindEach seen P store (λ s. LeavesPointed seen s now)
+      → (seen now).faults ≡ raised (seen store.disk).faults → MayHavePoint bytes (seen disk) (seen now)
+  failed now inside fails = point_over now (λ entries. (seen now).faults ≡ raised (seen disk).faults)
       (λ entries file c. (point_places c ≡ point_places file) ⊎ IsPointedAt entries file c) (λ Q H. Unit {0})
       (fails ∙ ap raised opened.unfailed)
       (λ before is G f found. (
@@ -196,23 +200,23 @@ module _ {D : Type 0} (contents : D → Option (List ℕ)) (images : D → List 
   size_so : (G : History) (size : ℕ) → IsCheckpointSize store.policy P (G ++ store.entries) size → IsCheckpointSize text P (G ++ store.entries) size
   size_so G size is = subst (λ (t : Bytes). IsCheckpointSize t P (G ++ store.entries) size) opened.policy is
 
-  old_file : IfSome (contents store.disk) (λ file. has_points file ≡ false) → IfSome (contents disk) IsOld
-  old_file none = if_told (contents disk) IsOld (λ before told.
+  old_file : IfSome (seen store.disk).contents (λ file. has_points file ≡ false) → IfSome (seen disk).contents IsOld
+  old_file none = if_told (seen disk).contents IsOld (λ before told.
       let file = file_of before told in
-      (old before file.0 told file.1).0 (so_told (contents store.disk) (λ f. has_points f ≡ false) file.0 file.1 none))
+      (old before file.0 told file.1).0 (so_told (seen store.disk).contents (λ f. has_points f ≡ false) file.0 file.1 none))
 
   -- how it ends, by how it ends over the open store
-  module _ {K : Type 0} (held : K → Option Bytes) (was got : K) (now : D) where
+  module _ (was got : SinkSeen) (now : D) where
     pub pointed : (outcome : Outcome) → (outcome ≡ outcomes.DiskFault → got ≡ was)
-        → EndsPoint contents images moment images_since faults P store now (held was) (held got) outcome
-        → HasPointed contents images moment images_since faults held outcome bytes disk now was got
-    pointed outcomes.Done silent e = written now e.0 (Appends (held was) (held got)) e.1
-    pointed outcomes.SinkFault silent e = written now e.0 (AppendsPrefix (held was) (held got)) e.1
+        → EndsPoint seen P store now was.contents got.contents outcome
+        → HasPointed outcome bytes (seen disk) (seen now) was got
+    pointed outcomes.Done silent e = written now e.0 (Appends was.contents got.contents) e.1
+    pointed outcomes.SinkFault silent e = written now e.0 (AppendsPrefix was.contents got.contents) e.1
     pointed outcomes.DiskFault silent e = (inl (failed now e.0 e.1), silent refl)
     pointed (outcomes.NoMemory m) silent e = inr (inr (unpointed now e (Unit {0}) tt (λ Q H. Unit {0}) (λ G f. tt)))
     pointed (outcomes.FullPoint size) silent e =
-        unpointed now e.0 (IfSome (contents disk) IsNotOld × (16777215 < size)) (not_old e.1, e.2) (λ Q H. IsCheckpointSize text Q H size) (λ G f. size_so G size (e.3 G f))
-    pointed outcomes.OldJournal silent e = unpointed now e.0 (IfSome (contents disk) IsOld) (old_file e.1) (λ Q H. Unit {0}) (λ G f. tt)
+        unpointed now e.0 (IfSome (seen disk).contents IsNotOld × (16777215 < size)) (not_old e.1, e.2) (λ Q H. IsCheckpointSize text Q H size) (λ G f. size_so G size (e.3 G f))
+    pointed outcomes.OldJournal silent e = unpointed now e.0 (IfSome (seen disk).contents IsOld) (old_file e.1) (λ Q H. Unit {0}) (λ G f. tt)
     pointed outcomes.Usage silent e = absurd e
     pointed (outcomes.Policy f) silent e = absurd e
     pointed (outcomes.Script f) silent e = absurd e
@@ -223,104 +227,73 @@ module _ {D : Type 0} (contents : D → Option (List ℕ)) (images : D → List 
     pointed outcomes.TooLong silent e = absurd e
 
 -- no checkpoint is written where the document wasn't read
-pub unread_pointed : {D : Type 0} (contents : D → Option (List ℕ)) (images : D → List ℕ → Type 0) (moment : D → ℕ) (images_since : D → ℕ → List ℕ → Type 0) (faults : D → ℕ)
-    {K : Type 0} (held : K → Option Bytes) (outcome : Outcome) (input : Option Bytes) (before now : ℕ) (disk : D) (was : K) → IsUnread input before now outcome
-    → HasPointedInput contents images moment images_since faults held outcome input disk disk was was
-unread_pointed contents images moment images_since faults held outcome input before now disk was unread = over_input input (λ bytes. by_outcome outcome bytes unread)
+pub unread_pointed : (outcome : Outcome) (input : Option Bytes) (before now : ℕ) (disk : DiskSeen) (was : SinkSeen) → IsUnread input before now outcome
+    → HasPointedInput outcome input disk disk was was
+unread_pointed outcome input before now disk was unread = over_input input (λ bytes. by_outcome outcome bytes unread)
   where
-    by_outcome : (o : Outcome) (bytes : Bytes) → IsUnread input before now o → HasPointed contents images moment images_since faults held o bytes disk disk was was
-    by_outcome outcomes.SourceFault bytes u = refl
-    by_outcome outcomes.TooLong bytes u = refl
-    by_outcome (outcomes.NoMemory e) bytes u = inl refl
-    by_outcome outcomes.Done bytes u = absurd u
-    by_outcome outcomes.Usage bytes u = absurd u
-    by_outcome (outcomes.Policy f) bytes u = absurd u
-    by_outcome (outcomes.Script f) bytes u = absurd u
-    by_outcome outcomes.SinkFault bytes u = absurd u
-    by_outcome outcomes.DiskFault bytes u = absurd u
-    by_outcome (outcomes.Damaged number place) bytes u = absurd u
-    by_outcome outcomes.NotJournal bytes u = absurd u
-    by_outcome (outcomes.OtherPolicy place) bytes u = absurd u
-    by_outcome (outcomes.FullPoint size) bytes u = absurd u
-    by_outcome outcomes.OldJournal bytes u = absurd u
+    by_outcome : (o : Outcome) (bytes : Bytes) → IsUnread input before now o → HasPointed o bytes disk disk was was
+    by_outcome outcomes.SourceFault bytes u = as_it_was disk
+    by_outcome outcomes.TooLong bytes u = as_it_was disk
+    by_outcome (outcomes.NoMemory e) bytes u = inl (as_it_was disk)
+    by_outcome o bytes u = absurd u
 
-    over_input : (o : Option Bytes) → ((bytes : Bytes) → HasPointed contents images moment images_since faults held outcome bytes disk disk was was)
-        → HasPointedInput contents images moment images_since faults held outcome o disk disk was was
+    over_input : (o : Option Bytes) → ((bytes : Bytes) → HasPointed outcome bytes disk disk was was)
+        → HasPointedInput outcome o disk disk was was
     over_input None so = record { bytes = []; are = tt; pointed = so [] }
     over_input (Some bytes) so = record { bytes = bytes; are = refl; pointed = so bytes }
 
 -- how it ended without the checkpoint, whatever a sink held before and holds now
-pub same_end : {D : Type 0} (contents : D → Option (List ℕ)) (images : D → List ℕ → Type 0) (moment : D → ℕ) (images_since : D → ℕ → List ℕ → Type 0) (faults : D → ℕ)
+pub same_end : {D : Type 0} (seen : D → DiskSeen)
     (P : PlainPolicy) (store : Kept D) (disk : D) (before now : Option Bytes) (outcome : Outcome) → IsOfNoPoint outcome
-    → EndsPoint contents images moment images_since faults P store disk None None outcome → EndsPoint contents images moment images_since faults P store disk before now outcome
-same_end contents images moment images_since faults P store disk before now outcomes.Done none e = absurd none
-same_end contents images moment images_since faults P store disk before now outcomes.SinkFault none e = absurd none
-same_end contents images moment images_since faults P store disk before now outcomes.DiskFault none e = e
-same_end contents images moment images_since faults P store disk before now (outcomes.NoMemory m) none e = e
-same_end contents images moment images_since faults P store disk before now (outcomes.FullPoint size) none e = e
-same_end contents images moment images_since faults P store disk before now outcomes.OldJournal none e = e
-same_end contents images moment images_since faults P store disk before now outcomes.Usage none e = absurd e
-same_end contents images moment images_since faults P store disk before now (outcomes.Policy f) none e = absurd e
-same_end contents images moment images_since faults P store disk before now (outcomes.Script f) none e = absurd e
-same_end contents images moment images_since faults P store disk before now outcomes.SourceFault none e = absurd e
-same_end contents images moment images_since faults P store disk before now (outcomes.Damaged number place) none e = absurd e
-same_end contents images moment images_since faults P store disk before now outcomes.NotJournal none e = absurd e
-same_end contents images moment images_since faults P store disk before now (outcomes.OtherPolicy place) none e = absurd e
-same_end contents images moment images_since faults P store disk before now outcomes.TooLong none e = absurd e
+    → EndsPoint seen P store disk None None outcome → EndsPoint seen P store disk before now outcome
+same_end seen P store disk before now outcomes.Done none e = absurd (none.1 refl)
+same_end seen P store disk before now outcomes.SinkFault none e = absurd (none.2 refl)
+same_end seen P store disk before now outcomes.DiskFault none e = e
+same_end seen P store disk before now (outcomes.NoMemory m) none e = e
+same_end seen P store disk before now (outcomes.FullPoint size) none e = e
+same_end seen P store disk before now outcomes.OldJournal none e = e
+same_end seen P store disk before now outcomes.Usage none e = absurd e
+same_end seen P store disk before now (outcomes.Policy f) none e = absurd e
+same_end seen P store disk before now (outcomes.Script f) none e = absurd e
+same_end seen P store disk before now outcomes.SourceFault none e = absurd e
+same_end seen P store disk before now (outcomes.Damaged number place) none e = absurd e
+same_end seen P store disk before now outcomes.NotJournal none e = absurd e
+same_end seen P store disk before now (outcomes.OtherPolicy place) none e = absurd e
+same_end seen P store disk before now outcomes.TooLong none e = absurd e
 
 -- and by why the store had no checkpoint more, which is told by each trace that leads to where it begins, of which there is one
-pub refused_end : {D : Type 0} (contents : D → Option (List ℕ)) (images : D → List ℕ → Type 0) (moment : D → ℕ) (images_since : D → ℕ → List ℕ → Type 0) (faults : D → ℕ)
+pub refused_end : {D : Type 0} (seen : D → DiskSeen)
     (P : PlainPolicy) (store : Kept D) (disk : D) (refusal : PointRefusal) → disk ≡ store.disk → store.mark ≡ None → (T : Trace) → IsStart P store.point store.before T
-    → ((T : Trace) → IsStart P store.point store.before T → IsUnpointed contents P T store refusal)
-    → EndsPoint contents images moment images_since faults P store disk None None (by_refusal refusal)
-refused_end contents images moment images_since faults P store disk refusals.Stopped same none T starts why =
+    → ((T : Trace) → IsStart P store.point store.before T → IsUnpointed seen P T store refusal)
+    → EndsPoint seen P store disk None None (by_refusal refusal)
+refused_end seen P store disk refusals.Stopped same none T starts why =
     absurd (let no : false ≡ true = subst (λ m. IsSome m) none (why T starts) in (cc))
-refused_end contents images moment images_since faults P store disk refusals.OldJournal same none T starts why = (same, why T starts)
-refused_end contents images moment images_since faults P store disk (refusals.TooLarge size) same none T starts why = (
+refused_end seen P store disk refusals.OldJournal same none T starts why = (same, why T starts)
+refused_end seen P store disk (refusals.TooLarge size) same none T starts why = (
   same,
   (why T starts).0,
   (why T starts).2,
   λ G f. (why (trace P G) f.front.starts).1 ∙ ap (λ (l : Bytes). length l) (checkpoint_whole P store G f.front),
 )
-refused_end contents images moment images_since faults P store disk (refusals.NoMemory e) same none T starts why = same
+refused_end seen P store disk (refusals.NoMemory e) same none T starts why = same
 
 -- how it ended with it, by how the line was written
-module _ {D : Type 0} (contents : D → Option (List ℕ)) (images : D → List ℕ → Type 0) (moment : D → ℕ) (images_since : D → ℕ → List ℕ → Type 0) (faults : D → ℕ)
+module _ {D : Type 0} (seen : D → DiskSeen)
     (P : PlainPolicy) (store : Kept D) (disk : D) (before now : Option Bytes) (failed fails : ℕ) where
-  pub told_end : (outcome : Outcome) (entries : ℕ) → entries ≡ store.before + length store.entries → IsPut contents images moment images_since faults P store disk
-      → IsWritten outcome (point_line entries) false before now failed fails → EndsPoint contents images moment images_since faults P store disk before now outcome
+  pub told_end : (outcome : Outcome) (entries : ℕ) → entries ≡ store.before + length store.entries → IsPut seen P store disk
+      → IsWritten outcome (point_line entries) false before now failed fails → EndsPoint seen P store disk before now outcome
   told_end outcomes.Done entries is put w = (put, subst (λ (n : ℕ). Appends before now (point_line n)) is w.1.0)
   told_end outcomes.SinkFault entries is put w = (put, subst (λ (n : ℕ). AppendsPrefix before now (point_line n)) is w.1)
   told_end outcomes.DiskFault entries is put w = absurd (let bad : false ≡ true = w.0 in cc bad)
-  told_end (outcomes.NoMemory m) entries is put w = absurd w
-  told_end (outcomes.FullPoint size) entries is put w = absurd w
-  told_end outcomes.OldJournal entries is put w = absurd w
-  told_end outcomes.Usage entries is put w = absurd w
-  told_end (outcomes.Policy f) entries is put w = absurd w
-  told_end (outcomes.Script f) entries is put w = absurd w
-  told_end outcomes.SourceFault entries is put w = absurd w
-  told_end (outcomes.Damaged number place) entries is put w = absurd w
-  told_end outcomes.NotJournal entries is put w = absurd w
-  told_end (outcomes.OtherPolicy place) entries is put w = absurd w
-  told_end outcomes.TooLong entries is put w = absurd w
+  told_end outcome entries is put w = absurd w
 
 -- a run that told of its checkpoint ends so
 pub of_told : (outcome : Outcome) (text : Bytes) (before now : Option Bytes) (failed fails : ℕ) → IsWritten outcome text false before now failed fails
     → IsOfPoint outcome × (outcome ≡ outcomes.DiskFault → ⊥)
-of_told outcomes.Done text before now failed fails w = (tt, λ is. cc is)
-of_told outcomes.SinkFault text before now failed fails w = (tt, λ is. cc is)
+of_told outcomes.Done text before now failed fails w = (refl, λ is. cc is)
+of_told outcomes.SinkFault text before now failed fails w = (refl, λ is. cc is)
 of_told outcomes.DiskFault text before now failed fails w = absurd (let bad : false ≡ true = w.0 in cc bad)
-of_told (outcomes.NoMemory m) text before now failed fails w = absurd w
-of_told (outcomes.FullPoint size) text before now failed fails w = absurd w
-of_told outcomes.OldJournal text before now failed fails w = absurd w
-of_told outcomes.Usage text before now failed fails w = absurd w
-of_told (outcomes.Policy f) text before now failed fails w = absurd w
-of_told (outcomes.Script f) text before now failed fails w = absurd w
-of_told outcomes.SourceFault text before now failed fails w = absurd w
-of_told (outcomes.Damaged number place) text before now failed fails w = absurd w
-of_told outcomes.NotJournal text before now failed fails w = absurd w
-of_told (outcomes.OtherPolicy place) text before now failed fails w = absurd w
-of_told outcomes.TooLong text before now failed fails w = absurd w
+of_told outcome text before now failed fails w = absurd w
 
 -- what is said of an answer that is there, or of a fault
 pub ok_so : {T E : Type 0} (r : Result T E) (t : T) (so : T → Type 0) → r ≡ Ok t → IfOk r so → so t
@@ -333,21 +306,21 @@ pub ok_on : {T E : Type 0} (r : Result T E) (t : T) (P : Type 0) → r ≡ Ok t 
 ok_on {T} {E} r t P is h = subst (λ (x : Result T E). OnOk x P) is h
 
 -- the checkpoint was written, and the store closed
-pub put_so : {D : Type 0} (contents : D → Option (List ℕ)) (images : D → List ℕ → Type 0) (moment : D → ℕ) (images_since : D → ℕ → List ℕ → Type 0) (faults : D → ℕ)
-    (G : History) (store next : Kept D) (disk : D) → disk ≡ next.disk → IsSameStore store next → Stays contents images moment images_since faults store next
-    → ((file : Bytes) → contents store.disk ≡ Some file → LeavesOnly moment images_since store.disk next.disk (IsFoundPointed store.policy (G ++ store.entries) (point_places file)))
-    → ((before file : Bytes) → contents store.disk ≡ Some before → contents next.disk ≡ Some file → point_places file ≡ point_places before ++ length (G ++ store.entries) ∷ [])
-    → (P : PlainPolicy) → IsFounded contents images P next G
+pub put_so : {D : Type 0} (seen : D → DiskSeen)
+    (G : History) (store next : Kept D) (disk : D) → disk ≡ next.disk → IsSameStore store next → Stays seen store next
+    → ((file : Bytes) → (seen store.disk).contents ≡ Some file → LeavesOnly (seen store.disk) (seen next.disk) (IsFoundPointed store.policy (G ++ store.entries) (point_places file)))
+    → ((before file : Bytes) → (seen store.disk).contents ≡ Some before → (seen next.disk).contents ≡ Some file → point_places file ≡ point_places before ++ length (G ++ store.entries) ∷ [])
+    → (P : PlainPolicy) → IsFounded seen P next G
     → IsFront P store G → length (checkpoint_behind store.policy store.point store.before P (trace P G) store.entries) ≤ 16777215
-    → HasPut contents images moment images_since faults P (whole G store) disk
-put_so contents images moment images_since faults G store next disk is same stays inside added P founded front fits = record {
+    → HasPut seen P (whole G store) disk
+put_so seen G store next disk is same stays inside added P founded front fits = record {
   fits = subst (λ (l : Bytes). length l ≤ 16777215) (checkpoint_whole P store G front) fits;
-  inside = λ file told. subst (λ d. LeavesOnly moment images_since store.disk d (IsFoundPointed store.policy (G ++ store.entries) (point_places file))) (sym is) (inside file told);
+  inside = λ file told. subst (λ d. LeavesOnly (seen store.disk) (seen d) (IsFoundPointed store.policy (G ++ store.entries) (point_places file))) (sym is) (inside file told);
   left = λ file told c image.
-      let here = told_file (contents next.disk) (stays.tells (subst (λ (o : Option Bytes). IsSome o) (sym told) refl)) in
-      let only = subst (λ (o : Option Bytes). Only o (images next.disk)) here.1 founded.only in
-      let same_file : c ≡ here.0 = only c (subst (λ d. images d c) is image) in
-      let holds = so_told (contents next.disk) (Holds next.policy P (G ++ next.entries)) here.0 here.1 founded.holds in
+      let here = told_file (seen next.disk).contents (stays.tells (subst (λ (o : Option Bytes). IsSome o) (sym told) refl)) in
+      let only = subst (λ (o : Option Bytes). Only o (seen next.disk).images) here.1 founded.only in
+      let same_file : c ≡ here.0 = only c (subst (λ d. (seen d).images c) is image) in
+      let holds = so_told (seen next.disk).contents (Holds next.policy P (G ++ next.entries)) here.0 here.1 founded.holds in
       let found = subst (λ (z : Bytes × History). IsFoundAs z.0 here.0 z.1) (λ i. (same.policy i, G ++ same.entries i)) (found_as next.policy P (G ++ next.entries) here.0 holds) in
       (subst (λ (f : Bytes). IsFoundAs store.policy f (G ++ store.entries)) (sym same_file) found, ap point_places same_file ∙ added file here.0 told here.1);
 }

@@ -1,5 +1,5 @@
 -- An accepted document is never refused.
-use Rattle.std.proofs.Common.{◌≡◌, ℕ, true, subst}
+use Rattle.std.proofs.Common.{◌≡◌, ℕ, true, refl, subst}
 use Rattle.std.specs.Prelude.{Option, Some, None, option_map, is_none, Result, Ok, List}
 use Rattle.ucon_model.specs.Plain.{Bytes, PlainPolicy}
 use Rattle.ucon_model.specs.Document.{ScriptLine, DocumentRefusal, document_read, policy_part}
@@ -16,12 +16,13 @@ use Rattle.ucon_command.specs.declared.line_fault.LineFault.TheVariants as lines
 use Rattle.ucon_script.specs.Document.{IsLineCause}
 use Rattle.ucon_script.specs.declared.doc_fault.DocFault.{DocFault}
 use Rattle.ucon_script.specs.declared.doc_fault.DocFault.TheVariants as faults
-use Rattle.ucon_top.specs.Accepted.{IsAccepted, HasTypeFault, IsPolicyFault, IsScriptFault, IsRefusedBy}
+use Rattle.ucon_top.specs.Accepted.{HasTypeFault, IsPolicyFault}
 use Rattle.ucon_outcome.specs.declared.outcome.PolicyFault.{PolicyFault}
 use Rattle.ucon_outcome.specs.declared.outcome.PolicyFault.TheVariants.{Syntax, Typing}
 use Rattle.ucon_outcome.specs.declared.outcome.Outcome.{Outcome}
 use Rattle.ucon_outcome.specs.declared.outcome.Outcome.TheVariants as outcomes
 use Rattle.ucon_top.specs.Ending.{IsUnrefused}
+use Rattle.ucon_top.specs.OwnReading.{IsAccepted, IsRefusedBy, IsScriptFault}
 
 -- what the grammar's laws say
 pub record HaveOneReading : Type 0 where
@@ -65,17 +66,6 @@ script_refused bytes (faults.TooManyLines n) is h = (let says = is.says in let c
 script_refused bytes (faults.NoMemory e) is h = h
 
 pub never_refused : HaveOneReading → (bytes : Bytes) (outcome : Outcome) → IsAccepted bytes → IsRefusedBy outcome bytes → IsUnrefused outcome
-never_refused laws bytes (outcomes.Policy f) is h = policy_refused laws bytes f is h.1
-never_refused laws bytes (outcomes.Script f) is h = script_refused bytes f is h.1
-never_refused laws bytes outcomes.Done is h = tt
-never_refused laws bytes outcomes.Usage is h = tt
-never_refused laws bytes outcomes.SourceFault is h = tt
-never_refused laws bytes outcomes.SinkFault is h = tt
-never_refused laws bytes outcomes.DiskFault is h = tt
-never_refused laws bytes (outcomes.Damaged number place) is h = tt
-never_refused laws bytes outcomes.NotJournal is h = tt
-never_refused laws bytes (outcomes.NoMemory e) is h = tt
-never_refused laws bytes (outcomes.OtherPolicy place) is h = tt
-never_refused laws bytes outcomes.TooLong is h = tt
-never_refused laws bytes (outcomes.FullPoint size) is h = tt
-never_refused laws bytes outcomes.OldJournal is h = tt
+never_refused laws bytes (outcomes.Policy f) is h = absurd (policy_refused laws bytes f is h.1)
+never_refused laws bytes (outcomes.Script f) is h = absurd (script_refused bytes f is h.1)
+never_refused laws bytes outcome is h = refl

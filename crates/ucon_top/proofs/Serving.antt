@@ -16,36 +16,37 @@ use Rattle.ucon_top.specs.Closing.{EndsRun, IsClosedRun, IsMarkedBy, IsWritten}
 use Rattle.ucon_top.specs.Stepping.{AreAnswered, IsRunBetween}
 use Rattle.ucon_top.proofs.Answering.{AreLegal, AreReadBack, text_read, unanswered, untold}
 use Rattle.ucon_top.proofs.Closing.{ends_so, marked_so}
+use Rattle.ucon_disk.specs.Seen.{DiskSeen}
 
-module _ {D : Type 0} (contents : D → Option (List ℕ)) (images : D → List ℕ → Type 0) (moment : D → ℕ) (images_since : D → ℕ → List ℕ → Type 0) (faults : D → ℕ)
+module _ {D : Type 0} (seen : D → DiskSeen)
     (sees : Caller → Caller → Bool) (P : PlainPolicy) (before now : Option Bytes) where
   -- the store was closed without a line
-  pub closed_at_once : ((d : D) (c : List ℕ) → images_since d (moment d) c → images d c) → AreLegal → (store : Kept D) (lines : List Entry) (disk : D) (outcome : Outcome)
+  pub closed_at_once : ((d : D) (c : List ℕ) → (seen d).images_since (seen d).moment c → (seen d).images c) → AreLegal → (store : Kept D) (lines : List Entry) (disk : D) (outcome : Outcome)
       → store.mark ≡ None → disk ≡ store.disk → IsMarkedBy outcome store.mark
       → ((s : Kept D) → AreAnswered sees P s s lines (λ told. Unit {0}) → EndsRun sees P s s lines before now outcome)
-      → IsClosedRun contents images moment images_since faults sees P store lines outcome disk before now
+      → IsClosedRun seen sees P store lines outcome disk before now
   closed_at_once only laws store lines disk outcome unmarked disk_is marked ends = record {
     closed = store;
-    closes = record { stays = stays_same contents images moment images_since faults only store; disk_is = disk_is };
+    closes = record { stays = stays_same seen only store; disk_is = disk_is };
     marked = marked;
     ends = λ G front. ends (whole G store) (unanswered laws P sees (whole G store) lines unmarked);
   }
 
   -- it was closed behind these answers, whose output was written so
-  module _ (opened closed : Kept D) (told : List Answered) (disk : D) (stays : Stays contents images moment images_since faults opened closed)
+  module _ (opened closed : Kept D) (told : List Answered) (disk : D) (stays : Stays seen opened closed)
       (run : (G : History) → IsFront P opened G → IsRunBetween sees P (whole G opened) (whole G closed) told) (disk_is : disk ≡ closed.disk) where
     abbrev Lines : List Entry
     Lines = map (λ (t : Answered). t.line) told
 
     closed_behind : (outcome : Outcome) → IsMarkedBy outcome closed.mark
         → ((G : History) → IsFront P opened G → EndsRun sees P (whole G opened) (whole G closed) Lines before now outcome)
-        → IsClosedRun contents images moment images_since faults sees P opened Lines outcome disk before now
+        → IsClosedRun seen sees P opened Lines outcome disk before now
     closed_behind outcome marked ends = record { closed = closed; closes = record { stays = stays; disk_is = disk_is }; marked = marked; ends = ends }
 
     pub closed_written : AreReadBack → (outcome : Outcome) (text : Bytes) (stopped : Bool) (failed fails : ℕ) → text ≡ output told
         → Each (λ t. FitsLine t.answer) told → Each (λ t. t.line.caller.0 < 256) told → is_some closed.mark ≡ stopped
         → IsWritten outcome text stopped before now failed fails
-        → IsClosedRun contents images moment images_since faults sees P opened Lines outcome disk before now
+        → IsClosedRun seen sees P opened Lines outcome disk before now
     closed_written back outcome text stopped failed fails is fits clients is_stopped written =
         closed_behind outcome (marked_so outcome closed.mark text stopped before now failed fails is_stopped written)
         (λ G front. ends_so sees P (whole G opened) (whole G closed) Lines text stopped before now failed fails
@@ -53,6 +54,6 @@ module _ {D : Type 0} (contents : D → Option (List ℕ)) (images : D → List 
 
     pub closed_untold : (outcome : Outcome) → IsMarkedBy outcome closed.mark
         → ((s t : Kept D) → AreAnswered sees P s t Lines (λ told. Unit {0}) → EndsRun sees P s t Lines before now outcome)
-        → IsClosedRun contents images moment images_since faults sees P opened Lines outcome disk before now
+        → IsClosedRun seen sees P opened Lines outcome disk before now
     closed_untold outcome marked ends = closed_behind outcome marked
         (λ G front. ends (whole G opened) (whole G closed) (untold sees P (whole G opened) (whole G closed) Lines told refl (run G front)))

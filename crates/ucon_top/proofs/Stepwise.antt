@@ -6,9 +6,7 @@ use Rattle.ucon_base.specs.Elements.{each_append}
 use Rattle.ucon_model.specs.declared.command.Entry.{Entry}
 use Rattle.ucon_model.specs.Plain.{PlainPolicy, PlainReply}
 use Rattle.ucon_model.specs.History.{History, said, changes, grown}
-use Rattle.ucon_model.specs.Spelling.{reply_spelling}
-use Rattle.ucon_model.specs.Views.{reply_of}
-use Rattle.ucon_model.specs.LegalRun.{Answer, Answered, disk_fault, stopped, IsNext, history_after, tells_change}
+use Rattle.ucon_model.specs.LegalRun.{Answer, Answered, disk_fault, stopped, IsNext, history_after}
 use Rattle.ucon_model.specs.StoredRun.{LeadsTo}
 use Rattle.ucon_base.specs.Memory.{out_of_memory}
 use Rattle.ucon_store.specs.declared.placed.Placed.{Placed}
@@ -19,6 +17,7 @@ use Rattle.ucon_store.specs.Steps.{IsPlaced, HasFailed}
 use Rattle.ucon_store.specs.Whole.{IsFront, whole}
 use Rattle.ucon_client.specs.Answers.{answer_of, answered_by}
 use Rattle.ucon_top.specs.Stepping.{Steps, HaveSteps}
+use Rattle.ucon_disk.specs.Seen.{DiskSeen}
 
 abbrev answered : Entry → Answer → Answered
 answered e a = record { line = e; answer = a }
@@ -86,7 +85,7 @@ not_marked : (mark : Option Entry) → (IsSome mark → ⊥) → mark ≡ None
 not_marked None none = refl
 not_marked (Some e) none = absurd (none refl)
 
-module _ {D : Type 0} (count : D → ℕ) (policy : Option PlainPolicy) (P : PlainPolicy) (is : policy ≡ Some P) (texts : (r : PlainReply) → tells_change (reply_spelling r) ≡ changes r)
+module _ {D : Type 0} (seen : D → DiskSeen) (policy : Option PlainPolicy) (P : PlainPolicy) (is : policy ≡ Some P)
     (old new : Kept D) (G : History) (front : IsFront P old G) (e : Entry) where
   -- behind a history that leads to where it begins, a store answers by this and its own entries
   pub store_steps : (said_by : Result Placed StepFault)
@@ -94,15 +93,14 @@ module _ {D : Type 0} (count : D → ℕ) (policy : Option PlainPolicy) (P : Pla
       → IfOk said_by (λ p. (Q : PlainPolicy) (F : History) → policy ≡ Some Q → IsFront Q old F → IsPlaced Q (whole F old) (whole F new) e p)
       → (IsErrOf said_by (faults.NoMemory out_of_memory) → new ≡ old)
       → (IsErrOf said_by faults.Stopped → new ≡ old)
-      → (IsErrOf said_by faults.DiskFault → (Q : PlainPolicy) (F : History) → policy ≡ Some Q → IsFront Q old F → HasFailed count Q (whole F old) (whole F new) e)
+      → (IsErrOf said_by faults.DiskFault → (Q : PlainPolicy) (F : History) → policy ≡ Some Q → IsFront Q old F → HasFailed seen Q (whole F old) (whole F new) e)
       → Steps P (whole G old) (whole G new) e (answer_of (answered_by said_by))
   store_steps (Ok p) halted placed no_memory still failed =
       let h = placed P G is front in
       let H : History = G ++ old.entries in
       let none : old.mark ≡ None = not_marked old.mark (λ some. let no : Ok p ≡ Err faults.Stopped = halted.1 some in absurd (cc no)) in
-      let tells : tells_change (reply_spelling (reply_of p.reply)) ≡ changes (said P H e.caller e.command) = texts (reply_of p.reply) ∙ ap changes h.reply in
-      let same : history_after H e (answer_of (answered_by (Ok p))) ≡ grown P H e = ap (λ b. if b then H ++ e ∷ [] else H) tells in
-      inl (record { unmarked = none; next = (ap reply_spelling h.reply, h.place ∙ ap length (h.entries ∙ sym same)); entries = h.entries ∙ sym same; mark = h.unmarked })
+      let same : history_after H e (answer_of (answered_by (Ok p))) ≡ grown P H e = ap (λ (reply : PlainReply). if changes reply then H ++ e ∷ [] else H) h.reply in
+      inl (record { unmarked = none; next = (h.reply, h.place ∙ ap length (h.entries ∙ sym same)); entries = h.entries ∙ sym same; mark = h.unmarked })
   store_steps (Err (faults.NoMemory m)) halted placed no_memory still failed =
       let none : old.mark ≡ None = not_marked old.mark (λ some. let no : Err (faults.NoMemory m) ≡ Err faults.Stopped = halted.1 some in absurd (cc no)) in
       let same : new ≡ old = no_memory refl in

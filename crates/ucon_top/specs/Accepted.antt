@@ -4,7 +4,6 @@ use Rattle.ucon_model.specs.Plain.{Bytes, PlainPolicy}
 use Rattle.ucon_model.specs.Document.{ScriptLine, policy_part, document_read}
 use Rattle.ucon_model.specs.Typing.{IsTyped, type_fault}
 use Rattle.ucon_model.specs.Spells.{Spells}
-use Rattle.ucon_syntax.specs.Policies.{accepted}
 use Rattle.ucon_syntax.specs.Refusals.{IsSyntaxFault}
 use Rattle.ucon_check.specs.Told.{told}
 use Rattle.ucon_check.specs.declared.fault.CheckFault.{CheckFault}
@@ -15,8 +14,7 @@ use Rattle.ucon_outcome.specs.declared.outcome.PolicyFault.{PolicyFault}
 use Rattle.ucon_outcome.specs.declared.outcome.PolicyFault.TheVariants.{Syntax, Typing}
 use Rattle.ucon_outcome.specs.declared.outcome.Outcome.{Outcome}
 use Rattle.ucon_outcome.specs.declared.outcome.Outcome.TheVariants as outcomes
-use Rattle.ucon_outcome.specs.declared.outcome.Refused.{Refused}
-use Rattle.ucon_outcome.specs.declared.outcome.Refused.TheVariants as refusals
+use Rattle.ucon_store.specs.Points.{PolicyReading}
 
 -- a document's policy part spells this policy, and it is well typed
 pub record HasPolicy (bytes : Bytes) (P : PlainPolicy) : Type 0 where
@@ -29,12 +27,12 @@ pub record HasSomePolicy (bytes : Bytes) : Type 0 where
   pub has_policy : HasPolicy bytes policy
 
 -- a document has a policy, and its script says these lines
-pub record IsAccepted (bytes : Bytes) : Type 0 where
+pub record IsAcceptedBy (reads : PolicyReading) (bytes : Bytes) : Type 0 where
   pub short : length bytes ≤ 4194304
   pub policy : PlainPolicy
   pub lines : List ScriptLine
   pub has_policy : HasPolicy bytes policy
-  pub says : document_read accepted bytes ≡ Ok lines
+  pub says : document_read reads bytes ≡ Ok lines
 
 -- a document's policy part spells a policy that has this typing fault first
 pub record HasTypeFault (bytes : Bytes) (fault : CheckFault) : Type 0 where
@@ -48,23 +46,17 @@ IsPolicyFault (Syntax f) bytes = IsSyntaxFault (policy_part bytes) f
 IsPolicyFault (Typing f) bytes = HasTypeFault bytes f
 
 -- the policy is accepted, and the script is refused so
-pub record HasScriptFault (bytes : Bytes) (fault : DocFault) : Type 0 where
+pub record HasScriptFaultBy (reads : PolicyReading) (bytes : Bytes) (fault : DocFault) : Type 0 where
   pub policy : PlainPolicy
   pub has_policy : HasPolicy bytes policy
-  pub cause : IsCause (document_read accepted bytes) fault
+  pub cause : IsCause (document_read reads bytes) fault
 
-abbrev pub IsScriptFault : DocFault → Bytes → Type 0
-IsScriptFault (faults.NoMemory e) bytes = ⊥
-IsScriptFault f bytes = HasScriptFault bytes f
-
--- the document is refused so; want of memory may come at any moment
-abbrev pub IsRefused : Refused → Bytes → Type 0
-IsRefused (refusals.Policy f) bytes = IsPolicyFault f bytes
-IsRefused (refusals.Script f) bytes = IsScriptFault f bytes
-IsRefused (refusals.NoMemory e) bytes = Unit {0}
+abbrev pub IsScriptFaultBy : PolicyReading → DocFault → Bytes → Type 0
+IsScriptFaultBy reads (faults.NoMemory e) bytes = ⊥
+IsScriptFaultBy reads f bytes = HasScriptFaultBy reads bytes f
 
 -- a run that ended so was refused its document by this cause, which is of at most 4,194,304 bytes
-abbrev pub IsRefusedBy : Outcome → Bytes → Type 0
-IsRefusedBy (outcomes.Policy f) bytes = (length bytes ≤ 4194304) × IsPolicyFault f bytes
-IsRefusedBy (outcomes.Script f) bytes = (length bytes ≤ 4194304) × IsScriptFault f bytes
-IsRefusedBy outcome bytes = Unit {0}
+abbrev pub IsRefusedSo : PolicyReading → Outcome → Bytes → Type 0
+IsRefusedSo reads (outcomes.Policy f) bytes = (length bytes ≤ 4194304) × IsPolicyFault f bytes
+IsRefusedSo reads (outcomes.Script f) bytes = (length bytes ≤ 4194304) × IsScriptFaultBy reads f bytes
+IsRefusedSo reads outcome bytes = Unit {0}

@@ -1,5 +1,5 @@
 -- How a run over a store ends, between the opening and the closing of its journal.
-use Rattle.std.specs.Prelude.{◌≡◌, ℕ, Bool, true, false, List, Option, None, IsSome}
+use Rattle.std.specs.Prelude.{◌≡◌, ℕ, Bool, true, false, IsTrue, IsFalse, List, Option, None, IsSome}
 use Rattle.std.specs.Io.KnownBytes.{Appends}
 use Rattle.ucon_flow.specs.Causes.{raised}
 use Rattle.ucon_flow.specs.Writing.{AppendsPrefix}
@@ -12,15 +12,13 @@ use Rattle.ucon_store.specs.Stays.{Stays}
 use Rattle.ucon_store.specs.Whole.{IsFront, whole}
 use Rattle.ucon_outcome.specs.declared.outcome.Outcome.{Outcome}
 use Rattle.ucon_outcome.specs.declared.outcome.Outcome.TheVariants.{Done, SinkFault, DiskFault, NoMemory}
+use Rattle.ucon_outcome.specs.Ending.{ending}
 use Rattle.ucon_top.specs.Stepping.{AreAnswered, HaveOutput}
+use Rattle.ucon_disk.specs.Seen.{DiskSeen}
 
 -- how a run over a store may end
 abbrev pub IsOfRun : Outcome → Type 0
-IsOfRun Done = Unit {0}
-IsOfRun SinkFault = Unit {0}
-IsOfRun DiskFault = Unit {0}
-IsOfRun (NoMemory e) = Unit {0}
-IsOfRun outcome = ⊥
+IsOfRun outcome = IsTrue (ending outcome).opened × IsFalse (ending outcome).by_point
 
 -- How the output was written, by how the run then ends. The sink's count of faults, before and after, is one more only where it failed.
 abbrev pub IsWritten : Outcome → Bytes → Bool → Option Bytes → Option Bytes → ℕ → ℕ → Type 0
@@ -44,11 +42,10 @@ module _ {D : Type 0} (sees : Caller → Caller → Bool) (P : PlainPolicy) (sto
   EndsRun (NoMemory e) = AreAnswered sees P store closed lines (λ told. Unit {0})
   EndsRun outcome = ⊥
 
-module _ {D : Type 0} (contents : D → Option (List ℕ)) (images : D → List ℕ → Type 0) (moment : D → ℕ)
-    (images_since : D → ℕ → List ℕ → Type 0) (faults : D → ℕ) where
+module _ {D : Type 0} (seen : D → DiskSeen) where
   -- the store was closed, and gave its disk back
   pub record Closes (store closed : Kept D) (disk : D) : Type 0 where
-    pub stays : Stays contents images moment images_since faults store closed
+    pub stays : Stays seen store closed
     pub disk_is : disk ≡ closed.disk
 
   -- and the run over it ended so, behind each history that leads to where the store begins

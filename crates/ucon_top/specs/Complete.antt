@@ -1,43 +1,35 @@
 -- When nothing hinders a run, and how it ends then.
-use Rattle.std.specs.Prelude.{◌≡◌, ℕ, Option, Some}
+use Rattle.std.specs.Prelude.{◌≡◌, IsTrue, ℕ, Option, Some}
+use Rattle.std.specs.Bool.{OnTrue}
 use Rattle.ucon_flow.specs.Causes.{Rose}
 use Rattle.ucon_model.specs.Document.{policy_part}
 use Rattle.ucon_model.specs.Plain.{Bytes}
 use Rattle.ucon_top.specs.declared.form.Form.{Form}
-use Rattle.ucon_top.specs.declared.form.Form.TheVariants.{Play, Serve, Point}
 use Rattle.ucon_outcome.specs.declared.outcome.Outcome.{Outcome}
-use Rattle.ucon_outcome.specs.declared.outcome.Outcome.TheVariants.{Done, NoMemory, FullPoint, OldJournal}
-use Rattle.ucon_top.specs.Accepted.{IsAccepted}
-use Rattle.ucon_top.specs.Own.{IsOwnFile}
+use Rattle.ucon_outcome.specs.Ending.{ending}
+use Rattle.ucon_top.specs.Accepted.{IsAcceptedBy}
+use Rattle.ucon_top.specs.Own.{IsOwnFileBy}
+use Rattle.ucon_top.specs.Seen.{Seen}
+use Rattle.ucon_top.specs.Traits.{traits}
+use Rattle.ucon_store.specs.Points.{PolicyReading}
 
 -- the disk tells its file, which opening sees as a fresh one or a journal under the policy of this text
-pub record IsOwnJournal (text : Bytes) (contents : Option Bytes) : Type 0 where
+pub record IsOwnJournalBy (reads : PolicyReading) (text : Bytes) (contents : Option Bytes) : Type 0 where
   pub file : Bytes
   pub told : contents ≡ Some file
   pub entries : ℕ
-  pub own : IsOwnFile text entries file
+  pub own : IsOwnFileBy reads text entries file
 
--- a form with a journal finds one that is the document's own
-abbrev pub FindsItsJournal : Form → Bytes → Option Bytes → Type 0
-FindsItsJournal Play bytes contents = IsOwnJournal (policy_part bytes) contents
-FindsItsJournal Serve bytes contents = IsOwnJournal (policy_part bytes) contents
-FindsItsJournal Point bytes contents = IsOwnJournal (policy_part bytes) contents
-FindsItsJournal form bytes contents = Unit {0}
-
--- Nothing hinders a run of a form over these bytes: they are an accepted document, the journal, as the disk tells it and opening sees it, is
--- fresh or the document's own, and no count of faults rose, of which each stands here before the call and after it.
-pub record IsUnhindered (form : Form) (bytes : Bytes) (contents : Option Bytes) (source source' sink sink' disk disk' : ℕ) : Type 0 where
-  pub accepted : IsAccepted bytes
-  pub journal : FindsItsJournal form bytes contents
-  pub source_works : ¬ Rose source source'
-  pub sink_works : ¬ Rose sink sink'
-  pub disk_works : ¬ Rose disk disk'
+-- Nothing hinders a run of a form over these bytes: they are an accepted document, the journal of a form that has one, as the
+-- disk tells it and opening sees it, is fresh or the document's own, and no count of faults rose.
+pub record IsUnhinderedBy (reads : PolicyReading) (form : Form) (bytes : Bytes) (before after : Seen) : Type 0 where
+  pub accepted : IsAcceptedBy reads bytes
+  pub journal : OnTrue (traits form).disk (IsOwnJournalBy reads (policy_part bytes) before.disk.contents)
+  pub source_works : ¬ Rose before.source.faults after.source.faults
+  pub sink_works : ¬ Rose before.sink.faults after.sink.faults
+  pub disk_works : ¬ Rose before.disk.faults after.disk.faults
 
 -- all lines were answered, or the checkpoint is written, and the output is whole; or there was no memory; or no checkpoint could be written
 -- of this history, or in this journal
 abbrev pub IsComplete : Outcome → Type 0
-IsComplete Done = Unit {0}
-IsComplete (NoMemory e) = Unit {0}
-IsComplete (FullPoint size) = Unit {0}
-IsComplete OldJournal = Unit {0}
-IsComplete outcome = ⊥
+IsComplete outcome = IsTrue (ending outcome).complete

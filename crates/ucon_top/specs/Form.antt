@@ -1,5 +1,5 @@
 -- The forms of words.
-use Rattle.std.specs.Prelude.{Bool, true, false, ℕ, ◌^◌, ◌≤◌, nat_lt, nat_le, ◌&&◌, List, [], ◌∷◌, Option, Some, None, option_and_then, codes, if◌then◌else◌}
+use Rattle.std.specs.Prelude.{Bool, false, IsTrue, IsFalse, ℕ, ◌^◌, ◌≤◌, nat_lt, nat_le, ◌&&◌, List, [], ◌∷◌, Option, Some, None, option_and_then, codes, map, String, string_bytes, if◌then◌else◌}
 use Rattle.std.specs.Str.{bytes_eq}
 use Rattle.ucon_model.specs.declared.command.Caller.{Caller}
 use Rattle.ucon_model.specs.declared.command.Entry.{Entry}
@@ -9,6 +9,7 @@ use Rattle.ucon_client.specs.Dividing.{by_client}
 use Rattle.ucon_model.specs.Plain.{Bytes}
 use Rattle.ucon_top.specs.declared.form.Form.{Form}
 use Rattle.ucon_top.specs.declared.form.Form.TheVariants.{Trial, Check, Gen, Play, Serve, Point}
+use Rattle.ucon_top.specs.Traits.{traits}
 
 -- the form that is one word
 abbrev pub word_form : Bytes → Option Form
@@ -40,39 +41,32 @@ form_of (word ∷ path ∷ []) = journal_form word path
 form_of (word ∷ seed ∷ size ∷ []) = if bytes_eq word (codes "gen") then gen_form seed size else None
 form_of words = None
 
+-- the form that a program's words are
+abbrev pub asked : {A : Type 0} → List (String A) → Option Form
+asked words = form_of (map (λ w. string_bytes w) words)
+
 -- a size that words can ask for
 abbrev pub HasSize : Form → Type 0
-HasSize Trial = Unit {0}
-HasSize Check = Unit {0}
 HasSize (Gen seed size) = size ≤ 100000
-HasSize Play = Unit {0}
-HasSize Serve = Unit {0}
-HasSize Point = Unit {0}
+HasSize form = Unit {0}
 
 -- the form runs its document over a journal
 abbrev pub HasJournal : Form → Type 0
-HasJournal Play = Unit {0}
-HasJournal Serve = Unit {0}
-HasJournal form = ⊥
+HasJournal form = IsTrue (traits form).runs
 
 -- the form makes no call of the disk
 abbrev pub IsAlone : Form → Type 0
-IsAlone Play = ⊥
-IsAlone Serve = ⊥
-IsAlone Point = ⊥
-IsAlone form = Unit {0}
+IsAlone form = IsFalse (traits form).disk
 
 -- whether a form is asked for that runs each client in a thread of its own
 abbrev pub asks_for_threads : Option Form → Bool
-asks_for_threads (Some Serve) = true
-asks_for_threads form = false
+asks_for_threads (Some form) = (traits form).threads
+asks_for_threads None = false
 
--- whose earlier answers a line's caller saw: by `serve` its own, and otherwise everybody's
+-- whose earlier answers a line's caller saw: its own, where each client has a thread, and otherwise everybody's
 abbrev pub sees_by : Form → Caller → Caller → Bool
-sees_by Serve = own_answers
-sees_by form = in_text_order
+sees_by form = if (traits form).threads then own_answers else in_text_order
 
--- the order in which a form's output has the lines: by `serve` they stand client by client, by rising number, and otherwise as in the document
+-- the order in which a form's output has the lines: client by client, by rising number, where each has a thread, and otherwise as in the document
 abbrev pub output_order : Form → List Entry → List Entry
-output_order Serve lines = by_client lines
-output_order form lines = lines
+output_order form lines = if (traits form).threads then by_client lines else lines

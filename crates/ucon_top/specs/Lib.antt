@@ -4,9 +4,14 @@ pub mod Complete
 pub mod Ending
 pub mod Form
 pub mod Own
+pub mod OwnReading
 pub mod Played
 pub mod Pointed
 pub mod PointEnding
 pub mod Printed
+pub mod Ran
+pub mod Reading
+pub mod Seen
 pub mod Stepping
+pub mod Traits
 pub mod Unread

@@ -1,7 +1,8 @@
 -- What opening sees in a journal that is a document's own.
 use Rattle.std.specs.Prelude.{◌≡◌, ℕ}
 use Rattle.ucon_model.specs.Plain.{Bytes}
-use Rattle.ucon_store.specs.Opened.{Seen, fresh, not_journal, damaged, holds, Sees}
+use Rattle.ucon_store.specs.Opened.{Seen, fresh, not_journal, damaged, holds, SeesBy}
+use Rattle.ucon_store.specs.Points.{PolicyReading}
 
 -- a fresh file, without an entry, or a journal under the policy of this text, with so many entries
 abbrev pub HasEntries : Seen → Bytes → ℕ → Type 0
@@ -11,7 +12,7 @@ HasEntries (damaged number place) text n = ⊥
 HasEntries (holds other entries there gate) text n = (other ≡ text) × (entries ≡ n)
 
 -- Opening sees one or the other in a file. It runs only what stands behind the last checkpoint, so the file needs not be found as a history.
-pub record IsOwnFile (text : Bytes) (entries : ℕ) (file : Bytes) : Type 0 where
+pub record IsOwnFileBy (reads : PolicyReading) (text : Bytes) (entries : ℕ) (file : Bytes) : Type 0 where
   pub seen : Seen
-  pub sees : Sees file seen
+  pub sees : SeesBy reads file seen
   pub has : HasEntries seen text entries

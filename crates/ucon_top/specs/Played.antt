@@ -12,87 +12,91 @@ use Rattle.ucon_model.specs.Plain.{Bytes, PlainPolicy}
 use Rattle.ucon_model.specs.History.{History}
 use Rattle.ucon_model.specs.LegalRun.{Answered, IsLegalRun, history_made}
 use Rattle.ucon_model.specs.StoredRun.{failed_line}
-use Rattle.ucon_syntax.specs.Policies.{accepted}
 use Rattle.ucon_store.specs.declared.fault.StoreFault.{StoreFault}
 use Rattle.ucon_store.specs.declared.fault.StoreFault.TheVariants as stores
-use Rattle.ucon_store.specs.Found.{IsFoundAs, IsFoundWith}
-use Rattle.ucon_store.specs.Opening.{HasReason, Opens}
+use Rattle.ucon_store.specs.Found.{IsFoundBy, IsFoundWithBy}
+use Rattle.ucon_store.specs.Opening.{HasReasonBy, OpensBy}
 use Rattle.ucon_top.specs.declared.form.Form.{Form}
 use Rattle.ucon_outcome.specs.declared.outcome.Outcome.{Outcome}
 use Rattle.ucon_outcome.specs.declared.outcome.Outcome.TheVariants.{Done, SinkFault, DiskFault, Damaged, NotJournal, NoMemory, OtherPolicy}
 use Rattle.ucon_top.specs.Accepted.{HasPolicy}
 use Rattle.ucon_top.specs.Form.{output_order, sees_by}
-use Rattle.ucon_top.specs.Own.{IsOwnFile}
+use Rattle.ucon_top.specs.Own.{IsOwnFileBy}
 use Rattle.ucon_trial.specs.Runs.{IsUnfaulted}
 use Rattle.ucon_top.specs.Stepping.{HaveOutput}
+use Rattle.ucon_disk.specs.Seen.{DiskSeen}
+use Rattle.ucon_top.specs.Seen.{IsAsBefore}
+use Rattle.ucon_flow.specs.Seen.{SinkSeen}
+use Rattle.ucon_store.specs.Points.{PolicyReading}
 
 -- a file is found as a history that has the opening one and begins this one, or as this one with the line that met a disk fault
-pub record IsFoundSince (text : Bytes) (opening H : History) (failed : Option Entry) (file : Bytes) : Type 0 where
+pub record IsFoundSinceBy (reads : PolicyReading) (text : Bytes) (opening H : History) (failed : Option Entry) (file : Bytes) : Type 0 where
   pub history : History
-  pub found : IsFoundAs text file history
+  pub found : IsFoundBy reads text file history
   pub begun : Begins opening history
   pub within : Begins history H ⊎ ((e : Entry) × (failed ≡ Some e) × (history ≡ H ++ e ∷ []))
 
-module _ {D : Type 0} (contents : D → Option (List ℕ)) (images : D → List ℕ → Type 0) (moment : D → ℕ)
-    (images_since : D → ℕ → List ℕ → Type 0) (faults : D → ℕ) where
-  -- The answers are a legal run behind the history as which the file was found. Where a line met a disk fault the disk's count rose by one,
-  -- and otherwise it didn't. Where the disk was at rest, a crash at any moment since leaves a file that is found as a beginning of the history
-  -- that is made, which has the opening one, or as it with the line that met a disk fault. At rest or not, a crash now leaves one that is found
-  -- as the whole, or as it with that line.
-  pub record IsPlayed (sees : Caller → Caller → Bool) (text : Bytes) (P : PlainPolicy) (file : Bytes) (opening : History) (old new : D)
-      (told : List Answered) : Type 0 where
-    pub legal : IsLegalRun P sees opening told
-    pub unfailed : failed_line told ≡ None → faults new ≡ faults old
-    pub failed : (e : Entry) → failed_line told ≡ Some e → faults new ≡ raised (faults old)
-    pub since : IsAtRest (contents old) (images old) file
-        → LeavesOnly moment images_since old new (IsFoundSince text opening (history_made opening told) (failed_line told))
-    pub now : (c : Bytes) → images new c → IsFoundWith text (history_made opening told) (failed_line told) c
+-- The answers are a legal run behind the history as which the file was found. Where a line met a disk fault the disk's count rose by one,
+-- and otherwise it didn't. Where the disk was at rest, a crash at any moment since leaves a file that is found as a beginning of the history
+-- that is made, which has the opening one, or as it with the line that met a disk fault. At rest or not, a crash now leaves one that is found
+-- as the whole, or as it with that line.
+pub record IsPlayedBy (reads : PolicyReading) (sees : Caller → Caller → Bool) (text : Bytes) (P : PlainPolicy) (file : Bytes) (opening : History)
+    (old new : DiskSeen) (told : List Answered) : Type 0 where
+  pub legal : IsLegalRun P sees opening told
+  pub unfailed : failed_line told ≡ None → new.faults ≡ old.faults
+  pub failed : (e : Entry) → failed_line told ≡ Some e → new.faults ≡ raised old.faults
+  pub since : IsAtRest old file
+      → LeavesOnly old new (IsFoundSinceBy reads text opening (history_made opening told) (failed_line told))
+  pub now : (c : Bytes) → new.images c → IsFoundWithBy reads text (history_made opening told) (failed_line told) c
 
-  -- these lines were played behind a history, as which this file was found, and of the lines and their answers this is so
-  pub record HasRun (sees : Caller → Caller → Bool) (text : Bytes) (P : PlainPolicy) (lines : List Entry) (file : Bytes) (opening : History)
-      (old new : D) (so : List Entry → List Answered → Type 0) : Type 0 where
-    pub told : List Answered
-    pub lines_are : map (λ t. t.line) told ≡ lines
-    pub played : IsPlayed sees text P file opening old new told
-    pub is_so : so lines told
+-- these lines were played behind a history, as which this file was found, and of the lines and their answers this is so
+pub record HasRunBy (reads : PolicyReading) (sees : Caller → Caller → Bool) (text : Bytes) (P : PlainPolicy) (lines : List Entry) (file : Bytes)
+    (opening : History) (old new : DiskSeen) (so : List Entry → List Answered → Type 0) : Type 0 where
+  pub told : List Answered
+  pub lines_are : map (λ t. t.line) told ≡ lines
+  pub played : IsPlayedBy reads sees text P file opening old new told
+  pub is_so : so lines told
 
-  -- The bytes are an accepted document, and opening saw a fresh file, or a journal under the document's policy, where the disk told its file. Where
-  -- the file is found as a history, the document's lines were played behind that. A file that opening alone accepts has none, and nothing is said
-  -- of the answers.
-  pub record IsRunOver (form : Form) (bytes : Bytes) (old new : D) (so : List Entry → List Answered → Type 0) : Type 0 where
-    pub policy : PlainPolicy
-    pub lines : List ScriptLine
-    pub has_policy : HasPolicy bytes policy
-    pub says : document_read accepted bytes ≡ Ok lines
-    pub entries : ℕ
-    pub own : IfSome (contents old) (IsOwnFile (policy_part bytes) entries)
-    pub run : (file : Bytes) (opening : History) → contents old ≡ Some file → IsFoundAs (policy_part bytes) file opening
-        → HasRun (sees_by form) (policy_part bytes) policy (output_order form (entries_of lines)) file opening old new so
+-- The bytes are an accepted document, and opening saw a fresh file, or a journal under the document's policy, where the disk told its file. Where
+-- the file is found as a history, the document's lines were played behind that. A file that opening alone accepts has none, and nothing is said
+-- of the answers.
+pub record IsRunOverBy (reads : PolicyReading) (form : Form) (bytes : Bytes) (old new : DiskSeen)
+    (so : List Entry → List Answered → Type 0) : Type 0 where
+  pub policy : PlainPolicy
+  pub lines : List ScriptLine
+  pub has_policy : HasPolicy bytes policy
+  pub says : document_read reads bytes ≡ Ok lines
+  pub entries : ℕ
+  pub own : IfSome old.contents (IsOwnFileBy reads (policy_part bytes) entries)
+  pub run : (file : Bytes) (opening : History) → old.contents ≡ Some file → IsFoundBy reads (policy_part bytes) file opening
+      → HasRunBy reads (sees_by form) (policy_part bytes) policy (output_order form (entries_of lines)) file opening old new so
 
-  -- the journal wasn't opened for this reason, and what was found in its file is still found there; a foreign file is as it was
-  pub record IsUnopened (fault : StoreFault) (text : Bytes) (old new : D) : Type 0 where
-    pub reason : HasReason fault text (contents old) (faults old) (faults new)
-    pub images_kept : LeavesAfter contents images moment images_since old new (Opens text)
+-- the journal wasn't opened for this reason, and what was found in its file is still found there; a foreign file is as it was
+pub record IsUnopenedBy (reads : PolicyReading) (fault : StoreFault) (text : Bytes) (old new : DiskSeen) : Type 0 where
+  pub reason : HasReasonBy reads fault text old.contents old.faults new.faults
+  pub images_kept : LeavesAfter old new (OpensBy reads text)
 
-  module _ {K : Type 0} (held : K → Option Bytes) where
-    -- What holds of the disk, and of the sink, by how playing ended. Otherwise than by the causes named here it made no call of the disk.
-    abbrev pub HasPlayed : Form → Outcome → Bytes → D → D → K → K → Type 0
-    HasPlayed form Done bytes old new before now = IsRunOver form bytes old new
-        (λ lines told. (failed_line told ≡ None) × IsUnfaulted told × HaveOutput (Appends (held before) (held now)) lines told)
-        × (faults new ≡ faults old)
-    HasPlayed form SinkFault bytes old new before now = IsRunOver form bytes old new (HaveOutput (AppendsPrefix (held before) (held now)))
-    HasPlayed form DiskFault bytes old new before now =
-        IsRunOver form bytes old new (λ lines told. IsSome (failed_line told) × HaveOutput (Appends (held before) (held now)) lines told)
-        ⊎ (IsUnopened stores.DiskFault (policy_part bytes) old new × (now ≡ before))
-    HasPlayed form NotJournal bytes old new before now = IsUnopened stores.NotJournal (policy_part bytes) old new
-    HasPlayed form (Damaged number place) bytes old new before now = IsUnopened (stores.Damaged number place) (policy_part bytes) old new
-    HasPlayed form (OtherPolicy place) bytes old new before now = IsUnopened (stores.OtherPolicy place) (policy_part bytes) old new
-    HasPlayed form (NoMemory e) bytes old new before now =
-        (new ≡ old) ⊎ IsUnopened (stores.NoMemory e) (policy_part bytes) old new ⊎ IsRunOver form bytes old new (λ lines told. Unit {0})
-    HasPlayed form outcome bytes old new before now = new ≡ old
+-- What holds of the disk, and of the sink, by how playing ended. Otherwise than by the causes named here it made no call of the disk.
+abbrev pub HasPlayedBy : PolicyReading → Form → Outcome → Bytes → DiskSeen → DiskSeen → SinkSeen → SinkSeen → Type 0
+HasPlayedBy reads form Done bytes old new before now = IsRunOverBy reads form bytes old new
+    (λ lines told. (failed_line told ≡ None) × IsUnfaulted told × HaveOutput (Appends before.contents now.contents) lines told)
+    × (new.faults ≡ old.faults)
+HasPlayedBy reads form SinkFault bytes old new before now =
+    IsRunOverBy reads form bytes old new (HaveOutput (AppendsPrefix before.contents now.contents))
+HasPlayedBy reads form DiskFault bytes old new before now =
+    IsRunOverBy reads form bytes old new (λ lines told. IsSome (failed_line told) × HaveOutput (Appends before.contents now.contents) lines told)
+    ⊎ (IsUnopenedBy reads stores.DiskFault (policy_part bytes) old new × (now ≡ before))
+HasPlayedBy reads form NotJournal bytes old new before now = IsUnopenedBy reads stores.NotJournal (policy_part bytes) old new
+HasPlayedBy reads form (Damaged number place) bytes old new before now = IsUnopenedBy reads (stores.Damaged number place) (policy_part bytes) old new
+HasPlayedBy reads form (OtherPolicy place) bytes old new before now = IsUnopenedBy reads (stores.OtherPolicy place) (policy_part bytes) old new
+HasPlayedBy reads form (NoMemory e) bytes old new before now =
+    IsAsBefore old new ⊎ IsUnopenedBy reads (stores.NoMemory e) (policy_part bytes) old new
+    ⊎ IsRunOverBy reads form bytes old new (λ lines told. Unit {0})
+HasPlayedBy reads form outcome bytes old new before now = IsAsBefore old new
 
-    -- so it was played over some bytes, which are those of the input where the source tells them
-    pub record HasPlayedInput (form : Form) (outcome : Outcome) (input : Option Bytes) (old new : D) (before now : K) : Type 0 where
-      pub bytes : Bytes
-      pub are : IfSome input (λ known. known ≡ bytes)
-      pub played : HasPlayed form outcome bytes old new before now
+-- so it was played over some bytes, which are those of the input where the source tells them
+pub record HasPlayedInputBy (reads : PolicyReading) (form : Form) (outcome : Outcome) (input : Option Bytes) (old new : DiskSeen)
+    (before now : SinkSeen) : Type 0 where
+  pub bytes : Bytes
+  pub are : IfSome input (λ known. known ≡ bytes)
+  pub played : HasPlayedBy reads form outcome bytes old new before now

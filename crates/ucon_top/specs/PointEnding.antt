@@ -1,5 +1,5 @@
 -- How the writing of a checkpoint over an open store ends, and what it leaves on the disk.
-use Rattle.std.specs.Prelude.{◌≡◌, ◌<◌, ◌+◌, ℕ, true, false, List, length, Option, Some, IfSome}
+use Rattle.std.specs.Prelude.{◌≡◌, ◌≢◌, ◌<◌, ◌+◌, true, false, IsTrue, length, Option, Some, IfSome}
 use Rattle.std.specs.Io.KnownBytes.{Appends}
 use Rattle.ucon_disk.specs.Causes.{raised}
 use Rattle.ucon_disk.specs.Run.{LeavesOnly}
@@ -13,58 +13,51 @@ use Rattle.ucon_store.specs.Pointing.{IsFoundPointed}
 use Rattle.ucon_store.specs.Points.{has_points, point_places}
 use Rattle.ucon_outcome.specs.declared.outcome.Outcome.{Outcome}
 use Rattle.ucon_outcome.specs.declared.outcome.Outcome.TheVariants.{Done, SinkFault, DiskFault, NoMemory, FullPoint, OldJournal}
+use Rattle.ucon_outcome.specs.Ending.{ending}
 use Rattle.ucon_top.specs.Pointed.{FitsRecord, IsCheckpointSize, IsPointedAt, point_line}
+use Rattle.ucon_disk.specs.Seen.{DiskSeen}
 
 -- how it may end
 abbrev pub IsOfPoint : Outcome → Type 0
-IsOfPoint Done = Unit {0}
-IsOfPoint SinkFault = Unit {0}
-IsOfPoint DiskFault = Unit {0}
-IsOfPoint (NoMemory e) = Unit {0}
-IsOfPoint (FullPoint size) = Unit {0}
-IsOfPoint OldJournal = Unit {0}
-IsOfPoint outcome = ⊥
+IsOfPoint outcome = IsTrue (ending outcome).opened
 
-module _ {D : Type 0} (contents : D → Option (List ℕ)) (images : D → List ℕ → Type 0) (moment : D → ℕ)
-    (images_since : D → ℕ → List ℕ → Type 0) (faults : D → ℕ) where
+module _ {D : Type 0} (seen : D → DiskSeen) where
   -- Where the disk told the store's file, a crash since leaves one that is found as its entries, with or without a checkpoint behind them.
   abbrev pub LeavesPointed : Kept D → D → Type 0
-  LeavesPointed store disk = (file : Bytes) → contents store.disk ≡ Some file
-      → LeavesOnly moment images_since store.disk disk (IsFoundPointed store.policy store.entries (point_places file))
+  LeavesPointed store disk = (file : Bytes) → (seen store.disk).contents ≡ Some file
+      → LeavesOnly (seen store.disk) (seen disk) (IsFoundPointed store.policy store.entries (point_places file))
 
   -- the checkpoint is written, which fits a record: each image now has it
   pub record HasPut (P : PlainPolicy) (store : Kept D) (disk : D) : Type 0 where
     pub fits : FitsRecord store.policy P store.entries
     pub inside : LeavesPointed store disk
-    pub left : (file : Bytes) → contents store.disk ≡ Some file → (c : Bytes) → images disk c
+    pub left : (file : Bytes) → (seen store.disk).contents ≡ Some file → (c : Bytes) → (seen disk).images c
         → IsFoundAs store.policy c store.entries × IsPointedAt (length store.entries) file c
 
   -- it is so behind each history that the store is founded on
   abbrev pub BehindEach : PlainPolicy → Kept D → (Kept D → Type 0) → Type 0
-  BehindEach P store so = (G : History) → IsFounded contents images P store G → so (whole G store)
+  BehindEach P store so = (G : History) → IsFounded seen P store G → so (whole G store)
 
   -- where the disk told the store's file, it may have checkpoints
   abbrev pub MayHavePoints : Kept D → Type 0
-  MayHavePoints store = IfSome (contents store.disk) (λ file. has_points file ≡ true)
+  MayHavePoints store = IfSome (seen store.disk).contents (λ file. has_points file ≡ true)
 
   -- the checkpoint is written, in a file that may have it, and the disk didn't fail
   abbrev pub IsPut : PlainPolicy → Kept D → D → Type 0
-  IsPut P store disk = BehindEach P store (λ s. HasPut P s disk) × MayHavePoints store × (faults disk ≡ faults store.disk)
+  IsPut P store disk = BehindEach P store (λ s. HasPut P s disk) × MayHavePoints store × ((seen disk).faults ≡ (seen store.disk).faults)
 
   -- And so it ended, where the sink held this before and holds that now. But by a disk fault, where the checkpoint wasn't written nothing was.
   module _ (P : PlainPolicy) (store : Kept D) (disk : D) (before now : Option Bytes) where
     abbrev pub EndsPoint : Outcome → Type 0
     EndsPoint Done = IsPut P store disk × Appends before now (point_line (store.before + length store.entries))
     EndsPoint SinkFault = IsPut P store disk × AppendsPrefix before now (point_line (store.before + length store.entries))
-    EndsPoint DiskFault = BehindEach P store (λ s. LeavesPointed s disk) × (faults disk ≡ raised (faults store.disk))
+    EndsPoint DiskFault = BehindEach P store (λ s. LeavesPointed s disk) × ((seen disk).faults ≡ raised (seen store.disk).faults)
     EndsPoint (NoMemory e) = disk ≡ store.disk
     EndsPoint (FullPoint size) =
         (disk ≡ store.disk) × MayHavePoints store × (16777215 < size) × BehindEach P store (λ s. IsCheckpointSize s.policy P s.entries size)
-    EndsPoint OldJournal = (disk ≡ store.disk) × IfSome (contents store.disk) (λ file. has_points file ≡ false)
+    EndsPoint OldJournal = (disk ≡ store.disk) × IfSome (seen store.disk).contents (λ file. has_points file ≡ false)
     EndsPoint outcome = ⊥
 
 -- how it may end where the checkpoint isn't written
 abbrev pub IsOfNoPoint : Outcome → Type 0
-IsOfNoPoint Done = ⊥
-IsOfNoPoint SinkFault = ⊥
-IsOfNoPoint outcome = IsOfPoint outcome
+IsOfNoPoint outcome = IsOfPoint outcome × (outcome ≢ Done) × (outcome ≢ SinkFault)

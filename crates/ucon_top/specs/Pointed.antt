@@ -1,5 +1,5 @@
 -- What writing a checkpoint over the disk of a journal leaves, and how it ends.
-use Rattle.std.specs.Prelude.{◌≡◌, ◌⊎◌, ◌<◌, ◌≤◌, ℕ, List, [], ◌∷◌, ◌++◌, length, Option, Some, IfSome}
+use Rattle.std.specs.Prelude.{◌≡◌, ◌⊎◌, ◌<◌, ◌≤◌, ℕ, [], ◌∷◌, ◌++◌, length, Option, Some, IfSome}
 use Rattle.std.specs.Io.KnownBytes.{Appends}
 use Rattle.ucon_disk.specs.Causes.{raised}
 use Rattle.ucon_disk.specs.Run.{IsAtRest, LeavesOnly}
@@ -8,14 +8,17 @@ use Rattle.ucon_model.specs.Document.{policy_part}
 use Rattle.ucon_model.specs.History.{History}
 use Rattle.ucon_model.specs.Plain.{Bytes, PlainPolicy}
 use Rattle.ucon_store.specs.declared.fault.StoreFault.TheVariants as stores
-use Rattle.ucon_store.specs.Found.{IsFoundAs}
-use Rattle.ucon_store.specs.Points.{IsOld, checkpoint, point_places}
+use Rattle.ucon_store.specs.Found.{IsFoundBy}
+use Rattle.ucon_store.specs.Points.{IsOld, checkpoint, point_places, PolicyReading}
 pub use Rattle.ucon_outcome.specs.FaultWords.{point_line}
 use Rattle.ucon_outcome.specs.declared.outcome.Outcome.{Outcome}
 use Rattle.ucon_outcome.specs.declared.outcome.Outcome.TheVariants.{Done, SinkFault, DiskFault, Damaged, NotJournal, NoMemory, OtherPolicy, FullPoint, OldJournal}
 use Rattle.ucon_top.specs.Accepted.{HasPolicy}
-use Rattle.ucon_top.specs.Own.{IsOwnFile}
-use Rattle.ucon_top.specs.Played.{IsUnopened}
+use Rattle.ucon_top.specs.Own.{IsOwnFileBy}
+use Rattle.ucon_top.specs.Played.{IsUnopenedBy}
+use Rattle.ucon_disk.specs.Seen.{DiskSeen}
+use Rattle.ucon_top.specs.Seen.{IsAsBefore}
+use Rattle.ucon_flow.specs.Seen.{SinkSeen}
 
 -- a file that isn't of version 1: it may have checkpoints, or becomes one that may
 abbrev pub IsNotOld : Bytes → Type 0
@@ -33,68 +36,67 @@ IsCheckpointSize text P H size = size ≡ length (checkpoint text P H)
 abbrev pub FitsRecord : (text : Bytes) (P : PlainPolicy) (H : History) → Type 0
 FitsRecord text P H = length (checkpoint text P H) ≤ 16777215
 
-module _ {D : Type 0} (contents : D → Option (List ℕ)) (images : D → List ℕ → Type 0) (moment : D → ℕ)
-    (images_since : D → ℕ → List ℕ → Type 0) (faults : D → ℕ) where
-  -- A file that was found as this history still is: where the disk was at rest, a crash at any moment since leaves one that is found as it; at
-  -- rest or not, a crash now leaves one that is found as it, and is of this kind.
-  pub record IsStillFound (text file : Bytes) (opening : History) (old new : D) (leaves : (file image : Bytes) → Type 0) : Type 0 where
-    pub since : IsAtRest (contents old) (images old) file → LeavesOnly moment images_since old new (λ c. IsFoundAs text c opening)
-    pub now : (c : Bytes) → images new c → IsFoundAs text c opening × leaves file c
+-- A file that was found as this history still is: where the disk was at rest, a crash at any moment since leaves one that is found as it; at
+-- rest or not, a crash now leaves one that is found as it, and is of this kind.
+pub record IsStillFoundBy (reads : PolicyReading) (text file : Bytes) (opening : History) (old new : DiskSeen)
+    (leaves : (file image : Bytes) → Type 0) : Type 0 where
+  pub since : IsAtRest old file → LeavesOnly old new (λ c. IsFoundBy reads text c opening)
+  pub now : (c : Bytes) → new.images c → IsFoundBy reads text c opening × leaves file c
 
-  -- The bytes are an accepted document; where the disk told its file, opening saw so many entries in it, under the document's policy, and of their
-  -- number this is so. Where the file is found as a history, it has as many, the file is still found as it, and of the history this is so. A file
-  -- that opening alone accepts has none.
-  pub record IsPointOver (bytes : Bytes) (old new : D) (went : ℕ → Type 0) (leaves : ℕ → (file image : Bytes) → Type 0)
-      (so : PlainPolicy → History → Type 0) : Type 0 where
-    pub policy : PlainPolicy
-    pub has_policy : HasPolicy bytes policy
-    pub entries : ℕ
-    pub own : IfSome (contents old) (IsOwnFile (policy_part bytes) entries)
-    pub goes : went entries
-    pub still : (file : Bytes) (opening : History) → contents old ≡ Some file → IsFoundAs (policy_part bytes) file opening
-        → (length opening ≡ entries) × IsStillFound (policy_part bytes) file opening old new (leaves entries) × so policy opening
+-- The bytes are an accepted document; where the disk told its file, opening saw so many entries in it, under the document's policy, and of their
+-- number this is so. Where the file is found as a history, it has as many, the file is still found as it, and of the history this is so. A file
+-- that opening alone accepts has none.
+pub record IsPointOverBy (reads : PolicyReading) (bytes : Bytes) (old new : DiskSeen) (went : ℕ → Type 0) (leaves : ℕ → (file image : Bytes) → Type 0)
+    (so : PlainPolicy → History → Type 0) : Type 0 where
+  pub policy : PlainPolicy
+  pub has_policy : HasPolicy bytes policy
+  pub entries : ℕ
+  pub own : IfSome old.contents (IsOwnFileBy reads (policy_part bytes) entries)
+  pub goes : went entries
+  pub still : (file : Bytes) (opening : History) → old.contents ≡ Some file → IsFoundBy reads (policy_part bytes) file opening
+      → (length opening ≡ entries) × IsStillFoundBy reads (policy_part bytes) file opening old new (leaves entries) × so policy opening
 
-  -- every image has the one checkpoint more, which fits a record, the file wasn't old, and the disk didn't fail
-  abbrev pub HasPoint : Bytes → D → D → (Bytes → Type 0) → Type 0
-  HasPoint bytes old new went =
-      IsPointOver bytes old new (λ entries. (faults new ≡ faults old) × IfSome (contents old) IsNotOld × went (point_line entries)) IsPointedAt
-      (FitsRecord (policy_part bytes))
+-- every image has the one checkpoint more, which fits a record, the file wasn't old, and the disk didn't fail
+abbrev pub HasPointBy : PolicyReading → Bytes → DiskSeen → DiskSeen → (Bytes → Type 0) → Type 0
+HasPointBy reads bytes old new went =
+    IsPointOverBy reads bytes old new (λ entries. (new.faults ≡ old.faults) × IfSome old.contents IsNotOld × went (point_line entries)) IsPointedAt
+    (FitsRecord (policy_part bytes))
 
-  -- no image has one more, and the disk didn't fail
-  abbrev pub HasNoPoint : Bytes → D → D → Type 0 → (PlainPolicy → History → Type 0) → Type 0
-  HasNoPoint bytes old new why so =
-      IsPointOver bytes old new (λ entries. (faults new ≡ faults old) × why) (λ entries file c. point_places c ≡ point_places file) so
+-- no image has one more, and the disk didn't fail
+abbrev pub HasNoPointBy : PolicyReading → Bytes → DiskSeen → DiskSeen → Type 0 → (PlainPolicy → History → Type 0) → Type 0
+HasNoPointBy reads bytes old new why so =
+    IsPointOverBy reads bytes old new (λ entries. (new.faults ≡ old.faults) × why) (λ entries file c. point_places c ≡ point_places file) so
 
-  -- each image may have one more
-  abbrev pub MayHavePoint : Bytes → D → D → Type 0
-  MayHavePoint bytes old new =
-      IsPointOver bytes old new (λ entries. faults new ≡ raised (faults old))
-      (λ entries file c. (point_places c ≡ point_places file) ⊎ IsPointedAt entries file c) (λ P H. Unit {0})
+-- each image may have one more
+abbrev pub MayHavePointBy : PolicyReading → Bytes → DiskSeen → DiskSeen → Type 0
+MayHavePointBy reads bytes old new =
+    IsPointOverBy reads bytes old new (λ entries. new.faults ≡ raised old.faults)
+    (λ entries file c. (point_places c ≡ point_places file) ⊎ IsPointedAt entries file c) (λ P H. Unit {0})
 
-  module _ {K : Type 0} (held : K → Option Bytes) where
-    -- What holds of the disk, and of the sink, by how the writing of a checkpoint ended. Otherwise than by the causes named here it made no
-    -- call of the disk.
-    abbrev pub HasPointed : Outcome → Bytes → D → D → K → K → Type 0
-    HasPointed Done bytes old new before now = HasPoint bytes old new (Appends (held before) (held now))
-    HasPointed SinkFault bytes old new before now = HasPoint bytes old new (AppendsPrefix (held before) (held now))
-    HasPointed (FullPoint size) bytes old new before now =
-        HasNoPoint bytes old new (IfSome (contents old) IsNotOld × (16777215 < size)) (λ P H. IsCheckpointSize (policy_part bytes) P H size)
-    HasPointed OldJournal bytes old new before now = HasNoPoint bytes old new (IfSome (contents old) IsOld) (λ P H. Unit {0})
-    HasPointed DiskFault bytes old new before now =
-        (MayHavePoint bytes old new ⊎ IsUnopened contents images moment images_since faults stores.DiskFault (policy_part bytes) old new)
-        × (now ≡ before)
-    HasPointed NotJournal bytes old new before now = IsUnopened contents images moment images_since faults stores.NotJournal (policy_part bytes) old new
-    HasPointed (Damaged number place) bytes old new before now =
-        IsUnopened contents images moment images_since faults (stores.Damaged number place) (policy_part bytes) old new
-    HasPointed (OtherPolicy place) bytes old new before now =
-        IsUnopened contents images moment images_since faults (stores.OtherPolicy place) (policy_part bytes) old new
-    HasPointed (NoMemory e) bytes old new before now =
-        (new ≡ old) ⊎ IsUnopened contents images moment images_since faults (stores.NoMemory e) (policy_part bytes) old new
-        ⊎ HasNoPoint bytes old new (Unit {0}) (λ P H. Unit {0})
-    HasPointed outcome bytes old new before now = new ≡ old
+-- What holds of the disk, and of the sink, by how the writing of a checkpoint ended. Otherwise than by the causes named here it made no
+-- call of the disk.
+abbrev pub HasPointedBy : PolicyReading → Outcome → Bytes → DiskSeen → DiskSeen → SinkSeen → SinkSeen → Type 0
+HasPointedBy reads Done bytes old new before now = HasPointBy reads bytes old new (Appends before.contents now.contents)
+HasPointedBy reads SinkFault bytes old new before now = HasPointBy reads bytes old new (AppendsPrefix before.contents now.contents)
+HasPointedBy reads (FullPoint size) bytes old new before now =
+    HasNoPointBy reads bytes old new (IfSome old.contents IsNotOld × (16777215 < size)) (λ P H. IsCheckpointSize (policy_part bytes) P H size)
+HasPointedBy reads OldJournal bytes old new before now = HasNoPointBy reads bytes old new (IfSome old.contents IsOld) (λ P H. Unit {0})
+HasPointedBy reads DiskFault bytes old new before now =
+    (MayHavePointBy reads bytes old new ⊎ IsUnopenedBy reads stores.DiskFault (policy_part bytes) old new)
+    × (now ≡ before)
+HasPointedBy reads NotJournal bytes old new before now = IsUnopenedBy reads stores.NotJournal (policy_part bytes) old new
+HasPointedBy reads (Damaged number place) bytes old new before now =
+    IsUnopenedBy reads (stores.Damaged number place) (policy_part bytes) old new
+HasPointedBy reads (OtherPolicy place) bytes old new before now =
+    IsUnopenedBy reads (stores.OtherPolicy place) (policy_part bytes) old new
+HasPointedBy reads (NoMemory e) bytes old new before now =
+    IsAsBefore old new ⊎ IsUnopenedBy reads (stores.NoMemory e) (policy_part bytes) old new
+    ⊎ HasNoPointBy reads bytes old new (Unit {0}) (λ P H. Unit {0})
+HasPointedBy reads outcome bytes old new before now = IsAsBefore old new
 
-    -- so it was done over some bytes, which are those of the input where the source tells them
-    pub record HasPointedInput (outcome : Outcome) (input : Option Bytes) (old new : D) (before now : K) : Type 0 where
-      pub bytes : Bytes
-      pub are : IfSome input (λ known. known ≡ bytes)
-      pub pointed : HasPointed outcome bytes old new before now
+-- so it was done over some bytes, which are those of the input where the source tells them
+pub record HasPointedInputBy (reads : PolicyReading) (outcome : Outcome) (input : Option Bytes) (old new : DiskSeen)
+    (before now : SinkSeen) : Type 0 where
+  pub bytes : Bytes
+  pub are : IfSome input (λ known. known ≡ bytes)
+  pub pointed : HasPointedBy reads outcome bytes old new before now

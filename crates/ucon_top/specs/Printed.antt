@@ -1,56 +1,45 @@
 -- What a run prints.
-use Rattle.std.specs.Prelude.{◌≡◌, List, ◌++◌, length, take, drop, Option, Some, None, Ok}
+use Rattle.std.specs.Prelude.{◌≡◌, IsTrue, List, ◌++◌, length, take, drop, Option, Some, None, Ok}
 use Rattle.ucon_model.specs.declared.command.Entry.{Entry}
 use Rattle.ucon_model.specs.Plain.{Bytes, PlainPolicy}
 use Rattle.ucon_model.specs.Document.{ScriptLine, entries_of, document_read}
 use Rattle.ucon_model.specs.Generated.{generated}
-use Rattle.ucon_syntax.specs.Policies.{accepted}
 use Rattle.ucon_top.specs.declared.form.Form.{Form}
-use Rattle.ucon_top.specs.declared.form.Form.TheVariants.{Trial, Check, Gen, Play, Serve, Point}
+use Rattle.ucon_top.specs.declared.form.Form.TheVariants.{Trial, Check, Gen}
+use Rattle.ucon_top.specs.Traits.{traits}
 use Rattle.ucon_top.specs.Accepted.{HasPolicy}
 use Rattle.ucon_trial.specs.Models.{rights_output}
 use Rattle.ucon_trial.specs.Runs.{IsRunOutput, IsRunSummary}
+use Rattle.ucon_store.specs.Points.{PolicyReading}
 
--- what a form prints of a policy and lines; `play`, `serve` and `point`, whose output depends on their journal, print
--- nothing of them alone
+-- what a form prints of a policy and lines; one whose output depends on its journal prints nothing of them alone
 abbrev pub IsFormOutput : Form → PlainPolicy → List Entry → Bytes → Type 0
 IsFormOutput Trial P lines text = IsRunOutput P lines text
 IsFormOutput Check P lines text = text ≡ rights_output P.rights
 IsFormOutput (Gen seed size) P lines text = IsRunSummary P lines text
-IsFormOutput Play P lines text = ⊥
-IsFormOutput Serve P lines text = ⊥
-IsFormOutput Point P lines text = ⊥
+IsFormOutput form P lines text = ⊥
 
 -- the bytes of the document that a form runs: those of the input, or, for `gen`, the generated ones
 abbrev pub document_of : Form → Option Bytes → Option Bytes
-document_of Trial input = input
-document_of Check input = input
 document_of (Gen seed size) input = Some (generated seed size)
-document_of Play input = input
-document_of Serve input = input
-document_of Point input = input
+document_of form input = input
 
 -- the form reads the input
 abbrev pub ReadsInput : Form → Type 0
-ReadsInput Trial = Unit {0}
-ReadsInput Check = Unit {0}
-ReadsInput (Gen seed size) = ⊥
-ReadsInput Play = Unit {0}
-ReadsInput Serve = Unit {0}
-ReadsInput Point = Unit {0}
+ReadsInput form = IsTrue (traits form).reads
 
 -- the bytes are an accepted document, and the text is what the form prints of it
-pub record IsOutputOf (form : Form) (bytes text : Bytes) : Type 0 where
+pub record IsOutputOfBy (reads : PolicyReading) (form : Form) (bytes text : Bytes) : Type 0 where
   pub policy : PlainPolicy
   pub lines : List ScriptLine
   pub has_policy : HasPolicy bytes policy
-  pub says : document_read accepted bytes ≡ Ok lines
+  pub says : document_read reads bytes ≡ Ok lines
   pub prints : IsFormOutput form policy (entries_of lines) text
 
 -- the text is the front of what the form prints of the document that the bytes are
-pub record IsCutOutputOf (form : Form) (bytes text : Bytes) : Type 0 where
+pub record IsCutOutputOfBy (reads : PolicyReading) (form : Form) (bytes text : Bytes) : Type 0 where
   pub whole : Bytes
-  pub is_output : IsOutputOf form bytes whole
+  pub is_output : IsOutputOfBy reads form bytes whole
   pub is_front : take (length text) whole ≡ text
 
 -- what a sink holds now beyond what it held before

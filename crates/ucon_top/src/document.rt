@@ -4,9 +4,10 @@ ghost use Rattle.std.specs.Prelude.{◌≡◌, ◌≤◌, length, Ok, IfOk, IfEr
 ghost use Rattle.ucon_model.specs.Checked.{checked_policy};
 ghost use Rattle.ucon_model.specs.Document.{document_read, entries_of};
 ghost use Rattle.ucon_script.specs.Document.{lines_spelled};
-ghost use Rattle.ucon_top.specs.Accepted.{HasPolicy, HasSomePolicy, IsRefused};
+ghost use Rattle.ucon_top.specs.Accepted.{HasPolicy, HasSomePolicy};
 ghost use Rattle.ucon_top.specs.Form.{IsAlone};
-ghost use Rattle.ucon_top.specs.Printed.{IsFormOutput, IsOutputOf};
+ghost use Rattle.ucon_top.specs.Printed.{IsFormOutput};
+ghost use Rattle.ucon_top.specs.OwnReading.{IsOutputOf, IsRefused};
 ghost use Rattle.ucon_syntax.specs.Policies.{accepted};
 
 use crate::form::Form;
@@ -79,6 +80,6 @@ fn form_output<E: Engine>(
         Form::Trial => trial_output::<E>(alloc, checked, script),
         Form::Check => models_text(alloc, &checked),
         Form::Gen { seed: _, size: _ } => trial_summary::<E>(alloc, checked, script),
-        Form::Play | Form::Serve | Form::Point => unreachable!(),
+        _ => unreachable!(),
     }
 }

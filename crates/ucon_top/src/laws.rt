@@ -9,8 +9,8 @@ ghost use Rattle.ucon_model.specs.Plain.{Bytes, PlainPolicy};
 ghost use Rattle.ucon_model.specs.StoredRun.{LeadsTo};
 ghost use Rattle.ucon_store.specs.Found.{IsFoundAs};
 ghost use Rattle.ucon_outcome.specs.declared.outcome.Outcome.{Outcome};
-ghost use Rattle.ucon_top.specs.Accepted.{IsAccepted, IsRefusedBy};
 ghost use Rattle.ucon_top.specs.Ending.{IsUnrefused};
+ghost use Rattle.ucon_top.specs.OwnReading.{IsAccepted, IsRefusedBy};
 
 use ucon_script::generated_documents_are_read;
 use ucon_syntax::{

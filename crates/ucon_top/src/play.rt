@@ -5,11 +5,10 @@ ghost use Rattle.ucon_disk.specs.Causes.{raised};
 ghost use Rattle.ucon_model.specs.LegalRun.{in_text_order};
 ghost use Rattle.ucon_model.specs.Plain.{PlainPolicy};
 ghost use Rattle.ucon_syntax.specs.Policies.{accepted};
-ghost use Rattle.ucon_top.specs.Accepted.{IsAccepted, IsRefusedBy};
 ghost use Rattle.ucon_top.specs.Closing.{IsClosedRun, IsOfRun, IsWritten};
 ghost use Rattle.ucon_top.specs.Ending.{IsCounted, IsOfAccepted, IsOfDocument, IsUntouched, IsUnwritten, MayEnd, status_of};
+ghost use Rattle.ucon_top.specs.OwnReading.{HasPlayed, IsAccepted, IsRefusedBy};
 ghost use Rattle.ucon_trial.specs.OneAnswer.{entry_of};
-ghost use Rattle.ucon_top.specs.Played.{HasPlayed};
 
 use crate::document::read_accepted;
 use crate::form::Form;
@@ -36,10 +35,9 @@ pub fn play<E: Engine, K: Sink, D: Disk>(
     ensures form { MayEnd Form.Play result.outcome }
     ensures refused { IsRefusedBy result.outcome bytes.now }
     ensures accepted { IsOfAccepted result.outcome → IsAccepted bytes.now }
-    ensures sink { IsCounted result.outcome Outcome.SinkFault (K.faults out.old) (K.faults out.new) }
-    ensures played { HasPlayed D.contents D.images D.moment D.images_since D.faults K.contents Form.Play result.outcome bytes.now disk result.disk
-        out.old out.new }
-    ensures fault { result.outcome ≡ Outcome.DiskFault → D.faults result.disk ≡ raised (D.faults disk) }
+    ensures sink { IsCounted result.outcome Outcome.SinkFault (K.seen out.old).faults (K.seen out.new).faults }
+    ensures played { HasPlayed Form.Play result.outcome bytes.now (D.seen disk) (D.seen result.disk) (K.seen out.old) (K.seen out.new) }
+    ensures fault { result.outcome ≡ Outcome.DiskFault → (D.seen result.disk).faults ≡ raised (D.seen disk).faults }
     ensures untouched { IsUntouched result.outcome → result.disk ≡ disk }
     ensures unaccepted { (result.disk ≡ disk) ⊎ IsAccepted bytes.now }
     ensures unwritten { IsUnwritten result.outcome → out.new ≡ out.old }
@@ -66,9 +64,9 @@ fn play_lines<E: Engine, K: Sink, D: Disk>(
     ensures status { result.status ≡ status_of result.outcome }
     ensures of_run { IsOfRun result.outcome }
     ensures run { (P : PlainPolicy) → accepted store.policy ≡ Some P
-        → IsClosedRun D.contents D.images D.moment D.images_since D.faults in_text_order P store (map entry_of lines.now) result.outcome result.disk
-        (K.contents out.old) (K.contents out.new) }
-    ensures sink { IsCounted result.outcome Outcome.SinkFault (K.faults out.old) (K.faults out.new) }
+        → IsClosedRun D.seen in_text_order P store (map entry_of lines.now) result.outcome result.disk
+        (K.seen out.old).contents (K.seen out.new).contents }
+    ensures sink { IsCounted result.outcome Outcome.SinkFault (K.seen out.old).faults (K.seen out.new).faults }
     ensures unwritten { IsUnwritten result.outcome → out.new ≡ out.old }
 {
     let text = steps_text(alloc, &mut store, lines);
@@ -82,7 +80,7 @@ fn play_lines<E: Engine, K: Sink, D: Disk>(
 
 /// Writes the output of a run, and tells how it ends. A fault of the sink stands before one of the disk.
 pub(crate) fn write_output<K: Sink>(out: &mut K, text: &[u8], stopped: bool) -> Outcome
-    ensures { IsWritten result text.now stopped (K.contents out.old) (K.contents out.new) (K.faults out.old) (K.faults out.new) }
+    ensures { IsWritten result text.now stopped (K.seen out.old).contents (K.seen out.new).contents (K.seen out.old).faults (K.seen out.new).faults }
 {
     match write_all(out, text) {
         Err(_) => Outcome::SinkFault,

@@ -6,11 +6,11 @@ ghost use Rattle.ucon_model.specs.Action.{Trace};
 ghost use Rattle.ucon_model.specs.Plain.{PlainPolicy};
 ghost use Rattle.ucon_store.specs.Starts.{IsStart};
 ghost use Rattle.ucon_syntax.specs.Policies.{accepted};
-ghost use Rattle.ucon_top.specs.Accepted.{IsAccepted, IsRefusedBy};
 ghost use Rattle.ucon_top.specs.Closing.{IsWritten};
 ghost use Rattle.ucon_top.specs.Ending.{IsCounted, IsOfAccepted, IsOfDocument, IsUntouched, IsUnwritten, status_of};
 ghost use Rattle.ucon_top.specs.PointEnding.{EndsPoint, IsOfNoPoint, IsOfPoint, IsPut};
-ghost use Rattle.ucon_top.specs.Pointed.{HasPointed, point_line};
+ghost use Rattle.ucon_top.specs.Pointed.{point_line};
+ghost use Rattle.ucon_top.specs.OwnReading.{HasPointed, IsAccepted, IsRefusedBy};
 
 use crate::document::read_accepted;
 use std::alloc::Global;
@@ -35,10 +35,9 @@ pub fn point<E: Engine, K: Sink, D: Disk>(
     ensures of_document { IsOfDocument result.outcome }
     ensures refused { IsRefusedBy result.outcome bytes.now }
     ensures accepted { IsOfAccepted result.outcome → IsAccepted bytes.now }
-    ensures sink { IsCounted result.outcome Outcome.SinkFault (K.faults out.old) (K.faults out.new) }
-    ensures pointed { HasPointed D.contents D.images D.moment D.images_since D.faults K.contents
-        result.outcome bytes.now disk result.disk out.old out.new }
-    ensures fault { result.outcome ≡ Outcome.DiskFault → D.faults result.disk ≡ raised (D.faults disk) }
+    ensures sink { IsCounted result.outcome Outcome.SinkFault (K.seen out.old).faults (K.seen out.new).faults }
+    ensures pointed { HasPointed result.outcome bytes.now (D.seen disk) (D.seen result.disk) (K.seen out.old) (K.seen out.new) }
+    ensures fault { result.outcome ≡ Outcome.DiskFault → (D.seen result.disk).faults ≡ raised (D.seen disk).faults }
     ensures untouched { IsUntouched result.outcome → result.disk ≡ disk }
     ensures unaccepted { (result.disk ≡ disk) ⊎ IsAccepted bytes.now }
     ensures unwritten { IsUnwritten result.outcome → out.new ≡ out.old }
@@ -64,9 +63,9 @@ fn point_opened<E: Engine, K: Sink, D: Disk>(
     ensures status { result.status ≡ status_of result.outcome }
     ensures of_point { IsOfPoint result.outcome }
     ensures ends { (P : PlainPolicy) (T : Trace) → accepted store.policy ≡ Some P → IsStart P store.point store.before T
-        → EndsPoint D.contents D.images D.moment D.images_since D.faults P store result.disk (K.contents out.old) (K.contents out.new)
+        → EndsPoint D.seen P store result.disk (K.seen out.old).contents (K.seen out.new).contents
         result.outcome }
-    ensures sink { IsCounted result.outcome Outcome.SinkFault (K.faults out.old) (K.faults out.new) }
+    ensures sink { IsCounted result.outcome Outcome.SinkFault (K.seen out.old).faults (K.seen out.new).faults }
     ensures unwritten { IsUnwritten result.outcome → out.new ≡ out.old }
     ensures failed { result.outcome ≡ Outcome.DiskFault → out.new ≡ out.old }
 {
@@ -83,10 +82,10 @@ fn put_point<E: Engine, D: Disk>(
 ) -> Result<(D, u64), (D, Outcome)>
     requires { store.mark ≡ None }
     ensures entries { IfOk result (λ r. r.1 ≡ store.before + length store.entries) }
-    ensures put { IfOk result (λ r. (P : PlainPolicy) → IsPut D.contents D.images D.moment D.images_since D.faults P store r.0) }
+    ensures put { IfOk result (λ r. (P : PlainPolicy) → IsPut D.seen P store r.0) }
     ensures of_none { IfErr result (λ e. IsOfNoPoint e.1) }
     ensures ends { IfErr result (λ e. (P : PlainPolicy) (T : Trace) → accepted store.policy ≡ Some P → IsStart P store.point store.before T
-        → EndsPoint D.contents D.images D.moment D.images_since D.faults P store e.0 None None e.1) }
+        → EndsPoint D.seen P store e.0 None None e.1) }
 {
     let (store, pointed) = match store.point(alloc) {
         Ok(answer) => answer,
@@ -100,7 +99,7 @@ fn put_point<E: Engine, D: Disk>(
 
 /// Tells how many entries stand before the checkpoint that is written, and how the run ends.
 fn tell_point<K: Sink>(out: &mut K, entries: u64) -> Outcome
-    ensures { IsWritten result (point_line entries) false (K.contents out.old) (K.contents out.new) (K.faults out.old) (K.faults out.new) }
+    ensures { IsWritten result (point_line entries) false (K.seen out.old).contents (K.seen out.new).contents (K.seen out.old).faults (K.seen out.new).faults }
 {
     match put_point_line(out, entries) {
         Ok(()) => Outcome::Done,

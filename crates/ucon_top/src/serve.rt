@@ -12,12 +12,11 @@ ghost use Rattle.ucon_store.specs.Stays.{Stays};
 ghost use Rattle.ucon_store.specs.Whole.{IsFront, whole};
 ghost use Rattle.ucon_client.specs.Answers.{IsAnswered, told_in};
 ghost use Rattle.ucon_client.specs.Dividing.{by_client};
-ghost use Rattle.ucon_top.specs.Accepted.{IsAccepted, IsRefusedBy};
 ghost use Rattle.ucon_top.specs.Closing.{IsClosedRun, IsOfRun};
 ghost use Rattle.ucon_top.specs.Ending.{IsCounted, IsOfAccepted, IsOfDocument, IsUntouched, IsUnwritten, MayEnd, status_of};
 ghost use Rattle.ucon_trial.specs.OneAnswer.{entry_of};
-ghost use Rattle.ucon_top.specs.Played.{HasPlayed};
 ghost use Rattle.ucon_top.specs.Stepping.{IsRunBetween};
+ghost use Rattle.ucon_top.specs.OwnReading.{HasPlayed, IsAccepted, IsRefusedBy};
 
 use crate::document::read_accepted;
 use crate::form::Form;
@@ -52,10 +51,9 @@ pub fn serve<E: Engine + Send, K: Sink, D: Disk + Send, G: Gate + Sync, R: Threa
     ensures form { MayEnd Form.Serve result.outcome }
     ensures refused { IsRefusedBy result.outcome bytes.now }
     ensures accepted { IsOfAccepted result.outcome → IsAccepted bytes.now }
-    ensures sink { IsCounted result.outcome Outcome.SinkFault (K.faults out.old) (K.faults out.new) }
-    ensures played { HasPlayed D.contents D.images D.moment D.images_since D.faults K.contents Form.Serve result.outcome bytes.now disk result.disk
-        out.old out.new }
-    ensures fault { result.outcome ≡ Outcome.DiskFault → D.faults result.disk ≡ raised (D.faults disk) }
+    ensures sink { IsCounted result.outcome Outcome.SinkFault (K.seen out.old).faults (K.seen out.new).faults }
+    ensures played { HasPlayed Form.Serve result.outcome bytes.now (D.seen disk) (D.seen result.disk) (K.seen out.old) (K.seen out.new) }
+    ensures fault { result.outcome ≡ Outcome.DiskFault → (D.seen result.disk).faults ≡ raised (D.seen disk).faults }
     ensures untouched { IsUntouched result.outcome → result.disk ≡ disk }
     ensures unaccepted { (result.disk ≡ disk) ⊎ IsAccepted bytes.now }
     ensures unwritten { IsUnwritten result.outcome → out.new ≡ out.old }
@@ -84,9 +82,9 @@ fn serve_lines<E: Engine + Send, K: Sink, D: Disk + Send, G: Gate + Sync, R: Thr
     ensures status { result.status ≡ status_of result.outcome }
     ensures of_run { IsOfRun result.outcome }
     ensures run { (P : PlainPolicy) → accepted store.policy ≡ Some P
-        → IsClosedRun D.contents D.images D.moment D.images_since D.faults own_answers P store (by_client (map entry_of lines.now))
-        result.outcome result.disk (K.contents out.old) (K.contents out.new) }
-    ensures sink { IsCounted result.outcome Outcome.SinkFault (K.faults out.old) (K.faults out.new) }
+        → IsClosedRun D.seen own_answers P store (by_client (map entry_of lines.now))
+        result.outcome result.disk (K.seen out.old).contents (K.seen out.new).contents }
+    ensures sink { IsCounted result.outcome Outcome.SinkFault (K.seen out.old).faults (K.seen out.new).faults }
     ensures unwritten { IsUnwritten result.outcome → out.new ≡ out.old }
 {
     runs_over_a_store_are_legal();
@@ -111,11 +109,11 @@ fn end_served<E: Engine, K: Sink, D: Disk>(
     requires clients { Each (λ t. t.line.caller.0 < 64) (told_in parts.now) }
     ensures status { result.status ≡ status_of result.outcome }
     ensures of_run { IsOfRun result.outcome }
-    ensures run { (P : PlainPolicy) (opened : Kept D) → Stays D.contents D.images D.moment D.images_since D.faults opened store
+    ensures run { (P : PlainPolicy) (opened : Kept D) → Stays D.seen opened store
         → ((H : History) → IsFront P opened H → IsRunBetween own_answers P (whole H opened) (whole H store) (told_in parts.now))
-        → IsClosedRun D.contents D.images D.moment D.images_since D.faults own_answers P opened (map (λ t. t.line) (told_in parts.now))
-        result.outcome result.disk (K.contents out.old) (K.contents out.new) }
-    ensures sink { IsCounted result.outcome Outcome.SinkFault (K.faults out.old) (K.faults out.new) }
+        → IsClosedRun D.seen own_answers P opened (map (λ t. t.line) (told_in parts.now))
+        result.outcome result.disk (K.seen out.old).contents (K.seen out.new).contents }
+    ensures sink { IsCounted result.outcome Outcome.SinkFault (K.seen out.old).faults (K.seen out.new).faults }
     ensures unwritten { IsUnwritten result.outcome → out.new ≡ out.old }
 {
     outputs_are_read_back();

@@ -17,7 +17,7 @@ use ucon_base::{NoMemory, Rows};
 use ucon_client::Answer;
 use ucon_disk::Disk;
 use ucon_engine::Engine;
-use ucon_runs::{outputs_are_read_back, runs_over_a_store_are_legal, texts_tell_changes};
+use ucon_runs::{outputs_are_read_back, runs_over_a_store_are_legal};
 use ucon_script::LineText;
 use ucon_store::Store;
 
@@ -34,7 +34,7 @@ pub fn steps_text<E: Engine, D: Disk>(
         (HaveOutput (λ out. out ≡ text.items) (map entry_of lines.now))) }
     ensures no_memory { OnErr result ((P : PlainPolicy) (G : History) → accepted store.old.policy ≡ Some P → IsFront P store.old G
         → AreAnswered in_text_order P (whole G store.old) (whole G store.new) (map entry_of lines.now) (λ told. Unit {0})) }
-    ensures stays { Stays D.contents D.images D.moment D.images_since D.faults store.old store.new }
+    ensures stays { Stays D.seen store.old store.new }
 {
     outputs_are_read_back();
     runs_over_a_store_are_legal();
@@ -52,7 +52,7 @@ fn answer_lines<'a, E: Engine, D: Disk>(
     requires { store.old.mark ≡ None }
     ensures steps { IfOk result (λ answered. (P : PlainPolicy) (G : History) → accepted store.old.policy ≡ Some P → IsFront P store.old G
         → HaveSteps P (whole G store.old) (whole G store.new) (map entry_of lines.now) (map told_line answered.items)) }
-    ensures stays { Stays D.contents D.images D.moment D.images_since D.faults store.old store.new }
+    ensures stays { Stays D.seen store.old store.new }
     ensures err { OnErr result (store.new ≡ store.old) }
 {
     let mut answered = Rows::new(alloc);
@@ -77,9 +77,8 @@ fn answer_line<E: Engine, D: Disk>(
 ) -> Answer
     ensures steps { (P : PlainPolicy) (G : History) → accepted store.old.policy ≡ Some P → IsFront P store.old G
         → Steps P (whole G store.old) (whole G store.new) (entry_of line.now) (answer_of result) }
-    ensures stays { Stays D.contents D.images D.moment D.images_since D.faults store.old store.new }
+    ensures stays { Stays D.seen store.old store.new }
 {
-    texts_tell_changes();
     if store.failed().is_some() {
         return Answer::Stopped;
     }

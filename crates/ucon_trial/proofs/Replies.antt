@@ -1,41 +1,35 @@
 -- A run by its replies: it is a legal run, and where each line was a step or refused it is the only one.
-use Rattle.std.proofs.Common.{◌≡◌, ℕ, suc, ◌+◌, ◌≤◌, Bool, false, cond, List, [], ◌∷◌, ◌++◌, map, length, refl, sym, ap, ◌∙◌, arith}
-use Rattle.std.specs.Prelude.{Option, Some, None}
+use Rattle.std.proofs.Common.{◌≡◌, ℕ, suc, ◌+◌, ◌≤◌, false, List, [], ◌∷◌, ◌++◌, map, length, refl, sym, ap, ◌∙◌, arith}
+use Rattle.std.specs.Prelude.{Option, Some, None, if◌then◌else◌}
 use Rattle.ucon_model.specs.declared.command.Entry.{Entry}
 use Rattle.ucon_model.specs.declared.reply.Head.TheVariants as heads
 use Rattle.ucon_model.specs.Plain.{PlainPolicy, PlainReply, refused, made, value_is, status}
-use Rattle.ucon_model.specs.Spelling.{reply_spelling}
 use Rattle.ucon_model.specs.History.{History, said, grown, changes}
-use Rattle.ucon_model.specs.LegalRun.{Answered, tells_change, history_after, in_text_order, IsLegalRun, IsNext, IsSerialRun, is_disk_fault, is_stopped}
+use Rattle.ucon_model.specs.LegalRun.{Answered, history_after, in_text_order, IsLegalRun, IsNext, IsSerialRun, is_disk_fault, is_stopped}
 use Rattle.ucon_model.specs.Summary.{LineReply, answer_of, answered, history_behind, IsReplyNext, IsReplyRun, whole_run, Counts, with_line, counted_from}
 use Rattle.ucon_trial.specs.Hearing.{line_of}
 use Rattle.ucon_trial.specs.Runs.{IsUnfaulted}
 
 -- ---- a serial run
 
--- a reply's text tells whether the reply changes something
-abbrev pub TextsTell : Type 0
-TextsTell = (r : PlainReply) → tells_change (reply_spelling r) ≡ changes r
-
 -- a serial run is legal
 abbrev pub SerialIsLegal : Type 0
 SerialIsLegal = (P : PlainPolicy) (G : History) (told : List Answered) → IsSerialRun P G told → IsLegalRun P in_text_order G told
 
 -- the history after an answer
-behind : TextsTell → (P : PlainPolicy) (H : History) (e : Entry) (reply : Option (ℕ × PlainReply)) → IsReplyNext P H e reply → history_after H e (answer_of reply) ≡ history_behind P H e reply
-behind tell P H e None next = refl
-behind tell P H e (Some r) next =
-    ap (λ (b : Bool). cond b (H ++ e ∷ []) H) (ap (λ (r : PlainReply). tells_change (reply_spelling r)) next.1 ∙ tell (said P H e.caller e.command))
+behind : (P : PlainPolicy) (H : History) (e : Entry) (reply : Option (ℕ × PlainReply)) → IsReplyNext P H e reply → history_after H e (answer_of reply) ≡ history_behind P H e reply
+behind P H e None next = refl
+behind P H e (Some r) next = ap (λ (reply : PlainReply). if changes reply then H ++ e ∷ [] else H) next.1
 
-next_is : TextsTell → (P : PlainPolicy) (H : History) (e : Entry) (reply : Option (ℕ × PlainReply)) → IsReplyNext P H e reply → IsNext P H e (answer_of reply)
-next_is tell P H e None next = tt
-next_is tell P H e (Some r) next = (ap reply_spelling next.1, next.0 ∙ ap length (sym (behind tell P H e (Some r) next)))
+next_is : (P : PlainPolicy) (H : History) (e : Entry) (reply : Option (ℕ × PlainReply)) → IsReplyNext P H e reply → IsNext P H e (answer_of reply)
+next_is P H e None next = tt
+next_is P H e (Some r) next = (next.1, next.0 ∙ ap length (sym (behind P H e (Some r) next)))
 
-pub serial_run : TextsTell → (P : PlainPolicy) (H : History) (told : List LineReply) → IsReplyRun P H told → IsSerialRun P H (map answered told)
-serial_run tell P H [] run = tt
-serial_run tell P H (t ∷ told) run = (
-  next_is tell P H t.line t.reply run.0,
-  rw (behind tell P H t.line t.reply run.0) (serial_run tell P (history_behind P H t.line t.reply) told run.1),
+pub serial_run : (P : PlainPolicy) (H : History) (told : List LineReply) → IsReplyRun P H told → IsSerialRun P H (map answered told)
+serial_run P H [] run = tt
+serial_run P H (t ∷ told) run = (
+  next_is P H t.line t.reply run.0,
+  rw (behind P H t.line t.reply run.0) (serial_run P (history_behind P H t.line t.reply) told run.1),
 )
 
 unfaulted_one : (reply : Option (ℕ × PlainReply)) → (is_disk_fault (answer_of reply) ≡ false) × (is_stopped (answer_of reply) ≡ false)

@@ -12,7 +12,7 @@ use Rattle.ucon_model.specs.Summary.{LineReply, answer_of, answered}
 use Rattle.ucon_trial.specs.Hearing.{HasHeard, line_of}
 use Rattle.ucon_trial.specs.Runs.{IsRunOutput}
 use Rattle.ucon_trial.specs.Transcript.{IsTranscript}
-use Rattle.ucon_trial.proofs.Replies.{SerialIsLegal, TextsTell, serial_run, unfaulted}
+use Rattle.ucon_trial.proofs.Replies.{SerialIsLegal, serial_run, unfaulted}
 
 each-snoc : {A : Type 0} (P : A → Type 0) (xs : List A) (x : A) → Each P xs → P x → Each P (xs ++ x ∷ [])
 each-snoc P [] x all one = (one, tt)
@@ -43,10 +43,10 @@ abbrev pub OutputsAreReadBack : Type 0
 OutputsAreReadBack = (told : List Answered) → Each (λ t. FitsLine t.answer) told → Each (λ t. t.line.caller.0 < 256) told
     → answers_read (map (λ (t : Answered). t.line) told) (output told) ≡ Some told
 
-pub transcribed : OutputsAreReadBack → TextsTell → SerialIsLegal → (P : PlainPolicy) (lines : List Entry) (text : Bytes) → HasHeard P (IsTranscript text) lines → IsRunOutput P lines text
-transcribed back tell serial P lines text h =
+pub transcribed : OutputsAreReadBack → SerialIsLegal → (P : PlainPolicy) (lines : List Entry) (text : Bytes) → HasHeard P (IsTranscript text) lines → IsRunOutput P lines text
+transcribed back serial P lines text h =
     let told = map answered h.told in
     let read : answers_read lines text ≡ Some told =
     ap (λ (es : List Entry). answers_read es text) (sym (lines_kept h.told ∙ h.lines_are)) ∙ ap (answers_read (map (λ (t : Answered). t.line) told)) h.heard.text_is
     ∙ back told (each-answered (λ t. FitsLine t.answer) h.told h.heard.fits) (each-answered (λ t. t.line.caller.0 < 256) h.told h.heard.clients) in
-    rw read (h.heard.text_is, serial P [] told (serial_run tell P [] h.told h.run), unfaulted h.told)
+    rw read (h.heard.text_is, serial P [] told (serial_run P [] h.told h.run), unfaulted h.told)

@@ -4,6 +4,7 @@ ghost use Rattle.std.specs.Prelude.{◌≡◌, ◌<◌, ◌++◌, ◌∷◌, [],
 ghost use Rattle.std.specs.Fmt.{decimal};
 ghost use Rattle.ucon_model.specs.LegalRun.{placed};
 ghost use Rattle.ucon_model.specs.Output.{Lacks, answer_spelling};
+ghost use Rattle.ucon_model.specs.ReplyText.{reply_read};
 ghost use Rattle.ucon_model.specs.Spelling.{reply_spelling};
 ghost use Rattle.ucon_model.specs.Views.{reply_of};
 ghost use Rattle.ucon_trial.specs.Hearing.{HearsMore, replied};
@@ -62,8 +63,9 @@ pub fn put_reply(
     reply: &Reply,
 ) -> Result<(), NoMemory>
     ensures text { OnOk result (out.new.items ≡ out.old.items
-        ++ (decimal caller.0 ++ 32 ∷ answer_spelling (placed place (reply_spelling (reply_of reply.now))) ++ 10 ∷ [])) }
+        ++ (decimal caller.0 ++ 32 ∷ answer_spelling (placed place (reply_of reply.now)) ++ 10 ∷ [])) }
     ensures one_line { OnOk result (Lacks 10 (reply_spelling (reply_of reply.now))) }
+    ensures read_back { OnOk result (reply_read (reply_spelling (reply_of reply.now)) ≡ Some (reply_of reply.now)) }
     ensures client { OnOk result (caller.0 < 256) }
 {
     put_client(out, caller)?;

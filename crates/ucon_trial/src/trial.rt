@@ -13,7 +13,7 @@ use std::alloc::Global;
 use ucon_base::NoMemory;
 use ucon_engine::Engine;
 use ucon_model::Checked;
-use ucon_runs::{outputs_are_read_back, serial_runs_are_legal, texts_tell_changes};
+use ucon_runs::{outputs_are_read_back, serial_runs_are_legal};
 use ucon_script::Script;
 
 /// One line for each answer.
@@ -25,7 +25,6 @@ pub fn trial_output<E: Engine>(
     ensures { IfOk result (λ text. IsRunOutput (checked_policy checked) (entries_of (lines_spelled script.now)) text.items) }
 {
     outputs_are_read_back();
-    texts_tell_changes();
     serial_runs_are_legal();
     let engine = E::begin(alloc, checked)?;
     let transcript = run_lines(alloc, engine, Transcript::new(alloc), script.lines.slice())?;
@@ -40,7 +39,6 @@ pub fn trial_summary<E: Engine>(
 ) -> Result<Vec<u8>, NoMemory>
     ensures { IfOk result (λ text. IsRunSummary (checked_policy checked) (entries_of (lines_spelled script.now)) text.items) }
 {
-    texts_tell_changes();
     serial_runs_are_legal();
     let engine = E::begin(alloc, checked)?;
     let tally = run_lines(alloc, engine, Tally::new(), script.lines.slice())?;

@@ -26,19 +26,19 @@ pub struct LastPoint {
 
 /// The last checkpoint in the journal, of which no record was taken yet. None where there is none. Each record is read, and none may be too long.
 pub fn last_point<D: Disk>(journal: &mut Journal<D>) -> Result<Option<LastPoint>, RecordFault>
-    requires reading { IsReading D.contents journal.old }
-    requires all { IfSome (D.contents (disk_of journal.old)) (λ file. payloads_from file 8 ≡ counted file) }
+    requires reading { IsReading D.seen journal.old }
+    requires all { IfSome (D.seen (disk_of journal.old)).contents (λ file. payloads_from file 8 ≡ counted file) }
     requires first { gate_of journal.old ≡ 8 }
-    ensures walked { IfOk result (λ last. IfSome (D.contents (disk_of journal.old)) (λ file. IsWalked (has_points file) (counted file) last)) }
+    ensures walked { IfOk result (λ last. IfSome (D.seen (disk_of journal.old)).contents (λ file. IsWalked (has_points file) (counted file) last)) }
     ensures below { IfOk result (λ last. IfSome last (IsPlacedBelow (2 ^ 63))) }
-    ensures long { IfErr result (λ fault. HasLong fault (D.contents (disk_of journal.old)) 0 8
-        (D.faults (disk_of journal.old)) (D.faults (disk_of journal.new))) }
-    ensures reading { IsReading D.contents journal.new }
+    ensures long { IfErr result (λ fault. HasLong fault (D.seen (disk_of journal.old)).contents 0 8
+        (D.seen (disk_of journal.old)).faults (D.seen (disk_of journal.new)).faults) }
+    ensures reading { IsReading D.seen journal.new }
     ensures version { version_of journal.new ≡ version_of journal.old }
-    ensures contents { D.contents (disk_of journal.new) ≡ D.contents (disk_of journal.old) }
-    ensures images { SameImages (D.images (disk_of journal.old)) (D.images (disk_of journal.new)) }
-    ensures run { LeavesOnly D.moment D.images_since (disk_of journal.old) (disk_of journal.new) (D.images (disk_of journal.old)) }
-    ensures unfailed { OnOk result (D.faults (disk_of journal.new) ≡ D.faults (disk_of journal.old)) }
+    ensures contents { (D.seen (disk_of journal.new)).contents ≡ (D.seen (disk_of journal.old)).contents }
+    ensures images { SameImages (D.seen (disk_of journal.old)).images (D.seen (disk_of journal.new)).images }
+    ensures run { LeavesOnly (D.seen (disk_of journal.old)) (D.seen (disk_of journal.new)) (D.seen (disk_of journal.old)).images }
+    ensures unfailed { OnOk result ((D.seen (disk_of journal.new)).faults ≡ (D.seen (disk_of journal.old)).faults) }
 {
     match journal.next() {
         Err(fault) => Err(at_record(0, fault)),
@@ -75,25 +75,25 @@ impl Walk {
 
     /// Passes the next record. False where there is none.
     fn pass_next<D: Disk>(&mut self, journal: &mut Journal<D>) -> Result<bool, RecordFault>
-        requires reading { IsReading D.contents journal.old }
+        requires reading { IsReading D.seen journal.old }
         requires walking { IsWalking self.old (gate_of journal.old) }
-        ensures passed { result ≡ Ok true → IfSome (D.contents (disk_of journal.old)) (λ file.
+        ensures passed { result ≡ Ok true → IfSome (D.seen (disk_of journal.old)).contents (λ file.
             finds (points_of (version_of journal.old)) self.new (gate_of journal.new) file
             ≡ finds (points_of (version_of journal.old)) self.old (gate_of journal.old) file) }
-        ensures ended { result ≡ Ok false → IfSome (D.contents (disk_of journal.old)) (λ file.
+        ensures ended { result ≡ Ok false → IfSome (D.seen (disk_of journal.old)).contents (λ file.
             finds (points_of (version_of journal.old)) self.old (gate_of journal.old) file ≡ (self.new.last, None)) }
         ensures stays { result ≡ Ok false → self.new ≡ self.old }
-        ensures long { IfErr result (λ fault. HasLong fault (D.contents (disk_of journal.old)) self.old.number (gate_of journal.old)
-            (D.faults (disk_of journal.old)) (D.faults (disk_of journal.new))) }
+        ensures long { IfErr result (λ fault. HasLong fault (D.seen (disk_of journal.old)).contents self.old.number (gate_of journal.old)
+            (D.seen (disk_of journal.old)).faults (D.seen (disk_of journal.new)).faults) }
         ensures advance { result ≡ Ok true → gate_of journal.old < gate_of journal.new }
         ensures walking { result ≡ Ok true → IsWalking self.new (gate_of journal.new) }
         ensures below { gate_of journal.new < 2 ^ 63 }
-        ensures reading { IsReading D.contents journal.new }
+        ensures reading { IsReading D.seen journal.new }
         ensures version { version_of journal.new ≡ version_of journal.old }
-        ensures contents { D.contents (disk_of journal.new) ≡ D.contents (disk_of journal.old) }
-        ensures images { SameImages (D.images (disk_of journal.old)) (D.images (disk_of journal.new)) }
-        ensures run { LeavesOnly D.moment D.images_since (disk_of journal.old) (disk_of journal.new) (D.images (disk_of journal.old)) }
-        ensures unfailed { OnOk result (D.faults (disk_of journal.new) ≡ D.faults (disk_of journal.old)) }
+        ensures contents { (D.seen (disk_of journal.new)).contents ≡ (D.seen (disk_of journal.old)).contents }
+        ensures images { SameImages (D.seen (disk_of journal.old)).images (D.seen (disk_of journal.new)).images }
+        ensures run { LeavesOnly (D.seen (disk_of journal.old)) (D.seen (disk_of journal.new)) (D.seen (disk_of journal.old)).images }
+        ensures unfailed { OnOk result ((D.seen (disk_of journal.new)).faults ≡ (D.seen (disk_of journal.old)).faults) }
     {
         let place = journal.gate();
         let points = has_points(journal);
@@ -118,19 +118,19 @@ impl Walk {
 
     /// Passes all records that are left.
     fn pass_all<D: Disk>(&mut self, journal: &mut Journal<D>) -> Result<(), RecordFault>
-        requires reading { IsReading D.contents journal.old }
+        requires reading { IsReading D.seen journal.old }
         requires walking { IsWalking self.old (gate_of journal.old) }
-        ensures found { OnOk result (IfSome (D.contents (disk_of journal.old)) (λ file.
+        ensures found { OnOk result (IfSome (D.seen (disk_of journal.old)).contents (λ file.
             finds (points_of (version_of journal.old)) self.old (gate_of journal.old) file ≡ (self.new.last, None))) }
         ensures below { OnOk result (IfSome self.new.last (IsPlacedBelow (2 ^ 63))) }
-        ensures long { IfErr result (λ fault. HasLong fault (D.contents (disk_of journal.old)) self.old.number (gate_of journal.old)
-            (D.faults (disk_of journal.old)) (D.faults (disk_of journal.new))) }
-        ensures reading { IsReading D.contents journal.new }
+        ensures long { IfErr result (λ fault. HasLong fault (D.seen (disk_of journal.old)).contents self.old.number (gate_of journal.old)
+            (D.seen (disk_of journal.old)).faults (D.seen (disk_of journal.new)).faults) }
+        ensures reading { IsReading D.seen journal.new }
         ensures version { version_of journal.new ≡ version_of journal.old }
-        ensures contents { D.contents (disk_of journal.new) ≡ D.contents (disk_of journal.old) }
-        ensures images { SameImages (D.images (disk_of journal.old)) (D.images (disk_of journal.new)) }
-        ensures run { LeavesOnly D.moment D.images_since (disk_of journal.old) (disk_of journal.new) (D.images (disk_of journal.old)) }
-        ensures unfailed { OnOk result (D.faults (disk_of journal.new) ≡ D.faults (disk_of journal.old)) }
+        ensures contents { (D.seen (disk_of journal.new)).contents ≡ (D.seen (disk_of journal.old)).contents }
+        ensures images { SameImages (D.seen (disk_of journal.old)).images (D.seen (disk_of journal.new)).images }
+        ensures run { LeavesOnly (D.seen (disk_of journal.old)) (D.seen (disk_of journal.new)) (D.seen (disk_of journal.old)).images }
+        ensures unfailed { OnOk result ((D.seen (disk_of journal.new)).faults ≡ (D.seen (disk_of journal.old)).faults) }
     {
         'records: while self.pass_next(journal)? {}
         Ok(())

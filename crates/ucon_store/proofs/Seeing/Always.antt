@@ -22,8 +22,9 @@ use Rattle.ucon_journal.specs.Found as journal
 use Rattle.ucon_syntax.specs.Policies.{accepted}
 use Rattle.ucon_store.specs.Found.{found}
 use Rattle.ucon_store.specs.Opened as opened
-use Rattle.ucon_store.specs.Opened.{IsPointOf, Parted, Seen, Sees, SeesFrom, SeesIn, SeesPast, first_long, parted_with, seen_after, showing_only, steps_after, steps_among}
+use Rattle.ucon_store.specs.Opened.{IsPointOf, Parted, Seen, Sees, SeesFrom, SeesIn, SeesPast, first_long, parted_with, seen_after, steps_after, steps_among}
 use Rattle.ucon_store.specs.Points.{has_points}
+use Rattle.ucon_store.specs.ReadBack.{IsReadPointOf, showing_only}
 use Rattle.ucon_store.proofs.Seeing.Histories.{nothing}
 use Rattle.ucon_store.proofs.Seeing.OneThing.{both_followed, point_followed}
 use Rattle.ucon_store.proofs.Seeing.Points.{the_end}
@@ -48,6 +49,7 @@ module _ (keeps : (s : Shown) (P : PlainPolicy) (T : Trace) → Follows s P T �
     (points : (bytes : Bytes) (p : Said) → point_read bytes ≡ Ok p → IsPoint p × (point_spelling p ≡ bytes))
     (followed : (p : Said) (end : Standing) → IsPoint p → put_all p.policy (start p.policy p.tick) p.rows ≡ Some end
     → (s : Shown) → s.policy ≡ p.policy → s.tables ≡ end.tables → IsFollowing s)
+    (back : (entries : ℕ) (P : PlainPolicy) (T : Trace) (payload : Bytes) → IsPointOf entries P T payload ↔ IsReadPointOf entries P T payload)
     (nobody : (P : PlainPolicy) (T : Trace) → IsNumbered T → least_failing P T ≡ None → (n : ℕ) → fails_at P T n ≡ None) where
   abbrev IsNone : ℕ → Bytes → Type 0
   IsNone entries payload = (P : PlainPolicy) (T : Trace) → IsPointOf entries P T payload → ⊥
@@ -58,12 +60,13 @@ module _ (keeps : (s : Shown) (P : PlainPolicy) (T : Trace) → Follows s P T �
   -- the checkpoint of no trace, or of one
   module _ (entries : ℕ) (payload : Bytes) where
     refused : (place : ℕ) → point_read payload ≡ Err place → IsNone entries payload
-    refused place read P T point = not_both place point.said (sym read ∙ point.reads)
+    refused place read P T point = let k = (back entries P T payload).0 point in not_both place k.said (sym read ∙ k.reads)
 
     other_count : (said : Said) → point_read payload ≡ Ok said → (said.entries ≡ entries → ⊥) → IsNone entries payload
     other_count said read other P T point =
-        let same : point.said ≡ said = ap (λ (r : Result Said ℕ). result_unwrap_or r said) (sym point.reads ∙ read) in
-        other (ap (λ (p : Said). p.entries) (sym same) ∙ point.count)
+        let k = (back entries P T payload).0 point in
+        let same : k.said ≡ said = ap (λ (r : Result Said ℕ). result_unwrap_or r said) (sym k.reads ∙ read) in
+        other (ap (λ (p : Said). p.entries) (sym same) ∙ k.count)
 
     module _ (said : Said) (read : point_read payload ≡ Ok said) (count : said.entries ≡ entries) where
       is_point : IsPoint said
@@ -88,7 +91,7 @@ module _ (keeps : (s : Shown) (P : PlainPolicy) (T : Trace) → Follows s P T �
       settled_or_not None least = inr (
         P,
         T,
-        record {
+        (back entries P T payload).1 (record {
           said = said;
           reads = read;
           count = count;
@@ -96,10 +99,10 @@ module _ (keeps : (s : Shown) (P : PlainPolicy) (T : Trace) → Follows s P T �
           made = made.1;
           alike = (alike state P T following).0 following.follows;
           settled = nobody P T following.follows.sound.numbered least;
-        },
+        }),
       )
       settled_or_not (Some f) least = inl (λ Q U point.
-          let follows = point_followed keeps alike points followed entries payload Q U point said made.0 read made.1 in
+          let follows = point_followed keeps alike points followed back entries payload Q U point said made.0 read made.1 in
           let same = least_failing_same P T Q U (both_followed keeps state P T Q U following.follows follows) in
           nothing (sym (least_none Q U point.settled 1 (sessions U)) ∙ sym same ∙ least))
 

@@ -23,7 +23,7 @@ use Rattle.ucon_model.specs.Spells.{Spells}
 use Rattle.ucon_model.specs.Typing.{IsTyped}
 use Rattle.ucon_command.specs.Payloads.{AreOfClients}
 use Rattle.ucon_syntax.specs.Policies.{accepted}
-use Rattle.ucon_store.specs.Opened.{is_next_after, steps_after, with_next}
+use Rattle.ucon_store.specs.Opened.{is_next_after, steps_after, with_next, steps_by}
 use Rattle.ucon_store.specs.Points.{text_behind, text_in_force}
 use Rattle.ucon_store.proofs.Stepping.{trace_append}
 use Rattle.ucon_store.proofs.After.{tested}
@@ -127,5 +127,5 @@ module _ (text : Bytes) (P : PlainPolicy) (G H : History) where
   fits_same false r = read_same r
 
   pub step_same : (payload : Bytes) → taken accepted P (G ++ H) payload ≡ option_map (λ (l : History). G ++ l) (steps_after (trace P G) text P H payload)
-  unfolding taken steps_after
+  unfolding taken steps_by
   step_same payload = fits_same (nat_lt most_payload (length payload)) (payload_read accepted payload)

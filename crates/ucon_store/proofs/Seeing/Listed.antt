@@ -39,7 +39,7 @@ by_amendment : {D : Type 0} (before : Option D) (value : D → Value) (o : Optio
 by_amendment None value o given declared old = default_there value o declared
 by_amendment (Some d) value o given declared old = old refl
 
-attr_given : (P : PlainPolicy) (T : Trace) (side : Side) (e attr : Bytes) → has_entity side e T ≡ true
+pub attr_given : (P : PlainPolicy) (T : Trace) (side : Side) (e attr : Bytes) → has_entity side e T ≡ true
     → is_some (declared_attr (in_force P T).attrs side attr) ≡ true → is_some (given_attr P side e attr T) ≡ true
 attr_given P [] Subject e attr there declared = absurd (false≢true there)
 attr_given P [] Object e attr there declared = absurd (false≢true there)
@@ -62,7 +62,7 @@ attr_given P (amend text Q ∷ T) Object e attr there declared =
 attr_given P (a ∷ T) Subject e attr there declared = attr_given P T Subject e attr there declared
 attr_given P (a ∷ T) Object e attr there declared = attr_given P T Object e attr there declared
 
-env_given : (P : PlainPolicy) (T : Trace) (name : Bytes) → is_some (declared_env (in_force P T).envs name) ≡ true → is_some (given_env P name T) ≡ true
+pub env_given : (P : PlainPolicy) (T : Trace) (name : Bytes) → is_some (declared_env (in_force P T).envs name) ≡ true → is_some (given_env P name T) ≡ true
 env_given P [] name declared = default_there (λ d. d.start) (declared_env P.envs name) declared
 env_given P (env n v ∷ T) name declared = by_write (bytes_eq name n) v (given_env P name T) (env_given P T name declared)
 env_given P (amend text Q ∷ T) name declared =
@@ -117,7 +117,7 @@ old_act T x y true is old here there =
     sym (there_if (moment y.0 y.1 y.2 T) old) ∙ there ∙ ap (λ (z : Names). is_some (find (same_names z) (act_rows T))) (sym same)
 
 -- an act is listed where it was done
-listed_moment : (T : Trace) (x : Names) → Listed T x
+pub listed_moment : (T : Trace) (x : Names) → Listed T x
 listed_moment [] x = refl
 listed_moment (act s a o ∷ T) x = by (is_none (moment s a o T)) refl (listed_moment T x) (listed_moment T (s, a, o))
   where
@@ -133,7 +133,7 @@ got : {A : Type 0} (xs : List A) (i : ℕ) → i < length xs → is_some (slice_
 got [] i lt = absurd (omega (arith, lt))
 got (x ∷ xs) i lt = ap is_some (slice_get-get_or (x ∷ xs) i x lt)
 
-rows_there : (f : ℕ → Option SessionRow) (n m : ℕ) → n ≤ m → ((i : ℕ) → i < m → is_some (f (suc i)) ≡ true) → HasTo f n
+pub rows_there : (f : ℕ → Option SessionRow) (n m : ℕ) → n ≤ m → ((i : ℕ) → i < m → is_some (f (suc i)) ≡ true) → HasTo f n
 rows_there f zero m le there = tt
 rows_there f (suc n) m le there = (rows_there f n m (omega (arith, le)) there, there n (omega (arith, le)))
 

@@ -9,7 +9,7 @@ use Rattle.ucon_model.specs.History.{History}
 use Rattle.ucon_model.specs.Plain.{Bytes, PlainPolicy}
 use Rattle.ucon_journal.specs.Found as journal
 use Rattle.ucon_syntax.specs.Policies.{accepted}
-use Rattle.ucon_store.specs.Found.{finding_of, found}
+use Rattle.ucon_store.specs.Found.{finding_of, found, found_by}
 use Rattle.ucon_store.specs.Opened as opened
 use Rattle.ucon_store.specs.Opened.{Parted, Seen, Sees, SeesFrom, SeesIn, SeesPast, first_long, parted_with, seen_after, steps_after, steps_among}
 use Rattle.ucon_store.specs.Points.{has_points, takes_with}
@@ -45,7 +45,7 @@ untold takes (journal.Holds [] gate) h = refl
 untold takes (journal.Holds (text ∷ payloads) gate) h = absurd (false≢true (sym h ∙ told_in takes text payloads))
 
 pub found_untold : (file : Bytes) → is_told (found file) ≡ false → journal.counted file ≡ []
-unfolding found
+unfolding found_by
 found_untold file h = untold (takes_with (has_points file)) (journal.found file) h
 
 -- so what was found is seen

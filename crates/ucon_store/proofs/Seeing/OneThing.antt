@@ -26,8 +26,9 @@ use Rattle.ucon_journal.specs.Found as journal
 use Rattle.ucon_syntax.specs.Policies.{accepted}
 use Rattle.ucon_store.specs.Found.{found}
 use Rattle.ucon_store.specs.Opened as opened
-use Rattle.ucon_store.specs.Opened.{IsPointOf, Parted, Seen, Sees, SeesFrom, SeesIn, SeesPast, first_long, is_next_after, parted_with, seen_after, showing_only, steps_after, steps_among, with_next}
+use Rattle.ucon_store.specs.Opened.{IsPointOf, Parted, Seen, Sees, SeesFrom, SeesIn, SeesPast, first_long, is_next_after, parted_with, seen_after, steps_after, steps_among, with_next, steps_by}
 use Rattle.ucon_store.specs.Points.{has_points}
+use Rattle.ucon_store.specs.ReadBack.{IsReadPointOf, showing_only}
 use Rattle.ucon_store.proofs.Seeing.SameReadings.{ReadTheSame}
 use Rattle.ucon_store.proofs.Seeing.SameReplies.{reply_same, same_from}
 
@@ -81,13 +82,15 @@ module _ (keeps : (s : Shown) (P : PlainPolicy) (T : Trace) → Follows s P T �
   module _ (alike : (s : Shown) (P : PlainPolicy) (T : Trace) → IsFollowing s → Follows s P T ↔ ReadsAlike s P T)
       (points : (bytes : Bytes) (p : Said) → point_read bytes ≡ Ok p → IsPoint p × (point_spelling p ≡ bytes))
       (followed : (p : Said) (end : Standing) → IsPoint p → put_all p.policy (start p.policy p.tick) p.rows ≡ Some end
-      → (s : Shown) → s.policy ≡ p.policy → s.tables ≡ end.tables → IsFollowing s) where
+      → (s : Shown) → s.policy ≡ p.policy → s.tables ≡ end.tables → IsFollowing s)
+      (back : (entries : ℕ) (P : PlainPolicy) (T : Trace) (payload : Bytes) → IsPointOf entries P T payload ↔ IsReadPointOf entries P T payload) where
     -- ---- two traces that lead to one checkpoint
 
     -- a trace that leads to a checkpoint is followed by the state that its rows make
     pub point_followed : (entries : ℕ) (payload : Bytes) (Q : PlainPolicy) (U : Trace) → IsPointOf entries Q U payload → (said : Said) (end : Standing) → point_read payload ≡ Ok said
         → put_all said.policy (start said.policy said.tick) said.rows ≡ Some end → Follows (showing_only said.policy end.tables) Q U
-    point_followed entries payload Q U b said end reads made =
+    point_followed entries payload Q U point said end reads made =
+        let b = (back entries Q U payload).0 point in
         let same : b.said ≡ said = ap (λ (r : Result Said ℕ). result_unwrap_or r said) (sym b.reads ∙ reads) in
         let state : Shown = showing_only said.policy end.tables in
         let made_too : put_all said.policy (start said.policy said.tick) said.rows ≡ Some b.end =
@@ -99,8 +102,9 @@ module _ (keeps : (s : Shown) (P : PlainPolicy) (T : Trace) → Follows s P T �
 
     same_point : (entries : ℕ) (payload : Bytes) (P : PlainPolicy) (T : Trace) (Q : PlainPolicy) (U : Trace) → IsPointOf entries P T payload → IsPointOf entries Q U payload → ReadTheSame P T Q U
     same_point entries payload P T Q U a b =
-        both_followed (showing_only a.said.policy a.end.tables) P T Q U (point_followed entries payload P T a a.said a.end a.reads a.made)
-        (point_followed entries payload Q U b a.said a.end a.reads a.made)
+        let k = (back entries P T payload).0 a in
+        both_followed (showing_only k.said.policy k.end.tables) P T Q U (point_followed entries payload P T a k.said k.end k.reads k.made)
+        (point_followed entries payload Q U b k.said k.end k.reads k.made)
 
     -- ---- what is found behind them
 
@@ -115,7 +119,7 @@ module _ (keeps : (s : Shown) (P : PlainPolicy) (T : Trace) → Follows s P T �
       with_too H (Ok t) = ap (λ (b : Bool). cond b (Some (H ++ entry_told t ∷ [])) None) (next_too H t)
 
       steps_too : (H : History) (payload : Bytes) → steps_after T text P H payload ≡ steps_after U text Q H payload
-      unfolding steps_after
+      unfolding steps_by
       steps_too H payload = ap (λ (o : Option History). cond (nat_lt most_payload (length payload)) None o) (with_too H (payload_read accepted payload))
 
       seen_too : (entries : ℕ) (payloads : List Bytes) (H : History) (number gate : ℕ)

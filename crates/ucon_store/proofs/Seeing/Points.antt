@@ -1,6 +1,8 @@
--- The checkpoint of a history that is found is read, and what its rows make is what is there after the history.
-use Rattle.std.proofs.Common.{◌≡◌, ◌∙◌, ℕ, ◌<◌, ◌^◌, [], ◌∷◌, length, Option, Some, None, Ok, refl, sym, ap}
+-- The checkpoint of a history that is found is the one of the history's trace, and its text is read back.
+use Rattle.std.proofs.Common.{◌≡◌, ◌∙◌, ℕ, ◌<◌, ◌≤ℤ◌, ◌^◌, ℤ, pos, negsuc, true, [], ◌∷◌, length, Option, Some, None, Ok, refl, ap, arith}
 use Rattle.std.specs.Prelude.{◌↔◌, IsSomeAnd}
+use Rattle.std.proofs.lemmas.Bool.{false≢true}
+use Rattle.std.proofs.lemmas.Int.{ints}
 use Rattle.ucon_base.specs.Elements.{Each, each_map}
 use Rattle.ucon_base.specs.Reading.{value_read}
 use Rattle.ucon_base.specs.Spelling.{IsValue, value_spelling}
@@ -16,21 +18,20 @@ use Rattle.ucon_model.specs.Readings.{entities, entity_names, in_force, tick_of}
 use Rattle.ucon_model.specs.Typing.{IsTyped}
 use Rattle.ucon_model.specs.Work.{NobodyFails}
 use Rattle.ucon_state.specs.Applied.{opening_tables}
-use Rattle.ucon_state.specs.Following.{Follows, IsFollowing, IsLegalTrace, Keeps}
-use Rattle.ucon_state.specs.Held.{Held, ReadsAlike, held_after, held_in}
+use Rattle.ucon_state.specs.Following.{Follows, IsFollowing, IsLegalTrace}
+use Rattle.ucon_state.specs.Held.{Held, ReadsAlike, held_after}
 use Rattle.ucon_state.specs.Shown.{Shown, changed_by}
 use Rattle.ucon_point.specs.HeldRows.{point_held, rows_held}
-use Rattle.ucon_row.specs.Order.{awaited}
-use Rattle.ucon_point.specs.PointRead.{IsPoint, Said, point_read}
+use Rattle.ucon_point.specs.Orderly.{IsOrderly}
+use Rattle.ucon_point.specs.PointRead.{IsPoint, Said, is_whole, point_read}
 use Rattle.ucon_point.specs.PointText.{point_text}
 use Rattle.ucon_row.specs.RowText.{IsRow, IsSpelled}
-use Rattle.ucon_point.specs.Standing.{Standing, put_all, start}
+use Rattle.ucon_point.specs.Standing.{Standing}
 use Rattle.ucon_syntax.specs.Policies.{accepted}
-use Rattle.ucon_store.specs.Opened.{IsPointOf, showing_only, text_said}
+use Rattle.ucon_store.specs.Opened.{IsPointOf, text_said}
 use Rattle.ucon_store.specs.Points.{checkpoint, text_in_force}
+use Rattle.ucon_store.specs.ReadBack.{showing_only}
 use Rattle.ucon_store.proofs.Seeing.Histories.{IsGood, PayloadLaws}
-use Rattle.ucon_store.proofs.Seeing.Listed.{listed_all}
-use Rattle.ucon_store.proofs.Seeing.SameHeld.{held_same}
 use Rattle.ucon_store.proofs.Seeing.SpelledRows.{rows_spelled}
 use Rattle.ucon_store.proofs.Spelled.Blocks.{trace_spelled}
 use Rattle.ucon_store.proofs.Spelled.Policies.{IsOfNames, spelled_names}
@@ -43,19 +44,20 @@ pub record PointLaws : Type 0 where
   pub opening : (s : Shown) (P : PlainPolicy) → IsTyped (in_force P []) → s.policy ≡ in_force P [] → s.tables ≡ opening_tables s.policy → Follows s P []
   pub after : (s : Shown) (P : PlainPolicy) (T : Trace) (a : Action) → Follows s P T → IsLegal P T a → Follows (changed_by s a) P (a ∷ T)
   pub legal : (P : PlainPolicy) → IsTyped P → (H : History) → AreCommands H → IsLegalTrace P (trace P H)
-  pub keeps : (s : Shown) (P : PlainPolicy) (T : Trace) → Follows s P T → Keeps s.policy s.tables P T
   pub alike : (s : Shown) (P : PlainPolicy) (T : Trace) → IsFollowing s → Follows s P T ↔ ReadsAlike s P T
   pub point : (entries : ℕ) (text : Bytes) (P : PlainPolicy) (H : History) → IsTyped P → AreCommands H → entries < 2 ^ 64
       → accepted text ≡ Some (in_force P (trace P H)) → IsSpelled (Int (tick_of (trace P H))) → Each IsRow (rows_held (held_after P (trace P H)))
       → IsPoint (point_held entries text (held_after P (trace P H)))
+  pub order : (P : PlainPolicy) (H : History) → IsTyped P → AreCommands H → IsOrderly (held_after P (trace P H))
   pub read : (entries : ℕ) (text : Bytes) (h : Held) → IsPoint (point_held entries text h) → point_read (point_text entries text h) ≡ Ok (point_held entries text h)
-  pub held : (p : Said) (end : Standing) → IsPoint p → put_all p.policy (start p.policy p.tick) p.rows ≡ Some end → point_held p.entries p.text (held_in p.policy end.tables) ≡ p
-  pub followed : (p : Said) (end : Standing) → IsPoint p → put_all p.policy (start p.policy p.tick) p.rows ≡ Some end
-      → (s : Shown) → s.policy ≡ p.policy → s.tables ≡ end.tables → IsFollowing s
 
 pub the_end : (o : Option Standing) (Q : Standing → Type 0) → IsSomeAnd o Q → (end : Standing) × (o ≡ Some end)
 the_end None Q h = absurd h
 the_end (Some end) Q h = (end, refl)
+
+pub whole_since : (t : ℤ) → is_whole t ≡ true → pos 0 ≤ℤ t
+whole_since (pos n) h = grind (arith, ints)
+whole_since (negsuc n) h = absurd (false≢true h)
 
 module _ (laws : PointLaws) (payloads : PayloadLaws) where
   -- a state that follows a legal trace
@@ -88,33 +90,9 @@ module _ (laws : PointLaws) (payloads : PayloadLaws) where
     is_point =
         laws.point (length H) (text_in_force text H) P H typed commands few good.accepts (laws.written (Int (tick_of T)) (tick_spelled T spelled)) (rows_spelled laws.written P names T spelled)
 
-    end : (e : Standing) × (put_all (in_force P T) (start (in_force P T) (tick_of T)) (rows_held (held_after P T)) ≡ Some e)
-    end = the_end _ (λ s. awaited (in_force P T) s.reached ≡ None) is_point.order
-
     -- some state follows the trace of the history
     history : (s : Shown) × Follows s P T
     history = followed_trace P T typed (laws.legal P typed H commands)
-
-    -- and the state that the rows make follows some trace
-    abbrev made : Shown
-    made = showing_only (in_force P T) end.0.tables
-
-    following : IsFollowing made
-    following = laws.followed told end.0 is_point end.1 made refl refl
-
-    made_alike : ReadsAlike made following.policy following.trace
-    made_alike = (laws.alike made following.policy following.trace following).0 following.follows
-
-    told_again : point_held (length H) (text_in_force text H) (held_in (in_force P T) end.0.tables) ≡ told
-    told_again = laws.held told end.0 is_point end.1
-
-    told_by : point_held (length H) (text_in_force text H) (held_after following.policy following.trace) ≡ told
-    told_by = ap (λ (h : Held). point_held (length H) (text_in_force text H) h) (sym made_alike.held_alike) ∙ told_again
-
-    same_held : held_after following.policy following.trace ≡ held_after P T
-    same_held =
-        held_same following.policy following.trace P T (listed_all laws.keeps made following.policy following.trace following.follows) (listed_all laws.keeps history.0 P T history.1)
-        (ap (λ (p : Said). p.policy) told_by) (ap (λ (p : Said). p.tick) told_by) (ap (λ (p : Said). p.rows) told_by)
 
     pub made_once : (side : Side) → entities side T ≡ length (entity_names side T)
     made_once =
@@ -127,11 +105,14 @@ module _ (laws : PointLaws) (payloads : PayloadLaws) where
     -- so the checkpoint is the one of the history's trace
     pub point_of_history : (payload : Bytes) → payload ≡ checkpoint text P H → IsPointOf (length H) P T payload
     point_of_history payload is = record {
-      said = told;
-      reads = ap point_read is ∙ laws.read (length H) (text_in_force text H) (held_after P T) is_point;
-      count = refl;
-      end = end.0;
-      made = end.1;
-      alike = record { held_alike = made_alike.held_alike ∙ same_held; made_once = made_once };
+      text = text_in_force text H;
+      in_force = good.accepts;
+      few = few;
+      since = whole_since (tick_of T) is_point.from_zero;
+      tick = is_point.tick;
+      rows = is_point.rows;
+      orderly = laws.order P H typed commands;
+      written = is;
+      made_once = made_once;
       settled = laws.settled P H;
     }

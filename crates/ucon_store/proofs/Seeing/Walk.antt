@@ -85,7 +85,7 @@ pub record AtPoint (text : Bytes) (P : PlainPolicy) (F : History) (end : ℕ) (H
   pub good : IsGood text P before
   pub point : p.point ≡ checkpoint text P before
   pub count : length before ≡ length H + steps_among p.before
-  pub behind : found_behind steps_and_points text P before (number + length p.before + 1) (next_gate (gate_behind gate p.before) p.point) p.behind ≡ holds text P F end
+  pub behind : found_behind (steps_and_points accepted) text P before (number + length p.before + 1) (next_gate (gate_behind gate p.before) p.point) p.behind ≡ holds text P F end
   pub none : parted p.behind ≡ None
 
 module _ (laws : PayloadLaws) (text : Bytes) (P : PlainPolicy) (F : History) (end : ℕ) where
@@ -96,14 +96,14 @@ module _ (laws : PayloadLaws) (text : Bytes) (P : PlainPolicy) (F : History) (en
       (subst (IsGood text P) (sym same) good, λ s. omega (arith, ap (λ (l : History). length l) same))
   kept_or_grown H later payload false good h = (more_good laws text P H later payload good h, λ s. omega (arith, step_longer P H later payload h))
 
-  pub at_point : (payloads : List Bytes) (H : History) (number gate : ℕ) → IsGood text P H → found_behind steps_and_points text P H number gate payloads ≡ holds text P F end
+  pub at_point : (payloads : List Bytes) (H : History) (number gate : ℕ) → IsGood text P H → found_behind (steps_and_points accepted) text P H number gate payloads ≡ holds text P F end
       → (p : Parted) → parted payloads ≡ Some p → AtPoint text P F end H number gate p
   at_point [] H number gate good h p is = absurd (nothing is)
   at_point (payload ∷ payloads) H number gate good h p is =
-      let on = goes_on steps_and_points text P H number gate payload payloads text P F end h in
+      let on = goes_on (steps_and_points accepted) text P H number gate payload payloads text P F end h in
       by on (parted payloads) refl is (λ good_later q at. at_point payloads on.later (number + 1) (next_gate gate payload) good_later on.behind q at)
     where
-      further : (on : GoesOn steps_and_points text P H number gate payload payloads (holds text P F end)) (q : Parted)
+      further : (on : GoesOn (steps_and_points accepted) text P H number gate payload payloads (holds text P F end)) (q : Parted)
           → ((s : ℕ) → length on.later + s ≡ length H + cond (is_point payload) s (s + 1))
           → AtPoint text P F end on.later (number + 1) (next_gate gate payload) q → AtPoint text P F end H number gate (preceded_by payload q)
       further on q longer at = record {
@@ -113,11 +113,11 @@ module _ (laws : PayloadLaws) (text : Bytes) (P : PlainPolicy) (F : History) (en
         count = at.count ∙ longer (steps_among q.before);
         behind =
             let number_is : number + 1 + length q.before + 1 ≡ number + length (payload ∷ q.before) + 1 = omega arith in
-            subst (λ (n : ℕ). found_behind steps_and_points text P at.before n (next_gate (gate_behind (next_gate gate payload) q.before) q.point) q.behind ≡ holds text P F end) number_is at.behind;
+            subst (λ (n : ℕ). found_behind (steps_and_points accepted) text P at.before n (next_gate (gate_behind (next_gate gate payload) q.before) q.point) q.behind ≡ holds text P F end) number_is at.behind;
         none = at.none;
       }
 
-      here : (on : GoesOn steps_and_points text P H number gate payload payloads (holds text P F end)) (b : Bool) → is_point payload ≡ b → parted payloads ≡ None
+      here : (on : GoesOn (steps_and_points accepted) text P H number gate payload payloads (holds text P F end)) (b : Bool) → is_point payload ≡ b → parted payloads ≡ None
           → cond b (Some (record { before = []; point = payload; behind = payloads })) None ≡ Some p → AtPoint text P F end H number gate p
       here on false isnt none k = absurd (nothing k)
       here on true point none k =
@@ -126,18 +126,18 @@ module _ (laws : PayloadLaws) (text : Bytes) (P : PlainPolicy) (F : History) (en
           let stays = point_stays text P H on.later payload taken_so in
           let number_is : number + 1 ≡ number + 0 + 1 = omega arith in
           let count_is : length H ≡ length H + 0 = omega arith in
-          let behind_later : found_behind steps_and_points text P H (number + 1) (next_gate gate payload) payloads ≡ holds text P F end =
-          ap (λ (l : History). found_behind steps_and_points text P l (number + 1) (next_gate gate payload) payloads) (sym stays.0) ∙ on.behind in
+          let behind_later : found_behind (steps_and_points accepted) text P H (number + 1) (next_gate gate payload) payloads ≡ holds text P F end =
+          ap (λ (l : History). found_behind (steps_and_points accepted) text P l (number + 1) (next_gate gate payload) payloads) (sym stays.0) ∙ on.behind in
           subst (AtPoint text P F end H number gate) (same_some (record { before = []; point = payload; behind = payloads }) p k) (record {
             before = H;
             good = good;
             point = stays.1;
             count = count_is;
-            behind = subst (λ (n : ℕ). found_behind steps_and_points text P H n (next_gate gate payload) payloads ≡ holds text P F end) number_is behind_later;
+            behind = subst (λ (n : ℕ). found_behind (steps_and_points accepted) text P H n (next_gate gate payload) payloads ≡ holds text P F end) number_is behind_later;
             none = none;
           })
 
-      by : (on : GoesOn steps_and_points text P H number gate payload payloads (holds text P F end)) (o : Option Parted) → parted payloads ≡ o
+      by : (on : GoesOn (steps_and_points accepted) text P H number gate payload payloads (holds text P F end)) (o : Option Parted) → parted payloads ≡ o
           → option_or (option_map (preceded_by payload) o) (parted_here payload payloads) ≡ Some p
           → (IsGood text P on.later → (q : Parted) → parted payloads ≡ Some q → AtPoint text P F end on.later (number + 1) (next_gate gate payload) q)
           → AtPoint text P F end H number gate p
@@ -170,7 +170,7 @@ mapped_some G later None h = absurd (nothing h)
 mapped_some G later (Some l) h = (l, (refl, sym (same_some (G ++ l) later h)))
 
 pub found_after : (text : Bytes) (P : PlainPolicy) (G F : History) (end : ℕ) (payloads : List Bytes) → parted payloads ≡ None → (H : History) (number gate : ℕ)
-    → found_behind steps_and_points text P (G ++ H) number gate payloads ≡ holds text P F end → Behind text P G F H number gate end payloads
+    → found_behind (steps_and_points accepted) text P (G ++ H) number gate payloads ≡ holds text P F end → Behind text P G F H number gate end payloads
 found_after text P G F end [] none H number gate h =
     let e : holds text P (G ++ H) gate ≡ holds text P F end = h in
     let histories : G ++ H ≡ F = cc e in
@@ -178,12 +178,12 @@ found_after text P G F end [] none H number gate h =
     record { more = H; found = ap (λ (n : ℕ). holds text P H n) gates; all = sym histories }
 found_after text P G F end (payload ∷ payloads) none H number gate h =
     let parts = none_parts payload payloads none in
-    let on = goes_on steps_and_points text P (G ++ H) number gate payload payloads text P F end h in
+    let on = goes_on (steps_and_points accepted) text P (G ++ H) number gate payload payloads text P F end h in
     let taken_so : taken accepted P (G ++ H) payload ≡ Some on.later =
     ap (λ (b : Bool). cond b (point_taken text P (G ++ H) payload) (taken accepted P (G ++ H) payload)) (sym parts.0) ∙ on.takes_it in
     let step = mapped_some G on.later (steps_after (trace P G) text P H payload) (sym (step_same text P G H payload) ∙ taken_so) in
     let rest = found_after text P G F end payloads parts.1 step.0 (number + 1) (next_gate gate payload)
-    (ap (λ (l : History). found_behind steps_and_points text P l (number + 1) (next_gate gate payload) payloads) (sym step.1.1) ∙ on.behind) in
+    (ap (λ (l : History). found_behind (steps_and_points accepted) text P l (number + 1) (next_gate gate payload) payloads) (sym step.1.1) ∙ on.behind) in
     record {
       more = rest.more;
       found =

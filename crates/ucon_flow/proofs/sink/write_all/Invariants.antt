@@ -6,9 +6,9 @@ use Rattle.ucon_flow.proofs.sink.write_all.Given as goal
 abbrev pub invariant-loop-at : goal.invariant-loop-at
 invariant-loop-at g l = record {
   within : l.at ≤ length l.bytes;
-  sent : Appends (g.K.Sink.contents l.fn.sink) (g.K.Sink.contents l.sink) (take l.at l.bytes);
-  unfailed : g.K.Sink.faults l.sink ≡ g.K.Sink.faults l.fn.sink;
-  writes : g.K.Sink.writes l.sink ≤ g.K.Sink.writes l.fn.sink + l.at;
+  sent : Appends (g.K.Sink.seen l.fn.sink).contents (g.K.Sink.seen l.sink).contents (take l.at l.bytes);
+  unfailed : (g.K.Sink.seen l.sink).faults ≡ (g.K.Sink.seen l.fn.sink).faults;
+  writes : (g.K.Sink.seen l.sink).writes ≤ (g.K.Sink.seen l.fn.sink).writes + l.at;
 }
 
 abbrev pub decreases-loop-at : goal.decreases-loop-at

@@ -13,47 +13,45 @@ pub returns-in_err-write_synced-clause-images : goal.returns-in_err-write_synced
 returns-in_err-write_synced-clause-images g c = record {
   each = λ file rest.
       let P = Untouched file in
-      let M = g.D.Disk.moment in
-      let S = g.D.Disk.images_since in
+      let at = g.D.Disk.seen in
       let old = c.args.disk.now in
       let same : (x : List ℕ) → x ≡ file → P x = λ x is. inl is in
-      let at_start = started M S old P (λ x since. same x (rest.only x (g.met.D.Disk.only_now old x since))) in
-      let synced = goes_on M S old old c.sync.new.self P _ at_start c.sync.ensures.time (λ x now. same x (rest.only x (c.sync.ensures.images x now))) in
-      let only : (x : List ℕ) → g.D.Disk.images c.len.new.self x → x ≡ file = λ x now. rest.only x (c.sync.ensures.images x (c.len.ensures.images.no_more x now)) in
-      let measured = goes_on M S old c.sync.new.self c.len.new.self P _ synced c.len.ensures.time (λ x now. same x (only x now)) in
-      let is_synced : g.D.Disk.contents c.sync.new.self ≡ Some file = c.in_ok-sync.ensures.contents ∙ rest.told in
-      let is_measured : g.D.Disk.contents c.len.new.self ≡ Some file = c.len.ensures.contents ∙ is_synced in
+      let at_start = started (at old) P (λ x since. same x (rest.only x (g.met.D.Disk.only_now old x since))) in
+      let synced = goes_on (at old) (at old) (at c.sync.new.self) P _ at_start c.sync.ensures.time (λ x now. same x (rest.only x (c.sync.ensures.images x now))) in
+      let only : (x : List ℕ) → (g.D.Disk.seen c.len.new.self).images x → x ≡ file = λ x now. rest.only x (c.sync.ensures.images x (c.len.ensures.images.no_more x now)) in
+      let measured = goes_on (at old) (at c.sync.new.self) (at c.len.new.self) P _ synced c.len.ensures.time (λ x now. same x (only x now)) in
+      let is_synced : (g.D.Disk.seen c.sync.new.self).contents ≡ Some file = c.in_ok-sync.ensures.contents ∙ rest.told in
+      let is_measured : (g.D.Disk.seen c.len.new.self).contents ≡ Some file = c.len.ensures.contents ∙ is_synced in
       let size = told_at (λ (l : List ℕ). c.in_ok-len.len ≡ length l) file is_synced c.in_ok-len.ensures.length in
-      let making = weaker M S c.len.new.self c.write_synced.new.disk (Torn 0 9 file) P (λ x torn. inr (omega (arith, size), omega (arith, torn.no_longer, size))) (c.write_synced.ensures.images.each file (record { told = is_measured; only = only })) in
-      joined M S old c.len.new.self c.write_synced.new.disk P measured making;
+      let making = weaker (at c.len.new.self) (at c.write_synced.new.disk) (Torn 0 9 file) P (λ x torn. inr (omega (arith, size), omega (arith, torn.no_longer, size))) (c.write_synced.ensures.images.each file (record { told = is_measured; only = only })) in
+      joined (at old) (at c.len.new.self) (at c.write_synced.new.disk) P measured making;
 }
 
 pub returns-then-len-clause-images : goal.returns-then-len-clause-images
 returns-then-len-clause-images g c = record {
   each = λ file rest.
       let P = Untouched file in
-      let M = g.D.Disk.moment in
-      let S = g.D.Disk.images_since in
+      let at = g.D.Disk.seen in
       let old = c.args.disk.now in
       let same : (x : List ℕ) → x ≡ file → P x = λ x is. inl is in
-      let at_start = started M S old P (λ x since. same x (rest.only x (g.met.D.Disk.only_now old x since))) in
-      let synced = goes_on M S old old c.sync.new.self P _ at_start c.sync.ensures.time (λ x now. same x (rest.only x (c.sync.ensures.images x now))) in
-      let only : (x : List ℕ) → g.D.Disk.images c.len.new.self x → x ≡ file = λ x now. rest.only x (c.sync.ensures.images x (c.len.ensures.images.no_more x now)) in
-      let measured = goes_on M S old c.sync.new.self c.len.new.self P _ synced c.len.ensures.time (λ x now. same x (only x now)) in
-      let is_synced : g.D.Disk.contents c.sync.new.self ≡ Some file = c.in_ok-sync.ensures.contents ∙ rest.told in
-      let is_measured : g.D.Disk.contents c.len.new.self ≡ Some file = c.len.ensures.contents ∙ is_synced in
+      let at_start = started (at old) P (λ x since. same x (rest.only x (g.met.D.Disk.only_now old x since))) in
+      let synced = goes_on (at old) (at old) (at c.sync.new.self) P _ at_start c.sync.ensures.time (λ x now. same x (rest.only x (c.sync.ensures.images x now))) in
+      let only : (x : List ℕ) → (g.D.Disk.seen c.len.new.self).images x → x ≡ file = λ x now. rest.only x (c.sync.ensures.images x (c.len.ensures.images.no_more x now)) in
+      let measured = goes_on (at old) (at c.sync.new.self) (at c.len.new.self) P _ synced c.len.ensures.time (λ x now. same x (only x now)) in
+      let is_synced : (g.D.Disk.seen c.sync.new.self).contents ≡ Some file = c.in_ok-sync.ensures.contents ∙ rest.told in
+      let is_measured : (g.D.Disk.seen c.len.new.self).contents ≡ Some file = c.len.ensures.contents ∙ is_synced in
       let size = told_at (λ (l : List ℕ). c.in_ok-len.len ≡ length l) file is_synced c.in_ok-len.ensures.length in
-      let making = weaker M S c.len.new.self c.write_synced.new.disk (Torn 0 9 file) P (λ x torn. inr (omega (arith, size), omega (arith, torn.no_longer, size))) (c.write_synced.ensures.images.each file (record { told = is_measured; only = only })) in
-      joined M S old c.len.new.self c.write_synced.new.disk P measured making;
+      let making = weaker (at c.len.new.self) (at c.write_synced.new.disk) (Torn 0 9 file) P (λ x torn. inr (omega (arith, size), omega (arith, torn.no_longer, size))) (c.write_synced.ensures.images.each file (record { told = is_measured; only = only })) in
+      joined (at old) (at c.len.new.self) (at c.write_synced.new.disk) P measured making;
 }
 
 -- ---- a new journal was written over at most 9 bytes
 
 module _ (g : Over) (c : In_ok-write_synced g) where
-  made : Begun (g.D.Disk.contents c.args.disk.now) (g.D.Disk.contents c.write_synced.new.disk)
+  made : Begun (g.D.Disk.seen c.args.disk.now).contents (g.D.Disk.seen c.write_synced.new.disk).contents
   made =
-      begun (g.D.Disk.contents c.args.disk.now) (g.D.Disk.contents c.write_synced.new.disk)
-      (if_told (g.D.Disk.contents c.args.disk.now) (λ file. length file ≤ 9) (λ file told.
+      begun (g.D.Disk.seen c.args.disk.now).contents (g.D.Disk.seen c.write_synced.new.disk).contents
+      (if_told (g.D.Disk.seen c.args.disk.now).contents (λ file. length file ≤ 9) (λ file told.
       let size = told_at (λ (l : List ℕ). c.in_ok-len.len ≡ length l) file (c.in_ok-sync.ensures.contents ∙ told) c.in_ok-len.ensures.length in
       omega (arith, size, c.if-len.true)))
       (c.in_ok-write_synced.ensures.written ∙ ap (option_map (overwritten 0 (journal_bytes newest []))) (c.len.ensures.contents ∙ c.in_ok-sync.ensures.contents))

@@ -8,9 +8,9 @@ pub returns-in_err-cut-clause-images : goal.returns-in_err-cut-clause-images
 returns-in_err-cut-clause-images g c = record {
   each = λ file rest.
       let P = (Shortened c.args.len file) in
-      let here = λ (x : List ℕ) (now : g.D.Disk.images c.cut.new.self x). let from = c.cut.ensures.images x now in subst (λ (d : List ℕ). Shortened c.args.len d x) (rest.only from.0 from.1) from.2 in
-      let at_start = started g.D.Disk.moment g.D.Disk.images_since c.args.disk.now P (λ x since. subst P (sym (rest.only x (g.met.D.Disk.only_now c.args.disk.now x since))) (shortened_same c.args.len file)) in
-      let changed = goes_on g.D.Disk.moment g.D.Disk.images_since c.args.disk.now c.args.disk.now c.cut.new.self P _ at_start c.cut.ensures.time here in
+      let here = λ (x : List ℕ) (now : (g.D.Disk.seen c.cut.new.self).images x). let from = c.cut.ensures.images x now in subst (λ (d : List ℕ). Shortened c.args.len d x) (rest.only from.0 from.1) from.2 in
+      let at_start = started (g.D.Disk.seen c.args.disk.now) P (λ x since. subst P (sym (rest.only x (g.met.D.Disk.only_now c.args.disk.now x since))) (shortened_same c.args.len file)) in
+      let changed = goes_on (g.D.Disk.seen c.args.disk.now) (g.D.Disk.seen c.args.disk.now) (g.D.Disk.seen c.cut.new.self) P _ at_start c.cut.ensures.time here in
       changed;
 }
 
@@ -18,18 +18,18 @@ pub returns-in_err-sync-clause-images : goal.returns-in_err-sync-clause-images
 returns-in_err-sync-clause-images g c = record {
   each = λ file rest.
       let P = (Shortened c.args.len file) in
-      let here = λ (x : List ℕ) (now : g.D.Disk.images c.cut.new.self x). let from = c.cut.ensures.images x now in subst (λ (d : List ℕ). Shortened c.args.len d x) (rest.only from.0 from.1) from.2 in
-      let at_start = started g.D.Disk.moment g.D.Disk.images_since c.args.disk.now P (λ x since. subst P (sym (rest.only x (g.met.D.Disk.only_now c.args.disk.now x since))) (shortened_same c.args.len file)) in
-      let changed = goes_on g.D.Disk.moment g.D.Disk.images_since c.args.disk.now c.args.disk.now c.cut.new.self P _ at_start c.cut.ensures.time here in
-      goes_on g.D.Disk.moment g.D.Disk.images_since c.args.disk.now c.cut.new.self c.sync.new.self P _ changed c.sync.ensures.time (λ x now. here x (c.sync.ensures.images x now));
+      let here = λ (x : List ℕ) (now : (g.D.Disk.seen c.cut.new.self).images x). let from = c.cut.ensures.images x now in subst (λ (d : List ℕ). Shortened c.args.len d x) (rest.only from.0 from.1) from.2 in
+      let at_start = started (g.D.Disk.seen c.args.disk.now) P (λ x since. subst P (sym (rest.only x (g.met.D.Disk.only_now c.args.disk.now x since))) (shortened_same c.args.len file)) in
+      let changed = goes_on (g.D.Disk.seen c.args.disk.now) (g.D.Disk.seen c.args.disk.now) (g.D.Disk.seen c.cut.new.self) P _ at_start c.cut.ensures.time here in
+      goes_on (g.D.Disk.seen c.args.disk.now) (g.D.Disk.seen c.cut.new.self) (g.D.Disk.seen c.sync.new.self) P _ changed c.sync.ensures.time (λ x now. here x (c.sync.ensures.images x now));
 }
 
 pub returns-clause-images : goal.returns-clause-images
 returns-clause-images g c = record {
   each = λ file rest.
       let P = (Shortened c.args.len file) in
-      let here = λ (x : List ℕ) (now : g.D.Disk.images c.cut.new.self x). let from = c.cut.ensures.images x now in subst (λ (d : List ℕ). Shortened c.args.len d x) (rest.only from.0 from.1) from.2 in
-      let at_start = started g.D.Disk.moment g.D.Disk.images_since c.args.disk.now P (λ x since. subst P (sym (rest.only x (g.met.D.Disk.only_now c.args.disk.now x since))) (shortened_same c.args.len file)) in
-      let changed = goes_on g.D.Disk.moment g.D.Disk.images_since c.args.disk.now c.args.disk.now c.cut.new.self P _ at_start c.cut.ensures.time here in
-      goes_on g.D.Disk.moment g.D.Disk.images_since c.args.disk.now c.cut.new.self c.sync.new.self P _ changed c.sync.ensures.time (λ x now. here x (c.sync.ensures.images x now));
+      let here = λ (x : List ℕ) (now : (g.D.Disk.seen c.cut.new.self).images x). let from = c.cut.ensures.images x now in subst (λ (d : List ℕ). Shortened c.args.len d x) (rest.only from.0 from.1) from.2 in
+      let at_start = started (g.D.Disk.seen c.args.disk.now) P (λ x since. subst P (sym (rest.only x (g.met.D.Disk.only_now c.args.disk.now x since))) (shortened_same c.args.len file)) in
+      let changed = goes_on (g.D.Disk.seen c.args.disk.now) (g.D.Disk.seen c.args.disk.now) (g.D.Disk.seen c.cut.new.self) P _ at_start c.cut.ensures.time here in
+      goes_on (g.D.Disk.seen c.args.disk.now) (g.D.Disk.seen c.cut.new.self) (g.D.Disk.seen c.sync.new.self) P _ changed c.sync.ensures.time (λ x now. here x (c.sync.ensures.images x now));
 }

@@ -2,4 +2,4 @@ use Rattle.ucon_journal.specs.Journal.{IsReading}
 use Rattle.ucon_lower_tests.proofs.journal.read_into.Given as goal
 
 abbrev pub invariant-records : goal.invariant-records
-invariant-records g l = IsReading g.D.Disk.contents l.journal
+invariant-records g l = IsReading g.D.Disk.seen l.journal

@@ -18,11 +18,9 @@ returns c =
       opening = c.each_action_is_followed.ensures.opening;
       after = c.each_action_is_followed.ensures.after;
       legal = c.traces_of_histories_are_legal.ensures;
-      keeps = c.tables_keep_what_is_followed.ensures;
       alike = c.states_follow_what_reads_alike.ensures;
       point = c.histories_are_in_order.ensures.point;
+      order = c.histories_are_in_order.ensures.order;
       read = c.texts_are_of_rows.ensures.read;
-      held = c.rows_make_what_they_say.ensures.held;
-      followed = c.rows_make_what_they_say.ensures.followed;
     } in
     stands_around points payloads

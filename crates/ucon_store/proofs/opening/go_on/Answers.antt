@@ -21,20 +21,19 @@ use Rattle.ucon_store.proofs.opening.go_on.Goals as goal
 
 module _ (g : Over) (c : After-take_all g) where
   -- what is there then is what was there first
-  told : g.D.Disk.contents (disk_of c.take_all.new.journal) ≡ g.D.Disk.contents (disk_of c.args.journal.now)
+  told : (g.D.Disk.seen (disk_of c.take_all.new.journal)).contents ≡ (g.D.Disk.seen (disk_of c.args.journal.now)).contents
   told = c.take_all.ensures.contents ∙ c.start.ensures.contents
 
-  leaves_read : LeavesAfter g.D.Disk.contents g.D.Disk.images g.D.Disk.moment g.D.Disk.images_since (disk_of c.args.journal.now)
-      (disk_of c.take_all.new.journal) (Opens c.args.policy.now)
+  leaves_read : LeavesAfter (g.D.Disk.seen (disk_of c.args.journal.now)) (g.D.Disk.seen (disk_of c.take_all.new.journal)) (Opens c.args.policy.now)
   leaves_read =
-      then_opens g.D.Disk.contents g.D.Disk.images g.D.Disk.moment g.D.Disk.images_since c.args.policy.now (disk_of c.args.journal.now)
+      then_opens g.D.Disk.seen c.args.policy.now (disk_of c.args.journal.now)
       (disk_of c.start.new.journal) (disk_of c.take_all.new.journal) c.start.ensures.contents c.start.ensures.images c.start.ensures.run
-      (read_opens g.D.Disk.contents g.D.Disk.images g.D.Disk.moment g.D.Disk.images_since c.args.policy.now (disk_of c.start.new.journal)
+      (read_opens g.D.Disk.seen c.args.policy.now (disk_of c.start.new.journal)
       (disk_of c.take_all.new.journal) c.take_all.ensures.run)
 
 pub returns-in_err-loaded-clause-images : goal.returns-in_err-loaded-clause-images
 returns-in_err-loaded-clause-images g c =
-    read_opens g.D.Disk.contents g.D.Disk.images g.D.Disk.moment g.D.Disk.images_since c.args.policy.now (disk_of c.args.journal.now) (disk_of c.start.new.journal) c.start.ensures.run
+    read_opens g.D.Disk.seen c.args.policy.now (disk_of c.args.journal.now) (disk_of c.start.new.journal) c.start.ensures.run
 
 pub returns-in_err-take_all-clause-images : goal.returns-in_err-take_all-clause-images
 returns-in_err-take_all-clause-images g c = leaves_read g (goal.at.returns-in_err-take_all-clause-images g c).After-take_all
@@ -45,7 +44,7 @@ returns-in-Some-clause-images g c = leaves_read g (goal.at.returns-in-Some-claus
 -- ---- what is there was read whole
 
 module _ (g : Over) (c : In_ok-take_all g) where
-  read : IfSome (g.D.Disk.contents (disk_of c.args.journal.now))
+  read : IfSome (g.D.Disk.seen (disk_of c.args.journal.now)).contents
       (IsReadWhole c.take_all.new.self.policy.items c.in_ok-take_all.ensures.loaded.standing.P
       (payload_in c.take_all.new.self.point) c.take_all.new.self.before c.take_all.new.self.entries.items)
   read =
@@ -61,7 +60,7 @@ returns-in-Some-clause-reason g c =
     let text = c.args.policy.now in
     let differs : first_difference l.policy.items text ≡ Some c.in-Some.place =
     ap (λ (x : Bytes). first_difference x text) (sym c.deref.ensures.value) ∙ sym c.first_difference.ensures ∙ c.in-Some.is in (
-      other_told (g.D.Disk.contents (disk_of c.args.journal.now)) l.policy.items text standing.P
+      other_told (g.D.Disk.seen (disk_of c.args.journal.now)).contents l.policy.items text standing.P
           (payload_in l.point) l.before l.entries.items c.in-Some.place
           standing.accepts standing.begun standing.starts differs (read g (goal.at.returns-in-Some-clause-reason g c).In_ok-take_all),
       c.in_ok-take_all.ensures.unfailed ∙ c.in_ok-loaded.ensures.unfailed,
@@ -77,7 +76,7 @@ pub returns-clause-payloads : goal.returns-clause-payloads
 returns-clause-payloads g c =
     let ended = c.take_all.new.journal in
     subst (λ (o : Option Bytes). IfSome o (λ file. length (counted file) < 2 ^ 63)) (told g (goal.at.returns-clause-payloads g c).After-take_all)
-    (few_payloads g.D.Disk.contents ended (g.D.Disk.contents (disk_of ended)) ended.gate_small c.in_ok-take_all.ensures.ended.told)
+    (few_payloads g.D.Disk.seen ended (g.D.Disk.seen (disk_of ended)).contents ended.gate_small c.in_ok-take_all.ensures.ended.told)
 
 -- ---- it has this policy, and is mended
 
@@ -85,23 +84,19 @@ module _ (g : Over) (c : After-mend g) where
   same : c.take_all.new.self.policy.items ≡ c.args.policy.now
   same = sym c.deref.ensures.value ∙ no_difference c.deref.result.now c.args.policy.now (sym c.first_difference.ensures ∙ c.in_default.is)
 
-  leaves_mended : LeavesAfter g.D.Disk.contents g.D.Disk.images g.D.Disk.moment g.D.Disk.images_since (disk_of c.args.journal.now)
-      (disk_of c.mend.new.self) (Opens c.args.policy.now)
+  leaves_mended : LeavesAfter (g.D.Disk.seen (disk_of c.args.journal.now)) (g.D.Disk.seen (disk_of c.mend.new.self)) (Opens c.args.policy.now)
   leaves_mended =
       let text = c.args.policy.now in
       let standing = c.in_ok-take_all.ensures.loaded.standing in
       let l = c.take_all.new.self in
-      let contents = g.D.Disk.contents in
-      let images = g.D.Disk.images in
-      let moment = g.D.Disk.moment in
-      let since = g.D.Disk.images_since in
+      let seen = g.D.Disk.seen in
       let started = disk_of c.start.new.journal in
       let mid = disk_of c.take_all.new.journal in
-      let home = home_told (contents mid) l.policy.items text standing.P (payload_in l.point) l.before l.entries.items
+      let home = home_told (seen mid).contents l.policy.items text standing.P (payload_in l.point) l.before l.entries.items
       c.opening_sees_one_thing.ensures.one standing.accepts standing.begun standing.starts same c.in_ok-take_all.ensures.loaded.says in
-      then_opens contents images moment since text (disk_of c.args.journal.now) started (disk_of c.mend.new.self) c.start.ensures.contents c.start.ensures.images c.start.ensures.run
-      (then_opens contents images moment since text started mid (disk_of c.mend.new.self) c.take_all.ensures.contents c.take_all.ensures.images c.take_all.ensures.run
-      (mend_opens contents images moment since text mid (disk_of c.mend.new.self) home c.mend.ensures.images))
+      then_opens seen text (disk_of c.args.journal.now) started (disk_of c.mend.new.self) c.start.ensures.contents c.start.ensures.images c.start.ensures.run
+      (then_opens seen text started mid (disk_of c.mend.new.self) c.take_all.ensures.contents c.take_all.ensures.images c.take_all.ensures.run
+      (mend_opens seen text mid (disk_of c.mend.new.self) home c.mend.ensures.images))
 
 pub returns-in_err-mend-clause-images : goal.returns-in_err-mend-clause-images
 returns-in_err-mend-clause-images g c = leaves_mended g (goal.at.returns-in_err-mend-clause-images g c).After-mend
@@ -117,22 +112,22 @@ returns-clause-read g c = λ P accepts.
     let standing = c.in_ok-take_all.ensures.loaded.standing in
     let l = c.take_all.new.self in
     let is = same g (goal.at.returns-clause-read g c).After-mend in
-    read_told (g.D.Disk.contents (disk_of c.args.journal.now)) l.policy.items c.args.policy.now standing.P P
+    read_told (g.D.Disk.seen (disk_of c.args.journal.now)).contents l.policy.items c.args.policy.now standing.P P
     (payload_in l.point) l.before l.entries.items is
     (one_policy l.policy.items standing.P P standing.accepts (ap accepted is ∙ accepts)) (read g (goal.at.returns-clause-read g c).In_ok-take_all)
 
 module _ (g : Over) (c : In_ok-mend g) where
-  mended : IsMended (points_of (version_of c.take_all.new.journal)) (g.D.Disk.contents (disk_of c.args.journal.now))
-      (g.D.Disk.contents (disk_of c.mend.new.self))
+  mended : IsMended (points_of (version_of c.take_all.new.journal)) (g.D.Disk.seen (disk_of c.args.journal.now)).contents
+      (g.D.Disk.seen (disk_of c.mend.new.self)).contents
   mended =
-      mended_told g.D.Disk.contents c.take_all.new.journal c.mend.new.self
+      mended_told g.D.Disk.seen c.take_all.new.journal c.mend.new.self
       (c.take_all.ensures.contents ∙ c.start.ensures.contents) c.in_ok-take_all.ensures.ended
       c.in_ok-mend.ensures.closed c.mend.ensures.version c.in_ok-mend.ensures.same
 
 pub returns-clause-kept : goal.returns-clause-kept
 returns-clause-kept g c =
     let l = c.take_all.new.self in
-    kept_mended (g.D.Disk.contents (disk_of c.args.journal.now)) (g.D.Disk.contents (disk_of c.mend.new.self))
+    kept_mended (g.D.Disk.seen (disk_of c.args.journal.now)).contents (g.D.Disk.seen (disk_of c.mend.new.self)).contents
     (points_of (version_of c.take_all.new.journal))
     l.policy.items c.args.policy.now c.in_ok-take_all.ensures.loaded.standing.P (payload_in l.point) l.before l.entries.items
     (read g (goal.at.returns-clause-kept g c).In_ok-take_all) (mended g (goal.at.returns-clause-kept g c).In_ok-mend)

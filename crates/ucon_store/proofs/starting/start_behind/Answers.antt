@@ -15,11 +15,11 @@ use Rattle.ucon_store.proofs.starting.start_behind.Goals as goal
 
 pub take_point-requires-clause-upto : goal.take_point-requires-clause-upto
 take_point-requires-clause-upto g c =
-    comes_told (payload_of c.args.journal.now) (gate_of c.args.journal.now) c.args.last c.requires.gate (g.D.Disk.contents (disk_of c.args.journal.now)) c.requires.walked
+    comes_told (payload_of c.args.journal.now) (gate_of c.args.journal.now) c.args.last c.requires.gate (g.D.Disk.seen (disk_of c.args.journal.now)).contents c.requires.walked
 
 pub returns-in_default-clause-reason : goal.returns-in_default-clause-reason
 returns-in_default-clause-reason g c = λ _.
-    let o = g.D.Disk.contents (disk_of c.args.journal.now) in
+    let o = (g.D.Disk.seen (disk_of c.args.journal.now)).contents in
     let text = payload_of c.args.journal.now in
     let gate = gate_of c.args.journal.now in
     let next = gate_of c.take_point.new.journal in
@@ -34,7 +34,7 @@ returns-in_default-clause-reason g c = λ _.
 
 pub returns-clause-loading : goal.returns-clause-loading
 returns-clause-loading g c =
-    let o = g.D.Disk.contents (disk_of c.args.journal.now) in
+    let o = (g.D.Disk.seen (disk_of c.args.journal.now)).contents in
     let text = payload_of c.args.journal.now in
     let gate = gate_of c.args.journal.now in
     let next = gate_of c.take_point.new.journal in

@@ -31,15 +31,15 @@ returns-in-Ok-open-clause-played g c =
     let lines = lines_spelled c.in-Ok.script in
     let accepts : accepted text ≡ Some P =
     ap accepted c.policy_part.ensures ∙ (c.accepted_texts_spell_typed_policies.ensures (policy_part bytes) P).1 (some.has_policy.spelled, some.has_policy.typed) in
-    let opened : IsOpened g.D.Disk.contents g.D.Disk.images g.D.Disk.moment g.D.Disk.images_since g.D.Disk.faults P text c.args.disk store =
-    opened_so g.D.Disk.contents g.D.Disk.images g.D.Disk.moment g.D.Disk.images_since g.D.Disk.faults P text c.args.disk store accepts told.store told.images told.unfailed told.tells
+    let opened : IsOpened g.D.Disk.seen P text c.args.disk store =
+    opened_so g.D.Disk.seen P text c.args.disk store accepts told.store told.images told.unfailed told.tells
     told.leads told.seen told.founded in
     let same : map entry_of c.slice.result.now ≡ entries_of lines = ap (map entry_of) c.slice.ensures ∙ sym (map-map said_entry spelled_line c.in-Ok.script.lines.items) in
-    let run = subst (λ (es : List Entry). IsClosedRun g.D.Disk.contents g.D.Disk.images g.D.Disk.moment g.D.Disk.images_since g.D.Disk.faults in_text_order P store es
-    c.play_lines.result.outcome c.play_lines.result.disk (g.K.Sink.contents c.args.out.now) (g.K.Sink.contents c.play_lines.new.out)) same
+    let run = subst (λ (es : List Entry). IsClosedRun g.D.Disk.seen in_text_order P store es
+    c.play_lines.result.outcome c.play_lines.result.disk (g.K.Sink.seen c.args.out.now).contents (g.K.Sink.seen c.play_lines.new.out).contents) same
     (c.play_lines.ensures.run P (ap accepted told.store.0 ∙ accepts)) in
-    ends_run g.D.Disk.contents g.D.Disk.images g.D.Disk.moment g.D.Disk.images_since g.D.Disk.faults P text c.args.disk store opened Play bytes lines c.policy_part.ensures some.has_policy
-    c.in-Ok.ensures.says c.play_lines.result.disk g.K.Sink.contents c.args.out.now c.play_lines.new.out c.play_lines.result.outcome c.play_lines.ensures.of_run run
+    ends_run g.D.Disk.seen P text c.args.disk store opened Play bytes lines c.policy_part.ensures some.has_policy
+    c.in-Ok.ensures.says c.play_lines.result.disk (g.K.Sink.seen c.args.out.now) (g.K.Sink.seen c.play_lines.new.out) c.play_lines.result.outcome c.play_lines.ensures.of_run run
 
 pub returns-in-Ok-open-clause-fault : goal.returns-in-Ok-open-clause-fault
 returns-in-Ok-open-clause-fault g c = λ is.
@@ -51,7 +51,7 @@ returns-in-Ok-open-clause-fault g c = λ is.
     let lines = map entry_of c.slice.result.now in
     let reads : accepted store.policy ≡ Some P =
     ap accepted (told.store.0 ∙ c.policy_part.ensures) ∙ (c.accepted_texts_spell_typed_policies.ensures (policy_part bytes) P).1 (some.has_policy.spelled, some.has_policy.typed) in
-    let run = subst (λ (o : Outcome). IsClosedRun g.D.Disk.contents g.D.Disk.images g.D.Disk.moment g.D.Disk.images_since g.D.Disk.faults in_text_order P store lines
-    o c.play_lines.result.disk (g.K.Sink.contents c.args.out.now) (g.K.Sink.contents c.play_lines.new.out)) is (c.play_lines.ensures.run P reads) in
-    run_raised g.D.Disk.contents g.D.Disk.images g.D.Disk.moment g.D.Disk.images_since g.D.Disk.faults in_text_order P c.args.disk store told.store.2 told.unfailed lines
-    c.play_lines.result.disk (g.K.Sink.contents c.args.out.now) (g.K.Sink.contents c.play_lines.new.out) run
+    let run = subst (λ (o : Outcome). IsClosedRun g.D.Disk.seen in_text_order P store lines
+    o c.play_lines.result.disk (g.K.Sink.seen c.args.out.now).contents (g.K.Sink.seen c.play_lines.new.out).contents) is (c.play_lines.ensures.run P reads) in
+    run_raised g.D.Disk.seen in_text_order P c.args.disk store told.store.2 told.unfailed lines
+    c.play_lines.result.disk (g.K.Sink.seen c.args.out.now).contents (g.K.Sink.seen c.play_lines.new.out).contents run

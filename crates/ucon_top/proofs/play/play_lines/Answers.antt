@@ -16,10 +16,10 @@ returns-in-Ok-clause-run g c = λ P accepts.
     let store = c.args.store in
     let closed = c.steps_text-text.new.store in
     let lines = map entry_of c.args.lines.now in
-    let before = g.K.Sink.contents c.args.out.now in
-    let now = g.K.Sink.contents c.write_output.new.out in
-    let failed = g.K.Sink.faults c.args.out.now in
-    let fails = g.K.Sink.faults c.write_output.new.out in
+    let before = (g.K.Sink.seen c.args.out.now).contents in
+    let now = (g.K.Sink.seen c.write_output.new.out).contents in
+    let failed = (g.K.Sink.seen c.args.out.now).faults in
+    let fails = (g.K.Sink.seen c.write_output.new.out).faults in
     let stopped = c.is_some-stopped.result in
     let is_stopped : is_some closed.mark ≡ stopped = search rules in
     let written : IsWritten c.write_output.result c.in-Ok.text.items stopped before now failed fails =
@@ -41,7 +41,7 @@ returns-in-Err-clause-run g c = λ P accepts.
     let store = c.args.store in
     let closed = c.steps_text-text.new.store in
     let lines = map entry_of c.args.lines.now in
-    let before = g.K.Sink.contents c.args.out.now in
+    let before = (g.K.Sink.seen c.args.out.now).contents in
     record {
       closed = closed;
       closes = record {
@@ -54,5 +54,5 @@ returns-in-Err-clause-run g c = λ P accepts.
 
 pub returns-in-Ok-clause-sink : goal.returns-in-Ok-clause-sink
 returns-in-Ok-clause-sink g c =
-    subst (λ (o : Outcome). IsCounted o SinkFault (g.K.Sink.faults c.args.out.now) (g.K.Sink.faults c.write_output.new.out)) (sym c.by.ensures.outcome)
+    subst (λ (o : Outcome). IsCounted o SinkFault (g.K.Sink.seen c.args.out.now).faults (g.K.Sink.seen c.write_output.new.out).faults) (sym c.by.ensures.outcome)
     (counted c.write_output.result _ _ _ _ _ _ c.write_output.ensures)

@@ -26,21 +26,17 @@ returns-in-Ok-open-clause-pointed g c =
     let some = c.in-Ok.ensures.policy in
     let P = some.policy in
     let is_text = c.policy_part.ensures in
-    let contents = g.D.Disk.contents in
-    let images = g.D.Disk.images in
-    let moment = g.D.Disk.moment in
-    let images_since = g.D.Disk.images_since in
-    let faults = g.D.Disk.faults in
+    let seen = g.D.Disk.seen in
     let accepts : accepted c.policy_part.result.now ≡ Some P =
     ap accepted is_text ∙ (c.accepted_texts_spell_typed_policies.ensures text P).1 (some.has_policy.spelled, some.has_policy.typed) in
-    let opened : IsOpened contents images moment images_since faults P text c.args.disk store =
-    subst (λ (t : Bytes). IsOpened contents images moment images_since faults P t c.args.disk store) is_text
-    (opened_so contents images moment images_since faults P c.policy_part.result.now c.args.disk store accepts told.store told.images told.unfailed told.tells told.leads told.seen told.founded) in
+    let opened : IsOpened seen P text c.args.disk store =
+    subst (λ (t : Bytes). IsOpened seen P t c.args.disk store) is_text
+    (opened_so seen P c.policy_part.result.now c.args.disk store accepts told.store told.images told.unfailed told.tells told.leads told.seen told.founded) in
     let start = told.leads P accepts in
     let laws = g.met.D.Disk in
-    let moments : HasMoments images moment images_since = record { counts_now = laws.counts_now; only_now = laws.only_now } in
-    pointed contents images moment images_since faults moments bytes P some.has_policy c.args.disk store opened told.places told.old g.K.Sink.contents c.args.out.now c.point_opened.new.out
-    c.point_opened.result.disk c.point_opened.result.outcome c.point_opened.ensures.failed
+    let moments : HasMoments seen = record { counts_now = laws.counts_now; only_now = laws.only_now } in
+    pointed seen moments bytes P some.has_policy c.args.disk store opened told.places told.old (g.K.Sink.seen c.args.out.now) (g.K.Sink.seen c.point_opened.new.out)
+    c.point_opened.result.disk c.point_opened.result.outcome (λ is. ap g.K.Sink.seen (c.point_opened.ensures.failed is))
     (c.point_opened.ensures.ends P start.0 (ap accepted told.store.0 ∙ accepts) start.1)
 
 pub returns-in-Ok-open-clause-fault : goal.returns-in-Ok-open-clause-fault
@@ -53,7 +49,7 @@ returns-in-Ok-open-clause-fault g c = λ is.
     let accepts : accepted c.policy_part.result.now ≡ Some P =
     ap accepted c.policy_part.ensures ∙ (c.accepted_texts_spell_typed_policies.ensures text P).1 (some.has_policy.spelled, some.has_policy.typed) in
     let start = told.leads P accepts in
-    let ends = subst (λ (o : Outcome). EndsPoint g.D.Disk.contents g.D.Disk.images g.D.Disk.moment g.D.Disk.images_since g.D.Disk.faults P store c.point_opened.result.disk
-    (g.K.Sink.contents c.args.out.now) (g.K.Sink.contents c.point_opened.new.out) o) is
+    let ends = subst (λ (o : Outcome). EndsPoint g.D.Disk.seen P store c.point_opened.result.disk
+    (g.K.Sink.seen c.args.out.now).contents (g.K.Sink.seen c.point_opened.new.out).contents o) is
     (c.point_opened.ensures.ends P start.0 (ap accepted told.store.0 ∙ accepts) start.1) in
     ends.1 ∙ ap raised told.unfailed

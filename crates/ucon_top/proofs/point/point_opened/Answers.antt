@@ -18,20 +18,20 @@ returns-in-Ok-clause-failed g c = λ is.
 pub returns-in-Ok-clause-ends : goal.returns-in-Ok-clause-ends
 returns-in-Ok-clause-ends g c = λ P T accepts starts.
     rw (c.by.ensures.outcome, c.by.ensures.disk) (
-    told_end g.D.Disk.contents g.D.Disk.images g.D.Disk.moment g.D.Disk.images_since g.D.Disk.faults P c.args.store c.in-Ok.disk (g.K.Sink.contents c.args.out.now)
-    (g.K.Sink.contents c.tell_point.new.out) (g.K.Sink.faults c.args.out.now) (g.K.Sink.faults c.tell_point.new.out) c.tell_point.result c.in-Ok.entries c.in-Ok.ensures.entries
+    told_end g.D.Disk.seen P c.args.store c.in-Ok.disk (g.K.Sink.seen c.args.out.now).contents
+    (g.K.Sink.seen c.tell_point.new.out).contents (g.K.Sink.seen c.args.out.now).faults (g.K.Sink.seen c.tell_point.new.out).faults c.tell_point.result c.in-Ok.entries c.in-Ok.ensures.entries
     (c.in-Ok.ensures.put P) c.tell_point.ensures
     )
 
 pub returns-in-Err-clause-ends : goal.returns-in-Err-clause-ends
 returns-in-Err-clause-ends g c = λ P T accepts starts.
-    let was = g.K.Sink.contents c.args.out.now in
+    let was = (g.K.Sink.seen c.args.out.now).contents in
     rw (c.by-in-Err.ensures.outcome, c.by-in-Err.ensures.disk) (
-    same_end g.D.Disk.contents g.D.Disk.images g.D.Disk.moment g.D.Disk.images_since g.D.Disk.faults P c.args.store c.in-Err.disk was was c.in-Err.outcome c.in-Err.ensures.of_none
+    same_end g.D.Disk.seen P c.args.store c.in-Err.disk was was c.in-Err.outcome c.in-Err.ensures.of_none
     (c.in-Err.ensures.ends P T accepts starts)
     )
 
 pub returns-in-Ok-clause-sink : goal.returns-in-Ok-clause-sink
 returns-in-Ok-clause-sink g c =
-    subst (λ (o : Outcome). IsCounted o SinkFault (g.K.Sink.faults c.args.out.now) (g.K.Sink.faults c.tell_point.new.out)) (sym c.by.ensures.outcome)
+    subst (λ (o : Outcome). IsCounted o SinkFault (g.K.Sink.seen c.args.out.now).faults (g.K.Sink.seen c.tell_point.new.out).faults) (sym c.by.ensures.outcome)
     (counted c.tell_point.result _ _ _ _ _ _ c.tell_point.ensures)

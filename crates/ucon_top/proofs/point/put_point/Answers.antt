@@ -18,19 +18,15 @@ returns-in-Ok-pointed-clause-put g c = λ P.
     let entries = c.in-Ok-pointed.entries in
     let is = c.in-Ok-pointed.is in
     let told = c.in-Ok.ensures in
-    let contents = g.D.Disk.contents in
-    let images = g.D.Disk.images in
-    let moment = g.D.Disk.moment in
-    let images_since = g.D.Disk.images_since in
-    let faults = g.D.Disk.faults in
+    let seen = g.D.Disk.seen in
     let same = (ok_so r entries _ is told.pointed).0 in
     let stays = ok_on r entries _ is told.stays in (
-      λ G f. put_so contents images moment images_since faults G store next c.close.result c.close.ensures.disk
+      λ G f. put_so seen G store next c.close.result c.close.ensures.disk
           same stays (λ file. ok_on r entries _ is told.inside P G file f)
           (λ before file. ok_on r entries _ is told.added P G before file f) P (ok_on r entries _ is told.founded P G f)
           f.front (ok_on r entries _ is told.fits P (trace P G) f.accepts f.front.starts),
       ok_on r entries _ is told.second,
-      ap faults c.close.ensures.disk ∙ stays.unfailed (ap is_some same.mark),
+      ap (λ d. (seen d).faults) c.close.ensures.disk ∙ stays.unfailed (ap is_some same.mark),
     )
 
 pub returns-in-Ok-pointed-clause-entries : goal.returns-in-Ok-pointed-clause-entries
@@ -52,7 +48,7 @@ returns-in-Err-pointed-clause-ends g c = λ P T accepts starts.
     let told = c.in-Ok.ensures in
     let disk = c.close-in-Err-pointed.result in
     let same : next ≡ store = err_so r refusal _ is told.same in
-    let why : (T : Trace) → IsStart P store.point store.before T → IsUnpointed g.D.Disk.contents P T store refusal = λ T starts. err_so r refusal _ is told.why P T accepts starts in
-    subst (λ (o : Outcome). EndsPoint g.D.Disk.contents g.D.Disk.images g.D.Disk.moment g.D.Disk.images_since g.D.Disk.faults P store disk None None o) (sym c.from.ensures)
-    (refused_end g.D.Disk.contents g.D.Disk.images g.D.Disk.moment g.D.Disk.images_since g.D.Disk.faults P store disk refusal
+    let why : (T : Trace) → IsStart P store.point store.before T → IsUnpointed g.D.Disk.seen P T store refusal = λ T starts. err_so r refusal _ is told.why P T accepts starts in
+    subst (λ (o : Outcome). EndsPoint g.D.Disk.seen P store disk None None o) (sym c.from.ensures)
+    (refused_end g.D.Disk.seen P store disk refusal
     (c.close-in-Err-pointed.ensures.disk ∙ ap (λ (s : Kept g.row.D.Denot). s.disk) same) c.requires T starts why)

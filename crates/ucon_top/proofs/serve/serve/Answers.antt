@@ -33,15 +33,15 @@ returns-in-Ok-open-clause-played g c =
     let accepts : accepted text ≡ Some P =
     ap accepted c.policy_part.ensures ∙ (c.accepted_texts_spell_typed_policies.ensures (policy_part c.args.bytes.now) P).1 (some.has_policy.spelled, some.has_policy.typed) in
     let same : map entry_of c.slice.result.now ≡ entries_of said = ap (map entry_of) c.slice.ensures ∙ sym (map-map said_entry spelled_line lines) in
-    let opened : IsOpened g.D.Disk.contents g.D.Disk.images g.D.Disk.moment g.D.Disk.images_since g.D.Disk.faults P text c.args.disk store =
-    opened_so g.D.Disk.contents g.D.Disk.images g.D.Disk.moment g.D.Disk.images_since g.D.Disk.faults P text c.args.disk store accepts e.store e.images e.unfailed e.tells e.leads e.seen e.founded in
-    let run : IsClosedRun g.D.Disk.contents g.D.Disk.images g.D.Disk.moment g.D.Disk.images_since g.D.Disk.faults own_answers P store (by_client (entries_of said))
-    c.serve_lines.result.outcome c.serve_lines.result.disk (g.K.Sink.contents c.args.out.now) (g.K.Sink.contents c.serve_lines.new.out) =
-    subst (λ (es : List Entry). IsClosedRun g.D.Disk.contents g.D.Disk.images g.D.Disk.moment g.D.Disk.images_since g.D.Disk.faults own_answers P store (by_client es)
-    c.serve_lines.result.outcome c.serve_lines.result.disk (g.K.Sink.contents c.args.out.now) (g.K.Sink.contents c.serve_lines.new.out)) same
+    let opened : IsOpened g.D.Disk.seen P text c.args.disk store =
+    opened_so g.D.Disk.seen P text c.args.disk store accepts e.store e.images e.unfailed e.tells e.leads e.seen e.founded in
+    let run : IsClosedRun g.D.Disk.seen own_answers P store (by_client (entries_of said))
+    c.serve_lines.result.outcome c.serve_lines.result.disk (g.K.Sink.seen c.args.out.now).contents (g.K.Sink.seen c.serve_lines.new.out).contents =
+    subst (λ (es : List Entry). IsClosedRun g.D.Disk.seen own_answers P store (by_client es)
+    c.serve_lines.result.outcome c.serve_lines.result.disk (g.K.Sink.seen c.args.out.now).contents (g.K.Sink.seen c.serve_lines.new.out).contents) same
     (c.serve_lines.ensures.run P (ap accepted e.store.0 ∙ accepts)) in
-    ends_run g.D.Disk.contents g.D.Disk.images g.D.Disk.moment g.D.Disk.images_since g.D.Disk.faults P text c.args.disk store opened Serve c.args.bytes.now said
-    c.policy_part.ensures some.has_policy c.in-Ok.ensures.says c.serve_lines.result.disk g.K.Sink.contents c.args.out.now c.serve_lines.new.out
+    ends_run g.D.Disk.seen P text c.args.disk store opened Serve c.args.bytes.now said
+    c.policy_part.ensures some.has_policy c.in-Ok.ensures.says c.serve_lines.result.disk (g.K.Sink.seen c.args.out.now) (g.K.Sink.seen c.serve_lines.new.out)
     c.serve_lines.result.outcome c.serve_lines.ensures.of_run run
 
 pub returns-in-Ok-open-clause-fault : goal.returns-in-Ok-open-clause-fault
@@ -52,10 +52,10 @@ returns-in-Ok-open-clause-fault g c = λ is.
     let e = c.in-Ok-open.ensures in
     let accepts : accepted store.policy ≡ Some P =
     ap accepted (e.store.0 ∙ c.policy_part.ensures) ∙ (c.accepted_texts_spell_typed_policies.ensures (policy_part c.args.bytes.now) P).1 (some.has_policy.spelled, some.has_policy.typed) in
-    let before = g.K.Sink.contents c.args.out.now in
-    let now = g.K.Sink.contents c.serve_lines.new.out in
+    let before = (g.K.Sink.seen c.args.out.now).contents in
+    let now = (g.K.Sink.seen c.serve_lines.new.out).contents in
     let lines = by_client (map entry_of c.slice.result.now) in
-    run_raised g.D.Disk.contents g.D.Disk.images g.D.Disk.moment g.D.Disk.images_since g.D.Disk.faults own_answers P c.args.disk store e.store.2 e.unfailed lines
+    run_raised g.D.Disk.seen own_answers P c.args.disk store e.store.2 e.unfailed lines
     c.serve_lines.result.disk before now
-    (subst (λ (o : Outcome). IsClosedRun g.D.Disk.contents g.D.Disk.images g.D.Disk.moment g.D.Disk.images_since g.D.Disk.faults own_answers P store lines
+    (subst (λ (o : Outcome). IsClosedRun g.D.Disk.seen own_answers P store lines
     o c.serve_lines.result.disk before now) is (c.serve_lines.ensures.run P accepts))

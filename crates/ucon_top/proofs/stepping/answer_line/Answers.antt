@@ -19,4 +19,4 @@ returns-in-Ok-clause-steps g c = λ P G accepts front.
     let is : line ≡ entry_of c.args.line.now = ap said_entry c.in-Ok.ensures in
     let gives : c.from.result ≡ answered_by c.step.result = search rules in
     subst (λ (z : Entry × Answer). Steps P (whole G was) (whole G now) z.0 (answer_of z.1)) (λ i. (is i, sym gives i))
-    (store_steps g.D.Disk.faults (accepted was.policy) P accepts c.texts_tell_changes.ensures was now G front line c.step.result s.stopped s.placed s.no_memory s.still s.failed)
+    (store_steps g.D.Disk.seen (accepted was.policy) P accepts was now G front line c.step.result s.stopped s.placed s.no_memory s.still s.failed)

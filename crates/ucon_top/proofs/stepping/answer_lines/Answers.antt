@@ -19,7 +19,7 @@ loop-line-preserved g c =
     let so_far = c.loop-line.invariant in
     let is : line ≡ get_or lines i line = ap entry_of c.line-item.is ∙ sym (get_or-map entry_of c.args.lines.now i c.line-item.result) in
     record {
-      stays = stays_again g.D.Disk.contents g.D.Disk.images g.D.Disk.moment g.D.Disk.images_since g.D.Disk.faults g.met.D.Disk.counts_now
+      stays = stays_again g.D.Disk.seen g.met.D.Disk.counts_now
           c.args.store.now c.loop-line.store c.answer_line-answer.new.store so_far.stays c.answer_line-answer.ensures.stays;
       room = omega (arith, so_far.room, c.in-Ok.ensures.spare);
       steps = λ P G accepts front.

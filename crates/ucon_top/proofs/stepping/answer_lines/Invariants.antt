@@ -11,7 +11,7 @@ use Rattle.ucon_top.proofs.stepping.answer_lines.Given as goal
 
 abbrev pub invariant-loop-line : goal.invariant-loop-line
 invariant-loop-line g l = record {
-  stays : Stays g.D.Disk.contents g.D.Disk.images g.D.Disk.moment g.D.Disk.images_since g.D.Disk.faults l.fn.store l.store;
+  stays : Stays g.D.Disk.seen l.fn.store l.store;
   room : length l.lines ≤ l.line-index + l.answered.spare;
   steps : (P : PlainPolicy) (G : History) → accepted l.fn.store.policy ≡ Some P → IsFront P l.fn.store G
       → HaveSteps P (whole G l.fn.store) (whole G l.store) (take l.line-index (map entry_of l.lines)) (map told_line l.answered.items);

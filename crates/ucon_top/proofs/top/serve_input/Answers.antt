@@ -1,36 +1,56 @@
 use denote.Exit.{no}
 use denote.Param.Send.{arg_send, param_send}
-use Rattle.std.proofs.Common.{◌≡◌, sym, subst}
+use Rattle.std.proofs.Common.{rules, ◌≡◌, sym, subst}
 use Rattle.std.specs.Prelude.{IfSome}
 use Rattle.ucon_model.specs.Plain.{Bytes}
 use Rattle.ucon_top.specs.declared.form.Form.TheVariants.{Serve}
+use Rattle.ucon_top.specs.Seen.{Seen, all_seen}
 use Rattle.ucon_top.proofs.Completing.{over_document, played_complete}
 use Rattle.ucon_top.proofs.Crossing.{monitor_send}
+use Rattle.ucon_top.proofs.Leaving.{unless_accepted}
 use Rattle.ucon_top.proofs.Playing.{unread_played}
 use Rattle.ucon_top.proofs.top.serve_input.Goals as goal
 
-pub returns-in-Err-clause-played : goal.returns-in-Err-clause-played
-returns-in-Err-clause-played g c =
-    rw (c.by.ensures.outcome, c.by.ensures.disk) (
-    unread_played g.D.Disk.contents g.D.Disk.images g.D.Disk.moment g.D.Disk.images_since g.D.Disk.faults g.K.Sink.contents Serve c.in-Err.outcome (g.S.Source.left c.args.input.now)
-    (g.S.Source.faults c.args.input.now) (g.S.Source.faults c.document_bytes.new.input) c.args.disk c.args.out.now c.in-Err.ensures.ends
-    )
+pub returns-in-Err-clause-made : goal.returns-in-Err-clause-made
+returns-in-Err-clause-made g c =
+    let source = g.S.Source.seen c.args.input.now in
+    let source' = g.S.Source.seen c.document_bytes.new.input in
+    record {
+      done = search rules;
+      cut_short = search rules;
+      unwritten = search rules;
+      played = λ _. rw (c.by.ensures.outcome, c.by.ensures.disk) (
+          unread_played Serve c.in-Err.outcome source.left source.faults source'.faults (g.D.Disk.seen c.args.disk) (g.K.Sink.seen c.args.out.now)
+          c.in-Err.ensures.ends
+          );
+      pointed = search rules;
+    }
 
 pub serve-requires-send-E : goal.serve-requires-send-E
 serve-requires-send-E g c κs within = param_send _ _ (arg_send _ no _ monitor_send)
 
+pub returns-in-Ok-clause-left : goal.returns-in-Ok-clause-left
+returns-in-Ok-clause-left g c =
+    let left = (g.S.Source.seen c.args.input.now).left in
+    let bytes = c.deref.result.now in
+    let is = subst (λ (b : Bytes). IfSome left (λ d. d ≡ b)) (sym c.deref.ensures.value) c.in-Ok.ensures.bytes in
+    record {
+      read = search rules;
+      reads = search rules;
+      unread = search rules;
+      untouched = search rules;
+      unaccepted = unless_accepted g.D.Disk.seen left bytes c.args.disk c.serve.result.disk is c.serve.ensures.unaccepted;
+      alone = search rules;
+    }
+
 pub returns-in-Ok-clause-complete : goal.returns-in-Ok-clause-complete
 returns-in-Ok-clause-complete g c =
-    let input = g.S.Source.left c.args.input.now in
     let bytes = c.deref.result.now in
     let outcome = c.serve.result.outcome in
-    let source = g.S.Source.faults c.args.input.now in
-    let source' = g.S.Source.faults c.document_bytes.new.input in
-    let sink = g.K.Sink.faults c.args.out.now in
-    let sink' = g.K.Sink.faults c.serve.new.out in
-    let is = subst (λ (b : Bytes). IfSome input (λ d. d ≡ b)) (sym c.deref.ensures.value) c.in-Ok.ensures.bytes in
-    over_document (g.D.Disk.contents c.args.disk) source source' sink sink' (g.D.Disk.faults c.args.disk) (g.D.Disk.faults c.serve.result.disk) Serve outcome input bytes is
-    (played_complete g.D.Disk.contents g.D.Disk.images g.D.Disk.moment g.D.Disk.images_since g.D.Disk.faults g.K.Sink.contents Serve c.args.disk c.serve.result.disk
-    c.args.out.now c.serve.new.out source source' sink sink' bytes c.opening_sees_one_thing.ensures.one outcome
+    let before : Seen = all_seen (g.S.Source.seen c.args.input.now) (g.K.Sink.seen c.args.out.now) (g.D.Disk.seen c.args.disk) in
+    let after : Seen = all_seen (g.S.Source.seen c.document_bytes.new.input) (g.K.Sink.seen c.serve.new.out) (g.D.Disk.seen c.serve.result.disk) in
+    let is = subst (λ (b : Bytes). IfSome before.source.left (λ d. d ≡ b)) (sym c.deref.ensures.value) c.in-Ok.ensures.bytes in
+    over_document before after Serve outcome before.source.left bytes is
+    (played_complete Serve before after bytes c.opening_sees_one_thing.ensures.one outcome
     (c.accepted_documents_are_not_refused.ensures bytes outcome) c.serve.ensures.refused c.serve.ensures.of_document c.serve.ensures.sink c.serve.ensures.fault
     c.serve.ensures.played (λ u. u.journal))

@@ -16,4 +16,4 @@ returns g c =
     let same : map entry_of lines ≡ entries_of (lines_spelled c.args.script.now) = sym (map-map said_entry spelled_line lines) in
     let heard : HasHeard P (IsTranscript c.in_ok-transcript.transcript.text.items) (map entry_of lines) =
     rw c.slice.ensures at (c.in_ok-transcript.ensures.heard P c.in_ok-engine.ensures) in
-    rw (← same) (transcribed c.outputs_are_read_back.ensures c.texts_tell_changes.ensures c.serial_runs_are_legal.ensures P (map entry_of lines) c.in_ok-transcript.transcript.text.items heard)
+    rw (← same) (transcribed c.outputs_are_read_back.ensures c.serial_runs_are_legal.ensures P (map entry_of lines) c.in_ok-transcript.transcript.text.items heard)

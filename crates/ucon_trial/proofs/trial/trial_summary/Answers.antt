@@ -19,4 +19,4 @@ returns g c =
     rw c.slice.ensures at (c.in_ok-tally.ensures.heard P c.in_ok-engine.ensures) in
     let few : length (map entry_of lines) < 2 ^ 64 =
     omega (arith, length-map lines entry_of, ap length c.slice.ensures, c.in_ok-tally.ensures.few) in
-    rw (← same) (summed c.texts_tell_changes.ensures c.serial_runs_are_legal.ensures P (map entry_of lines) c.in_ok-tally.tally c.in_ok-text.text.items few heard c.in_ok-text.ensures)
+    rw (← same) (summed c.serial_runs_are_legal.ensures P (map entry_of lines) c.in_ok-tally.tally c.in_ok-text.text.items few heard c.in_ok-text.ensures)

@@ -14,9 +14,9 @@ use Rattle.ucon_walk.proofs.walking.last_point.Goals as goal
 
 pub returns-in-Err-clause-long : goal.returns-in-Err-clause-long
 returns-in-Err-clause-long g c =
-    let o = g.D.Disk.contents (disk_of c.args.journal.now) in
-    let before = g.D.Disk.faults (disk_of c.args.journal.now) in
-    let now = g.D.Disk.faults (disk_of c.next.new.self) in
+    let o = (g.D.Disk.seen (disk_of c.args.journal.now)).contents in
+    let before = (g.D.Disk.seen (disk_of c.args.journal.now)).faults in
+    let now = (g.D.Disk.seen (disk_of c.next.new.self)).faults in
     subst (λ (f : RecordFault). HasLong f o 0 8 before now) (sym c.at_record.ensures)
     (subst (λ (gate : ℕ). HasLong (of_take 0 c.in-Err.fault) o 0 gate before now) c.requires.first
     (long_reason c.in-Err.fault o 0 (gate_of c.args.journal.now) before now c.in-Err.ensures.too_long (λ is. c.in-Err.ensures.failed (ap Err is))
@@ -24,12 +24,12 @@ returns-in-Err-clause-long g c =
 
 pub returns-in_ok-pass_all-in-Ok-true-clause-walked : goal.returns-in_ok-pass_all-in-Ok-true-clause-walked
 returns-in_ok-pass_all-in-Ok-true-clause-walked g c =
-    let o = g.D.Disk.contents (disk_of c.args.journal.now) in
+    let o = (g.D.Disk.seen (disk_of c.args.journal.now)).contents in
     let points = points_of (version_of c.args.journal.now) in
     let gate = gate_of c.args.journal.now in
     let next = gate_of c.next.new.self in
     let text = payload_of c.next.new.self in
-    let kind = reading_kind g.D.Disk.contents c.args.journal.now c.requires.reading in
+    let kind = reading_kind g.D.Disk.seen c.args.journal.now c.requires.reading in
     let more = more_told o (λ file. payloads_from file gate ≡ text ∷ payloads_from file next) (λ file. payloads_from file gate ≡ []) c.in-Ok-true.field-0 c.in-Ok-true.field-0-test c.in-Ok-true.ensures.taken in
     let on : next ≡ gate + 5 + length text = c.in-Ok-true.ensures.advance (ap Ok c.in-Ok-true.field-0-test) in
     let short = c.in-Ok-true.ensures.short (ap Ok c.in-Ok-true.field-0-test) in

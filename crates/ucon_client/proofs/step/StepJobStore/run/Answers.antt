@@ -22,9 +22,9 @@ returns-clause-did g c = λ (P : PlainPolicy) (G : History) led.
     let front : IsFront P was G = record { starts = led.starts; count = led.count; text = led.text } in
     subst (λ (z : List Event × List Event). Steps P line z.0 z.1 (answer_of c.from.result))
     (λ i. (events_behind G was.entries was.mark i, events_behind G now.entries now.mark i))
-    (stepped c.texts_tell_changes.ensures P line (G ++ was.entries) was.mark (G ++ now.entries) now.mark (answer_of c.from.result)
+    (stepped P line (G ++ was.entries) was.mark (G ++ now.entries) now.mark (answer_of c.from.result)
     (subst (λ (a : Answer). Stepped P line (G ++ was.entries) was.mark (G ++ now.entries) now.mark (answer_of a)) (sym gives)
-    (answers_step g.D.Disk.faults (accepted was.policy) P G led.accepts was now front line c.step.result s.stopped s.placed s.no_memory s.still s.failed)))
+    (answers_step g.D.Disk.seen (accepted was.policy) P G led.accepts was now front line c.step.result s.stopped s.placed s.no_memory s.still s.failed)))
 
 pub returns-clause-base : goal.returns-clause-base
 returns-clause-base g c = λ i. record {

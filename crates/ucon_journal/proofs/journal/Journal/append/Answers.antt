@@ -17,7 +17,7 @@ returns-in_err-write_synced-clause-images g c = record {
       let p = c.args.payload.now in
       let closes = told_at (ClosesAt version gate) file rest.told c.requires.closed.told in
       let n = length c.deref.result.now in
-      weaker g.D.Disk.moment g.D.Disk.images_since old c.write_synced.new.disk (Torn (gate + 1) n file) (PerhapsAdded p file) (λ x torn. inl (stage_same file version gate (counted file) closes.0 closes.1 n x torn)) (c.write_synced.ensures.images.each file rest);
+      weaker (g.D.Disk.seen old) (g.D.Disk.seen c.write_synced.new.disk) (Torn (gate + 1) n file) (PerhapsAdded p file) (λ x torn. inl (stage_same file version gate (counted file) closes.0 closes.1 n x torn)) (c.write_synced.ensures.images.each file rest);
 }
 
 pub returns-in_err-write_gate-clause-images : goal.returns-in_err-write_gate-clause-images
@@ -32,14 +32,14 @@ returns-in_err-write_gate-clause-images g c = record {
       let short : length p < 2 ^ 32 = omega arith in
       let closes = told_at (ClosesAt version gate) file rest.told c.requires.closed.told in
       let n = length c.deref.result.now in
-      let staging = weaker g.D.Disk.moment g.D.Disk.images_since old mid (Torn (gate + 1) n file) (PerhapsAdded p file) (λ x torn. inl (stage_same file version gate (counted file) closes.0 closes.1 n x torn)) (c.write_synced.ensures.images.each file rest) in
+      let staging = weaker (g.D.Disk.seen old) (g.D.Disk.seen mid) (Torn (gate + 1) n file) (PerhapsAdded p file) (λ x torn. inl (stage_same file version gate (counted file) closes.0 closes.1 n x torn)) (c.write_synced.ensures.images.each file rest) in
       let bytes : c.deref.result.now ≡ staged p = c.deref.ensures.value ∙ c.stage.ensures.staged in
-      let written : g.D.Disk.contents c.write_synced.new.disk ≡ option_map (overwritten (gate + 1) (staged p)) (g.D.Disk.contents c.args.self.now.disk) = c.in_ok-write_synced.ensures.written ∙ ap (λ (l : List ℕ). option_map (overwritten (gate + 1) l) (g.D.Disk.contents old)) bytes in
+      let written : (g.D.Disk.seen c.write_synced.new.disk).contents ≡ option_map (overwritten (gate + 1) (staged p)) (g.D.Disk.seen c.args.self.now.disk).contents = c.in_ok-write_synced.ensures.written ∙ ap (λ (l : List ℕ). option_map (overwritten (gate + 1) l) (g.D.Disk.seen old).contents) bytes in
       let is_staged = staged_file file version gate (counted file) closes.0 closes.1 p short in
-      let rest_staged = rests_after _ _ (g.D.Disk.images mid) (overwritten (gate + 1) (staged p)) file written c.in_ok-write_synced.ensures.only rest.told in
+      let rest_staged = rests_after _ (g.D.Disk.seen mid) (overwritten (gate + 1) (staged p)) file written c.in_ok-write_synced.ensures.only rest.told in
       let opens = λ (x : List ℕ) (torn : Torn gate 1 (overwritten (gate + 1) (staged p) file) x). open_perhaps file version gate (counted file) closes.0 closes.1 p short x (subst (λ (l : List ℕ). Torn gate 1 l x) is_staged torn) in
-      let opening = weaker g.D.Disk.moment g.D.Disk.images_since mid new (Torn gate 1 (overwritten (gate + 1) (staged p) file)) (PerhapsAdded p file) opens (c.write_gate.ensures.images.each (overwritten (gate + 1) (staged p) file) rest_staged) in
-      joined g.D.Disk.moment g.D.Disk.images_since old mid new (PerhapsAdded p file) staging opening;
+      let opening = weaker (g.D.Disk.seen mid) (g.D.Disk.seen new) (Torn gate 1 (overwritten (gate + 1) (staged p) file)) (PerhapsAdded p file) opens (c.write_gate.ensures.images.each (overwritten (gate + 1) (staged p) file) rest_staged) in
+      joined (g.D.Disk.seen old) (g.D.Disk.seen mid) (g.D.Disk.seen new) (PerhapsAdded p file) staging opening;
 }
 
 pub returns-clause-images : goal.returns-clause-images
@@ -54,14 +54,14 @@ returns-clause-images g c = record {
       let short : length p < 2 ^ 32 = omega arith in
       let closes = told_at (ClosesAt version gate) file rest.told c.requires.closed.told in
       let n = length c.deref.result.now in
-      let staging = weaker g.D.Disk.moment g.D.Disk.images_since old mid (Torn (gate + 1) n file) (PerhapsAdded p file) (λ x torn. inl (stage_same file version gate (counted file) closes.0 closes.1 n x torn)) (c.write_synced.ensures.images.each file rest) in
+      let staging = weaker (g.D.Disk.seen old) (g.D.Disk.seen mid) (Torn (gate + 1) n file) (PerhapsAdded p file) (λ x torn. inl (stage_same file version gate (counted file) closes.0 closes.1 n x torn)) (c.write_synced.ensures.images.each file rest) in
       let bytes : c.deref.result.now ≡ staged p = c.deref.ensures.value ∙ c.stage.ensures.staged in
-      let written : g.D.Disk.contents c.write_synced.new.disk ≡ option_map (overwritten (gate + 1) (staged p)) (g.D.Disk.contents c.args.self.now.disk) = c.in_ok-write_synced.ensures.written ∙ ap (λ (l : List ℕ). option_map (overwritten (gate + 1) l) (g.D.Disk.contents old)) bytes in
+      let written : (g.D.Disk.seen c.write_synced.new.disk).contents ≡ option_map (overwritten (gate + 1) (staged p)) (g.D.Disk.seen c.args.self.now.disk).contents = c.in_ok-write_synced.ensures.written ∙ ap (λ (l : List ℕ). option_map (overwritten (gate + 1) l) (g.D.Disk.seen old).contents) bytes in
       let is_staged = staged_file file version gate (counted file) closes.0 closes.1 p short in
-      let rest_staged = rests_after _ _ (g.D.Disk.images mid) (overwritten (gate + 1) (staged p)) file written c.in_ok-write_synced.ensures.only rest.told in
+      let rest_staged = rests_after _ (g.D.Disk.seen mid) (overwritten (gate + 1) (staged p)) file written c.in_ok-write_synced.ensures.only rest.told in
       let opens = λ (x : List ℕ) (torn : Torn gate 1 (overwritten (gate + 1) (staged p) file) x). open_perhaps file version gate (counted file) closes.0 closes.1 p short x (subst (λ (l : List ℕ). Torn gate 1 l x) is_staged torn) in
-      let opening = weaker g.D.Disk.moment g.D.Disk.images_since mid new (Torn gate 1 (overwritten (gate + 1) (staged p) file)) (PerhapsAdded p file) opens (c.write_gate.ensures.images.each (overwritten (gate + 1) (staged p) file) rest_staged) in
-      joined g.D.Disk.moment g.D.Disk.images_since old mid new (PerhapsAdded p file) staging opening;
+      let opening = weaker (g.D.Disk.seen mid) (g.D.Disk.seen new) (Torn gate 1 (overwritten (gate + 1) (staged p) file)) (PerhapsAdded p file) opens (c.write_gate.ensures.images.each (overwritten (gate + 1) (staged p) file) rest_staged) in
+      joined (g.D.Disk.seen old) (g.D.Disk.seen mid) (g.D.Disk.seen new) (PerhapsAdded p file) staging opening;
 }
 
 pub returns-clause-closed : goal.returns-clause-closed
@@ -70,10 +70,10 @@ returns-clause-closed g c =
     let p = c.args.payload.now in
     let short : length p < 2 ^ 32 = omega arith in
     let bytes : c.deref.result.now ≡ staged p = c.deref.ensures.value ∙ c.stage.ensures.staged in
-    let written : g.D.Disk.contents c.write_synced.new.disk ≡ option_map (overwritten (gate + 1) (staged p)) (g.D.Disk.contents c.args.self.now.disk) = c.in_ok-write_synced.ensures.written ∙ ap (λ (l : List ℕ). option_map (overwritten (gate + 1) l) (g.D.Disk.contents c.args.self.now.disk)) bytes in
+    let written : (g.D.Disk.seen c.write_synced.new.disk).contents ≡ option_map (overwritten (gate + 1) (staged p)) (g.D.Disk.seen c.args.self.now.disk).contents = c.in_ok-write_synced.ensures.written ∙ ap (λ (l : List ℕ). option_map (overwritten (gate + 1) l) (g.D.Disk.seen c.args.self.now.disk).contents) bytes in
     let done = appended c.args.self.now.version gate p _ _ _ short c.requires.closed.told written c.in_ok-write_gate.ensures.written in
     let place : gate + 5 + length p ≡ gate + (5 + length p) = omega arith in
-    record { phase = refl; told = subst (λ k. IfSome (g.D.Disk.contents c.write_gate.new.disk) (ClosesAt c.args.self.now.version k)) place done.closed }
+    record { phase = refl; told = subst (λ k. IfSome (g.D.Disk.seen c.write_gate.new.disk).contents (ClosesAt c.args.self.now.version k)) place done.closed }
 
 pub returns-clause-added : goal.returns-clause-added
 returns-clause-added g c =
@@ -81,7 +81,7 @@ returns-clause-added g c =
     let p = c.args.payload.now in
     let short : length p < 2 ^ 32 = omega arith in
     let bytes : c.deref.result.now ≡ staged p = c.deref.ensures.value ∙ c.stage.ensures.staged in
-    let written : g.D.Disk.contents c.write_synced.new.disk ≡ option_map (overwritten (gate + 1) (staged p)) (g.D.Disk.contents c.args.self.now.disk) = c.in_ok-write_synced.ensures.written ∙ ap (λ (l : List ℕ). option_map (overwritten (gate + 1) l) (g.D.Disk.contents c.args.self.now.disk)) bytes in
+    let written : (g.D.Disk.seen c.write_synced.new.disk).contents ≡ option_map (overwritten (gate + 1) (staged p)) (g.D.Disk.seen c.args.self.now.disk).contents = c.in_ok-write_synced.ensures.written ∙ ap (λ (l : List ℕ). option_map (overwritten (gate + 1) l) (g.D.Disk.seen c.args.self.now.disk).contents) bytes in
     let done = appended c.args.self.now.version gate p _ _ _ short c.requires.closed.told written c.in_ok-write_gate.ensures.written in
     done.added
 
@@ -91,6 +91,6 @@ returns-clause-bytes g c =
     let p = c.args.payload.now in
     let short : length p < 2 ^ 32 = omega arith in
     let bytes : c.deref.result.now ≡ staged p = c.deref.ensures.value ∙ c.stage.ensures.staged in
-    let written : g.D.Disk.contents c.write_synced.new.disk ≡ option_map (overwritten (gate + 1) (staged p)) (g.D.Disk.contents c.args.self.now.disk) = c.in_ok-write_synced.ensures.written ∙ ap (λ (l : List ℕ). option_map (overwritten (gate + 1) l) (g.D.Disk.contents c.args.self.now.disk)) bytes in
+    let written : (g.D.Disk.seen c.write_synced.new.disk).contents ≡ option_map (overwritten (gate + 1) (staged p)) (g.D.Disk.seen c.args.self.now.disk).contents = c.in_ok-write_synced.ensures.written ∙ ap (λ (l : List ℕ). option_map (overwritten (gate + 1) l) (g.D.Disk.seen c.args.self.now.disk).contents) bytes in
     let done = appended c.args.self.now.version gate p _ _ _ short c.requires.closed.told written c.in_ok-write_gate.ensures.written in
     done.bytes

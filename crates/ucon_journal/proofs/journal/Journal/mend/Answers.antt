@@ -14,7 +14,7 @@ returns-in_err-cut_synced-clause-images g c = record {
       let gate = c.args.self.now.gate in
       let version = c.args.self.now.version in
       let ends = told_at (EndsAt version gate) file rest.told c.requires.told in
-      weaker g.D.Disk.moment g.D.Disk.images_since old c.cut_synced.new.disk (Shortened (gate + 1) file) (SamePayloads file) (cut_same file version gate (counted file) ends.0 ends.1) (c.cut_synced.ensures.images.each file rest);
+      weaker (g.D.Disk.seen old) (g.D.Disk.seen c.cut_synced.new.disk) (Shortened (gate + 1) file) (SamePayloads file) (cut_same file version gate (counted file) ends.0 ends.1) (c.cut_synced.ensures.images.each file rest);
 }
 
 pub returns-in_err-write_gate-clause-images : goal.returns-in_err-write_gate-clause-images
@@ -26,10 +26,10 @@ returns-in_err-write_gate-clause-images g c = record {
       let gate = c.args.self.now.gate in
       let version = c.args.self.now.version in
       let ends = told_at (EndsAt version gate) file rest.told c.requires.told in
-      let cut = weaker g.D.Disk.moment g.D.Disk.images_since old mid (Shortened (gate + 1) file) (SamePayloads file) (cut_same file version gate (counted file) ends.0 ends.1) (c.cut_synced.ensures.images.each file rest) in
-      let rest_cut = rests_after _ _ (g.D.Disk.images mid) (take (gate + 1)) file c.in_ok-cut_synced.ensures.cut c.in_ok-cut_synced.ensures.only rest.told in
-      let shut = weaker g.D.Disk.moment g.D.Disk.images_since mid new (Torn gate 1 (take (gate + 1) file)) (SamePayloads file) (shut_same file version gate (counted file) ends.0 ends.1) (c.write_gate.ensures.images.each (take (gate + 1) file) rest_cut) in
-      joined g.D.Disk.moment g.D.Disk.images_since old mid new (SamePayloads file) cut shut;
+      let cut = weaker (g.D.Disk.seen old) (g.D.Disk.seen mid) (Shortened (gate + 1) file) (SamePayloads file) (cut_same file version gate (counted file) ends.0 ends.1) (c.cut_synced.ensures.images.each file rest) in
+      let rest_cut = rests_after _ (g.D.Disk.seen mid) (take (gate + 1)) file c.in_ok-cut_synced.ensures.cut c.in_ok-cut_synced.ensures.only rest.told in
+      let shut = weaker (g.D.Disk.seen mid) (g.D.Disk.seen new) (Torn gate 1 (take (gate + 1) file)) (SamePayloads file) (shut_same file version gate (counted file) ends.0 ends.1) (c.write_gate.ensures.images.each (take (gate + 1) file) rest_cut) in
+      joined (g.D.Disk.seen old) (g.D.Disk.seen mid) (g.D.Disk.seen new) (SamePayloads file) cut shut;
 }
 
 pub returns-clause-images : goal.returns-clause-images
@@ -41,10 +41,10 @@ returns-clause-images g c = record {
       let gate = c.args.self.now.gate in
       let version = c.args.self.now.version in
       let ends = told_at (EndsAt version gate) file rest.told c.requires.told in
-      let cut = weaker g.D.Disk.moment g.D.Disk.images_since old mid (Shortened (gate + 1) file) (SamePayloads file) (cut_same file version gate (counted file) ends.0 ends.1) (c.cut_synced.ensures.images.each file rest) in
-      let rest_cut = rests_after _ _ (g.D.Disk.images mid) (take (gate + 1)) file c.in_ok-cut_synced.ensures.cut c.in_ok-cut_synced.ensures.only rest.told in
-      let shut = weaker g.D.Disk.moment g.D.Disk.images_since mid new (Torn gate 1 (take (gate + 1) file)) (SamePayloads file) (shut_same file version gate (counted file) ends.0 ends.1) (c.write_gate.ensures.images.each (take (gate + 1) file) rest_cut) in
-      joined g.D.Disk.moment g.D.Disk.images_since old mid new (SamePayloads file) cut shut;
+      let cut = weaker (g.D.Disk.seen old) (g.D.Disk.seen mid) (Shortened (gate + 1) file) (SamePayloads file) (cut_same file version gate (counted file) ends.0 ends.1) (c.cut_synced.ensures.images.each file rest) in
+      let rest_cut = rests_after _ (g.D.Disk.seen mid) (take (gate + 1)) file c.in_ok-cut_synced.ensures.cut c.in_ok-cut_synced.ensures.only rest.told in
+      let shut = weaker (g.D.Disk.seen mid) (g.D.Disk.seen new) (Torn gate 1 (take (gate + 1) file)) (SamePayloads file) (shut_same file version gate (counted file) ends.0 ends.1) (c.write_gate.ensures.images.each (take (gate + 1) file) rest_cut) in
+      joined (g.D.Disk.seen old) (g.D.Disk.seen mid) (g.D.Disk.seen new) (SamePayloads file) cut shut;
 }
 
 pub returns-clause-closed : goal.returns-clause-closed

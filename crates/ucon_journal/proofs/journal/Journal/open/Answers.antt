@@ -6,15 +6,15 @@ pub returns-in-Ok-clause-reading : goal.returns-in-Ok-clause-reading
 returns-in-Ok-clause-reading g c = (
   record {
     phase = inl refl;
-    told = opened_told c.in-Ok.opened.version (g.D.Disk.contents c.args.disk) (g.D.Disk.contents c.begin.new.disk) c.in-Ok.ensures.bytes c.in-Ok.ensures.version;
+    told = opened_told c.in-Ok.opened.version (g.D.Disk.seen c.args.disk).contents (g.D.Disk.seen c.begin.new.disk).contents c.in-Ok.ensures.bytes c.in-Ok.ensures.version;
     len = c.in-Ok.ensures.len;
-    ahead = if_told (g.D.Disk.contents c.begin.new.disk) _ (λ file is. c.new.ensures file);
+    ahead = if_told (g.D.Disk.seen c.begin.new.disk).contents _ (λ file is. c.new.ensures file);
   },
   refl,
 )
 
 pub returns-in-Ok-clause-all : goal.returns-in-Ok-clause-all
-returns-in-Ok-clause-all g c = all_read c.in-Ok.opened.version (g.D.Disk.contents c.begin.new.disk) (opened_told c.in-Ok.opened.version (g.D.Disk.contents c.args.disk) (g.D.Disk.contents c.begin.new.disk) c.in-Ok.ensures.bytes c.in-Ok.ensures.version)
+returns-in-Ok-clause-all g c = all_read c.in-Ok.opened.version (g.D.Disk.seen c.begin.new.disk).contents (opened_told c.in-Ok.opened.version (g.D.Disk.seen c.args.disk).contents (g.D.Disk.seen c.begin.new.disk).contents c.in-Ok.ensures.bytes c.in-Ok.ensures.version)
 
 pub returns-in-Ok-clause-same : goal.returns-in-Ok-clause-same
-returns-in-Ok-clause-same g c = opened_same (g.D.Disk.contents c.args.disk) (g.D.Disk.contents c.begin.new.disk) c.in-Ok.ensures.bytes
+returns-in-Ok-clause-same g c = opened_same (g.D.Disk.seen c.args.disk).contents (g.D.Disk.seen c.begin.new.disk).contents c.in-Ok.ensures.bytes

@@ -7,12 +7,12 @@ use Rattle.ucon_store.proofs.loading.Loaded.take_all.Given as goal
 
 abbrev pub invariant-records : goal.invariant-records
 invariant-records g l = record {
-  loading : IsLoading g.E.Engine.follows g.D.Disk.contents l.self l.journal;
-  reading : IsReading g.D.Disk.contents l.journal;
-  contents : g.D.Disk.contents (disk_of l.journal) ≡ g.D.Disk.contents (disk_of l.initial.journal);
-  images : SameImages (g.D.Disk.images (disk_of l.initial.journal)) (g.D.Disk.images (disk_of l.journal));
-  run : LeavesOnly g.D.Disk.moment g.D.Disk.images_since (disk_of l.initial.journal) (disk_of l.journal) (g.D.Disk.images (disk_of l.initial.journal));
-  unfailed : g.D.Disk.faults (disk_of l.journal) ≡ g.D.Disk.faults (disk_of l.initial.journal);
+  loading : IsLoading g.E.Engine.follows g.D.Disk.seen l.self l.journal;
+  reading : IsReading g.D.Disk.seen l.journal;
+  contents : (g.D.Disk.seen (disk_of l.journal)).contents ≡ (g.D.Disk.seen (disk_of l.initial.journal)).contents;
+  images : SameImages (g.D.Disk.seen (disk_of l.initial.journal)).images (g.D.Disk.seen (disk_of l.journal)).images;
+  run : LeavesOnly (g.D.Disk.seen (disk_of l.initial.journal)) (g.D.Disk.seen (disk_of l.journal)) (g.D.Disk.seen (disk_of l.initial.journal)).images;
+  unfailed : (g.D.Disk.seen (disk_of l.journal)).faults ≡ (g.D.Disk.seen (disk_of l.initial.journal)).faults;
 }
 
 abbrev pub decreases-records : goal.decreases-records

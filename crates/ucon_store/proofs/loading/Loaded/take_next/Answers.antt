@@ -20,9 +20,9 @@ use Rattle.ucon_store.proofs.loading.Loaded.take_next.Goals as goal
 
 pub returns-in-Err-clause-reason : goal.returns-in-Err-clause-reason
 returns-in-Err-clause-reason g c = λ text.
-    let o = g.D.Disk.contents (disk_of c.args.journal.now) in
-    let before = g.D.Disk.faults (disk_of c.args.journal.now) in
-    let now = g.D.Disk.faults (disk_of c.next.new.self) in
+    let o = (g.D.Disk.seen (disk_of c.args.journal.now)).contents in
+    let before = (g.D.Disk.seen (disk_of c.args.journal.now)).faults in
+    let now = (g.D.Disk.seen (disk_of c.next.new.self)).faults in
     let loading = c.requires.loading in
     let standing = loading.standing in
     let old = c.args.self.now in
@@ -38,8 +38,8 @@ returns-in-Err-clause-reason g c = λ text.
 
 pub returns-else-not-taken-clause-loading : goal.returns-else-not-taken-clause-loading
 returns-else-not-taken-clause-loading g c = λ _.
-    let o = g.D.Disk.contents (disk_of c.args.journal.now) in
-    let n = g.D.Disk.contents (disk_of c.next.new.self) in
+    let o = (g.D.Disk.seen (disk_of c.args.journal.now)).contents in
+    let n = (g.D.Disk.seen (disk_of c.next.new.self)).contents in
     let loading = c.requires.loading in
     let standing = loading.standing in
     let old = c.args.self.now in
@@ -71,7 +71,7 @@ returns-else-not-taken-clause-loading g c = λ _.
 
 pub returns-then-not-taken-clause-reason : goal.returns-then-not-taken-clause-reason
 returns-then-not-taken-clause-reason g c = λ _.
-    let o = g.D.Disk.contents (disk_of c.args.journal.now) in
+    let o = (g.D.Disk.seen (disk_of c.args.journal.now)).contents in
     let standing = c.requires.loading.standing in
     let old = c.args.self.now in
     let text = old.policy.items in
@@ -89,7 +89,7 @@ returns-then-not-taken-clause-reason g c = λ _.
 
 pub returns-in-Ok-false-clause-loaded : goal.returns-in-Ok-false-clause-loaded
 returns-in-Ok-false-clause-loaded g c = λ _.
-    let o = g.D.Disk.contents (disk_of c.args.journal.now) in
+    let o = (g.D.Disk.seen (disk_of c.args.journal.now)).contents in
     let loading = c.requires.loading in
     let standing = loading.standing in
     let old = c.args.self.now in

@@ -22,30 +22,30 @@ use Rattle.ucon_store.proofs.store.Store.open.Goals as goal
 
 pub returns-in-Err-clause-reason : goal.returns-in-Err-clause-reason
 returns-in-Err-clause-reason g c =
-    let o = g.D.Disk.contents c.args.disk in
-    let before = g.D.Disk.faults c.args.disk in
-    let now = g.D.Disk.faults c.in-Err.disk in
+    let o = (g.D.Disk.seen c.args.disk).contents in
+    let before = (g.D.Disk.seen c.args.disk).faults in
+    let now = (g.D.Disk.seen c.in-Err.disk).faults in
     subst (λ (f : StoreFault). HasReason f c.args.policy.now o before now) (sym c.into.ensures)
-    (opening_reason (λ file. g.D.Disk.contents c.in-Err.disk ≡ Some file) c.in-Err.fault c.args.policy.now o before now
+    (opening_reason (λ file. (g.D.Disk.seen c.in-Err.disk).contents ≡ Some file) c.in-Err.fault c.args.policy.now o before now
     c.in-Err.ensures.not_journal c.in-Err.ensures.failed c.in-Err.ensures.unfailed_err)
 
 pub returns-in-Err-clause-images_err : goal.returns-in-Err-clause-images_err
 returns-in-Err-clause-images_err g c =
-    begin_opens g.D.Disk.contents g.D.Disk.images g.D.Disk.moment g.D.Disk.images_since c.args.policy.now c.args.disk c.in-Err.disk c.in-Err.ensures.images_err
+    begin_opens g.D.Disk.seen c.args.policy.now c.args.disk c.in-Err.disk c.in-Err.ensures.images_err
 
 pub returns-in-Err-load-clause-reason : goal.returns-in-Err-load-clause-reason
 returns-in-Err-load-clause-reason g c =
-    let o = g.D.Disk.contents c.args.disk in
+    let o = (g.D.Disk.seen c.args.disk).contents in
     let begun = c.in-Ok.journal in
-    subst (λ (d : g.row.D.Denot). HasReason c.in-Err-load.fault c.args.policy.now o (g.D.Disk.faults c.args.disk) (g.D.Disk.faults d)) (sym c.close.ensures)
-    (reason_before c.in-Err-load.fault c.args.policy.now o (g.D.Disk.contents (disk_of begun)) (g.D.Disk.faults c.args.disk) (g.D.Disk.faults (disk_of begun)) (g.D.Disk.faults (disk_of c.load.new.journal))
+    subst (λ (d : g.row.D.Denot). HasReason c.in-Err-load.fault c.args.policy.now o (g.D.Disk.seen c.args.disk).faults (g.D.Disk.seen d).faults) (sym c.close.ensures)
+    (reason_before c.in-Err-load.fault c.args.policy.now o (g.D.Disk.seen (disk_of begun)).contents (g.D.Disk.seen c.args.disk).faults (g.D.Disk.seen (disk_of begun)).faults (g.D.Disk.seen (disk_of c.load.new.journal)).faults
     c.in-Ok.ensures.bytes c.in-Ok.ensures.unfailed c.in-Err-load.ensures.reason)
 
 pub returns-in-Err-load-clause-images_err : goal.returns-in-Err-load-clause-images_err
 returns-in-Err-load-clause-images_err g c =
     let begun = c.in-Ok.journal in
-    subst (λ (d : g.row.D.Denot). LeavesAfter g.D.Disk.contents g.D.Disk.images g.D.Disk.moment g.D.Disk.images_since c.args.disk d (Opens c.args.policy.now)) (sym c.close.ensures)
-    (whole_opens g.D.Disk.contents g.D.Disk.images g.D.Disk.moment g.D.Disk.images_since c.args.policy.now c.args.disk (disk_of begun) (disk_of c.load.new.journal)
+    subst (λ (d : g.row.D.Denot). LeavesAfter (g.D.Disk.seen c.args.disk) (g.D.Disk.seen d) (Opens c.args.policy.now)) (sym c.close.ensures)
+    (whole_opens g.D.Disk.seen c.args.policy.now c.args.disk (disk_of begun) (disk_of c.load.new.journal)
     c.in-Ok.ensures.images c.in-Ok.ensures.bytes c.in-Ok.ensures.only c.load.ensures.images)
 
 pub returns-in-Ok-load-clause-begins : goal.returns-in-Ok-load-clause-begins
@@ -56,7 +56,7 @@ returns-in-Ok-load-clause-begins g c =
     let accepts : accepted text ≡ Some standing.P = sym (ap accepted c.in-Ok-load.ensures.policy) ∙ standing.accepts in
     let point = payload_in l.point in
     told_before (IsRead text standing.P point l.before l.entries.items) (λ file. BeginsAt (last_point file) point l.before)
-    (begins_opened text standing.P accepts point l.before l.entries.items) (g.D.Disk.contents c.args.disk) (g.D.Disk.contents (disk_of c.in-Ok.journal)) c.in-Ok.ensures.bytes
+    (begins_opened text standing.P accepts point l.before l.entries.items) (g.D.Disk.seen c.args.disk).contents (g.D.Disk.seen (disk_of c.in-Ok.journal)).contents c.in-Ok.ensures.bytes
     (c.in-Ok-load.ensures.read standing.P accepts)
 
 pub returns-in-Ok-load-clause-leads : goal.returns-in-Ok-load-clause-leads
@@ -73,23 +73,23 @@ returns-in-Ok-load-clause-seen g c = λ P accepts.
     let text = l.policy.items in
     let same : text ≡ c.args.policy.now = c.in-Ok-load.ensures.policy in
     let here : accepted text ≡ Some P = ap accepted same ∙ accepts in
-    let o = g.D.Disk.contents (disk_of c.in-Ok.journal) in
+    let o = (g.D.Disk.seen (disk_of c.in-Ok.journal)).contents in
     told_before (IsRead text P point l.before l.entries.items) (IsSeenAs P text point l.before l.entries.items) (seen_opened text P here point l.before l.entries.items)
-    (g.D.Disk.contents c.args.disk) o c.in-Ok.ensures.bytes (subst (λ (t : Bytes). IfSome o (IsRead t P point l.before l.entries.items)) (sym same) (c.in-Ok-load.ensures.read P accepts))
+    (g.D.Disk.seen c.args.disk).contents o c.in-Ok.ensures.bytes (subst (λ (t : Bytes). IfSome o (IsRead t P point l.before l.entries.items)) (sym same) (c.in-Ok-load.ensures.read P accepts))
 
 pub returns-in-Ok-load-clause-founded : goal.returns-in-Ok-load-clause-founded
 returns-in-Ok-load-clause-founded g c = λ P file H accepts told found_so.
     let l = c.in-Ok-load.loaded in
     let point = payload_in l.point in
     let text = l.policy.items in
-    let contents = g.D.Disk.contents in
+    let seen = g.D.Disk.seen in
     let disk = disk_of c.load.new.journal in
     let same : text ≡ c.args.policy.now = c.in-Ok-load.ensures.policy in
     let here : accepted text ≡ Some P = ap accepted same ∙ accepts in
-    let m = contents (disk_of c.in-Ok.journal) in
-    goes_on_opened text P here point l.before l.entries.items c.found_histories_stand_around_their_last_checkpoint.ensures contents g.D.Disk.images _ disk m file H
+    let m = (seen (disk_of c.in-Ok.journal)).contents in
+    goes_on_opened text P here point l.before l.entries.items c.found_histories_stand_around_their_last_checkpoint.ensures seen _ disk m file H
     (c.in-Ok.ensures.bytes ∙ ap (option_map opened) told) (subst (λ (t : Bytes). IfSome m (IsRead t P point l.before l.entries.items)) (sym same) (c.in-Ok-load.ensures.read P accepts))
-    c.in-Ok-load.ensures.payloads (subst (λ (t : Bytes). KeepsFound t m (contents disk)) (sym same) c.in-Ok-load.ensures.kept) c.in-Ok-load.ensures.only
+    c.in-Ok-load.ensures.payloads (subst (λ (t : Bytes). KeepsFound t m (seen disk).contents) (sym same) c.in-Ok-load.ensures.kept) c.in-Ok-load.ensures.only
     (subst (λ (t : Bytes). IsFoundAs t file H) (sym same) found_so)
 
 pub returns-in-Ok-load-clause-first : goal.returns-in-Ok-load-clause-first
@@ -97,14 +97,14 @@ returns-in-Ok-load-clause-first g c = λ first P accepts.
     let l = c.in-Ok-load.loaded in
     let point = payload_in l.point in
     let text = l.policy.items in
-    let contents = g.D.Disk.contents in
+    let seen = g.D.Disk.seen in
     let disk = disk_of c.load.new.journal in
     let same : text ≡ c.args.policy.now = c.in-Ok-load.ensures.policy in
     let here : accepted text ≡ Some P = ap accepted same ∙ accepts in
-    let m = contents (disk_of c.in-Ok.journal) in
-    founded_first text P here point l.before l.entries.items c.found_histories_stand_around_their_last_checkpoint.ensures contents g.D.Disk.images _ disk first m
+    let m = (seen (disk_of c.in-Ok.journal)).contents in
+    founded_first text P here point l.before l.entries.items c.found_histories_stand_around_their_last_checkpoint.ensures seen _ disk first m
     (subst (λ (t : Bytes). IfSome m (IsRead t P point l.before l.entries.items)) (sym same) (c.in-Ok-load.ensures.read P accepts))
-    (subst (λ (t : Bytes). KeepsFound t m (contents disk)) (sym same) c.in-Ok-load.ensures.kept) c.in-Ok-load.ensures.tells c.in-Ok-load.ensures.only
+    (subst (λ (t : Bytes). KeepsFound t m (seen disk).contents) (sym same) c.in-Ok-load.ensures.kept) c.in-Ok-load.ensures.tells c.in-Ok-load.ensures.only
 
 pub returns-in-Ok-load-clause-found : goal.returns-in-Ok-load-clause-found
 returns-in-Ok-load-clause-found g c = λ first.
@@ -114,12 +114,12 @@ returns-in-Ok-load-clause-found g c = λ first.
     let accepts : accepted text ≡ Some standing.P = sym (ap accepted c.in-Ok-load.ensures.policy) ∙ standing.accepts in
     let point = payload_in l.point in
     told_before (IsRead text standing.P point l.before l.entries.items) (λ file. IsFoundAs text file l.entries.items)
-    (found_first_opened text standing.P accepts point l.before l.entries.items first) (g.D.Disk.contents c.args.disk) (g.D.Disk.contents (disk_of c.in-Ok.journal)) c.in-Ok.ensures.bytes
+    (found_first_opened text standing.P accepts point l.before l.entries.items first) (g.D.Disk.seen c.args.disk).contents (g.D.Disk.seen (disk_of c.in-Ok.journal)).contents c.in-Ok.ensures.bytes
     (c.in-Ok-load.ensures.read standing.P accepts)
 
 pub returns-in-Ok-load-clause-images : goal.returns-in-Ok-load-clause-images
 returns-in-Ok-load-clause-images g c =
-    whole_opens g.D.Disk.contents g.D.Disk.images g.D.Disk.moment g.D.Disk.images_since c.args.policy.now c.args.disk (disk_of c.in-Ok.journal) (disk_of c.load.new.journal)
+    whole_opens g.D.Disk.seen c.args.policy.now c.args.disk (disk_of c.in-Ok.journal) (disk_of c.load.new.journal)
     c.in-Ok.ensures.images c.in-Ok.ensures.bytes c.in-Ok.ensures.only c.load.ensures.images
 
 pub invariant_of-result : goal.invariant_of-result
@@ -142,8 +142,8 @@ invariant_of-result g c =
 
 pub returns-in-Ok-load-clause-places : goal.returns-in-Ok-load-clause-places
 returns-in-Ok-load-clause-places g c =
-    opened_places (g.D.Disk.contents c.args.disk) (g.D.Disk.contents (disk_of c.in-Ok.journal)) (g.D.Disk.contents (disk_of c.load.new.journal)) c.in-Ok.ensures.bytes c.in-Ok-load.ensures.places
+    opened_places (g.D.Disk.seen c.args.disk).contents (g.D.Disk.seen (disk_of c.in-Ok.journal)).contents (g.D.Disk.seen (disk_of c.load.new.journal)).contents c.in-Ok.ensures.bytes c.in-Ok-load.ensures.places
 
 pub returns-in-Ok-load-clause-old : goal.returns-in-Ok-load-clause-old
 returns-in-Ok-load-clause-old g c =
-    opened_old (g.D.Disk.contents c.args.disk) (g.D.Disk.contents (disk_of c.in-Ok.journal)) (g.D.Disk.contents (disk_of c.load.new.journal)) c.in-Ok.ensures.bytes c.in-Ok-load.ensures.kind
+    opened_old (g.D.Disk.seen c.args.disk).contents (g.D.Disk.seen (disk_of c.in-Ok.journal)).contents (g.D.Disk.seen (disk_of c.load.new.journal)).contents c.in-Ok.ensures.bytes c.in-Ok-load.ensures.kind

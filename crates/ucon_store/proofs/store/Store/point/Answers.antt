@@ -27,7 +27,7 @@ append-requires-clause-closed g c =
 
 module _ (g : Over) (c : After-append g) where
   -- the checkpoint was ready
-  ready : IsPointReady g.D.Disk.contents c.args.self c.prepare_point.new.journal c.deref-2.result.now
+  ready : IsPointReady g.D.Disk.seen c.args.self c.prepare_point.new.journal c.deref-2.result.now
   ready =
       point_ready c.self.invariant c.self.view_is (unmarked c.self.inside.mark (search rules))
       (c.text_at_start-start.ensures ∙ ap (λ (t : Bytes). text_in t c.self.inside.point) c.deref.ensures.value)
@@ -37,12 +37,12 @@ module _ (g : Over) (c : After-append g) where
   one : OneByOne
   one takes front behind = c.payloads_are_found_one_by_one.ensures accepted takes front behind
 
-  leaves : LeavesPoint g.D.Disk.contents g.D.Disk.images g.D.Disk.moment g.D.Disk.images_since c.args.self (disk_of c.append.new.self)
+  leaves : LeavesPoint g.D.Disk.seen c.args.self (disk_of c.append.new.self)
   leaves = leaves_point ready one c.append.ensures.images
 
 pub returns-then-is_err-clause-inside_err : goal.returns-then-is_err-clause-inside_err
 returns-then-is_err-clause-inside_err g c =
-    subst (LeavesPoint g.D.Disk.contents g.D.Disk.images g.D.Disk.moment g.D.Disk.images_since c.args.self) (sym c.close.ensures)
+    subst (LeavesPoint g.D.Disk.seen c.args.self) (sym c.close.ensures)
     (leaves g (goal.at.returns-then-is_err-clause-inside_err g c).After-append)
 
 -- ---- it is there
@@ -51,7 +51,7 @@ module _ (g : Over) (c : Else-is_err g) where
   fine : is_err c.append.result ≡ false
   fine = search rules
 
-  appended : IsAppended g.D.Disk.contents g.D.Disk.images c.prepare_point.new.journal c.append.new.self c.deref-2.result.now
+  appended : IsAppended g.D.Disk.seen c.prepare_point.new.journal c.append.new.self c.deref-2.result.now
   appended = record {
     closed = ok_told c.append.result fine c.append.ensures.closed;
     version = c.append.ensures.version;
@@ -101,6 +101,6 @@ pub returns-clause-stays : goal.returns-clause-stays
 returns-clause-stays g c =
     let before = (goal.at.returns-clause-stays g c).After-append in
     let there = (goal.at.returns-clause-stays g c).Else-is_err in
-    stays_point (ready g before) (one g before) (appended g there) g.D.Disk.faults c.append.ensures.images
-    (no_cause (g.D.Disk.faults (disk_of c.prepare_point.new.journal)) (g.D.Disk.faults (disk_of c.append.new.self)) c.append.result
+    stays_point (ready g before) (one g before) (appended g there) c.append.ensures.images
+    (no_cause (g.D.Disk.seen (disk_of c.prepare_point.new.journal)).faults (g.D.Disk.seen (disk_of c.append.new.self)).faults c.append.result
     (fine g there) c.append.ensures.cause) (moved g there)

@@ -38,7 +38,7 @@ record-requires-clause-closed g c =
 
 module _ (g : Over) (c : After-record g) where
   -- the store was ready for the step's record
-  ready : IsReady g.D.Disk.contents g.D.Disk.images c.args.self.now c.prepare.new.journal (entry c.args.caller c.args.command.now) c.deref.result.now
+  ready : IsReady g.D.Disk.seen c.args.self.now c.prepare.new.journal (entry c.args.caller c.args.command.now) c.deref.result.now
   ready =
       let none : c.self.inside.mark ≡ None = unmarked c.self.inside.mark (search rules) in
       let changed : c.in_ok-drafted.drafted.changes ≡ true = search rules in
@@ -49,7 +49,7 @@ module _ (g : Over) (c : After-record g) where
   one : OneByOne
   one takes front behind = c.payloads_are_found_one_by_one.ensures accepted takes front behind
 
-  leaves : LeavesStep g.D.Disk.contents g.D.Disk.images g.D.Disk.moment g.D.Disk.images_since c.args.self.now
+  leaves : LeavesStep g.D.Disk.seen c.args.self.now
       (entry c.args.caller c.args.command.now) (disk_of c.record.new.journal)
   leaves = leaves_ready ready one c.record.ensures.images
 
@@ -77,7 +77,7 @@ returns-in-Err-record-clause-inside g c = leaves g (goal.at.returns-in-Err-recor
 pub returns-in-Err-record-clause-stays : goal.returns-in-Err-record-clause-stays
 returns-in-Err-record-clause-stays g c =
     let before = (goal.at.returns-in-Err-record-clause-stays g c).After-record in
-    stays_failed (ready g before) (one g before) g.D.Disk.faults c.record.ensures.images c.record.ensures.tells
+    stays_failed (ready g before) (one g before) c.record.ensures.images c.record.ensures.tells
     c.in-Err-record.ensures.cause g.met.D.Disk.counts_now (marked g (goal.at.returns-in-Err-record-clause-stays g c).In-Err-record)
 
 pub returns-in-Err-record-clause-events : goal.returns-in-Err-record-clause-events
@@ -89,7 +89,7 @@ returns-in-Err-record-clause-events g c =
 -- ---- it is there
 
 module _ (g : Over) (c : In_default g) where
-  appended : IsAppended g.D.Disk.contents g.D.Disk.images c.prepare.new.journal c.record.new.journal c.deref.result.now
+  appended : IsAppended g.D.Disk.seen c.prepare.new.journal c.record.new.journal c.deref.result.now
   appended = record {
     closed = c.in_default.ensures.closed;
     version = c.record.ensures.version;
@@ -134,7 +134,7 @@ pub returns-clause-stays : goal.returns-clause-stays
 returns-clause-stays g c =
     let before = (goal.at.returns-clause-stays g c).After-record in
     let there = (goal.at.returns-clause-stays g c).In_default in
-    stays_ready (ready g before) (one g before) g.D.Disk.faults c.record.ensures.images (appended g there) c.in_default.ensures.cause
+    stays_ready (ready g before) (one g before) c.record.ensures.images (appended g there) c.in_default.ensures.cause
     (longer g there)
 
 pub returns-clause-events : goal.returns-clause-events
@@ -146,7 +146,7 @@ returns-clause-events g c =
 
 pub returns-in-Err-clause-inside : goal.returns-in-Err-clause-inside
 returns-in-Err-clause-inside g c =
-    unbegun g.D.Disk.contents g.D.Disk.images g.D.Disk.moment g.D.Disk.images_since c.args.self.now (entry c.args.caller c.args.command.now)
+    unbegun g.D.Disk.seen c.args.self.now (entry c.args.caller c.args.command.now)
     g.met.D.Disk.only_now (disk_of c.prepare.new.journal) (c.prepare.ensures.disk ∙ ap (λ (s : Kept g.row.D.Denot). s.disk) c.self.view_is)
 
 pub returns-in-Err-clause-stays : goal.returns-in-Err-clause-stays
@@ -154,8 +154,8 @@ returns-in-Err-clause-stays g c =
     let s = c.self.inside in
     let same = (λ i. parts s.policy.items s.point s.before s.opening (c.prepare.ensures.entries i) s.mark (c.prepare.ensures.disk i))
     ∙ c.self.view_is in
-    subst (Stays g.D.Disk.contents g.D.Disk.images g.D.Disk.moment g.D.Disk.images_since g.D.Disk.faults c.args.self.now) (sym same)
-    (stays_same g.D.Disk.contents g.D.Disk.images g.D.Disk.moment g.D.Disk.images_since g.D.Disk.faults g.met.D.Disk.only_now c.args.self.now)
+    subst (Stays g.D.Disk.seen c.args.self.now) (sym same)
+    (stays_same g.D.Disk.seen g.met.D.Disk.only_now c.args.self.now)
 
 -- ---- behind a history, from what is said behind its trace
 
@@ -193,9 +193,9 @@ returns-clause-added g c _ =
 module _ (g : Over) (c : Else-is_some g) where
   -- before a call of the disk nothing is added
   nothing : (new : g.row.D.Denot) → new ≡ disk_of c.self.inside.journal
-      → Adds g.D.Disk.contents g.D.Disk.images g.D.Disk.moment g.D.Disk.images_since c.args.self.now (entry c.args.caller c.args.command.now) new
+      → Adds g.D.Disk.seen c.args.self.now (entry c.args.caller c.args.command.now) new
   nothing new same =
-      adds_nothing g.D.Disk.contents g.D.Disk.images g.D.Disk.moment g.D.Disk.images_since c.args.self.now (entry c.args.caller c.args.command.now)
+      adds_nothing g.D.Disk.seen c.args.self.now (entry c.args.caller c.args.command.now)
       g.met.D.Disk.only_now (only_kept c.self.invariant c.self.view_is) new (same ∙ ap (λ (s : Kept g.row.D.Denot). s.disk) c.self.view_is)
 
 pub returns-in-Err-clause-adds : goal.returns-in-Err-clause-adds

@@ -3,4 +3,5 @@ use Rattle.ucon_trial.proofs.transcript.TranscriptHearer.reply.Goals as goal
 
 pub returns : goal.returns
 returns c = λ told is.
-    one_line_more c.args.self.now.text.items _ told _ is c.in_ok-put_reply.ensures.text (c.ranges.place.fits, c.in_ok-put_reply.ensures.one_line) c.in_ok-put_reply.ensures.client
+    let put = c.in_ok-put_reply.ensures in
+    one_line_more c.args.self.now.text.items _ told _ is put.text (c.ranges.place.fits, put.one_line, put.read_back) put.client

@@ -9,16 +9,16 @@ use Rattle.ucon_walk.proofs.walking.Walk.pass_all.Given as goal
 
 abbrev pub invariant-records : goal.invariant-records
 invariant-records g l = record {
-  reading : IsReading g.D.Disk.contents l.journal;
+  reading : IsReading g.D.Disk.seen l.journal;
   walking : IsWalking l.self (gate_of l.journal);
   below : gate_of l.journal < 2 ^ 63;
-  passed : IfSome (g.D.Disk.contents (disk_of l.initial.journal)) (λ file. finds (points_of (version_of l.initial.journal)) l.self (gate_of l.journal) file
+  passed : IfSome (g.D.Disk.seen (disk_of l.initial.journal)).contents (λ file. finds (points_of (version_of l.initial.journal)) l.self (gate_of l.journal) file
       ≡ finds (points_of (version_of l.initial.journal)) l.initial.self (gate_of l.initial.journal) file);
   version : version_of l.journal ≡ version_of l.initial.journal;
-  contents : g.D.Disk.contents (disk_of l.journal) ≡ g.D.Disk.contents (disk_of l.initial.journal);
-  images : SameImages (g.D.Disk.images (disk_of l.initial.journal)) (g.D.Disk.images (disk_of l.journal));
-  run : LeavesOnly g.D.Disk.moment g.D.Disk.images_since (disk_of l.initial.journal) (disk_of l.journal) (g.D.Disk.images (disk_of l.initial.journal));
-  unfailed : g.D.Disk.faults (disk_of l.journal) ≡ g.D.Disk.faults (disk_of l.initial.journal);
+  contents : (g.D.Disk.seen (disk_of l.journal)).contents ≡ (g.D.Disk.seen (disk_of l.initial.journal)).contents;
+  images : SameImages (g.D.Disk.seen (disk_of l.initial.journal)).images (g.D.Disk.seen (disk_of l.journal)).images;
+  run : LeavesOnly (g.D.Disk.seen (disk_of l.initial.journal)) (g.D.Disk.seen (disk_of l.journal)) (g.D.Disk.seen (disk_of l.initial.journal)).images;
+  unfailed : (g.D.Disk.seen (disk_of l.journal)).faults ≡ (g.D.Disk.seen (disk_of l.initial.journal)).faults;
 }
 
 abbrev pub decreases-records : goal.decreases-records

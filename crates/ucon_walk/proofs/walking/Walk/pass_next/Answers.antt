@@ -13,17 +13,17 @@ use Rattle.ucon_walk.proofs.walking.Walk.pass_next.Goals as goal
 
 pub returns-in-Err-clause-long : goal.returns-in-Err-clause-long
 returns-in-Err-clause-long g c =
-    let o = g.D.Disk.contents (disk_of c.args.journal.now) in
+    let o = (g.D.Disk.seen (disk_of c.args.journal.now)).contents in
     let gate = gate_of c.args.journal.now in
     let number = c.args.self.now.number in
-    let before = g.D.Disk.faults (disk_of c.args.journal.now) in
-    let now = g.D.Disk.faults (disk_of c.next.new.self) in
+    let before = (g.D.Disk.seen (disk_of c.args.journal.now)).faults in
+    let now = (g.D.Disk.seen (disk_of c.next.new.self)).faults in
     subst (λ (f : RecordFault). HasLong f o number gate before now) (sym c.at_record.ensures)
     (long_reason c.in-Err.fault o number gate before now c.in-Err.ensures.too_long (λ is. c.in-Err.ensures.failed (ap Err is)) (λ isnt. c.in-Err.ensures.unfailed (λ e. isnt (cc e))))
 
 pub returns-after-is_point-clause-passed : goal.returns-after-is_point-clause-passed
 returns-after-is_point-clause-passed g c = λ _.
-    let o = g.D.Disk.contents (disk_of c.args.journal.now) in
+    let o = (g.D.Disk.seen (disk_of c.args.journal.now)).contents in
     let points = points_of (version_of c.args.journal.now) in
     let w = c.args.self.now in
     let gate = gate_of c.args.journal.now in

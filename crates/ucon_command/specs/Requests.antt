@@ -1,0 +1,27 @@
+-- Lines that ask something.
+use Rattle.std.specs.Prelude.{◌≡◌, ⊤, ◌<◌, ◌∷◌, ◌++◌, IsFalse}
+use Rattle.std.specs.Fmt.{decimal}
+use Rattle.ucon_command.specs.declared.line_fault.LineFault.{LineFault}
+use Rattle.ucon_command.specs.declared.request.RequestFault.{RequestFault}
+use Rattle.ucon_command.specs.declared.request.RequestFault.TheVariants.{BadClient, BadCommand}
+use Rattle.ucon_command.specs.Faults.{IsRefusal, IsSure, amends}
+use Rattle.ucon_model.specs.declared.command.Caller.{Caller}
+use Rattle.ucon_model.specs.CommandLine.{line_read}
+use Rattle.ucon_model.specs.Plain.{Bytes}
+use Rattle.ucon_syntax.specs.Policies.{accepted}
+
+-- a line is the number of one of the 64 clients in decimal, a space, and this text
+pub record IsAskedBy (line : Bytes) (caller : Caller) (text : Bytes) : Type 0 where
+  pub few : caller.0 < 64
+  pub line_is : line ≡ decimal caller.0 ++ 32 ∷ text
+
+-- whose line a refusal says that it is, it is
+abbrev pub IsOfClient : Bytes → RequestFault → Type 0
+IsOfClient line BadClient = ⊤
+IsOfClient line (BadCommand caller fault) = (text : Bytes) × IsAskedBy line caller text
+
+-- A line of this client and text is refused so: its text is no command, for this reason, or there is no memory, which is told of other texts than amendments only
+-- where nothing is refused.
+abbrev pub IsRefusedTo : Caller → Bytes → RequestFault → Type 0
+IsRefusedTo caller text BadClient = ⊥
+IsRefusedTo caller text (BadCommand whose fault) = (whose ≡ caller) × IsRefusal (line_read accepted text) fault × (IsFalse (amends text) → IsSure (line_read accepted text) fault)

@@ -1,0 +1,20 @@
+use Rattle.std.proofs.Common.{◌≡◌, List, ℕ, ◌++◌, ◌∷◌, [], Ok, Err, ap, subst, sym, ◌∙◌, refl}
+use Rattle.ucon_tell.specs.Heard.{adds_line}
+use Rattle.ucon_tell.specs.Talk.{IsAnsweredBy}
+use Rattle.ucon_tell.specs.declared.talk_fault.TalkFault.TheVariants as faults
+use Rattle.ucon_tell.proofs.Talked.{one_told}
+use Rattle.ucon_tell.proofs.talking.exchange.Goals as goal
+
+pub returns-in-Ok-clause-talked : goal.returns-in-Ok-clause-talked
+returns-in-Ok-clause-talked g c = λ limit line bare heard.
+    let r = c.in_ok-reply.ensures.reply limit line bare heard in
+    let is : c.deref.result.now ≡ r.0 = c.deref.ensures.value ∙ (r.3 ∙ ap (λ (l : List ℕ). l ++ r.0) c.clear.ensures.items) in
+    one_told g.K.Keeper.seen g.K.Keeper.stays g.met.K.Keeper.kept g.met.K.Keeper.onward g.met.K.Keeper.same g.met.K.Keeper.again g.K.Keeper.answers g.K.Keeper.refuses limit (Ok tt) c.args.keeper.now c.reply.new.keeper line c.deref.result.now (g.V.Voice.seen c.args.out.now) (g.V.Voice.seen c.tell_all.new.out) (adds_line (Ok tt) line)
+    (subst (λ (l : List ℕ). IsAnsweredBy limit g.K.Keeper.answers g.K.Keeper.refuses c.args.keeper.now c.reply.new.keeper line l) (sym is) r.2) refl c.in-Ok.ensures.ok c.tell_all.ensures.told refl
+
+pub returns-in-Err-clause-talked : goal.returns-in-Err-clause-talked
+returns-in-Err-clause-talked g c = λ limit line bare heard.
+    let r = c.in_ok-reply.ensures.reply limit line bare heard in
+    let is : c.deref.result.now ≡ r.0 = c.deref.ensures.value ∙ (r.3 ∙ ap (λ (l : List ℕ). l ++ r.0) c.clear.ensures.items) in
+    one_told g.K.Keeper.seen g.K.Keeper.stays g.met.K.Keeper.kept g.met.K.Keeper.onward g.met.K.Keeper.same g.met.K.Keeper.again g.K.Keeper.answers g.K.Keeper.refuses limit (Err faults.SinkFault) c.args.keeper.now c.reply.new.keeper line c.deref.result.now (g.V.Voice.seen c.args.out.now) (g.V.Voice.seen c.tell_all.new.out) (adds_line (Err faults.SinkFault) line)
+    (subst (λ (l : List ℕ). IsAnsweredBy limit g.K.Keeper.answers g.K.Keeper.refuses c.args.keeper.now c.reply.new.keeper line l) (sym is) r.2) refl c.in-Err.ensures.err c.tell_all.ensures.told refl

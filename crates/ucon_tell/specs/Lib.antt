@@ -1,0 +1,5 @@
+pub mod Faults
+pub mod Heard
+pub mod Seen
+pub mod Talk
+pub mod Told

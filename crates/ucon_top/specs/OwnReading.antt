@@ -1,0 +1,92 @@
+-- What a run did by the program's own reading of policies' texts: what the functions below `run` say.
+use Rattle.std.specs.Prelude.{Bool, List, Option, ℕ}
+use Rattle.ucon_disk.specs.Seen.{DiskSeen}
+use Rattle.ucon_flow.specs.Seen.{SinkSeen}
+use Rattle.ucon_model.specs.History.{History}
+use Rattle.ucon_model.specs.LegalRun.{Answered}
+use Rattle.ucon_model.specs.Plain.{Bytes, PlainPolicy}
+use Rattle.ucon_model.specs.declared.command.Caller.{Caller}
+use Rattle.ucon_model.specs.declared.command.Entry.{Entry}
+use Rattle.ucon_outcome.specs.declared.outcome.Outcome.{Outcome}
+use Rattle.ucon_outcome.specs.declared.outcome.Refused.{Refused}
+use Rattle.ucon_script.specs.declared.doc_fault.DocFault.{DocFault}
+use Rattle.ucon_syntax.specs.Policies.{accepted}
+use Rattle.ucon_top.specs.Accepted.{IsAcceptedBy, IsPolicyFault, IsRefusedSo, IsScriptFaultBy}
+use Rattle.ucon_top.specs.Complete.{IsOwnJournalBy, IsUnhinderedBy}
+use Rattle.ucon_top.specs.Own.{IsOwnFileBy}
+use Rattle.ucon_top.specs.Played.{HasPlayedBy, HasPlayedInputBy, HasRunBy, IsFoundSinceBy, IsPlayedBy, IsRunOverBy}
+use Rattle.ucon_top.specs.Pointed.{HasNoPointBy, HasPointBy, HasPointedBy, HasPointedInputBy, IsPointOverBy, IsStillFoundBy, MayHavePointBy}
+use Rattle.ucon_top.specs.Printed.{IsCutOutputOfBy, IsOutputOfBy}
+use Rattle.ucon_top.specs.Seen.{Seen}
+use Rattle.ucon_top.specs.declared.form.Form.{Form}
+use Rattle.ucon_outcome.specs.declared.outcome.Refused.TheVariants as refusals
+
+abbrev pub IsAccepted : Bytes → Type 0
+IsAccepted = IsAcceptedBy accepted
+
+abbrev pub IsScriptFault : DocFault → Bytes → Type 0
+IsScriptFault = IsScriptFaultBy accepted
+
+abbrev pub IsRefusedBy : Outcome → Bytes → Type 0
+IsRefusedBy = IsRefusedSo accepted
+
+abbrev pub IsOwnJournal : Bytes → Option Bytes → Type 0
+IsOwnJournal = IsOwnJournalBy accepted
+
+abbrev pub IsUnhindered : Form → Bytes → Seen → Seen → Type 0
+IsUnhindered = IsUnhinderedBy accepted
+
+abbrev pub IsOwnFile : Bytes → ℕ → Bytes → Type 0
+IsOwnFile = IsOwnFileBy accepted
+
+abbrev pub IsFoundSince : Bytes → History → History → Option Entry → Bytes → Type 0
+IsFoundSince = IsFoundSinceBy accepted
+
+abbrev pub IsPlayed : (Caller → Caller → Bool) → Bytes → PlainPolicy → Bytes → History → DiskSeen → DiskSeen → List Answered → Type 0
+IsPlayed = IsPlayedBy accepted
+
+abbrev pub HasRun : (Caller → Caller → Bool) → Bytes → PlainPolicy → List Entry → Bytes → History → DiskSeen → DiskSeen →
+    (List Entry → List Answered → Type 0) → Type 0
+HasRun = HasRunBy accepted
+
+abbrev pub IsRunOver : Form → Bytes → DiskSeen → DiskSeen → (List Entry → List Answered → Type 0) → Type 0
+IsRunOver = IsRunOverBy accepted
+
+abbrev pub HasPlayed : Form → Outcome → Bytes → DiskSeen → DiskSeen → SinkSeen → SinkSeen → Type 0
+HasPlayed = HasPlayedBy accepted
+
+abbrev pub HasPlayedInput : Form → Outcome → Option Bytes → DiskSeen → DiskSeen → SinkSeen → SinkSeen → Type 0
+HasPlayedInput = HasPlayedInputBy accepted
+
+abbrev pub IsStillFound : Bytes → Bytes → History → DiskSeen → DiskSeen → (Bytes → Bytes → Type 0) → Type 0
+IsStillFound = IsStillFoundBy accepted
+
+abbrev pub IsPointOver : Bytes → DiskSeen → DiskSeen → (ℕ → Type 0) → (ℕ → Bytes → Bytes → Type 0) → (PlainPolicy → History → Type 0) → Type 0
+IsPointOver = IsPointOverBy accepted
+
+abbrev pub HasPoint : Bytes → DiskSeen → DiskSeen → (Bytes → Type 0) → Type 0
+HasPoint = HasPointBy accepted
+
+abbrev pub HasNoPoint : Bytes → DiskSeen → DiskSeen → Type 0 → (PlainPolicy → History → Type 0) → Type 0
+HasNoPoint = HasNoPointBy accepted
+
+abbrev pub MayHavePoint : Bytes → DiskSeen → DiskSeen → Type 0
+MayHavePoint = MayHavePointBy accepted
+
+abbrev pub HasPointed : Outcome → Bytes → DiskSeen → DiskSeen → SinkSeen → SinkSeen → Type 0
+HasPointed = HasPointedBy accepted
+
+abbrev pub HasPointedInput : Outcome → Option Bytes → DiskSeen → DiskSeen → SinkSeen → SinkSeen → Type 0
+HasPointedInput = HasPointedInputBy accepted
+
+abbrev pub IsOutputOf : Form → Bytes → Bytes → Type 0
+IsOutputOf = IsOutputOfBy accepted
+
+abbrev pub IsCutOutputOf : Form → Bytes → Bytes → Type 0
+IsCutOutputOf = IsCutOutputOfBy accepted
+
+-- the document is refused so; want of memory may come at any moment
+abbrev pub IsRefused : Refused → Bytes → Type 0
+IsRefused (refusals.Policy f) bytes = IsPolicyFault f bytes
+IsRefused (refusals.Script f) bytes = IsScriptFault f bytes
+IsRefused (refusals.NoMemory e) bytes = Unit {0}

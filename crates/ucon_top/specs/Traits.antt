@@ -1,0 +1,39 @@
+-- What each form does.
+use Rattle.std.specs.Prelude.{Bool}
+use Rattle.ucon_outcome.specs.Ending.{y, n}
+use Rattle.ucon_top.specs.declared.form.Form.{Form}
+use Rattle.ucon_top.specs.declared.form.Form.TheVariants.{Trial, Check, Gen, Play, Serve, Point}
+
+-- What is so of each run of a form.
+pub record Traits : Type 0 where
+  -- it reads the input
+  pub reads : Bool
+  -- it makes calls of the disk, for its journal; it runs its lines over that; it writes a checkpoint of it
+  pub disk : Bool
+  pub runs : Bool
+  pub points : Bool
+  -- it runs each client in a thread of its own
+  pub threads : Bool
+
+abbrev row : Bool → Bool → Bool → Bool → Bool → Traits
+row reads disk runs points threads = record { reads = reads; disk = disk; runs = runs; points = points; threads = threads }
+
+-- Each form with its row, from which the words of a form are read.
+--      reads
+--      | disk
+--      | | runs
+--      | | | points
+--      | | | | threads
+abbrev pub traits : Form → Traits
+traits Trial =
+    row y n n n n
+traits Check =
+    row y n n n n
+traits (Gen seed size) =
+    row n n n n n
+traits Play =
+    row y y y n n
+traits Serve =
+    row y y y n y
+traits Point =
+    row y y n y n
