@@ -3,13 +3,15 @@ import os
 import pathlib
 import subprocess
 import sys
+import tempfile
 import time
 from typing import Callable, Dict, List, Optional
 
 TOP = pathlib.Path(__file__).resolve().parent.parent
 sys.path.insert(0, str(TOP))
 
-from launcher import journal, lock  # noqa: E402
+from checks.runs import journal_with  # noqa: E402
+from launcher import asking, journal, lock  # noqa: E402
 
 UCON = TOP / "ucon"
 POLICY = b"right r {}\n"
@@ -105,6 +107,14 @@ def steps(count: int, first: int = 1) -> List[bytes]:
 def lines(count: int, first: int = 1) -> bytes:
     """A document that makes these steps."""
     return DOCUMENT + b"".join(b"subject s%d\n" % n for n in range(first, first + count))
+
+
+def has_forms(program: pathlib.Path) -> bool:
+    """Whether a program has the forms that `state`, `verify` and `carry` stand on."""
+    with tempfile.TemporaryDirectory(prefix="ucon-forms-") as folder:
+        path = pathlib.Path(folder) / "shown"
+        path.write_bytes(journal_with([POLICY, b"0 subject a\nok"]))
+        return all(asking.answered(program, [form, str(path)], POLICY).status == 0 for form in ("report", "audit"))
 
 
 def refused(call: Callable[[], object]) -> Optional[journal.Refused]:

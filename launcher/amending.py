@@ -2,16 +2,14 @@
 
 The file's tokens are made the one line of `amend`, and its comments are left out. The program judges the policy, and says on the copy who
 is revoked; of two policies that it accepted, what each declares is read here."""
-import os
 import pathlib
 import re
-import subprocess
 import sys
 import tempfile
 from typing import Dict, List, NamedTuple, Optional
 
-from launcher import hints, log, program
-from launcher.backup import filled
+from launcher import hints, log
+from launcher.asking import answered
 from launcher.fault import policy_end
 from launcher.in_force import in_force
 from launcher.journal import FILE_FAILED, NO_JOURNAL, Journal, Refused, Step, open_journal
@@ -19,6 +17,9 @@ from launcher.keeping import ACCEPT, Keeper
 from launcher.lock import Lock, take
 from launcher.policy import TOKEN, declared_in, items_of, tokens_of
 from launcher.program import Ended
+from launcher.reading import is_path
+from launcher.room import copied, room
+from launcher.told import loss_of
 
 # The journal wasn't amended.
 NOT_AMENDED = 121
@@ -36,7 +37,7 @@ class Asked(NamedTuple):
 
 def asked_of(words: List[str]) -> Optional[Asked]:
     """What the words ask. None where they are no `amend`."""
-    if words[:1] != ["amend"] or len(words) < 3 or any(it == "" or it.startswith("--") for it in words[1:3]):
+    if words[:1] != ["amend"] or len(words) < 3 or not all(map(is_path, words[1:3])):
         return None
     asked, left = Asked(words[1], words[2], False, [], False), words[3:]
     while left:
@@ -99,53 +100,25 @@ def change_of(old: Dict[str, bytes], new: Dict[str, bytes]) -> Change:
 # ---- the trial
 
 
-class Tried(NamedTuple):
-    """What the copy was answered."""
-
-    place: int
-    reply: bytes
-
-
 def document_for(first: bytes, line: bytes) -> bytes:
     return first + b"%%\nclient 0\namend " + line + b"\n"
 
 
-def tried(path_of_program: pathlib.Path, journal: Journal, document: bytes) -> Tried:
-    """Plays the amendment on a copy, which is then gone."""
-    with tempfile.TemporaryDirectory(prefix="ucon-amend-") as folder:
-        name = os.path.join(folder, "copy")
-        file = os.open(name, os.O_RDWR | os.O_CREAT | os.O_EXCL | os.O_CLOEXEC, 0o600)
-        try:
-            found = filled(journal, journal.magic(), Lock(name, file, True))
-        except OSError as why:
-            raise Refused(FILE_FAILED, f"the copy on which it is tried can't be made: {why.strerror}", "make room, or set TMPDIR") from None
-        finally:
-            os.close(file)
-        ended = ran([str(path_of_program), "play", name], document)
-        if ended.status:
-            said = ended.errors.decode(errors="replace").strip()
-            raise Refused(ended.status, f"{journal.name}: on a copy: {said}", "the journal was left as it is")
-        return Tried(found.steps, ended.output.split(b" ", 2)[2].rstrip(b"\n"))
-
-
-class Answered(NamedTuple):
-    status: int
-    output: bytes
-    errors: bytes
-
-
-def ran(words: List[str], document: bytes) -> Answered:
-    done = subprocess.run(words, input=document, stdout=subprocess.PIPE, stderr=subprocess.PIPE, check=False)
-    return Answered(program.ended_as(done.returncode), done.stdout, done.stderr)
+def tried(path_of_program: pathlib.Path, journal: Journal, end: int, document: bytes) -> bytes:
+    """What the amendment is answered on a copy, which is then gone. The journal's records end at this place."""
+    with room(end) as folder:
+        ended = answered(path_of_program, ["play", str(copied(journal, folder, end, b"\0"))], document)
+    if ended.status:
+        raise Refused(ended.status, f"{journal.name}: on a copy: {ended.line}", "the journal was left as it is")
+    return ended.output.split(b" ", 2)[2].rstrip(b"\n")
 
 
 def hold_accepted(path_of_program: pathlib.Path, file: str, policy: bytes) -> None:
     """The program accepts the policy. Refused with its own line, and the place in the file."""
-    ended = ran([str(path_of_program), "check"], policy)
+    ended = answered(path_of_program, ["check"], policy)
     if ended.status:
-        said = ended.errors.decode(errors="replace").rstrip().partition(": ")[2]
         hint = hints.behind(path_of_program, ["check"], Ended(ended.status, ended.errors), file, policy).rstrip("\n")
-        raise Refused(ended.status, f"{file}: {said}" + (f"\n{hint}" if hint else ""))
+        raise Refused(ended.status, f"{file}: {ended.line}" + (f"\n{hint}" if hint else ""))
 
 
 def report(journal: Journal, change: Change, kinds: Dict[str, bytes], reply: bytes) -> List[str]:
@@ -165,14 +138,6 @@ def report(journal: Journal, change: Change, kinds: Dict[str, bytes], reply: byt
 
 
 def run(path_of_program: pathlib.Path, asked: Asked) -> int:
-    try:
-        return amended(path_of_program, asked)
-    except Refused as why:
-        sys.stderr.write(why.text())
-        return why.status
-
-
-def amended(path_of_program: pathlib.Path, asked: Asked) -> int:
     policy = policy_in(asked.file)
     hold_accepted(path_of_program, asked.file, policy)
     if asked.is_dry:
@@ -195,18 +160,21 @@ def document_and_report(path_of_program: pathlib.Path, journal: Journal, asked: 
     if not journal.magic():
         hint = f"`ucon play {journal.name} < DOCUMENT` begins it"
         raise Refused(NO_JOURNAL, f"{journal.name} holds no record yet, and so no policy to amend", hint)
-    first = next((payload for _, payload in journal.walk()), b"")
-    if first and not first.endswith(b"\n"):
+    before = in_force(journal)
+    if before.first and not before.first.endswith(b"\n"):
         raise Refused(NOT_AMENDED, f"{journal.name} began with a policy whose last line has no newline, so no document brings it with commands")
-    document = document_for(first, one_line(policy))
-    answer = tried(path_of_program, journal, document)
+    loss = loss_of(journal)
+    if loss:
+        sys.stderr.write(f"ucon: {loss.text(journal.name)}; it is tried on what is there\n")
+    document = document_for(before.first, one_line(policy))
+    reply = tried(path_of_program, journal, before.end, document)
     kinds = declared(policy)
-    change = change_of(declared(in_force(journal).text), kinds)
-    for line in report(journal, change, kinds, answer.reply):
+    change = change_of(declared(before.text), kinds)
+    for line in report(journal, change, kinds, reply):
         print(line, flush=True)
-    if not answer.reply.startswith(b"ok"):
+    if not reply.startswith(b"ok"):
         hint = "keep each kind as it is, bounds included, or give the attribute another name"
-        raise Refused(NOT_AMENDED, f"{journal.name}: the amendment is answered `{answer.reply.decode()}`", hint)
+        raise Refused(NOT_AMENDED, f"{journal.name}: the amendment is answered `{reply.decode()}`", hint)
     hold_drops(journal.name, change, asked.drops)
     return document
 

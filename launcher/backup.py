@@ -4,26 +4,37 @@ It may be made while the journal is written. What counts never changes, so a cop
 import os
 import signal
 import sys
-from typing import NoReturn
+from typing import Callable, List, NamedTuple, NoReturn, Optional
 
 from launcher.heads import Followed
 from launcher.journal import FILE_FAILED, NO_JOURNAL, Journal, Refused, open_journal
 from launcher.lock import Lock, take
 from launcher.log import say_cut_off, write
+from launcher.reading import is_path
 from launcher.told import meet
 
 PART = 1 << 20
 
 
-def run(path: str, new: str) -> int:
+class Asked(NamedTuple):
+    path: str
+    new: str
+
+
+def asked_of(words: List[str]) -> Optional[Asked]:
+    """What the words ask. None where they are no `copy`."""
+    return Asked(*words[1:]) if words[:1] == ["copy"] and len(words) == 3 and all(map(is_path, words[1:])) else None
+
+
+def run(asked: Asked) -> int:
     """Makes the copy, and prints what an audit says first: how many records and entries it has, and its head."""
     # A file that grows too large is a fault like others.
     signal.signal(signal.SIGXFSZ, signal.SIG_IGN)
-    if os.path.lexists(new):
-        raise Refused(FILE_FAILED, f"{new} is there already, and was left as it is", "give the copy another name, or take the file away")
-    with open_journal(path) as journal:
+    if os.path.lexists(asked.new):
+        raise Refused(FILE_FAILED, f"{asked.new} is there already, and was left as it is", "give the copy another name, or take the file away")
+    with open_journal(asked.path) as journal:
         magic = journal.magic()
-        found = made(journal, magic, new) if magic else nothing_in(journal)
+        found = made(journal, magic, asked.new) if magic else nothing_in(journal)
         say_cut_off(journal, found.at)
     write(f"records {found.records}\nentries {found.steps}\nhead {found.head.hex()}\n".encode())
     return 0
@@ -33,14 +44,17 @@ def nothing_in(journal: Journal) -> NoReturn:
     raise Refused(NO_JOURNAL, f"{journal.name} holds no record yet, and nothing was copied", "look at the path")
 
 
-def made(journal: Journal, magic: bytes, new: str) -> Followed:
-    """Writes beside the place, syncs, reads back, and gives the file its name. What a copy that was killed left there is written anew."""
+def made(journal: Journal, magic: bytes, new: str, before: Callable[[], None] = lambda: None) -> Followed:
+    """Writes beside the place, syncs, reads back, and gives the file its name, before which something else may be done. What a copy that
+    was killed left there is written anew."""
+    forget_named(f"{new}.part")
     held = take(f"{new}.part")
     if held is None:
         raise Refused(FILE_FAILED, f"{new} can't be made: no file can be written there", "look at the path, and at who may write in that folder")
     try:
         found = filled(journal, magic, held)
         read_back(journal, found, held)
+        before()
         named(held, new)
     except OSError as why:
         raise Refused(FILE_FAILED, f"{new} wasn't made: {why.strerror}", "make room there, or copy to another disk") from None
@@ -49,6 +63,16 @@ def made(journal: Journal, magic: bytes, new: str) -> Followed:
             os.unlink(held.path)
         os.close(held.file)
     return found
+
+
+def forget_named(part: str) -> None:
+    """Takes away the name of a part whose file has another one by now: it was given that by a copy that was killed then, and is a journal
+    in use, perhaps elsewhere."""
+    try:
+        if os.lstat(part).st_nlink > 1:
+            os.unlink(part)
+    except FileNotFoundError:
+        pass
 
 
 def filled(journal: Journal, magic: bytes, held: Lock) -> Followed:

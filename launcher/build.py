@@ -2,8 +2,10 @@
 import contextlib
 import fcntl
 import os
+import pathlib
 import subprocess
 import sys
+import tempfile
 import time
 from typing import Dict, Iterator, List, NamedTuple, Optional
 
@@ -11,8 +13,9 @@ from launcher import program, sources
 
 LOG = program.TOP / "out" / "build.log"
 LOCK = program.TOP / "out" / "prove.lock"
-STAMP = program.MAIN / "out" / "built_by_ucon"
-TIMES = program.TOP / "docs" / "lab" / "cheap-proofs.md"
+TIMES = program.TOP / "launcher" / "minutes.tsv"
+# The journal of a conversation without lines, which is taken away again.
+UNKEPT = os.path.join(tempfile.gettempdir(), f"ucon-prove-{os.getpid()}.journal")
 # How long one crate may take, in seconds. The longest take some minutes.
 LONGEST = 2 * 3600
 
@@ -30,38 +33,48 @@ def is_built() -> bool:
     return is_proved() if chosen is None else os.access(chosen, os.X_OK)
 
 
-def is_proved() -> bool:
+def stamp_at(of: program.Program) -> pathlib.Path:
+    """Where it is noted of which sources a proved program is."""
+    return of.folder / "out" / "built_by_ucon"
+
+
+def is_proved(of: program.Program = program.RUNS) -> bool:
     """Whether the proved program is there: nothing that it is built from is newer than it, or than its last build, or it is stamped."""
-    built = program.proved()
+    built = program.proved(of)
     if not os.access(built, os.X_OK):
         return False
     if not program.has_sources():
         return True
-    made = max(mark.stat().st_mtime for mark in (built, STAMP) if mark.exists())
-    return all(file.stat().st_mtime <= made for file in sources.as_proved()) or is_stamped()
+    made = max(mark.stat().st_mtime for mark in (built, stamp_at(of)) if mark.exists())
+    return all(file.stat().st_mtime <= made for file in sources.as_proved(of)) or is_stamped(of)
 
 
-def is_stamped() -> bool:
+def is_stamped(of: program.Program = program.RUNS) -> bool:
     """Whether `./ucon prove` made this very program, of these sources."""
     try:
-        return STAMP.read_text() == stamp_of(sources.sum_of(sources.as_proved()))
+        return stamp_at(of).read_text() == stamp_of(of, sources.sum_of(sources.as_proved(of)))
     except OSError:
         return False
 
 
-def stamp_of(sum_of_sources: str) -> str:
-    return f"sources {sum_of_sources}\nprogram {sources.sum_of([program.proved()])}\n"
+def are_stamped() -> bool:
+    """Whether `./ucon prove` made the programs, of these sources."""
+    return all(map(is_stamped, program.PROGRAMS))
+
+
+def stamp_of(of: program.Program, sum_of_sources: str) -> str:
+    return f"sources {sum_of_sources}\nprogram {sources.sum_of([program.proved(of)])}\n"
 
 
 # ---- how long it takes
 
 
 def minutes_of_crates() -> Dict[str, float]:
-    """By crate, the minutes of its proof in the table of the page of gate times. Empty where there is none."""
+    """By crate, the minutes of its proof in a run of the gate (docs/lab/cheap-proofs.md). Empty if there is no table of them."""
     found: Dict[str, float] = {}
     column: Optional[int] = None
     for line in TIMES.read_text().splitlines() if TIMES.is_file() else []:
-        cells = [cell.strip(" `") for cell in line.split("|")[1:-1]]
+        cells = line.split("\t")
         if "crate" in cells and "proof" in cells:
             column = cells.index("proof")
         elif column is not None and len(cells) > column and cells[column].replace(".", "", 1).isdigit():
@@ -70,7 +83,7 @@ def minutes_of_crates() -> Dict[str, float]:
 
 
 class Pace(NamedTuple):
-    """How far a build is, by what the table of gate times gives each crate; one that isn't in it takes what they take on average."""
+    """How far a build is, by the minutes that the table gives each crate; one that isn't in it takes what they take on average."""
 
     order: List[str]
     minutes: Dict[str, float]
@@ -135,11 +148,11 @@ def end(tool: "subprocess.Popen[bytes]") -> None:
 
 
 def prove() -> bool:
-    """Proves each crate in turn and builds the program, where that isn't done. Whether it is there then."""
+    """Proves each crate in turn and builds the programs, where that isn't done. Whether they are there then."""
     if not program.has_sources():
-        say("prove needs the repository; this copy has the proved program")
+        say("prove needs the repository; this copy has the proved programs")
         return False
-    if is_stamped():
+    if are_stamped():
         say(f"the proved program of these sources is there: {program.proved()}")
         return True
     if not program.is_command("rt"):
@@ -159,44 +172,58 @@ def prove() -> bool:
 
 
 def prove_all() -> bool:
-    order = sources.crates_below(sources.PROGRAM)
+    order = crates_in_turn()
     jobs = ["--jobs", str(len(os.sched_getaffinity(0)))]
     pace = Pace(order, minutes_of_crates())
-    began, of_sources = time.time(), sources.sum_of(sources.as_proved())
-    say(f"proving {len(order)} crates and building the program; the log is {LOG}")
+    began, of_sources = time.time(), [sources.sum_of(sources.as_proved(of)) for of in program.PROGRAMS]
+    say(f"proving {len(order)} crates and building the programs; the log is {LOG}")
     with open(LOG, "wb") as log:
         for n, name in enumerate(order):
             say(f"{name}, {n + 1} of {len(order)}: {pace.left(n, time.time() - began)}")
             if step(name, words_for(name, jobs), log):
                 return failed(name)
-    if not os.access(program.proved(), os.X_OK):
-        return failed(sources.PROGRAM)
-    # A later change is newer than the program, also one that was made while it was being built.
-    os.utime(program.proved(), (began, began))
-    if sources.sum_of(sources.as_proved()) != of_sources:
+    with contextlib.suppress(OSError):
+        os.unlink(UNKEPT)
+    for of in program.PROGRAMS:
+        if not os.access(program.proved(of), os.X_OK):
+            return failed(of.crate)
+        # A later change is newer than the program, also one that was made while it was being built.
+        os.utime(program.proved(of), (began, began))
+    if [sources.sum_of(sources.as_proved(of)) for of in program.PROGRAMS] != of_sources:
         say("the sources changed while they were being proved: ./ucon prove again proves what changed")
         return False
-    stamp(of_sources, began)
+    for of, its_sources in zip(program.PROGRAMS, of_sources):
+        stamp(of, its_sources, began)
     say(f"proved and built in {in_words(time.time() - began)}; from now on ./ucon runs {program.proved()}")
     return True
 
 
+def crates_in_turn() -> List[str]:
+    """The crates below the programs, and each program behind those that it stands on."""
+    order: List[str] = []
+    for of in program.PROGRAMS:
+        order += [name for name in sources.crates_below(of.crate) if name not in order]
+    return order
+
+
 def words_for(name: str, jobs: List[str]) -> List[str]:
-    if name != sources.PROGRAM:
+    of = next((it for it in program.PROGRAMS if it.crate == name), None)
+    if of is None:
         return ["rt", "lib", *jobs]
     # So that what stands there then is what is built now, whoever put something else there.
     with contextlib.suppress(FileNotFoundError):
-        program.proved().unlink()
-    # An empty document is accepted, so the program's own status is 0.
-    return ["rt", "run", *jobs, "--", "check"]
+        program.proved(of).unlink()
+    # An empty document is accepted, and so is a conversation without lines over a journal that isn't there: the program's own status is 0.
+    return ["rt", "run", *jobs, "--", "check" if of == program.RUNS else UNKEPT]
 
 
-def stamp(of_sources: str, began: float) -> None:
-    """Notes of which sources the program is."""
-    fresh = STAMP.with_name(f".{STAMP.name}.{os.getpid()}")
-    fresh.write_text(stamp_of(of_sources))
+def stamp(of: program.Program, of_sources: str, began: float) -> None:
+    """Notes of which sources a program is."""
+    place = stamp_at(of)
+    fresh = place.with_name(f".{place.name}.{os.getpid()}")
+    fresh.write_text(stamp_of(of, of_sources))
     os.utime(fresh, (began, began))
-    fresh.replace(STAMP)
+    fresh.replace(place)
 
 
 def failed(name: str) -> bool:

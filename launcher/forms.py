@@ -6,6 +6,7 @@ from typing import Callable, Dict, List, NamedTuple, Optional, Tuple
 
 from launcher import program
 from launcher.near import near
+from launcher.script import NAME
 
 # The status with which the proved program answers words that are no form, and that of a launcher that can't run it.
 USAGE = 1
@@ -28,10 +29,26 @@ class Form(NamedTuple):
 KNOWN = [
     Form("trial", "runs the script under the policy, and prints a reply for each command", "./ucon trial < examples/first.ucon"),
     Form("check", "prints which core models of usage control each right makes", "./ucon check < examples/music.ucon"),
-    Form("gen SEED SIZE", "draws SIZE commands from a number, runs them, and prints counts; reads nothing", "./ucon gen 1 1000"),
+    Form("gen SEED SIZE", "draws SIZE commands, 1 to 100000, from a number, runs them, and prints counts; reads nothing", "./ucon gen 1 1000"),
     Form("play JOURNAL", "runs the script over a journal, a file that keeps each step", "./ucon play door.journal < door.ucon"),
     Form("serve JOURNAL", "runs each client of the script in a thread of its own, over a journal", "./ucon serve door.journal < door.ucon"),
     Form("point JOURNAL", "adds a checkpoint to a journal, and runs no line of the script", "./ucon point door.journal < door.ucon"),
+    Form(
+        "converse JOURNAL [--journal-policy]",
+        "answers lines one by one over a journal, each told once its step is kept; the policy comes first, or is the journal's",
+        "./ucon converse door.journal --journal-policy",
+    ),
+    Form(
+        "audit JOURNAL [K HEX]",
+        "checks each record of a journal from the first one on, and prints its head; K records and HEX are a head that was kept",
+        "./ucon audit door.journal < door.ucon",
+    ),
+    Form("report JOURNAL", "checks a journal so, and prints its state as JSON", "./ucon report door.journal < door.ucon"),
+    Form(
+        "explain JOURNAL SUBJECT RIGHT OBJECT",
+        "says what a try would meet now, and on which values; runs no line of the script",
+        "./ucon explain door.journal ann enter hall < door.ucon",
+    ),
 ]
 # Forms that the program doesn't have yet. A name goes from here when its form comes.
 COMING: Tuple[str, ...] = ()
@@ -39,20 +56,48 @@ FORMS = [form for form in KNOWN if form.name not in COMING]
 
 # What the launcher itself does.
 OWN = [
-    Form("test DIR ..", "runs each NAME.ucon of a folder, and compares with NAME.out", "./ucon test examples"),
+    Form(
+        "test DIR ..",
+        "runs each NAME.ucon of a folder, and compares with NAME.out, and with NAME.err and NAME.status if they are there",
+        "./ucon test examples",
+    ),
     Form("lint FILE", "warns of what a policy does that may surprise; lint --strict ends with 1 then", "./ucon lint examples/music.ucon"),
     Form("prove", "proves every crate below the program and builds it, about an hour; from then on that one is run", "./ucon prove"),
     Form(
         "log JOURNAL [--from N] [--follow] [--json]",
-        "prints each step of a journal: its place, client, command and reply",
+        "prints each step of a journal: its place, client, command and reply; from a place on, as steps come, or as JSON",
         "./ucon log door.journal --from 100",
     ),
     Form("policy JOURNAL [--first]", "prints the policy in force in a journal, or the one that it began with", "./ucon policy door.journal"),
-    Form("copy JOURNAL NEW", "makes a copy that is whole, also while the journal is written", "./ucon copy door.journal backup.journal"),
+    Form(
+        "copy JOURNAL NEW",
+        "makes a copy that is whole, also while the journal is written; it replaces no file",
+        "./ucon copy door.journal backup.journal",
+    ),
     Form(
         "amend JOURNAL FILE [--dry-run] [--drop NAME ..]",
-        "puts the policy of a file in force, tried on a copy first, and says who is revoked",
+        "puts the policy of a file in force, tried on a copy first, and says who is revoked; --drop names what loses its values",
         "./ucon amend door.journal new.policy --dry-run",
+    ),
+    Form(
+        "front --journal JOURNAL --users USERS ..",
+        "serves a journal over HTTP, with events and a console; front add-user makes users, front --help tells of all words",
+        "./ucon front --journal door.journal --policy door.ucon --users door.users",
+    ),
+    Form(
+        "state JOURNAL [--json | --metrics]",
+        "prints what stands in a journal: the tick, values, who uses what; as JSON, or as counts for Prometheus",
+        "./ucon state door.journal",
+    ),
+    Form(
+        "verify JOURNAL [--head FILE]",
+        "checks each record of a journal again, whether it goes on from a head that was kept, and what was told",
+        "./ucon verify door.journal --head monday.head",
+    ),
+    Form(
+        "carry JOURNAL NEW",
+        "makes a fresh journal that goes on where one is, without its past; new numbers are kept in NEW.carried",
+        "./ucon carry door.journal fresh.journal",
     ),
     Form("--help", "this page", ""),
     Form("--version", "the commit, and whether the program that is run is the proved one", ""),
@@ -67,17 +112,27 @@ def is_decimal(word: str, least: int, greatest: int) -> bool:
     return re.fullmatch("0|[1-9][0-9]*", word) is not None and least <= int(word) <= greatest
 
 
+def is_name(word: str) -> bool:
+    return NAME.fullmatch(os.fsencode(word)) is not None
+
+
 # What stands for a word in capitals.
 ARGUMENTS: Dict[str, Callable[[str], bool]] = {
     "SEED": lambda word: is_decimal(word, 0, 2**64 - 1),
     "SIZE": lambda word: is_decimal(word, 1, 100_000),
     "JOURNAL": lambda word: word != "",
+    "SUBJECT": is_name,
+    "RIGHT": is_name,
+    "OBJECT": is_name,
+    "K": lambda word: is_decimal(word, 0, 2**64 - 1),
+    "HEX": lambda word: re.fullmatch("[0-9a-f]{64}", word) is not None,
 }
 
 
 def fits(form: Form, words: List[str]) -> bool:
-    pattern = form.words.split()
-    return len(words) == len(pattern) and all(
+    needed, _, optional = form.words.partition(" [")
+    pattern = [*needed.split(), *optional.rstrip("]").split()]
+    return len(words) in (len(needed.split()), len(pattern)) and all(
         ARGUMENTS[wanted](word) if wanted.isupper() else wanted == word for wanted, word in zip(pattern, words)
     )
 
@@ -107,25 +162,31 @@ def own_forms() -> List[Form]:
 
 OF_SOURCES = """\
 Where no proved program is built, or its sources changed, the program as it is written is compiled once, in about a minute, and kept
-below out/; then a line on standard error says so.
+below out/, or below XDG_CACHE_HOME where the checkout can't be written; then a line on standard error says so.
 Pages: docs/policy-language.md, docs/commands.md, docs/errors.md, docs/grammar.md; the manual page: man docs/ucon.1
 """
 INSTALLED = "The manual page: man ucon\n"
+NOTES = """\
+After a fault of a document that is a file, the place, the line and a hint follow the program's own line.
+A journal has one writer at a time, and what was told of it stands beside it, in JOURNAL.told. Where it lacks some of that, play,
+serve, point, converse and explain are refused before anything is written; --accept-loss behind JOURNAL goes on with what is there. What an opening
+cuts off behind the last whole record is kept in JOURNAL.torn.
+UCON_PROGRAM=FILE runs that program in place of the proved one, and UCON_CONVERSE=FILE that one for converse.
+"""
 
 
 def help_text() -> str:
     return (
         "ucon: a usage control monitor. A document comes on standard input: a policy, a line %%, and a script.\n\n"
         f"{''.join(map(row, FORMS))}\n{''.join(map(row, own_forms()))}\n{OF_SOURCES if program.has_sources() else INSTALLED}"
-        "After a fault of a document that is a file, the place, the line and a hint follow the program's own line.\n"
-        "A journal has one writer at a time, and what was told of it stands beside it, in JOURNAL.told. Where it lacks some of that, play,\n"
-        "serve and point are refused before anything is written; --accept-loss behind JOURNAL goes on with what is there.\n"
-        "UCON_PROGRAM=FILE runs that program in place of the proved one.\n"
+        f"{NOTES}"
     )
 
 
 def instead(first: str) -> str:
     """What was probably meant by a first word that is none of the forms'."""
+    from launcher.near import near
+
     similar = near(first, [form.name for form in FORMS + own_forms()])
     if similar:
         return f"; a similar one is `{similar}`"

@@ -230,6 +230,13 @@ class Journal:
         for window in self.windows(at, number):
             yield from window.records()
 
+    def counted(self) -> Tuple[int, int]:
+        """How many records count, and where the gate behind them is."""
+        number, at = 0, FIRST_GATE
+        for window in self.windows() if self.magic() else ():
+            number, at = number + len(window.gates) - 1, window.at + window.gates[-1]
+        return number, at
+
     def _window(self, at: int, number: int) -> bytes:
         """What is read from this gate on: at least the record there, with its next gate. Empty where that doesn't count."""
         window = self.read(at, WINDOW)

@@ -12,14 +12,14 @@ from launcher.source import Document, Span, shown
 MAGICS = (b"UCONJR01", b"UCONJR02")
 # Where the policy's text begins, behind the magic, a gate and a length.
 POLICY_AT = 13
-FORMS = ("play", "serve", "point")
+FORMS = ("play", "serve", "point", "explain")
 # How much of a file is looked at, and of a line shown.
 ENOUGH, WIDTH = 1 << 17, 100
 
 
 def journal_of(words: List[str]) -> Optional[str]:
     """The journal that these words name."""
-    return words[1] if len(words) == 2 and words[0] in FORMS else None
+    return words[1] if len(words) > 1 and words[0] in FORMS else None
 
 
 def head_of(path: str) -> bytes:
@@ -48,9 +48,10 @@ def journal_as_document(words: List[str], document: Document) -> Optional[str]:
         return None
     named = journal_of(words)
     if named and is_document(head_of(named)):
-        return f"hint: {document.name} is a journal and {named} a document; they are exchanged: {words[0]} {document.name} < {named}\n"
-    form = words[0] if named else "play"
-    return f"hint: {document.name} is a journal, and a document is wanted: {form} {document.name} < DOCUMENT\n"
+        told = " ".join([words[0], document.name, *words[2:]])
+        return f"hint: {document.name} is a journal and {named} a document; they are exchanged: {told} < {named}\n"
+    told = " ".join([words[0], document.name, *words[2:]]) if named else f"play {document.name}"
+    return f"hint: {document.name} is a journal, and a document is wanted: {told} < DOCUMENT\n"
 
 
 def not_a_journal(path: str) -> Iterator[str]:

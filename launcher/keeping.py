@@ -14,10 +14,11 @@ from launcher.heads import Followed, follow, start
 from launcher.journal import LONGEST_FRESH, End, Journal, Refused
 from launcher.lock import Lock
 from launcher.program import Ended
-from launcher.told import LOST, Told, lacks, near, path_of, read_told, told_of
+from launcher.seal import EMPTY, Front
+from launcher.told import LOST, Told, meet, near, path_of, read_told, told_of
 
-# The forms whose last word is a journal that they write.
-WRITES = ("play", "serve", "point")
+# The forms that open the journal that is their second word, and write it.
+WRITES = ("play", "serve", "point", "converse", "explain")
 ACCEPT = "--accept-loss"
 # The statuses behind which nothing of the journal was written, and nobody was told a place (docs/errors.md).
 UNTOUCHED = (1, 2, 3, 4, 7, 8, 10, 11)
@@ -28,24 +29,29 @@ PUT_BACK = f"nothing was written: put a copy back that has them (`ucon copy` mak
 
 def without_accepting(words: List[str]) -> Tuple[List[str], bool]:
     """The words of a form, and whether the word behind its journal accepts a loss."""
-    accepts = len(words) == 3 and words[0] in WRITES and words[2] == ACCEPT
-    return (words[:2], True) if accepts else (words, False)
+    accepts = words[:1] != [] and words[0] in WRITES and words[2:3] == [ACCEPT]
+    return ([*words[:2], *words[3:]], True) if accepts else (words, False)
 
 
 def writes(words: List[str]) -> bool:
-    return len(words) == 2 and words[0] in WRITES
+    return len(words) > 1 and words[0] in WRITES
+
+
+def asked(words: List[str]) -> List[str]:
+    """The words that the program is given: what holds a conversation does nothing else, and has no word for it."""
+    return words[1:] if words[0] == "converse" else words
 
 
 def run(path_of_program: pathlib.Path, words: List[str], accepts_loss: bool, catches: bool) -> Ended:
     """Runs a form that writes a journal. What is to be said on standard error comes back; what the program says there only where
     `catches` says so, and else it goes out by itself."""
     try:
-        held = lock.take(words[-1])
+        held = lock.take(words[1])
         if held is None:
             # The program says what is wrong with the path.
-            return started([str(path_of_program), *words], None, catches)
+            return started([str(path_of_program), *asked(words)], None, catches)
         try:
-            return Keeper(words[-1], held, accepts_loss).run([str(path_of_program), *words], catches)
+            return Keeper(words[1], held, accepts_loss).run([str(path_of_program), *asked(words)], catches)
         finally:
             held.release()
     except Refused as why:
@@ -53,12 +59,13 @@ def run(path_of_program: pathlib.Path, words: List[str], accepts_loss: bool, cat
 
 
 class Found(NamedTuple):
-    """What a journal was found as before the program opens it: up to where it was followed, what was told, and what stands behind.
-    `accepted` is why it would have been refused, where that was accepted."""
+    """What a journal was found as before the program opens it: up to where it was followed, what was told, what stands behind, and of
+    which front the digest is known. `accepted` is why it would have been refused, where that was accepted."""
 
     followed: Optional[Followed] = None
     told: Optional[Told] = None
     end: Optional[End] = None
+    front: Front = EMPTY
     accepted: str = ""
 
 
@@ -114,13 +121,12 @@ class Keeper:
                 raise Refused(LOST, f"{journal.name} {says}, and {told.place} steps of it were told", hint)
             return Found()
         try:
-            followed, kept = follow(journal, start(journal), told.records if told else 0)
+            followed, _, loss, front = meet(journal)
         except Refused as why:
             if told:
                 raise Refused(LOST, f"{why.sentence}; {told.place} steps of it were told", PUT_BACK) from None
             # The program says what is wrong with it, and writes nothing.
             return Found()
-        loss = lacks(journal, told, followed, kept) if told else None
         if loss:
             raise Refused(LOST, loss.text(journal.name), PUT_BACK)
         end = journal.end(followed.at)
@@ -128,7 +134,7 @@ class Keeper:
         if strange:
             says = f"{journal.name}: behind {followed.steps} whole steps, at byte {end.at}, stands what no write of the program leaves: {strange}"
             raise Refused(LOST, says, f"nothing was written: put a copy back, or see what wrote there; {GOES_ON}")
-        return Found(followed, told, end)
+        return Found(followed, told, end, front)
 
     def found_plainly(self) -> Found:
         """What the journal is found as, whatever was told of it."""
@@ -190,7 +196,7 @@ class Keeper:
         if status == DISK_FAULT and now.records > begins.records:
             # The last one may be the one that failed, of which nobody was told.
             now, _ = follow(self.journal, begins, most=now.records - 1)
-        return told_of(now) if now.records else None
+        return told_of(self.journal, now, found.front) if now.records else None
 
     def write_beside(self, path: str, raw: bytes) -> None:
         """Writes a file whole: beside its place, synced, and then renamed. It may be read by whoever may read the journal."""

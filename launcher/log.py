@@ -1,7 +1,6 @@
 """`ucon log JOURNAL`: each step with its place, client, command and reply, and what each session in a reply was tried for.
 
 A step is one line: `PLACE CLIENT COMMAND -> REPLY`, with `[SUBJECT RIGHT OBJECT]` behind each session that the reply names."""
-import json
 import os
 import re
 import select
@@ -9,6 +8,7 @@ import sys
 from typing import Dict, List, NamedTuple, Optional
 
 from launcher.journal import FIRST_GATE, POINT, STEP, Damaged, Journal, Refused, Window, open_journal
+from launcher.reading import is_path
 
 SINK_FAULT, FILE_FAILED = 5, 6
 # How long one wait for more is, in seconds.
@@ -17,7 +17,7 @@ WAIT = 0.2
 NAMED = re.compile(rb"(permitted|ended) (\d+)|(denied|waiting|revoked) (\d+) (\w+)")
 # All that a line may show as it is; a policy's comment may hold any byte.
 PRINTABLE = bytes(range(0x20, 0x7F)) + b"\n"
-
+PLACE = re.compile("[1-9][0-9]{0,18}")
 # What a payload of the clients that have one digit begins with.
 CLIENTS = {f"{client} " for client in range(10)}
 
@@ -29,6 +29,23 @@ class Asked(NamedTuple):
     first: int = 1
     follows: bool = False
     as_json: bool = False
+
+
+def asked_of(words: List[str]) -> Optional[Asked]:
+    """What the words ask. None where they are no `log`."""
+    asked = Asked(words[1]) if words[:1] == ["log"] and len(words) > 1 and is_path(words[1]) else None
+    left = words[2:]
+    while asked and left:
+        word = left.pop(0)
+        if word == "--follow":
+            asked = asked._replace(follows=True)
+        elif word == "--json":
+            asked = asked._replace(as_json=True)
+        elif word == "--from" and left and PLACE.fullmatch(left[0]):
+            asked = asked._replace(first=int(left.pop(0)))
+        else:
+            return None
+    return asked
 
 
 class Use(NamedTuple):
@@ -96,21 +113,32 @@ class Lines:
     def add_lines(self, made: List[str], window: Window, payloads: List[str], is_quick: bool) -> None:
         """Adds a line for each step. One that is answered `ok` alone takes no search, nor does a `try` that is only permitted."""
         clients, as_json, tries, place = CLIENTS if is_quick else (), self.asked.as_json, self.sessions.tries, self.place
-        for n, payload in enumerate(payloads, self.records):
+        add, first = made.append, self.records
+        for n, payload in enumerate(payloads, first):
             said, _, reply = payload.partition("\n")
             if reply == "ok" and said[:2] in clients and len(said) > 2 and n:
                 place += 1
-                made.append(quick_json(place, said, "ok") if as_json else f"{place} {said} -> ok\n")
-            elif said[:2] in clients and reply == f"permitted {len(tries) + 1}" and said[1:6] == " try " and said.count(" ") == 4 and n:
+                if as_json:
+                    add(f'{{"place":{place},"client":{said[0]},"command":"{said[2:]}","reply":"ok","sessions":[]}}\n')
+                else:
+                    add(f"{place} {said} -> ok\n")
+            elif said[1:6] == " try " and said[:2] in clients and reply == f"permitted {len(tries) + 1}" and said.count(" ") == 4 and n:
                 place += 1
-                tries.append(said[6:].encode())
-                made.append(quick_json(place, said, reply) if as_json else f"{place} {said} -> {reply} [{said[6:]}]\n")
+                tried = said[6:]
+                tries.append(tried.encode())
+                if as_json:
+                    subject, right, name = tried.split(" ")
+                    use = f'"session":{len(tries)},"subject":"{subject}","right":"{right}","object":"{name}"'
+                    front = f'{{"place":{place},"client":{said[0]},"command":"{said[2:]}","reply":"{reply}"'
+                    add(f'{front},"sessions":[{{"outcome":"permitted",{use}}}]}}\n')
+                else:
+                    add(f"{place} {said} -> {reply} [{tried}]\n")
             else:
                 self.place = place
                 line = self.line(n, window, payload)
                 place = self.place
                 if line:
-                    made.append(line)
+                    add(line)
         self.place = place
 
     def line(self, number: int, window: Window, payload: str) -> str:
@@ -136,6 +164,8 @@ class Lines:
         return b"%b [%b]" % (named[0], tried) if tried else named[0]
 
     def json_line(self, client: bytes, command: bytes, reply: bytes) -> bytes:
+        import json
+
         said = {"place": self.place, "client": int(client), "command": text_of(command), "reply": text_of(reply), "sessions": self.uses(reply)}
         return json.dumps(said, separators=(",", ":")).encode() + b"\n"
 
@@ -147,15 +177,6 @@ class Lines:
             label = {} if use.label is None else {"label": use.label}
             found.append({"outcome": use.outcome, "session": use.session, **label, **tried})
         return found
-
-
-def quick_json(place: int, said: str, reply: str) -> str:
-    """The JSON text of a step that is answered `ok`, or of a `try` that is permitted, whose texts are spelled as they are."""
-    uses = ""
-    if reply != "ok":
-        subject, right, name = said[6:].split(" ")
-        uses = f'{{"outcome":"permitted","session":{reply[10:]},"subject":"{subject}","right":"{right}","object":"{name}"}}'
-    return f'{{"place":{place},"client":{said[:1]},"command":"{said[2:]}","reply":"{reply}","sessions":[{uses}]}}\n'
 
 
 def text_of(raw: bytes) -> str:

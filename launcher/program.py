@@ -10,7 +10,23 @@ import sys
 from typing import Callable, Iterator, List, NamedTuple, Optional
 
 TOP = pathlib.Path(__file__).resolve().parent.parent
-MAIN = TOP / "crates" / "ucon_main"
+
+
+class Program(NamedTuple):
+    """One of the programs: its crate, and the variable of the environment that names another file in its place."""
+
+    crate: str
+    variable: str
+
+    @property
+    def folder(self) -> pathlib.Path:
+        return TOP / "crates" / self.crate
+
+
+# What runs a form of words, and what holds a conversation.
+RUNS = Program("ucon_main", "UCON_PROGRAM")
+CONVERSES = Program("ucon_converse_main", "UCON_CONVERSE")
+PROGRAMS = (RUNS, CONVERSES)
 
 
 def has_sources() -> bool:
@@ -22,20 +38,20 @@ def is_command(name: str) -> bool:
     return shutil.which(name) is not None
 
 
-def chosen() -> Optional[pathlib.Path]:
-    """The program that UCON_PROGRAM names."""
-    named = os.environ.get("UCON_PROGRAM")
+def chosen(which: Program = RUNS) -> Optional[pathlib.Path]:
+    """The program that is named in its place, by UCON_PROGRAM or UCON_CONVERSE."""
+    named = os.environ.get(which.variable)
     return pathlib.Path(named).resolve() if named else None
 
 
-def proved() -> pathlib.Path:
+def proved(which: Program = RUNS) -> pathlib.Path:
     """Where the proved program stands once it is built."""
-    return MAIN / "out" / "ucon_main" if has_sources() else TOP / "ucon_main"
+    return which.folder / "out" / which.crate if has_sources() else TOP / which.crate
 
 
-def path() -> pathlib.Path:
+def path(which: Program = RUNS) -> pathlib.Path:
     """The program that was chosen, and else where the proved one stands once it is built."""
-    return chosen() or proved()
+    return chosen(which) or proved(which)
 
 
 class Input(NamedTuple):

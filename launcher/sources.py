@@ -5,9 +5,6 @@ from typing import Dict, Iterable, List
 
 from launcher import program
 
-PROGRAM = "ucon_main"
-
-
 def needs(top: pathlib.Path) -> Dict[str, List[str]]:
     """By crate of a repository, what its line of crates.txt names."""
     found: Dict[str, List[str]] = {}
@@ -33,20 +30,20 @@ def crates_below(name: str) -> List[str]:
     return order
 
 
-def files_of(*parts: str) -> List[pathlib.Path]:
-    """The files of these folders of each crate below the program, and the list of the crates."""
-    folders = [program.TOP / "crates" / name / part for name in crates_below(PROGRAM) for part in parts]
+def files_of(which: program.Program, *parts: str) -> List[pathlib.Path]:
+    """The files of these folders of each crate below a program, and the list of the crates."""
+    folders = [program.TOP / "crates" / name / part for name in crates_below(which.crate) for part in parts]
     return [program.TOP / "crates.txt", *(file for folder in folders for file in sorted(folder.rglob("*")) if file.is_file())]
 
 
-def as_written() -> List[pathlib.Path]:
-    """What decides what the program does: its code, with the contracts in it."""
-    return files_of("src")
+def as_written(which: program.Program = program.RUNS) -> List[pathlib.Path]:
+    """What decides what a program does: its code, with the contracts in it."""
+    return files_of(which, "src")
 
 
-def as_proved() -> List[pathlib.Path]:
+def as_proved(which: program.Program = program.RUNS) -> List[pathlib.Path]:
     """What its proof reads: its code, definitions and proofs."""
-    return files_of("src", "specs", "proofs")
+    return files_of(which, "src", "specs", "proofs")
 
 
 def sum_of(files: Iterable[pathlib.Path], *more: str) -> str:

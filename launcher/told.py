@@ -7,6 +7,8 @@ The file is text, a word and what it says on each line:
     records 21          how many records the head is after
     head 5f1c..         the head after them, 64 digits
     marks 9a03..        of the head after each of them the first 2 bytes, so that the first record that differs can be named
+    bytes 315           where the gate behind these records is
+    seal 77b1..         by which it is seen at once that the bytes before that gate, and the lines above, are what they were
 
 A journal has what was told where its first so many records have this head, and it has at least so many steps."""
 import os
@@ -14,6 +16,7 @@ from typing import Callable, Dict, NamedTuple, Optional, Tuple
 
 from launcher.heads import HEAD, MARK, Followed, first_head, follow, start
 from launcher.journal import Journal, Refused, Window
+from launcher.seal import EMPTY, Front, up_to
 
 # The journal lacks what was told of it, or something that no write of the program leaves stands behind its records.
 LOST = 123
@@ -21,22 +24,39 @@ FIRST_LINE = "ucon told 1"
 
 
 class Told(NamedTuple):
-    """The last place that somebody was told, and the head after so many records. `marks` may be short, or empty."""
+    """The last place that somebody was told, and the head after so many records. `marks` may be short, or empty; `seal` may be empty, and
+    where it isn't the place is that of the head."""
 
     place: int
     records: int
     head: bytes
     marks: bytes
+    at: int = 0
+    seal: str = ""
+
+    @property
+    def lines(self) -> str:
+        marks = f"marks {self.marks.hex()}\n" if self.marks else ""
+        return f"{FIRST_LINE}\nplace {self.place}\nrecords {self.records}\nhead {self.head.hex()}\n{marks}"
+
+    @property
+    def sealed(self) -> str:
+        """The lines that a seal is of."""
+        return f"{self.lines}bytes {self.at}\n"
+
+    @property
+    def followed(self) -> Followed:
+        """The journal as it was followed where it is sealed."""
+        return Followed(self.at, self.records, self.place, self.head, self.marks)
 
     def text(self) -> str:
-        return (
-            f"{FIRST_LINE}\nplace {self.place}\nrecords {self.records}\nhead {self.head.hex()}\n"
-            + (f"marks {self.marks.hex()}\n" if self.marks else "")
-        )
+        return f"{self.sealed}seal {self.seal}\n" if self.seal else self.lines
 
 
-def told_of(followed: Followed) -> Told:
-    return Told(followed.steps, followed.records, followed.head, followed.marks)
+def told_of(journal: Journal, followed: Followed, front: Front = EMPTY) -> Told:
+    """What is told of a journal that was followed so far, of which a front was read before."""
+    told = Told(followed.steps, followed.records, followed.head, followed.marks, followed.at)
+    return told._replace(seal=up_to(journal, told.at, front).sealed(told.sealed))
 
 
 def path_of(real: str) -> str:
@@ -65,7 +85,8 @@ def read_told(path: str) -> Optional[Told]:
     try:
         if not HEAD.fullmatch(said["head"]):
             raise ValueError("its head isn't 64 digits")
-        return Told(int(said["place"]), int(said["records"]), bytes.fromhex(said["head"]), bytes.fromhex(said.get("marks", "")))
+        head, marks = bytes.fromhex(said["head"]), bytes.fromhex(said.get("marks", ""))
+        return Told(int(said["place"]), int(said["records"]), head, marks, int(said.get("bytes", 0)), said.get("seal", ""))
     except (KeyError, ValueError) as why:
         raise unread(path, str(why)) from None
 
@@ -116,16 +137,30 @@ def differing(told: Told, followed: Followed) -> Tuple[int, int]:
     return (same if same < told.records else 0), max(min(told.records - 1, followed.records), 0)
 
 
+def loss_of(journal: Journal) -> Optional[Loss]:
+    """What the journal lacks of what was told. Where nothing was told it isn't followed."""
+    is_told = os.path.lexists(path_of(os.path.realpath(journal.name)))
+    return meet(journal).loss if is_told else None
+
+
 class Met(NamedTuple):
-    """A journal that was followed to its end, what was told of it, and what it lacks of that."""
+    """A journal that was followed to its end, what was told of it, and what it lacks of that. Of `front` the digest is known."""
 
     followed: Followed
     told: Optional[Told]
     loss: Optional[Loss]
+    front: Front = EMPTY
 
 
 def meet(journal: Journal, hear: Optional[Callable[[Window], None]] = None) -> Met:
     """Follows a journal, whose magic stands, to its end, and looks for what was told of it. Who hears is given what was read."""
     told = read_told(path_of(os.path.realpath(journal.name)))
-    followed, kept = follow(journal, start(journal), told.records if told else 0, hear=hear)
-    return Met(followed, told, lacks(journal, told, followed, kept) if told else None)
+    if told is None or hear or not told.seal or journal.size <= told.at:
+        followed, kept = follow(journal, start(journal), told.records if told else 0, hear=hear)
+        return Met(followed, told, lacks(journal, told, followed, kept) if told else None)
+    front = up_to(journal, told.at)
+    if front.sealed(told.sealed) == told.seal:
+        # So its records are those that were told.
+        return Met(follow(journal, told.followed)[0], told, None, front)
+    followed, kept = follow(journal, start(journal), told.records)
+    return Met(followed, told, lacks(journal, told, followed, kept))

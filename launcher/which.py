@@ -1,4 +1,4 @@
-"""Which program a call runs: the one that UCON_PROGRAM names, the proved one, or else the program as it is written."""
+"""Which program a call runs: the one that UCON_PROGRAM or UCON_CONVERSE names, the proved one, or else the program as it is written."""
 import enum
 import os
 import pathlib
@@ -29,28 +29,28 @@ PROVES_AGAIN = "the sources changed since the proof; `./ucon prove` proves and b
 CHECK_FAILED = (128 + 4, 128 + 5)
 
 
-def is_there() -> Optional[Found]:
+def is_there(of: program.Program = program.RUNS) -> Optional[Found]:
     """The program to be run. None where it has to be compiled, or proved, first."""
-    chosen = program.chosen()
+    chosen = program.chosen(of)
     if chosen:
         return Found(Kind.CHOSEN, chosen) if os.access(chosen, os.X_OK) and chosen.is_file() else None
-    if build.is_proved():
-        return Found(Kind.PROVED, program.proved())
-    kept = written.kept() if program.has_sources() else None
+    if build.is_proved(of):
+        return Found(Kind.PROVED, program.proved(of))
+    kept = written.kept(of) if program.has_sources() else None
     return Found(Kind.WRITTEN, kept) if kept else None
 
 
-def find() -> Found:
+def find(of: program.Program = program.RUNS) -> Found:
     """The program to be run, compiled as it is written where there is none. Fails by `kit.Failed`."""
-    found = is_there()
+    found = is_there(of)
     if found:
         return found
-    chosen = program.chosen()
+    chosen = program.chosen(of)
     if chosen:
-        raise kit.Failed(f"{chosen}, which UCON_PROGRAM names, is no program that can be run")
+        raise kit.Failed(f"{chosen}, which {of.variable} names, is no program that can be run")
     if not program.has_sources():
-        raise kit.Failed(f"{program.proved()} is not there; ./install of the repository puts it there")
-    return Found(Kind.WRITTEN, written.make())
+        raise kit.Failed(f"{program.proved(of)} is not there; ./install of the repository puts it there")
+    return Found(Kind.WRITTEN, written.make(of))
 
 
 def why_unproved() -> str:

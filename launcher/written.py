@@ -8,7 +8,6 @@ import os
 import pathlib
 import shutil
 import sys
-import tempfile
 import time
 from typing import List, NamedTuple, Optional
 
@@ -36,26 +35,28 @@ def folders() -> List[pathlib.Path]:
     return [program.TOP / "out" / "written", home / "ucon" / "written"]
 
 
-def name() -> str:
-    return f"ucon_main-{sources.sum_of(sources.as_written(), LEVEL)[:32]}"
+def name(of: program.Program) -> str:
+    return f"{of.crate}-{sources.sum_of(sources.as_written(of), LEVEL)[:32]}"
 
 
-def kept() -> Optional[pathlib.Path]:
+def kept(of: program.Program = program.RUNS) -> Optional[pathlib.Path]:
     """The program of these sources, where it was compiled before."""
-    named = name()
+    named = name(of)
     return next((folder / named for folder in folders() if os.access(folder / named, os.X_OK)), None)
 
 
-def make() -> pathlib.Path:
+def make(of: program.Program = program.RUNS) -> pathlib.Path:
     """Compiles the program and keeps it. Where one was kept meanwhile it is as good. Fails by `kit.Failed`."""
     tools = kit.folder()
-    place = place_to_write(name())
+    place = place_to_write(name(of))
+    import tempfile
+
     print(WAITING, file=sys.stderr, flush=True)
     try:
         with program.ended_by_signals(), tempfile.TemporaryDirectory(prefix="ucon-written-") as folder:
             room = pathlib.Path(folder)
             made = room / "program"
-            kit.link(tools, kit.module_of(tools, program.MAIN, room), [LEVEL], made, room)
+            kit.link(tools, kit.module_of(tools, of.folder, room), [LEVEL], made, room)
             shutil.copyfile(made, place.beside)
         place.beside.chmod(0o755)
         place.beside.replace(place.target)
@@ -64,7 +65,7 @@ def make() -> pathlib.Path:
     finally:
         with contextlib.suppress(OSError):
             place.beside.unlink()
-    clear(place.target.parent)
+    clear(place.target.parent, of)
     return place.target
 
 
@@ -82,10 +83,10 @@ def place_to_write(named: str) -> Place:
     raise kit.Failed(f"the program as written can be kept nowhere ({'; '.join(causes)}): XDG_CACHE_HOME=FOLDER names another folder")
 
 
-def clear(folder: pathlib.Path) -> None:
-    """Takes away older programs, and what launchers left that were killed."""
+def clear(folder: pathlib.Path, of: program.Program) -> None:
+    """Takes away older programs of one crate, and what launchers left that were killed."""
     with contextlib.suppress(OSError):
-        made = sorted(folder.glob("ucon_main-*"), key=lambda file: file.stat().st_mtime, reverse=True)
-        left = [file for file in folder.glob(".ucon_main-*") if file.stat().st_mtime < time.time() - A_DAY]
+        made = sorted(folder.glob(f"{of.crate}-*"), key=lambda file: file.stat().st_mtime, reverse=True)
+        left = [file for file in folder.glob(f".{of.crate}-*") if file.stat().st_mtime < time.time() - A_DAY]
         for file in made[KEPT:] + left:
             file.unlink()

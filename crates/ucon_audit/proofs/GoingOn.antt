@@ -1,5 +1,5 @@
 -- Uses that go on.
-use Rattle.std.proofs.Common.{◌≡◌, ◌++◌, ◌∷◌, [], ◌∙◌, ℕ, zero, suc, Bool, true, false, List, Option, Some, None, refl, ap}
+use Rattle.std.proofs.Common.{◌≡◌, ◌++◌, ◌∷◌, [], ℕ, zero, suc, Bool, true, false, List, Option, Some, None, refl, ap}
 use Rattle.std.specs.Prelude.{All, IsSome, if◌then◌else◌}
 use Rattle.std.proofs.lemmas.List.Elements.{All-nil, All-push}
 use Rattle.ucon_model.specs.declared.session.SessionRow.{SessionRow}

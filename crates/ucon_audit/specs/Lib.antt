@@ -1,4 +1,9 @@
+pub mod Audited
+pub mod Checking
 pub mod Head
+pub mod Keeping
+pub mod Lines
 pub mod Recheck
-pub mod Usages
+pub mod Refusing
 pub mod Report
+pub mod Usages

@@ -1,12 +1,12 @@
 //! Documents that are played over a journal or a checkpoint of which is written, and what its file holds then.
 
-/// A document that is played over a file, or under which a checkpoint is written to it, with the calls of the disk and of the sink that fail, by
-/// their numbers from 0; what the program ends with, writes and tells; and the file behind it.
+/// A document that is played over a file, or under which a checkpoint is written to it or something is told of it, with the calls of the disk and
+/// of the sink that fail, by their numbers from 0; what the program ends with, writes and tells; and the file behind it.
 #[derive(Clone, Copy)]
 pub struct Played {
     pub name: &'static str,
-    /// `play` or `point`.
-    pub form: &'static str,
+    /// The form's words, over the journal `j`.
+    pub words: &'static [&'static str],
     pub file: &'static [u8],
     pub document: &'static [u8],
     pub disk_faults: &'static [u64],
@@ -82,21 +82,21 @@ const OLD_WITH_A: &[u8] =
 const OLD_WITH_A_AND_B: &[u8] =
     b"UCONJR01\x01\x00\x00\x00\x0bright r {}\n\x01\x00\x00\x00\x0e0 subject a\nok\x01\x00\x00\x00\x0e0 subject b\nok\x00";
 /// The gate of record 1 is closed, and the record is cut off.
-const TORN: &[u8] = b"UCONJR02\x01\x00\x00\x00\x0bright r {}\n\x00\x00\x00\x00\x0e0 sub";
+pub(crate) const TORN: &[u8] = b"UCONJR02\x01\x00\x00\x00\x0bright r {}\n\x00\x00\x00\x00\x0e0 sub";
 /// The reply is `oj`.
-const WRONG_REPLY: &[u8] =
+pub(crate) const WRONG_REPLY: &[u8] =
     b"UCONJR02\x01\x00\x00\x00\x0bright r {}\n\x01\x00\x00\x00\x0e0 subject a\noj\x00";
 /// The caller is client 1, who is no administrator.
 const WRONG_CALLER: &[u8] =
     b"UCONJR02\x01\x00\x00\x00\x0bright r {}\n\x01\x00\x00\x00\x0e1 subject a\nok\x00";
 
-const MADE: &[u8] = b"UCONJR02\x01\x00\x00\x00\x0bright r {}\n\x00";
+pub(crate) const MADE: &[u8] = b"UCONJR02\x01\x00\x00\x00\x0bright r {}\n\x00";
 
 /// A checkpoint before the first entry.
 const POINTED: &[u8] =
     b"UCONJR02\x01\x00\x00\x00\x0bright r {}\n\x01\x00\x00\x00\x25point 0\npolicy 11\nright r {}\n\ntick 0\n\x00";
 
-const FOREIGN: &[u8] = b"0123456789";
+pub(crate) const FOREIGN: &[u8] = b"0123456789";
 
 pub const NO_LINES: &[u8] = b"right r {}\n";
 
@@ -109,12 +109,12 @@ pub const SUBJECTS_B_AND_C: &[u8] = b"right r {}\n%%\nclient 0\nsubject b\nsubje
 /// One line that changes nothing: its place is the number of entries.
 pub const LOOKING: &[u8] = b"right r {}\n%%\nclient 0\nlook 1\n";
 
-const OTHER_POLICY: &[u8] = b"right q {}\n";
+pub(crate) const OTHER_POLICY: &[u8] = b"right q {}\n";
 
 /// `play` of a policy without lines, over a disk that doesn't fail.
 pub const PLAY: Played = Played {
     name: "",
-    form: "play",
+    words: &["play", "j"],
     file: b"",
     document: NO_LINES,
     disk_faults: &[],
@@ -260,13 +260,13 @@ pub const PLAYED_ROWS: &[Played] = &[
 
 /// A checkpoint, over a disk that doesn't fail.
 const POINT: Played = Played {
-    form: "point",
+    words: &["point", "j"],
     ..PLAY
 };
 
 /// A checkpoint of a journal of one record, on a disk of which a call fails.
 const HALF_POINTED: Played = Played {
-    form: "point",
+    words: &["point", "j"],
     document: NO_LINES,
     ..STOPPED
 };

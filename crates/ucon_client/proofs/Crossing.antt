@@ -44,6 +44,8 @@ use Rattle.ucon_model.specs.contracts.policy.Update as Update
 use Rattle.ucon_script.specs.contracts.document.Line as Line
 use Rattle.ucon_engine.specs.declared.engine.Engine as engine
 use Rattle.ucon_store.proofs.beginning.Beginning.TheSendSync as beginning
+use Rattle.ucon_store.proofs.entries.Entries.TheSendSync as entries
+use Rattle.ucon_store.proofs.in_force.InForce.TheSendSync as in_force
 use Rattle.ucon_store.specs.contracts.event.Base as Base
 use Rattle.ucon_store.specs.contracts.event.Event as Event
 use Rattle.ucon_store.specs.contracts.store.Store as Store
@@ -160,7 +162,7 @@ module _ (E D : RattleType) (g : engine.Ghosts E.Denot) (d : disk.Ghosts D.Denot
                 search sendable,
                 (
                   search sendable,
-                  (rows.the_send Entry.the_row entry_send, (search (entry_send, crosses, sendable) depth 20, (search (crosses, sendable) depth 20, tt))),
+                  (entries.the_send, (in_force.the_field_send, (search (entry_send, crosses, sendable) depth 20, (search (crosses, sendable) depth 20, tt)))),
                 ),
               ),
             ),

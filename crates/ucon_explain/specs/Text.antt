@@ -1,12 +1,17 @@
--- How an explanation is printed.
+-- How an explanation is printed, and what is printed of a try.
 use Rattle.std.specs.Prelude.{ℤ, Bool, true, false, List, [], ◌∷◌, ◌++◌, Option, Some, None, codes}
+use Rattle.std.specs.Option.{option_map_or}
 use Rattle.std.specs.Fmt.{signed_decimal}
 use Rattle.ucon_base.specs.Spelling.{value_spelling}
 use Rattle.ucon_model.specs.declared.formula.Ref.{Ref}
 use Rattle.ucon_model.specs.declared.formula.Ref.TheVariants.{Subject, Object, Env}
 use Rattle.ucon_model.specs.declared.session.Verdict.{Verdict}
 use Rattle.ucon_model.specs.declared.session.Verdict.TheVariants.{Permit, Deny, Wait}
-use Rattle.ucon_model.specs.Plain.{Bytes}
+use Rattle.ucon_model.specs.declared.reply.Refusal.{Refusal}
+use Rattle.ucon_model.specs.Action.{Trace}
+use Rattle.ucon_model.specs.Plain.{Bytes, PlainPolicy}
+use Rattle.ucon_model.specs.Spelling.{refusal_words}
+use Rattle.ucon_accept.specs.Trying.{explanation, try_refusal}
 use Rattle.ucon_told.specs.declared.explanation.Fact.{Fact}
 use Rattle.ucon_told.specs.declared.explanation.Fact.TheVariants.{Value, Moment, Tick}
 use Rattle.ucon_told.specs.declared.explanation.Factor.{Factor}
@@ -64,3 +69,13 @@ verdict_spelling (Wait label) = codes "verdict wait " ++ label ++ 10 ∷ []
 -- the lines on the predicates, and the verdict
 abbrev pub explanation_spelling : PlainExplanation → Bytes
 explanation_spelling e = whys_spelling e.whys ++ verdict_spelling e.verdict
+
+-- ---- of a try
+
+-- a refusal's words as a line
+abbrev pub refusal_line : Refusal → Bytes
+refusal_line x = refusal_words x ++ 10 ∷ []
+
+-- what is printed of a try after a trace: the line of its refusal, or where it isn't refused its explanation
+abbrev pub try_spelling : PlainPolicy → Trace → Bytes → Bytes → Bytes → Bytes
+try_spelling P T s r o = option_map_or refusal_line (try_refusal P T s r o) (explanation_spelling (explanation P T s r o))

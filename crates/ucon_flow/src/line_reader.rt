@@ -47,6 +47,13 @@ impl LineReader {
         }
     }
 
+    /// From now on a line may have so many bytes.
+    pub fn limit_to(&mut self, limit: usize)
+        ensures { self.new ≡ record self.old { limit = limit } }
+    {
+        self.limit = limit;
+    }
+
     /// Whether a whole line is held: then the next call of [`LineReader::next`] or [`LineReader::skip`] doesn't read the source. So all the lines that
     /// have arrived can be taken before the source is waited for.
     pub fn has_line(&self) -> bool

@@ -1,4 +1,5 @@
 mod Added
+mod Batches
 mod Files
 mod Leading
 mod Openings

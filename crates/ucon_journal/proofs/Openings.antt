@@ -9,7 +9,7 @@ use Rattle.ucon_disk.specs.Disk.{overwritten}
 use Rattle.ucon_journal.specs.JournalBytes.{IsVersion, newest, magic, record_bytes, records, journal_bytes, AreShort}
 use Rattle.ucon_journal.specs.Found.{Fresh, NotJournal, Holds, found, version_told, payloads_after, payloads_from, payloads_found, counted, StandsAt}
 use Rattle.ucon_journal.specs.Opened.{opened}
-use Rattle.ucon_journal.proofs.Records.{reads_none, payloads_after-record}
+use Rattle.ucon_journal.proofs.Records.{reads_none, payloads_after-records}
 use Rattle.ucon_journal.proofs.Files.{told-magic, counted-magic}
 
 -- at most 9 bytes have no record
@@ -82,13 +82,6 @@ counted-opened file = elim (cases_Bool (nat_le (length file) 9)) [
 ]
 
 -- what was written is found
-payloads_after-records : (ps : List (List ℕ)) (rest : List ℕ) → AreShort ps → 0 < length rest → payloads_after 0 (records ps ++ rest) ≡ ps ++ payloads_after 0 rest
-payloads_after-records [] rest short some = refl
-payloads_after-records (p ∷ ps) rest short some =
-    ap (λ (l : List ℕ). payloads_after 0 l) (append_assoc (record_bytes p) (records ps) rest)
-    ∙ payloads_after-record p (records ps ++ rest) short.0 (omega (arith, some, length-append (records ps) rest))
-    ∙ ap (λ (qs : List (List ℕ)). p ∷ qs) (payloads_after-records ps rest short.1 some)
-
 payloads_behind_magic : (ps : List (List ℕ)) → AreShort ps → payloads_after 0 (records ps ++ 0 ∷ []) ≡ ps
 payloads_behind_magic ps short = payloads_after-records ps (0 ∷ []) short (omega arith) ∙ append-nil ps
 

@@ -6,7 +6,7 @@ use Rattle.std.proofs.lemmas.Bool.{cases_Bool, and_parts, and_from, eqb-true, eq
 use Rattle.std.proofs.lemmas.List.Sums.{sum_by-cons}
 use Rattle.std.proofs.lemmas.List.{take-take, take_at, drop_at, drop-drop, drop-take, get_or-take}
 use Rattle.std.proofs.lemmas.Nat.{from_be_bytes-to_be_bytes_4}
-use Rattle.ucon_journal.specs.JournalBytes.{record_bytes, records}
+use Rattle.ucon_journal.specs.JournalBytes.{record_bytes, records, AreShort}
 use Rattle.ucon_journal.specs.Found.{length_told, counts, payload_at, payloads_after, ReadsAs}
 
 -- how long records are
@@ -17,6 +17,10 @@ length-records (p ∷ ps) = omega (arith, length-append p (records ps), length-r
 pub length-records-append : (ps : List (List ℕ)) (p : List ℕ) → length (records (ps ++ p ∷ [])) ≡ length (records ps) + 5 + length p
 length-records-append [] p = omega (arith, length-append (record_bytes p) [], length-append (1 ∷ to_be_bytes w32 (length p)) p)
 length-records-append (q ∷ ps) p = omega (arith, length-append (record_bytes q) (records ps), length-append (record_bytes q) (records (ps ++ p ∷ [])), length-records-append ps p)
+
+pub records-append : (ps qs : List (List ℕ)) → records (ps ++ qs) ≡ records ps ++ records qs
+records-append [] qs = refl
+records-append (p ∷ ps) qs = ap (λ (l : List ℕ). record_bytes p ++ l) (records-append ps qs) ∙ sym (append_assoc (record_bytes p) (records ps) (records qs))
 
 pub payloads_after-skip : (n : ℕ) (xs : List ℕ) → payloads_after n xs ≡ payloads_after 0 (drop n xs)
 payloads_after-skip zero xs = refl
@@ -128,12 +132,20 @@ payloads_after-record p rest short some =
     let left : drop (5 + length_told all) all ≡ rest = ap (λ k. drop (5 + k) all) told ∙ sym (drop-drop (length p) 5 all) ∙ drop_at p rest (length p) refl in
     payloads_after-more all counted ∙ (λ i. paid i ∷ payloads_after 0 (left i))
 
-pub reads_record : (front p : List ℕ) (ps : List (List ℕ)) → ReadsAs front ps → length p < 2 ^ 32 → ReadsAs (front ++ record_bytes p) (ps ++ p ∷ [])
-reads_record front p ps reads short rest some =
-    ap (λ (l : List ℕ). payloads_after 0 l) (append_assoc front (record_bytes p) rest)
-    ∙ reads (record_bytes p ++ rest) (omega (arith, some, length-append (record_bytes p) rest))
-    ∙ ap (λ (qs : List (List ℕ)). ps ++ qs) (payloads_after-record p rest short some)
-    ∙ append_one ps p (payloads_after 0 rest)
+pub payloads_after-records : (ps : List (List ℕ)) (rest : List ℕ) → AreShort ps → 0 < length rest → payloads_after 0 (records ps ++ rest) ≡ ps ++ payloads_after 0 rest
+payloads_after-records [] rest short some = refl
+payloads_after-records (p ∷ ps) rest short some =
+    ap (λ (l : List ℕ). payloads_after 0 l) (append_assoc (record_bytes p) (records ps) rest)
+    ∙ payloads_after-record p (records ps ++ rest) short.0 (omega (arith, some, length-append (records ps) rest))
+    ∙ ap (λ (qs : List (List ℕ)). p ∷ qs) (payloads_after-records ps rest short.1 some)
+
+-- more records behind others
+pub reads_records : (front : List ℕ) (ps qs : List (List ℕ)) → ReadsAs front ps → AreShort qs → ReadsAs (front ++ records qs) (ps ++ qs)
+reads_records front ps qs reads short rest some =
+    ap (λ (l : List ℕ). payloads_after 0 l) (append_assoc front (records qs) rest)
+    ∙ reads (records qs ++ rest) (omega (arith, some, length-append (records qs) rest))
+    ∙ ap (λ (rs : List (List ℕ)). ps ++ rs) (payloads_after-records qs rest short some)
+    ∙ sym (append_assoc ps qs (payloads_after 0 rest))
 
 pub counts-shut : (gate : ℕ) (rest : List ℕ) → gate ≢ 1 → payloads_after 0 (gate ∷ rest) ≡ []
 counts-shut gate rest closed = elim (cases_Bool (counts (gate ∷ rest))) [

@@ -1,16 +1,16 @@
 -- What holds of the bytes as read, where the disk tells.
-use Rattle.std.proofs.Common.{◌≡◌, ◌≢◌, ℕ, ◌+◌, ◌^◌, ◌<◌, ◌≤◌, List, [], ◌∷◌, ◌++◌, length, take, drop, Option, None, Some, IfSome, refl, sym, ◌∙◌, ap, subst}
+use Rattle.std.proofs.Common.{◌≡◌, ◌≢◌, ℕ, ◌+◌, ◌≤◌, List, [], ◌∷◌, ◌++◌, length, take, drop, Option, None, Some, IfSome, refl, sym, ◌∙◌, ap, subst}
 use Rattle.std.specs.Option.{option_map}
 use Rattle.ucon_disk.specs.Disk.{overwritten, Only}
 use Rattle.ucon_disk.specs.Run.{IsAtRest}
 use Rattle.ucon_disk.specs.Seen.{DiskSeen}
-use Rattle.ucon_journal.specs.JournalBytes.{newest, journal_bytes}
+use Rattle.ucon_journal.specs.JournalBytes.{newest, records, batch_bytes, journal_bytes, AreShort}
 use Rattle.ucon_journal.specs.Found.{Fresh, NotJournal, found, version_told, counted, payloads_from, StandsAt}
-use Rattle.ucon_journal.specs.Opened.{opened, shut_at, with_payload}
+use Rattle.ucon_journal.specs.Opened.{opened, shut_at, with_payloads}
 use Rattle.ucon_journal.specs.Journal.{told_payloads}
 use Rattle.ucon_journal.proofs.Openings.{opened_stands, stands_first, counted-opened, opened-short, found-short}
 use Rattle.ucon_journal.proofs.Files.{counted-stands, shut_file, stands_closed, counted-closed, drop-front}
-use Rattle.ucon_journal.proofs.Added.{staged, staged_file, opened_file, added_stands, added_shut, counted-added}
+use Rattle.ucon_journal.proofs.Added.{staged_file, opened_file, added_stands, added_shut, counted-added}
 
 pub told_at : {A : Type 0} {o : Option A} (P : A → Type 0) (x : A) → o ≡ Some x → IfSome o P → P x
 told_at P x is told = subst (λ o. IfSome o P) is told
@@ -53,29 +53,29 @@ pub mended : (version gate : ℕ) (o cut shut : Option (List ℕ)) → IfSome o 
 mended version gate None cut shut ends is_cut is_shut = subst (Mended version gate None) (sym (is_shut ∙ ap (option_map (overwritten gate (0 ∷ []))) is_cut)) (record { closed = tt; same = refl; bytes = refl })
 mended version gate (Some file) cut shut ends is_cut is_shut = subst (Mended version gate (Some file)) (sym (is_shut ∙ ap (option_map (overwritten gate (0 ∷ []))) is_cut)) (mended_file file version gate ends)
 
-pub record Appended (version gate : ℕ) (p : List ℕ) (old new : Option (List ℕ)) : Type 0 where
-  pub closed : IfSome new (ClosesAt version (gate + 5 + length p))
-  pub bytes : new ≡ option_map (with_payload gate p) old
-  pub added : IfSome old (λ file. told_payloads new ≡ told_payloads old ++ p ∷ [])
+pub record Appended (version gate : ℕ) (qs : List (List ℕ)) (old new : Option (List ℕ)) : Type 0 where
+  pub closed : IfSome new (ClosesAt version (gate + length (records qs)))
+  pub bytes : new ≡ option_map (with_payloads gate qs) old
+  pub added : IfSome old (λ file. told_payloads new ≡ told_payloads old ++ qs)
 
-appended_file : (file : List ℕ) (version gate : ℕ) (p : List ℕ) → length p < 2 ^ 32 → ClosesAt version gate file → Appended version gate p (Some file) (Some (with_payload gate p file))
-appended_file file version gate p short closes =
-    let same : counted (with_payload gate p file) ≡ counted file ++ p ∷ [] = counted-added file version gate (counted file) closes.0 closes.1 p short in
+appended_file : (file : List ℕ) (version gate : ℕ) (qs : List (List ℕ)) → AreShort qs → qs ≢ [] → ClosesAt version gate file → Appended version gate qs (Some file) (Some (with_payloads gate qs file))
+appended_file file version gate qs short some closes =
+    let same : counted (with_payloads gate qs file) ≡ counted file ++ qs = counted-added file version gate (counted file) closes.0 closes.1 qs short some in
     record {
       closed = (
-        subst (λ (ps : List (List ℕ)). StandsAt (with_payload gate p file) version (gate + 5 + length p) ps) (sym same) (added_stands file version gate (counted file) closes.0 closes.1 p short),
-        added_shut file version gate (counted file) closes.0 closes.1 p short,
+        subst (λ (ps : List (List ℕ)). StandsAt (with_payloads gate qs file) version (gate + length (records qs)) ps) (sym same) (added_stands file version gate (counted file) closes.0 closes.1 qs short some),
+        added_shut file version gate (counted file) closes.0 closes.1 qs short some,
       );
       bytes = refl;
       added = same;
     }
 
-pub appended : (version gate : ℕ) (p : List ℕ) (o one two : Option (List ℕ)) → length p < 2 ^ 32 → IfSome o (ClosesAt version gate) → one ≡ option_map (overwritten (gate + 1) (staged p)) o → two ≡ option_map (overwritten gate (1 ∷ [])) one → Appended version gate p o two
-appended version gate p None one two short closes is_one is_two = subst (Appended version gate p None) (sym (is_two ∙ ap (option_map (overwritten gate (1 ∷ []))) is_one)) (record { closed = tt; bytes = refl; added = tt })
-appended version gate p (Some file) one two short closes is_one is_two =
-    let written : overwritten gate (1 ∷ []) (overwritten (gate + 1) (staged p) file) ≡ with_payload gate p file =
-    ap (λ (l : List ℕ). overwritten gate (1 ∷ []) l) (staged_file file version gate (counted file) closes.0 closes.1 p short) ∙ opened_file file version gate (counted file) closes.0 closes.1 p short in
-    subst (Appended version gate p (Some file)) (sym (is_two ∙ ap (option_map (overwritten gate (1 ∷ []))) is_one ∙ ap Some written)) (appended_file file version gate p short closes)
+pub appended : (version gate : ℕ) (qs : List (List ℕ)) (o one two : Option (List ℕ)) → AreShort qs → qs ≢ [] → IfSome o (ClosesAt version gate) → one ≡ option_map (overwritten (gate + 1) (batch_bytes qs)) o → two ≡ option_map (overwritten gate (1 ∷ [])) one → Appended version gate qs o two
+appended version gate qs None one two short some closes is_one is_two = subst (Appended version gate qs None) (sym (is_two ∙ ap (option_map (overwritten gate (1 ∷ []))) is_one)) (record { closed = tt; bytes = refl; added = tt })
+appended version gate qs (Some file) one two short some closes is_one is_two =
+    let written : overwritten gate (1 ∷ []) (overwritten (gate + 1) (batch_bytes qs) file) ≡ with_payloads gate qs file =
+    ap (λ (l : List ℕ). overwritten gate (1 ∷ []) l) (staged_file file version gate (counted file) closes.0 closes.1 qs short some) ∙ opened_file file version gate (counted file) closes.0 closes.1 qs short some in
+    subst (Appended version gate qs (Some file)) (sym (is_two ∙ ap (option_map (overwritten gate (1 ∷ []))) is_one ∙ ap Some written)) (appended_file file version gate qs short some closes)
 
 -- what is opened can be read from the first gate on
 pub opened_told : (version : ℕ) (old new : Option (List ℕ)) → new ≡ option_map opened old → IfSome new (λ file. version_told file ≡ Some version) → IfSome new (λ file. (ps : List (List ℕ)) × StandsAt file version 8 ps)

@@ -5,7 +5,8 @@ use Rattle.ucon_journal.specs.declared.journal.Journal.{Journal}
 use Rattle.ucon_journal.specs.declared.phase.Phase.{Phase}
 use Rattle.ucon_journal.specs.declared.phase.Phase.TheVariants.{Reading, Ended, Closed, Broken}
 use Rattle.ucon_journal.specs.Ahead.{IsPartOf, bytes_at}
-use Rattle.ucon_journal.specs.Found.{counted, payloads_from, StandsAt}
+use Rattle.ucon_journal.specs.Found.{counted, payloads_after, payloads_from, StandsAt}
+use Rattle.ucon_journal.specs.JournalBytes.{AreShort, batch_bytes}
 
 abbrev pub disk_of : {D : Type 0} → Journal D → D
 disk_of j = j.disk
@@ -25,6 +26,15 @@ payload_of j = bytes_at j.ahead j.payload_place j.payload_len
 -- there is room for a payload of n bytes
 abbrev pub HasRoomFor : {D : Type 0} → Journal D → ℕ → Type 0
 HasRoomFor j n = n + 5 ≤ vec_capacity j.buffer
+
+-- the payloads of the batch, which wait in memory to be added together: what counts in the bytes that wait, behind an open gate
+abbrev pub batch_of : {D : Type 0} → Journal D → List (List ℕ)
+batch_of j = payloads_after 0 (1 ∷ j.buffer.items)
+
+-- the bytes that wait are those of the batch, and nothing else
+pub record IsBatch {D : Type 0} (j : Journal D) : Type 0 where
+  pub bytes : j.buffer.items ≡ batch_bytes (batch_of j)
+  pub short : AreShort (batch_of j)
 
 -- the payloads that count in the bytes as read, where the disk tells
 abbrev pub told_payloads : Option (List ℕ) → List (List ℕ)

@@ -23,6 +23,11 @@ abbrev pub records : List (List ℕ) → List ℕ
 records [] = []
 records (payload ∷ payloads) = record_bytes payload ++ records payloads
 
+-- what is written behind the gate of the first of these payloads: their records without that gate, and a closed gate; nothing where there are none
+abbrev pub batch_bytes : List (List ℕ) → List ℕ
+batch_bytes [] = []
+batch_bytes (payload ∷ payloads) = to_be_bytes w32 (length payload) ++ payload ++ records payloads ++ 0 ∷ []
+
 -- the magic, a record for each payload, and a closed gate
 abbrev pub journal_bytes : ℕ → List (List ℕ) → List ℕ
 journal_bytes version payloads = magic version ++ records payloads ++ 0 ∷ []

@@ -1,6 +1,6 @@
 -- What the calls of a journal do to the bytes, and to the payloads that are found in them.
 use Rattle.std.specs.Prelude.{◌≡◌, ◌≢◌, ◌⊎◌, ◌≤◌, nat_le, if◌then◌else◌, ℕ, List, [], ◌∷◌, ◌++◌, length, take}
-use Rattle.ucon_journal.specs.JournalBytes.{newest, record_bytes, journal_bytes}
+use Rattle.ucon_journal.specs.JournalBytes.{newest, record_bytes, records, journal_bytes}
 use Rattle.ucon_journal.specs.Found.{NotJournal, found, counted}
 
 -- what opening makes of the bytes: a new journal with no record, where its making was stopped
@@ -14,6 +14,10 @@ shut_at gate file = take gate file ++ 0 ∷ []
 -- what appending makes of them: the record, and a closed gate
 abbrev pub with_payload : ℕ → List ℕ → List ℕ → List ℕ
 with_payload gate payload file = take gate file ++ record_bytes payload ++ 0 ∷ []
+
+-- and appending several together: their records, and a closed gate
+abbrev pub with_payloads : ℕ → List (List ℕ) → List ℕ → List ℕ
+with_payloads gate payloads file = take gate file ++ records payloads ++ 0 ∷ []
 
 -- the file as it was, or a journal whose making was stopped, where the file was one
 abbrev pub Untouched : List ℕ → List ℕ → Type 0
@@ -32,3 +36,7 @@ SamePayloads file c = StillHolds file (counted file) c
 -- the same payloads are found, or those with one more
 abbrev pub PerhapsAdded : List ℕ → List ℕ → List ℕ → Type 0
 PerhapsAdded payload file c = StillHolds file (counted file) c ⊎ StillHolds file (counted file ++ payload ∷ []) c
+
+-- the same payloads are found, or those with all of these behind them
+abbrev pub PerhapsAllAdded : List (List ℕ) → List ℕ → List ℕ → Type 0
+PerhapsAllAdded payloads file c = StillHolds file (counted file) c ⊎ StillHolds file (counted file ++ payloads) c

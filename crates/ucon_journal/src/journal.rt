@@ -1,16 +1,16 @@
 //! A journal: payloads of bytes in records, each on the disk before it is acknowledged.
 
-ghost use Rattle.std.specs.Prelude.{◌≡◌, ◌≢◌, ◌+◌, ◌-◌, ◌<◌, ◌≤◌, ◌^◌, false, List, ℕ, Some, [], ◌∷◌, ◌++◌, length, take, Ok, IsSome, IfSome, IfOk, IfErr, OnOk, OnErr, IsErrOf, MatchBool, MatchOption, true, vec_capacity, is_some};
+ghost use Rattle.std.specs.Prelude.{◌≡◌, ◌≢◌, ◌+◌, ◌-◌, ◌<◌, ◌≤◌, ◌^◌, false, List, ℕ, Some, [], ◌∷◌, ◌++◌, length, take, Ok, vec_len, IsSome, IfSome, IfOk, IfErr, OnOk, OnErr, IsErrOf, MatchBool, MatchOption, true, vec_capacity, is_some};
 ghost use Rattle.std.specs.Int.{w32, to_be_bytes};
 ghost use Rattle.std.specs.List.{sum_by};
 ghost use Rattle.std.specs.Option.{option_map};
 ghost use Rattle.ucon_disk.specs.Causes.{HasCause, raised};
 ghost use Rattle.ucon_disk.specs.Disk.{Only, SameImages};
 ghost use Rattle.ucon_disk.specs.Run.{LeavesOnly, LeavesAfter};
-ghost use Rattle.ucon_journal.specs.JournalBytes.{IsVersion, AreShort, records, journal_bytes};
+ghost use Rattle.ucon_journal.specs.JournalBytes.{IsVersion, AreShort, batch_bytes, records, journal_bytes};
 ghost use Rattle.ucon_journal.specs.Found.{found, version_told, counted, payloads_from, counts, length_told, LeadTo, NextIsLonger};
 ghost use Rattle.ucon_journal.specs.Found as finding;
-ghost use Rattle.ucon_journal.specs.Opened.{opened, shut_at, with_payload, Untouched, SamePayloads, PerhapsAdded};
+ghost use Rattle.ucon_journal.specs.Opened.{opened, shut_at, with_payload, with_payloads, Untouched, SamePayloads, PerhapsAdded, PerhapsAllAdded};
 
 use crate::ahead::Ahead;
 use crate::fault::{DiskFault, OpenFault, TakeFault};
@@ -47,7 +47,7 @@ pub struct Journal<D> {
 }
 
 impl<D: Disk> Journal<D> {
-    ghost use Rattle.ucon_journal.specs.Journal.{disk_of, version_of, gate_of, payload_of, told_payloads, HasRoomFor, IsReading, HasEnded, IsClosed, IsBroken};
+    ghost use Rattle.ucon_journal.specs.Journal.{disk_of, version_of, gate_of, payload_of, batch_of, told_payloads, HasRoomFor, IsBatch, IsReading, HasEnded, IsClosed, IsBroken};
 
     /// Opens the journal in a file, and makes a new one, of version 2, in a file of at most 9 bytes. A longer file isn't
     /// written. A refusal hands the disk back.
@@ -223,7 +223,7 @@ impl<D: Disk> Journal<D> {
     }
 
     /// Adds a payload. At `Ok` it is acknowledged: from then on each crash leaves a file that has it.
-    /// After a fault, open the file again.
+    /// After a fault, open the file again. Payloads of a batch that wait are let go.
     pub fn append(&mut self, payload: &[u8]) -> Result<(), DiskFault>
         requires closed { IsClosed D.seen self.old }
         requires short { length payload.now ≤ MAX_PAYLOAD }
@@ -244,11 +244,69 @@ impl<D: Disk> Journal<D> {
         ensures images { LeavesAfter (D.seen (disk_of self.old)) (D.seen (disk_of self.new)) (PerhapsAdded payload.now) }
         ensures cause { HasCause (D.seen (disk_of self.old)).faults (D.seen (disk_of self.new)).faults result }
     {
+        self.buffer.clear();
+        put_record(&mut self.buffer, payload);
+        self.append_all()
+    }
+
+    /// Lets go of the payloads that the batch has, and begins another, of none. Its memory is kept.
+    pub fn begin_batch(&mut self)
+        ensures batch { IsBatch self.new }
+        ensures none { batch_of self.new ≡ [] }
+        ensures room { (n : ℕ) → HasRoomFor self.old n → HasRoomFor self.new n }
+        ensures disk { disk_of self.new ≡ disk_of self.old }
+        ensures gate { gate_of self.new ≡ gate_of self.old }
+        ensures version { version_of self.new ≡ version_of self.old }
+        ensures closed { IsClosed D.seen self.old → IsClosed D.seen self.new }
+    {
+        self.buffer.clear();
+    }
+
+    /// Puts a payload behind those of the batch, in memory alone. Where there is no memory, the batch stays.
+    pub fn put(&mut self, payload: &[u8]) -> Result<(), NoMemory>
+        requires batch { IsBatch self.old }
+        requires short { length payload.now ≤ MAX_PAYLOAD }
+        ensures batch { IsBatch self.new }
+        ensures put { OnOk result (batch_of self.new ≡ batch_of self.old ++ payload.now ∷ []) }
+        ensures same { OnErr result (batch_of self.new ≡ batch_of self.old) }
+        ensures room { (n : ℕ) → HasRoomFor self.old n → HasRoomFor self.new n }
+        ensures disk { disk_of self.new ≡ disk_of self.old }
+        ensures gate { gate_of self.new ≡ gate_of self.old }
+        ensures version { version_of self.new ≡ version_of self.old }
+        ensures closed { IsClosed D.seen self.old → IsClosed D.seen self.new }
+    {
+        self.buffer.reserve(payload.len().saturating_add(5))?;
+        put_record(&mut self.buffer, payload);
+        Ok(())
+    }
+
+    /// Adds the payloads of the batch together, by the calls of the disk that add one. At `Ok` all are acknowledged: from then on each crash
+    /// leaves a file that has them. After a fault, open the file again.
+    pub fn append_all(&mut self) -> Result<(), DiskFault>
+        requires closed { IsClosed D.seen self.old }
+        requires batch { IsBatch self.old }
+        requires some { batch_of self.old ≢ [] }
+        ensures closed { OnOk result (IsClosed D.seen self.new) }
+        ensures tells { is_some (D.seen (disk_of self.new)).contents ≡ is_some (D.seen (disk_of self.old)).contents }
+        ensures broken { OnErr result (IsBroken self.new) }
+        ensures room { (n : ℕ) → HasRoomFor self.old n → HasRoomFor self.new n }
+        ensures added { OnOk result (IfSome (D.seen (disk_of self.old)).contents (λ file.
+            told_payloads (D.seen (disk_of self.new)).contents ≡ told_payloads (D.seen (disk_of self.old)).contents ++ batch_of self.old)) }
+        ensures bytes { OnOk result ((D.seen (disk_of self.new)).contents
+            ≡ option_map (with_payloads (gate_of self.old) (batch_of self.old)) (D.seen (disk_of self.old)).contents) }
+        ensures gate { OnOk result (gate_of self.new ≡ gate_of self.old + length (records (batch_of self.old))) }
+        ensures version { version_of self.new ≡ version_of self.old }
+        ensures only { OnOk result (Only (D.seen (disk_of self.new)).contents (D.seen (disk_of self.new)).images) }
+
+        // A crash at any moment of the call leaves the payloads from before it, with all of the batch or with none.
+        ensures images { LeavesAfter (D.seen (disk_of self.old)) (D.seen (disk_of self.new))
+            (PerhapsAllAdded (batch_of self.old)) }
+        ensures cause { HasCause (D.seen (disk_of self.old)).faults (D.seen (disk_of self.new)).faults result }
+    {
         self.phase = Phase::Broken;
-        stage(&mut self.buffer, payload);
         write_synced(&mut self.disk, self.gate + 1, &self.buffer)?;
         write_gate(&mut self.disk, self.gate, 1)?;
-        self.gate += HEADER + payload.len() as u64;
+        self.gate += self.buffer.len() as u64;
         self.phase = Phase::Closed;
         Ok(())
     }
@@ -300,14 +358,37 @@ fn whole_len(header: &[u8], left: u64) -> Option<u64>
     if HEADER + len < left { Some(len) } else { None }
 }
 
+// Puts one more record behind those of a batch: the gate there is opened, and the record's own bytes come behind it. The first record's gate is
+// not among the bytes.
+fn put_record(buffer: &mut Vec<u8>, payload: &[u8])
+    requires short { length payload.now < 2 ^ 32 }
+    requires room { vec_len buffer.old + length payload.now + 5 ≤ vec_capacity buffer.old }
+    ensures put { (ps : List (List ℕ)) → buffer.old.items ≡ batch_bytes ps → buffer.new.items ≡ batch_bytes (ps ++ payload.now ∷ []) }
+    ensures room { vec_capacity buffer.old ≤ vec_capacity buffer.new }
+{
+    open_last(buffer);
+    stage(buffer, payload);
+}
+
+// Opens the last gate, if there is one.
+fn open_last(buffer: &mut Vec<u8>)
+    ensures none { buffer.old.items ≡ [] → buffer.new.items ≡ [] }
+    ensures opened { (front : List ℕ) → buffer.old.items ≡ front ++ 0 ∷ [] → buffer.new.items ≡ front ++ 1 ∷ [] }
+    ensures len { vec_len buffer.new ≡ vec_len buffer.old }
+    ensures room { vec_capacity buffer.old ≤ vec_capacity buffer.new }
+{
+    if buffer.pop().is_some() {
+        buffer.push(1).unwrap();
+    }
+}
+
 // What stands behind a gate: the length, the payload, and the next gate, closed.
 fn stage(buffer: &mut Vec<u8>, payload: &[u8])
     requires short { length payload.now < 2 ^ 32 }
-    requires room { length payload.now + 5 ≤ vec_capacity buffer.old }
-    ensures staged { buffer.new.items ≡ to_be_bytes w32 (length payload.now) ++ payload.now ++ 0 ∷ [] }
+    requires room { vec_len buffer.old + length payload.now + 5 ≤ vec_capacity buffer.old }
+    ensures staged { buffer.new.items ≡ buffer.old.items ++ to_be_bytes w32 (length payload.now) ++ payload.now ++ 0 ∷ [] }
     ensures room { vec_capacity buffer.old ≤ vec_capacity buffer.new }
 {
-    buffer.clear();
     buffer
         .extend_from_slice(&(payload.len() as u32).to_be_bytes())
         .unwrap();

@@ -59,6 +59,28 @@ fn add<D: Disk>(journal: &mut Journal<D>, payload: &[u8]) -> Result<(), DiskFaul
     journal.append(payload)
 }
 
+// Adds both payloads together.
+fn add_together<D: Disk>(journal: &mut Journal<D>) -> Result<(), DiskFault>
+    requires { IsClosed D.seen journal.old }
+    ensures { OnOk result (IsClosed D.seen journal.new) }
+{
+    journal.begin_batch();
+    if journal.put(b"right r {}\n").is_err() || journal.put(b"0 subject a\nok").is_err() {
+        return Err(DiskFault);
+    }
+    journal.append_all()
+}
+
+fn mend_and_add_together<D: Disk>(alloc: Global, journal: &mut Journal<D>) -> Result<(), DiskFault>
+    requires { IsReading D.seen journal.old }
+{
+    if read_all(alloc, journal).is_err() {
+        return Err(DiskFault);
+    }
+    journal.mend()?;
+    add_together(journal)
+}
+
 fn add_all<D: Disk>(
     alloc: Global,
     journal: &mut Journal<D>,
@@ -81,6 +103,17 @@ fn run(alloc: Global, disk: MemDisk, payloads: &[&[u8]]) -> (MemDisk, bool) {
     match Journal::open(alloc, disk) {
         Ok(mut journal) => {
             let done = add_all(alloc, &mut journal, payloads).is_ok();
+            (journal.close(), done)
+        }
+        Err((disk, _fault)) => (disk, false),
+    }
+}
+
+// The same with both payloads together.
+fn run_together(alloc: Global, disk: MemDisk) -> (MemDisk, bool) {
+    match Journal::open(alloc, disk) {
+        Ok(mut journal) => {
+            let done = mend_and_add_together(alloc, &mut journal).is_ok();
             (journal.close(), done)
         }
         Err((disk, _fault)) => (disk, false),
@@ -302,5 +335,51 @@ fn images_after_a_stop(rt: HostRuntime) -> Result<(), Fail> {
             assert!(rt; other.is_none(), "stop {stop}, {other:?} bytes");
         }
     }
+    Ok(())
+}
+
+/// The same where the payloads are added together: all is to be found, or nothing new.
+fn first_other_together(
+    alloc: Global,
+    bytes: &[u8],
+    wants: &[&[u8]],
+    stop: u64,
+) -> Result<Option<u64>, NoMemory> {
+    let (disk, done) = run_together(alloc, at_rest(alloc, bytes, Some(stop))?);
+    let least = if done {
+        wants.len().saturating_sub(1)
+    } else {
+        0
+    };
+    first_other_filled(alloc, &disk, &wants[least..])
+}
+
+const MADE_TOGETHER: &[&[u8]] = &[b"", b"right r {}\n|0 subject a\nok|"];
+
+const TORN_TOGETHER: &[&[u8]] = &[b"abc|", b"abc|right r {}\n|0 subject a\nok|"];
+
+const STOPPED_TOGETHER: &[Stopped] = &[
+    (b"", MADE_TOGETHER),
+    (
+        b"UCONJR02\x01\0\0\0\x03abc\x01\0\0\0\x09xy\x01",
+        TORN_TOGETHER,
+    ),
+];
+
+#[test]
+fn images_after_a_stop_of_a_batch(rt: HostRuntime) -> Result<(), Fail> {
+    for &(bytes, wants) in STOPPED_TOGETHER {
+        for stop in 0..20u64 {
+            let other = first_other_together(rt.alloc(), bytes, wants, stop)?;
+            assert!(rt; other.is_none(), "stop {stop}, {other:?} bytes");
+        }
+    }
+    Ok(())
+}
+
+#[test]
+fn a_batch_is_written_as_its_payloads_are(rt: HostRuntime) -> Result<(), Fail> {
+    let (disk, done) = run_together(rt.alloc(), at_rest(rt.alloc(), b"", None)?);
+    assert!(rt; done && disk.contents() == BYTES);
     Ok(())
 }

@@ -6,8 +6,8 @@ use std::alloc::Global;
 use std::test::Fail;
 use ucon_base::NoMemory;
 use ucon_disk::{Disk, MemDisk};
-use ucon_flow::{Failed, LineReader, MemSource};
-use ucon_tell::{Keeper, TalkFault, Voice, talk, tell_all};
+use ucon_flow::{LineReader, MemSource};
+use ucon_tell::{Clocked, Keeper, MemVoice, TalkFault, talk, tell_all};
 
 /// Puts bytes on a disk behind the first `at`, where no more are there. They are there for good where it succeeds.
 fn put<D: Disk>(disk: &mut D, at: u64, bytes: &[u8]) -> Result<(), ucon_disk::Failed>
@@ -78,33 +78,21 @@ impl<D: Disk + Drop> Keeper for Scribe<D> {
     }
 }
 
-/// A voice in memory. It doesn't tell what it holds, since it takes no note of moments; the tests look at its bytes.
-#[derive(Drop)]
-struct Page {
-    bytes: Vec<u8>,
-    faults: u64,
+/// A disk that can say its moment.
+trait Ticking: Disk {
+    fn moment(&self) -> u64
+        ensures { result ≡ (Self.seen self.now).moment };
 }
 
-impl Page {
-    fn new(alloc: Global) -> Page {
-        Page {
-            bytes: Vec::new(alloc),
-            faults: 0,
-        }
+impl Ticking for MemDisk {
+    fn moment(&self) -> u64 {
+        self.moment()
     }
 }
 
-impl<K: Keeper> Voice<K> for Page {
-    ghost seen = { λ v. record { contents = None; faults = v.faults; told = λ _ _. ⊥ } };
-
-    fn write(&mut self, bytes: &[u8], _keeper: &K) -> Result<usize, Failed> {
-        match self.bytes.extend_from_slice(bytes) {
-            Ok(()) => Ok(bytes.len()),
-            Err(_) => {
-                self.faults = self.faults.saturating_add(1);
-                Err(Failed)
-            }
-        }
+impl<D: Ticking + Drop> Clocked for Scribe<D> {
+    fn moment(&self) -> u64 {
+        self.disk.moment()
     }
 }
 
@@ -146,10 +134,10 @@ fn input(alloc: Global, faults: &[u64]) -> Result<MemSource, Fail> {
     Ok(MemSource::new(bytes, 7, Vec::from_slice(alloc, faults)?))
 }
 
-/// The lines to which `kept` was told, each with its newline.
-fn told(alloc: Global, page: &Page) -> Result<Vec<u8>, Fail> {
+/// The lines to which these replies told `kept`, each with its newline.
+fn told(alloc: Global, replies: &[u8]) -> Result<Vec<u8>, Fail> {
     let mut all = Vec::new(alloc);
-    for (line, reply) in LINES.iter().zip(page.bytes.split(|b| *b == b'\n')) {
+    for (line, reply) in LINES.iter().zip(replies.split(|b| *b == b'\n')) {
         if reply == b"kept".as_slice() {
             all.extend_from_slice(line)?;
             all.push(b'\n')?;
@@ -175,27 +163,43 @@ fn is_found(disk: &MemDisk, told: &[u8]) -> Result<bool, Fail> {
     Ok(true)
 }
 
+/// A conversation of the lines, over a disk that stops after so many calls.
+fn converse(alloc: Global, calls: Option<u64>) -> Result<(Scribe<MemDisk>, MemVoice), Fail> {
+    let disk = MemDisk::new(alloc, Vec::new(alloc), Vec::new(alloc), calls);
+    let mut keeper = Scribe {
+        disk,
+        kept: Vec::new(alloc),
+    };
+    let mut voice = MemVoice::new(alloc, 3);
+    let mut input = input(alloc, &[])?;
+    let mut lines = LineReader::new(alloc, 8);
+    match talk(alloc, &mut keeper, &mut lines, &mut input, &mut voice) {
+        Ok(()) => Ok((keeper, voice)),
+        Err(_) => Err("the conversation ended early".into()),
+    }
+}
+
 #[test]
 fn what_was_told_is_found_behind_a_crash_at_any_call(rt: HostRuntime) -> Result<(), Fail> {
     let alloc = rt.alloc();
+    let (_, whole) = converse(alloc, None)?;
     for calls in 0..=CALLS {
-        let disk = MemDisk::new(alloc, Vec::new(alloc), Vec::new(alloc), Some(calls));
-        let mut keeper = Scribe {
-            disk,
-            kept: Vec::new(alloc),
-        };
-        let mut page = Page::new(alloc);
-        let mut input = input(alloc, &[])?;
-        let mut lines = LineReader::new(alloc, 8);
-        assert!(rt; talk(alloc, &mut keeper, &mut lines, &mut input, &mut page).is_ok());
-        let told = told(alloc, &page)?;
-        let replies = page.bytes.iter().filter(|b| **b == b'\n').count();
+        let (keeper, voice) = converse(alloc, Some(calls))?;
+        let all = told(alloc, voice.bytes())?;
+        let replies = voice.bytes().iter().filter(|b| **b == b'\n').count();
         assert!(rt;
-            replies == LINES.len() && keeper.kept.as_slice() == told.as_slice(),
+            replies == LINES.len() && keeper.kept.as_slice() == all.as_slice(),
             "{calls}"
         );
-        assert!(rt; is_found(&keeper.disk, &told)?, "{calls}");
-        assert!(rt; calls < CALLS || keeper.disk.contents() == told.as_slice());
+        assert!(rt; is_found(&keeper.disk, &all)?, "{calls}");
+        // What the conversation without a stop had told by this moment, a crash at this moment leaves.
+        for note in whole.notes() {
+            if note.moment <= keeper.disk.moment() {
+                let then = told(alloc, &note.bytes)?;
+                assert!(rt; is_found(&keeper.disk, &then)?, "{calls}");
+            }
+        }
+        assert!(rt; calls < CALLS || keeper.disk.contents() == all.as_slice());
     }
     Ok(())
 }
@@ -208,14 +212,14 @@ fn all_whole_lines_before_a_fault_are_answered_and_told(rt: HostRuntime) -> Resu
         disk,
         kept: Vec::new(alloc),
     };
-    let mut page = Page::new(alloc);
-    assert!(rt; tell_all(&mut page, b"ready\n", &keeper).is_ok());
+    let mut voice = MemVoice::new(alloc, 3);
+    assert!(rt; tell_all(&mut voice, b"ready\n", &keeper).is_ok());
     let mut input = input(alloc, &[1])?;
     let mut lines = LineReader::new(alloc, 8);
-    let ended = talk(alloc, &mut keeper, &mut lines, &mut input, &mut page);
+    let ended = talk(alloc, &mut keeper, &mut lines, &mut input, &mut voice);
     // The first seven bytes are three lines and one byte.
     assert!(rt; ended == Err(TalkFault::SourceFault));
-    assert!(rt; page.bytes.as_slice() == b"ready\nkept\nkept\nkept\n".as_slice());
+    assert!(rt; voice.bytes() == b"ready\nkept\nkept\nkept\n".as_slice());
     assert!(rt; keeper.kept.as_slice() == b"a\nbc\n\n".as_slice());
     Ok(())
 }

@@ -4,3 +4,4 @@ mod GoingOn
 mod ReadBack
 mod TellsChange
 mod FoundOn
+mod Batched

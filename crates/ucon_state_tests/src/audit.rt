@@ -11,17 +11,18 @@ use std::test::Fail;
 use std::thread::Threads;
 use ucon_asked::typed_tests_make_no_set;
 use ucon_audit::{
-    Changed, Kept, changed_sessions, changed_usages, extends, head_after, head_text, read_head,
-    usages,
+    Changed, Kept, audit_text, changed_sessions, changed_usages, head_text, is_head_text,
+    report_text, usages,
 };
-use ucon_base::{Name, Rows};
+use ucon_base::Name;
+use ucon_cascade::Monitor;
+use ucon_cases::{AUDIT_ROWS, Audit, REPORT_ROWS, Report, Told};
+use ucon_command::read_accepted;
+use ucon_disk::MemDisk;
 use ucon_eval::verdict;
 use ucon_model::{Verdict, View};
 use ucon_state::{State, tables_keep_what_is_followed};
-
-fn rows(alloc: Global, bytes: &[u8]) -> Result<Rows<u8>, Fail> {
-    Ok(Rows::from(Vec::from_slice(alloc, bytes)?))
-}
+use ucon_store::StoreFault;
 
 /// The example of FIPS 180-4.
 #[test]
@@ -34,75 +35,94 @@ fn the_digest_is_the_standards(rt: HostRuntime) -> Result<(), Fail> {
     Ok(())
 }
 
-const PAYLOADS: &[&[u8]] = &[b"right r {}\n", b"0 subject a\nok"];
-
-/// The first so many of the payloads.
-fn front(alloc: Global, count: usize) -> Result<Vec<Rows<u8>>, Fail> {
-    let mut payloads = Vec::new(alloc);
-    for payload in PAYLOADS.iter().take(count) {
-        payloads.push(rows(alloc, *payload)?)?;
-    }
-    Ok(payloads)
-}
-
-/// How many records there are, and the text of the head after them.
-const HEADS: &[(usize, &[u8])] = &[
-    (
-        0,
-        b"663036308aa65cf86873b0e5df3e462335cc43ee6157575411030542e2ecfb52",
-    ),
-    (
-        1,
-        b"5ab67da621ecb0946395d494638e9658d0b526586b49f271a23fb3d530f089ad",
-    ),
-    (
-        2,
-        b"2f2ade13745aed79bf0433cc068791a267842ecd9a84a6cd1972c62f45adcebd",
-    ),
-];
-
-/// Whether both payloads extend what is kept, and none of another first word or with more records than there are.
-fn is_extended(alloc: Global, records: u64, head: [u8; 32]) -> Result<bool, Fail> {
-    let payloads = front(alloc, 2)?;
-    let kept = Kept { records, head };
-    let later = Kept { records: 3, head };
-    Ok(
-        extends(&kept, b"UCONJR02", &payloads)
-            && !extends(&kept, b"UCONJR01", &payloads)
-            && !extends(&later, b"UCONJR02", &payloads),
-    )
-}
-
-/// Whether this is the text of the head after the first so many payloads, and reads as that head.
-fn is_head(head: [u8; 32], text: &[u8]) -> bool {
-    head_text(&head).as_slice() == text && read_head(text) == Some(head)
-}
-
-/// Python's hashlib: h = sha256(b"UCONJR02"); then h = sha256(h + p), digest by digest, for p of b"right r {}\n", b"0 subject a\nok".
-#[test]
-fn the_head_of_a_small_journal(rt: HostRuntime) -> Result<(), Fail> {
-    for &(records, text) in HEADS {
-        let head = head_after(b"UCONJR02", &front(rt.alloc(), records)?);
-        assert!(rt; is_head(head, text));
-        assert!(rt; is_extended(rt.alloc(), records as u64, head)?);
-    }
-    Ok(())
-}
-
 /// Bytes that are no head's text.
 const NO_HEADS: &[&[u8]] = &[
     &[b'A'; 64],
     &[b'g'; 64],
     &[b'a'; 63],
     &[b'a'; 62],
-    &[b'a'; 66],
+    &[b'a'; 65],
 ];
 
 #[test]
-fn a_head_has_one_text(rt: HostRuntime) -> Result<(), Fail> {
-    assert!(rt; read_head(&[b'a'; 64]) == Some([0xaa; 32]));
+fn a_head_has_64_digits(rt: HostRuntime) -> Result<(), Fail> {
+    assert!(rt; is_head_text(&[b'a'; 64]));
     for &bytes in NO_HEADS {
-        assert!(rt; read_head(bytes).is_none(), "{bytes:?}");
+        assert!(rt; !is_head_text(bytes), "{bytes:?}");
+    }
+    Ok(())
+}
+
+/// The head that a row was kept, if one was.
+fn kept_of(row: &Audit) -> Option<Kept> {
+    let (records, digits) = row.kept?;
+    Some(Kept {
+        records,
+        digits: *digits,
+    })
+}
+
+fn is_fault(told: &Told, fault: &StoreFault) -> bool {
+    match (told, fault) {
+        (Told::NotJournal, StoreFault::NotJournal) => true,
+        (
+            Told::Damaged { number, place },
+            StoreFault::Damaged {
+                number: n,
+                place: p,
+            },
+        ) => *number == *n && *place == *p,
+        (Told::OtherPolicy(place), StoreFault::OtherPolicy(p)) => *place == *p,
+        _ => false,
+    }
+}
+
+fn is_text(told: &Told, text: &[u8]) -> bool {
+    match told {
+        Told::Text(wanted) => *wanted == text,
+        _ => false,
+    }
+}
+
+fn disk_of(alloc: Global, file: &[u8]) -> Result<MemDisk, Fail> {
+    Ok(MemDisk::new(alloc, Vec::from_slice(alloc, file)?, Vec::new(alloc), None))
+}
+
+/// Whether a full check of the row's file tells what the row says, and leaves the file that it says.
+fn is_told<R: Threads + Sync>(rt: &R, alloc: Global, row: &Audit) -> Result<bool, Fail> {
+    if read_accepted(alloc, row.policy)?.is_none() {
+        return Err("no policy".into());
+    }
+    let disk = disk_of(alloc, row.file)?;
+    match audit_text::<Monitor, MemDisk, R>(rt, alloc, row.policy, kept_of(row), disk) {
+        Ok((text, disk)) => Ok(is_text(&row.told, &text) && disk.contents() == row.left),
+        Err((disk, fault)) => Ok(is_fault(&row.told, &fault) && disk.contents() == row.left),
+    }
+}
+
+#[test]
+fn journals_are_checked_from_their_first_byte(rt: HostRuntime) -> Result<(), Fail> {
+    for row in AUDIT_ROWS {
+        assert!(rt; is_told(&rt, rt.alloc(), row)?, "{}", row.name);
+    }
+    Ok(())
+}
+
+/// Whether the state in the row's file is told as the row says.
+fn is_state(alloc: Global, row: &Report) -> Result<bool, Fail> {
+    if read_accepted(alloc, row.policy)?.is_none() {
+        return Err("no policy".into());
+    }
+    match report_text::<Monitor, MemDisk>(alloc, row.policy, disk_of(alloc, row.file)?) {
+        Ok((text, _)) => Ok(text.as_slice() == row.told),
+        Err(_) => Err("refused".into()),
+    }
+}
+
+#[test]
+fn states_of_journals_are_told(rt: HostRuntime) -> Result<(), Fail> {
+    for row in REPORT_ROWS {
+        assert!(rt; is_state(rt.alloc(), row)?, "{}", row.name);
     }
     Ok(())
 }

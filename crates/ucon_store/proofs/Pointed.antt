@@ -22,7 +22,7 @@ use Rattle.ucon_turn.specs.Lists.{begins_refl}
 use Rattle.ucon_syntax.specs.Policies.{accepted}
 use Rattle.ucon_store.specs.Found.{Holds, found_as}
 use Rattle.ucon_store.specs.declared.beginning.Beginning.{Beginning}
-use Rattle.ucon_store.specs.Kept.{Kept, IsKept, payload_in, text_in}
+use Rattle.ucon_store.specs.Kept.{Kept, IsKept, payload_in}
 use Rattle.ucon_store.specs.declared.fault.PointRefusal.{PointRefusal}
 use Rattle.ucon_store.specs.declared.fault.PointRefusal.TheVariants.{Stopped, OldJournal, TooLarge, NoMemory}
 use Rattle.ucon_store.specs.Pointing.{IsFoundPointed, IsUnpointed, IsUnprepared}
@@ -152,41 +152,48 @@ unpointed seen P T store (TooLarge size) points payload h is kind = (same_points
 unpointed seen P T store (NoMemory e) points payload h is kind = tt
 
 module _ {E D : Type 0} {follows : E → PlainPolicy → Trace → Type 0} {seen : D → DiskSeen} {engine : E}
-    {j : Journal D} {text : Bytes} {point : Option Beginning} {before opening : ℕ} {H : History} {mark : Option Entry}
-    (kept : IsKept follows seen engine j text point before H mark)
-    {x : Kept D} (is : parts text point before opening H mark (disk_of j) ≡ x) (none : mark ≡ None) {start : Bytes}
-    (begins_as : start ≡ text_in text point) where
-  point_is : (P : PlainPolicy) (T : Trace) → point_behind start before P T H ≡ checkpoint_behind text (payload_in point) before P T H
-  point_is P T = ap (λ (t : Bytes). point_behind t before P T H) (begins_as ∙ kept.in_force)
+    {j : Journal D} {text : Bytes} {point : Option Beginning} {before opening : ℕ} {now : Bytes} {H : History} {mark : Option Entry}
+    (kept : IsKept follows seen engine j text point before now H mark)
+    {x : Kept D} (is : parts text point before opening H mark (disk_of j) ≡ x) (none : mark ≡ None) where
+  -- the checkpoint after the entries, in the text that is kept
+  abbrev point_now : PlainPolicy → Trace → Bytes
+  point_now P T = point_text (before + length H) now (held_after P (trace_from P T H))
+
+  point_is : (P : PlainPolicy) (T : Trace) → point_now P T ≡ checkpoint_behind text (payload_in point) before P T H
+  point_is P T = ap (λ (t : Bytes). point_text (before + length H) t (held_after P (trace_from P T H))) kept.in_force
 
   -- a store's checkpoint is ready where it was written after what the engine follows
   pub point_ready : {k : Journal D} → (IsClosed seen j → IsClosed seen k) → disk_of k ≡ disk_of j → version_of k ≡ version_of j
       → points_of (version_of j) ≡ true
       → {payload written : Bytes} → payload ≡ written → length written ≤ most_payload
-      → ((P : PlainPolicy) (T : Trace) → follows engine P (trace_from P T H) → written ≡ point_behind start before P T H)
+      → {count : ℕ} → count ≡ before + length H → {shown : Bytes} → shown ≡ now
+      → ((P : PlainPolicy) (T : Trace) → follows engine P T → written ≡ point_text count shown (held_after P T))
       → IsPointReady seen x k payload
-  point_ready {k} closed same version second {payload} is_written short writes =
+  point_ready {k} closed same version second {payload} is_written short is_count is_shown writes =
       subst (λ (s : Kept D). IsPointReady seen s k payload) is (record {
         unmarked = none;
         closed = closed (kept.rests none).closed;
         same = same;
         second = ap points_of version ∙ second;
         short = subst (λ (l : Bytes). length l ≤ most_payload) (sym is_written) short;
-        writes = λ P T accepts leads. is_written ∙ (writes P T (stands_as kept P accepts T leads) ∙ point_is P T);
+        writes = λ P T accepts leads.
+            is_written ∙ (writes P (trace_from P T H) (stands_as kept P accepts T leads)
+            ∙ ((λ i. point_text (is_count i) (is_shown i) (held_after P (trace_from P T H))) ∙ point_is P T));
       })
 
   -- and why it wasn't prepared is why the store has none more
-  pub point_refused : (refusal : PointRefusal)
-      → ((P : PlainPolicy) (T : Trace) → follows engine P (trace_from P T H)
-      → IsUnprepared (points_of (version_of j)) (point_behind start before P T H) refusal)
+  pub point_refused : (refusal : PointRefusal) {count : ℕ} → count ≡ before + length H → {shown : Bytes} → shown ≡ now
+      → ((P : PlainPolicy) (T : Trace) → follows engine P T
+      → IsUnprepared (points_of (version_of j)) (point_text count shown (held_after P T)) refusal)
       → (P : PlainPolicy) (T : Trace) → accepted x.policy ≡ Some P → IsStart P x.point x.before T → IsUnpointed seen P T x refusal
-  point_refused refusal refused =
+  point_refused refusal {count} is_count {shown} is_shown refused =
       subst (λ (s : Kept D). (P : PlainPolicy) (T : Trace) → accepted s.policy ≡ Some P → IsStart P s.point s.before T
       → IsUnpointed seen P T s refusal) is
       (λ P T accepts leads.
       unpointed seen P T (parts text point before opening H mark (disk_of j)) refusal (points_of (version_of j))
-      (point_behind start before P T H)
-      (refused P T (stands_as kept P accepts T leads)) (point_is P T) (closed_kind seen j (kept.rests none).closed))
+      (point_text count shown (held_after P (trace_from P T H)))
+      (refused P (trace_from P T H) (stands_as kept P accepts T leads))
+      ((λ i. point_text (is_count i) (is_shown i) (held_after P (trace_from P T H))) ∙ point_is P T) (closed_kind seen j (kept.rests none).closed))
 
 -- the store on this disk
 abbrev pub on_disk : {D : Type 0} → Kept D → D → Kept D

@@ -132,17 +132,17 @@ module _ (keeps : (s : Shown) (P : PlainPolicy) (T : Trace) → Follows s P T �
     pub unsettled : (n : ℕ) (label : Bytes) → AfterEach state (λ P T. least_failing P T ≡ Some (n, label)) → IsOfNone entries payload
     unsettled n label fails P T k = nothing (sym (least_none P T k.settled 1 (sessions T)) ∙ fails P T (follows_point P T k))
 
-    module _ {E : Type 0} (follows : E → PlainPolicy → Trace → Type 0) (engine : E) (point : Beginning)
+    module _ {E : Type 0} (follows : E → PlainPolicy → Trace → Type 0) (engine : E) (point : Beginning) (text : Bytes)
         (usages : (P : PlainPolicy) (T : Trace) → IsSound P T → accessing T ≤ 65536 → (H : History) (caller : Caller) (c : Command) → length (revocations_in (reply P (trace_from P T H) caller c)) ≤ 65536)
         (up : AfterEach state (λ P T. follows engine P T × NobodyFails P T)) where
       few_there : (P : PlainPolicy) (T : Trace) → Follows state P T → accessing T ≤ 65536
       few_there P T f =
           subst (λ (n : ℕ). n ≤ 65536) (ap (λ (c : Counts). c.accessing) (keeps state P T f).counts_agree) (points_few said.policy said.tick said.rows end made)
 
-      pub takes_up : said.entries ≡ entries → point.payload.items ≡ payload → point.text.items ≡ said.text → TakesUp follows entries payload engine point
+      pub takes_up : said.entries ≡ entries → point.payload.items ≡ payload → text ≡ said.text → TakesUp follows entries payload engine point text
       takes_up count payload_is text_is = record {
         payload_is = payload_is;
-        in_force = λ text. ap (text_said text) reads ∙ sym text_is;
+        in_force = λ first. ap (text_said first) reads ∙ sym text_is;
         leads = λ P.
             let f = followed_under state is_following P in
             let k : IsReadPointOf entries P f.0 payload =

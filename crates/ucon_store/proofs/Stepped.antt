@@ -56,8 +56,8 @@ pub record IsReady {D : Type 0} (seen : D → DiskSeen) (x : Kept D) (k : Journa
       → taken accepted P (G ++ x.entries) payload ≡ Some ((G ++ x.entries) ++ e ∷ [])
 
 module _ {E D : Type 0} {follows : E → PlainPolicy → Trace → Type 0} {seen : D → DiskSeen} {engine : E}
-    {j : Journal D} {text : Bytes} {point : Option Beginning} {before opening : ℕ} {H : History} {mark : Option Entry}
-    (kept : IsKept follows seen engine j text point before H mark)
+    {j : Journal D} {text : Bytes} {point : Option Beginning} {before opening : ℕ} {now : Bytes} {H : History} {mark : Option Entry}
+    (kept : IsKept follows seen engine j text point before now H mark)
     {x : Kept D} (is : parts text point before opening H mark (disk_of j) ≡ x) where
   -- without a mark a crash leaves nothing but the file of a store
   pub only_kept : x.mark ≡ None → Only (seen x.disk).contents (seen x.disk).images

@@ -14,7 +14,8 @@ use Rattle.ucon_journal.specs.Journal.{gate_of}
 use Rattle.ucon_syntax.specs.Policies.{accepted}
 use Rattle.ucon_store.specs.declared.beginning.Beginning.{Beginning}
 use Rattle.ucon_store.specs.Kept.{IsKept, IsAtRestWith, RevokesFew, payload_in}
-use Rattle.ucon_store.specs.Starts.{IsStart}
+use Rattle.ucon_store.specs.Points.{text_behind, text_in_force}
+use Rattle.ucon_store.specs.Starts.{IsStart, text_at_start}
 use Rattle.ucon_store.proofs.Recorded.{IsAppended}
 use Rattle.ucon_disk.specs.Seen.{DiskSeen}
 
@@ -31,6 +32,11 @@ trace_append P T (e ∷ G) H = trace_append P (after P T e.caller e.command) G H
 pub trace_longer : (P : PlainPolicy) (T : Trace) (H : History) (e : Entry) → trace_from P T (H ++ e ∷ []) ≡ after P (trace_from P T H) e.caller e.command
 trace_longer P T H e = trace_append P T H (e ∷ [])
 
+-- the text of the policy in force after entries and one more
+pub text_longer : (text : Bytes) (H : History) (e : Entry) → text_in_force text (H ++ e ∷ []) ≡ text_behind (text_in_force text H) e.command
+text_longer text [] e = refl
+text_longer text (d ∷ H) e = text_longer (text_behind text d.command) H e
+
 -- a text is accepted as one policy
 pub one_policy : (text : Bytes) (P Q : PlainPolicy) → accepted text ≡ Some P → accepted text ≡ Some Q → P ≡ Q
 one_policy text P Q p q = let e : Some P ≡ Some Q = sym p ∙ q in cc (e)
@@ -40,8 +46,8 @@ pub said_behind : (P : PlainPolicy) (G H : History) (caller : Caller) (c : Comma
 said_behind P G H caller c = ap (λ (T : Trace). reply P T caller c) (trace_append P [] G H)
 
 module _ {E D : Type 0} {follows : E → PlainPolicy → Trace → Type 0} {seen : D → DiskSeen} {engine : E}
-    {journal : Journal D} {text : Bytes} {point : Option Beginning} {before : ℕ} {H : History} {mark : Option Entry}
-    (kept : IsKept follows seen engine journal text point before H mark) where
+    {journal : Journal D} {text : Bytes} {point : Option Beginning} {before : ℕ} {now : Bytes} {H : History} {mark : Option Entry}
+    (kept : IsKept follows seen engine journal text point before now H mark) where
   -- behind each trace that leads to where the store begins its engine follows the entries
   pub stands_as : (P : PlainPolicy) → accepted text ≡ Some P → (T : Trace) → IsStart P (payload_in point) before T
       → follows engine P (trace_from P T H)
@@ -49,13 +55,14 @@ module _ {E D : Type 0} {follows : E → PlainPolicy → Trace → Type 0} {seen
       subst (λ (Q : PlainPolicy). (T : Trace) → IsStart Q (payload_in point) before T → follows engine Q (trace_from Q T H))
       (one_policy text kept.P P kept.accepts accepts) kept.stands
 
-  -- a store goes on from where it began, with another engine, journal, entries and mark
-  kept_as : {next : E} {k : Journal D} {items : History} {m : Option Entry}
+  -- a store goes on from where it began, with another engine, journal, text in force, entries and mark
+  kept_as : {next : E} {k : Journal D} {later : Bytes} {items : History} {m : Option Entry}
       → ((T : Trace) → IsStart kept.P (payload_in point) before T → follows next kept.P (trace_from kept.P T items))
       → ((T : Trace) → IsStart kept.P (payload_in point) before T → NobodyFails kept.P (trace_from kept.P T items))
+      → later ≡ text_in_force (text_at_start text (payload_in point)) items
       → 5 * (before + length items) < 2 ^ 63 → (m ≡ None → IsAtRestWith seen k (before + length items))
-      → IsKept follows seen next k text point before items m
-  kept_as stands settled few rests = record {
+      → IsKept follows seen next k text point before later items m
+  kept_as stands settled in_force few rests = record {
     P = kept.P;
     accepts = kept.accepts;
     begun = kept.begun;
@@ -63,17 +70,17 @@ module _ {E D : Type 0} {follows : E → PlainPolicy → Trace → Type 0} {seen
     stands = stands;
     settled = settled;
     revokes = kept.revokes;
-    in_force = kept.in_force;
+    in_force = in_force;
     few = few;
     rests = rests;
   }
 
   -- a payload more that is no step leaves it kept
   pub kept_on : mark ≡ None → {prepared k : Journal D} {payload : Bytes} → gate_of prepared ≡ gate_of journal
-      → IsAppended seen prepared k payload → IsKept follows seen engine k text point before H mark
+      → IsAppended seen prepared k payload → IsKept follows seen engine k text point before now H mark
   kept_on none {prepared} {k} same appended =
       let few : 5 * (before + length H) ≤ gate_of k = omega (arith, (kept.rests none).few, same, appended.gate) in
-      kept_as kept.stands kept.settled kept.few (λ _. record { closed = appended.closed; few = few; only = appended.only })
+      kept_as kept.stands kept.settled kept.in_force kept.few (λ _. record { closed = appended.closed; few = few; only = appended.only })
 
   module _ (has_pending : PlainPolicy → Trace → Entry → Type 0) (e : Entry)
       (pending : (P : PlainPolicy) (T : Trace) → follows engine P T → has_pending P T e) (next : E) (k : Journal D) where
@@ -81,41 +88,25 @@ module _ {E D : Type 0} {follows : E → PlainPolicy → Trace → Type 0} {seen
     pends T start = pending kept.P (trace_from kept.P T H) (kept.stands T start)
 
     -- and so does the entry of a step that met a disk fault, as the mark
-    pub kept_marked : ((P : PlainPolicy) (T : Trace) (a : Entry) → has_pending P T a → follows next P T) → {items : History} → items ≡ H
-        → {failed : Entry} → failed ≡ e → IsKept follows seen next k text point before items (Some failed)
-    kept_marked undone same is =
-        subst (λ (z : History × Entry). IsKept follows seen next k text point before z.0 (Some z.1)) (λ i. (sym same i, sym is i))
-        (kept_as (λ T start. undone kept.P (trace_from kept.P T H) e (pends T start)) kept.settled kept.few (λ none. absurd (cc none)))
+    pub kept_marked : ((P : PlainPolicy) (T : Trace) (a : Entry) → has_pending P T a → follows next P T) → {later : Bytes} → later ≡ now
+        → {items : History} → items ≡ H → {failed : Entry} → failed ≡ e → IsKept follows seen next k text point before later items (Some failed)
+    kept_marked undone unchanged same is =
+        subst (λ (z : Bytes × History × Entry). IsKept follows seen next k text point before z.0 z.1 (Some z.2))
+        (λ i. (sym unchanged i, sym same i, sym is i))
+        (kept_as (λ T start. undone kept.P (trace_from kept.P T H) e (pends T start)) kept.settled kept.in_force kept.few (λ none. absurd (cc none)))
 
     -- and that of one that was kept, behind the others
     pub kept_more : mark ≡ None → {prepared : Journal D} {payload : Bytes} → gate_of prepared ≡ gate_of journal
         → IsAppended seen prepared k payload → gate_of k < 2 ^ 63
         → ((P : PlainPolicy) (T : Trace) (a : Entry) → has_pending P T a → follows next P (after P T a.caller a.command))
-        → ((P : PlainPolicy) (T : Trace) (a : Entry) → has_pending P T a → NobodyFails P (after P T a.caller a.command)) → {items : History}
-        → items ≡ H ++ e ∷ [] → IsKept follows seen next k text point before items mark
-    kept_more none same appended small follow settle grown =
+        → ((P : PlainPolicy) (T : Trace) (a : Entry) → has_pending P T a → NobodyFails P (after P T a.caller a.command)) → {later : Bytes}
+        → later ≡ text_behind now e.command → {items : History} → items ≡ H ++ e ∷ [] → IsKept follows seen next k text point before later items mark
+    kept_more none same appended small follow settle {later} text_is grown =
         let few : 5 * (before + length (H ++ e ∷ [])) ≤ gate_of k =
         omega (arith, (kept.rests none).few, same, appended.gate, length-append H (e ∷ [])) in
-        subst (λ (l : History). IsKept follows seen next k text point before l mark) (sym grown)
+        subst (λ (l : History). IsKept follows seen next k text point before later l mark) (sym grown)
         (kept_as
         (λ T start. subst (follows next kept.P) (sym (trace_longer kept.P T H e)) (follow kept.P (trace_from kept.P T H) e (pends T start)))
         (λ T start. subst (NobodyFails kept.P) (sym (trace_longer kept.P T H e)) (settle kept.P (trace_from kept.P T H) e (pends T start)))
+        (text_is ∙ (ap (λ (t : Bytes). text_behind t e.command) kept.in_force ∙ sym (text_longer (text_at_start text (payload_in point)) H e)))
         (omega (arith, few, small)) (λ _. record { closed = appended.closed; few = few; only = appended.only }))
-
--- a store that begins before all entries
-pub begins_first : {E D : Type 0} (follows : E → PlainPolicy → Trace → Type 0) (seen : D → DiskSeen) (engine : E) (journal : Journal D) (text : Bytes)
-    (P : PlainPolicy) (H : History) → accepted text ≡ Some P → follows engine P (trace P H) → NobodyFails P (trace P H) → RevokesFew P [] → 5 * length H < 2 ^ 63
-    → IsAtRestWith seen journal (length H) → IsKept follows seen engine journal text None 0 H None
-begins_first follows seen engine journal text P H accepts stands settled revokes few rest =
-    let all : 0 + length H ≡ length H = omega arith in record {
-      P = P;
-      accepts = accepts;
-      begun = [];
-      starts = (refl, refl);
-      stands = λ T start. subst (λ (U : Trace). follows engine P (trace_from P U H)) (sym start.1) stands;
-      settled = λ T start. subst (λ (U : Trace). NobodyFails P (trace_from P U H)) (sym start.1) settled;
-      revokes = λ T start. subst (RevokesFew P) (sym start.1) revokes;
-      in_force = refl;
-      few = omega (arith, few, all);
-      rests = λ _. record { closed = rest.closed; few = omega (arith, rest.few, all); only = rest.only };
-    }

@@ -1,5 +1,5 @@
 -- A store as contracts see it, and what holds of it at every moment.
-use Rattle.std.specs.Prelude.{◌≡◌, refl, ℕ, ◌+◌, ◌*◌, ◌<◌, ◌≤◌, ◌^◌, length, Option, Some, None, option_map, unwrap_or}
+use Rattle.std.specs.Prelude.{◌≡◌, refl, ℕ, ◌+◌, ◌*◌, ◌<◌, ◌≤◌, ◌^◌, length, Option, Some, None, option_map}
 use Rattle.std.specs.Coded.{Coded, code_by, coded_list, coded_option, coded_ℕ, coded×}
 use Rattle.ucon_model.specs.contracts.command.Entry as entry_row
 use Rattle.ucon_model.specs.declared.command.Caller.{Caller}
@@ -16,6 +16,7 @@ use Rattle.ucon_journal.specs.declared.journal.Journal.{Journal}
 use Rattle.ucon_journal.specs.Journal.{disk_of, gate_of, IsClosed}
 use Rattle.ucon_syntax.specs.Policies.{accepted}
 use Rattle.ucon_store.specs.declared.beginning.Beginning.{Beginning}
+use Rattle.ucon_store.specs.Points.{text_in_force}
 use Rattle.ucon_store.specs.Starts.{IsStart, text_at_start}
 use Rattle.ucon_disk.specs.Seen.{DiskSeen}
 
@@ -45,10 +46,6 @@ kept_code {D} code =
 abbrev pub payload_in : Option Beginning → Option Bytes
 payload_in point = option_map (λ (b : Beginning). b.payload.items) point
 
--- the text of the policy in force there: the one that was read in it, or the first policy's
-abbrev pub text_in : Bytes → Option Beginning → Bytes
-text_in text point = unwrap_or (option_map (λ (b : Beginning). b.text.items) point) text
-
 -- the journal is closed, behind so many records of five bytes at least, and where the disk tells, a crash leaves nothing but its file
 pub record IsAtRestWith {D : Type 0} (seen : D → DiskSeen)
     (journal : Journal D) (entries : ℕ) : Type 0 where
@@ -61,10 +58,10 @@ abbrev pub RevokesFew : PlainPolicy → Trace → Type 0
 RevokesFew P T = (H : History) (caller : Caller) (c : Command) → length (revocations_in (reply P (trace_from P T H) caller c)) ≤ 65536
 
 -- Some trace leads to where the store begins, and behind each such trace the engine follows the store's entries, no accessing session fails, and
--- no reply will have too many revocations. Without a mark the journal is at rest. What its file is found as isn't said here, since a store that
+-- no reply will have too many revocations. The text that is kept for it is that of the policy in force behind the entries. Without a mark the journal is at rest. What its file is found as isn't said here, since a store that
 -- begins behind a checkpoint may be of no history: where there is one, the calls pass it on (`IsFounded`).
 pub record IsKept {E D : Type 0} (follows : E → PlainPolicy → Trace → Type 0) (seen : D → DiskSeen)
-    (engine : E) (journal : Journal D) (text : Bytes) (point : Option Beginning) (before : ℕ) (H : History) (mark : Option Entry) : Type 0 where
+    (engine : E) (journal : Journal D) (text : Bytes) (point : Option Beginning) (before : ℕ) (now : Bytes) (H : History) (mark : Option Entry) : Type 0 where
   pub P : PlainPolicy
   pub accepts : accepted text ≡ Some P
   pub begun : Trace
@@ -72,6 +69,6 @@ pub record IsKept {E D : Type 0} (follows : E → PlainPolicy → Trace → Type
   pub stands : (T : Trace) → IsStart P (payload_in point) before T → follows engine P (trace_from P T H)
   pub settled : (T : Trace) → IsStart P (payload_in point) before T → NobodyFails P (trace_from P T H)
   pub revokes : (T : Trace) → IsStart P (payload_in point) before T → RevokesFew P T
-  pub in_force : text_in text point ≡ text_at_start text (payload_in point)
+  pub in_force : now ≡ text_in_force (text_at_start text (payload_in point)) H
   pub few : 5 * (before + length H) < 2 ^ 63
   pub rests : mark ≡ None → IsAtRestWith seen journal (before + length H)

@@ -12,9 +12,9 @@ use Rattle.ucon_point.specs.PointRead.{point_read}
 use Rattle.ucon_store.specs.declared.beginning.Beginning.{Beginning}
 use Rattle.ucon_store.specs.declared.loading.Loaded.{Loaded}
 use Rattle.ucon_store.specs.Found.{found}
-use Rattle.ucon_store.specs.Kept.{RevokesFew, payload_in, text_in}
+use Rattle.ucon_store.specs.Kept.{RevokesFew, payload_in}
 use Rattle.ucon_store.specs.Opened.{IsPointOf, Parted, first_long, parted_with, steps_after, text_said}
-use Rattle.ucon_store.specs.Points.{has_points}
+use Rattle.ucon_store.specs.Points.{has_points, text_in_force}
 use Rattle.ucon_store.specs.Starts.{BeginsAt, IsBeforeAll, IsStart, text_at_start}
 use Rattle.ucon_syntax.specs.Policies.{accepted}
 use Rattle.ucon_disk.specs.Seen.{DiskSeen}
@@ -22,10 +22,10 @@ use Rattle.ucon_disk.specs.Seen.{DiskSeen}
 -- ---- at the last checkpoint
 
 -- Under each policy some trace leads to the checkpoint after so many entries. The engine follows each such trace, behind which no reply will have too
--- many revocations.
-pub record TakesUp {E : Type 0} (follows : E → PlainPolicy → Trace → Type 0) (entries : ℕ) (payload : Bytes) (engine : E) (point : Beginning) : Type 0 where
+-- many revocations. This is the text of the policy in force there.
+pub record TakesUp {E : Type 0} (follows : E → PlainPolicy → Trace → Type 0) (entries : ℕ) (payload : Bytes) (engine : E) (point : Beginning) (now : Bytes) : Type 0 where
   pub payload_is : point.payload.items ≡ payload
-  pub in_force : (text : Bytes) → text_said text (point_read payload) ≡ point.text.items
+  pub in_force : (text : Bytes) → text_said text (point_read payload) ≡ now
   pub leads : (P : PlainPolicy) → (T : Trace) × IsPointOf entries P T payload
   pub stands : (P : PlainPolicy) (T : Trace) → IsPointOf entries P T payload → follows engine P T
   pub revokes : (P : PlainPolicy) (T : Trace) → IsPointOf entries P T payload → RevokesFew P T
@@ -37,21 +37,21 @@ IsOfNone entries payload = (P : PlainPolicy) (T : Trace) → IsPointOf entries P
 -- ---- behind it
 
 -- Some trace leads to where the entries begin. Behind each such trace the engine follows the entries, no accessing session fails, and no reply will
--- have too many revocations.
+-- have too many revocations. The text that is kept for it is that of the policy in force behind the entries.
 pub record IsStanding {E : Type 0} (follows : E → PlainPolicy → Trace → Type 0) (loaded : Loaded E) : Type 0 where
   pub P : PlainPolicy
   pub accepts : accepted loaded.policy.items ≡ Some P
   pub begun : Trace
   pub starts : IsStart P (payload_in loaded.point) loaded.before begun
-  pub stands : (T : Trace) → IsStart P (payload_in loaded.point) loaded.before T → follows loaded.engine P (trace_from P T loaded.entries.items)
-  pub settled : (T : Trace) → IsStart P (payload_in loaded.point) loaded.before T → NobodyFails P (trace_from P T loaded.entries.items)
+  pub stands : (T : Trace) → IsStart P (payload_in loaded.point) loaded.before T → follows loaded.engine P (trace_from P T loaded.entries)
+  pub settled : (T : Trace) → IsStart P (payload_in loaded.point) loaded.before T → NobodyFails P (trace_from P T loaded.entries)
   pub revokes : (T : Trace) → IsStart P (payload_in loaded.point) loaded.before T → RevokesFew P T
-  pub in_force : text_in loaded.policy.items loaded.point ≡ text_at_start loaded.policy.items (payload_in loaded.point)
+  pub in_force : loaded.in_force.text.items ≡ text_in_force (text_at_start loaded.policy.items (payload_in loaded.point)) loaded.entries
 
 -- Under the policy, behind each trace at which the entries begin, taking the payload in gives these; None where it isn't the next step's.
 abbrev pub TakingGives : {E : Type 0} → Loaded E → Bytes → Option History → Type 0
 TakingGives loaded payload entries = (P : PlainPolicy) (T : Trace) → accepted loaded.policy.items ≡ Some P
-    → IsStart P (payload_in loaded.point) loaded.before T → steps_after T loaded.policy.items P loaded.entries.items payload ≡ entries
+    → IsStart P (payload_in loaded.point) loaded.before T → steps_after T loaded.policy.items P loaded.entries payload ≡ entries
 
 -- what is found behind a trace in the records behind a journal's last checkpoint; where there is none, in those behind record 0
 abbrev pub found_from : PlainPolicy → Trace → Bytes → List Bytes → Option Parted → Finding
@@ -86,15 +86,15 @@ IsRead text P point before H file = ((counted file ≡ []) × (found file ≡ fr
 pub record IsLoading {E D : Type 0} (follows : E → PlainPolicy → Trace → Type 0) (seen : D → DiskSeen)
     (loaded : Loaded E) (journal : Journal D) : Type 0 where
   pub standing : IsStanding follows loaded
-  pub entries : loaded.before + length loaded.entries.items < loaded.records
+  pub entries : loaded.before + length loaded.entries < loaded.records
   pub few : 5 * loaded.records ≤ gate_of journal
   pub says : IfSome (seen (disk_of journal)).contents
-      (IsReadTo loaded.policy.items standing.P (payload_in loaded.point) loaded.before loaded.entries.items loaded.records (gate_of journal))
+      (IsReadTo loaded.policy.items standing.P (payload_in loaded.point) loaded.before loaded.entries loaded.records (gate_of journal))
 
 -- where the disk tells, the file is read, and these are its entries
 pub record HasLoaded {E D : Type 0} (follows : E → PlainPolicy → Trace → Type 0) (seen : D → DiskSeen)
     (loaded : Loaded E) (journal : Journal D) : Type 0 where
   pub standing : IsStanding follows loaded
-  pub few : 5 * (loaded.before + length loaded.entries.items) ≤ gate_of journal
+  pub few : 5 * (loaded.before + length loaded.entries) ≤ gate_of journal
   pub says : IfSome (seen (disk_of journal)).contents
-      (IsReadWhole loaded.policy.items standing.P (payload_in loaded.point) loaded.before loaded.entries.items)
+      (IsReadWhole loaded.policy.items standing.P (payload_in loaded.point) loaded.before loaded.entries)

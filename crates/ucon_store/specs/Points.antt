@@ -24,6 +24,11 @@ abbrev pub text_in_force : Bytes → History → Bytes
 text_in_force text [] = text
 text_in_force text (e ∷ H) = text_in_force (text_behind text e.command) H
 
+-- where a command is an amendment, this is its text
+abbrev pub HoldsAmendment : Bytes → Command → Type 0
+HoldsAmendment text (Amend a) = text ≡ a.text
+HoldsAmendment text command = ⊤
+
 -- the checkpoint after these entries, under the policy of this text
 abbrev pub checkpoint : Bytes → PlainPolicy → History → Bytes
 checkpoint text P H = point_after (text_in_force text H) P H

@@ -3,8 +3,10 @@
 
 mod accepting;
 mod beginning;
+mod entries;
 mod event;
 mod fault;
+mod in_force;
 mod laws;
 mod loading;
 mod opening;

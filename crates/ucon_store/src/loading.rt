@@ -11,12 +11,14 @@ ghost use Rattle.ucon_model.specs.Plain.{PlainPolicy};
 ghost use Rattle.ucon_syntax.specs.Policies.{accepted};
 ghost use Rattle.ucon_store.specs.Loading.{HasLoaded, IsLoading, IsStanding, TakingGives};
 ghost use Rattle.ucon_store.specs.Opening.{HasReason};
+ghost use Rattle.ucon_store.specs.Points.{HoldsAmendment};
 
 use crate::beginning::Beginning;
+use crate::entries::Entries;
 use crate::fault::{StoreFault, at_record};
-use crate::recording::add;
+use crate::in_force::InForce;
 use std::alloc::Global;
-use ucon_base::{NoMemory, Rows, Steps};
+use ucon_base::{NoMemory, Steps};
 use ucon_command::{PayloadFault, payloads_are_read_back, put_payload, read_entry};
 use ucon_disk::Disk;
 use ucon_engine::Engine;
@@ -33,7 +35,8 @@ pub(crate) struct Loaded<E> {
     /// How many entries stand before it.
     pub before: u64,
     pub engine: E,
-    pub entries: Rows<Entry>,
+    pub entries: Entries,
+    pub in_force: InForce,
     /// How many records were taken in, those before the checkpoint among them.
     pub records: u64,
     /// The payload of the last entry, as the engine's reply spells it. Its memory is kept for the next one.
@@ -46,9 +49,10 @@ impl<E: Engine> Loaded<E> {
     fn take_step(&mut self, alloc: Global, payload: &[u8]) -> Result<bool, StoreFault>
         requires standing { IsStanding E.follows self.old }
         requires short { length payload.now ≤ MAX_PAYLOAD }
+        requires few { length self.old.entries + 1 < 2 ^ 64 }
         ensures standing { IfOk result (λ more. more ≡ true → IsStanding E.follows self.new) }
-        ensures taken { IfOk result (λ more. more ≡ true → TakingGives self.old payload.now (Some self.new.entries.items)) }
-        ensures one { IfOk result (λ more. more ≡ true → length self.new.entries.items ≡ length self.old.entries.items + 1) }
+        ensures taken { IfOk result (λ more. more ≡ true → TakingGives self.old payload.now (Some self.new.entries)) }
+        ensures one { IfOk result (λ more. more ≡ true → length self.new.entries ≡ length self.old.entries + 1) }
         ensures wrong { IfOk result (λ more. more ≡ false → TakingGives self.old payload.now None) }
         ensures err { IfErr result (λ fault. fault ≡ StoreFault.NoMemory out_of_memory) }
         ensures policy { self.new.policy.items ≡ self.old.policy.items }
@@ -65,11 +69,12 @@ impl<E: Engine> Loaded<E> {
             return Ok(false);
         }
         self.engine.keep();
-        add(&mut self.entries, entry);
+        self.entries.push(entry.caller, &entry.command);
+        self.in_force.go_on(&entry.command);
         Ok(true)
     }
 
-    /// Makes room for a payload's entry and drafts it. Whether the engine's reply changes something, and spelled with the entry is the payload: then
+    /// Takes the memory that a payload's entry needs, and drafts it. Whether the engine's reply changes something, and spelled with the entry is the payload: then
     /// the step is pending.
     fn drafts(&mut self, alloc: Global, entry: &Entry, payload: &[u8]) -> Result<bool, NoMemory>
         requires standing { IsStanding E.follows self.old }
@@ -78,15 +83,15 @@ impl<E: Engine> Loaded<E> {
         requires client { entry.now.caller.0 < 64 }
         ensures pending { IfOk result (λ same. same ≡ true → (P : PlainPolicy) (T : Trace) → E.follows self.old.engine P T
             → E.has_pending self.new.engine P T entry.now) }
-        ensures taken { IfOk result (λ same. same ≡ true → TakingGives self.old payload.now (Some (self.old.entries.items ++ entry.now ∷ []))) }
+        ensures taken { IfOk result (λ same. same ≡ true → TakingGives self.old payload.now (Some (self.old.entries ++ entry.now ∷ []))) }
         ensures wrong { IfOk result (λ same. same ≡ false → TakingGives self.old payload.now None) }
-        ensures room { OnOk result (1 ≤ self.new.entries.spare) }
-        ensures entries { self.new.entries.items ≡ self.old.entries.items }
-        ensures rest { self.new ≡ record self.old { engine = self.new.engine; entries = self.new.entries; payload = self.new.payload } }
+        ensures ready { OnOk result (HoldsAmendment self.new.in_force.next.items entry.now.command) }
+        ensures in_force { self.new.in_force.text.items ≡ self.old.in_force.text.items }
+        ensures rest { self.new ≡ record self.old { engine = self.new.engine; in_force = self.new.in_force; payload = self.new.payload } }
     {
         payloads_are_read_back();
         texts_tell_changes();
-        self.entries.reserve(1)?;
+        self.in_force.prepare(&entry.command)?;
         let mut steps = Steps::new();
         let drafted = self.engine.draft(entry.caller, &entry.command, &mut steps)?;
         if !drafted.changes {

@@ -40,9 +40,9 @@ pub(crate) fn load<E: Engine, D: Disk>(
     ensures policy { IfOk result (λ l. l.policy.items ≡ policy.now) }
     ensures standing { IfOk result (λ l. IsStanding E.follows l) }
     ensures read { IfOk result (λ l. (P : PlainPolicy) → accepted policy.now ≡ Some P → IfSome (D.seen (disk_of journal.old)).contents
-        (IsRead policy.now P (payload_in l.point) l.before l.entries.items)) }
+        (IsRead policy.now P (payload_in l.point) l.before l.entries)) }
     ensures kept { OnOk result (KeepsFound policy.now (D.seen (disk_of journal.old)).contents (D.seen (disk_of journal.new)).contents) }
-    ensures few { IfOk result (λ l. 5 * (l.before + length l.entries.items) ≤ gate_of journal.new) }
+    ensures few { IfOk result (λ l. 5 * (l.before + length l.entries) ≤ gate_of journal.new) }
     ensures payloads { OnOk result (IfSome (D.seen (disk_of journal.old)).contents (λ file. length (counted file) < 2 ^ 63)) }
     ensures closed { OnOk result (IsClosed D.seen journal.new) }
     ensures places { OnOk result (SamePlaces (D.seen (disk_of journal.old)).contents (D.seen (disk_of journal.new)).contents) }
@@ -79,9 +79,9 @@ fn go_on<E: Engine, D: Disk>(
     ensures policy { IfOk result (λ l. l.policy.items ≡ policy.now) }
     ensures standing { IfOk result (λ l. IsStanding E.follows l) }
     ensures read { IfOk result (λ l. (P : PlainPolicy) → accepted policy.now ≡ Some P → IfSome (D.seen (disk_of journal.old)).contents
-        (IsRead policy.now P (payload_in l.point) l.before l.entries.items)) }
+        (IsRead policy.now P (payload_in l.point) l.before l.entries)) }
     ensures kept { OnOk result (KeepsFound policy.now (D.seen (disk_of journal.old)).contents (D.seen (disk_of journal.new)).contents) }
-    ensures few { IfOk result (λ l. 5 * (l.before + length l.entries.items) ≤ gate_of journal.new) }
+    ensures few { IfOk result (λ l. 5 * (l.before + length l.entries) ≤ gate_of journal.new) }
     ensures payloads { OnOk result (IfSome (D.seen (disk_of journal.old)).contents (λ file. length (counted file) < 2 ^ 63)) }
     ensures closed { OnOk result (IsClosed D.seen journal.new) }
     ensures places { OnOk result (SamePlaces (D.seen (disk_of journal.old)).contents (D.seen (disk_of journal.new)).contents) }
@@ -115,9 +115,9 @@ fn make<E: Engine, D: Disk>(
     ensures policy { IfOk result (λ l. l.policy.items ≡ policy.now) }
     ensures standing { IfOk result (λ l. IsStanding E.follows l) }
     ensures read { IfOk result (λ l. (P : PlainPolicy) → accepted policy.now ≡ Some P → IfSome (D.seen (disk_of journal.old)).contents
-        (IsRead policy.now P (payload_in l.point) l.before l.entries.items)) }
+        (IsRead policy.now P (payload_in l.point) l.before l.entries)) }
     ensures kept { OnOk result (KeepsFound policy.now (D.seen (disk_of journal.old)).contents (D.seen (disk_of journal.new)).contents) }
-    ensures few { IfOk result (λ l. 5 * (l.before + length l.entries.items) ≤ gate_of journal.new) }
+    ensures few { IfOk result (λ l. 5 * (l.before + length l.entries) ≤ gate_of journal.new) }
     ensures payloads { OnOk result (IfSome (D.seen (disk_of journal.old)).contents (λ file. length (counted file) < 2 ^ 63)) }
     ensures closed { OnOk result (IsClosed D.seen journal.new) }
     ensures places { OnOk result (SamePlaces (D.seen (disk_of journal.old)).contents (D.seen (disk_of journal.new)).contents) }

@@ -18,20 +18,23 @@ ghost use Rattle.ucon_model.specs.Views.{reply_of};
 ghost use Rattle.ucon_model.specs.Work.{NobodyFails};
 ghost use Rattle.ucon_engine.specs.Engine.{IsPending};
 ghost use Rattle.ucon_syntax.specs.Policies.{accepted};
+ghost use Rattle.ucon_store.specs.Points.{HoldsAmendment, text_behind};
 
+use crate::entries::Entries;
+use crate::in_force::InForce;
 use std::alloc::Global;
-use ucon_base::{NoMemory, Rows};
+use ucon_base::NoMemory;
 use ucon_command::{put_payload, steps_are_taken_as_spelled};
 use ucon_disk::Disk;
 use ucon_engine::Engine;
 use ucon_journal::{Journal, MAX_PAYLOAD};
 use ucon_model::{Caller, Command, Entry, Reply};
 
-/// Takes all the memory that a step needs, before anything is written: the payload of its record, and its entry.
+/// Takes all the memory that a step needs, before anything is written: the payload of its record, the text of its amendment, and its entry.
 pub(crate) fn prepare<D: Disk>(
     alloc: Global,
     journal: &mut Journal<D>,
-    entries: &mut Rows<Entry>,
+    in_force: &mut InForce,
     payload: &mut Vec<u8>,
     caller: Caller,
     command: &Command,
@@ -42,7 +45,7 @@ pub(crate) fn prepare<D: Disk>(
     ensures disk { disk_of journal.new ≡ disk_of journal.old }
     ensures closed { IsClosed D.seen journal.old → IsClosed D.seen journal.new }
     ensures gate { gate_of journal.new ≡ gate_of journal.old }
-    ensures entries { entries.new.items ≡ entries.old.items }
+    ensures in_force { in_force.new.text.items ≡ in_force.old.text.items }
     ensures entry { IfOk result (λ e. e ≡ record { caller = caller; command = command.now }) }
     ensures taken { IfOk result (λ e. (P : PlainPolicy) (H : History)
         → reply_of reply.now ≡ said P H caller command.now → changes (reply_of reply.now) ≡ true
@@ -50,13 +53,13 @@ pub(crate) fn prepare<D: Disk>(
     ensures spelled { OnOk result (payload.new.items ≡ payload_spelling (told_of caller command.now reply.now)) }
     ensures short { OnOk result (length payload.new.items ≤ MAX_PAYLOAD) }
     ensures room { OnOk result (HasRoomFor journal.new (length payload.new.items)) }
-    ensures spare { OnOk result (1 ≤ entries.new.spare) }
+    ensures ready { OnOk result (HoldsAmendment in_force.new.next.items command.now) }
 {
     steps_are_taken_as_spelled();
     payload.clear();
     put_payload(alloc, payload, caller, command, reply)?;
     journal.reserve(payload.len())?;
-    entries.reserve(1)?;
+    in_force.prepare(command)?;
     let command = command.copy(alloc)?;
     Ok(Entry { caller, command })
 }
@@ -66,7 +69,8 @@ pub(crate) fn prepare<D: Disk>(
 pub(crate) fn record<E: Engine, D: Disk>(
     engine: &mut E,
     journal: &mut Journal<D>,
-    entries: &mut Rows<Entry>,
+    entries: &mut Entries,
+    in_force: &mut InForce,
     payload: &[u8],
     entry: Entry,
 ) -> Result<(), Entry>
@@ -74,14 +78,16 @@ pub(crate) fn record<E: Engine, D: Disk>(
     requires closed { IsClosed D.seen journal.old }
     requires short { length payload.now ≤ MAX_PAYLOAD }
     requires room { HasRoomFor journal.old (length payload.now) }
-    requires spare { 1 ≤ entries.old.spare }
+    requires few { length entries.old + 1 < 2 ^ 64 }
+    requires ready { HoldsAmendment in_force.old.next.items entry.command }
     ensures kept { OnOk result ((P : PlainPolicy) (T : Trace) (e : Entry) → E.has_pending engine.old P T e
         → E.follows engine.new P (after P T e.caller e.command)) }
     ensures settled { OnOk result ((P : PlainPolicy) (T : Trace) (e : Entry) → E.has_pending engine.old P T e
         → NobodyFails P (after P T e.caller e.command)) }
     ensures undone { OnErr result ((P : PlainPolicy) (T : Trace) (e : Entry) → E.has_pending engine.old P T e → E.follows engine.new P T) }
-    ensures added { OnOk result (entries.new.items ≡ entries.old.items ++ entry ∷ []) }
-    ensures same { OnErr result (entries.new.items ≡ entries.old.items) }
+    ensures added { OnOk result (entries.new ≡ entries.old ++ entry ∷ []) }
+    ensures in_force { OnOk result (in_force.new.text.items ≡ text_behind in_force.old.text.items entry.command) }
+    ensures same { OnErr result ((entries.new ≡ entries.old) × (in_force.new ≡ in_force.old)) }
     ensures entry { IfErr result (λ e. e ≡ entry) }
     ensures closed { OnOk result (IsClosed D.seen journal.new) }
     ensures gate { OnOk result (gate_of journal.old + 5 ≤ gate_of journal.new) }
@@ -99,16 +105,7 @@ pub(crate) fn record<E: Engine, D: Disk>(
         return Err(entry);
     }
     engine.keep();
-    add(entries, entry);
+    entries.push(entry.caller, &entry.command);
+    in_force.go_on(&entry.command);
     Ok(())
-}
-
-/// Adds an entry where there is room for it.
-pub(crate) fn add(entries: &mut Rows<Entry>, entry: Entry)
-    requires { 1 ≤ entries.old.spare }
-    ensures { entries.new.items ≡ entries.old.items ++ entry ∷ [] }
-{
-    let Ok(()) = entries.push(entry) else {
-        unreachable!()
-    };
 }

@@ -17,6 +17,8 @@ use ucon_state::{states_follow_what_reads_alike, tables_keep_what_is_followed};
 pub(crate) struct Restored<E> {
     pub engine: E,
     pub point: Beginning,
+    /// The text of the policy in force there, as the checkpoint has it.
+    pub text: Vec<u8>,
 }
 
 /// The engine that goes on from the checkpoint of this payload, before which so many entries stand. None where it is no checkpoint after so many, or
@@ -27,7 +29,7 @@ pub(crate) fn take_up<E: Engine>(
     payload: &[u8],
 ) -> Result<Option<Restored<E>>, NoMemory>
     ensures { IfOk result (λ restored. MatchOption restored (IsOfNone entries payload.now)
-        (λ r. TakesUp E.follows entries payload.now r.engine r.point)) }
+        (λ r. TakesUp E.follows entries payload.now r.engine r.point r.text.items)) }
 {
     checkpoints_of_traces_are_read_back();
     points_are_read_back();
@@ -43,7 +45,7 @@ pub(crate) fn take_up<E: Engine>(
     if point.entries != entries {
         return Ok(None);
     }
-    let text = point.policy;
+    let text = point.policy.into_vec();
     let engine = match E::restore(alloc, point.state) {
         Ok(engine) => engine,
         Err(RestoreFault::Unsettled(_, _)) => return Ok(None),
@@ -53,9 +55,7 @@ pub(crate) fn take_up<E: Engine>(
     kept.extend_from_slice(payload)?;
     Ok(Some(Restored {
         engine,
-        point: Beginning {
-            payload: kept,
-            text,
-        },
+        point: Beginning { payload: kept },
+        text,
     }))
 }

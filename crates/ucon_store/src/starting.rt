@@ -15,11 +15,13 @@ ghost use Rattle.ucon_store.specs.Starts.{IsBeforeAll};
 ghost use Rattle.ucon_walk.specs.Walking.{IsPlacedBelow, IsWalked};
 
 use crate::accepting::read_accepted;
+use crate::entries::Entries;
 use crate::fault::StoreFault;
+use crate::in_force::InForce;
 use crate::loading::Loaded;
 use crate::restoring::take_up;
 use std::alloc::Global;
-use ucon_base::{NoMemory, Rows};
+use ucon_base::NoMemory;
 use ucon_disk::Disk;
 use ucon_engine::Engine;
 use ucon_journal::{Journal, MAX_PAYLOAD};
@@ -61,7 +63,7 @@ pub(crate) fn start<E: Engine, D: Disk>(
 pub(crate) fn start_first<E: Engine>(alloc: Global, text: &[u8]) -> Result<Loaded<E>, StoreFault>
     ensures policy { IfOk result (λ l. l.policy.items ≡ text.now) }
     ensures begins { IfOk result (λ l. IsBeforeAll (payload_in l.point) l.before) }
-    ensures entries { IfOk result (λ l. l.entries.items ≡ []) }
+    ensures entries { IfOk result (λ l. l.entries ≡ []) }
     ensures records { IfOk result (λ l. l.records ≡ 1) }
     ensures standing { IfOk result (λ l. IsStanding E.follows l) }
     ensures short { OnOk result (length text.now ≤ 65536) }
@@ -77,12 +79,15 @@ pub(crate) fn start_first<E: Engine>(alloc: Global, text: &[u8]) -> Result<Loade
         });
     };
     let engine = E::begin(alloc, checked)?;
+    let policy = copied(alloc, text)?;
+    let in_force = InForce::new(alloc, copied(alloc, text)?);
     Ok(Loaded {
-        policy: copied(alloc, text)?,
+        policy,
         point: None,
         before: 0,
         engine,
-        entries: Rows::new(alloc),
+        entries: Entries::new(),
+        in_force,
         records: 1,
         payload: Vec::new(alloc),
     })
@@ -129,7 +134,8 @@ fn start_behind<E: Engine, D: Disk>(
         point: Some(restored.point),
         before: last.entries,
         engine: restored.engine,
-        entries: Rows::new(alloc),
+        entries: Entries::new(),
+        in_force: InForce::new(alloc, restored.text),
         records: last.number + 1,
         payload: Vec::new(alloc),
     })

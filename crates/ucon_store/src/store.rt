@@ -30,16 +30,18 @@ ghost use Rattle.ucon_store.specs.Steps.{AddsAtMost, IsPlaced, IsPlacedBehind, H
 ghost use Rattle.ucon_store.specs.Whole.{GoesOnFrom, IsFounded, IsFront, trace_behind, whole};
 
 use crate::beginning::Beginning;
+use crate::entries::Entries;
 use crate::fault::{PointRefusal, StepFault, StoreFault};
+use crate::in_force::InForce;
 use crate::laws::found_histories_stand_around_their_last_checkpoint;
 use crate::loading::Loaded;
 use crate::opening::load;
 use crate::placed::Placed;
-use crate::points::{prepare_point, text_at_start};
+use crate::points::prepare_point;
 use crate::recording::{prepare, record};
 use std::alloc::Global;
 use std::marker::Model;
-use ucon_base::{Rows, Steps};
+use ucon_base::Steps;
 use ucon_disk::Disk;
 use ucon_engine::Engine;
 use ucon_journal::{Journal, MAX_PAYLOAD};
@@ -59,7 +61,8 @@ pub struct Store<E: Engine, D: Disk> {
     before: u64,
     opening: u64,
     /// The entries behind that checkpoint, or all.
-    entries: Rows<Entry>,
+    entries: Entries,
+    in_force: InForce,
     mark: Option<Entry>,
     /// The payload of the last record that was spelled. Its memory is kept for the next one.
     payload: Vec<u8>,
@@ -78,13 +81,13 @@ impl<E: Engine, D: Disk> Model for Store<E, D> {
       point = payload_in s.point;
       before = s.before;
       opening = s.opening;
-      entries = s.entries.items;
+      entries = s.entries;
       mark = s.mark;
       disk = disk_of s.journal;
     } };
 
-    ghost invariant = { λ s. IsKept E.follows D.seen s.engine s.journal s.policy.items s.point s.before s.entries.items
-        s.mark };
+    ghost invariant = { λ s. IsKept E.follows D.seen s.engine s.journal s.policy.items s.point s.before s.in_force.text.items
+        s.entries s.mark };
 }
 
 impl<E: Engine, D: Disk> Store<E, D> {
@@ -128,10 +131,11 @@ impl<E: Engine, D: Disk> Store<E, D> {
                     before,
                     engine,
                     entries,
+                    in_force,
                     records: _,
                     payload,
                 } = loaded;
-                let opening = before + entries.len() as u64;
+                let opening = before + entries.len();
                 Ok(Store {
                     engine,
                     journal,
@@ -140,6 +144,7 @@ impl<E: Engine, D: Disk> Store<E, D> {
                     before,
                     opening,
                     entries,
+                    in_force,
                     mark: None,
                     payload,
                 })
@@ -196,14 +201,14 @@ impl<E: Engine, D: Disk> Store<E, D> {
         let drafted = self.engine.draft(caller, command, &mut steps)?;
         if !drafted.changes {
             return Ok(Placed {
-                place: self.before + self.entries.len() as u64,
+                place: self.before + self.entries.len(),
                 reply: drafted.reply,
             });
         }
         let entry = match prepare(
             alloc,
             &mut self.journal,
-            &mut self.entries,
+            &mut self.in_force,
             &mut self.payload,
             caller,
             command,
@@ -219,6 +224,7 @@ impl<E: Engine, D: Disk> Store<E, D> {
             &mut self.engine,
             &mut self.journal,
             &mut self.entries,
+            &mut self.in_force,
             &self.payload,
             entry,
         ) {
@@ -226,7 +232,7 @@ impl<E: Engine, D: Disk> Store<E, D> {
             return Err(StepFault::DiskFault);
         }
         Ok(Placed {
-            place: self.before + self.entries.len() as u64,
+            place: self.before + self.entries.len(),
             reply: drafted.reply,
         })
     }
@@ -274,11 +280,12 @@ impl<E: Engine, D: Disk> Store<E, D> {
             before,
             opening,
             entries,
+            in_force,
             mark,
             payload,
         } = self;
-        let start = text_at_start(&policy, &point);
-        let text = match prepare_point(alloc, &mut journal, start, before, &entries, &engine) {
+        let count = before + entries.len();
+        let text = match prepare_point(alloc, &mut journal, count, &in_force.text, &engine) {
             Ok(text) => text,
             Err(refusal) => {
                 let same = Store {
@@ -289,6 +296,7 @@ impl<E: Engine, D: Disk> Store<E, D> {
                     before,
                     opening,
                     entries,
+                    in_force,
                     mark,
                     payload,
                 };
@@ -298,7 +306,6 @@ impl<E: Engine, D: Disk> Store<E, D> {
         if journal.append(&text).is_err() {
             return Err(journal.close());
         }
-        let count = before + entries.len() as u64;
         let store = Store {
             engine,
             journal,
@@ -307,6 +314,7 @@ impl<E: Engine, D: Disk> Store<E, D> {
             before,
             opening,
             entries,
+            in_force,
             mark,
             payload,
         };
@@ -327,12 +335,12 @@ impl<E: Engine, D: Disk> Store<E, D> {
         self.before
     }
 
-    /// The entries behind the checkpoint that opening used, or all; those that were found at the opening first.
-    pub fn entries(&self) -> &Rows<Entry>
-        ensures entries { result.now.items ≡ self.now.entries }
+    /// The number of all entries, those before the checkpoint that opening used among them.
+    pub fn place(&self) -> u64
+        ensures place { result ≡ self.now.before + length self.now.entries }
         ensures few { self.now.before + length self.now.entries + 2 ≤ 2 ^ 64 }
     {
-        &self.entries
+        self.before + self.entries.len()
     }
 
     /// What is there now. No accessing session fails.
@@ -366,6 +374,7 @@ impl<E: Engine, D: Disk> Store<E, D> {
             before: _,
             opening: _,
             entries: _,
+            in_force: _,
             mark: _,
             payload: _,
         } = self;

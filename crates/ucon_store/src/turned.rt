@@ -26,7 +26,7 @@ impl<E: Engine, D: Disk> Turned for Store<E, D> {
     ghost caller = { number_of };
 
     fn len(&self) -> u64 {
-        let entries = self.entries().len() as u64;
+        let entries = self.place() - self.before();
         if self.failed().is_some() {
             entries + 1
         } else {

@@ -101,8 +101,10 @@ fn crashes_leave_what_was_answered(rt: HostRuntime) -> Result<(), Fail> {
     for calls in 0..32u64 {
         hold_images(&rt, rt.alloc(), "play", WITH_A, SUBJECTS_B_AND_C, calls)?;
         for row in PLAYED_ROWS {
-            if row.status == 0 {
-                hold_images(&rt, rt.alloc(), row.form, row.file, row.document, calls)?;
+            if let [form, ..] = row.words
+                && row.status == 0
+            {
+                hold_images(&rt, rt.alloc(), *form, row.file, row.document, calls)?;
             }
         }
     }

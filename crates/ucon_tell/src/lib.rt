@@ -2,12 +2,14 @@
 #![tactic(auto)]
 
 mod keeper;
+mod memory;
 mod talk_fault;
 mod talking;
 mod telling;
 mod voice;
 
 pub use keeper::Keeper;
+pub use memory::{Clocked, MemVoice, Note};
 pub use talk_fault::TalkFault;
 pub use talking::talk;
 pub use telling::tell_all;

@@ -27,7 +27,7 @@ front_same P x y G policy point before front = record {
 pub begins_behind : (G xs ys : History) → Begins xs ys → Begins (G ++ xs) (G ++ ys)
 begins_behind G xs ys b = (b.0, append_assoc G xs b.0 ∙ ap (λ (l : History). G ++ l) b.1)
 
-trace_append : (P : PlainPolicy) (T : Trace) (G H : History) → trace_from P T (G ++ H) ≡ trace_from P (trace_from P T G) H
+pub trace_append : (P : PlainPolicy) (T : Trace) (G H : History) → trace_from P T (G ++ H) ≡ trace_from P (trace_from P T G) H
 trace_append P T [] H = refl
 trace_append P T (e ∷ G) H = trace_append P (after P T e.caller e.command) G H
 

@@ -4,10 +4,17 @@ use Rattle.std.specs.Prelude.{Option, Some, None, IfSome, length, option_map, if
 use Rattle.std.proofs.lemmas.Bool.{eq-eqb}
 use Rattle.ucon_flow.specs.Causes.{Rose}
 use Rattle.ucon_disk.specs.Causes.{raised}
+use Rattle.ucon_audit.specs.Refusing.{HoldsOther, IsRefused}
 use Rattle.ucon_model.specs.Document.{policy_part}
+use Rattle.ucon_model.specs.Found as findings
+use Rattle.ucon_model.specs.Found.{Finding}
+use Rattle.ucon_model.specs.History.{History}
+use Rattle.ucon_store.specs.Found.{IsFoundAs, Tells, found}
 use Rattle.ucon_model.specs.Plain.{Bytes}
+use Rattle.ucon_store.specs.declared.fault.StoreFault.{StoreFault}
+use Rattle.ucon_store.specs.declared.fault.StoreFault.TheVariants as stores
 use Rattle.ucon_store.specs.Opened.{Seen, not_journal, damaged, holds, Sees}
-use Rattle.ucon_store.specs.Opening.{HasOtherPolicy, first_difference}
+use Rattle.ucon_store.specs.Opening.{HasOtherPolicy, HasReason, first_difference}
 use Rattle.ucon_top.specs.declared.form.Form.{Form}
 use Rattle.ucon_top.specs.declared.form.Form.TheVariants as forms
 use Rattle.ucon_outcome.specs.declared.outcome.Outcome.{Outcome}
@@ -18,7 +25,7 @@ use Rattle.ucon_top.specs.Own.{HasEntries}
 use Rattle.ucon_top.specs.Printed.{document_of}
 use Rattle.ucon_top.specs.Unread.{IsUnread}
 use Rattle.ucon_top.specs.Seen.{Seen as AllSeen}
-use Rattle.ucon_top.specs.OwnReading.{HasPlayed, HasPointed, IsAccepted, IsOwnJournal, IsRefusedBy, IsUnhindered}
+use Rattle.ucon_top.specs.OwnReading.{HasPlayed, HasPointed, HasTold, IsAccepted, IsFoundJournal, IsOwnJournal, IsRefusedBy, IsUnhindered, TellsNothing}
 
 -- ---- no reason not to open holds of one's own journal
 
@@ -144,3 +151,67 @@ module _ (form : Form) (before after : AllSeen) (bytes : Bytes) (sees_one : Sees
   pointed_complete (outcomes.OtherPolicy place) unrefused refused ends sink disk pointed own u =
       absurd (not_others sees_one (policy_part bytes) before.disk.contents (own u) place pointed.reason.0)
   pointed_complete outcome unrefused refused ends sink disk pointed own u = absurd (cc ends)
+
+-- ---- nor one that tells of a journal
+
+-- opening doesn't meet this where its journal is one's own
+abbrev IsOffJournal : StoreFault → Type 0
+IsOffJournal stores.NotJournal = ⊥
+IsOffJournal (stores.Damaged number place) = ⊥
+IsOffJournal (stores.OtherPolicy place) = ⊥
+IsOffJournal fault = Unit {0}
+
+module _ (before after : AllSeen) (bytes : Bytes) (sees_one : SeesOneThing) where
+  reason_off : (fault : StoreFault) → HasReason fault (policy_part bytes) before.disk.contents before.disk.faults after.disk.faults
+      → IsOwnJournal (policy_part bytes) before.disk.contents → IsOffJournal fault
+  reason_off stores.NotJournal reason own = not_foreign sees_one (policy_part bytes) before.disk.contents own reason.0
+  reason_off (stores.Damaged number place) reason own = not_damaged sees_one (policy_part bytes) before.disk.contents own number place reason.0
+  reason_off (stores.OtherPolicy place) reason own = not_others sees_one (policy_part bytes) before.disk.contents own place reason.0
+  reason_off stores.DiskFault reason own = tt
+  reason_off (stores.NoMemory e) reason own = tt
+
+  -- nor a full check where the file is found so
+  found_told : IsFoundJournal (policy_part bytes) before.disk.contents → (so : Bytes → Type 0) → IfSome before.disk.contents so
+      → (file : Bytes) × (H : History) × IsFoundAs (policy_part bytes) file H × so file
+  found_told own so h = (own.file, own.history, own.found, subst (λ (o : Option Bytes). IfSome o so) own.told h)
+
+  found_off : (fault : StoreFault) → IsRefused fault (policy_part bytes) before.disk.contents before.disk.faults after.disk.faults
+      → IsFoundJournal (policy_part bytes) before.disk.contents → IsOffJournal fault
+  found_off stores.NotJournal reason own =
+      let f = found_told own (λ file. found file ≡ findings.not_journal) reason.0 in
+      subst (λ (x : Finding). Tells x (policy_part bytes) f.1) f.3 f.2
+  found_off (stores.Damaged number place) reason own =
+      let f = found_told own (λ file. found file ≡ findings.damaged number place) reason.0 in
+      subst (λ (x : Finding). Tells x (policy_part bytes) f.1) f.3 f.2
+  found_off (stores.OtherPolicy place) reason own =
+      let f = found_told own (HoldsOther (policy_part bytes) place) reason.0 in
+      let other = f.3 in
+      let same = subst (λ (x : Finding). Tells x (policy_part bytes) f.1) other.is f.2 in
+      let none : first_difference other.other (policy_part bytes) ≡ None =
+      subst (λ (t : Bytes). first_difference other.other t ≡ None) same.0 (no_difference other.other) in
+      let bad : None ≡ Some place = sym none ∙ other.differs in absurd (cc bad)
+  found_off stores.DiskFault reason own = tt
+  found_off (stores.NoMemory e) reason own = tt
+
+  tells_own : (form : Form) (fault : StoreFault) → TellsNothing form fault bytes before.disk after.disk → IsUnhindered form bytes before after → IsOffJournal fault
+  tells_own (forms.Explain s r o) fault nothing u = reason_off fault nothing.reason u.journal
+  tells_own (forms.Audit kept) fault nothing u = found_off fault nothing.reason u.checked
+  tells_own forms.Report fault nothing u = found_off fault nothing.reason u.checked
+  tells_own form fault nothing u = absurd nothing
+
+  pub told_complete : (form : Form) (outcome : Outcome) → (IsAccepted bytes → IsRefusedBy outcome bytes → IsUnrefused outcome) → IsRefusedBy outcome bytes
+      → IsOfDocument outcome → IsCounted outcome outcomes.SinkFault before.sink.faults after.sink.faults
+      → (outcome ≡ outcomes.DiskFault → after.disk.faults ≡ raised before.disk.faults)
+      → HasTold form outcome bytes before.disk after.disk before.sink after.sink → Completes before after form outcome bytes
+  told_complete form outcomes.Done unrefused refused ends sink disk told u = refl
+  told_complete form (outcomes.NoMemory e) unrefused refused ends sink disk told u = refl
+  told_complete form (outcomes.FullPoint size) unrefused refused ends sink disk told u = refl
+  told_complete form outcomes.OldJournal unrefused refused ends sink disk told u = refl
+  told_complete form (outcomes.Policy f) unrefused refused ends sink disk told u = absurd (cc (unrefused u.accepted refused))
+  told_complete form (outcomes.Script f) unrefused refused ends sink disk told u = absurd (cc (unrefused u.accepted refused))
+  told_complete form outcomes.SinkFault unrefused refused ends sink disk told u = absurd (u.sink_works (rose _ _ (sink.0 refl)))
+  told_complete form outcomes.DiskFault unrefused refused ends sink disk told u = absurd (u.disk_works (rose _ _ (disk refl)))
+  told_complete form (outcomes.Damaged number place) unrefused refused ends sink disk told u = absurd (tells_own form (stores.Damaged number place) told u)
+  told_complete form outcomes.NotJournal unrefused refused ends sink disk told u = absurd (tells_own form stores.NotJournal told u)
+  told_complete form (outcomes.OtherPolicy place) unrefused refused ends sink disk told u = absurd (tells_own form (stores.OtherPolicy place) told u)
+  told_complete form outcome unrefused refused ends sink disk told u = absurd (cc ends)

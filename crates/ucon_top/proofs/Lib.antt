@@ -14,3 +14,5 @@ pub mod Leaving
 pub mod Parted
 pub mod Playing
 pub mod Pointing
+pub mod TellingForms
+pub mod Told

@@ -83,7 +83,7 @@ module _ {D : Type 0} (seen : D → DiskSeen)
     opened_told : (seen store.disk).contents ≡ Some opened_file
     opened_told = (file_of before told).1
 
-    as_many : length (G ++ store.entries) ≡ count
+    pub as_many : length (G ++ store.entries) ≡ count
     as_many = length-append G store.entries ∙ ap (λ (n : ℕ). n + length store.entries) f.front.count
 
     opened_found : IsStillAs opened_file
@@ -104,7 +104,7 @@ module _ {D : Type 0} (seen : D → DiskSeen)
         weaker (seen disk) (seen store.disk) (Opens text before) IsStillAs (λ c o. o.same (G ++ store.entries) found) (opened.images_kept.each before rest)
 
     -- no call of the disk behind the opening: no image has a checkpoint more
-    still_unpointed : (now : D) → now ≡ store.disk
+    pub still_unpointed : (now : D) → now ≡ store.disk
         → IsStillFound text before (G ++ store.entries) (seen disk) (seen now) (λ file c. point_places c ≡ point_places file)
     still_unpointed now same = record {
       since = λ rest. subst (λ (d : D). LeavesOnly (seen disk) (seen d) IsStillAs) (sym same) (since_opened rest);

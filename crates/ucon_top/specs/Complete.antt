@@ -3,7 +3,9 @@ use Rattle.std.specs.Prelude.{◌≡◌, IsTrue, ℕ, Option, Some}
 use Rattle.std.specs.Bool.{OnTrue}
 use Rattle.ucon_flow.specs.Causes.{Rose}
 use Rattle.ucon_model.specs.Document.{policy_part}
+use Rattle.ucon_model.specs.History.{History}
 use Rattle.ucon_model.specs.Plain.{Bytes}
+use Rattle.ucon_store.specs.Found.{IsFoundBy}
 use Rattle.ucon_top.specs.declared.form.Form.{Form}
 use Rattle.ucon_outcome.specs.declared.outcome.Outcome.{Outcome}
 use Rattle.ucon_outcome.specs.Ending.{ending}
@@ -20,11 +22,20 @@ pub record IsOwnJournalBy (reads : PolicyReading) (text : Bytes) (contents : Opt
   pub entries : ℕ
   pub own : IsOwnFileBy reads text entries file
 
+-- the disk tells its file, which is found as a history under the policy of this text
+pub record IsFoundJournalBy (reads : PolicyReading) (text : Bytes) (contents : Option Bytes) : Type 0 where
+  pub file : Bytes
+  pub told : contents ≡ Some file
+  pub history : History
+  pub found : IsFoundBy reads text file history
+
 -- Nothing hinders a run of a form over these bytes: they are an accepted document, the journal of a form that has one, as the
--- disk tells it and opening sees it, is fresh or the document's own, and no count of faults rose.
+-- disk tells it and opening sees it, is fresh or the document's own, and is found so where the form checks every record; and no count of
+-- faults rose.
 pub record IsUnhinderedBy (reads : PolicyReading) (form : Form) (bytes : Bytes) (before after : Seen) : Type 0 where
   pub accepted : IsAcceptedBy reads bytes
   pub journal : OnTrue (traits form).disk (IsOwnJournalBy reads (policy_part bytes) before.disk.contents)
+  pub checked : OnTrue (traits form).checks (IsFoundJournalBy reads (policy_part bytes) before.disk.contents)
   pub source_works : ¬ Rose before.source.faults after.source.faults
   pub sink_works : ¬ Rose before.sink.faults after.sink.faults
   pub disk_works : ¬ Rose before.disk.faults after.disk.faults

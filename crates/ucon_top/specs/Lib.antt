@@ -13,5 +13,6 @@ pub mod Ran
 pub mod Reading
 pub mod Seen
 pub mod Stepping
+pub mod Telling
 pub mod Traits
 pub mod Unread

@@ -4,6 +4,7 @@ use Rattle.ucon_disk.specs.Seen.{DiskSeen}
 use Rattle.ucon_flow.specs.Seen.{SinkSeen}
 use Rattle.ucon_model.specs.History.{History}
 use Rattle.ucon_model.specs.LegalRun.{Answered}
+use Rattle.ucon_model.specs.Action.{Trace}
 use Rattle.ucon_model.specs.Plain.{Bytes, PlainPolicy}
 use Rattle.ucon_model.specs.declared.command.Caller.{Caller}
 use Rattle.ucon_model.specs.declared.command.Entry.{Entry}
@@ -12,10 +13,12 @@ use Rattle.ucon_outcome.specs.declared.outcome.Refused.{Refused}
 use Rattle.ucon_script.specs.declared.doc_fault.DocFault.{DocFault}
 use Rattle.ucon_syntax.specs.Policies.{accepted}
 use Rattle.ucon_top.specs.Accepted.{IsAcceptedBy, IsPolicyFault, IsRefusedSo, IsScriptFaultBy}
-use Rattle.ucon_top.specs.Complete.{IsOwnJournalBy, IsUnhinderedBy}
-use Rattle.ucon_top.specs.Own.{IsOwnFileBy}
-use Rattle.ucon_top.specs.Played.{HasPlayedBy, HasPlayedInputBy, HasRunBy, IsFoundSinceBy, IsPlayedBy, IsRunOverBy}
+use Rattle.ucon_top.specs.Complete.{IsFoundJournalBy, IsOwnJournalBy, IsUnhinderedBy}
+use Rattle.ucon_top.specs.Own.{IsOwnFileBy, IsOwnStateBy}
+use Rattle.ucon_top.specs.Played.{HasPlayedBy, HasPlayedInputBy, HasRunBy, IsFoundSinceBy, IsPlayedBy, IsRunOverBy, IsUnopenedBy}
 use Rattle.ucon_top.specs.Pointed.{HasNoPointBy, HasPointBy, HasPointedBy, HasPointedInputBy, IsPointOverBy, IsStillFoundBy, MayHavePointBy}
+use Rattle.ucon_store.specs.declared.fault.StoreFault.{StoreFault}
+use Rattle.ucon_top.specs.Telling.{HasToldBy, HasToldInputBy, IsCheckedStateBy, IsOpenedStateBy, IsUncheckedBy, TellsBy, TellsNothingBy}
 use Rattle.ucon_top.specs.Printed.{IsCutOutputOfBy, IsOutputOfBy}
 use Rattle.ucon_top.specs.Seen.{Seen}
 use Rattle.ucon_top.specs.declared.form.Form.{Form}
@@ -58,6 +61,9 @@ HasPlayed = HasPlayedBy accepted
 abbrev pub HasPlayedInput : Form → Outcome → Option Bytes → DiskSeen → DiskSeen → SinkSeen → SinkSeen → Type 0
 HasPlayedInput = HasPlayedInputBy accepted
 
+abbrev pub IsUnopened : StoreFault → Bytes → DiskSeen → DiskSeen → Type 0
+IsUnopened = IsUnopenedBy accepted
+
 abbrev pub IsStillFound : Bytes → Bytes → History → DiskSeen → DiskSeen → (Bytes → Bytes → Type 0) → Type 0
 IsStillFound = IsStillFoundBy accepted
 
@@ -78,6 +84,33 @@ HasPointed = HasPointedBy accepted
 
 abbrev pub HasPointedInput : Outcome → Option Bytes → DiskSeen → DiskSeen → SinkSeen → SinkSeen → Type 0
 HasPointedInput = HasPointedInputBy accepted
+
+abbrev pub IsOwnState : Bytes → PlainPolicy → ℕ → Trace → Bytes → Type 0
+IsOwnState = IsOwnStateBy accepted
+
+abbrev pub IsOpenedState : Bytes → DiskSeen → DiskSeen → (PlainPolicy → Trace → Type 0) → Type 0
+IsOpenedState = IsOpenedStateBy accepted
+
+abbrev pub IsCheckedState : Bytes → DiskSeen → DiskSeen → (PlainPolicy → History → Bytes → Type 0) → Type 0
+IsCheckedState = IsCheckedStateBy accepted
+
+abbrev pub IsUnchecked : StoreFault → Bytes → DiskSeen → DiskSeen → Type 0
+IsUnchecked = IsUncheckedBy accepted
+
+abbrev pub IsFoundJournal : Bytes → Option Bytes → Type 0
+IsFoundJournal = IsFoundJournalBy accepted
+
+abbrev pub Tells : Form → Bytes → DiskSeen → DiskSeen → (Bytes → Type 0) → Type 0
+Tells = TellsBy accepted
+
+abbrev pub TellsNothing : Form → StoreFault → Bytes → DiskSeen → DiskSeen → Type 0
+TellsNothing = TellsNothingBy accepted
+
+abbrev pub HasTold : Form → Outcome → Bytes → DiskSeen → DiskSeen → SinkSeen → SinkSeen → Type 0
+HasTold = HasToldBy accepted
+
+abbrev pub HasToldInput : Form → Outcome → Option Bytes → DiskSeen → DiskSeen → SinkSeen → SinkSeen → Type 0
+HasToldInput = HasToldInputBy accepted
 
 abbrev pub IsOutputOf : Form → Bytes → Bytes → Type 0
 IsOutputOf = IsOutputOfBy accepted

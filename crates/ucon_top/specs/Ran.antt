@@ -10,12 +10,13 @@ use Rattle.ucon_top.specs.declared.form.Form.TheVariants.{Point}
 use Rattle.ucon_top.specs.Accepted.{IsRefusedSo, IsAcceptedBy}
 use Rattle.ucon_top.specs.Complete.{IsComplete, IsUnhinderedBy}
 use Rattle.ucon_top.specs.Ending.{IsCounted, IsOfAccepted, IsUntouched, IsUnwritten, MayEnd}
-use Rattle.ucon_top.specs.Form.{IsAlone, HasJournal}
+use Rattle.ucon_top.specs.Form.{IsAlone, HasJournal, TellsText}
 use Rattle.ucon_top.specs.Played.{HasPlayedInputBy}
 use Rattle.ucon_top.specs.Pointed.{HasPointedInputBy}
 use Rattle.ucon_top.specs.Printed.{Adds, IsOutputOfBy, IsCutOutputOfBy, ReadsInput, document_of}
 use Rattle.ucon_top.specs.Reading.{ByReading}
 use Rattle.ucon_top.specs.Seen.{Seen, IsAsBefore}
+use Rattle.ucon_top.specs.Telling.{HasToldInputBy}
 use Rattle.ucon_store.specs.Points.{PolicyReading}
 
 -- Each outcome has its cause, and no other one stands for a fault of the source or of the sink. Want of memory alone may come at any moment.
@@ -40,6 +41,7 @@ pub record HasMade (reads : PolicyReading) (asked : Form) (ended : Outcome) (bef
   pub unwritten : IsUnwritten ended → after.sink ≡ before.sink
   pub played : HasJournal asked → HasPlayedInputBy reads asked ended before.source.left before.disk after.disk before.sink after.sink
   pub pointed : asked ≡ Point → HasPointedInputBy reads ended before.source.left before.disk after.disk before.sink after.sink
+  pub told : TellsText asked → HasToldInputBy reads asked ended before.source.left before.disk after.disk before.sink after.sink
 
 -- An accepted document was read to its end, with at most one read for each byte within the limit, and one more; for `gen` nothing is read. The disk
 -- is as it was where the document is refused or wasn't had, and where the form has no journal.

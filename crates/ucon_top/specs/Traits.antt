@@ -2,38 +2,50 @@
 use Rattle.std.specs.Prelude.{Bool}
 use Rattle.ucon_outcome.specs.Ending.{y, n}
 use Rattle.ucon_top.specs.declared.form.Form.{Form}
-use Rattle.ucon_top.specs.declared.form.Form.TheVariants.{Trial, Check, Gen, Play, Serve, Point}
+use Rattle.ucon_top.specs.declared.form.Form.TheVariants.{Trial, Check, Gen, Play, Serve, Point, Audit, Report, Explain}
 
 -- What is so of each run of a form.
 pub record Traits : Type 0 where
   -- it reads the input
   pub reads : Bool
-  -- it makes calls of the disk, for its journal; it runs its lines over that; it writes a checkpoint of it
+  -- it makes calls of the disk, for its journal; it runs its lines over that; it writes a checkpoint of it; it runs no line and tells of it
   pub disk : Bool
   pub runs : Bool
   pub points : Bool
+  pub tells : Bool
+  -- it checks every record of its journal
+  pub checks : Bool
   -- it runs each client in a thread of its own
   pub threads : Bool
 
-abbrev row : Bool → Bool → Bool → Bool → Bool → Traits
-row reads disk runs points threads = record { reads = reads; disk = disk; runs = runs; points = points; threads = threads }
+abbrev row : Bool → Bool → Bool → Bool → Bool → Bool → Bool → Traits
+row reads disk runs points tells checks threads =
+    record { reads = reads; disk = disk; runs = runs; points = points; tells = tells; checks = checks; threads = threads }
 
 -- Each form with its row, from which the words of a form are read.
 --      reads
 --      | disk
 --      | | runs
 --      | | | points
---      | | | | threads
+--      | | | | tells
+--      | | | | | checks
+--      | | | | | | threads
 abbrev pub traits : Form → Traits
 traits Trial =
-    row y n n n n
+    row y n n n n n n
 traits Check =
-    row y n n n n
+    row y n n n n n n
 traits (Gen seed size) =
-    row n n n n n
+    row n n n n n n n
 traits Play =
-    row y y y n n
+    row y y y n n n n
 traits Serve =
-    row y y y n y
+    row y y y n n n y
 traits Point =
-    row y y n y n
+    row y y n y n n n
+traits (Audit kept) =
+    row y y n n y y n
+traits Report =
+    row y y n n y y n
+traits (Explain subject right object) =
+    row y y n n y n n

@@ -2,8 +2,11 @@
 
 ghost use Rattle.std.specs.Prelude.{◌≡◌, ◌≤◌, map, option_and_then, string_bytes, IfSome};
 ghost use Rattle.ucon_model.specs.Document.{number_spelled};
-ghost use Rattle.ucon_top.specs.Form.{HasSize, asks_for_threads, form_of, gen_form, journal_form, seed_of, size_of, word_form};
+ghost use Rattle.ucon_top.specs.Form.{HasSize, asks_for_threads, audit_form, explain_form, form_of, gen_form, journal_form, seed_of, size_of, word_form};
 
+use ucon_audit::Kept;
+use ucon_base::Name;
+use ucon_reply::name_in;
 use ucon_script::number_spelled;
 
 /// A form of words.
@@ -14,13 +17,29 @@ pub enum Form {
     /// `check`: tells the core models of each right of the document's policy.
     Check,
     /// `gen SEED SIZE`: makes a document from a seed and a number of lines, runs it as `trial` does, and tells the summary.
-    Gen { seed: u64, size: u32 },
+    Gen {
+        seed: u64,
+        size: u32,
+    },
     /// `play JOURNAL`: runs the document over a journal, in the order of its lines.
     Play,
     /// `serve JOURNAL`: runs the document over a journal, each client in a thread of its own.
     Serve,
     /// `point JOURNAL`: runs no line of the document, and writes a checkpoint of a journal's state.
     Point,
+    /// `audit JOURNAL`, or `audit JOURNAL K HEX`: runs no line of the document, and tells of a journal that it checks from its first byte, and whether
+    /// it goes on from the head that is given, after so many records.
+    Audit {
+        kept: Option<Kept>,
+    },
+    /// `report JOURNAL`: runs no line of the document, and tells the state of a journal that it checks so, as JSON.
+    Report,
+    /// `explain JOURNAL SUBJECT RIGHT OBJECT`: runs no line of the document, and tells what a try of client 0 would meet over a journal.
+    Explain {
+        subject: Name,
+        right: Name,
+        object: Name,
+    },
 }
 
 /// The most lines of a generated document, behind its opening ones.
@@ -34,9 +53,20 @@ pub fn read_form(words: &[String]) -> Option<Form>
     match words {
         [word] => word_form(word.as_bytes()),
         [word, path] => journal_form(word.as_bytes(), path.as_bytes()),
-        [word, seed, size] if word.as_bytes() == b"gen".as_slice() => {
-            gen_form(seed.as_bytes(), size.as_bytes())
-        }
+        [word, seed, size] => gen_form(word.as_bytes(), seed.as_bytes(), size.as_bytes()),
+        [word, path, records, head] => audit_form(
+            word.as_bytes(),
+            path.as_bytes(),
+            records.as_bytes(),
+            head.as_bytes(),
+        ),
+        [word, path, subject, right, object] => explain_form(
+            word.as_bytes(),
+            path.as_bytes(),
+            subject.as_bytes(),
+            right.as_bytes(),
+            object.as_bytes(),
+        ),
         _ => None,
     }
 }
@@ -61,10 +91,13 @@ fn word_form(word: &[u8]) -> Option<Form>
     }
 }
 
-fn gen_form(seed: &[u8], size: &[u8]) -> Option<Form>
-    ensures form { result ≡ gen_form seed.now size.now }
+fn gen_form(word: &[u8], seed: &[u8], size: &[u8]) -> Option<Form>
+    ensures form { result ≡ gen_form word.now seed.now size.now }
     ensures size { IfSome result HasSize }
 {
+    if word != b"gen".as_slice() {
+        return None;
+    }
     let seed = read_seed(seed)?;
     let size = read_size(size)?;
     Some(Form::Gen { seed, size })
@@ -83,9 +116,51 @@ fn journal_form(word: &[u8], path: &[u8]) -> Option<Form>
         Some(Form::Serve)
     } else if word == b"point".as_slice() {
         Some(Form::Point)
+    } else if word == b"audit".as_slice() {
+        Some(Form::Audit { kept: None })
+    } else if word == b"report".as_slice() {
+        Some(Form::Report)
     } else {
         None
     }
+}
+
+fn explain_form(
+    word: &[u8],
+    path: &[u8],
+    subject: &[u8],
+    right: &[u8],
+    object: &[u8],
+) -> Option<Form>
+    ensures form { result ≡ explain_form word.now path.now subject.now right.now object.now }
+    ensures size { IfSome result HasSize }
+{
+    if path.is_empty() || word != b"explain".as_slice() {
+        return None;
+    }
+    let subject = name_in(subject)?;
+    let right = name_in(right)?;
+    let object = name_in(object)?;
+    Some(Form::Explain {
+        subject,
+        right,
+        object,
+    })
+}
+
+/// The head that was kept is given.
+fn audit_form(word: &[u8], path: &[u8], records: &[u8], head: &[u8]) -> Option<Form>
+    ensures form { result ≡ audit_form word.now path.now records.now head.now }
+    ensures size { IfSome result HasSize }
+{
+    if path.is_empty() {
+        return None;
+    }
+    if word != b"audit".as_slice() {
+        return None;
+    }
+    let kept = Kept::read(read_seed(records)?, head)?;
+    Some(Form::Audit { kept: Some(kept) })
 }
 
 /// A number of 64 bits.

@@ -10,6 +10,7 @@ mod play;
 mod point;
 mod serve;
 mod stepping;
+mod telling;
 mod top;
 
 pub use form::Form;

@@ -17,6 +17,7 @@ use crate::laws::accepted_documents_are_not_refused;
 use crate::play::play;
 use crate::point::point;
 use crate::serve::serve;
+use crate::telling::tell;
 use std::alloc::Global;
 use std::sync::Wait;
 use std::thread::Threads;
@@ -59,7 +60,7 @@ pub fn run<S: Source, K: Sink, D: Disk + Send, G: Gate + Sync, R: Threads + Wait
     match read_form(words) {
         None => Ended::by(Outcome::Usage, disk),
         Some(Form::Serve) => serve_input(rt, alloc, input, out, disk, gate),
-        Some(form) => run_alone(alloc, form, input, out, disk),
+        Some(form) => run_alone(rt, alloc, form, input, out, disk),
     }
 }
 
@@ -68,9 +69,11 @@ pub fn run<S: Source, K: Sink, D: Disk + Send, G: Gate + Sync, R: Threads + Wait
 /// `trial` runs the document that the input is, from the empty history, in the order of its lines, and writes one answer a line.
 /// `check` writes the core models of each right of the document's policy. `gen` makes a document, runs it as `trial` does and writes the
 /// summary; it reads nothing. `play` runs the document over the journal on the disk, and writes one answer a line when all are answered.
-/// `point` runs no line, writes a checkpoint of the journal on the disk, and then a line with the number of its entries.
+/// `point` runs no line, writes a checkpoint of the journal on the disk, and then a line with the number of its entries. `explain` runs no line,
+/// and writes what a try would meet over the journal on the disk; nor do `audit` and `report`, which check the journal from its first byte.
 #[tactic(auto, using(crate::proofs::Adding::adds_document, crate::specs::Seen::same_disk))]
-pub fn run_alone<S: Source, K: Sink, D: Disk>(
+pub fn run_alone<S: Source, K: Sink, D: Disk, R: Threads + Sync>(
+    rt: &R,
     alloc: Global,
     form: Form,
     input: &mut S,
@@ -95,9 +98,16 @@ pub fn run_alone<S: Source, K: Sink, D: Disk>(
         Ok(bytes) => bytes,
         Err(outcome) => return Ended::by(outcome, disk),
     };
-    match form {
+    match &form {
         Form::Play => play::<Monitor, K, D>(alloc, &bytes, out, disk),
         Form::Point => point::<Monitor, K, D>(alloc, &bytes, out, disk),
+        Form::Audit { kept: _ }
+        | Form::Report
+        | Form::Explain {
+            subject: _,
+            right: _,
+            object: _,
+        } => tell::<Monitor, K, D, R>(rt, alloc, form, &bytes, out, disk),
         Form::Trial | Form::Check | Form::Gen { seed: _, size: _ } => {
             Ended::by(print_output(alloc, form, &bytes, out), disk)
         }

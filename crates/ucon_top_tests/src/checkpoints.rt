@@ -18,10 +18,21 @@ fn over<R: Threads + Wait + Sync>(
     document: &[u8],
     file: &[u8],
 ) -> Result<(Vec<u8>, Vec<u8>), Fail> {
+    by_words(rt, alloc, &[form, "j"], document, file)
+}
+
+/// The same of a form's words.
+fn by_words<R: Threads + Wait + Sync>(
+    rt: &R,
+    alloc: Global,
+    words: &[&str],
+    document: &[u8],
+    file: &[u8],
+) -> Result<(Vec<u8>, Vec<u8>), Fail> {
     let disk = disk_of(alloc, file, &[])?;
     let source = MemSource::new(Vec::from_slice(alloc, document)?, 4096, Vec::new(alloc));
     let sink = MemSink::new(alloc, 4096, Vec::new(alloc));
-    let end = ran(rt, alloc, &[form, "j"], source, sink, disk)?;
+    let end = ran(rt, alloc, words, source, sink, disk)?;
     if end.status != 0 {
         return Err("status".into());
     }
@@ -101,11 +112,14 @@ fn full_document(alloc: Global) -> Result<Vec<u8>, Fail> {
     Ok(document(alloc, WAITING, script.as_bytes())?)
 }
 
-/// As many uses go on as may, and one with a higher number waits.
+/// As many uses go on as may, and one with a higher number waits; a further try would be refused.
 #[test]
 fn a_full_state_is_checkpointed(rt: HostRuntime) -> Result<(), Fail> {
     let file = over(&rt, rt.alloc(), "play", &full_document(rt.alloc())?, b"")?.1;
     let behind = pointed(&rt, rt.alloc(), WAITING, &file, b"point 65541\n")?;
+    let tried = ["explain", "j", "a", "use", "x"];
+    let (told, left) = by_words(&rt, rt.alloc(), &tried, WAITING, &behind)?;
+    assert!(rt; told.as_slice() == b"full accessing\n".as_slice() && left == behind);
     let waited = document(rt.alloc(), WAITING, WAITED)?;
     let output = over(&rt, rt.alloc(), "play", &waited, &behind)?.0;
     assert!(rt; output.as_slice() == WAITED_OUTPUT);

@@ -6,7 +6,9 @@ use std::alloc::Global;
 use std::sync::Wait;
 use std::test::Fail;
 use std::thread::Threads;
-use ucon_cases::{HOSTILE_DOCUMENTS, HOSTILE_JOURNALS, Limit, WITH_A, WITHOUT_ENTRIES};
+use ucon_cases::{
+    EXPLAINED_ROWS, HOSTILE_DOCUMENTS, HOSTILE_JOURNALS, Limit, Played, WITH_A, WITHOUT_ENTRIES,
+};
 use ucon_flow::{MemSink, MemSource};
 use ucon_vectors::{Row, WORKED_ROWS, document};
 
@@ -137,6 +139,40 @@ fn is_unwritten<R: Threads + Wait + Sync>(
     )?;
     let is_front = end.output.len() == call && row.output.starts_with(end.output.as_slice());
     Ok(end.status == 5 && is_front && same(end.disk.contents(), left))
+}
+
+/// Whether a try is told up to this call of the sink, which fails, and the file stays. The sink takes a byte a call.
+fn is_told_in_part<R: Threads + Wait + Sync>(
+    rt: &R,
+    alloc: Global,
+    row: &Played,
+    call: usize,
+) -> Result<bool, Fail> {
+    let source = MemSource::new(Vec::from_slice(alloc, row.document)?, 4096, Vec::new(alloc));
+    let sink = MemSink::new(alloc, 1, Vec::from_slice(alloc, &[call as u64])?);
+    let end = ran(
+        rt,
+        alloc,
+        row.words,
+        source,
+        sink,
+        disk_of(alloc, row.file, &[])?,
+    )?;
+    let is_front = end.output.len() == call && row.output.starts_with(end.output.as_slice());
+    Ok(end.status == 5 && is_front && same(end.disk.contents(), row.left))
+}
+
+/// Where a write of an explanation fails the front of it went out.
+#[test]
+fn an_explanation_may_be_cut_short(rt: HostRuntime) -> Result<(), Fail> {
+    let row = EXPLAINED_ROWS.first().ok_or("a row")?;
+    for call in 0..row.output.len() {
+        assert!(rt;
+            is_told_in_part(&rt, rt.alloc(), row, call)?,
+            "write {call}"
+        );
+    }
+    Ok(())
 }
 
 /// Where a read fails nothing is done; where a write fails all is, and the front of the output went out.

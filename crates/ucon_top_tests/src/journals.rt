@@ -5,7 +5,7 @@ use std::alloc::Global;
 use std::sync::Wait;
 use std::test::Fail;
 use std::thread::Threads;
-use ucon_cases::{PLAYED_ROWS, POINTED_ROWS, Played};
+use ucon_cases::{EXPLAINED_ROWS, PLAYED_ROWS, POINTED_ROWS, Played, UNEXPLAINED_ROWS};
 use ucon_flow::{MemSink, MemSource};
 use ucon_vectors::{AMENDED_ROWS, Row, document};
 
@@ -15,7 +15,7 @@ fn played<R: Threads + Wait + Sync>(rt: &R, alloc: Global, row: &Played) -> Resu
     let source = MemSource::new(bytes, 7, Vec::new(alloc));
     let sink = MemSink::new(alloc, 1, Vec::from_slice(alloc, row.sink_faults)?);
     let disk = disk_of(alloc, row.file, row.disk_faults)?;
-    ran(rt, alloc, &[row.form, "j"], source, sink, disk)
+    ran(rt, alloc, row.words, source, sink, disk)
 }
 
 /// What of an end isn't as its row says.
@@ -62,6 +62,16 @@ fn journals_hold_what_was_acknowledged(rt: HostRuntime) -> Result<(), Fail> {
 fn journals_hold_their_checkpoints(rt: HostRuntime) -> Result<(), Fail> {
     let wrong = first_wrong(&rt, rt.alloc(), POINTED_ROWS)?;
     assert!(rt; wrong.is_none());
+    Ok(())
+}
+
+/// Tries that are explained or refused over a journal, which stays as it was, and tries over files that aren't opened.
+#[test]
+fn explanations_are_told(rt: HostRuntime) -> Result<(), Fail> {
+    for rows in [EXPLAINED_ROWS, UNEXPLAINED_ROWS] {
+        let wrong = first_wrong(&rt, rt.alloc(), rows)?;
+        assert!(rt; wrong.is_none());
+    }
     Ok(())
 }
 

@@ -215,13 +215,64 @@ type Case = (
     &'static [u8],
 );
 
-/// Faults outside the document.
+/// A byte more than a name may have.
+const LONG: &str = "abcdefghijklmnopqrstuvwxyz0123456";
+
+/// Faults outside the document, and words that are no form.
 const CASES: &[Case] = &[
     (&["trial"], &[], &[], 0, b"0 1 ok\n", b""),
     (&["trial"], &[1], &[], 4, b"", b"ucon: source fault\n"),
     (&["trial"], &[], &[2], 5, b"0 ", b"ucon: sink fault\n"),
     (&[], &[], &[], 1, b"", b"ucon: usage\n"),
     (&["trial", "j"], &[], &[], 1, b"", b"ucon: usage\n"),
+    (
+        &["explain", "", "a", "r", "x"],
+        &[0],
+        &[],
+        1,
+        b"",
+        b"ucon: usage\n",
+    ),
+    (
+        &["explain", "j", "A", "r", "x"],
+        &[0],
+        &[],
+        1,
+        b"",
+        b"ucon: usage\n",
+    ),
+    (
+        &["explain", "j", "a", "", "x"],
+        &[0],
+        &[],
+        1,
+        b"",
+        b"ucon: usage\n",
+    ),
+    (
+        &["explain", "j", "a", "r", LONG],
+        &[0],
+        &[],
+        1,
+        b"",
+        b"ucon: usage\n",
+    ),
+    (
+        &["explain", "j", "a", "r"],
+        &[0],
+        &[],
+        1,
+        b"",
+        b"ucon: usage\n",
+    ),
+    (
+        &["explain", "j", "a", "r", "x", "y"],
+        &[0],
+        &[],
+        1,
+        b"",
+        b"ucon: usage\n",
+    ),
 ];
 
 /// Whether one subject is answered so.

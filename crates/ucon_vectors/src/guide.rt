@@ -259,6 +259,31 @@ tick 01
 ",
     },
     Example {
+        name: "examples buying",
+        form: "trial",
+        document: b"# Who may buy: an obligation, a condition and an authorisation before the use.
+attr s age : int 0..150 = 0;
+env hour : int 0..23 = 9;
+right buy {
+  pre b sign: done sign_up;
+  pre c late: env.hour >= 10;
+  pre a adult: s.age >= 18;
+}
+%%
+client 0
+subject ann
+object wine
+set s ann age 16
+try ann buy wine
+",
+        status: 0,
+        text: b"0 1 ok
+0 2 ok
+0 3 ok
+0 4 denied 1 late
+",
+    },
+    Example {
         name: "examples data_room",
         form: "trial",
         document: b"# A shared data room.

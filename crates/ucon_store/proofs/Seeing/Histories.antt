@@ -25,7 +25,7 @@ use Rattle.ucon_command.specs.Payloads.{AreOfClients}
 use Rattle.ucon_syntax.specs.Policies.{accepted}
 use Rattle.ucon_store.specs.Opened.{is_next_after, steps_after, with_next, steps_by}
 use Rattle.ucon_store.specs.Points.{text_behind, text_in_force}
-use Rattle.ucon_store.proofs.Stepping.{trace_append}
+use Rattle.ucon_store.proofs.Stepping.{text_longer, trace_append}
 use Rattle.ucon_store.proofs.After.{tested}
 use Rattle.ucon_store.proofs.Taking.{TakenAsSpelled}
 use Rattle.ucon_store.proofs.Seeing.InForce.{amended_after, left_after}
@@ -38,10 +38,6 @@ pub same_some : {A : Type 0} (x y : A) → Some x ≡ Some y → x ≡ y
 same_some x y h = ap (λ o. unwrap_or o x) h
 
 -- ---- one entry more
-
-text_push : (text : Bytes) (H : History) (e : Entry) → text_in_force text (H ++ e ∷ []) ≡ text_behind (text_in_force text H) e.command
-text_push text [] e = refl
-text_push text (d ∷ H) e = text_push (text_behind text d.command) H e
 
 -- the laws on payloads and texts that are built on
 pub record PayloadLaws : Type 0 where
@@ -99,7 +95,7 @@ module _ (laws : PayloadLaws) where
       let command = payload_gives accepted (λ x Q accepts. (laws.accepts x Q).0 accepts) payload t tells.read in
       let behind = behind_command (text_in_force text H) P (trace P H) t.caller t.command command tells.made good.accepts in
       let here : accepted (text_in_force text (H ++ entry_told t ∷ [])) ≡ Some (in_force P (trace P (H ++ entry_told t ∷ []))) =
-      ap accepted (text_push text H (entry_told t)) ∙ behind ∙ ap (λ (T : Trace). Some (in_force P T)) (sym (trace_append P [] H (entry_told t ∷ []))) in
+      ap accepted (text_longer text H (entry_told t)) ∙ behind ∙ ap (λ (T : Trace). Some (in_force P T)) (sym (trace_append P [] H (entry_told t ∷ []))) in
       subst (IsGood text P) (sym tells.is) (record {
         accepts = here;
         clients = each_append (λ e. (e.caller.0 < 64) × IsCommand e.command) H (entry_told t ∷ []) good.clients (((laws.read payload t tells.read).1, command), tt);

@@ -1,4 +1,4 @@
-use Rattle.std.proofs.Common.{◌≡◌, ◌∙◌, ℕ, ap, filter_map}
+use Rattle.std.proofs.Common.{◌∙◌, ℕ, ap, filter_map}
 use denote.Exit.{no}
 use denote.Param.Send.{arg_sync, param_sync}
 use Rattle.ucon_audit.proofs.Shared.{state_sync}

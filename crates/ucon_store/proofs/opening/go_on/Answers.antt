@@ -46,11 +46,11 @@ returns-in-Some-clause-images g c = leaves_read g (goal.at.returns-in-Some-claus
 module _ (g : Over) (c : In_ok-take_all g) where
   read : IfSome (g.D.Disk.seen (disk_of c.args.journal.now)).contents
       (IsReadWhole c.take_all.new.self.policy.items c.in_ok-take_all.ensures.loaded.standing.P
-      (payload_in c.take_all.new.self.point) c.take_all.new.self.before c.take_all.new.self.entries.items)
+      (payload_in c.take_all.new.self.point) c.take_all.new.self.before c.take_all.new.self.entries)
   read =
       let l = c.take_all.new.self in
       subst (λ (o : Option Bytes). IfSome o
-      (IsReadWhole l.policy.items c.in_ok-take_all.ensures.loaded.standing.P (payload_in l.point) l.before l.entries.items))
+      (IsReadWhole l.policy.items c.in_ok-take_all.ensures.loaded.standing.P (payload_in l.point) l.before l.entries))
       (c.take_all.ensures.contents ∙ c.start.ensures.contents) c.in_ok-take_all.ensures.loaded.says
 
 pub returns-in-Some-clause-reason : goal.returns-in-Some-clause-reason
@@ -61,7 +61,7 @@ returns-in-Some-clause-reason g c =
     let differs : first_difference l.policy.items text ≡ Some c.in-Some.place =
     ap (λ (x : Bytes). first_difference x text) (sym c.deref.ensures.value) ∙ sym c.first_difference.ensures ∙ c.in-Some.is in (
       other_told (g.D.Disk.seen (disk_of c.args.journal.now)).contents l.policy.items text standing.P
-          (payload_in l.point) l.before l.entries.items c.in-Some.place
+          (payload_in l.point) l.before l.entries c.in-Some.place
           standing.accepts standing.begun standing.starts differs (read g (goal.at.returns-in-Some-clause-reason g c).In_ok-take_all),
       c.in_ok-take_all.ensures.unfailed ∙ c.in_ok-loaded.ensures.unfailed,
     )
@@ -92,7 +92,7 @@ module _ (g : Over) (c : After-mend g) where
       let seen = g.D.Disk.seen in
       let started = disk_of c.start.new.journal in
       let mid = disk_of c.take_all.new.journal in
-      let home = home_told (seen mid).contents l.policy.items text standing.P (payload_in l.point) l.before l.entries.items
+      let home = home_told (seen mid).contents l.policy.items text standing.P (payload_in l.point) l.before l.entries
       c.opening_sees_one_thing.ensures.one standing.accepts standing.begun standing.starts same c.in_ok-take_all.ensures.loaded.says in
       then_opens seen text (disk_of c.args.journal.now) started (disk_of c.mend.new.self) c.start.ensures.contents c.start.ensures.images c.start.ensures.run
       (then_opens seen text started mid (disk_of c.mend.new.self) c.take_all.ensures.contents c.take_all.ensures.images c.take_all.ensures.run
@@ -113,7 +113,7 @@ returns-clause-read g c = λ P accepts.
     let l = c.take_all.new.self in
     let is = same g (goal.at.returns-clause-read g c).After-mend in
     read_told (g.D.Disk.seen (disk_of c.args.journal.now)).contents l.policy.items c.args.policy.now standing.P P
-    (payload_in l.point) l.before l.entries.items is
+    (payload_in l.point) l.before l.entries is
     (one_policy l.policy.items standing.P P standing.accepts (ap accepted is ∙ accepts)) (read g (goal.at.returns-clause-read g c).In_ok-take_all)
 
 module _ (g : Over) (c : In_ok-mend g) where
@@ -129,7 +129,7 @@ returns-clause-kept g c =
     let l = c.take_all.new.self in
     kept_mended (g.D.Disk.seen (disk_of c.args.journal.now)).contents (g.D.Disk.seen (disk_of c.mend.new.self)).contents
     (points_of (version_of c.take_all.new.journal))
-    l.policy.items c.args.policy.now c.in_ok-take_all.ensures.loaded.standing.P (payload_in l.point) l.before l.entries.items
+    l.policy.items c.args.policy.now c.in_ok-take_all.ensures.loaded.standing.P (payload_in l.point) l.before l.entries
     (read g (goal.at.returns-clause-kept g c).In_ok-take_all) (mended g (goal.at.returns-clause-kept g c).In_ok-mend)
 
 pub returns-clause-places : goal.returns-clause-places

@@ -57,7 +57,7 @@ returns-clause-images g c =
 pub returns-clause-read : goal.returns-clause-read
 returns-clause-read g c = λ P accepts.
     let loaded = c.in_ok-loaded.loaded in
-    fresh_read c.args.policy.now P (payload_in loaded.point) loaded.before loaded.entries.items (g.D.Disk.seen (disk_of c.args.journal.now)).contents c.requires.fresh
+    fresh_read c.args.policy.now P (payload_in loaded.point) loaded.before loaded.entries (g.D.Disk.seen (disk_of c.args.journal.now)).contents c.requires.fresh
     c.in_ok-loaded.ensures.begins c.in_ok-loaded.ensures.entries
 
 pub returns-clause-kept : goal.returns-clause-kept

@@ -44,6 +44,6 @@ returns g c =
     let engine = c.in-Ok-restore.engine in
     let kept : c.extend_from_slice.new.self.items ≡ payload = c.in_ok-extend_from_slice.ensures.items ∙ ap (λ (l : Bytes). l ++ payload) c.new-kept.ensures.items in
     takes_up c.tables_keep_what_is_followed.ensures c.states_follow_what_reads_alike.ensures c.points_are_read_back.ensures.read c.rows_make_what_they_say.ensures.followed c.checkpoints_of_traces_are_read_back.ensures.read
-    c.args.entries payload r.said r.come r.end r.made g.E.Engine.follows engine _ c.usages_stay_few.ensures.revocations
+    c.args.entries payload r.said r.come r.end r.made g.E.Engine.follows engine _ _ c.usages_stay_few.ensures.revocations
     (subst (λ (s : Shown). AfterEach s (λ P T. g.E.Engine.follows engine P T × NobodyFails P T)) (shown_read (point_read payload) p r) c.in-Ok-restore.ensures)
-    (sym r.entries ∙ c.if-point-entries.false) kept r.text
+    (sym r.entries ∙ c.if-point-entries.false) kept (c.into_vec-text.ensures ∙ r.text)

@@ -24,6 +24,7 @@ returns-in-Err-clause-made g c =
           c.in-Err.ensures.ends
           );
       pointed = search rules;
+      told = search rules;
     }
 
 pub serve-requires-send-E : goal.serve-requires-send-E

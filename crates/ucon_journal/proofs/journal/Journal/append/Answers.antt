@@ -1,96 +1,63 @@
-use Rattle.std.proofs.Common.{◌≡◌, ℕ, ◌+◌, ◌^◌, ◌<◌, IfSome, List, length, inl, ◌∙◌, ap, subst, refl, arith}
+use Rattle.std.proofs.Common.{◌≡◌, ℕ, ◌+◌, ◌^◌, ◌<◌, IfSome, List, [], ◌∷◌, ◌++◌, length, take, ◌∙◌, ap, sym, subst, arith, length-append, w32}
+use Rattle.std.specs.Int.{to_be_bytes}
 use Rattle.std.specs.Option.{option_map}
-use Rattle.ucon_disk.specs.Disk.{overwritten, Torn}
-use Rattle.ucon_disk.specs.Run.{weaker, joined}
-use Rattle.ucon_journal.specs.Found.{counted}
-use Rattle.ucon_journal.specs.Opened.{PerhapsAdded}
-use Rattle.ucon_journal.proofs.Added.{staged, stage_same, staged_file, open_perhaps}
-use Rattle.ucon_journal.proofs.Told.{told_at, rests_after, ClosesAt, appended}
+use Rattle.std.specs.Prelude.{OnOk}
+use Rattle.std.proofs.lemmas.List.{append-nil}
+use Rattle.ucon_disk.specs.Run.{LeavesAfter}
+use Rattle.ucon_journal.specs.JournalBytes.{record_bytes, records}
+use Rattle.ucon_journal.specs.Found.{payloads_after}
+use Rattle.ucon_journal.specs.Journal.{disk_of, gate_of, told_payloads}
+use Rattle.ucon_journal.specs.Opened.{PerhapsAllAdded}
+use Rattle.ucon_journal.proofs.Batches.{batch_is, batch_from}
+use Rattle.ucon_journal.proofs.journal.Journal.append.Given.{Over}
+use Rattle.ucon_journal.proofs.journal.Journal.append.Goals.{After-append_all}
 use Rattle.ucon_journal.proofs.journal.Journal.append.Goals as goal
 
-pub returns-in_err-write_synced-clause-images : goal.returns-in_err-write_synced-clause-images
-returns-in_err-write_synced-clause-images g c = record {
-  each = λ file rest.
-      let old = c.args.self.now.disk in
-      let gate = c.args.self.now.gate in
-      let version = c.args.self.now.version in
-      let p = c.args.payload.now in
-      let closes = told_at (ClosesAt version gate) file rest.told c.requires.closed.told in
-      let n = length c.deref.result.now in
-      weaker (g.D.Disk.seen old) (g.D.Disk.seen c.write_synced.new.disk) (Torn (gate + 1) n file) (PerhapsAdded p file) (λ x torn. inl (stage_same file version gate (counted file) closes.0 closes.1 n x torn)) (c.write_synced.ensures.images.each file rest);
-}
-
-pub returns-in_err-write_gate-clause-images : goal.returns-in_err-write_gate-clause-images
-returns-in_err-write_gate-clause-images g c = record {
-  each = λ file rest.
-      let old = c.args.self.now.disk in
-      let mid = c.write_synced.new.disk in
-      let new = c.write_gate.new.disk in
-      let gate = c.args.self.now.gate in
-      let version = c.args.self.now.version in
-      let p = c.args.payload.now in
-      let short : length p < 2 ^ 32 = omega arith in
-      let closes = told_at (ClosesAt version gate) file rest.told c.requires.closed.told in
-      let n = length c.deref.result.now in
-      let staging = weaker (g.D.Disk.seen old) (g.D.Disk.seen mid) (Torn (gate + 1) n file) (PerhapsAdded p file) (λ x torn. inl (stage_same file version gate (counted file) closes.0 closes.1 n x torn)) (c.write_synced.ensures.images.each file rest) in
-      let bytes : c.deref.result.now ≡ staged p = c.deref.ensures.value ∙ c.stage.ensures.staged in
-      let written : (g.D.Disk.seen c.write_synced.new.disk).contents ≡ option_map (overwritten (gate + 1) (staged p)) (g.D.Disk.seen c.args.self.now.disk).contents = c.in_ok-write_synced.ensures.written ∙ ap (λ (l : List ℕ). option_map (overwritten (gate + 1) l) (g.D.Disk.seen old).contents) bytes in
-      let is_staged = staged_file file version gate (counted file) closes.0 closes.1 p short in
-      let rest_staged = rests_after _ (g.D.Disk.seen mid) (overwritten (gate + 1) (staged p)) file written c.in_ok-write_synced.ensures.only rest.told in
-      let opens = λ (x : List ℕ) (torn : Torn gate 1 (overwritten (gate + 1) (staged p) file) x). open_perhaps file version gate (counted file) closes.0 closes.1 p short x (subst (λ (l : List ℕ). Torn gate 1 l x) is_staged torn) in
-      let opening = weaker (g.D.Disk.seen mid) (g.D.Disk.seen new) (Torn gate 1 (overwritten (gate + 1) (staged p) file)) (PerhapsAdded p file) opens (c.write_gate.ensures.images.each (overwritten (gate + 1) (staged p) file) rest_staged) in
-      joined (g.D.Disk.seen old) (g.D.Disk.seen mid) (g.D.Disk.seen new) (PerhapsAdded p file) staging opening;
-}
-
-pub returns-clause-images : goal.returns-clause-images
-returns-clause-images g c = record {
-  each = λ file rest.
-      let old = c.args.self.now.disk in
-      let mid = c.write_synced.new.disk in
-      let new = c.write_gate.new.disk in
-      let gate = c.args.self.now.gate in
-      let version = c.args.self.now.version in
-      let p = c.args.payload.now in
-      let short : length p < 2 ^ 32 = omega arith in
-      let closes = told_at (ClosesAt version gate) file rest.told c.requires.closed.told in
-      let n = length c.deref.result.now in
-      let staging = weaker (g.D.Disk.seen old) (g.D.Disk.seen mid) (Torn (gate + 1) n file) (PerhapsAdded p file) (λ x torn. inl (stage_same file version gate (counted file) closes.0 closes.1 n x torn)) (c.write_synced.ensures.images.each file rest) in
-      let bytes : c.deref.result.now ≡ staged p = c.deref.ensures.value ∙ c.stage.ensures.staged in
-      let written : (g.D.Disk.seen c.write_synced.new.disk).contents ≡ option_map (overwritten (gate + 1) (staged p)) (g.D.Disk.seen c.args.self.now.disk).contents = c.in_ok-write_synced.ensures.written ∙ ap (λ (l : List ℕ). option_map (overwritten (gate + 1) l) (g.D.Disk.seen old).contents) bytes in
-      let is_staged = staged_file file version gate (counted file) closes.0 closes.1 p short in
-      let rest_staged = rests_after _ (g.D.Disk.seen mid) (overwritten (gate + 1) (staged p)) file written c.in_ok-write_synced.ensures.only rest.told in
-      let opens = λ (x : List ℕ) (torn : Torn gate 1 (overwritten (gate + 1) (staged p) file) x). open_perhaps file version gate (counted file) closes.0 closes.1 p short x (subst (λ (l : List ℕ). Torn gate 1 l x) is_staged torn) in
-      let opening = weaker (g.D.Disk.seen mid) (g.D.Disk.seen new) (Torn gate 1 (overwritten (gate + 1) (staged p) file)) (PerhapsAdded p file) opens (c.write_gate.ensures.images.each (overwritten (gate + 1) (staged p) file) rest_staged) in
-      joined (g.D.Disk.seen old) (g.D.Disk.seen mid) (g.D.Disk.seen new) (PerhapsAdded p file) staging opening;
-}
-
-pub returns-clause-closed : goal.returns-clause-closed
-returns-clause-closed g c =
-    let gate = c.args.self.now.gate in
+pub append_all-requires-clause-batch : goal.append_all-requires-clause-batch
+append_all-requires-clause-batch g c =
     let p = c.args.payload.now in
     let short : length p < 2 ^ 32 = omega arith in
-    let bytes : c.deref.result.now ≡ staged p = c.deref.ensures.value ∙ c.stage.ensures.staged in
-    let written : (g.D.Disk.seen c.write_synced.new.disk).contents ≡ option_map (overwritten (gate + 1) (staged p)) (g.D.Disk.seen c.args.self.now.disk).contents = c.in_ok-write_synced.ensures.written ∙ ap (λ (l : List ℕ). option_map (overwritten (gate + 1) l) (g.D.Disk.seen c.args.self.now.disk).contents) bytes in
-    let done = appended c.args.self.now.version gate p _ _ _ short c.requires.closed.told written c.in_ok-write_gate.ensures.written in
-    let place : gate + 5 + length p ≡ gate + (5 + length p) = omega arith in
-    record { phase = refl; told = subst (λ k. IfSome (g.D.Disk.seen c.write_gate.new.disk).contents (ClosesAt c.args.self.now.version k)) place done.closed }
+    let from = batch_from c.put_record.new.buffer.items (p ∷ []) (short, tt) (c.put_record.ensures.put [] c.clear.ensures.items) in
+    record { bytes = from.0; short = from.1 }
+
+pub append_all-requires-clause-some : goal.append_all-requires-clause-some
+append_all-requires-clause-some g c =
+    let p = c.args.payload.now in
+    let short : length p < 2 ^ 32 = omega arith in
+    λ none. let no : p ∷ [] ≡ [] = sym (batch_is c.put_record.new.buffer.items (p ∷ []) (short, tt) (c.put_record.ensures.put [] c.clear.ensures.items)) ∙ none in absurd (cc no)
+
+-- ---- the batch is the payload alone
+
+module _ (g : Over) (c : After-append_all g) where
+  abbrev batch : List (List ℕ)
+  batch = payloads_after 0 (1 ∷ c.put_record.new.buffer.items)
+
+  alone : batch ≡ c.args.payload.now ∷ []
+  alone = let short : length c.args.payload.now < 2 ^ 32 = omega arith in
+      batch_is c.put_record.new.buffer.items (c.args.payload.now ∷ []) (short, tt) (c.put_record.ensures.put [] c.clear.ensures.items)
+
+  record_alone : records batch ≡ record_bytes c.args.payload.now
+  record_alone = ap records alone ∙ append-nil (record_bytes c.args.payload.now)
 
 pub returns-clause-added : goal.returns-clause-added
 returns-clause-added g c =
-    let gate = c.args.self.now.gate in
-    let p = c.args.payload.now in
-    let short : length p < 2 ^ 32 = omega arith in
-    let bytes : c.deref.result.now ≡ staged p = c.deref.ensures.value ∙ c.stage.ensures.staged in
-    let written : (g.D.Disk.seen c.write_synced.new.disk).contents ≡ option_map (overwritten (gate + 1) (staged p)) (g.D.Disk.seen c.args.self.now.disk).contents = c.in_ok-write_synced.ensures.written ∙ ap (λ (l : List ℕ). option_map (overwritten (gate + 1) l) (g.D.Disk.seen c.args.self.now.disk).contents) bytes in
-    let done = appended c.args.self.now.version gate p _ _ _ short c.requires.closed.told written c.in_ok-write_gate.ensures.written in
-    done.added
+    subst (λ (qs : List (List ℕ)). OnOk c.append_all.result (IfSome (g.D.Disk.seen c.args.self.now.disk).contents (λ file.
+    told_payloads (g.D.Disk.seen (disk_of c.append_all.new.self)).contents ≡ told_payloads (g.D.Disk.seen c.args.self.now.disk).contents ++ qs))) (alone g c) c.append_all.ensures.added
 
 pub returns-clause-bytes : goal.returns-clause-bytes
 returns-clause-bytes g c =
     let gate = c.args.self.now.gate in
+    subst (λ (r : List ℕ). OnOk c.append_all.result ((g.D.Disk.seen (disk_of c.append_all.new.self)).contents
+    ≡ option_map (λ (file : List ℕ). take gate file ++ r ++ 0 ∷ []) (g.D.Disk.seen c.args.self.now.disk).contents)) (record_alone g c) c.append_all.ensures.bytes
+
+pub returns-clause-gate : goal.returns-clause-gate
+returns-clause-gate g c =
+    let gate = c.args.self.now.gate in
     let p = c.args.payload.now in
-    let short : length p < 2 ^ 32 = omega arith in
-    let bytes : c.deref.result.now ≡ staged p = c.deref.ensures.value ∙ c.stage.ensures.staged in
-    let written : (g.D.Disk.seen c.write_synced.new.disk).contents ≡ option_map (overwritten (gate + 1) (staged p)) (g.D.Disk.seen c.args.self.now.disk).contents = c.in_ok-write_synced.ensures.written ∙ ap (λ (l : List ℕ). option_map (overwritten (gate + 1) l) (g.D.Disk.seen c.args.self.now.disk).contents) bytes in
-    let done = appended c.args.self.now.version gate p _ _ _ short c.requires.closed.told written c.in_ok-write_gate.ensures.written in
-    done.bytes
+    let place : gate + length (records (batch g c)) ≡ gate + 5 + length p = omega (arith, ap length (record_alone g c), length-append (1 ∷ to_be_bytes w32 (length p)) p) in
+    subst (λ (k : ℕ). OnOk c.append_all.result (gate_of c.append_all.new.self ≡ k)) place c.append_all.ensures.gate
+
+pub returns-clause-images : goal.returns-clause-images
+returns-clause-images g c =
+    subst (λ (qs : List (List ℕ)). LeavesAfter (g.D.Disk.seen c.args.self.now.disk) (g.D.Disk.seen (disk_of c.append_all.new.self))
+    (PerhapsAllAdded qs)) (alone g c) c.append_all.ensures.images

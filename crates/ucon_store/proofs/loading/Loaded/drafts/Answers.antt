@@ -14,7 +14,7 @@ pub returns-then-not-drafted-clause-wrong : goal.returns-then-not-drafted-clause
 returns-then-not-drafted-clause-wrong g c = λ _ P T accepts start.
     let old = c.args.self.now in
     let text = old.policy.items in
-    let H = old.entries.items in
+    let H = old.entries in
     let payload = c.args.payload.now in
     let e = c.args.entry.now in
     let standing = c.requires.standing in
@@ -29,7 +29,7 @@ pub returns-then-ne-clause-wrong : goal.returns-then-ne-clause-wrong
 returns-then-ne-clause-wrong g c = λ _ P T accepts start.
     let old = c.args.self.now in
     let text = old.policy.items in
-    let H = old.entries.items in
+    let H = old.entries in
     let payload = c.args.payload.now in
     let e = c.args.entry.now in
     let standing = c.requires.standing in
@@ -46,7 +46,7 @@ pub returns-clause-taken : goal.returns-clause-taken
 returns-clause-taken g c = λ _ P T accepts start.
     let old = c.args.self.now in
     let text = old.policy.items in
-    let H = old.entries.items in
+    let H = old.entries in
     let payload = c.args.payload.now in
     let e = c.args.entry.now in
     let standing = c.requires.standing in

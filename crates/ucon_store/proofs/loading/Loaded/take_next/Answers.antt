@@ -30,7 +30,7 @@ returns-in-Err-clause-reason g c = λ text.
     let long : (place : ℕ) → c.in-Err.fault ≡ taking.TooLong place → (place ≡ gate) × IfSome o (λ file. Sees file (damaged old.records gate)) = λ place is.
     let l = c.in-Err.ensures.too_long place is in (
       l.0,
-      read_long old.policy.items standing.P standing.accepts (payload_in old.point) old.before old.entries.items old.records gate o loading.says
+      read_long old.policy.items standing.P standing.accepts (payload_in old.point) old.before old.entries old.records gate o loading.says
           (subst (λ (at : ℕ). IfSome o (λ file. (p : Bytes) × (ps : List Bytes) × (payloads_from file at ≡ p ∷ ps) × (16777215 < length p))) l.0 l.1) standing.begun standing.starts,
     ) in
     subst (λ (f : StoreFault). HasReason f text o before now) (sym c.at_record.ensures)
@@ -45,8 +45,8 @@ returns-else-not-taken-clause-loading g c = λ _.
     let old = c.args.self.now in
     let new = c.take_step.new.self in
     let text = old.policy.items in
-    let H = old.entries.items in
-    let later = new.entries.items in
+    let H = old.entries in
+    let later = new.entries in
     let P = standing.P in
     let gate = gate_of c.args.journal.now in
     let next = gate_of c.next.new.self in
@@ -75,7 +75,7 @@ returns-then-not-taken-clause-reason g c = λ _.
     let standing = c.requires.loading.standing in
     let old = c.args.self.now in
     let text = old.policy.items in
-    let H = old.entries.items in
+    let H = old.entries in
     let gate = gate_of c.args.journal.now in
     let next = gate_of c.next.new.self in
     let payload = payload_of c.next.new.self in
@@ -99,6 +99,6 @@ returns-in-Ok-false-clause-loaded g c = λ _.
     record {
       standing = standing;
       few = omega (arith, loading.few, loading.entries, stays);
-      says = subst (λ (x : Option Bytes). IfSome x (IsReadWhole old.policy.items standing.P (payload_in old.point) old.before old.entries.items)) (sym c.in-Ok-false.ensures.contents)
-          (read_ended old.policy.items standing.P standing.accepts (payload_in old.point) old.before old.entries.items old.records gate o loading.says none);
+      says = subst (λ (x : Option Bytes). IfSome x (IsReadWhole old.policy.items standing.P (payload_in old.point) old.before old.entries)) (sym c.in-Ok-false.ensures.contents)
+          (read_ended old.policy.items standing.P standing.accepts (payload_in old.point) old.before old.entries old.records gate o loading.says none);
     }

@@ -55,8 +55,8 @@ returns-in-Ok-load-clause-begins g c =
     let text = c.args.policy.now in
     let accepts : accepted text ≡ Some standing.P = sym (ap accepted c.in-Ok-load.ensures.policy) ∙ standing.accepts in
     let point = payload_in l.point in
-    told_before (IsRead text standing.P point l.before l.entries.items) (λ file. BeginsAt (last_point file) point l.before)
-    (begins_opened text standing.P accepts point l.before l.entries.items) (g.D.Disk.seen c.args.disk).contents (g.D.Disk.seen (disk_of c.in-Ok.journal)).contents c.in-Ok.ensures.bytes
+    told_before (IsRead text standing.P point l.before l.entries) (λ file. BeginsAt (last_point file) point l.before)
+    (begins_opened text standing.P accepts point l.before l.entries) (g.D.Disk.seen c.args.disk).contents (g.D.Disk.seen (disk_of c.in-Ok.journal)).contents c.in-Ok.ensures.bytes
     (c.in-Ok-load.ensures.read standing.P accepts)
 
 pub returns-in-Ok-load-clause-leads : goal.returns-in-Ok-load-clause-leads
@@ -74,8 +74,8 @@ returns-in-Ok-load-clause-seen g c = λ P accepts.
     let same : text ≡ c.args.policy.now = c.in-Ok-load.ensures.policy in
     let here : accepted text ≡ Some P = ap accepted same ∙ accepts in
     let o = (g.D.Disk.seen (disk_of c.in-Ok.journal)).contents in
-    told_before (IsRead text P point l.before l.entries.items) (IsSeenAs P text point l.before l.entries.items) (seen_opened text P here point l.before l.entries.items)
-    (g.D.Disk.seen c.args.disk).contents o c.in-Ok.ensures.bytes (subst (λ (t : Bytes). IfSome o (IsRead t P point l.before l.entries.items)) (sym same) (c.in-Ok-load.ensures.read P accepts))
+    told_before (IsRead text P point l.before l.entries) (IsSeenAs P text point l.before l.entries) (seen_opened text P here point l.before l.entries)
+    (g.D.Disk.seen c.args.disk).contents o c.in-Ok.ensures.bytes (subst (λ (t : Bytes). IfSome o (IsRead t P point l.before l.entries)) (sym same) (c.in-Ok-load.ensures.read P accepts))
 
 pub returns-in-Ok-load-clause-founded : goal.returns-in-Ok-load-clause-founded
 returns-in-Ok-load-clause-founded g c = λ P file H accepts told found_so.
@@ -87,8 +87,8 @@ returns-in-Ok-load-clause-founded g c = λ P file H accepts told found_so.
     let same : text ≡ c.args.policy.now = c.in-Ok-load.ensures.policy in
     let here : accepted text ≡ Some P = ap accepted same ∙ accepts in
     let m = (seen (disk_of c.in-Ok.journal)).contents in
-    goes_on_opened text P here point l.before l.entries.items c.found_histories_stand_around_their_last_checkpoint.ensures seen _ disk m file H
-    (c.in-Ok.ensures.bytes ∙ ap (option_map opened) told) (subst (λ (t : Bytes). IfSome m (IsRead t P point l.before l.entries.items)) (sym same) (c.in-Ok-load.ensures.read P accepts))
+    goes_on_opened text P here point l.before l.entries c.found_histories_stand_around_their_last_checkpoint.ensures seen _ disk m file H
+    (c.in-Ok.ensures.bytes ∙ ap (option_map opened) told) (subst (λ (t : Bytes). IfSome m (IsRead t P point l.before l.entries)) (sym same) (c.in-Ok-load.ensures.read P accepts))
     c.in-Ok-load.ensures.payloads (subst (λ (t : Bytes). KeepsFound t m (seen disk).contents) (sym same) c.in-Ok-load.ensures.kept) c.in-Ok-load.ensures.only
     (subst (λ (t : Bytes). IsFoundAs t file H) (sym same) found_so)
 
@@ -102,8 +102,8 @@ returns-in-Ok-load-clause-first g c = λ first P accepts.
     let same : text ≡ c.args.policy.now = c.in-Ok-load.ensures.policy in
     let here : accepted text ≡ Some P = ap accepted same ∙ accepts in
     let m = (seen (disk_of c.in-Ok.journal)).contents in
-    founded_first text P here point l.before l.entries.items c.found_histories_stand_around_their_last_checkpoint.ensures seen _ disk first m
-    (subst (λ (t : Bytes). IfSome m (IsRead t P point l.before l.entries.items)) (sym same) (c.in-Ok-load.ensures.read P accepts))
+    founded_first text P here point l.before l.entries c.found_histories_stand_around_their_last_checkpoint.ensures seen _ disk first m
+    (subst (λ (t : Bytes). IfSome m (IsRead t P point l.before l.entries)) (sym same) (c.in-Ok-load.ensures.read P accepts))
     (subst (λ (t : Bytes). KeepsFound t m (seen disk).contents) (sym same) c.in-Ok-load.ensures.kept) c.in-Ok-load.ensures.tells c.in-Ok-load.ensures.only
 
 pub returns-in-Ok-load-clause-found : goal.returns-in-Ok-load-clause-found
@@ -113,8 +113,8 @@ returns-in-Ok-load-clause-found g c = λ first.
     let text = c.args.policy.now in
     let accepts : accepted text ≡ Some standing.P = sym (ap accepted c.in-Ok-load.ensures.policy) ∙ standing.accepts in
     let point = payload_in l.point in
-    told_before (IsRead text standing.P point l.before l.entries.items) (λ file. IsFoundAs text file l.entries.items)
-    (found_first_opened text standing.P accepts point l.before l.entries.items first) (g.D.Disk.seen c.args.disk).contents (g.D.Disk.seen (disk_of c.in-Ok.journal)).contents c.in-Ok.ensures.bytes
+    told_before (IsRead text standing.P point l.before l.entries) (λ file. IsFoundAs text file l.entries)
+    (found_first_opened text standing.P accepts point l.before l.entries first) (g.D.Disk.seen c.args.disk).contents (g.D.Disk.seen (disk_of c.in-Ok.journal)).contents c.in-Ok.ensures.bytes
     (c.in-Ok-load.ensures.read standing.P accepts)
 
 pub returns-in-Ok-load-clause-images : goal.returns-in-Ok-load-clause-images

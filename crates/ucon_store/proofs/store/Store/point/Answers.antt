@@ -1,9 +1,8 @@
-use Rattle.std.proofs.Common.{rules, ◌≡◌, ◌∙◌, false, None, ap, subst, sym, arith}
+use Rattle.std.proofs.Common.{rules, ◌≡◌, ◌+◌, ◌∙◌, false, None, ap, subst, sym, arith}
 use Rattle.std.specs.Result.{is_err}
 use Rattle.ucon_journal.specs.Journal.{disk_of}
-use Rattle.ucon_model.specs.Plain.{Bytes}
 use Rattle.ucon_syntax.specs.Policies.{accepted}
-use Rattle.ucon_store.specs.Kept.{Kept, text_in}
+use Rattle.ucon_store.specs.Kept.{Kept}
 use Rattle.ucon_store.proofs.Pointed.{IsPointReady, LeavesPoint, fits_ready, founded_point, leaves_point, no_cause, ok_told, on_disk, places_point, point_ready, point_refused, points_ready, stays_point, written_point}
 use Rattle.ucon_store.proofs.Recorded.{IsAppended, OneByOne}
 use Rattle.ucon_store.proofs.Stepped.{parts}
@@ -15,8 +14,7 @@ use Rattle.ucon_store.proofs.store.Store.point.Goals as goal
 pub returns-in-Err-clause-why : goal.returns-in-Err-clause-why
 returns-in-Err-clause-why g c =
     point_refused c.self.invariant c.self.view_is (unmarked c.self.inside.mark (search rules))
-    (c.text_at_start-start.ensures ∙ ap (λ (t : Bytes). text_in t c.self.inside.point) c.deref.ensures.value)
-    c.in-Err.refusal c.in-Err.ensures.refused
+    c.in-Err.refusal (ap (λ n. c.self.inside.before + n) c.len.ensures) c.deref.ensures.value c.in-Err.ensures.refused
 
 pub append-requires-clause-closed : goal.append-requires-clause-closed
 append-requires-clause-closed g c =
@@ -30,9 +28,9 @@ module _ (g : Over) (c : After-append g) where
   ready : IsPointReady g.D.Disk.seen c.args.self c.prepare_point.new.journal c.deref-2.result.now
   ready =
       point_ready c.self.invariant c.self.view_is (unmarked c.self.inside.mark (search rules))
-      (c.text_at_start-start.ensures ∙ ap (λ (t : Bytes). text_in t c.self.inside.point) c.deref.ensures.value)
       c.prepare_point.ensures.closed c.prepare_point.ensures.disk
-      c.prepare_point.ensures.version c.in-Ok.ensures.second c.deref-2.ensures.value c.in-Ok.ensures.short c.in-Ok.ensures.text
+      c.prepare_point.ensures.version c.in-Ok.ensures.second c.deref-2.ensures.value c.in-Ok.ensures.short
+      (ap (λ n. c.self.inside.before + n) c.len.ensures) c.deref.ensures.value c.in-Ok.ensures.text
 
   one : OneByOne
   one takes front behind = c.payloads_are_found_one_by_one.ensures accepted takes front behind
@@ -62,7 +60,7 @@ module _ (g : Over) (c : Else-is_err g) where
   }
 
   -- the store is the same on another disk
-  moved : parts c.self.inside.policy.items c.self.inside.point c.self.inside.before c.self.inside.opening c.self.inside.entries.items
+  moved : parts c.self.inside.policy.items c.self.inside.point c.self.inside.before c.self.inside.opening c.self.inside.entries
       c.self.inside.mark (disk_of c.append.new.self)
       ≡ on_disk c.args.self (disk_of c.append.new.self)
   moved = ap (λ (s : Kept g.row.D.Denot). on_disk s (disk_of c.append.new.self)) c.self.view_is

@@ -8,7 +8,9 @@ use Rattle.ucon_model.specs.Payload.{revocations_in}
 use Rattle.ucon_model.specs.Plain.{PlainReply}
 use Rattle.ucon_model.specs.Views.{reply_of}
 use Rattle.ucon_syntax.specs.Policies.{accepted}
+use Rattle.ucon_store.specs.declared.in_force.InForce.{InForce}
 use Rattle.ucon_store.specs.Kept.{Kept}
+use Rattle.ucon_store.specs.Points.{text_behind}
 use Rattle.ucon_store.specs.Stays.{Stays, stays_same}
 use Rattle.ucon_store.proofs.Adding.{Adds, added_ready, adds_nothing, adds_ready}
 use Rattle.ucon_store.proofs.Placing.{failed_whole, placed_whole}
@@ -25,7 +27,7 @@ entry caller command = record { caller = caller; command = command }
 pub prepare-requires-clause-few : goal.prepare-requires-clause-few
 prepare-requires-clause-few g c =
     let inv = c.self.invariant in
-    let H = c.self.inside.entries.items in
+    let H = c.self.inside.entries in
     let said_is = c.in_ok-drafted.ensures.reply inv.P (trace_from inv.P inv.begun H) (inv.stands inv.begun inv.starts) in
     subst (λ (r : PlainReply). length (revocations_in r) ≤ 65536) (sym said_is) (inv.revokes inv.begun inv.starts H c.args.caller c.args.command.now)
 
@@ -57,19 +59,19 @@ module _ (g : Over) (c : After-record g) where
 
 module _ (g : Over) (c : In-Err-record g) where
   -- its entry is the mark of the store
-  marked : parts c.self.inside.policy.items c.self.inside.point c.self.inside.before c.self.inside.opening c.record.new.entries.items
+  marked : parts c.self.inside.policy.items c.self.inside.point c.self.inside.before c.self.inside.opening c.record.new.entries
       (Some c.in-Err-record.entry) (disk_of c.record.new.journal)
       ≡ with_mark c.args.self.now (entry c.args.caller c.args.command.now) (disk_of c.record.new.journal)
   marked =
       marked_parts c.self.inside.point c.self.view_is (entry c.args.caller c.args.command.now) (disk_of c.record.new.journal)
-      (c.in-Err-record.ensures.same ∙ c.prepare.ensures.entries) (c.in-Err-record.ensures.entry ∙ c.in-Ok.ensures.entry)
+      c.in-Err-record.ensures.same.0 (c.in-Err-record.ensures.entry ∙ c.in-Ok.ensures.entry)
 
 pub invariant_of-self-in-Err-record : goal.invariant_of-self-in-Err-record
 invariant_of-self-in-Err-record g c =
     let changed : c.in_ok-drafted.drafted.changes ≡ true = search rules in
     kept_marked c.self.invariant (g.E.Engine.has_pending c.draft.new.self) (entry c.args.caller c.args.command.now)
     (c.in_ok-drafted.ensures.pending changed) c.record.new.engine c.record.new.journal c.in-Err-record.ensures.undone
-    (c.in-Err-record.ensures.same ∙ c.prepare.ensures.entries) (c.in-Err-record.ensures.entry ∙ c.in-Ok.ensures.entry)
+    (ap (λ (t : InForce). t.text.items) c.in-Err-record.ensures.same.1 ∙ c.prepare.ensures.in_force) c.in-Err-record.ensures.same.0 (c.in-Err-record.ensures.entry ∙ c.in-Ok.ensures.entry)
 
 pub returns-in-Err-record-clause-inside : goal.returns-in-Err-record-clause-inside
 returns-in-Err-record-clause-inside g c = leaves g (goal.at.returns-in-Err-record-clause-inside g c).After-record
@@ -99,14 +101,13 @@ module _ (g : Over) (c : In_default g) where
     added = c.in_default.ensures.payloads;
   }
 
-  grown : c.record.new.entries.items ≡ c.self.inside.entries.items ++ entry c.args.caller c.args.command.now ∷ []
+  grown : c.record.new.entries ≡ c.self.inside.entries ++ entry c.args.caller c.args.command.now ∷ []
   grown =
       c.in_default.ensures.added
-      ∙ (ap (λ (l : List Entry). l ++ c.in-Ok.entry ∷ []) c.prepare.ensures.entries
-      ∙ ap (λ (x : Entry). c.self.inside.entries.items ++ x ∷ []) c.in-Ok.ensures.entry)
+      ∙ ap (λ (x : Entry). c.self.inside.entries ++ x ∷ []) c.in-Ok.ensures.entry
 
   -- its entry is the last of the store
-  longer : parts c.self.inside.policy.items c.self.inside.point c.self.inside.before c.self.inside.opening c.record.new.entries.items
+  longer : parts c.self.inside.policy.items c.self.inside.point c.self.inside.before c.self.inside.opening c.record.new.entries
       c.self.inside.mark (disk_of c.record.new.journal)
       ≡ with_entry c.args.self.now (entry c.args.caller c.args.command.now) (disk_of c.record.new.journal)
   longer =
@@ -119,7 +120,8 @@ invariant_of-self-2 g c =
     let changed : c.in_ok-drafted.drafted.changes ≡ true = search rules in
     kept_more c.self.invariant (g.E.Engine.has_pending c.draft.new.self) (entry c.args.caller c.args.command.now)
     (c.in_ok-drafted.ensures.pending changed) c.record.new.engine c.record.new.journal (unmarked c.self.inside.mark (search rules))
-    c.prepare.ensures.gate (appended g there) c.record.ensures.small c.in_default.ensures.kept c.in_default.ensures.settled (grown g there)
+    c.prepare.ensures.gate (appended g there) c.record.ensures.small c.in_default.ensures.kept c.in_default.ensures.settled
+    (c.in_default.ensures.in_force ∙ (λ i. text_behind (c.prepare.ensures.in_force i) (c.in-Ok.ensures.entry i).command)) (grown g there)
 
 pub returns-clause-inside : goal.returns-clause-inside
 returns-clause-inside g c = leaves g (goal.at.returns-clause-inside g c).After-record
@@ -152,7 +154,7 @@ returns-in-Err-clause-inside g c =
 pub returns-in-Err-clause-stays : goal.returns-in-Err-clause-stays
 returns-in-Err-clause-stays g c =
     let s = c.self.inside in
-    let same = (λ i. parts s.policy.items s.point s.before s.opening (c.prepare.ensures.entries i) s.mark (c.prepare.ensures.disk i))
+    let same = (λ i. parts s.policy.items s.point s.before s.opening s.entries s.mark (c.prepare.ensures.disk i))
     ∙ c.self.view_is in
     subst (Stays g.D.Disk.seen c.args.self.now) (sym same)
     (stays_same g.D.Disk.seen g.met.D.Disk.only_now c.args.self.now)

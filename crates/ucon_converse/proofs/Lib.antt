@@ -1,0 +1,9 @@
+pub mod Behind
+pub mod Conversing
+pub mod Ended
+pub mod Faulty
+pub mod Leads
+pub mod Long
+pub mod OneLine
+pub mod PolicyLines
+pub mod Stepping

@@ -1,0 +1,52 @@
+use Rattle.std.proofs.Common.{rules, ◌≡◌, ◌++◌, List, ℕ, sym, ap, subst, ◌∙◌}
+use Rattle.ucon_flow.specs.Lines.{GivesLine, IsNoLine}
+use Rattle.ucon_converse.specs.PolicyPart.{IsKindOf, TakesPolicy}
+use Rattle.ucon_converse.specs.declared.policy_text.Kind.TheVariants.{Last, Line}
+use Rattle.ucon_converse.proofs.PolicyLines.{TakesLines, divided, divided_last, lasted, none_left, taken_on}
+use Rattle.ucon_converse.proofs.policy_text.policy_text.Goals as goal
+
+pub returns-in-None-clause-text : goal.returns-in-None-clause-text
+returns-in-None-clause-text g c =
+    let none : IsNoLine g.S.Source.seen c.loop-line.lines c.next.new.self c.loop-line.input c.next.new.source = search rules in
+    none_left g.S.Source.seen c.args.lines.now.held (g.S.Source.seen c.args.input.now).left c.loop-line.lines c.next.new.self c.loop-line.input c.next.new.source
+    c.loop-line.text.items c.loop-line.invariant.taken none
+
+pub returns-in-Divider-clause-text : goal.returns-in-Divider-clause-text
+returns-in-Divider-clause-text g c =
+    let line = c.in-Some.line.items in
+    let gives : GivesLine g.S.Source.seen c.loop-line.lines c.next.new.self c.loop-line.input c.next.new.source line = search rules in
+    divided g.S.Source.seen c.args.lines.now.held (g.S.Source.seen c.args.input.now).left c.loop-line.lines c.next.new.self c.loop-line.input c.next.new.source
+    c.loop-line.text.items c.loop-line.invariant.taken line gives (sym c.deref.ensures.value ∙ c.in-Divider.ensures)
+
+pub returns-in-LastDivider-clause-text : goal.returns-in-LastDivider-clause-text
+returns-in-LastDivider-clause-text g c =
+    let line = c.in-Some.line.items in
+    let gives : GivesLine g.S.Source.seen c.loop-line.lines c.next.new.self c.loop-line.input c.next.new.source line = search rules in
+    divided_last g.S.Source.seen c.args.lines.now.held (g.S.Source.seen c.args.input.now).left c.loop-line.lines c.next.new.self c.loop-line.input c.next.new.source
+    c.loop-line.text.items c.loop-line.invariant.taken line gives (sym c.deref.ensures.value ∙ c.in-LastDivider.ensures)
+
+pub returns-in-Last-clause-text : goal.returns-in-Last-clause-text
+returns-in-Last-clause-text g c =
+    let line = c.in-Some.line.items in
+    let was = c.loop-line.text.items in
+    let gives : GivesLine g.S.Source.seen c.loop-line.lines c.next.new.self c.loop-line.input c.next.new.source line = search rules in
+    let kind = subst (λ (l : List ℕ). IsKindOf Last l) c.deref.ensures.value c.in-Last.ensures in
+    let is : c.put_line-in-Last.new.text.items ≡ was ++ line = c.in_ok-put_line-in-Last.ensures.ok ∙ ap (λ (l : List ℕ). was ++ l) c.deref-in-Last.ensures.value in
+    subst (λ (t : List ℕ). TakesPolicy c.args.lines.now.held c.next.new.self.held (g.S.Source.seen c.args.input.now).left (g.S.Source.seen c.next.new.source).left t) (sym is)
+    (lasted g.S.Source.seen c.args.lines.now.held (g.S.Source.seen c.args.input.now).left c.loop-line.lines c.next.new.self c.loop-line.input c.next.new.source
+    was c.loop-line.invariant.taken line gives kind.0 kind.1)
+
+pub loop-line-preserved : goal.loop-line-preserved
+loop-line-preserved g c =
+    let line = c.in-Some.line.items in
+    let was = c.loop-line.text.items in
+    let gives : GivesLine g.S.Source.seen c.loop-line.lines c.next.new.self c.loop-line.input c.next.new.source line = search rules in
+    let kind = subst (λ (l : List ℕ). IsKindOf Line l) c.deref.ensures.value c.in-Line.ensures in
+    let is : c.put_line.new.text.items ≡ was ++ line = c.in_ok-put_line-in-Line.ensures.ok ∙ ap (λ (l : List ℕ). was ++ l) c.deref-in-Line.ensures.value in
+    record {
+      taken =
+          subst (λ (t : List ℕ). TakesLines c.args.lines.now.held c.next.new.self.held (g.S.Source.seen c.args.input.now).left (g.S.Source.seen c.next.new.source).left t) (sym is)
+          (taken_on g.S.Source.seen c.args.lines.now.held (g.S.Source.seen c.args.input.now).left c.loop-line.lines c.next.new.self c.loop-line.input c.next.new.source
+          was c.loop-line.invariant.taken line gives kind.0 kind.1 kind.2);
+      source = search rules;
+    }

@@ -1,0 +1,140 @@
+-- How a whole conversation ends: the journal isn't opened, or lines were answered over it.
+use Rattle.std.specs.Prelude.{◌≡◌, ◌⊎◌, ⊤, ℕ, Bool, true, false, [], ◌∷◌, ◌++◌, Option, Some, None, is_some, IsSome, Result, Ok, Err}
+use Rattle.ucon_disk.specs.Causes.{raised}
+use Rattle.ucon_disk.specs.Run.{IsAtRest, LeavesAfter, LeavesOnly}
+use Rattle.ucon_disk.specs.Seen.{DiskSeen}
+use Rattle.ucon_model.specs.declared.command.Entry.{Entry}
+use Rattle.ucon_model.specs.History.{History}
+use Rattle.ucon_model.specs.Plain.{Bytes, PlainPolicy}
+use Rattle.ucon_outcome.specs.declared.outcome.Outcome.{Outcome}
+use Rattle.ucon_outcome.specs.declared.outcome.Outcome.TheVariants as outcomes
+use Rattle.ucon_outcome.specs.declared.outcome.PolicyFault.{PolicyFault}
+use Rattle.ucon_outcome.specs.Ending.{by_opening}
+use Rattle.ucon_store.specs.declared.fault.StoreFault.{StoreFault}
+use Rattle.ucon_store.specs.Found.{IsFoundBy, IsFoundWithBy}
+use Rattle.ucon_store.specs.Kept.{Kept}
+use Rattle.ucon_store.specs.Opening.{HasReasonBy, OpensBy}
+use Rattle.ucon_store.specs.Points.{PolicyReading}
+use Rattle.ucon_store.specs.Stays.{Stays}
+use Rattle.ucon_store.specs.Whole.{IsFounded, IsFront}
+use Rattle.ucon_syntax.specs.Policies.{accepted}
+use Rattle.ucon_tell.specs.Heard.{Hears}
+use Rattle.ucon_tell.specs.Seen.{VoiceSeen}
+use Rattle.ucon_tell.specs.declared.talk_fault.TalkFault.{TalkFault}
+use Rattle.ucon_tell.specs.declared.talk_fault.TalkFault.TheVariants as faults
+use Rattle.ucon_turn.specs.Lists.{Begins}
+use Rattle.ucon_converse.specs.Conversation.{HasConversedBy}
+use Rattle.ucon_converse.specs.Keeping.{standing}
+use Rattle.ucon_converse.specs.PolicyFaults.{IsPolicyFaultOf}
+use Rattle.ucon_converse.specs.PolicyPart.{TakesPolicy}
+use Rattle.ucon_converse.specs.Replies.{Standing}
+
+-- How it ends, by how the talk did, and by whether a step has met a disk fault. A fault of the source or of the sink stands before one of the disk.
+abbrev pub ended_so : Result (Unit {0}) TalkFault → Bool → Outcome
+ended_so (Ok done) true = outcomes.DiskFault
+ended_so (Ok done) false = outcomes.Done
+ended_so (Err faults.SourceFault) failed = outcomes.SourceFault
+ended_so (Err faults.SinkFault) failed = outcomes.SinkFault
+ended_so (Err faults.TooLong) failed = outcomes.TooLong
+ended_so (Err (faults.NoMemory e)) failed = outcomes.NoMemory e
+
+-- ---- over a store
+
+-- A store was talked with and closed, behind each history that leads to where it begins. Of what was heard this is so, by how the talk ended.
+pub record IsTalkedOver {D : Type 0} (seen : D → DiskSeen) (store : Kept D) (disk : D) (outcome : Outcome) (before now : VoiceSeen)
+    (hears : Result (Unit {0}) TalkFault → Bytes → Type 0) : Type 0 where
+  pub closed : Kept D
+  pub disk_is : disk ≡ closed.disk
+  pub stays : Stays seen store closed
+  pub result : Result (Unit {0}) TalkFault
+  pub outcome_is : outcome ≡ ended_so result (is_some closed.mark)
+  pub conversed : (P : PlainPolicy) (G : History) → accepted store.policy ≡ Some P → IsFront P store G → store.mark ≡ None
+      → HasConversedBy accepted P store.policy 65546 result (standing G store) (standing G closed) before now (seen closed.disk)
+      (IsFounded seen P store G × IsSome (seen store.disk).contents) (hears result)
+
+-- ---- over a journal that was found as a history
+
+-- a file is found as a history that has the opening one and begins this one, or as this one with the step that met a disk fault
+pub record IsFoundSinceBy (reads : PolicyReading) (text : Bytes) (opening H : History) (failed : Option Entry) (file : Bytes) : Type 0 where
+  pub history : History
+  pub found : IsFoundBy reads text file history
+  pub begun : Begins opening history
+  pub within : Begins history H ⊎ ((e : Entry) × (failed ≡ Some e) × (history ≡ H ++ e ∷ []))
+
+-- The conversation went on behind the opening history to a last standing. The disk's count of faults is one more where a step met a disk fault, and else
+-- as it was. A crash at any moment since, where the disk was at rest before, and a crash now at any rate, leaves what was done by then.
+pub record IsHeldBehindBy (reads : PolicyReading) (text : Bytes) (P : PlainPolicy) (file : Bytes) (opening : History) (outcome : Outcome)
+    (old new : DiskSeen) (before now : VoiceSeen) (hears : Result (Unit {0}) TalkFault → Bytes → Type 0) : Type 0 where
+  pub result : Result (Unit {0}) TalkFault
+  pub last : Standing
+  pub outcome_is : outcome ≡ ended_so result (is_some last.failed)
+  pub conversed : HasConversedBy reads P text 65546 result (record { history = opening; failed = None }) last before now new (Unit {0}) (hears result)
+  pub unfailed : last.failed ≡ None → new.faults ≡ old.faults
+  pub failed : (e : Entry) → last.failed ≡ Some e → new.faults ≡ raised old.faults
+  pub since : IsAtRest old file → LeavesOnly old new (IsFoundSinceBy reads text opening last.history last.failed)
+  pub left : (c : Bytes) → new.images c → IsFoundWithBy reads text last.history last.failed c
+
+-- ---- under a policy
+
+-- the journal wasn't opened for this reason, what was found in its file is still found there, and nothing was told
+pub record IsNotOpenedBy (reads : PolicyReading) (text : Bytes) (outcome : Outcome) (old new : DiskSeen) (before now : VoiceSeen) : Type 0 where
+  pub fault : StoreFault
+  pub outcome_is : outcome ≡ by_opening fault
+  pub reason : HasReasonBy reads fault text old.contents old.faults new.faults
+  pub left : LeavesAfter old new (OpensBy reads text)
+  pub contents : now.contents ≡ before.contents
+  pub silent : (b : Bytes) (t : ℕ) → now.told b t → before.told b t
+
+-- The text is a policy's, and the journal was opened under it. Where the file was found as a history, the conversation went on behind that. A file that opening
+-- alone accepts has none, and nothing is said of the replies.
+pub record IsHeldBy (reads : PolicyReading) (text : Bytes) (outcome : Outcome) (old new : DiskSeen) (before now : VoiceSeen)
+    (hears : Result (Unit {0}) TalkFault → Bytes → Type 0) : Type 0 where
+  pub policy : PlainPolicy
+  pub reads_so : reads text ≡ Some policy
+  pub run : (file : Bytes) (opening : History) → old.contents ≡ Some file → IsFoundBy reads text file opening
+      → IsHeldBehindBy reads text policy file opening outcome old new before now hears
+
+-- ---- from the first byte
+
+-- nothing was told, and the disk is as it was
+pub record IsUntouched {D : Type 0} (disk there : D) (before now : VoiceSeen) : Type 0 where
+  pub same : there ≡ disk
+  pub contents : now.contents ≡ before.contents
+  pub silent : (b : Bytes) (t : ℕ) → now.told b t → before.told b t
+
+-- how a conversation under a policy of this text ends
+abbrev pub EndsUnderBy : PolicyReading → Bytes → Outcome → DiskSeen → DiskSeen → VoiceSeen → VoiceSeen → (Result (Unit {0}) TalkFault → Bytes → Type 0) → Type 0
+EndsUnderBy reads text outcome old new before now hears =
+    IsNotOpenedBy reads text outcome old new before now ⊎ IsHeldBy reads text outcome old new before now hears
+
+-- The policy's text was taken off the front of the input, and the conversation under it ended so, of what was read behind it.
+pub record EndsBehindPolicyBy (reads : PolicyReading) (outcome : Outcome) (old new : DiskSeen) (before now : VoiceSeen) (left_before left : Option Bytes) : Type 0 where
+  pub text : Bytes
+  pub held : Bytes
+  pub between : Option Bytes
+  pub takes : TakesPolicy [] held left_before between text
+  pub held_after : Bytes
+  pub ends : EndsUnderBy reads text outcome old new before now (λ r heard. Hears r held held_after between left heard)
+
+-- the text that was taken off the front of the input is refused so
+pub record IsRefusedPolicy (fault : PolicyFault) (left_before left : Option Bytes) : Type 0 where
+  pub text : Bytes
+  pub held : Bytes
+  pub takes : TakesPolicy [] held left_before left text
+  pub refused : IsPolicyFaultOf fault text
+
+-- why there is no policy; the counts of faults tell of the source
+abbrev pub HasNoPolicy : Outcome → Option Bytes → Option Bytes → Type 0
+HasNoPolicy (outcomes.Policy f) left_before left = IsRefusedPolicy f left_before left
+HasNoPolicy outcomes.SourceFault left_before left = ⊤
+HasNoPolicy outcomes.TooLong left_before left = ⊤
+HasNoPolicy (outcomes.NoMemory e) left_before left = ⊤
+HasNoPolicy outcome left_before left = ⊥
+
+-- why the policy of a journal isn't had
+abbrev pub IsOfRecord : Outcome → Type 0
+IsOfRecord outcomes.NotJournal = ⊤
+IsOfRecord outcomes.DiskFault = ⊤
+IsOfRecord (outcomes.Damaged number place) = ⊤
+IsOfRecord (outcomes.NoMemory e) = ⊤
+IsOfRecord outcome = ⊥

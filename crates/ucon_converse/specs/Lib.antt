@@ -1,0 +1,10 @@
+pub mod Conversation
+pub mod Ended
+pub mod Greeting
+pub mod Holding
+pub mod Keeping
+pub mod PolicyFaults
+pub mod PolicyPart
+pub mod Replies
+pub mod Requests
+pub mod Said

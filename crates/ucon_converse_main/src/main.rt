@@ -1,0 +1,62 @@
+//! Makes the real source, voice and disk, calls `converse`, and ends with its status.
+#![tactic(auto)]
+
+use std::alloc::{AllocError, Global};
+use std::env;
+use std::io::ErrorKind;
+use std::process::ExitCode;
+use std::rt::Env;
+use ucon_base::NoMemory;
+use ucon_cascade::Monitor;
+use ucon_converse::{PolicyFrom, SinkVoice, converse};
+use ucon_disk::FileDisk;
+use ucon_flow::{ReadSource, WriteSink};
+use ucon_outcome::{Outcome, report};
+
+fn main(rt: HostRuntime) -> ExitCode {
+    let alloc = rt.alloc();
+    let mut source = ReadSource::new(rt.stdin());
+    let mut voice = SinkVoice::new(WriteSink::new(rt.stdout()));
+    let mut err = WriteSink::new(rt.stderr());
+    let outcome = match read_words(&rt) {
+        Ok(asked) => {
+            let disk = FileDisk::new(rt, asked.journal);
+            converse::<Monitor, _, _, _>(alloc, asked.policy, &mut source, &mut voice, disk).outcome
+        }
+        Err(outcome) => outcome,
+    };
+    ExitCode::from(report(&outcome, &mut err))
+}
+
+/// What the program is asked.
+#[derive(Drop)]
+struct Asked {
+    /// The path of the journal.
+    journal: String,
+    policy: PolicyFrom,
+}
+
+/// The program's words, without its name: a path, and behind it perhaps `--journal-policy`.
+fn read_words(rt: &(impl Env + Alloc<A = Global>)) -> Result<Asked, Outcome> {
+    match env::args(rt) {
+        Ok(args) => {
+            let mut words = args.skip(1);
+            let Some(journal) = words.next() else {
+                return Err(Outcome::Usage);
+            };
+            let policy = match words.next() {
+                None => PolicyFrom::Input,
+                Some(word) if word.as_str() == "--journal-policy" => PolicyFrom::Journal,
+                Some(_) => return Err(Outcome::Usage),
+            };
+            if words.next().is_some() {
+                return Err(Outcome::Usage);
+            }
+            Ok(Asked { journal, policy })
+        }
+        Err(e) if e.kind() == ErrorKind::OutOfMemory => Err(Outcome::NoMemory(NoMemory::from(
+            AllocError,
+        ))),
+        Err(_) => Err(Outcome::Usage),
+    }
+}

@@ -1,0 +1,144 @@
+"""The state of a journal as `report` prints it, read in parts: a closed session is counted and not kept, since there may be a million of
+them."""
+import json
+import sys
+from typing import Any, Dict, Iterator, List, NamedTuple, Tuple, Union
+
+Value = Union[int, str, List[str]]
+Row = Dict[str, Value]
+OPEN = ("accessing", "requesting")
+STATES = (*OPEN, "denied", "revoked", "ended")
+decode = json.JSONDecoder().raw_decode
+# About how many characters of a list are read at once.
+PART = 1 << 20
+
+
+class Unread(Exception):
+    """The text isn't a report; at which of its characters."""
+
+
+class Act(NamedTuple):
+    """An act that was done, and its last moment."""
+
+    subject: str
+    action: str
+    object: str
+    at: int
+
+
+class Session(NamedTuple):
+    number: int
+    client: int
+    subject: str
+    right: str
+    object: str
+    start: int
+    state: str
+
+
+class State(NamedTuple):
+    """What stands in a journal behind its last step. `sessions` has those that go on or wait; `counts` counts all by their states."""
+
+    entries: int
+    tick: int
+    env: Row
+    subjects: Dict[str, Row]
+    objects: Dict[str, Row]
+    acts: List[Act]
+    sessions: List[Session]
+    counts: Dict[str, int]
+
+    @property
+    def uses(self) -> List[Session]:
+        """The sessions that go on, by rising number."""
+        return [it for it in self.sessions if it.state == "accessing"]
+
+    @property
+    def waiting(self) -> List[Session]:
+        return [it for it in self.sessions if it.state == "requesting"]
+
+
+class Text:
+    """A text that is read from its front on."""
+
+    def __init__(self, text: str) -> None:
+        self.text = text
+        self.at = 0
+
+    def skip(self, wanted: str) -> bool:
+        is_there = self.text.startswith(wanted, self.at)
+        self.at += len(wanted) if is_there else 0
+        return is_there
+
+    def must(self, wanted: str) -> None:
+        if not self.skip(wanted):
+            raise Unread(f"`{wanted}` is wanted at {self.at}")
+
+    def value(self, key: str) -> Any:
+        self.must(f'"{key}":')
+        return self.one()
+
+    def one(self) -> Any:
+        try:
+            found, self.at = decode(self.text, self.at)
+        except ValueError as why:
+            raise Unread(str(why)) from None
+        return found
+
+    def each(self, key: str) -> Iterator[Dict[str, Any]]:
+        """The objects of a list, of names and numbers alone, so that a bracket or a brace in it is no text's."""
+        self.must(f'"{key}":[')
+        end = self.text.find("]", self.at)
+        while self.at < end:
+            part = self.text.find("}", self.at + PART, end) + 1 or end
+            try:
+                yield from json.loads(f"[{self.text[self.at:part]}]")
+            except ValueError as why:
+                raise Unread(f"behind {self.at}: {why}") from None
+            self.at = part
+            self.skip(",")
+        self.must("]")
+
+
+def read(raw: bytes) -> State:
+    """The state that a report tells. Its keys stand in the order of their bytes."""
+    try:
+        return read_all(Text(raw.decode("ascii")))
+    except (KeyError, TypeError, ValueError) as why:
+        raise Unread(f"{type(why).__name__}: {why}") from None
+
+
+def read_all(text: Text) -> State:
+    name = sys.intern
+    text.must("{")
+    acts = [Act(name(it["subject"]), name(it["action"]), name(it["object"]), it["at"]) for it in text.each("acts")]
+    found: Dict[str, Any] = {}
+    for key in ("entries", "env", "objects"):
+        text.must(",")
+        found[key] = text.value(key)
+    text.must(",")
+    sessions, counts = read_sessions(text)
+    for key in ("subjects", "tick"):
+        text.must(",")
+        found[key] = text.value(key)
+    text.must("}")
+    return State(sessions=sessions, counts=counts, acts=acts, **found)
+
+
+def read_sessions(text: Text) -> Tuple[List[Session], Dict[str, int]]:
+    counts = {state: 0 for state in STATES}
+    kept = []
+    for it in text.each("sessions"):
+        counts[it["state"]] += 1
+        if it["state"] in OPEN:
+            kept.append(Session(it["number"], it["caller"], it["subject"], it["right"], it["object"], it["start"], it["state"]))
+    return kept, counts
+
+
+def spelled(value: Value) -> str:
+    """A value as a command spells it."""
+    if isinstance(value, int):
+        return str(value)
+    if isinstance(value, str):
+        return f'"{value}"'
+    return "{" + ",".join(f'"{it}"' for it in value) + "}"
