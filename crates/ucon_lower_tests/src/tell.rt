@@ -192,9 +192,9 @@ fn what_was_told_is_found_behind_a_crash_at_any_call(rt: HostRuntime) -> Result<
             "{calls}"
         );
         assert!(rt; is_found(&keeper.disk, &all)?, "{calls}");
-        // What the conversation without a stop had told by this moment, a crash at this moment leaves.
+        // What the conversation without a stop had told by its call of this number, a crash behind that call leaves.
         for note in whole.notes() {
-            if note.moment <= keeper.disk.moment() {
+            if note.moment <= calls {
                 let then = told(alloc, &note.bytes)?;
                 assert!(rt; is_found(&keeper.disk, &then)?, "{calls}");
             }
