@@ -88,8 +88,8 @@ fn payload(alloc: Global, bytes: &[u8]) -> Result<(Caller, Command, Reply), Payl
     step(alloc, client.len() + 1, caller, behind)
 }
 
-/// The entry of the step that the bytes tell, without a look at its reply, or the place of the first part that is none: of the caller or the
-/// command. Bytes that begin with no client's number and a space are refused before any memory is taken.
+/// The entry of the step that the bytes tell, or the place of the first part that is wrong: the caller or the command. The reply isn't looked at.
+/// Bytes that don't begin with a client's number and a space are refused before any memory is taken.
 pub fn read_entry(alloc: Global, bytes: &[u8]) -> Result<Entry, PayloadFault>
     ensures read { MatchResult result (λ e. entry_read accepted bytes.now ≡ Ok e) (IsBadAt (entry_read accepted bytes.now)) }
     ensures told { IfOk result (λ e. (t : Told) → payload_read accepted bytes.now ≡ Ok t → e ≡ entry_told t) }

@@ -13,9 +13,9 @@ use std::marker::Model;
 /// The most bytes that are read at once.
 const PIECE: usize = 4096;
 
-/// The lines of a source, each given out once it is there: the source is read only while no whole line is held. At most `limit` bytes and a
-/// piece of 4,096 are held. The limit is a line's, with its newline. Who wants one of a whole source adds up the lengths of the
-/// lines that it was given: none is longer than the limit, so what it holds stays as small as that.
+/// The lines of a source, each given out once it is there: the source is read only while no whole line is held. At most `limit` bytes and a piece
+/// of 4,096 are held. The limit is a line's, with its newline. To limit a whole source, add up the lengths of the lines that were given. None is
+/// longer than the limit, so what is held stays as small as that.
 #[derive(Drop)]
 pub struct LineReader {
     limit: usize,

@@ -15,8 +15,8 @@ pub record Place : Type 0 where
   pub listed : List (ℕ × ℕ)
   pub hidden : List Stood
 
--- the places by number, the hidden sessions (the one that was hidden last first), the number below which sessions may be added,
--- and for how many more nodes there is room
+-- the places by number; the hidden sessions, the one that was hidden last first; the number below which sessions may be added; and for how many
+-- more nodes there is room
 pub record Dependents : Type 0 where
   pub places : List Place
   pub hidden : List ℕ

@@ -41,8 +41,8 @@ concerned_by P T (Tick t) = is_timed P T
 concerned_by P T (Amend a) = everybody
 concerned_by P T c = nobody
 
--- The work after own actions, by the command and the head of its reply: who is permitted, who reads where they wrote, over whom the tick
--- decides where it moved, and everybody where the policy was replaced.
+-- The work after own actions, by the command and the head of its reply. It has who is permitted, who reads where they wrote, and over whom the
+-- tick decides if it moved. It has everybody if the policy was replaced.
 abbrev pub work_afterwards : PlainPolicy → Trace → Command → Head → Work
 work_afterwards P T c head =
     joined (permitted_by head) (joined (readers P T (permit_locations P T head)) (joined (readers P T (command_locations P T c)) (concerned_by P T c)))

@@ -1,5 +1,5 @@
--- How the logic stores plain policies, so that one may stand in what a value of `src/` stands for: an expression and a formula as the list of
--- their parts, operands first, which a stack gives back.
+-- How the logic stores plain policies, so that one may stand in what a value of `src/` stands for. An expression and a formula are stored as the
+-- list of their parts, operands first, which a stack gives back.
 use Rattle.std.specs.Prelude.{◌≡◌, ◌==◌, ℕ, ℤ, pos, Bool, true, false, List, [], ◌∷◌, ◌++◌, refl, if◌then◌else◌}
 use Rattle.std.proofs.Common.{◌⊎◌, inl, inr, ap, ◌∙◌}
 use Rattle.std.specs.Coded.{Coded, code_by, coded_list, coded_ℕ, coded_ℤ, coded×, coded⊎}

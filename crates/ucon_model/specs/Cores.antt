@@ -1,5 +1,5 @@
--- The core models that a right's predicates and updates make (Park and Sandhu, ACM TISSEC 7(1), 2004: preA, onA, preB, onB, preC and
--- onC, with index 0 for no update, 1 for updates before, 2 during and 3 after a usage).
+-- The core models that a right's predicates and updates make: preA, onA, preB, onB, preC and onC (Park and Sandhu, ACM TISSEC 7(1), 2004). Their
+-- index is 0 for no update, 1 for updates before, 2 during and 3 after a usage.
 use Rattle.std.specs.Prelude.{ℕ, Bool, true, false, ◌&&◌, ◌||◌, not, List, [], ◌∷◌, ◌++◌, map, codes, if◌then◌else◌}
 use Rattle.std.specs.List.{list_any, flat_map}
 use Rattle.std.specs.Fmt.{decimal}

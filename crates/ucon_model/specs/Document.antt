@@ -111,8 +111,8 @@ abbrev pub said_told : (Bytes → Option PlainPolicy) → ℕ → Option Caller 
 said_told reads n None said l = Err (bad_heading n)
 said_told reads n (Some client) said l = if nat_lt said 262144 then command_told n client (line_read reads l) else Err (too_many_lines n)
 
--- what a script's line of this number says, below a heading of this client, if any, and so many command lines: a command line, if it
--- is one, or why the document is refused at it
+-- What a script's line of this number says, below a heading of this client, if any, and so many command lines. It says a command line or nothing,
+-- or it is why the document is refused.
 abbrev pub line_told : (Bytes → Option PlainPolicy) → ℕ → Option Caller → ℕ → Bytes → Result (Option ScriptLine) DocumentRefusal
 line_told reads n client said l =
     if is_skipped l then Ok None else

@@ -43,8 +43,8 @@ changes r = false
 abbrev pub grown : PlainPolicy → History → Entry → History
 grown P H e = if changes (said P H e.caller e.command) then H ++ e ∷ [] else H
 
--- One run over these lines, from a history on: each reply with its place, which is its record's number where it changes something, and
--- the number of records so far where it doesn't.
+-- One run over these lines, from a history on: each reply with its place. That is its record's number if it changes something, and the number of
+-- records so far if it doesn't.
 abbrev pub serial : PlainPolicy → History → List Entry → List (ℕ × PlainReply)
 serial P H [] = []
 serial P H (e ∷ lines) = (length (grown P H e), said P H e.caller e.command) ∷ serial P (grown P H e) lines

@@ -101,9 +101,9 @@ pub record HaveCauses (P : PlainPolicy) (H : History) (told : List Answered) : T
   pub would_change : Each (λ t. IsTrue (is_disk_fault t.answer) → IsTrue (changes (said P H t.line.caller t.line.command))) told
   pub by_fault : IsTrue (list_any (λ t. is_stopped t.answer) told) → IsTrue (list_any (λ t. is_disk_fault t.answer) told)
 
--- The answers are a legal run after an opening history, where `sees` tells whose earlier answers a caller saw: the places of the changing
--- replies are those behind the opening history, each once; each reply is the serial run's at its place in the history that is made;
--- nobody is told less than before; and each fault has its cause.
+-- The answers are a legal run after an opening history. Here `sees` tells whose earlier answers a caller saw. The places of the changing replies
+-- are those behind the opening history, each once. Each reply is the serial run's at its place in the history that is made. Nobody is told less
+-- than before, and each fault has its cause.
 pub record IsLegalRun (P : PlainPolicy) (sees : Caller → Caller → Bool) (opening : History) (told : List Answered) : Type 0 where
   pub places : AreNumberedFrom (length opening) (by_place (recorded told))
   pub replies : Each (λ t. IsSaid P (length opening) (history_made opening told) t.line t.answer) told

@@ -1,5 +1,5 @@
--- Whether one policy may follow another while uses go on: an attribute of one side and name, and a variable of one name, that both
--- declare is of the same kind in both. Attributes and variables may be dropped and brought, defaults may change, and so may rights.
+-- Whether one policy may follow another while uses go on. Whatever both declare, an attribute of one side and name or a variable of one name, has
+-- to be of the same kind in both. Attributes and variables may be dropped and brought, defaults may change, and so may rights.
 use Rattle.std.specs.Prelude.{◌≡◌, Bool, true, false, ◌&&◌, not, List, find, Option, Some, None, option_map}
 use Rattle.std.specs.Option.{option_or}
 use Rattle.std.specs.Ordering.{int_eq}

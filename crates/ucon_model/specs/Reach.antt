@@ -64,8 +64,8 @@ timed_of Q row = option_map_or right_timed (right_named Q.rights row.right) []
 abbrev pub HoldTheSame : Readings → SessionRow → Readings → SessionRow → List Ref → Type 0
 HoldTheSame R row S other places = Each (λ place. R.at row place ≡ S.at other place) places
 
--- Two sessions, or one at two times, that read alike during their usages under a policy: their right is one, and each place and each timed
--- part of it says the same for both.
+-- Two sessions, or one at two times, read alike during their usages under a policy. Their right is one, and each place and each timed part of it
+-- says the same for both.
 pub record ReadAlike (Q : PlainPolicy) (R : Readings) (row : SessionRow) (S : Readings) (other : SessionRow) : Type 0 where
   pub right : row.right ≡ other.right
   pub places : HoldTheSame R row S other (places_of Q row)

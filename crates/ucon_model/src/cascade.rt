@@ -27,8 +27,8 @@ ghost use Rattle.ucon_model.specs.Truth.{Readings, readings};
 ghost use Rattle.ucon_model.specs.Updates.{session_writes};
 ghost use Rattle.ucon_model.specs.Work.{Covers, IsBounded, IsEmpty, IsLeastOf, IsWithin, NobodyFails, Work, WorksOff, concerned, joined, own_work, without, work_after};
 
-/// A decision during the usage reads the places of its right and its timed parts, and nothing else: under one policy, sessions that read
-/// alike fail alike, and so does one session at two times. Where the right has no timed part, the places are enough.
+/// A decision during the usage reads the places of its right and its timed parts, and nothing else. Under one policy, sessions that read alike
+/// fail alike, and so does one session at two times. If the right has no timed part, the places are enough.
 pub fn decisions_read_their_places()
     ensures rows { (Q : PlainPolicy) (R : Readings) (row : SessionRow) (S : Readings) (other : SessionRow) → ReadAlike Q R row S other
         → failing_of Q R row ≡ failing_of Q S other }
@@ -49,8 +49,8 @@ pub fn updates_write_their_targets()
         → session (extended T (session_writes P m when T)) n ≡ session T n }
 {}
 
-/// An action leaves the rest: the policy in force where it doesn't replace it, the value that is kept where it alters nothing, a timed part
-/// that it doesn't move, and a session that it doesn't name.
+/// An action leaves the rest. The policy in force stays if the action doesn't replace it, and a kept value if the action alters nothing there. A
+/// timed part stays if the action doesn't move it, and a session if it doesn't name it.
 pub fn actions_leave_the_rest()
     ensures policy { (P : PlainPolicy) (T : Trace) (a : Action) → replaces a ≡ false → in_force P (a ∷ T) ≡ in_force P T }
     ensures values { (P : PlainPolicy) (T : Trace) (a : Action) (location : Location) → alters a location ≡ false
@@ -182,8 +182,8 @@ pub fn firsts_have_the_least()
         → IsEmpty work → least_failing P T ≡ None }
 {}
 
-/// The loop over the firsts: it begins with work that covers, a first that holds is left out, one that fails is revoked, and where there
-/// is no work left, what was made is the settling.
+/// The loop over the firsts comes to the settling. It begins with work that covers. A first that holds is left out, and one that fails is revoked.
+/// If there is no work left, what was made is the settling.
 pub fn working_off_firsts_is_settling()
     ensures begins { (P : PlainPolicy) (T : Trace) (first : ℕ → ℕ) (work : Work) → IsNumbered T → IsLed P T first
         → FirstsCover P T first work → IsUnderway P T [] T first work }

@@ -119,8 +119,8 @@ pub fn places_hold_their_sorts()
     ensures { (P : PlainPolicy) (T : Trace) → ValuesFit P T → (row : SessionRow) → PlacesFit (in_force P T) (place_of P T row) }
 {}
 
-/// Under a well typed policy, after every history of commands, each predicate and each update of a session's right has a meaning: each
-/// place that it reads is there, and each of its sums, products, sizes and comparisons is one of the language's.
+/// Under a well typed policy, after every history of commands, each predicate and each update of a session's right has a meaning. Each place that
+/// it reads is there, and each of its sums, products, sizes and comparisons is one of the language's.
 pub fn predicates_and_updates_mean_something()
     ensures predicates { (P : PlainPolicy) → IsTyped P → (H : History) → AreCommands H → (n : ℕ) (row : SessionRow) (r : PlainRight)
         → session (trace P H) n ≡ Some row → right_named (in_force P (trace P H)).rights row.right ≡ Some r

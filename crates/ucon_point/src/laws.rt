@@ -61,8 +61,8 @@ pub fn rows_make_what_they_say()
     what_is_put_is_followed();
 }
 
-/// Where names, values and numbers have their texts, what is there in order can be put, row after row: its rows are those of a checkpoint,
-/// whose text is so read back.
+/// What is there in order can be put, row after row, if names, values and numbers have their texts. Its rows are those of a checkpoint, whose text
+/// is so read back.
 pub fn what_is_in_order_can_be_put()
     ensures { (entries : ℕ) (text : Bytes) (h : Held) → entries < 2 ^ 64 → accepted text ≡ Some h.policy → IsSpelled (Int h.tick)
         → is_whole h.tick ≡ true → Each IsRow (rows_held h) → IsOrderly h → IsPoint (point_held entries text h) }

@@ -16,8 +16,8 @@ use ucon_model::{AttrDecl, View};
 use ucon_row::{put_act, put_entity, put_session, put_value};
 use ucon_state::{State, states_hold_what_they_follow};
 
-/// The text of the checkpoint after so many entries, this being the text of the policy in force: after each trace that the state follows,
-/// and so after each history of so many entries that it stands for.
+/// The text of the checkpoint after so many entries, if `policy` is the text of the policy in force. It is that after each trace that the state
+/// follows, and so after each history of so many entries that it stands for.
 pub fn point_text(
     alloc: Global,
     entries: u64,

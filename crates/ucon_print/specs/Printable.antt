@@ -147,8 +147,8 @@ pub record IsRight (r : PlainRight) : Type 0 where
   pub preds : Each IsPredicate r.preds
   pub updates : Each IsUpdate r.updates
 
--- A policy within the limits as it is printed, in at most 65,536 bytes. The mirror of a policy says of no list of bytes that it
--- is a name or a text and of no integer that it is in range, so that is said here.
+-- A policy within the limits as it is printed, in at most 65,536 bytes. The mirror of a policy doesn't say that bytes are a name or a text, or
+-- that an integer is in range. So that is said here.
 pub record IsPrintable (p : PlainPolicy) : Type 0 where
   pub within : IsWithin p
   pub attrs : Each IsAttr p.attrs

@@ -194,8 +194,8 @@ fn opened_uses<R: Threads + Wait + Sync>(
     Ok((opened, lost))
 }
 
-/// What a crash leaves of the step that revokes 1,000 uses, on a disk that stops after so many calls: all of it or nothing, and all of it once
-/// it was answered, which it is or isn't as told.
+/// What a crash leaves of the step that revokes 1,000 uses, on a disk that stops after so many calls. It is all of it or nothing, and all of it if
+/// it was answered. The output tells whether it was.
 fn hold_cascade<R: Abort + Threads + Wait + Sync>(
     rt: &R,
     alloc: Global,

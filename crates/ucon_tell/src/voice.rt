@@ -9,8 +9,8 @@ ghost use Rattle.ucon_tell.specs.Told.{Notes};
 use crate::Keeper;
 use ucon_flow::Failed;
 
-/// A sink whose reader stands outside, beside a keeper's disk. Each write is made at a moment of that disk, and the keeper is shown for that: so the
-/// sink's bytes and the disk's images have one clock, and a clause can say what a crash may leave once somebody was told something.
+/// A sink whose reader stands outside, beside a keeper's disk. Each write is made at a moment of that disk, and the keeper is shown for that. So
+/// the sink's bytes and the disk's images have one clock. A clause can say what a crash may leave once somebody was told something.
 pub trait Voice<K: Keeper> {
     /// What it holds, how often it has failed, and what it told by which moment of the disk.
     ghost seen: { Self → VoiceSeen };

@@ -1,4 +1,4 @@
-//! Uses that time ends: documents, each with what `trial` prints of it, as one works it out by hand: every limit at the tick before it, at
+//! Uses that time ends: documents, each with what `trial` prints of it, as one works it out by hand. Every limit is met at the tick before it, at
 //! it and after it.
 
 use crate::Row;
