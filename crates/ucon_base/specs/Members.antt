@@ -1,5 +1,6 @@
 -- What the reader of a set keeps of its members.
-use Rattle.std.specs.Prelude.{◌≡◌, ◌≤◌, ℕ, ◌+◌, List, [], ◌∷◌, length, take, map, Option, Some, None, Result, Ok, Err, IsTrue, nat_lt, ◌==◌, if◌then◌else◌}
+use Rattle.std.specs.Prelude.{◌≡◌, ◌≤◌, ℕ, ◌+◌, List, [], ◌∷◌, length, take, map, Option, Some, None, Result, Ok, Err, IsTrue, nat_lt, ◌==◌}
+use Rattle.std.specs.Prelude.{if◌then◌else◌}
 use Rattle.ucon_base.specs.declared.members.Found.{Found}
 use Rattle.ucon_base.specs.declared.value_fault.ValueFault.{ValueFault}
 use Rattle.ucon_base.specs.Elements.{Each}

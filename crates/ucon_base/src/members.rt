@@ -1,6 +1,7 @@
 //! Sets, read from their one spelling.
 
-ghost use Rattle.std.specs.Prelude.{◌≡◌, ◌+◌, ◌≤◌, ◌<◌, ◌++◌, ◌∷◌, List, ℕ, [], map, length, None, option_copied, IfOk, IfSome, MatchResult, Option, Ok, Err, Some, false};
+ghost use Rattle.std.specs.Prelude.{◌≡◌, ◌+◌, ◌≤◌, ◌<◌, ◌++◌, ◌∷◌, List, ℕ, [], map, length, None, option_copied, IfOk, IfSome, MatchResult, Option};
+ghost use Rattle.std.specs.Prelude.{Ok, Err, Some, false};
 ghost use Rattle.ucon_base.specs.declared.value.Value.TheVariants.{Set};
 ghost use Rattle.ucon_base.specs.Reading.{Member, rises, can_rise, opened, behind, awaiting, members, IsCause, set_read, spells_set};
 ghost use Rattle.ucon_base.specs.Members.{Holds, IsFound, texts_seen, long_at, after_quote, awaited, member_read, with_member, EachIsText};

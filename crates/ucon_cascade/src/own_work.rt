@@ -7,7 +7,8 @@ ghost use Rattle.ucon_model.specs.Views.{update_of};
 ghost use Rattle.ucon_model.specs.declared.session.SessionRow.{SessionRow};
 ghost use Rattle.ucon_state.specs.Shown.{shown};
 ghost use Rattle.ucon_state.specs.Tables.{session_in};
-ghost use Rattle.ucon_cascade.specs.Putting.{AllBelow, GainsFirsts, GoesOn, IsCommandWork, IsOwnWork, IsPermitWork, StandsAt, StandsAtOne, targets_in};
+ghost use Rattle.ucon_cascade.specs.Putting.{AllBelow, GainsFirsts, GoesOn, IsCommandWork, IsOwnWork, IsPermitWork, StandsAt, StandsAtOne};
+ghost use Rattle.ucon_cascade.specs.Putting.{targets_in};
 ghost use Rattle.ucon_readers.specs.Readers.{first_of, readers_at};
 
 use crate::places::{attribute_place, place_of_session, variable_place};

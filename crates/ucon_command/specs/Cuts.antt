@@ -1,5 +1,6 @@
 -- Where the words of a line stand, and the command that they give.
-use Rattle.std.specs.Prelude.{◌≡◌, ℕ, ◌≤◌, ◌<◌, Bool, ◌&&◌, nat_lt, nat_le, IsTrue, IsOk, ◌∷◌, drop, length, Option, Some, option_map, IfSome, MatchResult, Result}
+use Rattle.std.specs.Prelude.{◌≡◌, ℕ, ◌≤◌, ◌<◌, Bool, ◌&&◌, nat_lt, nat_le, IsTrue, IsOk, ◌∷◌, drop, length, Option, Some, option_map, IfSome}
+use Rattle.std.specs.Prelude.{MatchResult, Result}
 use Rattle.std.specs.Coded.{Coded-set, coded_option}
 use Rattle.std.specs.Result.{result_ok}
 use Rattle.ucon_base.specs.NameBytes.{is_name}
@@ -9,7 +10,8 @@ use Rattle.ucon_command.specs.Faults.{IsSure}
 use Rattle.ucon_command.specs.declared.cuts.Cuts.TheVariants as cuts
 use Rattle.ucon_model.specs.contracts.command.Command as the_command
 use Rattle.ucon_model.specs.declared.command.Command.{Command}
-use Rattle.ucon_model.specs.declared.command.Command.TheVariants.{Subject, Object, Set, Env, Tick, Act, Try, Again, Beat, End, Look, Value as Value', Amend}
+use Rattle.ucon_model.specs.declared.command.Command.TheVariants.{Subject, Object, Set, Env, Tick, Act, Try, Again, Beat, End, Look, Value as Value'}
+use Rattle.ucon_model.specs.declared.command.Command.TheVariants.{Amend}
 use Rattle.ucon_model.specs.CommandLine.{LineRefusal, words_of, value_in, integer_in, amendment_in}
 use Rattle.ucon_model.specs.Plain.{Bytes}
 use Rattle.ucon_reply.specs.Words.{between, word_to, words_from}

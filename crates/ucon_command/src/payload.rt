@@ -1,6 +1,7 @@
 //! Payloads of a journal's records: a step as text, both ways.
 
-ghost use Rattle.std.specs.Prelude.{◌≡◌, ◌<◌, ◌≤◌, ◌+◌, ◌-◌, ◌^◌, ◌==◌, ◌++◌, ◌↔◌, ℕ, IsTrue, length, ok_or, position, IfOk, OnOk, IfSome, MatchOption, MatchResult, Ok, Err, None, Some};
+ghost use Rattle.std.specs.Prelude.{◌≡◌, ◌<◌, ◌≤◌, ◌+◌, ◌-◌, ◌^◌, ◌==◌, ◌++◌, ◌↔◌, ℕ, IsTrue, length, ok_or, position, IfOk, OnOk, IfSome};
+ghost use Rattle.std.specs.Prelude.{MatchOption, MatchResult, Ok, Err, None, Some};
 ghost use Rattle.std.specs.Fmt.{decimal};
 ghost use Rattle.std.specs.Result.{result_ok};
 ghost use Rattle.ucon_model.specs.CommandLine.{IsCommand, line_read};

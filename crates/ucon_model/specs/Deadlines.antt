@@ -1,6 +1,7 @@
 -- When time alone changes what a decision during the usage reads: the last tick at which a timed part holds, and the ticks after which one
 -- may stop to hold.
-use Rattle.std.specs.Prelude.{ℕ, ℤ, ◌+ℤ◌, int_le, int_lt, Bool, false, ◌&&◌, map, List, [], ◌∷◌, Option, Some, None, option_map, unwrap_or, if◌then◌else◌}
+use Rattle.std.specs.Prelude.{ℕ, ℤ, ◌+ℤ◌, int_le, int_lt, Bool, false, ◌&&◌, map, List, [], ◌∷◌, Option, Some, None, option_map, unwrap_or}
+use Rattle.std.specs.Prelude.{if◌then◌else◌}
 use Rattle.std.specs.Int.{int_max}
 use Rattle.std.specs.Option.{option_map_or}
 use Rattle.std.specs.List.{list_any}

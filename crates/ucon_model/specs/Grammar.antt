@@ -21,9 +21,13 @@ use Rattle.ucon_model.specs.declared.policy.Phase.{Phase}
 use Rattle.ucon_model.specs.declared.policy.Phase.TheVariants as phases
 use Rattle.ucon_model.specs.declared.policy.When.{When}
 use Rattle.ucon_model.specs.declared.policy.When.TheVariants as whens
-use Rattle.ucon_model.specs.Plain.{Bytes, PlainExpr, lit, read, plus, minus, times, size, PlainFormula, both, either, negation, compare, lasts, PlainTest, authorisation, duty, condition, PlainPredicate, PlainUpdate, PlainRight, PlainPolicy}
-use Rattle.ucon_base.specs.Tokens.{Symbol, colon, semicolon, comma, dot, dots, equal_sign, unequal_sign, less_sign, at_most_sign, greater_sign, at_least_sign, plus_sign, minus_sign, star, open_round, close_round, open_square, close_square, open_curly, close_curly}
-use Rattle.ucon_model.specs.Forms.{Terminal, word, number, text, symbol, item, Marked, clear, beyond, opening, Form, nothing, no_form, one_of, before, and_then, mapped, either_of, chain, listed, at_any_depth}
+use Rattle.ucon_model.specs.Plain.{Bytes, PlainExpr, lit, read, plus, minus, times, size, PlainFormula, both, either, negation, compare, lasts}
+use Rattle.ucon_model.specs.Plain.{PlainTest, authorisation, duty, condition, PlainPredicate, PlainUpdate, PlainRight, PlainPolicy}
+use Rattle.ucon_base.specs.Tokens.{Symbol, colon, semicolon, comma, dot, dots, equal_sign, unequal_sign, less_sign, at_most_sign, greater_sign}
+use Rattle.ucon_base.specs.Tokens.{at_least_sign, plus_sign, minus_sign, star, open_round, close_round, open_square, close_square, open_curly}
+use Rattle.ucon_base.specs.Tokens.{close_curly}
+use Rattle.ucon_model.specs.Forms.{Terminal, word, number, text, symbol, item, Marked, clear, beyond, opening, Form, nothing, no_form, one_of, before}
+use Rattle.ucon_model.specs.Forms.{and_then, mapped, either_of, chain, listed, at_any_depth}
 
 abbrev pub keyword : Bytes → Marked
 keyword w = clear (word w)

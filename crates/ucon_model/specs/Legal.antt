@@ -7,7 +7,8 @@ use Rattle.ucon_model.specs.declared.session.SessionState.TheVariants.{Requestin
 use Rattle.ucon_model.specs.declared.session.Verdict.TheVariants.{Wait, Deny}
 use Rattle.ucon_model.specs.Plain.{Bytes, PlainPolicy}
 use Rattle.ucon_model.specs.Action.{Action, Trace, subject, object, write, env, tick, act, tries, wait, permit, deny, ends, revoke, amend, extended}
-use Rattle.ucon_model.specs.Readings.{in_force, tick_of, has_entity, entities, declared_attr, declared_env, moment, session, sessions, accessing, acts}
+use Rattle.ucon_model.specs.Readings.{in_force, tick_of, has_entity, entities, declared_attr, declared_env, moment, session, sessions, accessing}
+use Rattle.ucon_model.specs.Readings.{acts}
 use Rattle.ucon_model.specs.Truth.{readings}
 use Rattle.ucon_model.specs.Decision.{right_named, verdict, failing}
 use Rattle.ucon_model.specs.MayFollow.{MayFollow}

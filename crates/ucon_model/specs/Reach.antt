@@ -14,7 +14,8 @@ use Rattle.ucon_model.specs.declared.formula.Ref.{Ref}
 use Rattle.ucon_model.specs.declared.formula.Ref.TheVariants.{Subject, Object, Env}
 use Rattle.ucon_model.specs.declared.policy.When.{When}
 use Rattle.ucon_model.specs.declared.session.SessionRow.{SessionRow}
-use Rattle.ucon_model.specs.Plain.{Bytes, PlainFormula, both, either, negation, compare, lasts, PlainTest, authorisation, duty, condition, PlainUpdate, PlainRight, PlainPolicy}
+use Rattle.ucon_model.specs.Plain.{Bytes, PlainFormula, both, either, negation, compare, lasts, PlainTest, authorisation, duty, condition}
+use Rattle.ucon_model.specs.Plain.{PlainUpdate, PlainRight, PlainPolicy}
 use Rattle.ucon_model.specs.Action.{Action, Trace, subject, object, write, env, tick, act, tries, permit, deny, ends, revoke, amend}
 use Rattle.ucon_model.specs.Readings.{in_force, same_side, attribute, variable, session}
 use Rattle.ucon_model.specs.Truth.{Readings, is_done}

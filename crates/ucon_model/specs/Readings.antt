@@ -1,5 +1,6 @@
 -- What can be read off a trace, by looking back through it. No current state is kept.
-use Rattle.std.specs.Prelude.{ℕ, suc, zero, ℤ, pos, ◌+◌, Bool, true, false, ◌&&◌, ◌||◌, nat_eq, ◌++◌, List, [], ◌∷◌, filter, find, position, Option, Some, None, option_map, is_none, is_some, if◌then◌else◌}
+use Rattle.std.specs.Prelude.{ℕ, suc, zero, ℤ, pos, ◌+◌, Bool, true, false, ◌&&◌, ◌||◌, nat_eq, ◌++◌, List, [], ◌∷◌, filter, find, position, Option}
+use Rattle.std.specs.Prelude.{Some, None, option_map, is_none, is_some, if◌then◌else◌}
 use Rattle.std.specs.Str.{bytes_eq}
 use Rattle.ucon_base.specs.declared.value.Side.{Side}
 use Rattle.ucon_base.specs.declared.value.Side.TheVariants.{Subject, Object}

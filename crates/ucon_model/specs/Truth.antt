@@ -12,7 +12,8 @@ use Rattle.ucon_model.specs.declared.formula.Form.{Form}
 use Rattle.ucon_model.specs.declared.formula.Form.TheVariants.{Done, Within, Every}
 use Rattle.ucon_model.specs.declared.formula.Obligation.{Obligation}
 use Rattle.ucon_model.specs.declared.session.SessionRow.{SessionRow}
-use Rattle.ucon_model.specs.Plain.{Bytes, PlainExpr, lit, read, plus, minus, times, size, PlainFormula, both, either, negation, compare, lasts, PlainTest, authorisation, duty, condition, PlainPolicy}
+use Rattle.ucon_model.specs.Plain.{Bytes, PlainExpr, lit, read, plus, minus, times, size, PlainFormula, both, either, negation, compare, lasts}
+use Rattle.ucon_model.specs.Plain.{PlainTest, authorisation, duty, condition, PlainPolicy}
 use Rattle.ucon_base.specs.Arithmetic.{sum_of, difference_of, product_of, size_of}
 use Rattle.ucon_model.specs.Comparison.{compares}
 use Rattle.ucon_model.specs.Action.{Trace}

@@ -17,7 +17,8 @@ ghost use Rattle.ucon_model.specs.Groups.{AreLike, FirstsCover, IsExact, IsLed, 
 ghost use Rattle.ucon_model.specs.History.{History, trace};
 ghost use Rattle.ucon_model.specs.OwnActions.{make, own};
 ghost use Rattle.ucon_model.specs.Plain.{Bytes, PlainPolicy, made};
-ghost use Rattle.ucon_model.specs.Reach.{HoldTheSame, Location, ReadAlike, Timed, kept_at, places_of, reads_at, readers, same_location, session_targets, timed_of, timed_truth};
+ghost use Rattle.ucon_model.specs.Reach.{HoldTheSame, Location, ReadAlike, Timed, kept_at, places_of, reads_at, readers, same_location};
+ghost use Rattle.ucon_model.specs.Reach.{session_targets, timed_of, timed_truth};
 ghost use Rattle.ucon_model.specs.Reach.{alters, moves, names, permits, reached, reaches, replaces};
 ghost use Rattle.ucon_model.specs.Readings.{accessing, in_force, is_accessing, session, tick_of};
 ghost use Rattle.ucon_model.specs.Settle.{fails_at, least_failing, revocation, revoked_in, settle};
@@ -25,7 +26,8 @@ ghost use Rattle.ucon_model.specs.Sound.{IsGrounded, IsNumbered, IsTimely};
 ghost use Rattle.ucon_model.specs.Touches.{IsPaid, IsThrifty, sum_to, touches_by};
 ghost use Rattle.ucon_model.specs.Truth.{Readings, readings};
 ghost use Rattle.ucon_model.specs.Updates.{session_writes};
-ghost use Rattle.ucon_model.specs.Work.{Covers, IsBounded, IsEmpty, IsLeastOf, IsWithin, NobodyFails, Work, WorksOff, concerned, joined, own_work, without, work_after};
+ghost use Rattle.ucon_model.specs.Work.{Covers, IsBounded, IsEmpty, IsLeastOf, IsWithin, NobodyFails, Work, WorksOff, concerned, joined, own_work};
+ghost use Rattle.ucon_model.specs.Work.{without, work_after};
 
 /// A decision during the usage reads the places of its right and its timed parts, and nothing else. Under one policy, sessions that read alike
 /// fail alike, and so does one session at two times. If the right has no timed part, the places are enough.

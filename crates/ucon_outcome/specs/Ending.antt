@@ -2,7 +2,8 @@
 use Rattle.std.specs.Prelude.{◌≡◌, ◌≢◌, ℕ, Bool, true, false, IsTrue, IsFalse}
 use Rattle.ucon_flow.specs.Causes.{raised}
 use Rattle.ucon_outcome.specs.declared.outcome.Outcome.{Outcome}
-use Rattle.ucon_outcome.specs.declared.outcome.Outcome.TheVariants.{Done, Usage, Policy, Script, SourceFault, SinkFault, DiskFault, Damaged, NotJournal, NoMemory, OtherPolicy, TooLong, FullPoint, OldJournal}
+use Rattle.ucon_outcome.specs.declared.outcome.Outcome.TheVariants.{Done, Usage, Policy, Script, SourceFault, SinkFault, DiskFault, Damaged}
+use Rattle.ucon_outcome.specs.declared.outcome.Outcome.TheVariants.{NotJournal, NoMemory, OtherPolicy, TooLong, FullPoint, OldJournal}
 use Rattle.ucon_flow.specs.declared.source.ReadFault.{ReadFault}
 use Rattle.ucon_flow.specs.declared.source.ReadFault.TheVariants as reads
 use Rattle.ucon_syntax.specs.declared.read.SyntaxFault.{SyntaxFault}

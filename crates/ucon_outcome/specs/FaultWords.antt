@@ -13,7 +13,8 @@ use Rattle.ucon_script.specs.declared.doc_fault.DocFault.TheVariants as scripts
 use Rattle.ucon_outcome.specs.declared.outcome.PolicyFault.{PolicyFault}
 use Rattle.ucon_outcome.specs.declared.outcome.PolicyFault.TheVariants.{Syntax, Typing}
 use Rattle.ucon_outcome.specs.declared.outcome.Outcome.{Outcome}
-use Rattle.ucon_outcome.specs.declared.outcome.Outcome.TheVariants.{Done, Usage, Policy, Script, SourceFault, SinkFault, DiskFault, Damaged, NotJournal, NoMemory, OtherPolicy, TooLong, FullPoint, OldJournal}
+use Rattle.ucon_outcome.specs.declared.outcome.Outcome.TheVariants.{Done, Usage, Policy, Script, SourceFault, SinkFault, DiskFault, Damaged}
+use Rattle.ucon_outcome.specs.declared.outcome.Outcome.TheVariants.{NotJournal, NoMemory, OtherPolicy, TooLong, FullPoint, OldJournal}
 
 -- words, and the place, item or line where, or how many
 abbrev pub told_at : Bytes → ℕ → Bytes

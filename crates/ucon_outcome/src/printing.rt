@@ -2,7 +2,8 @@
 
 ghost use Rattle.std.specs.Prelude.{◌≡◌, ◌++◌, codes};
 ghost use Rattle.std.specs.Fmt.{decimal};
-ghost use Rattle.ucon_outcome.specs.FaultWords.{told_at, syntax_words, typing_words, policy_words, line_words, script_words, cause_words, fault_line, fault_words, point_line};
+ghost use Rattle.ucon_outcome.specs.FaultWords.{told_at, syntax_words, typing_words, policy_words, line_words, script_words, cause_words, fault_line};
+ghost use Rattle.ucon_outcome.specs.FaultWords.{fault_words, point_line};
 ghost use Rattle.ucon_outcome.specs.Out.{GoesOut};
 
 use crate::outcome::{Outcome, PolicyFault};

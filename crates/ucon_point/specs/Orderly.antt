@@ -1,5 +1,6 @@
 -- When the rows of what is there can be put, one after the other.
-use Rattle.std.specs.Prelude.{◌≡◌, ℕ, zero, suc, ◌<◌, ◌≤◌, ◌≤ℤ◌, ℤ, pos, Bool, ◌&&◌, List, [], ◌∷◌, ◌++◌, length, take, find, position, Option, Some, None, IsSome, IsSomeAnd, IsTrue, slice_get, unwrap_or}
+use Rattle.std.specs.Prelude.{◌≡◌, ℕ, zero, suc, ◌<◌, ◌≤◌, ◌≤ℤ◌, ℤ, pos, Bool, ◌&&◌, List, [], ◌∷◌, ◌++◌, length, take, find, position, Option, Some}
+use Rattle.std.specs.Prelude.{None, IsSome, IsSomeAnd, IsTrue, slice_get, unwrap_or}
 use Rattle.std.specs.Str.{bytes_eq}
 use Rattle.ucon_base.specs.declared.value.Side.{Side}
 use Rattle.ucon_base.specs.declared.value.Side.TheVariants as sides

@@ -1,5 +1,6 @@
 -- Which bytes are the text of a checkpoint, and what they say. The policy in force is read as the texts of policies are.
-use Rattle.std.specs.Prelude.{◌≡◌, ℕ, ◌+◌, ◌-◌, ◌<◌, ◌^◌, ◌==◌, nat_le, nat_lt, ℤ, pos, negsuc, Bool, true, false, ◌&&◌, is_none, List, [], ◌∷◌, ◌++◌, length, take, drop, Option, Some, None, option_and_then, Result, Ok, Err, ok_or, codes, if◌then◌else◌}
+use Rattle.std.specs.Prelude.{◌≡◌, ℕ, ◌+◌, ◌-◌, ◌<◌, ◌^◌, ◌==◌, nat_le, nat_lt, ℤ, pos, negsuc, Bool, true, false, ◌&&◌, is_none, List, [], ◌∷◌, ◌++◌}
+use Rattle.std.specs.Prelude.{length, take, drop, Option, Some, None, option_and_then, Result, Ok, Err, ok_or, codes, if◌then◌else◌}
 use Rattle.std.specs.List.{flat_map}
 use Rattle.std.specs.Str.{bytes_eq}
 use Rattle.ucon_base.specs.declared.value.Value.TheVariants.{Int}

@@ -1,5 +1,6 @@
 -- What the rows of a checkpoint make, one after the other: which row may come, and what the tables are with it.
-use Rattle.std.specs.Prelude.{◌≡◌, ℕ, zero, ◌-◌, ◌<◌, ℤ, pos, int_le, nat_lt, Bool, true, false, ◌&&◌, is_some, is_none, List, [], ◌∷◌, length, Option, Some, None, IsSomeAnd, option_and_then, if◌then◌else◌}
+use Rattle.std.specs.Prelude.{◌≡◌, ℕ, zero, ◌-◌, ◌<◌, ℤ, pos, int_le, nat_lt, Bool, true, false, ◌&&◌, is_some, is_none, List, [], ◌∷◌, length}
+use Rattle.std.specs.Prelude.{Option, Some, None, IsSomeAnd, option_and_then, if◌then◌else◌}
 use Rattle.std.specs.Option.{option_map_or}
 use Rattle.ucon_base.specs.declared.value.Side.{Side}
 use Rattle.ucon_base.specs.declared.value.Side.TheVariants as sides

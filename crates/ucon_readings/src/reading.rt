@@ -4,7 +4,8 @@ ghost use Rattle.std.specs.Prelude.{◌≡◌, ◌<◌, IfSome, is_none, is_some
 ghost use Rattle.ucon_base.specs.Admits.{admits};
 ghost use Rattle.ucon_model.specs.Decision.{right_named};
 ghost use Rattle.ucon_model.specs.OwnActions.{names_act};
-ghost use Rattle.ucon_model.specs.Readings.{in_force, has_entity, entities, tick_of, acts, sessions, accessing, session, moment, attribute, declared_attr, declared_env};
+ghost use Rattle.ucon_model.specs.Readings.{in_force, has_entity, entities, tick_of, acts, sessions, accessing, session, moment, attribute};
+ghost use Rattle.ucon_model.specs.Readings.{declared_attr, declared_env};
 ghost use Rattle.ucon_state.specs.Following.{AfterEach};
 ghost use Rattle.ucon_state.specs.Tables.{entity_number, entities_of, session_in, moment_in, accessing_among};
 ghost use Rattle.ucon_state.specs.Shown.{right_name, right_names, shown};

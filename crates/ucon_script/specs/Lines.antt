@@ -2,7 +2,8 @@
 use Rattle.std.specs.Prelude.{◌≡◌, ℕ, ◌+◌, ◌||◌, List, [], ◌∷◌, Option, Some, None, option_map, Result, Ok, if◌then◌else◌}
 use Rattle.ucon_model.specs.declared.command.Caller.{Caller}
 use Rattle.ucon_model.specs.Plain.{Bytes}
-use Rattle.ucon_model.specs.Document.{ScriptLine, DocumentRefusal, is_skipped, is_heading, heading_number, caller_of, line_told, before_next, lines_of, script_lines, script_number, script_told}
+use Rattle.ucon_model.specs.Document.{ScriptLine, DocumentRefusal, is_skipped, is_heading, heading_number, caller_of, line_told, before_next}
+use Rattle.ucon_model.specs.Document.{lines_of, script_lines, script_number, script_told}
 use Rattle.ucon_syntax.specs.Policies.{accepted}
 use Rattle.ucon_script.specs.declared.part.Divider.{Divider}
 

@@ -1,5 +1,6 @@
 -- What each action makes of the tables.
-use Rattle.std.specs.Prelude.{Bool, true, false, ℕ, ℤ, pos, ◌+◌, ◌-◌, List, [], ◌∷◌, ◌++◌, length, map, slice_get, slice_set, option_and_then, unwrap_or}
+use Rattle.std.specs.Prelude.{Bool, true, false, ℕ, ℤ, pos, ◌+◌, ◌-◌, List, [], ◌∷◌, ◌++◌, length, map, slice_get, slice_set, option_and_then}
+use Rattle.std.specs.Prelude.{unwrap_or}
 use Rattle.std.specs.Option.{option_map_or}
 use Rattle.indexmap.specs.IndexMap.{insert_entry}
 use Rattle.ucon_base.specs.declared.value.Side.{Side}

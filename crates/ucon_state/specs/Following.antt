@@ -7,7 +7,8 @@ use Rattle.ucon_base.specs.declared.value.Side.TheVariants.{Subject, Object}
 use Rattle.ucon_base.specs.declared.value.Value.{Value}
 use Rattle.ucon_model.specs.Plain.{Bytes, PlainPolicy}
 use Rattle.ucon_model.specs.Action.{Action, Trace}
-use Rattle.ucon_model.specs.Readings.{in_force, tick_of, has_entity, entities, entity_names, declared_attr, attribute, env_position, variable, moment, act_rows, acts, session, sessions, accessing}
+use Rattle.ucon_model.specs.Readings.{in_force, tick_of, has_entity, entities, entity_names, declared_attr, attribute, env_position, variable, moment}
+use Rattle.ucon_model.specs.Readings.{act_rows, acts, session, sessions, accessing}
 use Rattle.ucon_model.specs.Truth.{readings}
 use Rattle.ucon_model.specs.Legal.{IsLegal}
 use Rattle.ucon_model.specs.History.{Agree}
@@ -15,7 +16,8 @@ use Rattle.ucon_model.specs.Sound.{IsSound}
 use Rattle.ucon_model.specs.Typing.{IsTyped}
 use Rattle.ucon_state.specs.declared.act.Act.{Act}
 use Rattle.ucon_state.specs.declared.counts.Counts.{Counts}
-use Rattle.ucon_state.specs.Tables.{Tables, entities_of, entity_number, width, first_cell, cell_of, attribute_in, variable_in, same_act, session_in, readings_in, counts_in}
+use Rattle.ucon_state.specs.Tables.{Tables, entities_of, entity_number, width, first_cell, cell_of, attribute_in, variable_in, same_act, session_in}
+use Rattle.ucon_state.specs.Tables.{readings_in, counts_in}
 use Rattle.ucon_state.specs.Applied.{applied}
 use Rattle.ucon_state.specs.Shown.{Shown}
 

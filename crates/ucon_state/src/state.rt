@@ -1,6 +1,7 @@
 //! The state of a policy, and its changes.
 
-ghost use Rattle.std.specs.Prelude.{◌≡◌, true, map, [], ◌∷◌, ◌++◌, ◌≤ℤ◌, ◌<◌, ◌+◌, ◌⊎◌, length, position, Some, None, OnOk, OnErr, IfOk, IfSome, IsSome, IsSomeAnd, IsTrue, is_some, vec_len, vec_capacity};
+ghost use Rattle.std.specs.Prelude.{◌≡◌, true, map, [], ◌∷◌, ◌++◌, ◌≤ℤ◌, ◌<◌, ◌+◌, ◌⊎◌, length, position, Some, None, OnOk, OnErr, IfOk, IfSome};
+ghost use Rattle.std.specs.Prelude.{IsSome, IsSomeAnd, IsTrue, is_some, vec_len, vec_capacity};
 ghost use Rattle.std.specs.Str.{bytes_eq};
 ghost use Rattle.ucon_base.specs.Admits.{admits};
 ghost use Rattle.ucon_model.specs.Action as actions;

@@ -1,6 +1,7 @@
 //! What a state gives to read.
 
-ghost use Rattle.std.specs.Prelude.{◌≡◌, ◌<◌, ◌≤ℤ◌, IfSome, IsSome, IsTrue, None, Some, is_some, length, option_and_then, option_copied, option_map, slice_get, unwrap_or};
+ghost use Rattle.std.specs.Prelude.{◌≡◌, ◌<◌, ◌≤ℤ◌, IfSome, IsSome, IsTrue, None, Some, is_some, length, option_and_then, option_copied, option_map};
+ghost use Rattle.std.specs.Prelude.{slice_get, unwrap_or};
 ghost use Rattle.std.specs.List.{All};
 ghost use Rattle.ucon_model.specs.Checked.{checked_policy};
 ghost use Rattle.ucon_model.specs.Decision.{failing, right_named};

@@ -1,5 +1,6 @@
 -- Reading attributes, variables, predicates and updates.
-use Rattle.std.specs.Prelude.{ℕ, List, ◌-◌, ◌==◌, Bool, if◌then◌else◌, [], ◌∷◌, drop, slice_index, slice_set, Option, Some, None, is_some, option_map, Ok, Err, codes}
+use Rattle.std.specs.Prelude.{ℕ, List, ◌-◌, ◌==◌, Bool, if◌then◌else◌, [], ◌∷◌, drop, slice_index, slice_set, Option, Some, None, is_some, option_map}
+use Rattle.std.specs.Prelude.{Ok, Err, codes}
 use Rattle.ucon_base.specs.declared.value.Side.{Side}
 use Rattle.ucon_base.specs.declared.value.Side.TheVariants as sides
 use Rattle.ucon_base.specs.declared.value.Kind.{Kind}
