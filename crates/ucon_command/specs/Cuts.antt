@@ -30,7 +30,8 @@ pub record IsSecond (second : Option ℕ) (line : Bytes) : Type 0 where
 abbrev pub command_cut : Cuts → Bytes → Option Command
 command_cut (cuts.Subject name) line = Some (Subject (drop name line))
 command_cut (cuts.Object name) line = Some (Object (drop name line))
-command_cut (cuts.Set side name attr value) line = option_map (Set side (between name attr line) (between attr value line)) (value_in (drop value line))
+command_cut (cuts.Set side name attr value) line =
+    option_map (Set side (between name attr line) (between attr value line)) (value_in (drop value line))
 command_cut (cuts.Env name value) line = option_map (Env (between name value line)) (value_in (drop value line))
 command_cut (cuts.Tick tick) line = option_map Tick (integer_in (drop tick line))
 command_cut (cuts.Act subject action object) line = Some (Act (between subject action line) (between action object line) (drop object line))
@@ -61,8 +62,10 @@ HasWords (cuts.Object name) line = IsTrue (ends_in_name name line)
 HasWords (cuts.Set side name attr value) line = IsTrue (has_name name attr line) × IsTrue (has_name attr value line)
 HasWords (cuts.Env name value) line = IsTrue (has_name name value line)
 HasWords (cuts.Tick tick) line = tick ≤ length line
-HasWords (cuts.Act subject action object) line = IsTrue (has_name subject action line) × IsTrue (has_name action object line) × IsTrue (ends_in_name object line)
-HasWords (cuts.Try subject right object) line = IsTrue (has_name subject right line) × IsTrue (has_name right object line) × IsTrue (ends_in_name object line)
+HasWords (cuts.Act subject action object) line =
+    IsTrue (has_name subject action line) × IsTrue (has_name action object line) × IsTrue (ends_in_name object line)
+HasWords (cuts.Try subject right object) line =
+    IsTrue (has_name subject right line) × IsTrue (has_name right object line) × IsTrue (ends_in_name object line)
 HasWords (cuts.Again session) line = Unit {0}
 HasWords (cuts.Beat session) line = Unit {0}
 HasWords (cuts.End session) line = Unit {0}

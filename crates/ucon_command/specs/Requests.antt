@@ -24,4 +24,5 @@ IsOfClient line (BadCommand caller fault) = (text : Bytes) × IsAskedBy line cal
 -- no memory is told only if nothing is refused.
 abbrev pub IsRefusedTo : Caller → Bytes → RequestFault → Type 0
 IsRefusedTo caller text BadClient = ⊥
-IsRefusedTo caller text (BadCommand whose fault) = (whose ≡ caller) × IsRefusal (line_read accepted text) fault × (IsFalse (amends text) → IsSure (line_read accepted text) fault)
+IsRefusedTo caller text (BadCommand whose fault) =
+    (whose ≡ caller) × IsRefusal (line_read accepted text) fault × (IsFalse (amends text) → IsSure (line_read accepted text) fault)

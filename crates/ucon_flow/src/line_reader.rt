@@ -140,7 +140,8 @@ impl LineReader {
     fn read_line<S: Source>(&mut self, source: &mut S) -> Result<usize, ReadFault>
         ensures read { Holds S.seen self.old self.new source.old source.new }
         ensures len { IfOk result (λ n. n ≡ length (first_line self.new.held)) }
-        ensures whole { IfOk result (λ n. HasNewline self.new.held ⊎ (self.new.limit < n) ⊎ (IsBare self.new.held × IsAtEnd (S.seen source.new).left)) }
+        ensures whole { IfOk result (λ n. HasNewline self.new.held ⊎ (self.new.limit < n)
+            ⊎ (IsBare self.new.held × IsAtEnd (S.seen source.new).left)) }
         ensures long { result ≢ Err ReadFault.TooLong }
         ensures failed { IsErrOf result ReadFault.SourceFault → (S.seen source.new).faults ≡ raised (S.seen source.old).faults }
         ensures unfailed { result ≢ Err ReadFault.SourceFault → (S.seen source.new).faults ≡ (S.seen source.old).faults }

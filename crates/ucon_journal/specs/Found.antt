@@ -23,7 +23,8 @@ payload_at bytes = take (length_told bytes) (drop 5 bytes)
 abbrev pub payloads_after : ℕ → List ℕ → List (List ℕ)
 payloads_after skip [] = []
 payloads_after (suc skip) (byte ∷ rest) = payloads_after skip rest
-payloads_after zero (byte ∷ rest) = if counts (byte ∷ rest) then payload_at (byte ∷ rest) ∷ payloads_after (4 + length_told (byte ∷ rest)) rest else []
+payloads_after zero (byte ∷ rest) =
+    if counts (byte ∷ rest) then payload_at (byte ∷ rest) ∷ payloads_after (4 + length_told (byte ∷ rest)) rest else []
 
 -- the payloads of the records from a gate on, up to the first that doesn't count
 abbrev pub payloads_from : List ℕ → ℕ → List (List ℕ)
@@ -46,7 +47,8 @@ pub data Found : Type 0 where
 -- At most 9 bytes are a journal whose making was stopped. Otherwise the payloads that count, and the place of the first gate whose record doesn't count.
 abbrev pub found : List ℕ → Found
 found file =
-    if nat_le (length file) 9 then Fresh else if is_some (version_told file) then Holds (payloads_from file 8) (8 + length (records (payloads_from file 8))) else NotJournal
+    if nat_le (length file) 9 then Fresh else
+    if is_some (version_told file) then Holds (payloads_from file 8) (8 + length (records (payloads_from file 8))) else NotJournal
 
 -- the payloads that were found
 abbrev pub payloads_found : Found → List (List ℕ)

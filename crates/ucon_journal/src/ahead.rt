@@ -44,7 +44,8 @@ impl Ahead {
         ensures there { OnOk result (IfSome (D.seen disk.old).contents (λ file. bytes_at self.new at n ≡ take n (drop at file))) }
         ensures contents { (D.seen disk.new).contents ≡ (D.seen disk.old).contents }
         ensures images { SameImages (D.seen disk.old).images (D.seen disk.new).images }
-        ensures time { Elapses (D.seen disk.old).moment (D.seen disk.new).moment (D.seen disk.old).images_since (D.seen disk.new).images_since (D.seen disk.new).images }
+        ensures time { Elapses (D.seen disk.old).moment (D.seen disk.new).moment
+            (D.seen disk.old).images_since (D.seen disk.new).images_since (D.seen disk.new).images }
         ensures failed { IsErrOf result TakeFault.DiskFault → (D.seen disk.new).faults ≡ raised (D.seen disk.old).faults }
         ensures unfailed { result ≢ Err TakeFault.DiskFault → (D.seen disk.new).faults ≡ (D.seen disk.old).faults }
         ensures whole { (place : ℕ) → result ≢ Err (TakeFault.TooLong place) }
@@ -105,7 +106,8 @@ impl Ahead {
         ensures filled { OnOk result (IfSome (D.seen disk.old).contents (λ file. min size (length file - at) ≤ length self.new.bytes.items)) }
         ensures contents { (D.seen disk.new).contents ≡ (D.seen disk.old).contents }
         ensures images { SameImages (D.seen disk.old).images (D.seen disk.new).images }
-        ensures time { Elapses (D.seen disk.old).moment (D.seen disk.new).moment (D.seen disk.old).images_since (D.seen disk.new).images_since (D.seen disk.new).images }
+        ensures time { Elapses (D.seen disk.old).moment (D.seen disk.new).moment
+            (D.seen disk.old).images_since (D.seen disk.new).images_since (D.seen disk.new).images }
         ensures cause { HasCause (D.seen disk.old).faults (D.seen disk.new).faults result }
     {
         let Ok(()) = self.bytes.resize(size, 0) else {

@@ -48,7 +48,8 @@ pub struct Journal<D> {
 }
 
 impl<D: Disk> Journal<D> {
-    ghost use Rattle.ucon_journal.specs.Journal.{disk_of, version_of, gate_of, payload_of, batch_of, told_payloads, HasRoomFor, IsBatch, IsReading, HasEnded, IsClosed, IsBroken};
+    ghost use Rattle.ucon_journal.specs.Journal.{disk_of, version_of, gate_of, payload_of, batch_of, told_payloads, HasRoomFor, IsBatch, IsReading};
+    ghost use Rattle.ucon_journal.specs.Journal.{HasEnded, IsClosed, IsBroken};
 
     /// Opens the journal in a file, and makes a new one, of version 2, in a file of at most 9 bytes. A longer file isn't
     /// written. A refusal hands the disk back.
@@ -192,7 +193,8 @@ impl<D: Disk> Journal<D> {
         ensures closed { OnOk result (IsClosed D.seen self.new) }
         ensures broken { OnErr result (IsBroken self.new) }
         ensures same { OnOk result (told_payloads (D.seen (disk_of self.new)).contents ≡ told_payloads (D.seen (disk_of self.old)).contents) }
-        ensures bytes { OnOk result ((D.seen (disk_of self.new)).contents ≡ option_map (shut_at (gate_of self.old)) (D.seen (disk_of self.old)).contents) }
+        ensures bytes { OnOk result ((D.seen (disk_of self.new)).contents
+            ≡ option_map (shut_at (gate_of self.old)) (D.seen (disk_of self.old)).contents) }
         ensures gate { gate_of self.new ≡ gate_of self.old }
         ensures version { version_of self.new ≡ version_of self.old }
         ensures only { OnOk result (Only (D.seen (disk_of self.new)).contents (D.seen (disk_of self.new)).images) }

@@ -45,4 +45,5 @@ concerned_by P T c = nobody
 -- tick decides if it moved. It has everybody if the policy was replaced.
 abbrev pub work_afterwards : PlainPolicy → Trace → Command → Head → Work
 work_afterwards P T c head =
-    joined (permitted_by head) (joined (readers P T (permit_locations P T head)) (joined (readers P T (command_locations P T c)) (concerned_by P T c)))
+    joined (permitted_by head) (joined (readers P T (permit_locations P T head))
+    (joined (readers P T (command_locations P T c)) (concerned_by P T c)))

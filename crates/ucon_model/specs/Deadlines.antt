@@ -41,7 +41,8 @@ passes now next (Some limit) = is_between now next limit
 -- whether a timed part of session n's right stops to hold when the tick goes to t
 abbrev pub is_due : PlainPolicy → Trace → ℤ → ℕ → Bool
 is_due P T t n =
-    option_map_or (λ row. list_any (λ part. passes (tick_of T) t (limit_of (readings P T) row part)) (timed_of (in_force P T) row)) (session T n) false
+    option_map_or (λ row. list_any (λ part. passes (tick_of T) t (limit_of (readings P T) row part)) (timed_of (in_force P T) row))
+    (session T n) false
 
 -- ---- all deadlines
 

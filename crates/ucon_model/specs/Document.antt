@@ -121,7 +121,8 @@ line_told reads n client said l =
     said_told reads n client said l
 
 -- what a line says before what the next ones say; the first refusal stands
-abbrev pub before_next : Result (Option ScriptLine) DocumentRefusal → Result (List ScriptLine) DocumentRefusal → Result (List ScriptLine) DocumentRefusal
+abbrev pub before_next : Result (Option ScriptLine) DocumentRefusal
+    → Result (List ScriptLine) DocumentRefusal → Result (List ScriptLine) DocumentRefusal
 before_next (Err r) next = Err r
 before_next (Ok told) (Err r) = Err r
 before_next (Ok told) (Ok next) = Ok (option_to_list told ++ next)

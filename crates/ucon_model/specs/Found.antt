@@ -48,7 +48,8 @@ only_steps reads text P H payload = taken reads P H payload
 -- each payload that tells the next step is taken as it
 abbrev pub TakesSteps : (Bytes → Option PlainPolicy) → Takes → Type 0
 TakesSteps reads takes =
-    (text : Bytes) (P : PlainPolicy) (H later : History) (payload : Bytes) → taken reads P H payload ≡ Some later → takes text P H payload ≡ Some later
+    (text : Bytes) (P : PlainPolicy) (H later : History) (payload : Bytes) → taken reads P H payload ≡ Some later
+    → takes text P H payload ≡ Some later
 
 -- the policy of record 0; none where the record is wrong
 abbrev pub policy_taken : (Bytes → Option PlainPolicy) → Bytes → Option PlainPolicy

@@ -29,7 +29,8 @@ IsAccessing T n = IsSomeAnd (session T n) (λ row. row.state ≡ Accessing)
 abbrev pub IsLegal : PlainPolicy → Trace → Action → Type 0
 IsLegal P T (subject name) = IsFalse (has_entity sides.Subject name T) × (entities sides.Subject T < 16384)
 IsLegal P T (object name) = IsFalse (has_entity sides.Object name T) × (entities sides.Object T < 16384)
-IsLegal P T (write side name attr v) = IsTrue (has_entity side name T) × IsSomeAnd (declared_attr (in_force P T).attrs side attr) (λ d. IsTrue (admits d.kind v))
+IsLegal P T (write side name attr v) =
+    IsTrue (has_entity side name T) × IsSomeAnd (declared_attr (in_force P T).attrs side attr) (λ d. IsTrue (admits d.kind v))
 IsLegal P T (env name v) = IsSomeAnd (declared_env (in_force P T).envs name) (λ d. IsTrue (admits d.kind v))
 IsLegal P T (tick t) = tick_of T ≤ℤ t
 IsLegal P T (act s a o) =

@@ -78,4 +78,5 @@ abbrev pub answers_read : List Entry → Bytes → Option (List Answered)
 answers_read [] [] = Some []
 answers_read [] (b ∷ bs) = None
 answers_read (e ∷ lines) bytes =
-    option_and_then (λ p. option_and_then (before_others e (answers_read lines p.1)) (option_and_then (line_read e) (cut_at 32 p.0))) (cut_at 10 bytes)
+    option_and_then (λ p. option_and_then (before_others e (answers_read lines p.1)) (option_and_then (line_read e) (cut_at 32 p.0)))
+    (cut_at 10 bytes)

@@ -57,7 +57,8 @@ o >>= f = option_and_then f o
 -- all refusals
 abbrev pub refusals : List Refusal
 refusals =
-    NotAdmin ∷ NoRight ∷ NoSubject ∷ NoObject ∷ NoAttribute ∷ NoVariable ∷ NoAct ∷ NoSession ∷ NotYours ∷ NotAccessing ∷ NotRequesting ∷ AlreadyThere ∷ BadValue ∷ TickBack
+    NotAdmin ∷ NoRight ∷ NoSubject ∷ NoObject ∷ NoAttribute ∷ NoVariable ∷ NoAct ∷ NoSession
+    ∷ NotYours ∷ NotAccessing ∷ NotRequesting ∷ AlreadyThere ∷ BadValue ∷ TickBack
     ∷ KindChanged ∷ FullSubjects ∷ FullObjects ∷ FullActs ∷ FullSessions ∷ FullAccessing ∷ []
 
 -- the refusal of this text

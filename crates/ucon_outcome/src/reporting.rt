@@ -15,8 +15,10 @@ use ucon_flow::Sink;
 /// program ends.
 pub fn report<W: Sink>(outcome: &Outcome, err: &mut W) -> u8
     ensures status { result ≡ status_of outcome.now }
-    ensures told { (Appends (W.seen err.old).contents (W.seen err.new).contents (fault_words outcome.now) × ((W.seen err.new).faults ≡ (W.seen err.old).faults))
-        ⊎ (AppendsPrefix (W.seen err.old).contents (W.seen err.new).contents (fault_words outcome.now) × ((W.seen err.new).faults ≡ raised (W.seen err.old).faults)) }
+    ensures told { (Appends (W.seen err.old).contents (W.seen err.new).contents (fault_words outcome.now)
+        × ((W.seen err.new).faults ≡ (W.seen err.old).faults))
+        ⊎ (AppendsPrefix (W.seen err.old).contents (W.seen err.new).contents (fault_words outcome.now)
+        × ((W.seen err.new).faults ≡ raised (W.seen err.old).faults)) }
 {
     let _ = put_fault(err, outcome);
     outcome.status()

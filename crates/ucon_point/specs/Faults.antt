@@ -21,7 +21,8 @@ IsNoText bytes (NoMemory e) = ⊤
 
 -- the bytes are the text of nothing that is there so that it can be put row after row, unless it is want of memory
 abbrev pub IsTextOfNothing : Bytes → PointFault → Type 0
-IsTextOfNothing bytes (BadPlace place) = (entries : ℕ) (text : Bytes) (h : Held) → IsPoint (point_held entries text h) → point_text entries text h ≡ bytes → ⊥
+IsTextOfNothing bytes (BadPlace place) =
+    (entries : ℕ) (text : Bytes) (h : Held) → IsPoint (point_held entries text h) → point_text entries text h ≡ bytes → ⊥
 IsTextOfNothing bytes (NoMemory e) = ⊤
 
 -- ---- where the bytes are refused

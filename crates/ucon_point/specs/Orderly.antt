@@ -61,7 +61,8 @@ pub record IsSessionInOrder (h : Held) (n : ℕ) (row : SessionRow) : Type 0 whe
 -- sessions are in order; and the limits hold.
 pub record IsOrderly (h : Held) : Type 0 where
   pub variables : (i : ℕ) (d : EnvDecl) → slice_get h.policy.envs i ≡ Some d → IsSomeAnd (h.variable d.name) (λ v. IsTrue (admits d.kind v))
-  pub attributes : (side : Side) (k : ℕ) (e : Bytes) (i : ℕ) (d : AttrDecl) → slice_get (h.names side) k ≡ Some e → slice_get (attrs_of h.policy side) i ≡ Some d
+  pub attributes : (side : Side) (k : ℕ) (e : Bytes) (i : ℕ) (d : AttrDecl)
+      → slice_get (h.names side) k ≡ Some e → slice_get (attrs_of h.policy side) i ≡ Some d
       → IsSomeAnd (h.attribute side e d.name) (λ v. IsTrue (admits d.kind v))
   pub once : (side : Side) (k : ℕ) (e : Bytes) → slice_get (h.names side) k ≡ Some e → find (bytes_eq e) (take k (h.names side)) ≡ None
   pub few_entities : (side : Side) → length (h.names side) ≤ 16384

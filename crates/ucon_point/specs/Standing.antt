@@ -86,7 +86,8 @@ may_put_act t a =
 
 abbrev pub may_put_session : Tables → SessionRow → Bool
 may_put_session t s =
-    nat_lt (length t.sessions) 1048576 && (has_room_in t s.state && (are_there t s.subject s.object && (is_past t s.start && starts_right s.state s.start)))
+    nat_lt (length t.sessions) 1048576 && (has_room_in t s.state && (are_there t s.subject s.object &&
+    (is_past t s.start && starts_right s.state s.start)))
 
 -- an entity that isn't there
 abbrev pub may_put_entity : Tables → Side → Bytes → Bool

@@ -34,4 +34,5 @@ act_words a moment = codes "act" ∷ a.0 ∷ a.1 ∷ a.2 ∷ signed_decimal mome
 
 -- a session
 abbrev pub session_words : SessionRow → List Bytes
-session_words row = codes "session" ∷ decimal row.caller.0 ∷ row.right ∷ row.subject ∷ row.object ∷ state_word row.state ∷ signed_decimal row.start ∷ []
+session_words row =
+    codes "session" ∷ decimal row.caller.0 ∷ row.right ∷ row.subject ∷ row.object ∷ state_word row.state ∷ signed_decimal row.start ∷ []

@@ -115,7 +115,8 @@ pub record Keeps (Q : PlainPolicy) (t : Tables) (P : PlainPolicy) (T : Trace) : 
   pub counts_agree : counts_in t ≡ counts_of T
   pub names : (side : Side) → map (λ e. e.0) (entities_of side t) ≡ entity_names side T
   pub entity_is_there : (side : Side) (name : Bytes) → is_some (entity_number t side name) ≡ has_entity side name T
-  pub number_is_position : (side : Side) (name : Bytes) (i : ℕ) → (entity_number t side name ≡ Some i) ↔ (slice_get (entity_names side T) i ≡ Some name)
+  pub number_is_position : (side : Side) (name : Bytes) (i : ℕ) → (entity_number t side name ≡ Some i)
+      ↔ (slice_get (entity_names side T) i ≡ Some name)
   pub cell_is_there : (side : Side) (name attr : Bytes)
       → is_some (cell_of Q t side name attr) ≡ (has_entity side name T && is_some (declared_attr (in_force P T).attrs side attr))
   pub attribute_agrees : (side : Side) (name attr : Bytes) → attribute_in Q t side name attr ≡ attribute P T side name attr

@@ -50,7 +50,8 @@ pub struct State {
 
 impl State {
     ghost use Rattle.ucon_state.specs.Putting.{MayPutAct, MayPutSession, with_act_row};
-    ghost use Rattle.ucon_state.specs.Shown.{shown, changed_by, changed_to, given_back, kept, right_names, right_name, subject_name, object_name, AreThere};
+    ghost use Rattle.ucon_state.specs.Shown.{shown, changed_by, changed_to, given_back, kept, right_names, right_name, subject_name, object_name};
+    ghost use Rattle.ucon_state.specs.Shown.{AreThere};
 
     /// No entities, each variable at its default, tick 0.
     pub fn new(alloc: Global, checked: Checked) -> Result<State, NoMemory>

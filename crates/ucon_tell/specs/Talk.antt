@@ -25,7 +25,8 @@ replies_in [] = []
 replies_in (x ∷ xs) = x.reply ++ replies_in xs
 
 -- One line was answered by one line. Where it fits the limit with its newline the keeper answered it; else the keeper refused it, and stayed as it was.
-pub record IsAnswered {K : Type 0} (limit : ℕ) (answers : K → K → List ℕ → List ℕ → Type 0) (refuses : K → List ℕ → Type 0) (before : K) (x : Exchange K) : Type 0 where
+pub record IsAnswered {K : Type 0} (limit : ℕ) (answers : K → K → List ℕ → List ℕ → Type 0) (refuses : K → List ℕ → Type 0)
+    (before : K) (x : Exchange K) : Type 0 where
   pub line : IsBare x.line
   pub reply : IsLine x.reply
   pub answer : length x.line < limit → answers before x.after x.line x.reply
@@ -33,7 +34,8 @@ pub record IsAnswered {K : Type 0} (limit : ℕ) (answers : K → K → List ℕ
 
 -- this line was answered by this reply
 abbrev pub IsAnsweredBy : {K : Type 0} → ℕ → (K → K → List ℕ → List ℕ → Type 0) → (K → List ℕ → Type 0) → K → K → List ℕ → List ℕ → Type 0
-IsAnsweredBy limit answers refuses before after line reply = IsAnswered limit answers refuses before (record { line = line; reply = reply; after = after })
+IsAnsweredBy limit answers refuses before after line reply =
+    IsAnswered limit answers refuses before (record { line = line; reply = reply; after = after })
 
 -- one line was answered after the other, from a keeper to a keeper
 abbrev pub AnswersEach : {K : Type 0} → ℕ → (K → K → List ℕ → List ℕ → Type 0) → (K → List ℕ → Type 0) → K → List (Exchange K) → K → Type 0
@@ -72,8 +74,8 @@ module _ {K : Type 0} (seen : K → KeeperSeen) (stays : K → K → Type 0) whe
 
   -- Lines of which this is so were answered one by one, each by one line; the sink holds what it held and then the replies; and whatever its reader was
   -- told since, it was told once that was kept.
-  pub record HasTalked (answers : K → K → List ℕ → List ℕ → Type 0) (refuses : K → List ℕ → Type 0) (limit : ℕ) (result : Result (Unit {0}) TalkFault) (first last : K)
-      (before now : VoiceSeen) (hears : List ℕ → Type 0) : Type 0 where
+  pub record HasTalked (answers : K → K → List ℕ → List ℕ → Type 0) (refuses : K → List ℕ → Type 0) (limit : ℕ) (result : Result (Unit {0}) TalkFault)
+      (first last : K) (before now : VoiceSeen) (hears : List ℕ → Type 0) : Type 0 where
     pub exchanges : List (Exchange K)
     pub heard : hears (lines_in exchanges)
     pub reached : K

@@ -32,7 +32,8 @@ pub trait Keeper {
         ensures reply { OnOk result (IsReplied (refuses self.now) text.old.items text.new.items) };
 
     /// What it had answered at a moment each image holds, then and from then on.
-    ghost kept: { (x y : Self) (t : ℕ) (c : List ℕ) → stays x y → (seen x).moment ≤ t → t ≤ (seen y).moment → (seen y).images_since t c → (seen x).holds c };
+    ghost kept: { (x y : Self) (t : ℕ) (c : List ℕ) → stays x y → (seen x).moment ≤ t → t ≤ (seen y).moment
+        → (seen y).images_since t c → (seen x).holds c };
 
     /// Its disk's moment doesn't fall.
     ghost onward: { (x y : Self) → stays x y → (seen x).moment ≤ (seen y).moment };
