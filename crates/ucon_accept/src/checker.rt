@@ -28,7 +28,7 @@ use ucon_told::{
 pub enum Wrong {
     /// The try that it speaks of would be refused so.
     Names(Refusal),
-    /// The first line, from 0, that isn't right; where one ends before the other, how many lines the shorter one has.
+    /// The first line, from 0, that isn't right; if one ends before the other, how many lines the shorter one has.
     Line(usize),
     Verdict,
 }

@@ -2,7 +2,7 @@
 //!
 //! Each engine calls `own_actions` first, and then settles. A refusal travels by `?`, so a body reads as the table of refusals does.
 //!
-//! **Always.** What undoing gives stays as it was. Where actions are made, each trace that the state followed leads to one that it follows.
+//! **Always.** What undoing gives stays as it was. If actions are made, each trace that the state followed leads to one that it follows.
 //!
 //! **Free.** How a body reads the state. The order of refusals is defined.
 //!

@@ -5,7 +5,7 @@
 //! **Free.** How the laws are proved.
 //!
 //! **Before a change.** A test takes no memory because it makes no set (`typed_tests_make_no_set`). An expression that made one would let a
-//! judgement fail for want of memory.
+//! judgement fail because memory ran out.
 #![tactic(auto)]
 
 mod laws;

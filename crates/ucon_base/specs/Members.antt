@@ -15,7 +15,7 @@ texts_seen found = map (λ t. t.now) (take found.count found.texts)
 abbrev pub long_at : ℕ → List ℕ → Option ℕ
 long_at at t = if nat_lt 64 (length t) then Some at else None
 
--- how many members these are, which of them is the first too long, and their texts where there is room for all
+-- how many members these are, which of them is the first too long, and their texts if there is room for all
 pub record Holds (found : Found) (ms : List Member) : Type 0 where
   pub count : found.count ≡ length ms
   pub long : found.long ≡ first_long ms

@@ -179,7 +179,7 @@ abbrev pub spells_set : Result Value ValueFault → Bool
 spells_set (Ok (Set ts)) = true
 spells_set said = false
 
--- what is said is the fault, unless it is want of memory
+-- what is said is the fault, unless memory ran out
 abbrev pub IsCause : {A : Type 0} → Result A ValueFault → ValueFault → Type 0
 IsCause said (NoMemory e) = ⊤
 IsCause said f = said ≡ Err f

@@ -44,7 +44,7 @@ pub record IsReady (m : Monitor) (P : PlainPolicy) (T : Trace) : Type 0 where
   pub no_work : m.work.members ≡ []
 
 -- A command's own actions were made, and the head tells them: the state that they led from, with these readers, firsts and deadlines, stood
--- for a trace. Its policy and its cells are still there, but where the command replaced the policy.
+-- for a trace. Its policy and its cells are still there, unless the command replaced the policy.
 pub record AreMade (now : Shown) (standing : ℕ → List ℕ) (first : ℕ → ℕ) (ds : List (Option ℤ)) (c : Command) (head : Head) : Type 0 where
   pub was : Shown
   pub policy : PlainPolicy

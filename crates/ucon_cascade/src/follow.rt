@@ -30,7 +30,7 @@ use ucon_readers::{Kind, Readers, undoing_gives_what_is_kept};
 use ucon_readings::{session, session_state, sessions};
 use ucon_state::State;
 
-/// All is read anew where the command replaced the policy. Else a permitted session begins to read, and an ended one reads nothing any more.
+/// All is read anew if the command replaced the policy. Else a permitted session begins to read, and an ended one reads nothing any more.
 pub fn follow_actions(
     alloc: Global,
     state: &State,

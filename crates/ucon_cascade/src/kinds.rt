@@ -71,7 +71,7 @@ fn have_kind(numbers: &Numbers, kind: &Kind) -> bool
         && is_or_any(kind.object, numbers.object)
 }
 
-/// Whether a number is the one that is wanted, where one is.
+/// Whether a number is the one that is wanted, if one is.
 fn is_or_any(wanted: Option<u32>, number: u32) -> bool
     ensures { IsTrue result → IfSome wanted (λ it. it ≡ number) }
 {

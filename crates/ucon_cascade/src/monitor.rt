@@ -115,7 +115,7 @@ impl Monitor {
     ghost use Rattle.ucon_cascade.specs.Monitor.{AreMade, GoesBack, HasPending, IsReady, MayGoBack};
 
     /// Drafts the command, and tells what that costs: the counter rises by at most the touches of the actions of the command's block, also
-    /// after want of memory.
+    /// if memory runs out.
     pub fn draft_at_cost(
         &mut self,
         caller: Caller,
@@ -143,7 +143,7 @@ impl Monitor {
         }
     }
 
-    /// After want of memory the monitor may be anywhere within the step, and goes back.
+    /// If memory runs out, the monitor may be anywhere within the step, and goes back.
     fn make_step(
         &mut self,
         caller: Caller,

@@ -160,7 +160,7 @@ fn put_commanded(state: &State, readers: &Readers, command: &Command, work: &mut
 }
 
 /// Puts into the work, after a command's own actions, whoever they may have made fail: who is permitted, who reads where they wrote, and
-/// everybody where the policy was replaced; of each list its first, which is judged for all. An act makes nobody fail, and nobody reads of
+/// everybody if the policy was replaced; of each list its first, which is judged for all. An act makes nobody fail, and nobody reads of
 /// an entity that is new. Whom a tick concerns is in the work already.
 pub fn put_own_work(
     state: &State,

@@ -29,7 +29,7 @@ use ucon_readers::{Timers, first_limit, undoing_gives_what_is_kept};
 use ucon_readings::sessions;
 use ucon_state::{State, tables_keep_what_is_followed};
 
-/// All deadlines are set anew where the command replaced the policy. A tick passes those below it, and puts their sessions into the work.
+/// All deadlines are set anew if the command replaced the policy. A tick passes those below it, and puts their sessions into the work.
 /// Else a permitted session gets its deadlines, and an ended one loses them; an act gives none.
 pub fn follow_time(
     alloc: Global,

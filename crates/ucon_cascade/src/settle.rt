@@ -61,7 +61,7 @@ pub fn fails_at(state: &State, n: u32, steps: &mut Steps) -> Option<Name>
     failing(state, n, steps)
 }
 
-/// Takes sessions out of the work, least first, up to one that fails: the least of all. Where there is none, the work is done.
+/// Takes sessions out of the work, least first, up to one that fails: the least of all. If there is none, the work is done.
 fn next_failing(state: &State, work: &mut Pend, steps: &mut Steps) -> Option<(u32, Name)>
     requires following { IsFollowing (shown state.now) }
     requires work { (first : ℕ → ℕ) × IsWork (shown state.now) first work.old.members }

@@ -115,7 +115,7 @@ pub fn place_sort(policy: &Policy, place: &Ref) -> Option<Sort>
     }
 }
 
-/// The sort of an expression; None where it isn't typed.
+/// The sort of an expression; None if it isn't typed.
 fn expr_sort(policy: &Policy, in_update: bool, e: &Expr) -> Option<Sort>
     ensures { result ≡ expr_sort (policy_of policy.now) in_update (expr_of e.now) }
 {

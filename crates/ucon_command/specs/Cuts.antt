@@ -95,6 +95,6 @@ pub record AreCuts (k : Cuts) (line : Bytes) (read : Result Command LineRefusal)
   pub cut : result_ok read ≡ command_cut k line
   pub words : HasWords k line
 
--- what is given are cuts that give what is read of a line, or the refusal that is read; want of memory is told only where nothing is refused
+-- what is given are cuts that give what is read of a line, or the refusal that is read; out of memory is told only if nothing is refused
 abbrev pub GivesCuts : Result Cuts LineFault → Bytes → Result Command LineRefusal → Type 0
 GivesCuts result line read = MatchResult result (λ k. AreCuts k line read) (IsSure read)

@@ -32,12 +32,12 @@ entry_read reads bytes = do
   command ← ok_or (result_ok (line_read reads step.0)) (length parts.0 + 1)
   Ok (record { caller = caller; command = command })
 
--- what is read is refused at this place, unless it is want of memory
+-- what is read is refused at this place, unless memory ran out
 abbrev pub IsBadAt : {A : Type 0} → Result A ℕ → PayloadFault → Type 0
 IsBadAt read (BadPlace place) = read ≡ Err place
 IsBadAt read (NoMemory e) = ⊤
 
--- what is given is the step that is read; or what is read is refused at its place, unless it is want of memory
+-- what is given is the step that is read; or what is read is refused at its place, unless memory ran out
 abbrev pub GivesStep : Result (Caller × Command × Reply) PayloadFault → Result Told ℕ → Type 0
 GivesStep result read = MatchResult result (λ t. read ≡ Ok (told_of t.0 t.1 t.2)) (IsBadAt read)
 

@@ -63,7 +63,7 @@ pub fn steps_are_taken_as_spelled()
     texts_tell_changes();
 }
 
-/// What is found in a proper history's payloads is that history, and payloads in which a history is found are that history's, where each
+/// What is found in a proper history's payloads is that history, and payloads in which a history is found are that history's, if each
 /// has to tell a step.
 pub fn histories_are_found()
     ensures written { (takes : Takes) (text : Bytes) (P : PlainPolicy) (H : History) → TakesSteps accepted takes

@@ -10,7 +10,7 @@ use Rattle.ucon_flow.specs.Seen.{SourceSeen}
 
 -- ---- lines
 
--- the place of the first newline, or how many bytes there are where none stands among them
+-- the place of the first newline, or how many bytes there are if none stands among them
 abbrev pub newline : List ℕ → ℕ
 newline bytes = position_or_len (λ b. b == 10) bytes
 
@@ -21,7 +21,7 @@ HasNewline bytes = newline bytes < length bytes
 abbrev pub IsBare : List ℕ → Type 0
 IsBare bytes = newline bytes ≡ length bytes
 
--- the bytes up to the first newline, and with it; all of them where there is none
+-- the bytes up to the first newline, and with it; all of them if there is none
 abbrev pub first_line : List ℕ → List ℕ
 first_line bytes = take (newline bytes + 1) bytes
 

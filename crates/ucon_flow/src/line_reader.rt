@@ -54,8 +54,8 @@ impl LineReader {
         self.limit = limit;
     }
 
-    /// Whether a whole line is held: then the next call of [`LineReader::next`] or [`LineReader::skip`] doesn't read the source. So all the lines that
-    /// have arrived can be taken before the source is waited for.
+    /// Whether a whole line is held: then the next call of [`LineReader::next`] or [`LineReader::skip`] doesn't read the source. So all the lines
+    /// that have arrived can be taken before the source is waited for.
     pub fn has_line(&self) -> bool
         ensures { IsTrue result ↔ HasNewline self.now.held }
     {
@@ -74,7 +74,7 @@ impl LineReader {
         ensures none { result ≡ Ok None → IsNoLine S.seen self.old self.new source.old source.new }
         ensures err { OnErr result (Holds S.seen self.old self.new source.old source.new) }
 
-        // The cause of each fault. Where the source fails no whole line is held back.
+        // The cause of each fault. If the source fails no whole line is held back.
         ensures too_long { IsErrOf result ReadFault.TooLong → self.new.limit < length (first_line self.new.held) }
         ensures failed { IsErrOf result ReadFault.SourceFault → (S.seen source.new).faults ≡ raised (S.seen source.old).faults }
         ensures unfailed { result ≢ Err ReadFault.SourceFault → (S.seen source.new).faults ≡ (S.seen source.old).faults }

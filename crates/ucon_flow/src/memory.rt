@@ -137,7 +137,7 @@ impl Sink for MemSink {
         ensures cause { HasCause self.old.calls.faults self.new.calls.faults result }
         ensures counted { self.new.calls.made ≡ raised self.old.calls.made }
 
-        // The calls with some bytes whose numbers were given fail, and others only for want of memory, which `short` counts.
+        // The calls with some bytes whose numbers were given fail, and others only if there is no memory, which `short` counts.
         ensures fails { 0 < length bytes.now → IsTrue (fails_next self.old.calls) → IsErr result }
         ensures err { OnErr result (self.new ≡ not_taken self.old) }
 

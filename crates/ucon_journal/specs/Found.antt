@@ -44,7 +44,8 @@ pub data Found : Type 0 where
   NotJournal : Found
   Holds : (payloads : List (List ℕ)) → (gate : ℕ) → Found
 
--- At most 9 bytes are a journal whose making was stopped. Otherwise the payloads that count, and the place of the first gate whose record doesn't count.
+-- At most 9 bytes are a journal whose making was stopped. Otherwise the payloads that count, and the place of the first gate whose record doesn't
+-- count.
 abbrev pub found : List ℕ → Found
 found file =
     if nat_le (length file) 9 then Fresh else

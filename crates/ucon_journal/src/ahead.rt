@@ -9,7 +9,7 @@ use crate::fault::TakeFault;
 use std::alloc::{AllocError, Global};
 use ucon_disk::{Disk, Failed};
 
-/// How many bytes are read at once, where no more are asked for.
+/// How many bytes are read at once, if no more are asked for.
 const WINDOW: usize = 65_536;
 
 /// Some bytes of a file, from a place on.

@@ -220,7 +220,7 @@ impl<D: Disk> Journal<D> {
         ensures ended { HasEnded D.seen self.old → HasEnded D.seen self.new }
         ensures closed { IsClosed D.seen self.old → IsClosed D.seen self.new }
     {
-        // Where the sum passes the last number there is no such room.
+        // If the sum passes the last number there is no such room.
         self.buffer.reserve(n.saturating_add(5))?;
         Ok(())
     }
@@ -265,7 +265,7 @@ impl<D: Disk> Journal<D> {
         self.buffer.clear();
     }
 
-    /// Puts a payload behind those of the batch, in memory alone. Where there is no memory, the batch stays.
+    /// Puts a payload behind those of the batch, in memory alone. If there is no memory, the batch stays.
     pub fn put(&mut self, payload: &[u8]) -> Result<(), NoMemory>
         requires batch { IsBatch self.old }
         requires short { length payload.now ≤ MAX_PAYLOAD }

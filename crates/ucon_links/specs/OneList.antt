@@ -98,7 +98,7 @@ with_behind-last pair (x ∷ y ∷ ys) back distinct =
     behind_other (last_or (Some y.0) ys) pair x (y ∷ ys ++ back) (last_other x.0 y.0 ys distinct.0.0 distinct.0.1)
     ∙ ap (λ zs. x ∷ zs) (with_behind-last pair (y ∷ ys) back distinct.1)
 
--- where no node is there twice, a node stands where its list has it, between those before and after it
+-- if no node is there twice, a node stands where its list has it, between those before and after it
 abbrev pub PlaceLaw : Type 0
 PlaceLaw =
     (v : Lists) (list : ℕ) (front back : List (ℕ × ℕ)) (x : ℕ × ℕ) → IsDistinct (nodes_of v)

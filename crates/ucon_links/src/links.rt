@@ -147,7 +147,7 @@ impl Links {
         Ok(())
     }
 
-    /// Makes room for so many nodes. More than can be numbered are answered as want of memory.
+    /// Makes room for so many nodes. More than can be numbered are answered as out of memory.
     pub fn reserve(&mut self, n: u32) -> Result<(), NoMemory>
         ensures kept { self.new ≡ record self.old { spare = self.new.spare } }
         ensures spare { self.old.spare ≤ self.new.spare }

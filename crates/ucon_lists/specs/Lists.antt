@@ -37,12 +37,12 @@ IsLed v leader n = leader_in v n ≡ Some leader
 
 -- ---- in order
 
--- session n comes behind this one in an order, or, where there is none, it comes anywhere
+-- session n comes behind this one in an order, or, if there is none, it comes anywhere
 abbrev pub IsPast : (ℕ → ℕ → Type 0) → Option ℕ → ℕ → Type 0
 IsPast Before None n = Unit {0}
 IsPast Before (Some m) n = Before m n
 
--- of those that come behind this one in an order it is the first; none where there is none
+-- of those that come behind this one in an order it is the first; none if there is none
 abbrev pub IsFirstPast : (ℕ → ℕ → Type 0) → (ℕ → Type 0) → Option ℕ → Option ℕ → Type 0
 IsFirstPast Before Those at None = (n : ℕ) → Those n → IsPast Before at n → ⊥
 IsFirstPast Before Those at (Some m) =

@@ -293,7 +293,7 @@ fn first_other_filled(
     Ok(None)
 }
 
-/// The same where the disk stops at this call. All is to be found where all was added, and else perhaps a front part.
+/// The same if the disk stops at this call. All is to be found if all was added, and else perhaps a front part.
 fn first_other_stopped(
     alloc: Global,
     bytes: &[u8],

@@ -58,7 +58,7 @@ is_of_kind OnC p = ongoing p && is_condition p.test
 abbrev pub index_if : Bool → ℕ → List ℕ
 index_if applies i = if applies then i ∷ [] else []
 
--- 0 alone where no other index applies
+-- 0 alone if no other index applies
 abbrev pub or_zero : List ℕ → List ℕ
 or_zero [] = 0 ∷ []
 or_zero (i ∷ is) = i ∷ is

@@ -21,12 +21,12 @@ lines_of bytes = slice_split (λ b. b == 10) bytes
 abbrev pub is_divider : Bytes → Bool
 is_divider line = bytes_eq line (codes "%%")
 
--- the lines before the divider, each with its newline; none where there is no divider
+-- the lines before the divider, each with its newline; none if there is no divider
 abbrev pub before_divider : List Bytes → Option Bytes
 before_divider [] = None
 before_divider (l ∷ ls) = if is_divider l then Some [] else option_map (λ text. l ++ 10 ∷ text) (before_divider ls)
 
--- the policy part: all before the divider, and the whole text where there is none
+-- the policy part: all before the divider, and the whole text if there is none
 abbrev pub policy_part : Bytes → Bytes
 policy_part bytes = unwrap_or (before_divider (lines_of bytes)) bytes
 

@@ -32,12 +32,12 @@ is_next_step P H t = changes t.reply && bytes_eq (reply_spelling t.reply) (reply
 abbrev pub with_step : PlainPolicy → History → Told → Option History
 with_step P H t = if is_next_step P H t then Some (H ++ entry_told t ∷ []) else None
 
--- these entries with the step that a payload tells; none where the record is wrong
+-- these entries with the step that a payload tells; none if the record is wrong
 unfoldable pub taken : (Bytes → Option PlainPolicy) → PlainPolicy → History → Bytes → Option History
 taken reads P H payload =
     if nat_lt most_payload (length payload) then None else option_and_then (with_step P H) (result_ok (payload_read reads payload))
 
--- What a payload makes of the entries before it, under a policy that has this text; none where the record is wrong.
+-- What a payload makes of the entries before it, under a policy that has this text; none if the record is wrong.
 abbrev pub Takes : Type 0
 Takes = Bytes → PlainPolicy → History → Bytes → Option History
 
@@ -51,7 +51,7 @@ TakesSteps reads takes =
     (text : Bytes) (P : PlainPolicy) (H later : History) (payload : Bytes) → taken reads P H payload ≡ Some later
     → takes text P H payload ≡ Some later
 
--- the policy of record 0; none where the record is wrong
+-- the policy of record 0; none if the record is wrong
 abbrev pub policy_taken : (Bytes → Option PlainPolicy) → Bytes → Option PlainPolicy
 policy_taken reads payload = if nat_lt most_payload (length payload) then None else reads payload
 

@@ -126,7 +126,7 @@ abbrev pub history_after : History → Entry → Answer → History
 history_after H line (placed place reply) = if changes reply then H ++ line ∷ [] else H
 history_after H line a = H
 
--- want of memory, or the serial run's reply at its place
+-- out of memory, or the serial run's reply at its place
 abbrev pub IsNext : PlainPolicy → History → Entry → Answer → Type 0
 IsNext P H line no_memory = Unit {0}
 IsNext P H line (placed place reply) =

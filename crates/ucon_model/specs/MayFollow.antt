@@ -17,7 +17,7 @@ same_kind kinds.Text kinds.Text = true
 same_kind kinds.Set kinds.Set = true
 same_kind k l = false
 
--- whether a kind is another than the declared one, where one is declared
+-- whether a kind is another than the declared one, if one is declared
 abbrev pub is_changed : Kind → Option Kind → Bool
 is_changed k None = false
 is_changed k (Some l) = not (same_kind k l)

@@ -13,7 +13,7 @@ use Rattle.ucon_model.specs.Spelling.{reply_spelling}
 
 -- ---- what is written
 
--- the place, or `-` where there is none, a space, and the reply's text
+-- the place, or `-` if there is none, a space, and the reply's text
 abbrev pub answer_spelling : Answer → Bytes
 answer_spelling no_memory = codes "- no memory"
 answer_spelling disk_fault = codes "- disk fault"
@@ -73,7 +73,7 @@ abbrev pub before_others : Entry → Option (List Answered) → Answer → Optio
 before_others e others a = option_map (λ told. record { line = e; answer = a } ∷ told) others
 
 -- The answers to these command lines, as they are read from an output: its lines are cut at the newlines, and each begins with its
--- client's number. None where it isn't such an output.
+-- client's number. None if it isn't such an output.
 abbrev pub answers_read : List Entry → Bytes → Option (List Answered)
 answers_read [] [] = Some []
 answers_read [] (b ∷ bs) = None

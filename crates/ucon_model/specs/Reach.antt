@@ -53,11 +53,11 @@ abbrev pub timed_truth : Readings → SessionRow → Timed → Bool
 timed_truth R row (lasting n) = int_le R.now (row.start +ℤ n)
 timed_truth R row (owed o) = is_done R row o
 
--- the places that a session's right reads during the usage; none where the policy doesn't have the right
+-- the places that a session's right reads during the usage; none if the policy doesn't have the right
 abbrev pub places_of : PlainPolicy → SessionRow → List Ref
 places_of Q row = option_map_or places_read (right_named Q.rights row.right) []
 
--- the timed parts of a session's right; none where the policy doesn't have the right
+-- the timed parts of a session's right; none if the policy doesn't have the right
 abbrev pub timed_of : PlainPolicy → SessionRow → List Timed
 timed_of Q row = option_map_or right_timed (right_named Q.rights row.right) []
 

@@ -1,4 +1,4 @@
--- When a policy is well typed, and its first fault where it isn't.
+-- When a policy is well typed, and its first fault if it isn't.
 use Rattle.std.specs.Prelude.{ℕ, ◌+◌, ◌<◌, ◌≤◌, int_le, nat_lt, Bool, true, false, ◌&&◌, ◌||◌, not, List, [], ◌∷◌, ◌++◌, length, find, codes, Option}
 use Rattle.std.specs.Prelude.{Some, None, is_some, is_none, option_map, IsTrue, if◌then◌else◌}
 use Rattle.std.specs.Option.{option_or}
@@ -140,7 +140,7 @@ product_sort k l = if is_of Integer k && is_of Integer l then Some Integer else 
 abbrev pub size_sort : Option Sort → Option Sort
 size_sort k = if is_of Set k then Some Integer else None
 
--- the sort of an expression, in an update or in a predicate; none where it isn't typed
+-- the sort of an expression, in an update or in a predicate; none if it isn't typed
 abbrev pub expr_sort : PlainPolicy → Bool → PlainExpr → Option Sort
 expr_sort P in_update (lit v) = Some (value_sort v)
 expr_sort P in_update (read place) = place_sort P place

@@ -71,14 +71,14 @@ pub fn unreached_sessions_fail_as_before()
         → reached P T actions n ≡ false → fails_at P (extended T actions) n ≡ Some label → fails_at P T n ≡ Some label }
 {}
 
-/// Settling goes turn by turn: the least that fails is revoked, and what is left is settled; where nobody is found it is over.
+/// Settling goes turn by turn: the least that fails is revoked, and what is left is settled; if nobody is found it is over.
 pub fn settling_goes_turn_by_turn()
     ensures over { (P : PlainPolicy) (T : Trace) → least_failing P T ≡ None → settle P T ≡ [] }
     ensures turn { (P : PlainPolicy) (T : Trace) (f : ℕ × Bytes) → least_failing P T ≡ Some f
         → settle P T ≡ revocation P T f ++ settle P (extended T (revocation P T f)) }
 {}
 
-/// Where sessions are numbered, nobody fails after settling; and settling revokes no more than were accessing.
+/// If sessions are numbered, nobody fails after settling; and settling revokes no more than were accessing.
 pub fn nobody_fails_after_settling()
     ensures nobody { (P : PlainPolicy) (T : Trace) (n : ℕ) → IsNumbered T → fails_at P (extended T (settle P T)) n ≡ None }
     ensures revoked { (P : PlainPolicy) (T : Trace) → length (revoked_in (settle P T)) ≤ accessing T }
@@ -96,13 +96,13 @@ pub fn work_goes_on_covering()
         → Covers P (extended T (revocation P T f)) (work_after P T work f.0) }
 {}
 
-/// Where nobody fails, those whom actions concern are all the work after them.
+/// If nobody fails, those whom actions concern are all the work after them.
 pub fn work_begins_with_the_concerned()
     ensures { (P : PlainPolicy) (T : Trace) (actions : List Action) → NobodyFails P T
         → Covers P (extended T actions) (concerned P T actions) }
 {}
 
-/// Of work that covers, the least member, if it fails, is the least session that fails; and where there is no work, none fails.
+/// Of work that covers, the least member, if it fails, is the least session that fails; and if there is no work, none fails.
 pub fn covering_work_has_the_least()
     ensures least { (P : PlainPolicy) (T : Trace) (work : Work) (f : ℕ × Bytes) → IsNumbered T → Covers P T work → IsLeastOf work f.0
         → fails_at P T f.0 ≡ Some f.1 → least_failing P T ≡ Some f }
@@ -125,14 +125,14 @@ pub fn writes_reach_their_readers()
         → concerned P T (revocation P T f) n ≡ readers P T (session_targets P T f.0 AfterRevoke) n }
 {}
 
-/// Where nobody fails, the work after a command's own actions is read off the command and the reply's head.
+/// If nobody fails, the work after a command's own actions is read off the command and the reply's head.
 pub fn own_work_is_read_off()
     ensures { (P : PlainPolicy) (T : Trace) (caller : Caller) (c : Command) (head : Head) (actions : List Action)
         → ((n : ℕ) → IsGrounded T (session T n)) → IsTimely T → NobodyFails P T → own P T caller c ≡ make head actions
         → Covers P (extended T actions) (own_work P T caller c head) }
 {}
 
-/// After every history no act was done after the tick; and where that is so, an act makes no session fail.
+/// After every history no act was done after the tick; and if that is so, an act makes no session fail.
 pub fn acts_make_nobody_fail()
     ensures timely { (P : PlainPolicy) (H : History) → IsTimely (trace P H) }
     ensures none { (P : PlainPolicy) (T : Trace) (s a o : Bytes) (n : ℕ) → IsTimely T → fails_at P T n ≡ None
@@ -157,7 +157,7 @@ pub fn one_judgement_serves_all_alike()
         → reads_at Q row location ≡ reads_at Q other location }
 {}
 
-/// Where the index is exact, an accessing session reads at one of these locations exactly where the leader of its list stands at one.
+/// If the index is exact, an accessing session reads at one of these locations exactly where the leader of its list stands at one.
 pub fn the_index_names_the_readers()
     ensures { (P : PlainPolicy) (T : Trace) (leader : ℕ → ℕ) (stands : ℕ → Location → Bool) (locations : List Location) (n : ℕ)
         → IsExact P T leader stands → is_accessing (session T n) ≡ true
@@ -175,7 +175,7 @@ pub fn firsts_go_on_covering()
         → FirstsCover P (extended T (revocation P T f)) new_first next }
 {}
 
-/// Where the firsts of lists cover, the least of the work, if it fails, is the least session that fails; and where there is no work,
+/// If the firsts of lists cover, the least of the work, if it fails, is the least session that fails; and if there is no work,
 /// none fails.
 pub fn firsts_have_the_least()
     ensures least { (P : PlainPolicy) (T : Trace) (first : ℕ → ℕ) (work : Work) (f : ℕ × Bytes) → IsNumbered T → IsLed P T first

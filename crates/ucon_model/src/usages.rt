@@ -1,5 +1,5 @@
-//! Laws of usages: which actions begin one, which end it, and whom own actions concern. A law is a function without parameters that does nothing: its contract is
-//! what is proved.
+//! Laws of usages: which actions begin one, which end it, and whom own actions concern. A law is a function without parameters that does nothing:
+//! its contract is what is proved.
 
 ghost use Rattle.std.specs.Prelude.{◌≡◌, ◌≢◌, ℕ, List, None};
 ghost use Rattle.ucon_model.specs.declared.command.Caller.{Caller};

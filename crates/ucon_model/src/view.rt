@@ -19,15 +19,15 @@ pub trait View {
     fn checked(&self) -> &Checked
         ensures { checked_policy result.now ≡ policy self.now };
 
-    /// None where there is no such session.
+    /// None if there is no such session.
     fn session(&self, session: u32) -> Option<SessionRow>
         ensures { result ≡ (readings self.now).row session };
 
-    /// The right of a session. None where there is no such session, or the policy hasn't its right.
+    /// The right of a session. None if there is no such session, or the policy hasn't its right.
     fn right(&self, session: u32) -> Option<&Right>
         ensures { option_map right_of (option_copied result) ≡ right_read (policy self.now) (readings self.now) session };
 
-    /// The tick at which a session's usage began, 0 until then. None where there is no such session.
+    /// The tick at which a session's usage began, 0 until then. None if there is no such session.
     fn start(&self, session: u32) -> Option<Int>
         ensures { result ≡ start_read (readings self.now) session };
 

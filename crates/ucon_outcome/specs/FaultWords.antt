@@ -75,7 +75,7 @@ cause_words OldJournal = codes "old journal"
 abbrev pub fault_line : Bytes → Bytes
 fault_line cause = codes "ucon: " ++ cause ++ 10 ∷ []
 
--- what is printed: nothing where all is done
+-- what is printed: nothing if all is done
 abbrev pub fault_words : Outcome → Bytes
 fault_words Done = []
 fault_words outcome = fault_line (cause_words outcome)

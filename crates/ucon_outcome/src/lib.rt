@@ -1,7 +1,7 @@
 //! How a run may end, and what is printed of that: the outcomes, their numbers and their words.
 //!
-//! The exit status and the line on standard error come from here. The words of each ending are written without memory, so that want of memory can
-//! be told, too.
+//! The exit status and the line on standard error come from here. The words of each ending are written without memory, even those that tell of no
+//! memory.
 //!
 //! **Free.** How the words are put together.
 //!

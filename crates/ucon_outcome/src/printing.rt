@@ -15,7 +15,7 @@ use ucon_flow::{Sink, SinkFault, write_all};
 use ucon_script::DocFault;
 use ucon_syntax::SyntaxFault;
 
-/// Writes what is printed of an outcome: a line, and nothing where all is done.
+/// Writes what is printed of an outcome: a line, and nothing if all is done.
 pub(crate) fn put_fault<W: Sink>(out: &mut W, outcome: &Outcome) -> Result<(), SinkFault>
     ensures { GoesOut (W.seen out.old).contents (W.seen out.new).contents
         (W.seen out.old).faults (W.seen out.new).faults result (fault_words outcome.now) }

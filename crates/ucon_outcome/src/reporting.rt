@@ -11,7 +11,7 @@ use crate::outcome::Outcome;
 use crate::printing::put_fault;
 use ucon_flow::Sink;
 
-/// Writes the line of an outcome, nothing where all is done, or a front of it where the sink fails, and gives the status with which the
+/// Writes the line of an outcome, nothing if all is done, or a front of it if the sink fails, and gives the status with which the
 /// program ends.
 pub fn report<W: Sink>(outcome: &Outcome, err: &mut W) -> u8
     ensures status { result ≡ status_of outcome.now }

@@ -7,7 +7,7 @@
 //!
 //! **Free.** All below the clauses, which speak of members in rising order.
 //!
-//! **Before a change.** A step that fails for want of memory is undone, so nothing here may take memory after `new`. Begin at `pend.rt`.
+//! **Before a change.** A step that fails because memory ran out is undone, so nothing here may take memory after `new`. Begin at `pend.rt`.
 #![tactic(auto)]
 
 mod level;

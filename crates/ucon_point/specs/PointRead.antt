@@ -71,8 +71,8 @@ from_zero t = if is_whole t then Some t else None
 abbrev pub tick_read : Bytes → Option ℤ
 tick_read line = option_and_then from_zero (option_and_then integer_in (behind (codes "tick") line))
 
--- What the first line says, and what stands behind it. The bytes are the last of so many: where the line says nothing the result is its place,
--- and where there is no line that number.
+-- What the first line says, and what stands behind it. The bytes are the last of so many: if the line says nothing the result is its place,
+-- and if there is no line that number.
 unfoldable pub line_at : {A : Type 0} → (Bytes → Option A) → ℕ → Bytes → Result (A × Bytes) ℕ
 line_at reads total bytes = do
   p ← ok_or (cut_at 10 bytes) total
@@ -126,8 +126,8 @@ abbrev pub before : Row → Result (List Row) ℕ → Result (List Row) ℕ
 before row (Ok rows) = Ok (row ∷ rows)
 before row (Err place) = Err place
 
--- The rows of lines of which the first begins here, and behind the last of which these bytes stand. Where a line has no row that may come there
--- the result is its place; where the bytes end too soon, the place of their end.
+-- The rows of lines of which the first begins here, and behind the last of which these bytes stand. If a line has no row that may come there
+-- the result is its place; if the bytes end too soon, the place of their end.
 abbrev pub rows_at : ℕ → PlainPolicy → Standing → Bytes → List Bytes → Result (List Row) ℕ
 rows_at place Q r last [] = if length last == 0 && is_none (awaited Q r.reached) then Ok [] else Err (place + length last)
 rows_at place Q r last (line ∷ lines) = row_at place Q r line >>= (λ p. before p.0 (rows_at (place + length line + 1) Q p.1 last lines))

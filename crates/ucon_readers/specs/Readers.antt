@@ -14,7 +14,7 @@ first_of r n = first_in r.standing.lists.members n
 
 -- ---- undoing
 
--- undoing gives what holds these: what was replaced, where something was, else what is there without its changes
+-- undoing gives what holds these: what was replaced, if something was, else what is there without its changes
 pub data UndoGives (r : Readers) (standing : ℕ → List ℕ) (first : ℕ → ℕ) : Type 0 where
   by_changes : r.replaced ≡ None → ChangesGive r.standing standing first → UndoGives r standing first
   by_replaced : (before : Listing) → r.replaced ≡ Some before → IsAtRest before

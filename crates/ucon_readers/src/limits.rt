@@ -91,7 +91,7 @@ fn first_of_predicate(
     first_of_test(state, n, start, first, &p.test)
 }
 
-/// The first of the ticks up to which a timed part of session n's right holds, of those that the tick isn't above. None where there is no
+/// The first of the ticks up to which a timed part of session n's right holds, of those that the tick isn't above. None if there is no
 /// such session.
 pub fn first_limit(state: &State, n: u32) -> Option<i64>
     ensures first { (row : SessionRow) → session_in (shown state.now).tables n ≡ Some row

@@ -14,7 +14,7 @@ use std::mem;
 use ucon_base::NoMemory;
 use ucon_pend::Pend;
 
-/// Forgets those who were replaced, where some were: most often none were, and to move none costs as much as to move some.
+/// Forgets those who were replaced, if some were: most often none were, and to move none costs as much as to move some.
 #[inline(always)]
 fn forget(replaced: &mut Option<Standing>)
     ensures { replaced.new ≡ None }
@@ -66,7 +66,7 @@ impl Readers {
         self.standing.first(session)
     }
 
-    /// The first of a list that a session of this kind might join. None where none is known.
+    /// The first of a list that a session of this kind might join. None if none is known.
     pub fn guess(&self, kind: Kind) -> Option<u32>
         ensures itself { IfSome result (λ m. first_of self.now m ≡ m) }
         ensures stands { IfSome result (StandsSomewhere (readers_at self.now)) }
@@ -87,7 +87,7 @@ impl Readers {
     }
 
     /// From here on a session reads, in a list of its own, these places. One that reads none isn't kept. A session founds one list: a
-    /// second is answered as want of memory.
+    /// second is answered as out of memory.
     pub fn lead(&mut self, session: u32, places: &[u32]) -> Result<(), NoMemory>
         requires kept { IsKept self.old }
         requires distinct { IsDistinct places.now }
@@ -113,7 +113,7 @@ impl Readers {
         self.standing.join(session, other)
     }
 
-    /// From here on a session reads nothing. Where it was the first of others, that gives who is their first from here on.
+    /// From here on a session reads nothing. If it was the first of others, that gives who is their first from here on.
     pub fn hide(&mut self, session: u32) -> Result<Option<u32>, NoMemory>
         ensures read { OnOk result ((n place : ℕ) → Contains (readers_at self.new place) n
             ↔ ((n ≢ session) × Contains (readers_at self.old place) n)) }

@@ -64,7 +64,7 @@ impl Standing {
         self.lists.first(leader).unwrap_or(session)
     }
 
-    /// The first of a leader's list. None where nobody is in it.
+    /// The first of a leader's list. None if nobody is in it.
     pub(crate) fn first_led(&self, leader: u32) -> Option<u32>
         ensures itself { IfSome result (λ m. first_in self.now.lists.members m ≡ m) }
         ensures stands { IfSome result (StandsSomewhere (readers_in self.now)) }
@@ -77,7 +77,7 @@ impl Standing {
     }
 
     /// A session comes, in a list of its own, to these places. One that comes to none isn't kept. A list has its founder's number, and a
-    /// session founds one: a second is answered as want of memory.
+    /// session founds one: a second is answered as out of memory.
     pub(crate) fn lead(&mut self, session: u32, places: &[u32]) -> Result<(), NoMemory>
         requires kept { IsKept self.old }
         requires distinct { IsDistinct places.now }
@@ -116,7 +116,7 @@ impl Standing {
         self.lists.join(leader, session)
     }
 
-    /// A session leaves its list and its places. Where it was the first of others, that gives who is their first from here on.
+    /// A session leaves its list and its places. If it was the first of others, that gives who is their first from here on.
     pub(crate) fn hide(&mut self, session: u32) -> Result<Option<u32>, NoMemory>
         ensures read { OnOk result ((n place : ℕ) → Contains (readers_in self.new place) n
             ↔ ((n ≢ session) × Contains (readers_in self.old place) n)) }
@@ -292,7 +292,7 @@ fn put_first(lists: &Lists, leader: u32, work: &mut Pend)
     }
 }
 
-/// The first of a leader's list. None where nobody is in it.
+/// The first of a leader's list. None if nobody is in it.
 fn first_in_list(lists: &Lists, leader: u32) -> Option<u32>
     ensures there { IfSome result (λ m. Contains (led_by lists.now.members leader) m) }
     ensures least { IfSome result (λ m. (n : ℕ) → Contains (led_by lists.now.members leader) n → m ≤ n) }

@@ -23,7 +23,7 @@ pub fn has_entity(state: &State, side: Side, name: &Name) -> bool
     state.find(side, name).is_some()
 }
 
-/// The number of an entity among those of its side. None where it isn't there.
+/// The number of an entity among those of its side. None if it isn't there.
 pub fn find_entity(state: &State, side: Side, name: &Name) -> Option<u32>
     ensures number { result ≡ entity_number (shown state.now).tables side name.now }
     ensures named { IfSome result (λ n. name_at (entities_of side (shown state.now).tables) n ≡ name.now) }
@@ -46,7 +46,7 @@ pub fn entities(state: &State, side: Side) -> u32
     }
 }
 
-/// The value of an attribute of an entity. None where one of them isn't there.
+/// The value of an attribute of an entity. None if one of them isn't there.
 #[tactic(auto, using(crate::specs::ReadOff::attribute_same))]
 pub fn attribute<'a>(state: &'a State, side: Side, name: &Name, attr: &Name) -> Option<&'a Value>
     ensures { AfterEach (shown state.now) (λ P T. attribute P T side name.now attr.now ≡ option_copied result) }
@@ -55,7 +55,7 @@ pub fn attribute<'a>(state: &'a State, side: Side, name: &Name, attr: &Name) -> 
     state.attribute(side, name, attr)
 }
 
-/// Whether the kind of an attribute admits the value. None where the policy in force has no such attribute.
+/// Whether the kind of an attribute admits the value. None if the policy in force has no such attribute.
 pub fn attr_admits(state: &State, side: Side, name: &Name, v: &Value) -> Option<bool>
     ensures policy { result ≡ option_map (λ d. admits d.kind v.now) (declared_attr (shown state.now).policy.attrs side name.now) }
     ensures trace { AfterEach (shown state.now) (λ P T.
@@ -68,7 +68,7 @@ pub fn attr_admits(state: &State, side: Side, name: &Name, v: &Value) -> Option<
     }
 }
 
-/// Whether the kind of a variable admits the value. None where the policy in force has no such variable.
+/// Whether the kind of a variable admits the value. None if the policy in force has no such variable.
 pub fn env_admits(state: &State, name: &Name, v: &Value) -> Option<bool>
     ensures policy { result ≡ option_map (λ d. admits d.kind v.now) (declared_env (shown state.now).policy.envs name.now) }
     ensures trace { AfterEach (shown state.now) (λ P T.
@@ -81,7 +81,7 @@ pub fn env_admits(state: &State, name: &Name, v: &Value) -> Option<bool>
     }
 }
 
-/// The number of a right. None where the policy in force hasn't it.
+/// The number of a right. None if the policy in force hasn't it.
 pub fn find_right(state: &State, name: &Name) -> Option<u32>
     ensures named { IfSome result (λ n. right_name state.now n ≡ name.now) }
     ensures within { IfSome result (λ n. n < length (right_names state.now)) }

@@ -94,7 +94,7 @@ fn attribute_at(attrs: &[AttrDecl], side: Side, n: usize) -> Option<(Name, Kind)
     None
 }
 
-/// A value may come only where one of its name and kind is awaited.
+/// A value may come only if one of its name and kind is awaited.
 fn with_value(
     awaited: Option<(Name, Kind)>,
     reached: Reached,
@@ -113,7 +113,7 @@ fn with_value(
     }
 }
 
-/// Any other row may come only where no value is awaited, and none of a later sort came.
+/// Any other row may come only if no value is awaited, and none of a later sort came.
 fn with_row(awaited: Option<(Name, Kind)>, reached: Reached, stage: Stage) -> Option<Reached>
     ensures { result ≡ with_row awaited reached stage }
 {

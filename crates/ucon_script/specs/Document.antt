@@ -35,7 +35,7 @@ spelled_line l = record { number = l.number; caller = l.caller; command = spelle
 abbrev pub lines_spelled : Script → List ScriptLine
 lines_spelled s = map spelled_line s.lines.items
 
--- the document's fault where the line of this number has this one
+-- the document's fault if the line of this number has this one
 abbrev pub fault_of : ℕ → LineFault → DocFault
 fault_of n (faults.NoMemory e) = NoMemory e
 fault_of n f = BadLine n f

@@ -162,7 +162,7 @@ impl Generator {
         Entry { caller, command }
     }
 
-    /// A session that was tried. Where none was, none is drawn.
+    /// A session that was tried. If none was, none is drawn.
     fn session(&mut self) -> Option<u32>
         ensures some { IfSome result (λ n. (0 < self.old.tries) × (n ≡ 1 + below self.old.tries (next_x self.old.x))
             × (self.new ≡ record self.old { x = next_x self.old.x })) }

@@ -19,7 +19,7 @@ pub fn spellings_are_what_is_not_bad()
     values_are_read_back();
 }
 
-/// The place of a bad spelling is the opening `"` of a set's text that doesn't rise; where there is none, it is the first place where the
+/// The place of a bad spelling is the opening `"` of a set's text that doesn't rise; if there is none, it is the first place where the
 /// bytes stop being the beginning of a spelling, or their length where they end too soon.
 pub fn bad_places_are_those_of_the_reader()
     ensures place { (bytes : List ℕ) (p : ℕ) → (value_read bytes ≡ Err (BadSpelling p)) ↔ IsBadPlace bytes p }

@@ -86,7 +86,7 @@ with_state t n state = option_map_or (λ row. with_row t (n - 1) (moved_to state
 
 -- ---- a policy that replaces another
 
--- what an entity with this first one of the cells has of a declaration: what it had, where the policy before declares it, else the default
+-- what an entity with this first one of the cells has of a declaration: what it had, if the policy before declares it, else the default
 abbrev pub kept_value : PlainPolicy → List Value → Side → ℕ → AttrDecl → Value
 kept_value P cells side first d =
     unwrap_or (option_and_then (λ position. slice_get cells (first + position)) (attr_position P side d.name)) d.start
@@ -105,7 +105,7 @@ abbrev pub laid_from : ℕ → ℕ → List (Bytes × ℕ) → List (Bytes × �
 laid_from first width [] = []
 laid_from first width (e ∷ es) = (e.0, first) ∷ laid_from (first + width) width es
 
--- what a variable has of a declaration: what it had, where the policy before declares it, else the default
+-- what a variable has of a declaration: what it had, if the policy before declares it, else the default
 abbrev pub kept_variable : {S : Type 0} → PlainPolicy → TablesOf S → EnvDecl → Value
 kept_variable P t d = unwrap_or (variable_in P t d.name) d.start
 

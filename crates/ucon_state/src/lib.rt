@@ -5,7 +5,7 @@
 //! (`Follows`).
 //!
 //! **Always.** The limits hold, each variable has its place and each entity its cells, at every stage of undoing (`AllSound`). A session's numbers
-//! are those of a right and of entities that are there (`HasRights`). Where the checks of a right are met, none of its ongoing predicates is false
+//! are those of a right and of entities that are there (`HasRights`). If the checks of a right are met, none of its ongoing predicates is false
 //! (`ArePlans`).
 //!
 //! **Free.** The maps behind the tables.

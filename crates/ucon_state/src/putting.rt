@@ -57,7 +57,7 @@ impl State {
     }
 }
 
-/// Whether there is room for one more session in this state, where so many are accessing.
+/// Whether there is room for one more session in this state, if so many are accessing.
 fn has_room_in(state: SessionState, accessing: u32) -> bool
     ensures { (t : Tables) → accessing ≡ accessing_among t.sessions → IsTrue result ↔ HasRoomIn t state }
 {

@@ -73,7 +73,7 @@ impl State {
         })
     }
 
-    /// The number of a right of the policy, from 0. None where the policy hasn't it.
+    /// The number of a right of the policy, from 0. None if the policy hasn't it.
     pub fn find_right(&self, name: &Name) -> Option<u32>
         ensures named { IfSome result (λ n. right_name self.now n ≡ name.now) }
         ensures within { IfSome result (λ n. n < length (right_names self.now)) }
@@ -84,7 +84,7 @@ impl State {
         Some(number as u32)
     }
 
-    /// The number of an entity among those of its side, from 0. None where it isn't there.
+    /// The number of an entity among those of its side, from 0. None if it isn't there.
     #[tactic(auto, using(crate::proofs::Numbered::name_of_number))]
     pub fn find(&self, side: Side, name: &Name) -> Option<u32>
         ensures number { result ≡ entity_number (shown self.now).tables side name.now }
@@ -258,7 +258,7 @@ impl State {
         })
     }
 
-    /// A session becomes denied, accessing, ended or revoked. Where it becomes accessing, it starts now.
+    /// A session becomes denied, accessing, ended or revoked. If it becomes accessing, it starts now.
     pub fn set_session(&mut self, session: u32, state: SessionState) -> Result<(), NoMemory>
         requires { IsSomeAnd (session_in (shown self.old).tables session) (λ row. IsTrue (may_become row.state state)) }
         ensures ok { OnOk result (shown self.new ≡ changed_to (shown self.old) (with_state (shown self.old).tables session state)) }

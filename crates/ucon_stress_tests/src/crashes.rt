@@ -23,7 +23,7 @@ fn entries_found<R: Threads + Wait + Sync>(
     place_before(&end.output, " no session\n")
 }
 
-/// How many entries may be found behind so many and the steps that were answered: all of these, and where a step met a disk fault perhaps
+/// How many entries may be found behind so many and the steps that were answered: all of these, and if a step met a disk fault perhaps
 /// that one, too.
 fn may_be_found(before: u64, output: &[u8]) -> Result<(u64, u64), Fail> {
     let text = str::from_utf8(output).map_err(|_| "text")?;

@@ -8,8 +8,8 @@ use Rattle.ucon_tell.specs.declared.talking.Heard.{Heard}
 use Rattle.ucon_tell.specs.declared.talking.Heard.TheVariants.{Line, TooLong}
 use Rattle.ucon_flow.specs.Seen.{SourceSeen}
 
--- What was read and not answered, by the ending. At the source's end: what stands behind the last newline. Where the source fails: no whole line. Where
--- the voice fails: what the reader holds. Else the input is too long for any process, or there was no memory.
+-- What was read and not answered, by the ending. At the source's end: what stands behind the last newline. If the source fails: no whole line. If
+-- the voice fails: what the reader holds. Otherwise the input is too long for any process, or there was no memory.
 abbrev pub LeftBy : Result (Unit {0}) TalkFault → List ℕ → List ℕ → List ℕ → Option (List ℕ) → Type 0
 LeftBy (Ok done) lines rest held left = IsBare rest × (held ≡ []) × IsAtEnd left
 LeftBy (Err faults.SourceFault) lines rest held left = IsBare rest

@@ -22,7 +22,7 @@ pub trait Keeper {
     ghost refuses: { Self → List ℕ → Type 0 };
 
     /// Answers a line, given without its newline, and adds the reply, one line with its newline, to a text. What the reply tells is kept when this
-    /// returns. Where there is no memory the line may have been taken, and no reply is told.
+    /// returns. If there is no memory the line may have been taken, and no reply is told.
     fn answer(&mut self, alloc: Global, line: &[u8], text: &mut Vec<u8>) -> Result<(), NoMemory>
         ensures reply { OnOk result (IsReplied (answers self.old self.new line.now) text.old.items text.new.items) }
         ensures stays { stays self.old self.new };

@@ -22,7 +22,7 @@ pub trait Voice<K: Keeper> {
         ensures some { IfOk result (λ n. 0 < length bytes.now → 0 < n) }
         ensures bytes { WriteAppends (seen self.old).contents (seen self.new).contents result bytes.now }
         ensures cause { HasCause (seen self.old).faults (seen self.new).faults result }
-        // What it holds once it has taken them, where it tells, is told by the moment of the keeper's disk; nothing else is told.
+        // What it holds once it has taken them, if it tells, is told by the moment of the keeper's disk; nothing else is told.
         ensures noted { IfOk result (λ _. IfSome (seen self.new).contents (λ all. (seen self.new).told all (K.seen keeper.now).moment)) }
         ensures notes { Notes (seen self.old) (seen self.new) (K.seen keeper.now).moment };
 }

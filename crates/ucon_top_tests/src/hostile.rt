@@ -62,7 +62,7 @@ fn wrong_part<R: Threads + Wait + Sync>(
     Ok(wrong_end(&end, row, &output))
 }
 
-/// What is at a limit is accepted, and one more is refused at its place. The longest documents want minutes where each step is checked, as by
+/// What is at a limit is accepted, and one more is refused at its place. The longest documents want minutes if each step is checked, as by
 /// `rt try`.
 #[test]
 fn limits_are_met_exactly(rt: HostRuntime) -> Result<(), Fail> {
@@ -162,7 +162,7 @@ fn is_told_in_part<R: Threads + Wait + Sync>(
     Ok(end.status == 5 && is_front && same(end.disk.contents(), row.left))
 }
 
-/// Where a write of an explanation fails the front of it went out.
+/// If a write of an explanation fails the front of it went out.
 #[test]
 fn an_explanation_may_be_cut_short(rt: HostRuntime) -> Result<(), Fail> {
     let row = EXPLAINED_ROWS.first().ok_or("a row")?;
@@ -175,7 +175,7 @@ fn an_explanation_may_be_cut_short(rt: HostRuntime) -> Result<(), Fail> {
     Ok(())
 }
 
-/// Where a read fails nothing is done; where a write fails all is, and the front of the output went out.
+/// If a read fails nothing is done; if a write fails all is, and the front of the output went out.
 #[test]
 fn each_call_may_fail(rt: HostRuntime) -> Result<(), Fail> {
     let alloc = rt.alloc();

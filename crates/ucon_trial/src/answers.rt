@@ -128,7 +128,7 @@ fn answer<E: Engine, R: Hearer>(
     }
 }
 
-/// Keeps the change that is pending, where there is one.
+/// Keeps the change that is pending, if there is one.
 #[inline(always)]
 fn keep_change<E: Engine>(engine: &mut E, changes: bool)
     requires pending { IsTrue changes → IsPending E.has_pending engine.old }

@@ -51,7 +51,7 @@ pub record IsWalking (w : Walk) (gate : ℕ) : Type 0 where
   pub small : 5 * w.number ≤ gate
   pub last : IfSome w.last (IsPlacedBelow gate)
 
--- why a walk didn't come to the end: the first record that is too long, a fault of the disk, or want of memory
+-- why a walk didn't come to the end: the first record that is too long, a fault of the disk, or out of memory
 abbrev pub HasLong : RecordFault → Option Bytes → (number gate before now : ℕ) → Type 0
 HasLong (Damaged long place) file number gate before now =
     IfSome file (λ bytes. first_long number gate (payloads_from bytes gate) ≡ Some (long, place)) × (now ≡ before)
