@@ -115,7 +115,7 @@ impl Monitor {
     ghost use Rattle.ucon_cascade.specs.Monitor.{AreMade, GoesBack, HasPending, IsReady, MayGoBack};
 
     /// Drafts the command, and tells what that costs: the counter rises by at most the touches of the actions of the command's block, also
-    /// if memory runs out.
+    /// after want of memory.
     pub fn draft_at_cost(
         &mut self,
         caller: Caller,
