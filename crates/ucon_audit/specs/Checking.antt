@@ -38,7 +38,7 @@ abbrev pub IsSomeCheck : {E : Type 0} → (E → PlainPolicy → Trace → Type 
 IsSomeCheck follows check gate contents =
     (kept : Option Kept) × (text : Bytes) × (P : PlainPolicy) × IsChecking follows kept text P check gate contents
 
--- All records are right, and the policy is the one of this text: the file is found as a history, which is kept, and the head stands behind all its
+-- All records are right, and the policy is the one of this text. The file is found as a history, which is kept, and the head stands behind all its
 -- records.
 pub record IsWhole {E : Type 0} (follows : E → PlainPolicy → Trace → Type 0) (kept : Option Kept) (text : Bytes) (check : Check E) (file : Bytes) : Type 0 where
   pub P : PlainPolicy

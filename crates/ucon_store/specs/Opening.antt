@@ -40,8 +40,8 @@ pub record HasOtherBy (reads : PolicyReading) (text : Bytes) (place : ℕ) (file
   pub is : SeesBy reads file (holds other entries there gate)
   pub differs : first_difference other text ≡ Some place
 
--- why a store isn't opened under the policy of this text: by what opening sees in the bytes as read, where the disk tells, or by the disk's count
--- of faults before and after, which is one more at a disk fault, and otherwise as it was; want of memory may come at any moment
+-- Why a store isn't opened under the policy of this text. It is what opening sees in the bytes as read, if the disk tells. Or it is a disk fault,
+-- at which the disk's count of faults is one more; otherwise the count is as it was. Out of memory may come at any moment.
 abbrev pub HasReasonBy : PolicyReading → StoreFault → Bytes → Option Bytes → ℕ → ℕ → Type 0
 HasReasonBy reads NotJournal text file before now = IfSome file (λ bytes. SeesBy reads bytes not_journal) × (now ≡ before)
 HasReasonBy reads (Damaged number place) text file before now = IfSome file (λ bytes. SeesBy reads bytes (damaged number place)) × (now ≡ before)
@@ -58,7 +58,8 @@ IsForeign not_journal text = ⊤
 IsForeign (damaged number place) text = ⊤
 IsForeign (holds other entries there gate) text = ¬ (other ≡ text)
 
--- what opening under the policy of this text may make of a file: what was found is still found, and where it sees a foreign one the file is as it was
+-- What opening under the policy of this text may make of a file. What was found is still found, and if opening sees a foreign file there, it is as
+-- it was.
 pub record OpensBy (reads : PolicyReading) (text file c : Bytes) : Type 0 where
   pub same : (H : History) → IsFoundBy reads text file H → IsFoundBy reads text c H
   pub untouched : (seen : Seen) → SeesBy reads file seen → IsForeign seen text → c ≡ file

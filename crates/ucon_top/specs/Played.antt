@@ -36,10 +36,10 @@ pub record IsFoundSinceBy (reads : PolicyReading) (text : Bytes) (opening H : Hi
   pub begun : Begins opening history
   pub within : Begins history H ⊎ ((e : Entry) × (failed ≡ Some e) × (history ≡ H ++ e ∷ []))
 
--- The answers are a legal run behind the history as which the file was found. Where a line met a disk fault the disk's count rose by one,
--- and otherwise it didn't. Where the disk was at rest, a crash at any moment since leaves a file that is found as a beginning of the history
--- that is made, which has the opening one, or as it with the line that met a disk fault. At rest or not, a crash now leaves one that is found
--- as the whole, or as it with that line.
+-- The answers are a legal run behind the history as which the file was found. If a line met a disk fault the disk's count rose by one, and
+-- otherwise it didn't. If the disk was at rest, a crash at any moment since leaves a file that is found as a beginning of the history that is
+-- made. That beginning has the opening history. Or the file is found as the whole history with the line that met a disk fault. At rest or not, a
+-- crash now leaves one that is found as the whole, or as it with that line.
 pub record IsPlayedBy (reads : PolicyReading) (sees : Caller → Caller → Bool) (text : Bytes) (P : PlainPolicy) (file : Bytes) (opening : History)
     (old new : DiskSeen) (told : List Answered) : Type 0 where
   pub legal : IsLegalRun P sees opening told

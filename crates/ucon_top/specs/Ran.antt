@@ -1,5 +1,5 @@
--- What a run did, by what could be said of source, sink and disk before it and can be said after it: the causes of its end, what it made, what it
--- left, and when it is complete. Words that are no form are a case of their own, so all else speaks of one form.
+-- What a run did, by what could be said of source, sink and disk before it and can be said after it. That is the causes of its end, what it made,
+-- what it left, and when it is complete. Words that are no form are a case of their own, so all else speaks of one form.
 use Rattle.std.specs.Prelude.{◌≡◌, ◌≢◌, ◌⊎◌, ◌<◌, ◌≤◌, ◌+◌, length, Option, None, Some, IfSome}
 use Rattle.std.specs.Io.KnownBytes.{IsAtEnd}
 use Rattle.ucon_disk.specs.Causes.{raised}
@@ -30,9 +30,9 @@ pub record HasCauses (reads : PolicyReading) (asked : Form) (ended : Outcome) (b
   pub sink : IsCounted ended SinkFault before.sink.faults after.sink.faults
   pub fault : ended ≡ DiskFault → after.disk.faults ≡ raised before.disk.faults
 
--- With status 0 the bytes added to the sink are what the form prints of its document: for `trial` the output of a legal run, for `check` the core
--- models, for `gen` the summary of a legal run. Where the sink failed they are the front of such an output, and otherwise nothing is written. Of
--- the forms over a journal, by how they ended, what was printed and what each file is that a crash may leave.
+-- With status 0 the bytes added to the sink are what the form prints of its document. For `trial` that is the output of a legal run, for `check`
+-- the core models, for `gen` the summary of a legal run. If the sink failed they are the front of such an output, and otherwise nothing is
+-- written. Of the forms over a journal, by how they ended, what was printed and what each file is that a crash may leave.
 pub record HasMade (reads : PolicyReading) (asked : Form) (ended : Outcome) (before after : Seen) : Type 0 where
   pub done : ended ≡ Done → IsAlone asked
       → Adds (IsOutputOfBy reads asked) (document_of asked before.source.left) before.sink.contents after.sink.contents

@@ -87,8 +87,8 @@ module _ {E N : Type 0} where
   abbrev pub joined : SeatView E N → SeatView E N → SeatView E N
   joined v w = record v { stage = Joined; seen = longer v.seen w.seen; taken = w.number ∷ v.taken; ours = v.seen; theirs = w.seen }
 
-  -- What the rule says of what a live seat, the j-th, knows: its list begins with the opening list and begins the turn's list, which has no entry of its own behind;
-  -- the seat with number 0 is the first one, and knows all numbers that were given
+  -- What the rule says of what a live seat, the j-th, knows. Its list begins with the opening list and begins the turn's list, which has no entry
+  -- of its own behind. The seat with number 0 is the first one, and knows all numbers that were given.
   pub record Knows (caller : N → ℕ) (entries : E → List N) (about : E) (log : List N) (all_given : List ℕ) (j : ℕ) (opened : List E) (number : ℕ) (seen : List N) (given taken : List ℕ) : Type 0 where
     pub opened_is : opened ≡ about ∷ []
     pub begins : Begins (entries about) seen
