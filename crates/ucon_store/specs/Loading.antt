@@ -59,8 +59,8 @@ found_from P T text payloads None = found_behind (steps_after T) text P [] 1 (ne
 found_from P T text payloads (Some p) =
     found_behind (steps_after T) text P [] (length p.before + 2) (next_gate (gate_behind (next_gate first_gate text) p.before) p.point) p.behind
 
--- Record 0 of the file has this text, no record is too long, and the entries begin at the last checkpoint. Behind each trace that leads there, this is
--- found.
+-- Record 0 of the file has this text, no record is too long, and the entries begin at the last checkpoint. Behind each trace that leads there,
+-- this is found.
 pub record IsReadAs (text : Bytes) (P : PlainPolicy) (point : Option Bytes) (before : ℕ) (finds : Trace → Finding) (file : Bytes) : Type 0 where
   pub payloads : List Bytes
   pub counts : counted file ≡ text ∷ payloads

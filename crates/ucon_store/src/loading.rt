@@ -74,8 +74,8 @@ impl<E: Engine> Loaded<E> {
         Ok(true)
     }
 
-    /// Takes the memory that a payload's entry needs, and drafts it. Whether the engine's reply changes something, and spelled with the entry is the payload: then
-    /// the step is pending.
+    /// Takes the memory that a payload's entry needs, and drafts it. True if the engine's reply changes something, and spelled with the entry is
+    /// the payload: then the step is pending.
     fn drafts(&mut self, alloc: Global, entry: &Entry, payload: &[u8]) -> Result<bool, NoMemory>
         requires standing { IsStanding E.follows self.old }
         requires short { length payload.now ≤ MAX_PAYLOAD }

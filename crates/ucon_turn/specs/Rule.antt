@@ -128,8 +128,8 @@ module _ {E N : Type 0} where
   abbrev pub Spot : (E → E → Type 0) → (E → List N) → E → List N → State (Option E) (SeatView E N) → Type 0
   Spot led_to entries about log s = AtHome led_to entries about log s ⊎ OutWith s
 
-  -- The rule of a turn that was opened with `about`. There is one list. The tickets out are those from `served` to just before `drawn`, one for each seat that has one.
-  -- There are no more seats than numbers that fit 32 bits, so no two tickets out are equal in the words
+  -- The rule of a turn that was opened with `about`. There is one list. The tickets out are those from `served` to just before `drawn`, one for
+  -- each seat that has one. There are no more seats than numbers that fit 32 bits, so no two tickets out are equal in the words.
   pub record Ruled (caller : N → ℕ) (led_to : E → E → Type 0) (entries : E → List N) (about : E) (s : State (Option E) (SeatView E N)) : Type 0 where
     pub drawn : ℕ
     pub served : ℕ
