@@ -71,9 +71,9 @@ IsSaidIn P G log t = IsSaid P (length G) (entries_in log) t.line t.answer
 abbrev pub WouldChange : PlainPolicy → List Event → Answered → Type 0
 WouldChange P log t = IsTrue (is_disk_fault t.answer) → IsTrue (changes (said P (entries_in log) t.line.caller t.line.command))
 
--- The answers to one client's lines, in the order of the lines, are right for the list that its seat has seen, if the turn was opened with the
--- history G. Each placed reply is the serial run's at its place, and each answer follows the earlier ones. The lines with changing replies are
--- exactly the client's entries behind G, under their places. The lines with a disk fault are exactly its marks.
+-- The answers to one client's lines, in their order, are right for the list that its seat has seen, if the turn was opened with the history G.
+-- Each placed reply is the serial run's at its place, and each answer follows the earlier ones. The lines with changing replies are exactly the
+-- client's entries behind G, under their places. The lines with a disk fault are exactly its marks.
 pub record AreRight (P : PlainPolicy) (client : ℕ) (G : History) (log : List Event) (told : List Answered) : Type 0 where
   pub opened : length G ≤ length (entries_in log)
   pub ends : EndsAtMark log
