@@ -124,7 +124,7 @@ fn is_told(facts: &[Fact], place: &Ref) -> bool
     facts.iter().any(|f| is_of_place(place, f))
 }
 
-/// How many of the facts are read once this place is, after so many. None where it is out of order, or the next fact is wrong.
+/// How many of the facts are read once this place is, after so many. None if it is out of order, or the next fact is wrong.
 fn read_place<V: View>(
     view: &V,
     session: u32,

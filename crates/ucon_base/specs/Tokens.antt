@@ -101,7 +101,7 @@ abbrev pub symbol_with : Option Symbol → Bytes → Lexed
 symbol_with None rest = (flawed unknown, [])
 symbol_with (Some s) rest = (a_symbol s, rest)
 
--- the longer symbol where its second byte follows
+-- the longer symbol if its second byte follows
 abbrev pub longest : ℕ → Symbol → Symbol → Bytes → Lexed
 longest second long short [] = (a_symbol short, [])
 longest second long short (b ∷ bs) = if b == second then (a_symbol long, bs) else (a_symbol short, b ∷ bs)

@@ -85,7 +85,7 @@ pub fn put_targets(state: &State, readers: &Readers, n: u32, when: When, work: &
     }
 }
 
-/// Puts into the work whom a permit concerns, where the head tells one: its session, and who reads where the updates before its usage wrote.
+/// Puts into the work whom a permit concerns, if the head tells one: its session, and who reads where the updates before its usage wrote.
 fn put_permitted(state: &State, readers: &Readers, head: &Head, work: &mut Pend)
     requires below { AllBelow (readers_at readers.now) work.old.limit }
     requires permitted { (n : ℕ) → head.now ≡ heads.Permitted n → n < work.old.limit }

@@ -82,7 +82,7 @@ fn follow_usage(state: &State, timers: &mut Timers, head: &Head) -> Result<(), N
     }
 }
 
-/// Gives session n the first limit of what holds of its right for its deadline, and takes it away where nothing has a limit.
+/// Gives session n the first limit of what holds of its right for its deadline, and takes it away if nothing has a limit.
 #[inline(always)]
 fn put_session(state: &State, timers: &mut Timers, n: u32) -> Result<(), NoMemory>
     ensures gives { OnOk result (GivesFirst (shown state.now) (deadlines_in timers.old) (deadlines_in timers.new) n) }

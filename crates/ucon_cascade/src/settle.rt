@@ -87,7 +87,7 @@ fn next_failing(state: &State, work: &mut Pend, steps: &mut Steps) -> Option<(u3
     None
 }
 
-/// Takes session n out of its list, and puts the next of the list into the work where it was the first.
+/// Takes session n out of its list, and puts the next of the list into the work if it was the first.
 fn leave_list(readers: &mut Readers, n: u32, work: &mut Pend) -> Result<(), NoMemory>
     requires { AllBelow (readers_at readers.old) work.old.limit }
     ensures read { OnOk result ((m place : ℕ) → Contains (readers_at readers.new place) m ↔ ((m ≢ n) × Contains (readers_at readers.old place) m)) }

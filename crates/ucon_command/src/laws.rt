@@ -45,7 +45,7 @@ pub fn payloads_are_read_back()
     texts_lack_bytes();
 }
 
-/// A payload is taken exactly where it is the one that the serial run spells, and its reply changes something.
+/// A payload is taken exactly if it is the one that the serial run spells, and its reply changes something.
 pub fn steps_are_taken_as_spelled()
     ensures taken { (P : PlainPolicy) (H : History) (payload : Bytes) (t : Told)
         → length payload ≤ most_payload → payload_read accepted payload ≡ Ok t

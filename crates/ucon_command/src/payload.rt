@@ -24,7 +24,7 @@ use ucon_model::{Caller, Command, Entry, Reply, texts_lack_bytes};
 use ucon_reply::{ReplyFault, put_session, put_spelling, read_reply, replies_are_read_back};
 
 /// Adds the one text of a step: the caller in decimal, a space, the command's text, a newline, the reply's text. What was added is read back as the
-/// step, where it is of one of the 64 clients, and is no longer than the reply's revocations let it be. If there is no memory, some of it may
+/// step, if it is of one of the 64 clients, and is no longer than the reply's revocations let it be. If there is no memory, some of it may
 /// stand there: a caller gives the text up.
 pub fn put_payload(
     alloc: Global,

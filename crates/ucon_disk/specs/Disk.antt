@@ -15,7 +15,7 @@ pub record Reads (file : List ℕ) (at n : ℕ) (buf : List ℕ) : Type 0 where
   pub count : n ≡ min (length buf) (length file - at)
   pub bytes : take n buf ≡ take n (drop at file)
 
--- the first n bytes of a buffer are those of the file at a place: at least one where the buffer has room and the file more bytes
+-- the first n bytes of a buffer are those of the file at a place: at least one if the buffer has room and the file more bytes
 pub record ReadsPart (file : List ℕ) (at n : ℕ) (buf : List ℕ) : Type 0 where
   pub within : n ≤ length file - at
   pub some : 0 < length buf → at < length file → 0 < n

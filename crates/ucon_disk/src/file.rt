@@ -52,7 +52,7 @@ impl<R: Files<File = File>> FileDisk<R> {
 }
 
 impl<R: Files<File = File>> Disk for FileDisk<R> {
-    // A file tells nothing of its bytes. Its moment is how many calls were made, so where that stays, no call was.
+    // A file tells nothing of its bytes. Its moment is how many calls were made, so if that stays, no call was.
     ghost seen = { λ d. record { contents = None; images = λ _. ⊤; moment = d.calls; images_since = λ _ _. ⊤; faults = d.faults } };
 
     ghost makes = { λ old new _ _. new.calls ≡ raised old.calls };

@@ -120,7 +120,7 @@ impl<T: Drop> Taker<T> {
     }
 }
 
-/// What was taken is the beginning of what was fed, and all of it where the end word was taken.
+/// What was taken is the beginning of what was fed, and all of it if the end word was taken.
 pub fn rejoin<T: Drop>(feeder: Feeder<T>, taker: Taker<T>)
     requires { taker.inbox ≡ feeder.inbox }
     ensures beginning { (rest : List T) × (feeder.fed.lines ≡ taker.taken.lines ++ rest) }

@@ -80,7 +80,7 @@ impl LineReader {
         ensures unfailed { result ≢ Err ReadFault.SourceFault → (S.seen source.new).faults ≡ (S.seen source.old).faults }
         ensures bare { IsErrOf result ReadFault.SourceFault → IsBare self.new.held }
 
-        // At most one read for each byte within the limit, and one more; none where a whole line is held.
+        // At most one read for each byte within the limit, and one more; none if a whole line is held.
         ensures reads { (S.seen source.new).reads ≤ (S.seen source.old).reads + self.old.limit + 1 }
         ensures untouched { HasNewline self.old.held → source.new ≡ source.old }
         ensures bounded { length self.new.held ≤ max (length self.old.held) (self.old.limit + 4096) }

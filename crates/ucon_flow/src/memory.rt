@@ -77,7 +77,7 @@ impl Source for MemSource {
     }
 }
 
-/// A sink that takes pieces of bytes, and fails at calls of given numbers and where it finds no memory.
+/// A sink that takes pieces of bytes, and fails at calls of given numbers and if it finds no memory.
 #[derive(Drop)]
 pub struct MemSink {
     bytes: Vec<u8>,
@@ -98,7 +98,7 @@ impl Model for MemSink {
 }
 
 impl MemSink {
-    /// Takes at most `piece` bytes a call. The calls whose numbers, from 0, stand in `faults` fail, where they have some bytes.
+    /// Takes at most `piece` bytes a call. The calls whose numbers, from 0, stand in `faults` fail, if they have some bytes.
     pub fn new(alloc: Global, piece: usize, faults: Vec<u64>) -> MemSink
         requires { 1 ≤ piece }
         ensures { result ≡ record { bytes = []; piece = piece; calls = no_calls faults.items; short = 0 } }

@@ -30,7 +30,7 @@ impl Ahead {
         }
     }
 
-    /// Sees to it that so many bytes from a place on are there, as far as the file has them. The disk is called only where not all of them were
+    /// Sees to it that so many bytes from a place on are there, as far as the file has them. The disk is called only if not all of them were
     /// read ahead.
     #[inline]
     pub(crate) fn bring<D: Disk>(

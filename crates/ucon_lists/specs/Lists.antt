@@ -23,7 +23,7 @@ member_at rows n = option_map_or (λ row. row) (slice_get rows n) nobody
 abbrev pub ends_at : List Ends → ℕ → Ends
 ends_at ends leader = option_map_or (λ e. e) (slice_get ends leader) unjoined
 
--- the leader of the list in which a session is; none where it is in none
+-- the leader of the list in which a session is; none if it is in none
 abbrev pub leader_in : Members → ℕ → Option ℕ
 leader_in v n = (member_at v.rows n).leader
 
@@ -74,7 +74,7 @@ pub record Joins (old new : Members) (leader session : ℕ) : Type 0 where
   pub joined : is_joined new leader ≡ true
   pub lists : (l : ℕ) → l ≢ leader → is_joined new l ≡ is_joined old l
 
--- the list of a leader may have been joined by a session, and by the leader itself where it wasn't joined before, and no other was
+-- the list of a leader may have been joined by a session, and by the leader itself if it wasn't joined before, and no other was
 pub record JoinsAtMost (old new : Members) (leader session : ℕ) : Type 0 where
   pub members : (l n : ℕ) → IsLed new l n
       → ((l ≡ leader) × (is_joined new leader ≡ true) × ((n ≡ session) ⊎ ((n ≡ leader) × (is_joined old leader ≡ false)))) ⊎ IsLed old l n

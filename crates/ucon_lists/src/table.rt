@@ -61,7 +61,7 @@ fn unjoined() -> Ends
 }
 
 impl Table {
-    /// The leader of the list in which a session is. None where it is in none.
+    /// The leader of the list in which a session is. None if it is in none.
     pub fn leader(&self, session: u32) -> Option<u32>
         ensures { result ≡ leader_in (seen self.now) session }
     {

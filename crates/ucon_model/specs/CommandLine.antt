@@ -118,7 +118,7 @@ number_in bs = option_and_then number_of (integer_in bs)
 abbrev pub said : {A : Type 0} → (Bytes → Option A) → Word → Result A LineRefusal
 said kind w = ok_or (kind w.text) (bad_word w.at)
 
--- a line of other than its form's number of words
+-- a line that hasn't its form's number of words
 abbrev pub miscounted : {A : Type 0} → List Word → Result A LineRefusal
 miscounted words = Err (wrong_count (length words))
 

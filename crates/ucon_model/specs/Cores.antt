@@ -83,7 +83,7 @@ indices_by before during after = or_zero (index_if before 1 ++ index_if during 2
 abbrev pub indices : CoreKind → List PlainUpdate → List ℕ
 indices kind us = indices_by (updates_at kind us Before) (updates_at kind us During) (updates_at kind us AfterEnd || updates_at kind us AfterRevoke)
 
--- a right's core models of a kind: none where it has no predicate of the kind
+-- a right's core models of a kind: none if it has no predicate of the kind
 abbrev pub cores_of_kind : PlainRight → CoreKind → List Core
 cores_of_kind r kind =
     if list_any (is_of_kind kind) r.preds then map (λ i. record { kind = kind; index = i }) (indices kind r.updates) else []

@@ -54,7 +54,7 @@ behind_first_word line = after_first (λ b. b == 32) line
 abbrev pub is_heading : Bytes → Bool
 is_heading line = bytes_eq (first_word line) (codes "client")
 
--- digits, the first of them `0` only where it stands alone
+-- digits, of which the first is `0` only if it stands alone
 abbrev pub is_number : Bytes → Bool
 is_number [] = false
 is_number (d ∷ ds) = list_all is_digit (d ∷ ds) && (not (d == 48) || length ds == 0)
@@ -73,21 +73,21 @@ caller_of n = record { 0 = n }
 
 -- ---- what a script says
 
--- a command line: its number in the document, from 1, the client whose it is, and the command
+-- a command line: its number in the document, from 1, the client who gives it, and the command
 pub record ScriptLine : Type 0 where
   pub number : ℕ
   pub caller : Caller
   pub command : Command
 
--- why a document is refused, with the number of the line: a client of 64 or above; a heading of any other wrong form, or a command
--- line without a heading above it; one command line too many; a command line that is none
+-- why a document is refused, with the number of the line: a client of 64 or above; a heading of any other wrong form, or a command line without a
+-- heading above it; one command line too many; a line that is no command
 pub data DocumentRefusal : Type 0 where
   too_many_clients : (number : ℕ) → DocumentRefusal
   bad_heading : (number : ℕ) → DocumentRefusal
   too_many_lines : (number : ℕ) → DocumentRefusal
   bad_line : (number : ℕ) (cause : LineRefusal) → DocumentRefusal
 
--- whose lines stand below these, the nearest line first: those of the nearest heading's client
+-- the client of the lines below these, of which the nearest comes first: that of the nearest heading
 abbrev pub client_below : List Bytes → Option Caller
 client_below [] = None
 client_below (l ∷ above) = if is_heading l then option_map caller_of (heading_number l) else client_below above

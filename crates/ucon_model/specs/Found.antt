@@ -1,4 +1,4 @@
--- What a journal's payloads say, record by record. How a policy's text is read is an argument, and what a later payload may be.
+-- What a journal's payloads say, record by record. Two things are arguments: how a policy's text is read, and what a later payload may be.
 use Rattle.std.specs.Prelude.{◌≡◌, ℕ, ◌+◌, Bool, ◌&&◌, nat_lt, List, [], ◌∷◌, ◌++◌, length, Option, Some, None, option_map, option_and_then}
 use Rattle.std.specs.Prelude.{unwrap_or, if◌then◌else◌}
 use Rattle.std.specs.Result.{result_ok}
@@ -45,7 +45,7 @@ Takes = Bytes → PlainPolicy → History → Bytes → Option History
 abbrev pub only_steps : (Bytes → Option PlainPolicy) → Takes
 only_steps reads text P H payload = taken reads P H payload
 
--- each payload that tells the next step is taken as it
+-- each payload that tells the next step is taken as that step
 abbrev pub TakesSteps : (Bytes → Option PlainPolicy) → Takes → Type 0
 TakesSteps reads takes =
     (text : Bytes) (P : PlainPolicy) (H later : History) (payload : Bytes) → taken reads P H payload ≡ Some later
@@ -71,7 +71,7 @@ found_in reads takes (text ∷ payloads) =
     (option_map (λ P. found_behind takes text P [] 1 (next_gate first_gate text) payloads) (policy_taken reads text))
     (damaged 0 first_gate)
 
--- what is found where behind so many payloads, in which this is found, stand more
+-- what is found once more payloads stand behind so many, in which this is found
 abbrev pub found_on : (Bytes → Option PlainPolicy) → Takes → Finding → ℕ → List Bytes → Finding
 found_on reads takes fresh number payloads = found_in reads takes payloads
 found_on reads takes (holds text P H gate) number payloads = found_behind takes text P H number gate payloads

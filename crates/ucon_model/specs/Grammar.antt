@@ -282,7 +282,7 @@ when_token whens.During = word (codes "during")
 when_token whens.AfterEnd = word (codes "after_end")
 when_token whens.AfterRevoke = word (codes "after_revoke")
 
--- how many stand before, of each phase
+-- how many stand before, of each time
 pub record WhenCount : Type 0 where
   pub before_usage : ℕ
   pub during_usage : ℕ
@@ -301,7 +301,7 @@ count_when n whens.During = record n { during_usage = n.during_usage + 1 }
 count_when n whens.AfterEnd = record n { after_end = n.after_end + 1 }
 count_when n whens.AfterRevoke = record n { after_revoke = n.after_revoke + 1 }
 
--- update = ("before" | "during" | "after_end" | "after_revoke") side "." NAME "=" expr ";", the 17th of its phase marked at its
+-- update = ("before" | "during" | "after_end" | "after_revoke") side "." NAME "=" expr ";", the 17th of its time marked at its
 -- first word
 abbrev pub an_update : WhenCount → Form PlainUpdate
 an_update n =

@@ -55,7 +55,7 @@ abbrev pub AreNumberedFrom : ℕ → List (ℕ × Entry) → Type 0
 AreNumberedFrom n [] = Unit {0}
 AreNumberedFrom n (x ∷ xs) = (x.0 ≡ n + 1) × AreNumberedFrom (n + 1) xs
 
--- how many entries a reply stands on: those before its place where it changes something, and those up to it where it doesn't
+-- how many entries a reply stands on: those before its place if it changes something, and those up to it if it doesn't
 abbrev pub stands_on : ℕ → PlainReply → ℕ
 stands_on place reply = if changes reply then place - 1 else place
 
@@ -111,7 +111,7 @@ pub record IsLegalRun (P : PlainPolicy) (sees : Caller → Caller → Bool) (ope
   pub order : AreInOrder sees told
   pub causes : HaveCauses P (history_made opening told) told
 
--- everybody sees every earlier answer, as where one thread answers all lines in the order of the text
+-- everybody sees every earlier answer, as if one thread answered all lines in the order of the text
 abbrev pub in_text_order : Caller → Caller → Bool
 in_text_order earlier later = true
 

@@ -64,7 +64,7 @@ placed_read text place = option_map (placed place) (reply_read text)
 abbrev pub answer_read : Bytes × Bytes → Option Answer
 answer_read p = if bytes_eq p.0 (codes "-") then unplaced_read p.1 else option_and_then (placed_read p.1) (number_read p.0)
 
--- the answer that a line of output tells, where it is this client's
+-- the answer that a line of output tells, if the line is this client's
 abbrev pub line_read : Entry → Bytes × Bytes → Option Answer
 line_read e p = if bytes_eq p.0 (decimal e.caller.0) then option_and_then answer_read (cut_at 32 p.1) else None
 

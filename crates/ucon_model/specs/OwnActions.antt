@@ -62,12 +62,12 @@ decide P T n = by_verdict P T n (verdict (in_force P T) (readings P T) n)
 abbrev pub is_admin : Caller → Bool
 is_admin caller = nat_eq caller.0 0
 
--- the refusal where an entity of a side is not there
+-- the refusal if an entity of a side is not there
 abbrev pub no_entity : Side → Refusal
 no_entity sides.Subject = NoSubject
 no_entity sides.Object = NoObject
 
--- the refusal where a side is full
+-- the refusal if a side is full
 abbrev pub full_entities : Side → Refusal
 full_entities sides.Subject = FullSubjects
 full_entities sides.Object = FullObjects
@@ -188,7 +188,7 @@ replace_policy P T caller text Q =
 
 -- ---- all commands
 
--- a command's own actions after a trace; each refusal is the first in its one order whose cause holds
+-- a command's own actions after a trace; a refusal is the first in the one order whose cause holds
 abbrev pub own : PlainPolicy → Trace → Caller → Command → Own
 own P T caller (Subject name) = add_entity T caller sides.Subject name
 own P T caller (Object name) = add_entity T caller sides.Object name

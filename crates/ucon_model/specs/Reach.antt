@@ -133,7 +133,7 @@ alters (subject n) (attribute_of sides.Subject name attr) = bytes_eq name n
 alters (object n) (attribute_of sides.Object name attr) = bytes_eq name n
 alters a location = replaces a
 
--- whether the tick decides over an obligation: not where it is met once and for all
+-- whether the tick decides over an obligation: not if it is met once and for all
 abbrev pub is_ticking : Form → Bool
 is_ticking Done = false
 is_ticking (Within n) = true

@@ -141,7 +141,7 @@ acts (b ∷ T) = acts T
 
 -- ---- sessions
 
--- the row with a change, where the action names its session
+-- the row with a change, if the action names its session
 abbrev pub changed_if : Bool → (SessionRow → SessionRow) → Option SessionRow → Option SessionRow
 changed_if same change row = if same then option_map change row else row
 

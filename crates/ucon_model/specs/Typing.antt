@@ -222,7 +222,7 @@ update_fault P before n u =
 
 -- ---- the first fault
 
--- The first fault of these, behind those before them, from item n on. Each is asked with those before it, and counts as so many items.
+-- The first fault of these, behind those before them, from item n on. Each is judged with those before it, and counts as so many items.
 abbrev pub first_fault_of : {T : Type 0} → (T → ℕ) → (List T → ℕ → T → Option TypeFault) → List T → ℕ → List T → Option TypeFault
 first_fault_of items fault before n [] = None
 first_fault_of items fault before n (x ∷ xs) = option_or (fault before n x) (first_fault_of items fault (before ++ x ∷ []) (n + items x) xs)
@@ -249,7 +249,7 @@ right_fault P before n r =
     (option_or (first_fault_of one_item (update_fault P) [] (n + 1 + length r.preds) r.updates)
     (whole_fault r)))
 
--- a policy's first fault; none where it is well typed
+-- a policy's first fault; none if it is well typed
 unfoldable pub type_fault : PlainPolicy → Option TypeFault
 type_fault P =
     option_or (first_fault_of one_item attr_fault [] 1 P.attrs)

@@ -68,7 +68,7 @@ concerned P T actions n = list_any (permits n) actions || reached P T actions n
 abbrev pub work_after : PlainPolicy → Trace → Work → ℕ → Work
 work_after P T work n = without n (joined work (readers P T (session_targets P T n AfterRevoke)))
 
--- Working off: the least member is taken; where it doesn't fail it is left out; where it does it is revoked, its updates run, and who
+-- Working off: the least member is taken; if it doesn't fail it is left out; if it does it is revoked, its updates run, and who
 -- reads what they wrote comes in. More may come in than has to.
 pub data WorksOff (P : PlainPolicy) : Trace → Work → List Action → Type 0 where
   done : {T : Trace} {work : Work} → IsEmpty work → WorksOff P T work []

@@ -109,7 +109,7 @@ pub fn covering_work_has_the_least()
     ensures empty { (P : PlainPolicy) (T : Trace) (work : Work) → Covers P T work → IsEmpty work → least_failing P T ≡ None }
 {}
 
-/// Working off work that covers is settling; and it ends, where the work is bounded.
+/// Working off work that covers is settling; and it ends, if the work is bounded.
 pub fn working_off_is_settling()
     ensures settles { (P : PlainPolicy) (T : Trace) (work : Work) (actions : List Action) → WorksOff P T work actions → IsNumbered T
         → Covers P T work → actions ≡ settle P T }
@@ -139,7 +139,7 @@ pub fn acts_make_nobody_fail()
         → fails_at P (act s a o ∷ T) n ≡ None }
 {}
 
-/// A tick changes a timed part only where it passes its limit, and so whether a session fails only where it passes one of its limits.
+/// A tick changes a timed part only if it passes its limit, and so whether a session fails only if it passes one of its limits.
 pub fn ticks_change_at_limits()
     ensures parts { (P : PlainPolicy) (T : Trace) (t : ℤ) (row : SessionRow) (part : Timed) → tick_of T ≤ℤ t
         → passes (tick_of T) t (limit_of (readings P T) row part) ≡ false
@@ -157,7 +157,7 @@ pub fn one_judgement_serves_all_alike()
         → reads_at Q row location ≡ reads_at Q other location }
 {}
 
-/// If the index is exact, an accessing session reads at one of these locations exactly where the leader of its list stands at one.
+/// If the index is exact, an accessing session reads at one of these locations exactly if the leader of its list stands at one.
 pub fn the_index_names_the_readers()
     ensures { (P : PlainPolicy) (T : Trace) (leader : ℕ → ℕ) (stands : ℕ → Location → Bool) (locations : List Location) (n : ℕ)
         → IsExact P T leader stands → is_accessing (session T n) ≡ true

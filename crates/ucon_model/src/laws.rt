@@ -58,7 +58,7 @@ pub fn revocations_are_few()
 {}
 
 /// Behind a sound trace after which at most 65,536 sessions are accessing, as few are after every history, and a reply has at most 65,536
-/// revocations. So where a state is taken up, nothing need be known of how it came about.
+/// revocations. So if a state is taken up, nothing need be known of how it came about.
 pub fn usages_stay_few()
     ensures usages { (P : PlainPolicy) (T : Trace) → IsSound P T → accessing T ≤ 65536 → (H : History) → accessing (trace_from P T H) ≤ 65536 }
     ensures revocations { (P : PlainPolicy) (T : Trace) → IsSound P T → accessing T ≤ 65536 → (H : History) (caller : Caller) (c : Command)

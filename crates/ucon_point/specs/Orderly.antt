@@ -50,7 +50,7 @@ abbrev pub HasRoomBehind : List SessionRow → SessionState → Type 0
 HasRoomBehind before Accessing = accessing_among before < 65536
 HasRoomBehind before state = Unit {0}
 
--- a session's entities are there, it started by now, and it has no start where it was never permitted
+-- a session's entities are there, it started by now, and it has no start if it was never permitted
 pub record IsSessionInOrder (h : Held) (n : ℕ) (row : SessionRow) : Type 0 where
   pub room : HasRoomBehind (sessions_to h.session n) row.state
   pub entities : AreBothThere h row.subject row.object

@@ -144,7 +144,7 @@ point_behind total entries text Q bytes = do
   Ok (record { entries = entries; text = text; policy = Q; tick = tick.0; rows = rows })
 
 -- What the bytes say as a checkpoint. Else the place of the first line that cannot be one there, the policy's line being one with its text;
--- or the length of the bytes where they end too soon.
+-- or the length of the bytes if they end too soon.
 unfoldable pub point_read : Bytes → Result Said ℕ
 point_read bytes = do
   entries ← line_at (counted (codes "point")) (length bytes) bytes

@@ -73,7 +73,7 @@ abbrev pub is_zero : ℤ → Bool
 is_zero (pos zero) = true
 is_zero z = false
 
--- whether a session in this state may have this start: 0, where it was never permitted
+-- whether a session in this state may have this start: 0, if it was never permitted
 abbrev pub starts_right : SessionState → ℤ → Bool
 starts_right Requesting start = is_zero start
 starts_right Denied start = is_zero start
@@ -106,7 +106,7 @@ may_put t (Session s) = may_put_session t s
 abbrev pub with_next : PlainPolicy → Standing → Row → Reached → Option Standing
 with_next Q s row next = if may_put s.tables row then Some (record { reached = next; tables = with_put Q s.reached.stage s.tables row }) else None
 
--- what one more row makes; None where it may not come
+-- what one more row makes; None if it may not come
 abbrev pub put : PlainPolicy → Standing → Row → Option Standing
 put Q s row = option_and_then (with_next Q s row) (after Q s.reached row)
 

@@ -27,7 +27,7 @@ abbrev pub IsCount : ℤ → Type 0
 IsCount (pos n) = n ≤ 1000000000000000
 IsCount (negsuc n) = ⊥
 
--- one level where brackets are printed
+-- one level if brackets are printed
 abbrev pub level_if : Bool → ℕ
 level_if true = 1
 level_if false = 0

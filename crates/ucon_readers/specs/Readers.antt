@@ -8,7 +8,7 @@ use Rattle.ucon_readers.specs.declared.readers.Readers.{Readers}
 abbrev pub readers_at : Readers → ℕ → List ℕ
 readers_at r place = readers_in r.standing place
 
--- the first of the list in which session n is, who is judged for it; n itself where it is in none
+-- the first of the list in which session n is, who is judged for it; n itself if it is in none
 abbrev pub first_of : Readers → ℕ → ℕ
 first_of r n = first_in r.standing.lists.members n
 

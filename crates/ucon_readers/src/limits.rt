@@ -14,7 +14,7 @@ use ucon_base::Int;
 use ucon_model::{Form, Formula, Predicate, Test, View};
 use ucon_state::State;
 
-/// Up to which tick an obligation is met that was last met then. None where the tick doesn't decide over it. The sum is not clamped.
+/// Up to which tick an obligation is met that was last met then. None if the tick doesn't decide over it. The sum is not clamped.
 fn form_limit(start: Int, form: Form, last: Option<Int>) -> Option<i64>
     ensures { result ≡ form_limit start form last }
 {

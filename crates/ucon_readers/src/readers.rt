@@ -37,7 +37,7 @@ fn forget_some(replaced: &mut Option<Standing>)
 #[derive(Drop)]
 pub struct Readers {
     standing: Standing,
-    /// Who stood where before the draft, where the draft has put others in their place.
+    /// Who stood where before the draft, if the draft has put others in their place.
     replaced: Option<Standing>,
     /// By its kind the leader whose list a session might join: a guess, which has to be checked, and of which nothing is undone.
     guesses: IndexMap<Kind, u32>,
@@ -59,7 +59,7 @@ impl Readers {
         })
     }
 
-    /// The first of the list in which a session is, who is judged for it. The session itself where it is in none.
+    /// The first of the list in which a session is, who is judged for it. The session itself if it is in none.
     pub fn first(&self, session: u32) -> u32
         ensures { result ≡ first_of self.now session }
     {

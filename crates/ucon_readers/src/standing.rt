@@ -54,7 +54,7 @@ impl Standing {
         })
     }
 
-    /// The first of the list in which a session is. The session itself where it is in none.
+    /// The first of the list in which a session is. The session itself if it is in none.
     pub(crate) fn first(&self, session: u32) -> u32
         ensures { result ≡ first_in self.now.lists.members session }
     {
@@ -221,7 +221,7 @@ fn hide_alone(lists: &Lists, index: &mut Index, session: u32)
     }
 }
 
-/// Takes a leader out of the index where its list has no first.
+/// Takes a leader out of the index if its list has no first.
 fn if_empty_hide(index: &mut Index, leader: u32, first: Option<u32>)
     requires { is_there leader index.old.places ≡ true }
     ensures led { IsSome first → index.new ≡ index.old }
@@ -242,7 +242,7 @@ fn first_without(session: u32, first: Option<u32>, next: Option<u32>) -> Option<
     if first == Some(session) { next } else { first }
 }
 
-/// The next first of a list that a session has left, where that was its first.
+/// The next first of a list that a session has left, if that was its first.
 fn next_first(session: u32, first: Option<u32>, next: Option<u32>) -> Option<u32>
     ensures was { first ≡ Some session → result ≡ next }
     ensures other { (first ≡ Some session → ⊥) → result ≡ None }

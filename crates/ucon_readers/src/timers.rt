@@ -31,7 +31,7 @@ fn forget_some(replaced: &mut Option<Wheel>)
 #[derive(Drop)]
 pub struct Timers {
     wheel: Wheel,
-    /// The wheel before the draft, where the draft has put another in its place.
+    /// The wheel before the draft, if the draft has put another in its place.
     replaced: Option<Wheel>,
 }
 

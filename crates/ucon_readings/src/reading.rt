@@ -149,7 +149,7 @@ pub fn session_state(state: &State, n: u32) -> Option<SessionState>
     state.session_state(n)
 }
 
-/// The tick at which an act was last done. None where it never was.
+/// The tick at which an act was last done. None if it never was.
 pub fn moment(state: &State, subject: &Name, action: &Name, object: &Name) -> Option<Int>
     ensures tables { result ≡ moment_in (shown state.now).tables subject.now action.now object.now }
     ensures trace { AfterEach (shown state.now) (λ P T. moment subject.now action.now object.now T ≡ result) }

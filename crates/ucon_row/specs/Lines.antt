@@ -14,7 +14,7 @@ use Rattle.ucon_model.specs.Spelling.{state_word}
 abbrev pub line : List Bytes → Bytes
 line words = join_with_byte 32 words ++ 10 ∷ []
 
--- a word, a name and its value; no line where it has none
+-- a word, a name and its value; no line if it has none
 abbrev pub value_line : Bytes → Bytes → Option Value → Bytes
 value_line word name None = []
 value_line word name (Some v) = line (word ∷ name ∷ value_spelling v ∷ [])

@@ -65,7 +65,7 @@ abbrev pub is_variables : Stage → Bool
 is_variables Variables = true
 is_variables stage = false
 
--- how far the rows have come with one more; None where it may not come
+-- how far the rows have come with one more; None if it may not come
 abbrev pub after : PlainPolicy → Reached → Row → Option Reached
 after Q r (Variable name v) = if is_variables r.stage then with_value (awaited Q r) r name v else None
 after Q r (Attribute name v) = if is_variables r.stage then None else with_value (awaited Q r) r name v

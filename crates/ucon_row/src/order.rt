@@ -38,7 +38,7 @@ pub fn beginning() -> Reached
     }
 }
 
-/// How far the rows have come with one more. None where it may not come.
+/// How far the rows have come with one more. None if it may not come.
 pub fn after(policy: &Policy, reached: Reached, row: &Row) -> Option<Reached>
     ensures { result ≡ after (policy_of policy.now) reached row.now }
 {

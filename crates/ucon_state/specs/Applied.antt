@@ -47,7 +47,7 @@ with_variable t position v = record t { variables = slice_set t.variables positi
 abbrev pub with_tick : {S : Type 0} → TablesOf S → ℤ → TablesOf S
 with_tick t now = record t { tick = now }
 
--- with this act as done now: at its own position, or behind the others where it was never done
+-- with this act as done now: at its own position, or behind the others if it was never done
 abbrev pub with_act : {S : Type 0} → TablesOf S → Act → TablesOf S
 with_act t a = record t { acts = insert_entry same_act t.acts a t.tick }
 
@@ -75,7 +75,7 @@ may_become Accessing Ended = true
 may_become Accessing Revoked = true
 may_become before after = false
 
--- a session once it is in this state; where it becomes accessing, it starts now
+-- a session once it is in this state; if it becomes accessing, it starts now
 abbrev pub moved_to : SessionState → ℤ → SessionRow → SessionRow
 moved_to Accessing now row = record row { state = Accessing; start = now }
 moved_to state now row = record row { state = state }

@@ -109,7 +109,7 @@ abbrev pub AfterEach : Shown → (PlainPolicy → Trace → Type 0) → Type 0
 AfterEach s Q = (P : PlainPolicy) (T : Trace) → Follows s P T → Q P T
 
 -- Tables under a policy give to read what a trace does, and count what it counts. The entities of a side stand in the order in which
--- they were first made, each under one number; an attribute has a cell where its entity is there and it is declared for the side.
+-- they were first made, each under one number; an attribute has a cell if its entity is there and it is declared for the side.
 pub record Keeps (Q : PlainPolicy) (t : Tables) (P : PlainPolicy) (T : Trace) : Type 0 where
   pub readings_agree : Agree (readings_in Q t) (readings P T)
   pub counts_agree : counts_in t ≡ counts_of T

@@ -95,7 +95,7 @@ impl State {
         Some(number as u32)
     }
 
-    /// The cell of an attribute of an entity. None where the attribute isn't declared for that side.
+    /// The cell of an attribute of an entity. None if the attribute isn't declared for that side.
     pub fn cell(&self, side: Side, entity: u32, attr: &Name) -> Option<CellId>
         requires { entity < length (entities_of side (shown self.now).tables) }
         ensures cell { result ≡ cell_at (shown self.now).policy (shown self.now).tables side entity attr.now }
@@ -404,7 +404,7 @@ fn stand_first(rights: &[Right], names: &[Name]) -> bool
     true
 }
 
-/// When a session starts that goes into a state: now where it becomes accessing, else as before.
+/// When a session starts that goes into a state: now if it becomes accessing, else as before.
 fn start_in(state: SessionState, now: Int, before: Int) -> Int
     ensures { result ≡ start_in state now before }
 {

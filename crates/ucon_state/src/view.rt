@@ -30,7 +30,7 @@ impl State {
         self.attribute_at(side, entity, attr)
     }
 
-    /// The value of an attribute of the entity with this number. None where the attribute isn't declared for that side.
+    /// The value of an attribute of the entity with this number. None if the attribute isn't declared for that side.
     #[inline(always)]
     fn attribute_at(&self, side: Side, entity: u32, attr: &Name) -> Option<&Value>
         ensures { option_copied result ≡ option_and_then (slice_get (lists_of self.now.tables).cells)
@@ -94,7 +94,7 @@ impl State {
         policy.right(self.right_name(number))
     }
 
-    /// Whether all that session's right asks while the usage goes on holds, so far as that is seen at once: where it answers no, all may
+    /// Whether all that session's right asks while the usage goes on holds, so far as that is seen at once: if it answers no, all may
     /// hold yet.
     #[inline(always)]
     pub fn surely_goes_on(&self, session: u32) -> bool

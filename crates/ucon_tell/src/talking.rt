@@ -74,7 +74,7 @@ fn hear<S: Source>(
     }
 }
 
-/// A line without its newline; None where it lacks one.
+/// A line without its newline; None if it lacks one.
 fn cut(mut line: Vec<u8>) -> Option<Heard>
     ensures line { IfSome result (λ heard. IsCutOf heard line.items) }
     ensures none { result ≡ None → (text : List ℕ) → line.items ≡ text ++ 10 ∷ [] → ⊥ }

@@ -181,7 +181,7 @@ fn text_token(bytes: &[u8]) -> (Token, &[u8])
     }
 }
 
-/// The longer symbol where its second byte follows.
+/// The longer symbol if its second byte follows.
 fn longest(second: u8, long: Symbol, short: Symbol, bytes: &[u8]) -> (Token, &[u8])
     ensures { (token_of result.0, result.1.now) ≡ longest second (symbol_of long) (symbol_of short) bytes.now }
 {

@@ -107,7 +107,7 @@ fn files_are_judged_by_what_they_hold(rt: HostRuntime) -> Result<(), Fail> {
     Ok(())
 }
 
-/// Whether `play` does nothing where this call of the source fails, and every call of the disk would. The source gives a byte a call.
+/// Whether `play` does nothing if this call of the source fails, and every call of the disk would. The source gives a byte a call.
 fn is_unread<R: Threads + Wait + Sync>(
     rt: &R,
     alloc: Global,
@@ -121,7 +121,7 @@ fn is_unread<R: Threads + Wait + Sync>(
     Ok(end.status == 4 && end.output.is_empty())
 }
 
-/// Whether all is done where this call of the sink fails, and the front of the output went out. The sink takes a byte a call.
+/// Whether all is done if this call of the sink fails, and the front of the output went out. The sink takes a byte a call.
 fn is_unwritten<R: Threads + Wait + Sync>(
     rt: &R,
     alloc: Global,
