@@ -67,7 +67,7 @@ Shows log stopped = marks_in log ≢ []
 abbrev pub IsSaidIn : PlainPolicy → History → List Event → Answered → Type 0
 IsSaidIn P G log t = IsSaid P (length G) (entries_in log) t.line t.answer
 
--- where the line met a disk fault, its reply after all entries of this list would change something
+-- if the line met a disk fault, its reply after all entries of this list would change something
 abbrev pub WouldChange : PlainPolicy → List Event → Answered → Type 0
 WouldChange P log t = IsTrue (is_disk_fault t.answer) → IsTrue (changes (said P (entries_in log) t.line.caller t.line.command))
 

@@ -75,7 +75,7 @@ unfoldable pub steps_by : PolicyReading → Trace → Takes
 steps_by reads T text P H payload =
     if nat_lt most_payload (length payload) then None else option_and_then (with_next T P H) (result_ok (payload_read reads payload))
 
--- what is seen where this is found behind a trace after so many entries
+-- what is seen if this is found behind a trace after so many entries
 abbrev pub seen_after : ℕ → Trace → Finding → Seen
 seen_after entries T model.fresh = fresh
 seen_after entries T model.not_journal = not_journal
@@ -132,7 +132,7 @@ Sees = SeesBy accepted
 
 -- ---- around the last checkpoint of what is found
 
--- the text of the policy in force that a checkpoint says, or where it says none this one
+-- the text of the policy in force that a checkpoint says, or if it says none this one
 abbrev pub text_said : Bytes → Result Said ℕ → Bytes
 text_said text (Ok said) = said.text
 text_said text (Err place) = text

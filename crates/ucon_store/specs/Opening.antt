@@ -24,7 +24,7 @@ IsSeenAs P text point before H file =
 
 -- ---- why none is opened
 
--- the place of the first byte that differs, or the length of the shorter text where it begins the other; none where they are the same
+-- the place of the first byte that differs, or the length of the shorter text if it begins the other; none if they are the same
 abbrev pub first_difference : Bytes → Bytes → Option ℕ
 first_difference [] [] = None
 first_difference [] (b ∷ other) = Some 0
@@ -75,7 +75,7 @@ HasReason = HasReasonBy accepted
 abbrev pub Opens : (text file c : Bytes) → Type 0
 Opens = OpensBy accepted
 
--- what was found in the file is held in it after, where the disk tells before and after
+-- what was found in the file is held in it after, if the disk tells before and after
 abbrev pub KeepsFound : Bytes → Option Bytes → Option Bytes → Type 0
 KeepsFound text None after = ⊤
 KeepsFound text (Some before) None = ⊤

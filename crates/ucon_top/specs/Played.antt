@@ -57,7 +57,7 @@ pub record HasRunBy (reads : PolicyReading) (sees : Caller → Caller → Bool) 
   pub played : IsPlayedBy reads sees text P file opening old new told
   pub is_so : so lines told
 
--- The bytes are an accepted document, and opening saw a fresh file, or a journal under the document's policy, where the disk told its file. Where
+-- The bytes are an accepted document, and opening saw a fresh file, or a journal under the document's policy, if the disk told its file. If
 -- the file is found as a history, the document's lines were played behind that. A file that opening alone accepts has none, and nothing is said
 -- of the answers.
 pub record IsRunOverBy (reads : PolicyReading) (form : Form) (bytes : Bytes) (old new : DiskSeen)
@@ -94,7 +94,7 @@ HasPlayedBy reads form (NoMemory e) bytes old new before now =
     ⊎ IsRunOverBy reads form bytes old new (λ lines told. Unit {0})
 HasPlayedBy reads form outcome bytes old new before now = IsAsBefore old new
 
--- so it was played over some bytes, which are those of the input where the source tells them
+-- so it was played over some bytes, which are those of the input if the source tells them
 pub record HasPlayedInputBy (reads : PolicyReading) (form : Form) (outcome : Outcome) (input : Option Bytes) (old new : DiskSeen)
     (before now : SinkSeen) : Type 0 where
   pub bytes : Bytes

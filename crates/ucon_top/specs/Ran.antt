@@ -44,7 +44,7 @@ pub record HasMade (reads : PolicyReading) (asked : Form) (ended : Outcome) (bef
   pub told : TellsText asked → HasToldInputBy reads asked ended before.source.left before.disk after.disk before.sink after.sink
 
 -- An accepted document was read to its end, with at most one read for each byte within the limit, and one more; for `gen` nothing is read. The disk
--- is as it was where the document is refused or wasn't had, and where the form has no journal.
+-- is as it was if the document is refused or wasn't had, and if the form has no journal.
 pub record HasLeft (reading : PolicyReading) (asked : Form) (ended : Outcome) (before after : Seen) : Type 0 where
   pub read : IsOfAccepted ended → ReadsInput asked → IsAtEnd after.source.left
   pub reads : after.source.reads ≤ before.source.reads + 4194305
@@ -53,7 +53,7 @@ pub record HasLeft (reading : PolicyReading) (asked : Form) (ended : Outcome) (b
   pub unaccepted : IfSome (document_of asked before.source.left) (λ bytes. IsAsBefore before.disk after.disk ⊎ IsAcceptedBy reading bytes)
   pub alone : IsAlone asked → IsAsBefore before.disk after.disk
 
--- Where nothing hinders the run, the lines were answered, or the checkpoint is written, and the output is whole; or there was no memory, or for
+-- If nothing hinders the run, the lines were answered, or the checkpoint is written, and the output is whole; or there was no memory, or for
 -- `point` one of its two causes.
 abbrev pub IsWhole : PolicyReading → Form → Outcome → Seen → Seen → Type 0
 IsWhole reads asked ended before after =
