@@ -65,8 +65,8 @@ pub record Agree (R S : Readings) : Type 0 where
   pub at : (row : SessionRow) (place : Ref) → R.at row place ≡ S.at row place
   pub done_at : (s a o : Bytes) → R.done_at s a o ≡ S.done_at s a o
 
--- a keeper of state stands for a history: its policy is the one in force after the history, and what it gives to read is that of the
--- history's trace
+-- A keeper of state stands for a history. Its policy is the one in force after the history, and what it gives to read is that of the history's
+-- trace.
 pub record StandsFor (policy : PlainPolicy) (given : Readings) (P : PlainPolicy) (H : History) : Type 0 where
   pub policy_is : policy ≡ in_force P (trace P H)
   pub readings_are : Agree given (readings P (trace P H))

@@ -40,7 +40,8 @@ walked points number entries gate last (payload ∷ payloads) =
     then walked points (number + 1) entries (next_gate gate payload) (Some (record { number = number; place = gate; entries = entries })) payloads
     else walked points (number + 1) (entries + 1) (next_gate gate payload) last payloads
 
--- what a walk will find in the records from a gate on: the last checkpoint, and the first record that is too long, by its number and its gate's place
+-- what a walk will find in the records from a gate on: the last checkpoint; and the first record that is too long, by its number and its gate's
+-- place
 abbrev pub finds : Bool → Walk → ℕ → Bytes → Option LastPoint × Option (ℕ × ℕ)
 finds points w gate file =
     (walked points w.number w.entries gate w.last (payloads_from file gate), first_long w.number gate (payloads_from file gate))
