@@ -7,7 +7,7 @@
 //!
 //! **Free.** The walk, and what a `Worth` holds.
 //!
-//! **Before a change.** Each call asks that the session is there, and that its tests make no set. Only updates may take memory. Begin at
+//! **Before a change.** A call that judges asks that the session is there, and that its tests make no set. Only updates may take memory. Begin at
 //! `decide.rt`.
 #![tactic(auto)]
 
