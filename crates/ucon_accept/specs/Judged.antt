@@ -6,7 +6,7 @@ use Rattle.ucon_model.specs.Truth.{Readings}
 use Rattle.ucon_asked.specs.Asked.{makes_no_set_at}
 use Rattle.ucon_asked.specs.Sums.{tests_make_no_set}
 
--- session n has this row, its usage hasn't begun, and no predicate of its right makes a set: none does where the policy is well typed
+-- session n has this row, its usage hasn't begun, and no predicate of its right makes a set: none does if the policy is well typed
 pub record MayBeJudged (P : PlainPolicy) (R : Readings) (n : ℕ) (row : SessionRow) : Type 0 where
   pub there : R.row n ≡ Some row
   pub fresh : row.start ≡ pos 0

@@ -39,7 +39,7 @@ refusal_of (refuse r) = Some r
 refusal_of (tell reply) = None
 refusal_of (make head actions) = None
 
--- how a try is refused after a trace; none where it isn't
+-- how a try is refused after a trace; none if it isn't
 abbrev pub try_refusal : PlainPolicy → Trace → Bytes → Bytes → Bytes → Option Refusal
 try_refusal P T s r o = refusal_of (try_right P T admin s r o)
 

@@ -8,7 +8,8 @@ ghost use Rattle.ucon_model.specs.Truth.{read_or_zero, truth};
 ghost use Rattle.ucon_model.specs.Views.{expr_of, formula_of, predicate_of, test_of};
 ghost use Rattle.ucon_base.specs.Arithmetic.{same_value};
 ghost use Rattle.ucon_asked.specs.Sums.{preds_make_no_set, test_makes_no_set};
-ghost use Rattle.ucon_accept.specs.Checking.{IsCause, IsFirstWrong, all_read, first_untrue, is_of_place, is_on_duty, one_read, same_moment, tell_duty, tell_formula, tell_test, tell_tick, tells_act, tells_moment, tells_value, verdict_told};
+ghost use Rattle.ucon_accept.specs.Checking.{IsCause, IsFirstWrong, all_read, first_untrue, is_of_place, is_on_duty, one_read, same_moment};
+ghost use Rattle.ucon_accept.specs.Checking.{tell_duty, tell_formula, tell_test, tell_tick, tells_act, tells_moment, tells_value, verdict_told};
 ghost use Rattle.ucon_told.specs.Explanation.{explanation_of, factor_of, line, lines, lines_from, why_of};
 ghost use Rattle.ucon_told.specs.Facts.{test_facts};
 ghost use Rattle.ucon_accept.specs.Judged.{MayBeJudged};
@@ -27,7 +28,7 @@ use ucon_told::{
 pub enum Wrong {
     /// The try that it speaks of would be refused so.
     Names(Refusal),
-    /// The first line, from 0, that isn't right; where one ends before the other, how many lines the shorter one has.
+    /// The first line, from 0, that isn't right; if one ends before the other, how many lines the shorter one has.
     Line(usize),
     Verdict,
 }
@@ -123,7 +124,7 @@ fn is_told(facts: &[Fact], place: &Ref) -> bool
     facts.iter().any(|f| is_of_place(place, f))
 }
 
-/// How many of the facts are read once this place is, after so many. None where it is out of order, or the next fact is wrong.
+/// How many of the facts are read once this place is, after so many. None if it is out of order, or the next fact is wrong.
 fn read_place<V: View>(
     view: &V,
     session: u32,

@@ -19,8 +19,8 @@ use ucon_asked::typed_tests_make_no_set;
 use ucon_model::readings_that_agree_are_one;
 use ucon_state::{each_action_is_followed, tables_keep_what_is_followed};
 
-/// A try that a state's tables don't refuse is explained by them as after each trace that they follow, and so rightly: its session, behind
-/// the others, may be judged, and is explained so.
+/// A try that a state's tables don't refuse is explained by them as after each trace that they follow. So the explanation is right. Its session,
+/// behind the others, may be judged, and is explained so.
 pub fn tries_are_explained_as_shown()
     ensures after { (s : Shown) (P : PlainPolicy) (T : Trace) → Follows s P T → (u r o : Bytes) → refusal_shown s u r o ≡ None
         → explained_with s u r o ≡ explanation P T u r o }

@@ -1,4 +1,13 @@
 //! Whether an explanation of a try is right. The checker doesn't trust whoever explained it, and stands on no evaluator.
+//!
+//! Each fact is compared with the state, and each truth is worked out from the facts alone.
+//!
+//! **Always.** No line before the one that is looked at is wrong.
+//!
+//! **Free.** How the lines are walked through. Which fault is first is defined.
+//!
+//! **Before a change.** The session of the try is laid over the state as a view (`OneMore`), so the state is only borrowed. Begin at
+//! `accepting.rt`.
 #![tactic(auto)]
 
 mod accepting;

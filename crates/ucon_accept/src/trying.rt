@@ -10,7 +10,7 @@ use ucon_base::{Int, Name, Side};
 use ucon_model::{Caller, Refusal, SessionRow, SessionState, View};
 use ucon_state::{State, tables_keep_what_is_followed};
 
-/// How a try of client 0 would be refused. None where it wouldn't be.
+/// How a try of client 0 would be refused. None if it wouldn't be.
 pub fn refusal(state: &State, subject: &Name, right: &Name, object: &Name) -> Option<Refusal>
     ensures shown { result ≡ refusal_shown (shown state.now) subject.now right.now object.now }
     ensures refused { AfterEach (shown state.now) (λ P T. try_refusal P T subject.now right.now object.now ≡ result) }

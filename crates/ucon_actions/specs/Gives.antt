@@ -19,7 +19,7 @@ Makes head s' P T (make h actions) = (h ≡ head) × Follows s' P (extended T ac
 Makes head s' P T (refuse r) = ⊥
 Makes head s' P T (tell reply) = ⊥
 
--- what is told is what is defined, and nothing changed where the command reads
+-- what is told is what is defined, and nothing changed if the command reads
 abbrev pub IsGiven : Outcome → Shown → Shown → PlainPolicy → Trace → Own → Type 0
 IsGiven (Value' v) s s' P T own = (own ≡ tell (value_is v)) × (s' ≡ s)
 IsGiven (Status n state) s s' P T own = (own ≡ tell (status n state)) × (s' ≡ s)
@@ -29,12 +29,12 @@ IsGiven (Made head) s s' P T own = Makes head s' P T own
 abbrev pub Gives : Outcome → Shown → Shown → (PlainPolicy → Trace → Own) → Type 0
 Gives o s s' own = (P : PlainPolicy) (T : Trace) → Follows s P T → IsGiven o s s' P T (own P T)
 
--- where the command is refused, the definition refuses it so after each trace that the state followed
+-- if the command is refused, the definition refuses it so after each trace that the state followed
 abbrev pub Refuses : ActionFault → Shown → (PlainPolicy → Trace → Own) → Type 0
 Refuses (Refused r) s own = (P : PlainPolicy) (T : Trace) → Follows s P T → own P T ≡ refuse r
 Refuses (NoMemory e) s own = Unit {0}
 
--- where the command is refused, nothing changed
+-- if the command is refused, nothing changed
 abbrev pub Unchanged : ActionFault → Shown → Shown → Type 0
 Unchanged (Refused r) s s' = s' ≡ s
 Unchanged (NoMemory e) s s' = Unit {0}

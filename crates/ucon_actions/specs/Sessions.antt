@@ -24,7 +24,7 @@ abbrev pub done_or_refused : Result SessionRow Refusal → (SessionRow → Own) 
 done_or_refused (Ok row) done = done row
 done_or_refused (Err r) done = refuse r
 
--- what is done where nothing refuses it
+-- what is done if nothing refuses it
 abbrev pub done_unless : Result (Unit {0}) Refusal → Own → Own
 done_unless (Ok x) done = done
 done_unless (Err r) done = refuse r

@@ -22,7 +22,7 @@ pub fn is_admin(caller: Caller) -> bool
     caller.0 == 0
 }
 
-/// The refusal where an entity of the side isn't there.
+/// The refusal if an entity of the side isn't there.
 pub fn no_entity(side: Side) -> Refusal
     ensures { result ≡ no_entity side }
 {
@@ -32,7 +32,7 @@ pub fn no_entity(side: Side) -> Refusal
     }
 }
 
-/// The refusal where the side is full.
+/// The refusal if the side is full.
 fn full_entities(side: Side) -> Refusal
     ensures { result ≡ full_entities side }
 {

@@ -1,4 +1,13 @@
 //! A command's own actions, before sessions are rechecked: what every engine does alike.
+//!
+//! Each engine calls `own_actions` first, and then settles. A refusal travels by `?`, so a body reads as the table of refusals does.
+//!
+//! **Always.** What undoing gives stays as it was. If actions are made, each trace that the state followed leads to one that it follows.
+//!
+//! **Free.** How a body reads the state. The order of refusals is defined.
+//!
+//! **Before a change.** A command that is refused changes nothing (`unchanged`). If memory runs out midway, the engine undoes the whole draft.
+//! Begin at `own.rt`, then `entities.rt`.
 #![tactic(auto)]
 
 mod acts;

@@ -37,7 +37,7 @@ impl From<Refusal> for ActionFault {
     }
 }
 
-/// The refusal where a test doesn't hold.
+/// The refusal if a test doesn't hold.
 pub fn require(holds: bool, refusal: Refusal) -> Result<(), Refusal>
     ensures ok { OnOk result (holds ≡ true) }
     ensures err { IfErr result (λ r. r ≡ refusal) }

@@ -18,9 +18,9 @@ use ucon_base::Side;
 use ucon_model::{Caller, Command};
 use ucon_state::State;
 
-/// Makes a command's own actions. A refused command and one that reads change nothing; after want of memory the state may be anywhere
-/// within them, and undoing gives what it gave before. All but a try are called from here: what comes of one is large, and where it stood
-/// here, it would have a room of its own, which each command clears.
+/// Makes a command's own actions. A refused command and one that reads change nothing. If memory runs out, the state may be anywhere within them,
+/// and undoing gives what it gave before. All but a try are called from here. What comes of a try is large: called from here, it would have a room
+/// of its own in this function, which each command clears.
 pub fn own_actions(
     alloc: Global,
     state: &mut State,

@@ -17,7 +17,7 @@ use ucon_eval::result;
 use ucon_model::{Policy, SessionRow, Update, View, When, updates_fit, writes_leave_sessions};
 use ucon_state::{State, tables_keep_what_is_followed};
 
-/// The updates of a session's right in a policy; none where it isn't there.
+/// The updates of a session's right in a policy; none if it isn't there.
 pub fn updates_of<'a>(policy: &'a Policy, row: &SessionRow) -> &'a [Update]
     ensures { map update_of result.now ≡ updates_of (policy_of policy.now) row.now }
 {
@@ -50,7 +50,7 @@ pub fn entity_of(side: Side, row: &SessionRow) -> Name
     }
 }
 
-/// The updates of the right of session n; none where one of them isn't there.
+/// The updates of the right of session n; none if one of them isn't there.
 fn updates_in(state: &State, n: u32) -> &[Update]
     ensures { map update_of result.now ≡ updates_in (shown state.now) n }
 {
@@ -81,7 +81,7 @@ fn run_update(alloc: Global, state: &mut State, n: u32, when: When, at: u32) -> 
 }
 
 /// Runs the updates of a time of the right of session n, in written order. A right with more updates than a `u32` counts is answered
-/// as want of memory.
+/// as out of memory.
 pub fn run_updates(alloc: Global, state: &mut State, n: u32, when: When) -> Result<(), NoMemory>
     requires { IsFollowing (shown state.old) }
     ensures leads { OnOk result (Leads (shown state.old) (shown state.new) (λ P T. extended T (session_writes P n when T))) }

@@ -15,7 +15,7 @@ use Rattle.ucon_asked.specs.Sums.{test_makes_no_set}
 abbrev pub no_session : SessionRow
 no_session = record { caller = record { 0 = 0 }; right = []; subject = []; object = []; state = Requesting; start = pos 0 }
 
--- session n; where it isn't there, a session without names
+-- session n; if it isn't there, a session without names
 abbrev pub row_at : Readings → ℕ → SessionRow
 row_at R n = unwrap_or (R.row n) no_session
 
@@ -27,7 +27,7 @@ right_of_session P R n = option_and_then (λ row. right_named P.rights row.right
 abbrev pub predicate_at : PlainPolicy → SessionRow → ℕ → Option PlainPredicate
 predicate_at P row i = option_and_then (λ right. slice_get right.preds i) (right_named P.rights row.right)
 
--- the truth of the predicate at a place of session n's right; none where one of them isn't there
+-- the truth of the predicate at a place of session n's right; none if one of them isn't there
 abbrev pub truth_at : PlainPolicy → Readings → ℕ → ℕ → Option Bool
 truth_at P R n i = option_and_then (λ row. option_map (λ p. truth R row p.test) (predicate_at P row i)) (R.row n)
 
@@ -44,6 +44,6 @@ result_read P R row u = fitted_to (declared_attr P.attrs u.side u.attr) (value_o
 abbrev pub update_at : PlainPolicy → SessionRow → ℕ → Option PlainUpdate
 update_at P row i = option_and_then (λ right. slice_get right.updates i) (right_named P.rights row.right)
 
--- the result of the update at a place of session n's right; none where one of them isn't there
+-- the result of the update at a place of session n's right; none if one of them isn't there
 abbrev pub result_at : PlainPolicy → Readings → ℕ → ℕ → Option Value
 result_at P R n i = option_and_then (λ row. option_map (λ u. result_read P R row u) (update_at P row i)) (R.row n)

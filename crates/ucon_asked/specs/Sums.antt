@@ -8,7 +8,8 @@ use Rattle.ucon_model.specs.declared.formula.Op.{Op}
 use Rattle.ucon_model.specs.declared.formula.Op.TheVariants.{Lt, Le, Gt, Ge}
 use Rattle.ucon_model.specs.declared.formula.Ref.{Ref}
 use Rattle.ucon_model.specs.declared.session.SessionRow.{SessionRow}
-use Rattle.ucon_model.specs.Plain.{PlainExpr, lit, read, plus, minus, times, size, PlainFormula, both, either, negation, compare, lasts, PlainTest, authorisation, duty, condition, PlainPredicate, PlainPolicy}
+use Rattle.ucon_model.specs.Plain.{PlainExpr, lit, read, plus, minus, times, size, PlainFormula, both, either, negation, compare, lasts, PlainTest}
+use Rattle.ucon_model.specs.Plain.{authorisation, duty, condition, PlainPredicate, PlainPolicy}
 use Rattle.ucon_model.specs.Truth.{Readings, value_of}
 use Rattle.ucon_model.specs.Decision.{right_named}
 use Rattle.std.specs.Option.{option_map_or}

@@ -31,8 +31,8 @@ pub fn views_that_agree_decide_alike()
     ensures result { (P : PlainPolicy) (R S : Readings) (n i : ℕ) → Agree R S → result_at P R n i ≡ result_at P S n i }
 {}
 
-/// Where all values fit after a trace, and the policy in force is well typed, its tests make no set, over readings that agree with the
-/// trace's: what `truth`, `verdict` and `failing` ask of a view.
+/// The tests of the policy in force make no set, if it is well typed and all values fit after a trace. That holds over readings that agree with
+/// the trace's. `truth`, `verdict` and `failing` ask it of a view.
 pub fn typed_tests_make_no_set()
     ensures all { (P : PlainPolicy) (T : Trace) (R : Readings) → IsTyped (in_force P T) → ValuesFit P T → Agree R (readings P T)
         → (n : ℕ) → tests_make_no_set (in_force P T) R n ≡ true }

@@ -22,7 +22,7 @@ pub record IsUpTo (kept : Option Kept) (text : Bytes) (P : PlainPolicy) (H : His
   pub found : found_in accepted (takes_with (has_points file)) front ≡ holds text P H gate
   pub chained : IsChain kept (take 8 file) front chain
 
--- A history is kept under the policy of this text, of fewer entries than there were records, five bytes at least each; and where the disk tells, it
+-- A history is kept under the policy of this text, of fewer entries than there were records, five bytes at least each; and if the disk tells, it
 -- is that of the records up to the gate.
 pub record IsChecking {E : Type 0} (follows : E → PlainPolicy → Trace → Type 0) (kept : Option Kept) (text : Bytes) (P : PlainPolicy)
     (check : Check E) (gate : ℕ) (contents : Option Bytes) : Type 0 where
@@ -38,7 +38,7 @@ abbrev pub IsSomeCheck : {E : Type 0} → (E → PlainPolicy → Trace → Type 
 IsSomeCheck follows check gate contents =
     (kept : Option Kept) × (text : Bytes) × (P : PlainPolicy) × IsChecking follows kept text P check gate contents
 
--- All records are right, and the policy is the one of this text: the file is found as a history, which is kept, and the head stands behind all its
+-- All records are right, and the policy is the one of this text. The file is found as a history, which is kept, and the head stands behind all its
 -- records.
 pub record IsWhole {E : Type 0} (follows : E → PlainPolicy → Trace → Type 0) (kept : Option Kept) (text : Bytes) (check : Check E) (file : Bytes) : Type 0 where
   pub P : PlainPolicy

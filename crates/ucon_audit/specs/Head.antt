@@ -30,7 +30,7 @@ is_head_text text = (length text == 64) && list_all is_head_digit text
 
 -- ---- a head that was kept
 
--- whether this head, after so many records, is the kept one; where none was kept it isn't
+-- whether this head, after so many records, is the kept one; if none was kept it isn't
 abbrev pub is_kept : Option Kept → ℕ → Bytes → Bool
 is_kept None records head = false
 is_kept (Some kept) records head = (kept.records == records) && bytes_eq (head_text head) kept.digits

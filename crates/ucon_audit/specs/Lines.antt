@@ -22,7 +22,7 @@ abbrev pub yes_or_no : Bool → Bytes
 yes_or_no true = codes "yes"
 yes_or_no false = codes "no"
 
--- `extends yes` or `extends no`, where a head was kept
+-- `extends yes` or `extends no`, if a head was kept
 abbrev pub extends_line : Option Bool → Bytes
 extends_line None = []
 extends_line (Some answer) = codes "extends " ++ (yes_or_no answer ++ 10 ∷ [])

@@ -11,13 +11,13 @@ use Rattle.ucon_model.specs.Readings.{in_force}
 use Rattle.ucon_model.specs.Truth.{Readings, readings}
 use Rattle.ucon_audit.specs.declared.parallel.Changed.{Changed}
 
--- a session with its verdict, where that isn't to permit
+-- a session with its verdict, if that isn't to permit
 abbrev pub unless_permitted : ℕ → Verdict → Option Changed
 unless_permitted n Permit = None
 unless_permitted n (Deny label) = Some (record { session = n; verdict = Deny label })
 unless_permitted n (Wait label) = Some (record { session = n; verdict = Wait label })
 
--- the verdict on session n now; denied by `no_right` where an amendment took its right away
+-- the verdict on session n now; denied by `no_right` if an amendment took its right away
 abbrev pub verdict_now : PlainPolicy → Readings → ℕ → Verdict
 verdict_now P R n = option_map_or (λ right. verdict P R n) (right_read P R n) (Deny no_right)
 

@@ -20,7 +20,7 @@ pub record HoldsOtherBy (reads : PolicyReading) (text : Bytes) (place : ℕ) (fi
   pub is : found_by reads file ≡ holds other P H gate
   pub differs : first_difference other text ≡ Some place
 
--- Why a full check under the policy of this text refuses. Where the disk tells its bytes, the reason is what is found in them. At a disk fault the
+-- Why a full check under the policy of this text refuses. If the disk tells its bytes, the reason is what is found in them. At a disk fault the
 -- disk's count of faults is one more; otherwise it is as it was. Want of memory may come at any moment.
 abbrev pub IsRefusedBy : PolicyReading → StoreFault → Bytes → Option Bytes → (before now : ℕ) → Type 0
 IsRefusedBy reads NotJournal text file before now = IfSome file (λ bytes. found_by reads bytes ≡ not_journal) × (now ≡ before)

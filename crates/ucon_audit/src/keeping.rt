@@ -82,8 +82,8 @@ impl<E: Engine> Keeping<E> {
         Ok(payload == text.as_slice())
     }
 
-    /// Takes the step of a payload in, if it is the next one: the engine's reply changes something, and with it the step is spelled as the
-    /// payload, whose own reply isn't read. False where it isn't.
+    /// Takes the step of a payload in, if it is the next one: the engine's reply changes something, and the step with it is spelled as the
+    /// payload. The payload's own reply isn't read. False if it isn't the next one.
     fn take_step(&mut self, alloc: Global, payload: &[u8]) -> Result<bool, NoMemory>
         requires idle { IsIdle E.follows self.old.engine }
         requires few { self.old.entries < 2 ^ 63 }

@@ -19,8 +19,8 @@ use ucon_base::{Name, NoMemory, Side, Text, Value};
 use ucon_model::{AttrDecl, SessionRow, SessionState, View};
 use ucon_state::{ActRow, State, states_hold_what_they_follow};
 
-/// The state after so many entries as JSON, and a newline: after each trace that the state follows, and so after each history of so many
-/// entries that it stands for.
+/// The state after so many entries as JSON, and a newline. It is that after each trace that the state follows, and so after each history of so
+/// many entries that it stands for.
 pub fn report(alloc: Global, entries: u64, state: &State) -> Result<Vec<u8>, NoMemory>
     ensures after_trace { IfOk result (λ bytes. AfterEach (shown state.now) (λ P T. bytes.items ≡ line_of (tree_of entries (held_after P T)))) }
     ensures after_history { IfOk result (λ bytes. (P : PlainPolicy) (H : History) → Follows (shown state.now) P (trace P H) → entries ≡ length H

@@ -15,7 +15,7 @@ abbrev pub in_place : List (List ℕ) → List ℕ → List (List ℕ)
 in_place [] t = t ∷ []
 in_place (u ∷ us) t = if is_lt (slice_cmp nat_cmp t u) then t ∷ u ∷ us else u ∷ in_place us t
 
--- the set with the text in its place, and the set itself where the text is there or the set has 64 members
+-- the set with the text in its place, and the set itself if the text is there or the set has 64 members
 abbrev pub with_text : List (List ℕ) → List ℕ → List (List ℕ)
 with_text s t = if list_any (bytes_eq t) s then s else if nat_lt (length s) 64 then in_place s t else s
 

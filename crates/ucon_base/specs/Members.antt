@@ -1,5 +1,6 @@
 -- What the reader of a set keeps of its members.
-use Rattle.std.specs.Prelude.{◌≡◌, ◌≤◌, ℕ, ◌+◌, List, [], ◌∷◌, length, take, map, Option, Some, None, Result, Ok, Err, IsTrue, nat_lt, ◌==◌, if◌then◌else◌}
+use Rattle.std.specs.Prelude.{◌≡◌, ◌≤◌, ℕ, ◌+◌, List, [], ◌∷◌, length, take, map, Option, Some, None, Result, Ok, Err, IsTrue, nat_lt, ◌==◌}
+use Rattle.std.specs.Prelude.{if◌then◌else◌}
 use Rattle.ucon_base.specs.declared.members.Found.{Found}
 use Rattle.ucon_base.specs.declared.value_fault.ValueFault.{ValueFault}
 use Rattle.ucon_base.specs.Elements.{Each}
@@ -14,7 +15,7 @@ texts_seen found = map (λ t. t.now) (take found.count found.texts)
 abbrev pub long_at : ℕ → List ℕ → Option ℕ
 long_at at t = if nat_lt 64 (length t) then Some at else None
 
--- how many members these are, which of them is the first too long, and their texts where there is room for all
+-- how many members these are, which of them is the first too long, and their texts if there is room for all
 pub record Holds (found : Found) (ms : List Member) : Type 0 where
   pub count : found.count ≡ length ms
   pub long : found.long ≡ first_long ms

@@ -1,5 +1,7 @@
 -- How a value is read from bytes, and where bytes stop being the beginning of a spelling.
-use Rattle.std.specs.Prelude.{◌≡◌, ℕ, ◌+◌, ◌*◌, ◌-◌, ℤ, pos, neg_ℤ, Bool, true, false, not, ◌&&◌, ◌||◌, ◌==◌, nat_lt, nat_le, List, [], ◌∷◌, ◌++◌, length, take, drop, map, position, is_none, Option, Some, None, option_map, option_and_then, Result, Ok, Err, ⊤, if◌then◌else◌}
+use Rattle.std.specs.Prelude.{◌≡◌, ℕ, ◌+◌, ◌*◌, ◌-◌, ℤ, pos, neg_ℤ, Bool, true, false, not, ◌&&◌, ◌||◌, ◌==◌, nat_lt, nat_le, List, [], ◌∷◌, ◌++◌}
+use Rattle.std.specs.Prelude.{length, take, drop, map, position, is_none, Option, Some, None, option_map, option_and_then, Result, Ok, Err, ⊤}
+use Rattle.std.specs.Prelude.{if◌then◌else◌}
 use Rattle.std.specs.List.{prefix_len}
 use Rattle.std.specs.Result.{result_ok}
 use Rattle.std.specs.Ordering.{nat_cmp, is_lt}
@@ -177,7 +179,7 @@ abbrev pub spells_set : Result Value ValueFault → Bool
 spells_set (Ok (Set ts)) = true
 spells_set said = false
 
--- what is said is the fault, unless it is want of memory
+-- what is said is the fault, unless memory ran out
 abbrev pub IsCause : {A : Type 0} → Result A ValueFault → ValueFault → Type 0
 IsCause said (NoMemory e) = ⊤
 IsCause said f = said ≡ Err f

@@ -1,5 +1,6 @@
 -- The tokens of a policy's text, and where they stand.
-use Rattle.std.specs.Prelude.{ℕ, zero, suc, ◌+◌, ◌-◌, ◌*◌, ℤ, pos, Bool, true, false, ◌&&◌, ◌||◌, not, ◌==◌, nat_lt, List, [], ◌∷◌, length, take, drop, Option, Some, None, option_map, if◌then◌else◌}
+use Rattle.std.specs.Prelude.{ℕ, zero, suc, ◌+◌, ◌-◌, ◌*◌, ℤ, pos, Bool, true, false, ◌&&◌, ◌||◌, not, ◌==◌, nat_lt, List, [], ◌∷◌, length, take}
+use Rattle.std.specs.Prelude.{drop, Option, Some, None, option_map, if◌then◌else◌}
 use Rattle.std.specs.List.{prefix_len}
 use Rattle.ucon_base.specs.Bytes.{Bytes}
 use Rattle.ucon_base.specs.NameBytes.{is_letter, is_word_byte}
@@ -100,7 +101,7 @@ abbrev pub symbol_with : Option Symbol → Bytes → Lexed
 symbol_with None rest = (flawed unknown, [])
 symbol_with (Some s) rest = (a_symbol s, rest)
 
--- the longer symbol where its second byte follows
+-- the longer symbol if its second byte follows
 abbrev pub longest : ℕ → Symbol → Symbol → Bytes → Lexed
 longest second long short [] = (a_symbol short, [])
 longest second long short (b ∷ bs) = if b == second then (a_symbol long, bs) else (a_symbol short, b ∷ bs)

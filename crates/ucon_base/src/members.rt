@@ -1,6 +1,7 @@
 //! Sets, read from their one spelling.
 
-ghost use Rattle.std.specs.Prelude.{◌≡◌, ◌+◌, ◌≤◌, ◌<◌, ◌++◌, ◌∷◌, List, ℕ, [], map, length, None, option_copied, IfOk, IfSome, MatchResult, Option, Ok, Err, Some, false};
+ghost use Rattle.std.specs.Prelude.{◌≡◌, ◌+◌, ◌≤◌, ◌<◌, ◌++◌, ◌∷◌, List, ℕ, [], map, length, None, option_copied, IfOk, IfSome, MatchResult, Option};
+ghost use Rattle.std.specs.Prelude.{Ok, Err, Some, false};
 ghost use Rattle.ucon_base.specs.declared.value.Value.TheVariants.{Set};
 ghost use Rattle.ucon_base.specs.Reading.{Member, rises, can_rise, opened, behind, awaiting, members, IsCause, set_read, spells_set};
 ghost use Rattle.ucon_base.specs.Members.{Holds, IsFound, texts_seen, long_at, after_quote, awaited, member_read, with_member, EachIsText};
@@ -53,7 +54,7 @@ fn long_at(at: usize, text: &[u8]) -> Option<usize>
     if text.len() > 64 { Some(at) } else { None }
 }
 
-/// The set whose bytes these are behind its opening bracket. Memory is taken only where they spell one.
+/// The set whose bytes these are behind its opening bracket. Memory is taken only if they spell one.
 pub fn read_set(alloc: Global, bytes: &[u8]) -> Result<Value, ValueFault>
     ensures read { MatchResult result (λ v. set_read bytes.now ≡ Ok v) (IsCause (set_read bytes.now)) }
     ensures sure { spells_set (set_read bytes.now) ≡ false → result ≡ set_read bytes.now }
@@ -161,7 +162,7 @@ fn after_quote(bytes: &[u8]) -> Option<&[u8]>
     }
 }
 
-/// What stands behind the comma that is here, or none where the set ends.
+/// What stands behind the comma that is here, or none if the set ends.
 fn next_member(at: usize, bytes: &[u8]) -> Result<Option<&[u8]>, ValueFault>
     requires { at < usize.MAX }
     ensures read { (last : Option (List ℕ)) → MatchResult result

@@ -7,7 +7,7 @@ ghost use Rattle.ucon_base.specs.Numbers.{InRange};
 use crate::{Int, NoMemory};
 use itoa::Buffer;
 
-/// Adds bytes, or nothing where there is no memory.
+/// Adds bytes, or nothing if there is no memory.
 #[inline(always)]
 pub fn put(out: &mut Vec<u8>, bytes: &[u8]) -> Result<(), NoMemory>
     ensures { MatchResult result (λ _. out.new.items ≡ out.old.items ++ bytes.now) (λ _. out.new.items ≡ out.old.items) }
@@ -16,7 +16,7 @@ pub fn put(out: &mut Vec<u8>, bytes: &[u8]) -> Result<(), NoMemory>
     Ok(())
 }
 
-/// Adds a number in decimal, or nothing where there is no memory. Room for five digits is asked for once, and so few are written there.
+/// Adds a number in decimal, or nothing if there is no memory. Room for five digits is asked for once, and so few are written there.
 pub fn put_number(out: &mut Vec<u8>, n: u64) -> Result<(), NoMemory>
     ensures { MatchResult result (λ _. out.new.items ≡ out.old.items ++ decimal n) (λ _. out.new.items ≡ out.old.items) }
 {
@@ -28,7 +28,7 @@ pub fn put_number(out: &mut Vec<u8>, n: u64) -> Result<(), NoMemory>
     Ok(())
 }
 
-/// Adds a number of any length in decimal, or nothing where there is no memory.
+/// Adds a number of any length in decimal, or nothing if there is no memory.
 #[inline(never)]
 fn put_long(out: &mut Vec<u8>, n: u64) -> Result<(), NoMemory>
     ensures { MatchResult result (λ _. out.new.items ≡ out.old.items ++ decimal n) (λ _. out.new.items ≡ out.old.items) }
@@ -37,7 +37,7 @@ fn put_long(out: &mut Vec<u8>, n: u64) -> Result<(), NoMemory>
     put(out, digits.format(n).as_bytes())
 }
 
-/// Adds a number of at most five digits where there is room.
+/// Adds a number of at most five digits if there is room.
 #[inline(always)]
 #[tactic(auto, using(crate::proofs::Decimals::of_one, crate::proofs::Decimals::of_two))]
 fn put_short(out: &mut Vec<u8>, n: u64)
@@ -62,7 +62,7 @@ fn put_short(out: &mut Vec<u8>, n: u64)
     }
 }
 
-/// Adds the two digits of a number below 100 where there is room.
+/// Adds the two digits of a number below 100 if there is room.
 #[inline(always)]
 fn push_pair(out: &mut Vec<u8>, n: u64)
     requires few { n < 100 }
@@ -80,7 +80,7 @@ fn push_pair(out: &mut Vec<u8>, n: u64)
 static PAIRS: [u8; 200] =
     *b"00010203040506070809101112131415161718192021222324252627282930313233343536373839404142434445464748495051525354555657585960616263646566676869707172737475767778798081828384858687888990919293949596979899";
 
-/// Adds an integer in decimal, or nothing where there is no memory, and tells that it is in its range.
+/// Adds an integer in decimal, or nothing if there is no memory, and tells that it is in its range.
 pub fn put_integer(out: &mut Vec<u8>, n: Int) -> Result<(), NoMemory>
     ensures text { MatchResult result (λ _. out.new.items ≡ out.old.items ++ signed_decimal n) (λ _. out.new.items ≡ out.old.items) }
     ensures in_range { InRange n }

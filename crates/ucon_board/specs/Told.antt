@@ -44,7 +44,7 @@ pub record IsCounted (cells : List Cell) (log : List Event) : Type 0 where
 abbrev pub word_of : Book → Named
 word_of b = record { tracked = true; key = 0; book = b }
 
--- the event was added to all that had been seen, where the word was as expected
+-- the event was added to all that had been seen, if the word was as expected
 abbrev pub Adds : Step Event → View Event ℕ → ℕ → View Event ℕ → Type 0
 Adds s v found w = MatchBool (found == s.old) (w.0 ≡ v.0 ++ s.ask ∷ []) (Unit {0})
 

@@ -1,4 +1,15 @@
 //! The status board: one writer publishes what replies change, and readers look at it without a turn.
+//!
+//! It is for programs that embed the monitor; `run` doesn't use it. A look gives the place, and a session's state, after a list of replies that
+//! begins with all that this reader knew. Two copies of what is shown stand beside a history without bytes.
+//!
+//! **Always.** What is shown is what its history makes (`Keeps`).
+//!
+//! **Free.** How the copies lie in memory.
+//!
+//! **Before a change.** Two promises are the kit's. By `left_right` a look and a publication each act in one step. By `logbook` a history only
+//! grows, and its beginnings can be copied. The board has room for 64 readers and 1,048,576 sessions from the start, so no step makes the copies
+//! grow. Begin at `writer.rt` and `reader.rt`.
 #![tactic(auto)]
 
 mod history;

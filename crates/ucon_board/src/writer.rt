@@ -89,9 +89,8 @@ impl BoardWriter {
         })
     }
 
-    /// Publishes a reply that changes something, at once: its place is the one behind the board's. Where there is no memory, nothing of it is
-    /// ever published, and the writer is still from then on: each later step is refused, and the board stays at its place. It may wait for
-    /// a reader.
+    /// Publishes a reply that changes something, at once: its place is the one behind the board's. If there is no memory, nothing of it is ever
+    /// published, and the writer is still from then on. Each later step is refused, and the board stays at its place. It may wait for a reader.
     pub fn step<R: Wait>(
         &mut self,
         rt: &R,

@@ -7,7 +7,7 @@ pub record IsNext (first new_first : ℕ → ℕ) (n m : ℕ) : Type 0 where
   pub was : first m ≡ n
   pub is : new_first m ≡ m
 
--- Session n has left its list. The others of the list have a new first among them where it was theirs, and all others keep theirs.
+-- Session n has left its list. The others of the list have a new first among them if it was theirs, and all others keep theirs.
 pub record LeavesList (first new_first : ℕ → ℕ) (n : ℕ) : Type 0 where
   pub low : (m : ℕ) → new_first m ≤ m
   pub same : (m : ℕ) → m ≢ n → first m ≢ n → new_first m ≡ first m

@@ -20,8 +20,8 @@ use Rattle.ucon_cascade.specs.Timely.{AreTimely}
 use Rattle.ucon_readers.specs.Timers.{IsKept as AreKept, UndoGives as TimersGive, deadlines_in}
 use Rattle.ucon_cascade.specs.declared.monitor.Monitor.{Monitor}
 
--- A state with the readers of its places, the firsts of their lists and the deadlines of its usages stands for a trace: it follows it,
--- nobody fails, the readers are exact and grouped by their firsts, and the deadlines timely.
+-- A state stands for a trace, with the readers of its places, the firsts of their lists and the deadlines of its usages. It follows the trace, and
+-- nobody fails. The readers are exact and grouped by their firsts, and the deadlines are timely.
 pub record Stands (s : Shown) (standing : ℕ → List ℕ) (first : ℕ → ℕ) (ds : List (Option ℤ)) (P : PlainPolicy) (T : Trace) : Type 0 where
   pub follows : Follows s P T
   pub nobody : NobodyFails P T
@@ -44,7 +44,7 @@ pub record IsReady (m : Monitor) (P : PlainPolicy) (T : Trace) : Type 0 where
   pub no_work : m.work.members ≡ []
 
 -- A command's own actions were made, and the head tells them: the state that they led from, with these readers, firsts and deadlines, stood
--- for a trace. Its policy and its cells are still there, but where the command replaced the policy.
+-- for a trace. Its policy and its cells are still there, unless the command replaced the policy.
 pub record AreMade (now : Shown) (standing : ℕ → List ℕ) (first : ℕ → ℕ) (ds : List (Option ℤ)) (c : Command) (head : Head) : Type 0 where
   pub was : Shown
   pub policy : PlainPolicy

@@ -11,12 +11,12 @@ use Rattle.ucon_model.specs.Usages.{going_on}
 use Rattle.ucon_state.specs.Shown.{Shown}
 use Rattle.ucon_state.specs.Tables.{cell_of, session_in}
 
--- a number where 32 bits tell it
+-- a number, if 32 bits tell it
 abbrev pub told : Option ℕ → Option ℕ
 told None = None
 told (Some n) = if nat_lt n (2 ^ 32) then Some n else None
 
--- the number of the place at which a value is kept; none where nothing is kept there, or 32 bits don't tell it
+-- the number of the place at which a value is kept; none if nothing is kept there, or 32 bits don't tell it
 abbrev pub place_number : Shown → Location → Option ℕ
 place_number s (variable_of name) = told (env_position s.policy name)
 place_number s (attribute_of side name attr) = told (option_map (λ cell. length s.policy.envs + cell) (cell_of s.policy s.tables side name attr))

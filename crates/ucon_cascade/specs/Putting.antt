@@ -43,8 +43,8 @@ IsPermitWork s standing head n = ⊥
 abbrev pub GoesOn : Shown → ℕ → Type 0
 GoesOn s n = IsSome (going_on (session_in s.tables n))
 
--- Whom a command concerns else: who stands where it wrote, or where the updates wrote that it ran during a usage or after its end; and
--- whose usage goes on where it replaced the policy. Whom a tick concerns its deadlines tell.
+-- Whom else a command concerns: who stands where it wrote, or where the updates wrote that it ran during a usage or after its end; and whose usage
+-- goes on if it replaced the policy. Whom a tick concerns its deadlines tell.
 abbrev pub IsCommandWork : Shown → (ℕ → List ℕ) → Command → ℕ → Type 0
 IsCommandWork s standing (Set side name attr v) n = StandsAt s standing (attribute_of side name attr) n
 IsCommandWork s standing (Env name v) n = StandsAt s standing (variable_of name) n

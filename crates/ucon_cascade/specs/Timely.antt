@@ -57,7 +57,7 @@ pub record AreTimedBelow (limit : ℕ) (ds : List (Option ℤ)) (P : PlainPolicy
 
 -- ---- one session's
 
--- the first limit of the timed parts of session n's right; none where there is no such session
+-- the first limit of the timed parts of session n's right; none if there is no such session
 pub record IsFirstLimitOf (s : Shown) (n : ℕ) (first : Option ℤ) : Type 0 where
   pub there : (row : SessionRow) → session_in s.tables n ≡ Some row
       → IsFirstLimit (readings_in s.policy s.tables) row (timed_of s.policy row) first

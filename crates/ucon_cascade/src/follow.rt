@@ -30,7 +30,7 @@ use ucon_readers::{Kind, Readers, undoing_gives_what_is_kept};
 use ucon_readings::{session, session_state, sessions};
 use ucon_state::State;
 
-/// All is read anew where the command replaced the policy. Else a permitted session begins to read, and an ended one reads nothing any more.
+/// All is read anew if the command replaced the policy. Else a permitted session begins to read, and an ended one reads nothing any more.
 pub fn follow_actions(
     alloc: Global,
     state: &State,
@@ -104,8 +104,8 @@ fn begin_to_read(
     add_reader(alloc, state, readers, n)
 }
 
-/// From here on session n reads the places of its right: in the list of one that is judged like it, if one is known, else in a list of its
-/// own.
+/// From here on session n reads the places of its right. It joins the list of one that is judged like it, if one is known, and otherwise has a
+/// list of its own.
 fn add_reader(alloc: Global, state: &State, readers: &mut Readers, n: u32) -> Result<(), NoMemory>
     requires kept { IsKept readers.old }
     requires nowhere { StandsNowhere (readers_at readers.old) n }

@@ -19,8 +19,8 @@ use ucon_model::{Expr, Formula, Predicate, Ref, Right, Test, View};
 use ucon_readers::Kind;
 use ucon_state::{Numbers, State};
 
-/// The kind of session n, which has this right. None where time decides over a part of the right, so that it is judged alone, and where
-/// there is no such session.
+/// The kind of session n, which has this right. None if time decides over a part of the right, so that it is judged alone, and if there is no such
+/// session.
 pub fn kind_of(state: &State, n: u32, right: &Right) -> Option<Kind>
     ensures kind { IfSome result (IsOfKind state.now n) }
     ensures untimed { IfSome result (λ kind. right_timed (right_of right.now) ≡ []) }
@@ -42,7 +42,7 @@ pub fn kind_of(state: &State, n: u32, right: &Right) -> Option<Kind>
     })
 }
 
-/// The number of an entity, where its side is read.
+/// The number of an entity, if its side is read.
 fn if_read(is_read: bool, number: u32) -> Option<u32>
     ensures some { IfSome result (λ it. it ≡ number) }
     ensures none { result ≡ None → is_read ≡ false }
@@ -71,7 +71,7 @@ fn have_kind(numbers: &Numbers, kind: &Kind) -> bool
         && is_or_any(kind.object, numbers.object)
 }
 
-/// Whether a number is the one that is wanted, where one is.
+/// Whether a number is the one that is wanted, if one is.
 fn is_or_any(wanted: Option<u32>, number: u32) -> bool
     ensures { IsTrue result → IfSome wanted (λ it. it ≡ number) }
 {

@@ -45,8 +45,8 @@ use ucon_state::{
     tables_keep_what_is_followed,
 };
 
-/// After each change it rechecks the sessions that read what was changed, and no others but, at a tick, those of whom it passed a deadline,
-/// and all where the policy was replaced. Of sessions that are judged alike the first is judged for all.
+/// After each change it rechecks the sessions that read what was changed. At a tick it rechecks those of whom the tick passed a deadline, and all
+/// if the policy was replaced. It rechecks no others. Of sessions that are judged alike the first is judged for all.
 #[derive(Drop)]
 pub struct Monitor {
     alloc: Global,
@@ -143,7 +143,7 @@ impl Monitor {
         }
     }
 
-    /// After want of memory the monitor may be anywhere within the step, and goes back.
+    /// If memory runs out, the monitor may be anywhere within the step, and goes back.
     fn make_step(
         &mut self,
         caller: Caller,

@@ -7,7 +7,8 @@ ghost use Rattle.ucon_model.specs.Views.{update_of};
 ghost use Rattle.ucon_model.specs.declared.session.SessionRow.{SessionRow};
 ghost use Rattle.ucon_state.specs.Shown.{shown};
 ghost use Rattle.ucon_state.specs.Tables.{session_in};
-ghost use Rattle.ucon_cascade.specs.Putting.{AllBelow, GainsFirsts, GoesOn, IsCommandWork, IsOwnWork, IsPermitWork, StandsAt, StandsAtOne, targets_in};
+ghost use Rattle.ucon_cascade.specs.Putting.{AllBelow, GainsFirsts, GoesOn, IsCommandWork, IsOwnWork, IsPermitWork, StandsAt, StandsAtOne};
+ghost use Rattle.ucon_cascade.specs.Putting.{targets_in};
 ghost use Rattle.ucon_readers.specs.Readers.{first_of, readers_at};
 
 use crate::places::{attribute_place, place_of_session, variable_place};
@@ -84,7 +85,7 @@ pub fn put_targets(state: &State, readers: &Readers, n: u32, when: When, work: &
     }
 }
 
-/// Puts into the work whom a permit concerns, where the head tells one: its session, and who reads where the updates before its usage wrote.
+/// Puts into the work whom a permit concerns, if the head tells one: its session, and who reads where the updates before its usage wrote.
 fn put_permitted(state: &State, readers: &Readers, head: &Head, work: &mut Pend)
     requires below { AllBelow (readers_at readers.now) work.old.limit }
     requires permitted { (n : ℕ) → head.now ≡ heads.Permitted n → n < work.old.limit }
@@ -159,7 +160,7 @@ fn put_commanded(state: &State, readers: &Readers, command: &Command, work: &mut
 }
 
 /// Puts into the work, after a command's own actions, whoever they may have made fail: who is permitted, who reads where they wrote, and
-/// everybody where the policy was replaced; of each list its first, which is judged for all. An act makes nobody fail, and nobody reads of
+/// everybody if the policy was replaced; of each list its first, which is judged for all. An act makes nobody fail, and nobody reads of
 /// an entity that is new. Whom a tick concerns is in the work already.
 pub fn put_own_work(
     state: &State,

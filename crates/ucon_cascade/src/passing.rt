@@ -29,7 +29,7 @@ use ucon_readers::{Timers, first_limit, undoing_gives_what_is_kept};
 use ucon_readings::sessions;
 use ucon_state::{State, tables_keep_what_is_followed};
 
-/// All deadlines are set anew where the command replaced the policy. A tick passes those below it, and puts their sessions into the work.
+/// All deadlines are set anew if the command replaced the policy. A tick passes those below it, and puts their sessions into the work.
 /// Else a permitted session gets its deadlines, and an ended one loses them; an act gives none.
 pub fn follow_time(
     alloc: Global,
@@ -82,7 +82,7 @@ fn follow_usage(state: &State, timers: &mut Timers, head: &Head) -> Result<(), N
     }
 }
 
-/// Gives session n the first limit of what holds of its right for its deadline, and takes it away where nothing has a limit.
+/// Gives session n the first limit of what holds of its right for its deadline, and takes it away if nothing has a limit.
 #[inline(always)]
 fn put_session(state: &State, timers: &mut Timers, n: u32) -> Result<(), NoMemory>
     ensures gives { OnOk result (GivesFirst (shown state.now) (deadlines_in timers.old) (deadlines_in timers.new) n) }

@@ -15,7 +15,7 @@ use ucon_base::{Name, NoMemory, Rows, Side};
 use ucon_model::{Ref, View};
 use ucon_state::{CellId, State};
 
-/// The place of a variable. None where the policy in force has none of this name, or its number is none of a `u32`.
+/// The place of a variable. None if the policy in force has no such variable, or the place doesn't fit in a `u32`.
 pub fn variable_place(state: &State, name: &Name) -> Option<u32>
     ensures { result ≡ place_number (shown state.now) (variable_of name.now) }
 {
@@ -23,7 +23,7 @@ pub fn variable_place(state: &State, name: &Name) -> Option<u32>
     u32::try_from(at).ok()
 }
 
-/// The place of a cell. None where its number is none of a `u32`.
+/// The place of a cell. None if it doesn't fit in a `u32`.
 fn place_of_cell(state: &State, cell: CellId) -> Option<u32>
     ensures { result ≡ told (Some (length (shown state.now).policy.envs + cell)) }
 {
@@ -31,7 +31,7 @@ fn place_of_cell(state: &State, cell: CellId) -> Option<u32>
     variables.checked_add(cell)
 }
 
-/// The place of an attribute of an entity. None where one of them isn't there, or its number is none of a `u32`.
+/// The place of an entity's attribute. None if the entity or the attribute is missing, or the place doesn't fit in a `u32`.
 pub fn attribute_place(state: &State, side: Side, name: &Name, attr: &Name) -> Option<u32>
     ensures { result ≡ place_number (shown state.now) (attribute_of side name.now attr.now) }
 {
@@ -61,7 +61,7 @@ fn place_of(state: &State, n: u32, place: &Ref) -> Option<u32>
     }
 }
 
-/// The numbers of the places that session n reads, each once. One that is none of a `u32` is answered as want of memory.
+/// The numbers of the places that session n reads, each once. One that doesn't fit in a `u32` is answered as out of memory.
 pub fn place_numbers(
     alloc: Global,
     state: &State,

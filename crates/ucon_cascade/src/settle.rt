@@ -61,7 +61,7 @@ pub fn fails_at(state: &State, n: u32, steps: &mut Steps) -> Option<Name>
     failing(state, n, steps)
 }
 
-/// Takes sessions out of the work, least first, up to one that fails: the least of all. Where there is none, the work is done.
+/// Takes sessions out of the work, least first, up to one that fails: the least of all. If there is none, the work is done.
 fn next_failing(state: &State, work: &mut Pend, steps: &mut Steps) -> Option<(u32, Name)>
     requires following { IsFollowing (shown state.now) }
     requires work { (first : ℕ → ℕ) × IsWork (shown state.now) first work.old.members }
@@ -87,7 +87,7 @@ fn next_failing(state: &State, work: &mut Pend, steps: &mut Steps) -> Option<(u3
     None
 }
 
-/// Takes session n out of its list, and puts the next of the list into the work where it was the first.
+/// Takes session n out of its list, and puts the next of the list into the work if it was the first.
 fn leave_list(readers: &mut Readers, n: u32, work: &mut Pend) -> Result<(), NoMemory>
     requires { AllBelow (readers_at readers.old) work.old.limit }
     ensures read { OnOk result ((m place : ℕ) → Contains (readers_at readers.new place) m ↔ ((m ≢ n) × Contains (readers_at readers.old place) m)) }

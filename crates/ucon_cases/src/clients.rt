@@ -14,9 +14,9 @@ pub struct Meeting {
     pub outputs: [&'static [u8]; 2],
 }
 
-/// Clients 1 and 2 try at once; client 1 ends session 1 when both were answered, and client 2 asks how many users there are when that was.
-/// So a gate has to hold each one's first line until the other's has come, client 1's second until client 2's first was answered, and client
-/// 2's second until client 1's second was.
+/// Clients 1 and 2 try at once. Client 1 ends session 1 when both were answered, and client 2 asks how many users there are when that was. So a
+/// gate has to hold lines: each client's first until the other's has come. It holds client 1's second until client 2's first was answered, and
+/// client 2's second until client 1's second was.
 pub fn two_clients() -> Meeting {
     Meeting {
         policy: CAPPED,

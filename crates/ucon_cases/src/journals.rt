@@ -1,7 +1,7 @@
 //! Documents that are played over a journal or a checkpoint of which is written, and what its file holds then.
 
-/// A document that is played over a file, or under which a checkpoint is written to it or something is told of it, with the calls of the disk and
-/// of the sink that fail, by their numbers from 0; what the program ends with, writes and tells; and the file behind it.
+/// One run over a file: a document is played over it, a checkpoint is written to it, or something is told of it. It has the calls of the disk and
+/// of the sink that fail, by their numbers from 0. It has what the program ends with, writes and tells, and the file afterwards.
 #[derive(Clone, Copy)]
 pub struct Played {
     pub name: &'static str,

@@ -1,4 +1,8 @@
 //! Documents over journals, at each limit and of clients that meet, with what the program makes of them, as bytes for tests.
+//!
+//! The test crates run through these tables. A row has the journal's bytes before, the calls that fail, and the bytes that are left.
+//!
+//! **Before a change.** Add a row to the table of its topic, with a name for what it shows. The test over the table needs no change.
 #![tactic(auto)]
 
 mod audits;

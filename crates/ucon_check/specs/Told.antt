@@ -14,6 +14,6 @@ told (wrong_kind n) = WrongKind (told_number n)
 told (not_core right) = NotCore right
 told (too_many_cells right count) = TooManyCells right (told_number count)
 
--- Ok where there is no fault, else the fault as it is told
+-- Ok if there is no fault, else the fault as it is told
 abbrev pub Answers : {T : Type 0} → Option TypeFault → Result T CheckFault → Type 0
 Answers fault result = MatchResult result (λ x. option_map told fault ≡ None) (λ e. option_map told fault ≡ Some e)

@@ -63,8 +63,8 @@ fn changed_env<'a>(old: &'a Policy, new: &Policy) -> Option<&'a EnvDecl>
     envs.find(|d| changes_env(new, *d))
 }
 
-/// Nothing, where the new policy may follow the old one: what both declare, an attribute of one side and name or a variable of one
-/// name, is of the same kind in both, bounds included. No memory is taken.
+/// Nothing, if the new policy may follow the old one. Whatever both declare, an attribute of one side and name or a variable of one name, has to
+/// be of the same kind in both, bounds included. No memory is taken.
 pub fn may_follow(old: &Checked, new: &Checked) -> Result<(), AmendFault>
     ensures ok { IfOk result (λ done. MayFollow (checked_policy old.now) (checked_policy new.now)) }
     ensures changed { IfErr result (λ fault. option_map KindChanged (changed_kind (checked_policy old.now) (checked_policy new.now)) ≡ Some fault) }

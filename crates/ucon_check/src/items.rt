@@ -6,7 +6,8 @@ ghost use Rattle.std.specs.Str.{bytes_eq};
 ghost use Rattle.ucon_model.specs.Decision.{right_named};
 ghost use Rattle.ucon_model.specs.Readings.{declared_attr, declared_env};
 ghost use Rattle.ucon_model.specs.Views.{formula_of, test_of, predicate_of, update_of, right_of, policy_of};
-ghost use Rattle.ucon_model.specs.Typing.{name_if, has_lasts, is_recurring, counts_from_start, reads_wrongly, is_wrong_reader, item_fault, attr_fault, env_fault, heading_fault, is_label_taken, predicate_fault, update_fault};
+ghost use Rattle.ucon_model.specs.Typing.{name_if, has_lasts, is_recurring, counts_from_start, reads_wrongly, is_wrong_reader, item_fault};
+ghost use Rattle.ucon_model.specs.Typing.{attr_fault, env_fault, heading_fault, is_label_taken, predicate_fault, update_fault};
 ghost use Rattle.ucon_check.specs.Told.{Answers};
 
 use crate::CheckFault;

@@ -1,4 +1,13 @@
 //! Whether a policy is well typed and may follow another, and the places that its rights read.
+//!
+//! `Checked` carries that its policy is well typed. Outside tests only `check` makes one, so nobody above looks again.
+//!
+//! **Always.** No item before the one that is looked at has a fault.
+//!
+//! **Free.** How names are looked up. Which fault is first is defined.
+//!
+//! **Before a change.** `check` asks that each side has few attributes, and has no fault for more, since no text could have that fault. Begin at
+//! `typing.rt`.
 #![tactic(auto)]
 
 mod cores;

@@ -4,7 +4,8 @@ ghost use Rattle.std.specs.Prelude.{◌≡◌};
 ghost use Rattle.ucon_base.specs.Admits.{admits};
 ghost use Rattle.ucon_model.specs.Places.{attr_place};
 ghost use Rattle.ucon_model.specs.Views.{expr_of, formula_of, test_of, update_of, policy_of};
-ghost use Rattle.ucon_model.specs.Typing.{sort_of, value_sort, same_sort, is_of, are_of_one_sort, sum_sort, product_sort, size_sort, place_sort, expr_sort, takes, is_typed_formula, is_typed_test, is_typed_update, is_range, is_typed_start};
+ghost use Rattle.ucon_model.specs.Typing.{sort_of, value_sort, same_sort, is_of, are_of_one_sort, sum_sort, product_sort, size_sort, place_sort};
+ghost use Rattle.ucon_model.specs.Typing.{expr_sort, takes, is_typed_formula, is_typed_test, is_typed_update, is_range, is_typed_start};
 
 use ucon_base::{Kind, Name, Side, Value};
 use ucon_model::{Expr, Formula, Op, Policy, Ref, Sort, Test, Update};
@@ -114,7 +115,7 @@ pub fn place_sort(policy: &Policy, place: &Ref) -> Option<Sort>
     }
 }
 
-/// The sort of an expression; None where it isn't typed.
+/// The sort of an expression; None if it isn't typed.
 fn expr_sort(policy: &Policy, in_update: bool, e: &Expr) -> Option<Sort>
     ensures { result ≡ expr_sort (policy_of policy.now) in_update (expr_of e.now) }
 {

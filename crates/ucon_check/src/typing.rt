@@ -4,7 +4,8 @@ ghost use Rattle.std.specs.Prelude.{◌≡◌, ◌+◌, [], map, option_map, Non
 ghost use Rattle.ucon_model.specs.Checked.{checked_policy};
 ghost use Rattle.ucon_model.specs.Limits.{HasFewAttrs};
 ghost use Rattle.ucon_model.specs.Views.{predicate_of, update_of, right_of, policy_of};
-ghost use Rattle.ucon_model.specs.Typing.{undeclared, attr_fault, env_fault, predicate_fault, update_fault, first_fault_of, one_item, items_of, whole_fault, right_fault, type_fault, IsTyped};
+ghost use Rattle.ucon_model.specs.Typing.{undeclared, attr_fault, env_fault, predicate_fault, update_fault, first_fault_of, one_item, items_of};
+ghost use Rattle.ucon_model.specs.Typing.{whole_fault, right_fault, type_fault, IsTyped};
 ghost use Rattle.ucon_check.specs.Counted.{AreDeclaredOnce};
 ghost use Rattle.ucon_check.specs.Numbers.{told_number};
 ghost use Rattle.ucon_check.specs.Sought.{all_read};

@@ -90,8 +90,8 @@ pub record IsLedTo (P : PlainPolicy) (base : Base) (G : History) : Type 0 where
   pub text : text_in_force base.policy G ≡ text_at_start base.policy base.point
 
 -- The seat is one of this turn and has the client's number plus 1. What the client was answered is right for the list that its seat has seen,
--- behind the entries of the store that was handed in and under its policy, with each history that leads to where that store begins before
--- both.
+-- behind the entries of the store that was handed in. That holds under the store's policy, with each history that leads to where the store begins
+-- before both.
 pub record Serves {D : Type 0} (turn : Opening (Kept D)) (p : Part) (seat : Knowledge (Kept D) Event) : Type 0 where
   pub seated : IsSeatOf turn seat
   pub number : seat.number ≡ p.number + 1
@@ -99,9 +99,9 @@ pub record Serves {D : Type 0} (turn : Opening (Kept D)) (p : Part) (seat : Know
   pub right : (P : PlainPolicy) (G : History) → accepted turn.opened.policy ≡ Some P → IsFront P turn.opened G
       → AreRight P p.number (G ++ turn.opened.entries) (map Done G ++ seat.seen) (told_of p)
 
--- One more line is answered, the next one. Its step found a list that begins with all that the seat had seen, with nothing of its own
--- behind, and the seat has then seen the list that the step left. With each history that leads to where the store begins before both, it is a
--- step from the one to the other.
+-- One more line is answered, the next one. Its step found a list that begins with all that the seat had seen, with nothing of its own behind. The
+-- seat has then seen the list that the step left. With each history that leads to where the store begins before both, it is a step from the one to
+-- the other.
 pub record AnswersOne {D : Type 0} (turn : Opening (Kept D)) (was now : Part) (seat : Knowledge (Kept D) Event) (seen : List Event) : Type 0 where
   pub line : Line
   pub answer : Answer

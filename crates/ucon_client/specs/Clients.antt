@@ -67,13 +67,13 @@ Shows log stopped = marks_in log ≢ []
 abbrev pub IsSaidIn : PlainPolicy → History → List Event → Answered → Type 0
 IsSaidIn P G log t = IsSaid P (length G) (entries_in log) t.line t.answer
 
--- where the line met a disk fault, its reply after all entries of this list would change something
+-- if the line met a disk fault, its reply after all entries of this list would change something
 abbrev pub WouldChange : PlainPolicy → List Event → Answered → Type 0
 WouldChange P log t = IsTrue (is_disk_fault t.answer) → IsTrue (changes (said P (entries_in log) t.line.caller t.line.command))
 
--- The answers to one client's lines, in the order of the lines, are right for the list that its seat has seen, where the turn was opened
--- with the history G: each placed reply is the serial run's at its place; each answer follows the earlier ones; the lines with changing
--- replies are exactly the client's entries behind G, under their places; and the lines with a disk fault are exactly its marks.
+-- The answers to one client's lines, in their order, are right for the list that its seat has seen, if the turn was opened with the history G.
+-- Each placed reply is the serial run's at its place, and each answer follows the earlier ones. The lines with changing replies are exactly the
+-- client's entries behind G, under their places. The lines with a disk fault are exactly its marks.
 pub record AreRight (P : PlainPolicy) (client : ℕ) (G : History) (log : List Event) (told : List Answered) : Type 0 where
   pub opened : length G ≤ length (entries_in log)
   pub ends : EndsAtMark log
@@ -102,8 +102,8 @@ abbrev pub AreRising : List ℕ → Type 0
 AreRising [] = Unit {0}
 AreRising (n ∷ numbers) = Each (λ m. n < m) numbers × AreRising numbers
 
--- The first seat has taken back the seats of these clients, which have these numbers, and the answers of each are right for the list that
--- the first seat has seen by then.
+-- The first seat has taken back the seats of these clients, which have these numbers. The answers of each are right for the list that the first
+-- seat has seen by then.
 pub record AreJoined (P : PlainPolicy) (G : History) (seen : List Event) (taken : List ℕ) (clients : List Served) : Type 0 where
   pub ends : EndsAtMark seen
   pub right : Each (λ c. AreRight P c.number G seen c.told) clients

@@ -9,7 +9,7 @@ use Rattle.ucon_store.specs.declared.event.Event.TheVariants.{Failed}
 use Rattle.ucon_client.specs.Events.{marks_in}
 use Rattle.ucon_client.specs.Clients.{Steps}
 
--- a line's answer is `disk fault` exactly where its step appended its mark
+-- a line's answer is `disk fault` exactly if its step appended its mark
 abbrev pub FaultsAreMarked : Type 0
 FaultsAreMarked = (P : PlainPolicy) (line : Entry) (before after : List Event) (a : Answer) → Steps P line before after a
     → (a ≡ disk_fault) ↔ (after ≡ before ++ Failed line ∷ [])

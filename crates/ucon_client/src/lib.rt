@@ -1,4 +1,14 @@
 //! The clients of one store behind a turn, each in a thread of its own, and what follows for their answers: all together are a legal run.
+//!
+//! `serve` opens the turn, splits a seat for each client, lets all run, takes the seats back and closes the turn. In the end the records of all,
+//! put by their places, are the entries behind the opening history (`proofs/Together.antt`).
+//!
+//! **Always.** A client's answers are right for what its seat has seen (`AreRight`, `Serves`).
+//!
+//! **Free.** What a gate does between lines.
+//!
+//! **Before a change.** An open turn must be closed on every path, so all memory but the steps' own is taken before the turn opens. Begin at
+//! `serving.rt`.
 #![tactic(auto)]
 
 mod answer;

@@ -1,5 +1,6 @@
 -- Where the words of a line stand, and the command that they give.
-use Rattle.std.specs.Prelude.{◌≡◌, ℕ, ◌≤◌, ◌<◌, Bool, ◌&&◌, nat_lt, nat_le, IsTrue, IsOk, ◌∷◌, drop, length, Option, Some, option_map, IfSome, MatchResult, Result}
+use Rattle.std.specs.Prelude.{◌≡◌, ℕ, ◌≤◌, ◌<◌, Bool, ◌&&◌, nat_lt, nat_le, IsTrue, IsOk, ◌∷◌, drop, length, Option, Some, option_map, IfSome}
+use Rattle.std.specs.Prelude.{MatchResult, Result}
 use Rattle.std.specs.Coded.{Coded-set, coded_option}
 use Rattle.std.specs.Result.{result_ok}
 use Rattle.ucon_base.specs.NameBytes.{is_name}
@@ -9,7 +10,8 @@ use Rattle.ucon_command.specs.Faults.{IsSure}
 use Rattle.ucon_command.specs.declared.cuts.Cuts.TheVariants as cuts
 use Rattle.ucon_model.specs.contracts.command.Command as the_command
 use Rattle.ucon_model.specs.declared.command.Command.{Command}
-use Rattle.ucon_model.specs.declared.command.Command.TheVariants.{Subject, Object, Set, Env, Tick, Act, Try, Again, Beat, End, Look, Value as Value', Amend}
+use Rattle.ucon_model.specs.declared.command.Command.TheVariants.{Subject, Object, Set, Env, Tick, Act, Try, Again, Beat, End, Look, Value as Value'}
+use Rattle.ucon_model.specs.declared.command.Command.TheVariants.{Amend}
 use Rattle.ucon_model.specs.CommandLine.{LineRefusal, words_of, value_in, integer_in, amendment_in}
 use Rattle.ucon_model.specs.Plain.{Bytes}
 use Rattle.ucon_reply.specs.Words.{between, word_to, words_from}
@@ -28,7 +30,8 @@ pub record IsSecond (second : Option ℕ) (line : Bytes) : Type 0 where
 abbrev pub command_cut : Cuts → Bytes → Option Command
 command_cut (cuts.Subject name) line = Some (Subject (drop name line))
 command_cut (cuts.Object name) line = Some (Object (drop name line))
-command_cut (cuts.Set side name attr value) line = option_map (Set side (between name attr line) (between attr value line)) (value_in (drop value line))
+command_cut (cuts.Set side name attr value) line =
+    option_map (Set side (between name attr line) (between attr value line)) (value_in (drop value line))
 command_cut (cuts.Env name value) line = option_map (Env (between name value line)) (value_in (drop value line))
 command_cut (cuts.Tick tick) line = option_map Tick (integer_in (drop tick line))
 command_cut (cuts.Act subject action object) line = Some (Act (between subject action line) (between action object line) (drop object line))
@@ -59,8 +62,10 @@ HasWords (cuts.Object name) line = IsTrue (ends_in_name name line)
 HasWords (cuts.Set side name attr value) line = IsTrue (has_name name attr line) × IsTrue (has_name attr value line)
 HasWords (cuts.Env name value) line = IsTrue (has_name name value line)
 HasWords (cuts.Tick tick) line = tick ≤ length line
-HasWords (cuts.Act subject action object) line = IsTrue (has_name subject action line) × IsTrue (has_name action object line) × IsTrue (ends_in_name object line)
-HasWords (cuts.Try subject right object) line = IsTrue (has_name subject right line) × IsTrue (has_name right object line) × IsTrue (ends_in_name object line)
+HasWords (cuts.Act subject action object) line =
+    IsTrue (has_name subject action line) × IsTrue (has_name action object line) × IsTrue (ends_in_name object line)
+HasWords (cuts.Try subject right object) line =
+    IsTrue (has_name subject right line) × IsTrue (has_name right object line) × IsTrue (ends_in_name object line)
 HasWords (cuts.Again session) line = Unit {0}
 HasWords (cuts.Beat session) line = Unit {0}
 HasWords (cuts.End session) line = Unit {0}
@@ -90,6 +95,6 @@ pub record AreCuts (k : Cuts) (line : Bytes) (read : Result Command LineRefusal)
   pub cut : result_ok read ≡ command_cut k line
   pub words : HasWords k line
 
--- what is given are cuts that give what is read of a line, or the refusal that is read; want of memory is told only where nothing is refused
+-- what is given are cuts that give what is read of a line, or the refusal that is read; out of memory is told only if nothing is refused
 abbrev pub GivesCuts : Result Cuts LineFault → Bytes → Result Command LineRefusal → Type 0
 GivesCuts result line read = MatchResult result (λ k. AreCuts k line read) (IsSure read)

@@ -6,7 +6,7 @@ use Rattle.ucon_command.specs.declared.line_fault.LineFault.TheVariants.{TooLong
 use Rattle.ucon_model.specs.CommandLine.{LineRefusal, line_too_long, no_word, unknown_word, wrong_count, bad_word}
 use Rattle.ucon_model.specs.Plain.{Bytes}
 
--- what is said is this refusal, and want of memory is told only where this is so
+-- what is said is this refusal, and out of memory is told only if this is so
 abbrev pub IsRefusalOr : {A : Type 0} → Type 0 → Result A LineRefusal → LineFault → Type 0
 IsRefusalOr wants said (TooLong n) = said ≡ Err (line_too_long n)
 IsRefusalOr wants said NoWord = said ≡ Err no_word
@@ -15,11 +15,11 @@ IsRefusalOr wants said (WrongCount n) = said ≡ Err (wrong_count n)
 IsRefusalOr wants said (BadWord place) = said ≡ Err (bad_word place)
 IsRefusalOr wants said (NoMemory e) = wants
 
--- what is said is this refusal, unless it is want of memory
+-- what is said is this refusal, unless memory ran out
 abbrev pub IsRefusal : {A : Type 0} → Result A LineRefusal → LineFault → Type 0
 IsRefusal said f = IsRefusalOr ⊤ said f
 
--- what is said is this refusal; want of memory is told only where nothing is refused
+-- what is said is this refusal; out of memory is told only if nothing is refused
 abbrev pub IsSure : {A : Type 0} → Result A LineRefusal → LineFault → Type 0
 IsSure said f = IsRefusalOr (IsOk said) said f
 

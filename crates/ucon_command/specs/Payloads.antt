@@ -21,8 +21,9 @@ use Rattle.ucon_reply.specs.Replies.{most_reply}
 abbrev pub told_of : Caller → Command → Reply → Told
 told_of caller command reply = record { caller = caller; command = command; reply = reply_of reply }
 
--- The entry of the step that a payload tells, whatever stands behind the command, or the place of the first part that is none: 0 where the bytes up
--- to the first space are no client's number, and the place behind the space where the bytes from there to the first newline are no command line.
+-- The entry of the step that a payload tells, whatever stands behind the command, or the place of the first part that is wrong. That place is 0 if
+-- there is no space, or the bytes up to the first one are no client's number. It is the place behind the space if no newline follows, or the bytes
+-- up to the first one are no command line.
 unfoldable pub entry_read : (Bytes → Option PlainPolicy) → Bytes → Result Entry ℕ
 entry_read reads bytes = do
   parts ← ok_or (cut_at 32 bytes) 0
@@ -31,12 +32,12 @@ entry_read reads bytes = do
   command ← ok_or (result_ok (line_read reads step.0)) (length parts.0 + 1)
   Ok (record { caller = caller; command = command })
 
--- what is read is refused at this place, unless it is want of memory
+-- what is read is refused at this place, unless memory ran out
 abbrev pub IsBadAt : {A : Type 0} → Result A ℕ → PayloadFault → Type 0
 IsBadAt read (BadPlace place) = read ≡ Err place
 IsBadAt read (NoMemory e) = ⊤
 
--- what is given is the step that is read; or what is read is refused at its place, unless it is want of memory
+-- what is given is the step that is read; or what is read is refused at its place, unless memory ran out
 abbrev pub GivesStep : Result (Caller × Command × Reply) PayloadFault → Result Told ℕ → Type 0
 GivesStep result read = MatchResult result (λ t. read ≡ Ok (told_of t.0 t.1 t.2)) (IsBadAt read)
 
@@ -44,8 +45,8 @@ GivesStep result read = MatchResult result (λ t. read ≡ Ok (told_of t.0 t.1 t
 abbrev pub most_told : PlainReply → ℕ
 most_told reply = 65547 + most_reply reply
 
--- A step that can be spelled: of one of the 64 clients, of a command and a reply of names, values and numbers, with no more revocations than
--- sessions can be accessing.
+-- A step that can be spelled. It is of one of the 64 clients, of a command and a reply of names, values and numbers. It has no more revocations
+-- than sessions can be accessing.
 pub record IsStep (t : Told) : Type 0 where
   pub client : t.caller.0 < 64
   pub command : IsCommand t.command

@@ -20,8 +20,9 @@ abbrev pub IsOfClient : Bytes → RequestFault → Type 0
 IsOfClient line BadClient = ⊤
 IsOfClient line (BadCommand caller fault) = (text : Bytes) × IsAskedBy line caller text
 
--- A line of this client and text is refused so: its text is no command, for this reason, or there is no memory, which is told of other texts than amendments only
--- where nothing is refused.
+-- A line of this client and text is refused so. Its text is no command, for this reason, or there is no memory. Of a text that isn't an amendment,
+-- no memory is told only if nothing is refused.
 abbrev pub IsRefusedTo : Caller → Bytes → RequestFault → Type 0
 IsRefusedTo caller text BadClient = ⊥
-IsRefusedTo caller text (BadCommand whose fault) = (whose ≡ caller) × IsRefusal (line_read accepted text) fault × (IsFalse (amends text) → IsSure (line_read accepted text) fault)
+IsRefusedTo caller text (BadCommand whose fault) =
+    (whose ≡ caller) × IsRefusal (line_read accepted text) fault × (IsFalse (amends text) → IsSure (line_read accepted text) fault)

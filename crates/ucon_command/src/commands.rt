@@ -27,7 +27,7 @@ pub fn command_text(alloc: Global, command: &Command) -> Result<Vec<u8>, NoMemor
     Ok(text)
 }
 
-/// Adds the one line that reads as the command, without a newline, as [`command_text`] gives it, and tells that the command is in form. Where there
+/// Adds the one line that reads as the command, without a newline, as [`command_text`] gives it, and tells that the command is in form. If there
 /// is no memory, some of it may stand there: a caller gives the text up.
 #[tactic(auto, unfolding(ucon_model::specs::CommandLine::command_spelling))]
 pub fn put_command(alloc: Global, out: &mut Vec<u8>, command: &Command) -> Result<(), NoMemory>

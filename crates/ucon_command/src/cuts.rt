@@ -2,9 +2,8 @@
 
 use ucon_base::Side;
 
-/// Where the words of a command stand in its line, by its form: each `u16`, and the `u32` of a policy, is the place, from 0, at which the word of its
-/// name begins. A side and a
-/// session's number are kept as what they say. The word that ends a form takes the rest of the line.
+/// Where the words of a command stand in its line, by its form. Each `u16`, and the `u32` of a policy, is the place, from 0, at which the word of
+/// its name begins. A side and a session's number are kept as what they say. The word that ends a form takes the rest of the line.
 #[derive(Clone, Copy)]
 pub enum Cuts {
     Subject {

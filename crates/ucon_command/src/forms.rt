@@ -3,7 +3,8 @@
 ghost use Rattle.std.specs.Prelude.{◌≡◌, ◌≤◌, length, drop, None, IfErr, IfOk, IsOk, IsTrue, Ok, MatchResult};
 ghost use Rattle.std.specs.Result.{result_ok};
 ghost use Rattle.ucon_base.specs.NameBytes.{is_name};
-ghost use Rattle.ucon_model.specs.CommandLine.{name_in, integer_in, number_in, one_word, three_names, place_of, value_words, set_words, env_words, amend_words, words_of};
+ghost use Rattle.ucon_model.specs.CommandLine.{name_in, integer_in, number_in, one_word, three_names, place_of, value_words, set_words, env_words};
+ghost use Rattle.ucon_model.specs.CommandLine.{amend_words, words_of};
 ghost use Rattle.ucon_syntax.specs.Policies.{accepted};
 ghost use Rattle.ucon_command.specs.Cuts.{AreCuts, GivesCuts, IsSecond, ends_in_name, has_name};
 ghost use Rattle.ucon_command.specs.Faults.{GivesTold, IsRefusal, IsTold};

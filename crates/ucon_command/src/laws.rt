@@ -45,7 +45,7 @@ pub fn payloads_are_read_back()
     texts_lack_bytes();
 }
 
-/// A payload is taken exactly where it is the one that the serial run spells, and its reply changes something.
+/// A payload is taken exactly if it is the one that the serial run spells, and its reply changes something.
 pub fn steps_are_taken_as_spelled()
     ensures taken { (P : PlainPolicy) (H : History) (payload : Bytes) (t : Told)
         → length payload ≤ most_payload → payload_read accepted payload ≡ Ok t
@@ -63,7 +63,7 @@ pub fn steps_are_taken_as_spelled()
     texts_tell_changes();
 }
 
-/// What is found in a proper history's payloads is that history, and payloads in which a history is found are that history's, where each
+/// What is found in a proper history's payloads is that history, and payloads in which a history is found are that history's, if each
 /// has to tell a step.
 pub fn histories_are_found()
     ensures written { (takes : Takes) (text : Bytes) (P : PlainPolicy) (H : History) → TakesSteps accepted takes

@@ -1,4 +1,15 @@
 //! Command lines, the payloads of steps, and requests: the one text of each, both ways.
+//!
+//! A script's lines, a journal's records and a conversation's lines are read here. A `CommandLine` keeps only where the words of its line stand
+//! (`cuts.rt`), with the fact that they give the command. `payload.rt` does a journal's payloads both ways, and `request.rt` reads a line of a
+//! conversation.
+//!
+//! **Always.** Bytes are read as a command or a payload exactly if they are its one text.
+//!
+//! **Free.** How words are cut and told apart. The order of refusals is defined.
+//!
+//! **Before a change.** A command has one spelling, so that no two lines say one command. A journal is read against these spellings byte by byte,
+//! so old journals need each of them. Begin at `command_line.rt`.
 #![tactic(auto)]
 
 mod amendment;

@@ -1,6 +1,7 @@
 //! Payloads of a journal's records: a step as text, both ways.
 
-ghost use Rattle.std.specs.Prelude.{◌≡◌, ◌<◌, ◌≤◌, ◌+◌, ◌-◌, ◌^◌, ◌==◌, ◌++◌, ◌↔◌, ℕ, IsTrue, length, ok_or, position, IfOk, OnOk, IfSome, MatchOption, MatchResult, Ok, Err, None, Some};
+ghost use Rattle.std.specs.Prelude.{◌≡◌, ◌<◌, ◌≤◌, ◌+◌, ◌-◌, ◌^◌, ◌==◌, ◌++◌, ◌↔◌, ℕ, IsTrue, length, ok_or, position, IfOk, OnOk, IfSome};
+ghost use Rattle.std.specs.Prelude.{MatchOption, MatchResult, Ok, Err, None, Some};
 ghost use Rattle.std.specs.Fmt.{decimal};
 ghost use Rattle.std.specs.Result.{result_ok};
 ghost use Rattle.ucon_model.specs.CommandLine.{IsCommand, line_read};
@@ -23,7 +24,7 @@ use ucon_model::{Caller, Command, Entry, Reply, texts_lack_bytes};
 use ucon_reply::{ReplyFault, put_session, put_spelling, read_reply, replies_are_read_back};
 
 /// Adds the one text of a step: the caller in decimal, a space, the command's text, a newline, the reply's text. What was added is read back as the
-/// step, where it is of one of the 64 clients, and is no longer than the reply's revocations let it be. Where there is no memory, some of it may
+/// step, if it is of one of the 64 clients, and is no longer than the reply's revocations let it be. If there is no memory, some of it may
 /// stand there: a caller gives the text up.
 pub fn put_payload(
     alloc: Global,
@@ -88,8 +89,8 @@ fn payload(alloc: Global, bytes: &[u8]) -> Result<(Caller, Command, Reply), Payl
     step(alloc, client.len() + 1, caller, behind)
 }
 
-/// The entry of the step that the bytes tell, without a look at its reply, or the place of the first part that is none: of the caller or the
-/// command. Bytes that begin with no client's number and a space are refused before any memory is taken.
+/// The entry of the step that the bytes tell, or the place of the first part that is wrong: the caller or the command. The reply isn't looked at.
+/// Bytes that don't begin with a client's number and a space are refused before any memory is taken.
 pub fn read_entry(alloc: Global, bytes: &[u8]) -> Result<Entry, PayloadFault>
     ensures read { MatchResult result (λ e. entry_read accepted bytes.now ≡ Ok e) (IsBadAt (entry_read accepted bytes.now)) }
     ensures told { IfOk result (λ e. (t : Told) → payload_read accepted bytes.now ≡ Ok t → e ≡ entry_told t) }

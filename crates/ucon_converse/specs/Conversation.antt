@@ -29,7 +29,8 @@ goes_out (Err faults.SinkFault) before now ready replies = AppendsPrefix before 
 goes_out (Err faults.TooLong) before now ready replies = Appends before now (ready ++ replies)
 goes_out (Err (faults.NoMemory e)) before now ready replies = Appends before now (ready ++ replies) ⊎ ((now ≡ before) × (replies ≡ []))
 
--- The store stands for what the last reply led to. Where there was no memory, maybe for a reply, one step more may have been taken, or have met a disk fault.
+-- The store stands for what the last reply led to. If there was no memory, maybe for a reply, one step more may have been taken, or have met a
+-- disk fault.
 abbrev pub ends_at : Result (Unit {0}) TalkFault → Standing → Standing → Type 0
 ends_at (Ok done) reached last = reached ≡ last
 ends_at (Err faults.SourceFault) reached last = reached ≡ last
@@ -37,8 +38,8 @@ ends_at (Err faults.SinkFault) reached last = reached ≡ last
 ends_at (Err faults.TooLong) reached last = reached ≡ last
 ends_at (Err (faults.NoMemory e)) reached last = Begins reached.history last.history
 
--- These bytes were told by this moment: they are a front of what the sink held, the first line, and the replies up to one. From that moment on, now and
--- whenever a crash came in between, the file is found as a history that begins with all that was done when that one was answered.
+-- These bytes were told by this moment: they are a front of what the sink held, the first line, and the replies up to one. From that moment on the
+-- file is found as a history that begins with all that was done when that one was answered. That holds now, and whenever a crash came in between.
 pub record IsToldOnceKeptBy (reads : PolicyReading) (text : Bytes) (disk : DiskSeen) (held : Bytes) (opening : Standing) (exchanges : List (Exchange Standing))
     (b : Bytes) (t : ℕ) : Type 0 where
   pub by_then : List (Exchange Standing)

@@ -61,8 +61,8 @@ pub record IsFoundSinceBy (reads : PolicyReading) (text : Bytes) (opening H : Hi
   pub begun : Begins opening history
   pub within : Begins history H ⊎ ((e : Entry) × (failed ≡ Some e) × (history ≡ H ++ e ∷ []))
 
--- The conversation went on behind the opening history to a last standing. The disk's count of faults is one more where a step met a disk fault, and else
--- as it was. A crash at any moment since, where the disk was at rest before, and a crash now at any rate, leaves what was done by then.
+-- The conversation went on behind the opening history to a last standing. The disk's count of faults is one more if a step met a disk fault, and
+-- otherwise as it was. A crash at any moment since, if the disk was at rest before, and a crash now at any rate, leaves what was done by then.
 pub record IsHeldBehindBy (reads : PolicyReading) (text : Bytes) (P : PlainPolicy) (file : Bytes) (opening : History) (outcome : Outcome)
     (old new : DiskSeen) (before now : VoiceSeen) (hears : Result (Unit {0}) TalkFault → Bytes → Type 0) : Type 0 where
   pub result : Result (Unit {0}) TalkFault
@@ -85,8 +85,8 @@ pub record IsNotOpenedBy (reads : PolicyReading) (text : Bytes) (outcome : Outco
   pub contents : now.contents ≡ before.contents
   pub silent : (b : Bytes) (t : ℕ) → now.told b t → before.told b t
 
--- The text is a policy's, and the journal was opened under it. Where the file was found as a history, the conversation went on behind that. A file that opening
--- alone accepts has none, and nothing is said of the replies.
+-- The text is a policy's, and the journal was opened under it. If the file was found as a history, the conversation went on behind that. A file
+-- that opening alone accepts has none, and nothing is said of the replies.
 pub record IsHeldBy (reads : PolicyReading) (text : Bytes) (outcome : Outcome) (old new : DiskSeen) (before now : VoiceSeen)
     (hears : Result (Unit {0}) TalkFault → Bytes → Type 0) : Type 0 where
   pub policy : PlainPolicy

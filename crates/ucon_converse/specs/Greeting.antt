@@ -8,7 +8,7 @@ use Rattle.ucon_tell.specs.declared.talk_fault.TalkFault.{TalkFault}
 use Rattle.ucon_tell.specs.declared.talk_fault.TalkFault.TheVariants as faults
 use Rattle.ucon_converse.specs.Replies.{ready_line}
 
--- it went out, by this moment of a disk; or a front of it did, where the sink failed; or nothing, where there was no memory
+-- it went out, by this moment of a disk; or a front of it did, if the sink failed; or nothing, if there was no memory
 abbrev pub HasGreeted : Result (Unit {0}) TalkFault → ℕ → ℕ → VoiceSeen → VoiceSeen → Type 0
 HasGreeted (Ok done) steps moment old new = Appends old.contents new.contents (ready_line steps) × TellsFronts old new (ready_line steps) moment
 HasGreeted (Err faults.SinkFault) steps moment old new = AppendsPrefix old.contents new.contents (ready_line steps) × TellsFronts old new (ready_line steps) moment

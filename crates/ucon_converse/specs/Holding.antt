@@ -21,7 +21,8 @@ pub record IsFoundPastBy (reads : PolicyReading) (text : Bytes) (H : History) (f
 abbrev pub IsFoundPast : Bytes → History → Bytes → Type 0
 IsFoundPast = IsFoundPastBy accepted
 
--- A history stands before the store's entries. Without a mark the store is founded on it; and a crash leaves it and the entries, or these and the mark.
+-- A history stands before the store's entries. Without a mark the store is founded on it. A crash leaves it and the entries, or these and the
+-- mark.
 pub record IsBased {D : Type 0} (seen : D → DiskSeen) (P : PlainPolicy) (s : Kept D) (G : History) : Type 0 where
   pub founded : s.mark ≡ None → IsFounded seen P s G
   pub told : IsSome (seen s.disk).contents

@@ -25,7 +25,8 @@ pub record IsLed {D : Type 0} (s : Kept D) : Type 0 where
 abbrev pub standing : {D : Type 0} → History → Kept D → Standing
 standing G s = record { history = G ++ s.entries; failed = s.mark }
 
--- The moment of a disk, as far as is said of a store: where the disk tells nothing, no clause of a store tells of moments, and nothing is said of images.
+-- The moment of a disk, as far as is said of a store. If the disk tells nothing, no clause of a store tells of moments, and nothing is said of
+-- images.
 abbrev pub moment_by : Option Bytes → ℕ → ℕ
 moment_by None moment = 0
 moment_by (Some file) moment = moment

@@ -1,4 +1,14 @@
 //! A conversation with the monitor over a journal: one line in, its reply out, told only once its step is on the disk.
+//!
+//! `converse` does all of it, from the policy on; `hold` is the conversation over an open store, and `StoreKeeper` is the keeper that `ucon_tell`
+//! asks for.
+//!
+//! **Always.** Each reply is the one that the definitions give where the store stands (`GivesReplyBy`).
+//!
+//! **Free.** How lines are read and replies put together.
+//!
+//! **Before a change.** What was told is said of the moment at which it went out, so a reply must not wait in a buffer. Begin at
+//! `specs/Conversation.antt`, then `keeper.rt`.
 #![tactic(auto)]
 
 mod holding;

@@ -1,4 +1,8 @@
 //! Makes the real source, voice and disk, calls `converse`, and ends with its status.
+//!
+//! No contract stands above it, so it is kept short enough to be read.
+//!
+//! **Before a change.** What it does beyond calling `converse` is only tested.
 #![tactic(auto)]
 
 use std::alloc::{AllocError, Global};

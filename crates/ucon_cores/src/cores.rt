@@ -6,7 +6,8 @@ ghost use Rattle.ucon_model.specs.declared.core_model.Core.{Core};
 ghost use Rattle.ucon_model.specs.Checked.{checked_policy};
 ghost use Rattle.ucon_model.specs.Decision.{ongoing, is_duty};
 ghost use Rattle.ucon_model.specs.Views.{test_of, predicate_of, update_of, right_of};
-ghost use Rattle.ucon_model.specs.Cores.{is_authorisation, is_of_kind, may_update, updates_at, indices_by, indices, cores_of_kind, core_models_of, kind_name, core_name};
+ghost use Rattle.ucon_model.specs.Cores.{is_authorisation, is_of_kind, may_update, updates_at, indices_by, indices, cores_of_kind, core_models_of};
+ghost use Rattle.ucon_model.specs.Cores.{kind_name, core_name};
 
 use std::alloc::Global;
 use ucon_base::{NoMemory, Rows};

@@ -5,7 +5,7 @@ use Rattle.std.specs.Prelude.{◌≡◌, ◌⊎◌, ⊤, ℕ, ◌+◌, ◌-◌, 
 abbrev pub overwritten : ℕ → List ℕ → List ℕ → List ℕ
 overwritten at bytes file = take at file ++ bytes ++ drop (at + length bytes) file
 
--- where the disk tells: the place lies in the file or at its end, and the range ends where a u64 can say it
+-- if the disk tells: the place lies in the file or at its end, and the range ends where a u64 can say it
 abbrev pub HasPlace : Option (List ℕ) → ℕ → ℕ → Type 0
 HasPlace None at n = ⊤
 HasPlace (Some file) at n = (at ≤ length file) × (at + n < 2 ^ 64)
@@ -15,7 +15,7 @@ pub record Reads (file : List ℕ) (at n : ℕ) (buf : List ℕ) : Type 0 where
   pub count : n ≡ min (length buf) (length file - at)
   pub bytes : take n buf ≡ take n (drop at file)
 
--- the first n bytes of a buffer are those of the file at a place: at least one where the buffer has room and the file more bytes
+-- the first n bytes of a buffer are those of the file at a place: at least one if the buffer has room and the file more bytes
 pub record ReadsPart (file : List ℕ) (at n : ℕ) (buf : List ℕ) : Type 0 where
   pub within : n ≤ length file - at
   pub some : 0 < length buf → at < length file → 0 < n
@@ -50,7 +50,7 @@ pub record SameImages (old new : List ℕ → Type 0) : Type 0 where
 abbrev pub NoneNew : (List ℕ → Type 0) → (List ℕ → Type 0) → Type 0
 NoneNew old new = (c : List ℕ) → new c → old c
 
--- where the disk tells, a crash leaves the bytes as read and nothing else
+-- if the disk tells, a crash leaves the bytes as read and nothing else
 abbrev pub Only : Option (List ℕ) → (List ℕ → Type 0) → Type 0
 Only None images = ⊤
 Only (Some file) images = (c : List ℕ) → images c → c ≡ file

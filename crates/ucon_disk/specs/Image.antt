@@ -1,5 +1,6 @@
 -- The disk model: which bytes a crash may leave.
-use Rattle.std.specs.Prelude.{◌≡◌, ℕ, zero, suc, ◌+◌, ◌<◌, ◌≤◌, min, max, nat_lt, nat_le, Bool, true, not, ◌&&◌, if◌then◌else◌, List, [], ◌∷◌, ◌++◌, length, take, drop, slice_index, Option, None, Some}
+use Rattle.std.specs.Prelude.{◌≡◌, ℕ, zero, suc, ◌+◌, ◌<◌, ◌≤◌, min, max, nat_lt, nat_le, Bool, true, not, ◌&&◌, if◌then◌else◌, List, [], ◌∷◌, ◌++◌}
+use Rattle.std.specs.Prelude.{length, take, drop, slice_index, Option, None, Some}
 use Rattle.std.specs.List.{list_any}
 use Rattle.ucon_disk.specs.Disk.{overwritten}
 
@@ -42,8 +43,16 @@ pub data Change : Type 0 where
 -- A write that fails counts as touching its range, and a length that a call would have given counts as one that the file had.
 abbrev pub step : State → Change → State
 step s looked = s
-step s (wrote at bytes done) = record { file = if done then overwritten at bytes s.file else s.file; synced = s.synced; least = s.least; greatest = max s.greatest (at + length bytes); touched = s.touched ++ (at, length bytes) ∷ [] }
-step s (cut_to len done) = record { file = if done then take len s.file else s.file; synced = s.synced; least = min s.least len; greatest = s.greatest; touched = s.touched }
+step s (wrote at bytes done) =
+    record {
+      file = if done then overwritten at bytes s.file else s.file;
+      synced = s.synced;
+      least = s.least;
+      greatest = max s.greatest (at + length bytes);
+      touched = s.touched ++ (at, length bytes) ∷ [];
+    }
+step s (cut_to len done) =
+    record { file = if done then take len s.file else s.file; synced = s.synced; least = min s.least len; greatest = s.greatest; touched = s.touched }
 step s (synced_all done) = if done then at_rest s.file else s
 
 abbrev pub after : State → List Change → State
@@ -53,7 +62,8 @@ after s (change ∷ changes) = after (step s change) changes
 -- n bytes from place k on: settled places as synced, the others from these bytes in order, and 0 past their end
 abbrev pub filled : State → ℕ → ℕ → List ℕ → List ℕ
 filled s k zero fill = []
-filled s k (suc n) fill = if is_settled s k then slice_index s.synced k ∷ filled s (k + 1) n fill else slice_index fill 0 ∷ filled s (k + 1) n (drop 1 fill)
+filled s k (suc n) fill =
+    if is_settled s k then slice_index s.synced k ∷ filled s (k + 1) n fill else slice_index fill 0 ∷ filled s (k + 1) n (drop 1 fill)
 
 -- the image of this length that these bytes fill, if the length is allowed
 abbrev pub image_of : State → ℕ → List ℕ → Option (List ℕ)

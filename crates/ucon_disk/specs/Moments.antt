@@ -8,7 +8,8 @@ state_at_end : (h : History) (k : ℕ) → length h.changes ≤ k → state_at h
 state_at_end h k le = ap (λ (changes : List Change). after (at_rest h.start) changes) (take_all k h.changes le)
 
 pub image_since : (h : History) (t : ℕ) (c : List ℕ) → t ≤ length h.changes → IsImage (state_now h) c → IsImageSince h t c
-image_since h t c le image = (length h.changes, le, omega arith, subst (λ (s : State). IsImage s c) (sym (state_at_end h (length h.changes) (omega arith))) image)
+image_since h t c le image =
+    (length h.changes, le, omega arith, subst (λ (s : State). IsImage s c) (sym (state_at_end h (length h.changes) (omega arith))) image)
 
 pub image_now : (h : History) (c : List ℕ) → IsImageSince h (length h.changes) c → IsImage (state_now h) c
 image_now h c since = subst (λ (s : State). IsImage s c) (state_at_end h since.0 since.1) since.3

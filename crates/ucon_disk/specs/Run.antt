@@ -15,7 +15,7 @@ pub record LeavesOnly (old new : DiskSeen) (P : List ℕ → Type 0) : Type 0 wh
   -- for a run that began earlier
   pub before : (t : ℕ) (c : List ℕ) → t ≤ old.moment → new.images_since t c → old.images_since t c ⊎ P c
 
--- Where all that is read was on the disk, a crash at any moment since old leaves that file after a step.
+-- If all that is read was on the disk, a crash at any moment since old leaves that file after a step.
 pub record LeavesAfter (old new : DiskSeen) (step : List ℕ → List ℕ → Type 0) : Type 0 where
   pub each : (file : List ℕ) → IsAtRest old file → LeavesOnly old new (step file)
 

@@ -1,7 +1,7 @@
 -- What can be said of a disk at one moment.
 use Rattle.std.specs.Prelude.{ℕ, List, Option}
 
--- what reads give, where the disk tells; what a crash now may leave; the moment, as a number that doesn't fall; what a crash at some moment
+-- what reads give, if the disk tells; what a crash now may leave; the moment, as a number that doesn't fall; what a crash at some moment
 -- from that one on may have left; and how often the disk has failed
 pub record DiskSeen : Type 1 where
   pub contents : Option (List ℕ)

@@ -25,7 +25,8 @@ pub trait Disk {
         ensures length { IfOk result (λ n. IfSome (seen self.old).contents (λ file. n ≡ length file)) }
         ensures contents { (seen self.new).contents ≡ (seen self.old).contents }
         ensures images { SameImages (seen self.old).images (seen self.new).images }
-        ensures time { Elapses (seen self.old).moment (seen self.new).moment (seen self.old).images_since (seen self.new).images_since (seen self.new).images }
+        ensures time { Elapses (seen self.old).moment (seen self.new).moment
+            (seen self.old).images_since (seen self.new).images_since (seen self.new).images }
         ensures cause { HasCause (seen self.old).faults (seen self.new).faults result }
         ensures made { makes self.old self.new (is_ok result) (λ _. looked) };
 
@@ -35,7 +36,8 @@ pub trait Disk {
         ensures reads { IfOk result (λ n. IfSome (seen self.old).contents (λ file. Reads file at n buf.new)) }
         ensures contents { (seen self.new).contents ≡ (seen self.old).contents }
         ensures images { SameImages (seen self.old).images (seen self.new).images }
-        ensures time { Elapses (seen self.old).moment (seen self.new).moment (seen self.old).images_since (seen self.new).images_since (seen self.new).images }
+        ensures time { Elapses (seen self.old).moment (seen self.new).moment
+            (seen self.old).images_since (seen self.new).images_since (seen self.new).images }
         ensures cause { HasCause (seen self.old).faults (seen self.new).faults result }
         ensures made { makes self.old self.new (is_ok result) (λ _. looked) };
 
@@ -48,7 +50,8 @@ pub trait Disk {
         ensures tells { is_some (seen self.new).contents ≡ is_some (seen self.old).contents }
         ensures images { Follows (Torn at (length bytes.now)) (seen self.old).images (seen self.new).images }
         ensures all_images { OnOk result (Reaches (Torn at (length bytes.now)) (seen self.old).images (seen self.new).images) }
-        ensures time { Elapses (seen self.old).moment (seen self.new).moment (seen self.old).images_since (seen self.new).images_since (seen self.new).images }
+        ensures time { Elapses (seen self.old).moment (seen self.new).moment
+            (seen self.old).images_since (seen self.new).images_since (seen self.new).images }
         ensures cause { HasCause (seen self.old).faults (seen self.new).faults result }
         ensures made { makes self.old self.new (is_ok result) (wrote at bytes.now) };
 
@@ -59,7 +62,8 @@ pub trait Disk {
         ensures tells { is_some (seen self.new).contents ≡ is_some (seen self.old).contents }
         ensures images { Follows (Shortened len) (seen self.old).images (seen self.new).images }
         ensures all_images { OnOk result (Reaches (Shortened len) (seen self.old).images (seen self.new).images) }
-        ensures time { Elapses (seen self.old).moment (seen self.new).moment (seen self.old).images_since (seen self.new).images_since (seen self.new).images }
+        ensures time { Elapses (seen self.old).moment (seen self.new).moment
+            (seen self.old).images_since (seen self.new).images_since (seen self.new).images }
         ensures cause { HasCause (seen self.old).faults (seen self.new).faults result }
         ensures made { makes self.old self.new (is_ok result) (cut_to len) };
 
@@ -69,7 +73,8 @@ pub trait Disk {
         ensures contents { OnOk result ((seen self.new).contents ≡ (seen self.old).contents) }
         ensures tells { is_some (seen self.new).contents ≡ is_some (seen self.old).contents }
         ensures images { NoneNew (seen self.old).images (seen self.new).images }
-        ensures time { Elapses (seen self.old).moment (seen self.new).moment (seen self.old).images_since (seen self.new).images_since (seen self.new).images }
+        ensures time { Elapses (seen self.old).moment (seen self.new).moment
+            (seen self.old).images_since (seen self.new).images_since (seen self.new).images }
         ensures cause { HasCause (seen self.old).faults (seen self.new).faults result }
         ensures made { makes self.old self.new (is_ok result) synced_all };
 
@@ -83,5 +88,6 @@ pub trait Disk {
     ghost only_now: { (disk : Self) (c : List ℕ) → (seen disk).images_since (seen disk).moment c → (seen disk).images c };
 
     /// The images since a moment are among those since an earlier one.
-    ghost since_earlier: { (disk : Self) (t u : ℕ) (c : List ℕ) → t ≤ u → u ≤ (seen disk).moment → (seen disk).images_since u c → (seen disk).images_since t c };
+    ghost since_earlier: { (disk : Self) (t u : ℕ) (c : List ℕ) → t ≤ u → u ≤ (seen disk).moment
+        → (seen disk).images_since u c → (seen disk).images_since t c };
 }

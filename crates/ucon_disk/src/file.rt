@@ -10,7 +10,7 @@ use std::io;
 use std::path::Path;
 use std::rt::Files;
 
-/// A file at a path, which is opened, and made where it isn't there, at the first call.
+/// A file at a path, which is opened, and made if it isn't there, at the first call.
 #[derive(Drop)]
 pub struct FileDisk<R> {
     rt: R,
@@ -35,7 +35,7 @@ impl<R: Files<File = File>> FileDisk<R> {
         }
     }
 
-    /// Counts a call, and opens the file where it isn't open.
+    /// Counts a call, and opens the file if it isn't open.
     fn begin_call(&mut self) -> Result<(), Failed>
         ensures calls { self.new.calls ≡ raised self.old.calls }
         ensures later { self.old.calls ≤ self.new.calls }
@@ -52,7 +52,7 @@ impl<R: Files<File = File>> FileDisk<R> {
 }
 
 impl<R: Files<File = File>> Disk for FileDisk<R> {
-    // A file tells nothing of its bytes. Its moment is how many calls were made, so where that stays, no call was.
+    // A file tells nothing of its bytes. Its moment is how many calls were made, so if that stays, no call was.
     ghost seen = { λ d. record { contents = None; images = λ _. ⊤; moment = d.calls; images_since = λ _ _. ⊤; faults = d.faults } };
 
     ghost makes = { λ old new _ _. new.calls ≡ raised old.calls };

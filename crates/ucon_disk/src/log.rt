@@ -98,7 +98,7 @@ impl Log {
         Ok(())
     }
 
-    /// Records a cut, and does it where it is to succeed. What can find no memory comes first.
+    /// Records a cut, and does it if it is to succeed. What can find no memory comes first.
     pub fn cut(&mut self, len: usize, done: bool) -> Result<(), NoMemory>
         ensures ok { OnOk result (self.new ≡ recorded self.old (cut_to len done)) }
         ensures err { OnErr result (self.new ≡ self.old) }
@@ -112,7 +112,7 @@ impl Log {
         Ok(())
     }
 
-    /// Records a write, and does it where it is to succeed. What can find no memory comes first.
+    /// Records a write, and does it if it is to succeed. What can find no memory comes first.
     pub fn write(&mut self, at: usize, bytes: &[u8], done: bool) -> Result<(), NoMemory>
         requires { at ≤ length (state_now self.old).file }
         ensures ok { OnOk result (self.new ≡ recorded self.old (wrote at bytes.now done)) }

@@ -67,7 +67,7 @@ impl MemDisk {
         self.plan.short
     }
 
-    /// An image: these bytes in order in its open places, and 0 past their end. None where no image has
+    /// An image: these bytes in order in its open places, and 0 past their end. None if no image has
     /// this length. It goes through all calls since the disk was made.
     pub fn image(&self, len: u64, fill: &[u8]) -> Result<Option<Vec<u8>>, NoMemory>
         ensures image { IfOk result (λ image. option_map (λ v. v.items) image ≡ image_of (model_of self.now) len fill.now) }

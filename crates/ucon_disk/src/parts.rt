@@ -12,7 +12,7 @@ pub(crate) const MAX_END: u64 = (1 << 63) - 1;
 
 /// A file that is read and written at places. A call may do a front part of what it is asked.
 pub(crate) trait Parts {
-    /// What it holds, where it tells.
+    /// What it holds, if it tells.
     ghost contents: { Self → Option (List ℕ) };
 
     /// Puts bytes from a place on into the front of the buffer, and tells how many: none at the file's end, or into no room.

@@ -33,7 +33,7 @@ impl Plan {
         !(stopped || self.failing.contains(&number))
     }
 
-    /// Counts a fault where the call fails: as it was to, or for want of memory, which is counted apart too.
+    /// Counts a fault if the call fails: as it was to, or because there is no memory, which is counted apart too.
     pub fn end(&mut self, done: bool, kept: Result<(), NoMemory>) -> Result<(), Failed>
         ensures outcome { is_ok result ≡ (done && is_ok kept) }
         ensures counted { self.new ≡ record self.old {

@@ -122,7 +122,7 @@ fn covers(place: usize, range: (usize, usize)) -> bool
     range.0 <= place && place - range.0 < range.1
 }
 
-/// Writes over what is there, and past the end: all of it or, where there is no memory, nothing.
+/// Writes over what is there, and past the end: all of it or, if there is no memory, nothing.
 pub(crate) fn overwrite(file: &mut Vec<u8>, at: usize, bytes: &[u8]) -> Result<(), NoMemory>
     ensures ok { OnOk result (file.new.items ≡ overwritten at bytes.now file.old.items) }
     ensures err { OnErr result (file.new.items ≡ file.old.items) }

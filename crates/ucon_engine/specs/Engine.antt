@@ -34,19 +34,19 @@ FollowsLike follows old new = (P : PlainPolicy) (T : Trace) → follows old P T 
 abbrev pub StandsFor : {E : Type 0} → (E → PlainPolicy → Trace → Type 0) → E → PlainPolicy → History → Type 0
 StandsFor follows engine P H = follows engine P (trace P H)
 
--- the state of session n after a trace; none where there is no such session
+-- the state of session n after a trace; none if there is no such session
 abbrev pub state_of : Trace → ℕ → Option SessionState
 state_of T n = option_map (λ row. row.state) (session T n)
 
 -- ---- taking up a state
 
 -- Why a state isn't taken up: after each trace that it follows this is the least accessing session that fails, with its label; or memory is
--- wanting. There nobody fails, so that the first is told exactly where somebody does.
+-- wanting. There nobody fails, so that the first is told exactly if somebody does.
 abbrev pub IsCause : Shown → RestoreFault → Type 0
 IsCause s (Unsettled n label) = AfterEach s (λ P T. least_failing P T ≡ Some (n, label))
 IsCause s (NoMemory e) = AfterEach s NobodyFails
 
--- What taking up a state answers: an engine that follows each trace that the state follows, where nobody fails after any; or a fault, with
+-- What taking up a state answers: an engine that follows each trace that the state follows, if nobody fails after any; or a fault, with
 -- its cause.
 abbrev pub TakesUp : {E : Type 0} → (E → PlainPolicy → Trace → Type 0) → Shown → Result E RestoreFault → Type 0
 TakesUp follows s (Ok engine) = AfterEach s (λ P T. follows engine P T × NobodyFails P T)

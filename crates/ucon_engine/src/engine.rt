@@ -65,7 +65,7 @@ pub trait Engine: Drop {
         requires { IsPending has_pending self.old }
         ensures { (P : PlainPolicy) (T : Trace) (e : Entry) → has_pending self.old P T e → follows self.new P T };
 
-    /// None where there is no such session. A pending change counts.
+    /// None if there is no such session. A pending change counts.
     fn status(&self, session: u32) -> Option<SessionState>
         ensures idle { (P : PlainPolicy) (T : Trace) → follows self.now P T → result ≡ state_of T session }
         ensures pending { (P : PlainPolicy) (T : Trace) (e : Entry) → has_pending self.now P T e

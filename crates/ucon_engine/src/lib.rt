@@ -1,4 +1,14 @@
 //! What every engine does, whichever way it finds who is to be revoked.
+//!
+//! The store and the forms without a journal are proved over any engine, by this trait alone. `draft` answers and perhaps changes, then `keep` or
+//! `undo` follows. `restore` goes on from a state.
+//!
+//! **Always.** Nothing pends and a trace is followed, or a change after such a trace pends (`IsIdle`, `IsPending`).
+//!
+//! **Free.** All that an engine keeps.
+//!
+//! **Before a change.** An engine follows traces, since in the midst of a cascade there is no history. It stands for a history if it follows its
+//! trace (`StandsFor`). Begin at `engine.rt`.
 #![tactic(auto)]
 
 mod engine;

@@ -33,7 +33,7 @@ fn integer_at_hand<V: View>(view: &V, session: u32, e: &Expr) -> Option<Int>
     }
 }
 
-/// The integer that an expression is, where what it counts with is at hand, as mostly.
+/// The integer that an expression is, if what it counts with is at hand, as mostly.
 pub fn integer<V: View>(view: &V, session: u32, e: &Expr) -> Option<Int>
     requires { IsSome ((V.readings view.now).row session) }
     ensures { IfSome result (λ n. value_of ((V.readings view.now).at (row_at (V.readings view.now) session)) (expr_of e.now) ≡ IntValue n) }

@@ -91,8 +91,8 @@ pub fn verdict<V: View>(view: &V, session: u32) -> Verdict
     }
 }
 
-/// `no_right` where the policy hasn't the session's right; else the label of the right's first ongoing predicate that is false; None
-/// where all hold. It counts one step, and takes no memory. It stands alone, so that who knows already that all hold makes no room for it.
+/// `no_right` if the policy hasn't the session's right; else the label of the right's first ongoing predicate that is false; None
+/// if all hold. It counts one step, and takes no memory. It stands alone, so that who knows already that all hold makes no room for it.
 #[inline(never)]
 pub fn failing<V: View>(view: &V, session: u32, steps: &mut Steps) -> Option<Name>
     requires there { IsSome ((V.readings view.now).row session) }

@@ -117,8 +117,8 @@ fn update_at<V: View>(view: &V, session: u32, at: u32) -> Option<&Update>
     right.updates.at(at as usize)
 }
 
-/// The result of an update of the session's right, by its position from 0: its expression's value, clamped to the declared range where
-/// the attribute is an integer.
+/// The result of an update of the session's right, by its position from 0: its expression's value, clamped to the declared range if the attribute
+/// is an integer.
 pub fn result<V: View>(
     alloc: Global,
     view: &V,

@@ -146,7 +146,7 @@ pub fn values_compare(op: Op, a: &Value, b: &Value) -> bool
     }
 }
 
-/// Whether two values compare so. It is asked where one of them is no integer, and right for all.
+/// Whether two values compare so. It is asked if one of them is no integer, and right for all.
 #[inline(never)]
 fn texts_or_sets_compare(op: Op, a: &Value, b: &Value) -> bool
     ensures { result ≡ compares op a.now b.now }

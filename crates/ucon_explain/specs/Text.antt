@@ -76,6 +76,6 @@ explanation_spelling e = whys_spelling e.whys ++ verdict_spelling e.verdict
 abbrev pub refusal_line : Refusal → Bytes
 refusal_line x = refusal_words x ++ 10 ∷ []
 
--- what is printed of a try after a trace: the line of its refusal, or where it isn't refused its explanation
+-- what is printed of a try after a trace: the line of its refusal, or if it isn't refused its explanation
 abbrev pub try_spelling : PlainPolicy → Trace → Bytes → Bytes → Bytes → Bytes
 try_spelling P T s r o = option_map_or refusal_line (try_refusal P T s r o) (explanation_spelling (explanation P T s r o))

@@ -36,7 +36,7 @@ fn line<V: View>(
     })
 }
 
-/// The lines on a session's right. More predicates than a `u32` counts are answered as want of memory.
+/// The lines on a session's right. More predicates than a `u32` counts are answered as out of memory.
 fn lines_of_right<V: View>(
     alloc: Global,
     view: &V,
@@ -61,7 +61,7 @@ fn lines_of_right<V: View>(
     Ok(whys)
 }
 
-/// The lines on a session's right; none where the policy hasn't it.
+/// The lines on a session's right; none if the policy hasn't it.
 fn lines<V: View>(
     alloc: Global,
     view: &V,

@@ -3,7 +3,8 @@
 ghost use Rattle.std.specs.Prelude.{◌≡◌, ◌++◌, ◌∷◌, [], IfOk, OnOk, codes, map};
 ghost use Rattle.ucon_told.specs.declared.explanation.Fact.TheVariants as facts;
 ghost use Rattle.ucon_told.specs.Explanation.{explanation_of, why_of};
-ghost use Rattle.ucon_explain.specs.Text.{explanation_spelling, fact_spelling, factor_word, facts_spelling, moment_spelling, place_spelling, truth_word, verdict_spelling, why_spelling, whys_spelling};
+ghost use Rattle.ucon_explain.specs.Text.{explanation_spelling, fact_spelling, factor_word, facts_spelling, moment_spelling, place_spelling};
+ghost use Rattle.ucon_explain.specs.Text.{truth_word, verdict_spelling, why_spelling, whys_spelling};
 
 use std::alloc::Global;
 use ucon_base::{Int, Name, NoMemory, Value, put, put_integer};
@@ -173,9 +174,9 @@ fn put_verdict(out: &mut Vec<u8>, verdict: &Verdict) -> Result<(), NoMemory>
     }
 }
 
-/// An explanation as it is printed: a line for each predicate, `pre LABEL KIND TRUTH`, and below it one for each fact that it reads,
-/// `read s.ATTR VALUE`, `read o.ATTR VALUE`, `read env.VAR VALUE`, `act SUBJECT ACTION OBJECT TICK`, the same with `never`, or `tick T`,
-/// each behind two spaces; and at the end `verdict permit`, `verdict deny LABEL` or `verdict wait LABEL`.
+/// An explanation as it is printed. It has a line for each predicate, `pre LABEL KIND TRUTH`. Below it stands one for each fact that the predicate
+/// reads, behind two spaces. A fact is `read s.ATTR VALUE`, `read o.ATTR VALUE`, `read env.VAR VALUE`, `act SUBJECT ACTION OBJECT TICK`, the same
+/// with `never`, or `tick T`. The last line is `verdict permit`, `verdict deny LABEL` or `verdict wait LABEL`.
 pub fn explanation_text(alloc: Global, e: &Explanation) -> Result<Vec<u8>, NoMemory>
     ensures { IfOk result (λ t. t.items ≡ explanation_spelling (explanation_of e.now)) }
 {

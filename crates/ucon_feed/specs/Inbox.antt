@@ -17,12 +17,12 @@ module _ {T : Type 0} where
   told_after t (Line x) = record t { lines = t.lines ++ x ∷ [] }
   told_after t End = record t { ended = true }
 
-  -- the end word alone, where it came
+  -- the end word alone, if it came
   abbrev pub end_word : Bool → List (Item T)
   end_word true = End ∷ []
   end_word false = []
 
-  -- the lines, each as an item, and then the end word where it came
+  -- the lines, each as an item, and then the end word if it came
   abbrev pub items : Told T → List (Item T)
   items t = map Line t.lines ++ end_word t.ended
 

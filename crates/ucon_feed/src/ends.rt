@@ -70,7 +70,7 @@ pub fn inbox<T: Drop>(alloc: Global, room: u32) -> Result<(Feeder<T>, Taker<T>),
 }
 
 impl<T: Drop> Feeder<T> {
-    /// Feeds a line behind all that was fed before. It waits while the inbox is full, and for good where the taker is gone.
+    /// Feeds a line behind all that was fed before. It waits while the inbox is full, and for ever if the taker is gone.
     pub fn feed<R: Wait>(&mut self, rt: &R, line: T)
         requires { self.old.fed.ended ≡ false }
         ensures { self.new ≡ record self.old { fed = told_after self.old.fed (items.Line line) } }
@@ -104,7 +104,8 @@ impl<T: Drop> Feeder<T> {
 }
 
 impl<T: Drop> Taker<T> {
-    /// The first item that was fed and not taken. Where the channel has none, it is asked again. It waits while the inbox is empty, and for good where the feeder is gone.
+    /// The first item that was fed and not taken. It asks again if the channel has none, so it waits while the inbox is empty. It waits for ever
+    /// if the feeder is gone.
     pub fn take<R: Wait>(&mut self, rt: &R) -> Item<T>
         requires { self.old.taken.ended ≡ false }
         ensures { self.new ≡ record self.old { taken = told_after self.old.taken result } }
@@ -119,7 +120,7 @@ impl<T: Drop> Taker<T> {
     }
 }
 
-/// What was taken is the beginning of what was fed, and all of it where the end word was taken.
+/// What was taken is the beginning of what was fed, and all of it if the end word was taken.
 pub fn rejoin<T: Drop>(feeder: Feeder<T>, taker: Taker<T>)
     requires { taker.inbox ≡ feeder.inbox }
     ensures beginning { (rest : List T) × (feeder.fed.lines ≡ taker.taken.lines ++ rest) }

@@ -9,6 +9,6 @@ raised n = min (n + 1) (2 ^ 64 - 1)
 abbrev pub Rose : ℕ → ℕ → Type 0
 Rose before now = raised before ≤ now
 
--- the count is one more where the call failed, and as it was where it did not
+-- the count is one more if the call failed, and as it was if it did not
 abbrev pub HasCause : {T E : Type 0} → ℕ → ℕ → Result T E → Type 0
 HasCause before now result = MatchResult result (λ _. now ≡ before) (λ _. now ≡ raised before)

@@ -1,5 +1,6 @@
 -- Lines taken one by one from what a source gives.
-use Rattle.std.specs.Prelude.{◌≡◌, ◌⊎◌, ℕ, ◌==◌, ◌+◌, ◌-◌, ◌^◌, ◌<◌, ◌≤◌, List, [], ◌∷◌, ◌++◌, length, take, Option, Bool, true, false, Result, Ok, Err}
+use Rattle.std.specs.Prelude.{◌≡◌, ◌⊎◌, ℕ, ◌==◌, ◌+◌, ◌-◌, ◌^◌, ◌<◌, ◌≤◌, List, [], ◌∷◌, ◌++◌, length, take, Option, Bool, true, false, Result, Ok}
+use Rattle.std.specs.Prelude.{Err}
 use Rattle.std.specs.List.{position_or_len}
 use Rattle.std.specs.Io.KnownBytes.{Consumes, IsAtEnd}
 use Rattle.ucon_flow.specs.Causes.{raised}
@@ -9,7 +10,7 @@ use Rattle.ucon_flow.specs.Seen.{SourceSeen}
 
 -- ---- lines
 
--- the place of the first newline, or how many bytes there are where none stands among them
+-- the place of the first newline, or how many bytes there are if none stands among them
 abbrev pub newline : List ℕ → ℕ
 newline bytes = position_or_len (λ b. b == 10) bytes
 
@@ -20,7 +21,7 @@ HasNewline bytes = newline bytes < length bytes
 abbrev pub IsBare : List ℕ → Type 0
 IsBare bytes = newline bytes ≡ length bytes
 
--- the bytes up to the first newline, and with it; all of them where there is none
+-- the bytes up to the first newline, and with it; all of them if there is none
 abbrev pub first_line : List ℕ → List ℕ
 first_line bytes = take (newline bytes + 1) bytes
 

@@ -13,9 +13,9 @@ use std::marker::Model;
 /// The most bytes that are read at once.
 const PIECE: usize = 4096;
 
-/// The lines of a source, each given out once it is there: the source is read only while no whole line is held. At most `limit` bytes and a
-/// piece of 4,096 are held. The limit is a line's, with its newline. Who wants one of a whole source adds up the lengths of the
-/// lines that it was given: none is longer than the limit, so what it holds stays as small as that.
+/// The lines of a source, each given out once it is there: the source is read only while no whole line is held. At most `limit` bytes and a piece
+/// of 4,096 are held. The limit is a line's, with its newline. To limit a whole source, add up the lengths of the lines that were given. None is
+/// longer than the limit, so what is held stays as small as that.
 #[derive(Drop)]
 pub struct LineReader {
     limit: usize,
@@ -54,8 +54,8 @@ impl LineReader {
         self.limit = limit;
     }
 
-    /// Whether a whole line is held: then the next call of [`LineReader::next`] or [`LineReader::skip`] doesn't read the source. So all the lines that
-    /// have arrived can be taken before the source is waited for.
+    /// Whether a whole line is held: then the next call of [`LineReader::next`] or [`LineReader::skip`] doesn't read the source. So all the lines
+    /// that have arrived can be taken before the source is waited for.
     pub fn has_line(&self) -> bool
         ensures { IsTrue result ↔ HasNewline self.now.held }
     {
@@ -74,13 +74,13 @@ impl LineReader {
         ensures none { result ≡ Ok None → IsNoLine S.seen self.old self.new source.old source.new }
         ensures err { OnErr result (Holds S.seen self.old self.new source.old source.new) }
 
-        // The cause of each fault. Where the source fails no whole line is held back.
+        // The cause of each fault. If the source fails no whole line is held back.
         ensures too_long { IsErrOf result ReadFault.TooLong → self.new.limit < length (first_line self.new.held) }
         ensures failed { IsErrOf result ReadFault.SourceFault → (S.seen source.new).faults ≡ raised (S.seen source.old).faults }
         ensures unfailed { result ≢ Err ReadFault.SourceFault → (S.seen source.new).faults ≡ (S.seen source.old).faults }
         ensures bare { IsErrOf result ReadFault.SourceFault → IsBare self.new.held }
 
-        // At most one read for each byte within the limit, and one more; none where a whole line is held.
+        // At most one read for each byte within the limit, and one more; none if a whole line is held.
         ensures reads { (S.seen source.new).reads ≤ (S.seen source.old).reads + self.old.limit + 1 }
         ensures untouched { HasNewline self.old.held → source.new ≡ source.old }
         ensures bounded { length self.new.held ≤ max (length self.old.held) (self.old.limit + 4096) }
@@ -140,7 +140,8 @@ impl LineReader {
     fn read_line<S: Source>(&mut self, source: &mut S) -> Result<usize, ReadFault>
         ensures read { Holds S.seen self.old self.new source.old source.new }
         ensures len { IfOk result (λ n. n ≡ length (first_line self.new.held)) }
-        ensures whole { IfOk result (λ n. HasNewline self.new.held ⊎ (self.new.limit < n) ⊎ (IsBare self.new.held × IsAtEnd (S.seen source.new).left)) }
+        ensures whole { IfOk result (λ n. HasNewline self.new.held ⊎ (self.new.limit < n)
+            ⊎ (IsBare self.new.held × IsAtEnd (S.seen source.new).left)) }
         ensures long { result ≢ Err ReadFault.TooLong }
         ensures failed { IsErrOf result ReadFault.SourceFault → (S.seen source.new).faults ≡ raised (S.seen source.old).faults }
         ensures unfailed { result ≢ Err ReadFault.SourceFault → (S.seen source.new).faults ≡ (S.seen source.old).faults }

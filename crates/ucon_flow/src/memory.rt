@@ -77,7 +77,7 @@ impl Source for MemSource {
     }
 }
 
-/// A sink that takes pieces of bytes, and fails at calls of given numbers and where it finds no memory.
+/// A sink that takes pieces of bytes, and fails at calls of given numbers and if it finds no memory.
 #[derive(Drop)]
 pub struct MemSink {
     bytes: Vec<u8>,
@@ -98,7 +98,7 @@ impl Model for MemSink {
 }
 
 impl MemSink {
-    /// Takes at most `piece` bytes a call. The calls whose numbers, from 0, stand in `faults` fail, where they have some bytes.
+    /// Takes at most `piece` bytes a call. The calls whose numbers, from 0, stand in `faults` fail, if they have some bytes.
     pub fn new(alloc: Global, piece: usize, faults: Vec<u64>) -> MemSink
         requires { 1 ≤ piece }
         ensures { result ≡ record { bytes = []; piece = piece; calls = no_calls faults.items; short = 0 } }
@@ -137,7 +137,7 @@ impl Sink for MemSink {
         ensures cause { HasCause self.old.calls.faults self.new.calls.faults result }
         ensures counted { self.new.calls.made ≡ raised self.old.calls.made }
 
-        // The calls with some bytes whose numbers were given fail, and others only for want of memory, which `short` counts.
+        // The calls with some bytes whose numbers were given fail, and others only if there is no memory, which `short` counts.
         ensures fails { 0 < length bytes.now → IsTrue (fails_next self.old.calls) → IsErr result }
         ensures err { OnErr result (self.new ≡ not_taken self.old) }
 

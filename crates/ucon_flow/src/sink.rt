@@ -13,7 +13,7 @@ pub trait Sink {
     /// What can be said of the sink at this moment.
     ghost seen: { Self → SinkSeen };
 
-    /// Takes bytes from the front of a piece, and tells how many, at least one of a piece that isn't empty. Where it fails
+    /// Takes bytes from the front of a piece, and tells how many, at least one of a piece that isn't empty. If it fails
     /// it has taken none. An empty piece is taken by every sink.
     fn write(&mut self, bytes: &[u8]) -> Result<usize, Failed>
         ensures bound { IfOk result (λ n. n ≤ length bytes.now) }
@@ -29,7 +29,7 @@ pub trait Sink {
 #[error("the sink failed")]
 pub struct SinkFault;
 
-/// Writes all the bytes, or a front part of them where the sink fails.
+/// Writes all the bytes, or a front part of them if the sink fails.
 pub fn write_all<K: Sink>(sink: &mut K, bytes: &[u8]) -> Result<(), SinkFault>
     ensures ok { OnOk result (Appends (K.seen sink.old).contents (K.seen sink.new).contents bytes.now) }
     ensures err { OnErr result (AppendsPrefix (K.seen sink.old).contents (K.seen sink.new).contents bytes.now) }

@@ -1,5 +1,6 @@
 -- The dependency index: for each place the sessions that were added with it, and sessions hidden and put back.
-use Rattle.std.specs.Prelude.{◌≡◌, ℕ, zero, suc, ◌+◌, ◌-◌, ◌==◌, ◌||◌, not, Bool, true, false, List, [], ◌∷◌, map, filter, length, sum_by, slice_get, slice_set, slice_index_or, Option, Some, None, option_map, if◌then◌else◌}
+use Rattle.std.specs.Prelude.{◌≡◌, ℕ, zero, suc, ◌+◌, ◌-◌, ◌==◌, ◌||◌, not, Bool, true, false, List, [], ◌∷◌, map, filter, length, sum_by, slice_get}
+use Rattle.std.specs.Prelude.{slice_set, slice_index_or, Option, Some, None, option_map, if◌then◌else◌}
 use Rattle.ucon_base.specs.Elements.{Each}
 use Rattle.ucon_links.specs.Lists.{Lists, first_or, place_of, with_behind, IsGap}
 
@@ -15,8 +16,8 @@ pub record Place : Type 0 where
   pub listed : List (ℕ × ℕ)
   pub hidden : List Stood
 
--- the places by number, the hidden sessions (the one that was hidden last first), the number below which sessions may be added,
--- and for how many more nodes there is room
+-- the places by number; the hidden sessions, the one that was hidden last first; the number below which sessions may be added; and for how many
+-- more nodes there is room
 pub record Dependents : Type 0 where
   pub places : List Place
   pub hidden : List ℕ

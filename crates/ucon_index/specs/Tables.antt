@@ -18,7 +18,7 @@ abbrev pub places_from : ℕ → List (List (ℕ × ℕ)) → List Item → List
 places_from place [] hidden = []
 places_from place (xs ∷ rest) hidden = record { listed = xs; hidden = stood_at place hidden } ∷ places_from (suc place) rest hidden
 
--- the session on top of the others, where it isn't on top already
+-- the session on top of the others, if it isn't on top already
 abbrev pub on_top : ℕ → List ℕ → List ℕ
 on_top session [] = session ∷ []
 on_top session (first ∷ rest) = if first == session then first ∷ rest else session ∷ first ∷ rest

@@ -1,9 +1,11 @@
 //! The dependency index: two tables of linked lists, one by place and one by session.
 
-ghost use Rattle.std.specs.Prelude.{◌≡◌, ◌↔◌, ◌⊎◌, ℕ, ◌+◌, ◌-◌, ◌^◌, ◌<◌, ◌≤◌, ◌∷◌, ◌++◌, [], true, false, length, replicate, option_map, Some, None, IsSome, IfOk, OnOk, OnErr};
+ghost use Rattle.std.specs.Prelude.{◌≡◌, ◌↔◌, ◌⊎◌, ℕ, ◌+◌, ◌-◌, ◌^◌, ◌<◌, ◌≤◌, ◌∷◌, ◌++◌, [], true, false, length, replicate, option_map, Some, None};
+ghost use Rattle.std.specs.Prelude.{IsSome, IfOk, OnOk, OnErr};
 ghost use Rattle.std.specs.List.{All, Contains};
 ghost use Rattle.ucon_links.specs.Lists.{first_or, place_of, listed_nodes, IsListed, IsAbsent, IsDistinct};
-ghost use Rattle.ucon_index.specs.Dependents.{Dependents, empty_place, place_at, is_there, stands_in, others, walked, session_of, node_count, hide, unhide, forget_hidden, remove, hide_all, IsAdded, IsNextBack, CanUnhide, UnhideGives, AllThere};
+ghost use Rattle.ucon_index.specs.Dependents.{Dependents, empty_place, place_at, is_there, stands_in, others, walked, session_of, node_count, hide};
+ghost use Rattle.ucon_index.specs.Dependents.{unhide, forget_hidden, remove, hide_all, IsAdded, IsNextBack, CanUnhide, UnhideGives, AllThere};
 
 use crate::newest::{last_hidden, unhide_newest};
 use std::alloc::Global;

@@ -1,5 +1,6 @@
 -- What is found in bytes, whoever wrote them.
-use Rattle.std.specs.Prelude.{◌≡◌, ℕ, zero, suc, ◌+◌, ◌<◌, nat_lt, nat_le, Bool, ◌==◌, ◌&&◌, if◌then◌else◌, bytes_eq, List, [], ◌∷◌, ◌++◌, length, take, drop, slice_index, Option, None, Some, is_some}
+use Rattle.std.specs.Prelude.{◌≡◌, ℕ, zero, suc, ◌+◌, ◌<◌, nat_lt, nat_le, Bool, ◌==◌, ◌&&◌, if◌then◌else◌, bytes_eq, List, [], ◌∷◌, ◌++◌, length}
+use Rattle.std.specs.Prelude.{take, drop, slice_index, Option, None, Some, is_some}
 use Rattle.std.specs.Int.{w32, from_be_bytes}
 use Rattle.ucon_journal.specs.JournalBytes.{IsVersion, magic, records}
 
@@ -22,7 +23,8 @@ payload_at bytes = take (length_told bytes) (drop 5 bytes)
 abbrev pub payloads_after : ℕ → List ℕ → List (List ℕ)
 payloads_after skip [] = []
 payloads_after (suc skip) (byte ∷ rest) = payloads_after skip rest
-payloads_after zero (byte ∷ rest) = if counts (byte ∷ rest) then payload_at (byte ∷ rest) ∷ payloads_after (4 + length_told (byte ∷ rest)) rest else []
+payloads_after zero (byte ∷ rest) =
+    if counts (byte ∷ rest) then payload_at (byte ∷ rest) ∷ payloads_after (4 + length_told (byte ∷ rest)) rest else []
 
 -- the payloads of the records from a gate on, up to the first that doesn't count
 abbrev pub payloads_from : List ℕ → ℕ → List (List ℕ)
@@ -42,10 +44,12 @@ pub data Found : Type 0 where
   NotJournal : Found
   Holds : (payloads : List (List ℕ)) → (gate : ℕ) → Found
 
--- At most 9 bytes are a journal whose making was stopped. Otherwise the payloads that count, and the place of the first gate whose record doesn't count.
+-- At most 9 bytes are a journal whose making was stopped. Otherwise the payloads that count, and the place of the first gate whose record doesn't
+-- count.
 abbrev pub found : List ℕ → Found
 found file =
-    if nat_le (length file) 9 then Fresh else if is_some (version_told file) then Holds (payloads_from file 8) (8 + length (records (payloads_from file 8))) else NotJournal
+    if nat_le (length file) 9 then Fresh else
+    if is_some (version_told file) then Holds (payloads_from file 8) (8 + length (records (payloads_from file 8))) else NotJournal
 
 -- the payloads that were found
 abbrev pub payloads_found : Found → List (List ℕ)

@@ -36,7 +36,7 @@ pub record IsBatch {D : Type 0} (j : Journal D) : Type 0 where
   pub bytes : j.buffer.items ≡ batch_bytes (batch_of j)
   pub short : AreShort (batch_of j)
 
--- the payloads that count in the bytes as read, where the disk tells
+-- the payloads that count in the bytes as read, if the disk tells
 abbrev pub told_payloads : Option (List ℕ) → List (List ℕ)
 told_payloads None = []
 told_payloads (Some file) = counted file

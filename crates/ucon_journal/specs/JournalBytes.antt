@@ -23,7 +23,7 @@ abbrev pub records : List (List ℕ) → List ℕ
 records [] = []
 records (payload ∷ payloads) = record_bytes payload ++ records payloads
 
--- what is written behind the gate of the first of these payloads: their records without that gate, and a closed gate; nothing where there are none
+-- what is written behind the gate of the first of these payloads: their records without that gate, and a closed gate; nothing if there are none
 abbrev pub batch_bytes : List (List ℕ) → List ℕ
 batch_bytes [] = []
 batch_bytes (payload ∷ payloads) = to_be_bytes w32 (length payload) ++ payload ++ records payloads ++ 0 ∷ []

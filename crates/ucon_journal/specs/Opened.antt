@@ -19,7 +19,7 @@ with_payload gate payload file = take gate file ++ record_bytes payload ++ 0 ∷
 abbrev pub with_payloads : ℕ → List (List ℕ) → List ℕ → List ℕ
 with_payloads gate payloads file = take gate file ++ records payloads ++ 0 ∷ []
 
--- the file as it was, or a journal whose making was stopped, where the file was one
+-- the file as it was, or a journal whose making was stopped, if the file was one
 abbrev pub Untouched : List ℕ → List ℕ → Type 0
 Untouched file c = (c ≡ file) ⊎ ((length file ≤ 9) × (length c ≤ 9))
 

@@ -9,7 +9,7 @@ use crate::fault::TakeFault;
 use std::alloc::{AllocError, Global};
 use ucon_disk::{Disk, Failed};
 
-/// How many bytes are read at once, where no more are asked for.
+/// How many bytes are read at once, if no more are asked for.
 const WINDOW: usize = 65_536;
 
 /// Some bytes of a file, from a place on.
@@ -30,7 +30,7 @@ impl Ahead {
         }
     }
 
-    /// Sees to it that so many bytes from a place on are there, as far as the file has them. The disk is called only where not all of them were
+    /// Sees to it that so many bytes from a place on are there, as far as the file has them. The disk is called only if not all of them were
     /// read ahead.
     #[inline]
     pub(crate) fn bring<D: Disk>(
@@ -44,7 +44,8 @@ impl Ahead {
         ensures there { OnOk result (IfSome (D.seen disk.old).contents (λ file. bytes_at self.new at n ≡ take n (drop at file))) }
         ensures contents { (D.seen disk.new).contents ≡ (D.seen disk.old).contents }
         ensures images { SameImages (D.seen disk.old).images (D.seen disk.new).images }
-        ensures time { Elapses (D.seen disk.old).moment (D.seen disk.new).moment (D.seen disk.old).images_since (D.seen disk.new).images_since (D.seen disk.new).images }
+        ensures time { Elapses (D.seen disk.old).moment (D.seen disk.new).moment
+            (D.seen disk.old).images_since (D.seen disk.new).images_since (D.seen disk.new).images }
         ensures failed { IsErrOf result TakeFault.DiskFault → (D.seen disk.new).faults ≡ raised (D.seen disk.old).faults }
         ensures unfailed { result ≢ Err TakeFault.DiskFault → (D.seen disk.new).faults ≡ (D.seen disk.old).faults }
         ensures whole { (place : ℕ) → result ≢ Err (TakeFault.TooLong place) }
@@ -105,7 +106,8 @@ impl Ahead {
         ensures filled { OnOk result (IfSome (D.seen disk.old).contents (λ file. min size (length file - at) ≤ length self.new.bytes.items)) }
         ensures contents { (D.seen disk.new).contents ≡ (D.seen disk.old).contents }
         ensures images { SameImages (D.seen disk.old).images (D.seen disk.new).images }
-        ensures time { Elapses (D.seen disk.old).moment (D.seen disk.new).moment (D.seen disk.old).images_since (D.seen disk.new).images_since (D.seen disk.new).images }
+        ensures time { Elapses (D.seen disk.old).moment (D.seen disk.new).moment
+            (D.seen disk.old).images_since (D.seen disk.new).images_since (D.seen disk.new).images }
         ensures cause { HasCause (D.seen disk.old).faults (D.seen disk.new).faults result }
     {
         let Ok(()) = self.bytes.resize(size, 0) else {

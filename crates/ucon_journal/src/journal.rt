@@ -1,6 +1,7 @@
 //! A journal: payloads of bytes in records, each on the disk before it is acknowledged.
 
-ghost use Rattle.std.specs.Prelude.{◌≡◌, ◌≢◌, ◌+◌, ◌-◌, ◌<◌, ◌≤◌, ◌^◌, false, List, ℕ, Some, [], ◌∷◌, ◌++◌, length, take, Ok, vec_len, IsSome, IfSome, IfOk, IfErr, OnOk, OnErr, IsErrOf, MatchBool, MatchOption, true, vec_capacity, is_some};
+ghost use Rattle.std.specs.Prelude.{◌≡◌, ◌≢◌, ◌+◌, ◌-◌, ◌<◌, ◌≤◌, ◌^◌, false, List, ℕ, Some, [], ◌∷◌, ◌++◌, length, take, Ok, vec_len, IsSome};
+ghost use Rattle.std.specs.Prelude.{IfSome, IfOk, IfErr, OnOk, OnErr, IsErrOf, MatchBool, MatchOption, true, vec_capacity, is_some};
 ghost use Rattle.std.specs.Int.{w32, to_be_bytes};
 ghost use Rattle.std.specs.List.{sum_by};
 ghost use Rattle.std.specs.Option.{option_map};
@@ -47,7 +48,8 @@ pub struct Journal<D> {
 }
 
 impl<D: Disk> Journal<D> {
-    ghost use Rattle.ucon_journal.specs.Journal.{disk_of, version_of, gate_of, payload_of, batch_of, told_payloads, HasRoomFor, IsBatch, IsReading, HasEnded, IsClosed, IsBroken};
+    ghost use Rattle.ucon_journal.specs.Journal.{disk_of, version_of, gate_of, payload_of, batch_of, told_payloads, HasRoomFor, IsBatch, IsReading};
+    ghost use Rattle.ucon_journal.specs.Journal.{HasEnded, IsClosed, IsBroken};
 
     /// Opens the journal in a file, and makes a new one, of version 2, in a file of at most 9 bytes. A longer file isn't
     /// written. A refusal hands the disk back.
@@ -191,7 +193,8 @@ impl<D: Disk> Journal<D> {
         ensures closed { OnOk result (IsClosed D.seen self.new) }
         ensures broken { OnErr result (IsBroken self.new) }
         ensures same { OnOk result (told_payloads (D.seen (disk_of self.new)).contents ≡ told_payloads (D.seen (disk_of self.old)).contents) }
-        ensures bytes { OnOk result ((D.seen (disk_of self.new)).contents ≡ option_map (shut_at (gate_of self.old)) (D.seen (disk_of self.old)).contents) }
+        ensures bytes { OnOk result ((D.seen (disk_of self.new)).contents
+            ≡ option_map (shut_at (gate_of self.old)) (D.seen (disk_of self.old)).contents) }
         ensures gate { gate_of self.new ≡ gate_of self.old }
         ensures version { version_of self.new ≡ version_of self.old }
         ensures only { OnOk result (Only (D.seen (disk_of self.new)).contents (D.seen (disk_of self.new)).images) }
@@ -217,7 +220,7 @@ impl<D: Disk> Journal<D> {
         ensures ended { HasEnded D.seen self.old → HasEnded D.seen self.new }
         ensures closed { IsClosed D.seen self.old → IsClosed D.seen self.new }
     {
-        // Where the sum passes the last number there is no such room.
+        // If the sum passes the last number there is no such room.
         self.buffer.reserve(n.saturating_add(5))?;
         Ok(())
     }
@@ -262,7 +265,7 @@ impl<D: Disk> Journal<D> {
         self.buffer.clear();
     }
 
-    /// Puts a payload behind those of the batch, in memory alone. Where there is no memory, the batch stays.
+    /// Puts a payload behind those of the batch, in memory alone. If there is no memory, the batch stays.
     pub fn put(&mut self, payload: &[u8]) -> Result<(), NoMemory>
         requires batch { IsBatch self.old }
         requires short { length payload.now ≤ MAX_PAYLOAD }

@@ -1,5 +1,6 @@
 -- Lists linked by index: the lists, the stack of hidden nodes, and the room that is left.
-use Rattle.std.specs.Prelude.{◌≡◌, ◌≢◌, ℕ, suc, ◌+◌, ◌-◌, ◌==◌, List, [], ◌∷◌, ◌++◌, map, length, take, drop, sum_by, slice_set, slice_index_or, Option, Some, None, IsSome, unwrap_or, option_map, if◌then◌else◌}
+use Rattle.std.specs.Prelude.{◌≡◌, ◌≢◌, ℕ, suc, ◌+◌, ◌-◌, ◌==◌, List, [], ◌∷◌, ◌++◌, map, length, take, drop, sum_by, slice_set, slice_index_or}
+use Rattle.std.specs.Prelude.{Option, Some, None, IsSome, unwrap_or, option_map, if◌then◌else◌}
 use Rattle.ucon_base.specs.Elements.{Each}
 
 -- where a node stands, or where it stood when it was hidden: no neighbour at an end of the list

@@ -66,9 +66,13 @@ pub record InFront (front : List (ℕ × ℕ)) (node : ℕ) : Type 0 where
 pub front_of : (front back : List (ℕ × ℕ)) (x : ℕ × ℕ) → IsDistinct (ids (front ++ x ∷ back)) → InFront front x.0
 front_of front back x distinct =
     let parts = subst IsDistinct (map-append (λ y. y.0) front (x ∷ back)) distinct in
-    record { distinct = distinct_front (ids front) (x.0 ∷ ids back) parts; absent = absent_front x.0 (ids front) (ids back) (distinct_pull x.0 (ids front) (ids back) parts).absent }
+    record {
+      distinct = distinct_front (ids front) (x.0 ∷ ids back) parts;
+      absent = absent_front x.0 (ids front) (ids back) (distinct_pull x.0 (ids front) (ids back) parts).absent;
+    }
 
-pub without-first : (node owner : ℕ) (front back : List (ℕ × ℕ)) → IsAbsent node (ids front) → without node (front ++ (node, owner) ∷ back) ≡ front ++ back
+pub without-first : (node owner : ℕ) (front back : List (ℕ × ℕ)) → IsAbsent node (ids front)
+    → without node (front ++ (node, owner) ∷ back) ≡ front ++ back
 without-first node owner [] back absent = rw (eq-eqb node node refl)
 without-first node owner (x ∷ front) back absent = rw (ne_eqb x.0 node absent.0) (ap (λ ys. x ∷ ys) (without-first node owner front back absent.1))
 
@@ -86,15 +90,17 @@ behind_other : (at : Option ℕ) (pair x : ℕ × ℕ) (xs : List (ℕ × ℕ)) 
 behind_other at pair x xs last =
     ap (λ a. with_behind a pair (x ∷ xs)) last.at_is ∙ rw (ne_eqb x.0 last.node last.differs) (ap (λ a. x ∷ with_behind a pair xs) (sym last.at_is))
 
-pub with_behind-last : (pair : ℕ × ℕ) (front back : List (ℕ × ℕ)) → IsDistinct (ids front) → with_behind (last_or None front) pair (front ++ back) ≡ front ++ pair ∷ back
+pub with_behind-last : (pair : ℕ × ℕ) (front back : List (ℕ × ℕ)) → IsDistinct (ids front)
+    → with_behind (last_or None front) pair (front ++ back) ≡ front ++ pair ∷ back
 with_behind-last pair [] back distinct = refl
 with_behind-last pair (x ∷ []) back distinct = rw (eq-eqb x.0 x.0 refl)
 with_behind-last pair (x ∷ y ∷ ys) back distinct =
     behind_other (last_or (Some y.0) ys) pair x (y ∷ ys ++ back) (last_other x.0 y.0 ys distinct.0.0 distinct.0.1)
     ∙ ap (λ zs. x ∷ zs) (with_behind-last pair (y ∷ ys) back distinct.1)
 
--- where no node is there twice, a node stands where its list has it, between those before and after it
+-- if no node is there twice, a node stands where its list has it, between those before and after it
 abbrev pub PlaceLaw : Type 0
 PlaceLaw =
-    (v : Lists) (list : ℕ) (front back : List (ℕ × ℕ)) (x : ℕ × ℕ) → IsDistinct (nodes_of v) → list < length v.lists → list_at v.lists list ≡ front ++ x ∷ back
+    (v : Lists) (list : ℕ) (front back : List (ℕ × ℕ)) (x : ℕ × ℕ) → IsDistinct (nodes_of v)
+    → list < length v.lists → list_at v.lists list ≡ front ++ x ∷ back
     → place_of v x.0 ≡ Some (record { list = list; node = x.0; owner = x.1; before = last_or None front; after = first_or None back })

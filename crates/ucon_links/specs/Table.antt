@@ -19,7 +19,7 @@ with_next nodes before next = changed (λ node. record node { next = next }) nod
 abbrev pub joined : List Node → Option ℕ → Option ℕ → Option ℕ → Option ℕ → List Node
 joined nodes before next previous after = changed (λ node. record node { previous = previous }) (with_next nodes before next) after
 
--- the first nodes, of which one changes where no node stands before
+-- the first nodes, of which one changes if no node stands before
 abbrev pub with_first : List (Option ℕ) → ℕ → Option ℕ → Option ℕ → List (Option ℕ)
 with_first firsts list None next = slice_set firsts list next
 with_first firsts list (Some before) next = firsts

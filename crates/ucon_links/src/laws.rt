@@ -2,7 +2,7 @@
 
 ghost use Rattle.ucon_links.specs.OneList.{PlaceLaw};
 
-/// Where no node is there twice, a node stands where its list has it, between those before and after it.
+/// If no node is there twice, a node stands where its list has it, between those before and after it.
 pub fn nodes_stand_where_listed()
     ensures { PlaceLaw }
 {}

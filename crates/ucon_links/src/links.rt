@@ -1,7 +1,10 @@
 //! Lists linked by index.
 
-ghost use Rattle.std.specs.Prelude.{◌≡◌, ◌+◌, ◌-◌, ◌^◌, ◌<◌, ◌≤◌, [], ◌∷◌, ◌++◌, max, length, replicate, option_map, Some, None, IsSome, IfOk, OnOk, OnErr};
-ghost use Rattle.ucon_links.specs.Lists.{node_count, list_at, list_of, first_or, last_or, place_of, owner_of, nodes_of, newest, oldest, IsListed, IsAbsent, IsDistinct, IsGap, CanUnhide, link_behind, hide, unlink, unhide, free_oldest, free_newest, hide_all, Lists, AllListed, AreHidden, WereHidden};
+ghost use Rattle.std.specs.Prelude.{◌≡◌, ◌+◌, ◌-◌, ◌^◌, ◌<◌, ◌≤◌, [], ◌∷◌, ◌++◌, max, length, replicate, option_map, Some, None, IsSome, IfOk, OnOk};
+ghost use Rattle.std.specs.Prelude.{OnErr};
+ghost use Rattle.ucon_links.specs.Lists.{node_count, list_at, list_of, first_or, last_or, place_of, owner_of, nodes_of, newest, oldest, IsListed};
+ghost use Rattle.ucon_links.specs.Lists.{IsAbsent, IsDistinct, IsGap, CanUnhide, link_behind, hide, unlink, unhide, free_oldest, free_newest};
+ghost use Rattle.ucon_links.specs.Lists.{hide_all, Lists, AllListed, AreHidden, WereHidden};
 
 use crate::table::{Node, State, Table};
 use std::alloc::{AllocError, Global};
@@ -144,7 +147,7 @@ impl Links {
         Ok(())
     }
 
-    /// Makes room for so many nodes. More than can be numbered are answered as want of memory.
+    /// Makes room for so many nodes. More than can be numbered are answered as out of memory.
     pub fn reserve(&mut self, n: u32) -> Result<(), NoMemory>
         ensures kept { self.new ≡ record self.old { spare = self.new.spare } }
         ensures spare { self.old.spare ≤ self.new.spare }

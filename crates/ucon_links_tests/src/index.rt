@@ -69,7 +69,7 @@ fn one_growth_and_one_reserve_let_a_session_be_added(rt: HostRuntime) -> Result<
     Ok(())
 }
 
-/// Adds session 1 to both places, and then session 2 to the second. False where session 1 isn't alone before.
+/// Adds session 1 to both places, and then session 2 to the second. False if session 1 isn't alone before.
 fn add_both(alloc: Global, index: &mut Index) -> bool
     requires places { index.old.places ≡ empty_place ∷ empty_place ∷ [] }
     requires hidden { index.old.hidden ≡ [] }

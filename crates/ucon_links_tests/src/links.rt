@@ -114,7 +114,7 @@ fn hide_and_restore(alloc: Global, links: &mut Links, steps: &[Step], before: &[
     were & restored & have(alloc, links, before)
 }
 
-/// Puts the owners 5 to 1 in front of each of two lists. False where there is no room for them.
+/// Puts the owners 5 to 1 in front of each of two lists. False if there is no room for them.
 fn link_five(links: &mut Links) -> bool
     requires { length links.old.lists ≡ 2 }
     ensures { length links.new.lists ≡ 2 }

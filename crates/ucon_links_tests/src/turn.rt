@@ -57,8 +57,8 @@ const EACH: [u64; 9] = [
     0, 10_000, 10_000, 10_000, 10_000, 10_000, 10_000, 10_000, 10_000,
 ];
 
-/// Each call books one entry, so `LENGTH` reads as `NOW` does: a seat that sleeps on `LENGTH` in place of `NOW`, or is woken on another
-/// word, sleeps for ever, and the test runs out of its time.
+/// Each call books one entry, so `LENGTH` reads as `NOW` does. A seat that sleeps on `LENGTH` in place of `NOW`, or is woken on another word,
+/// sleeps for ever. Then the test runs out of its time.
 #[test]
 fn eight_threads_lose_no_call(rt: HostRuntime) -> Result<(), Fail> {
     let counter = many_adders(&rt, rt.alloc(), 8, 10_000).ok_or("memory")?;

@@ -23,7 +23,7 @@ member_at rows n = option_map_or (λ row. row) (slice_get rows n) nobody
 abbrev pub ends_at : List Ends → ℕ → Ends
 ends_at ends leader = option_map_or (λ e. e) (slice_get ends leader) unjoined
 
--- the leader of the list in which a session is; none where it is in none
+-- the leader of the list in which a session is; none if it is in none
 abbrev pub leader_in : Members → ℕ → Option ℕ
 leader_in v n = (member_at v.rows n).leader
 
@@ -37,12 +37,12 @@ IsLed v leader n = leader_in v n ≡ Some leader
 
 -- ---- in order
 
--- session n comes behind this one in an order, or, where there is none, it comes anywhere
+-- session n comes behind this one in an order, or, if there is none, it comes anywhere
 abbrev pub IsPast : (ℕ → ℕ → Type 0) → Option ℕ → ℕ → Type 0
 IsPast Before None n = Unit {0}
 IsPast Before (Some m) n = Before m n
 
--- of those that come behind this one in an order it is the first; none where there is none
+-- of those that come behind this one in an order it is the first; none if there is none
 abbrev pub IsFirstPast : (ℕ → ℕ → Type 0) → (ℕ → Type 0) → Option ℕ → Option ℕ → Type 0
 IsFirstPast Before Those at None = (n : ℕ) → Those n → IsPast Before at n → ⊥
 IsFirstPast Before Those at (Some m) =
@@ -74,7 +74,7 @@ pub record Joins (old new : Members) (leader session : ℕ) : Type 0 where
   pub joined : is_joined new leader ≡ true
   pub lists : (l : ℕ) → l ≢ leader → is_joined new l ≡ is_joined old l
 
--- the list of a leader may have been joined by a session, and by the leader itself where it wasn't joined before, and no other was
+-- the list of a leader may have been joined by a session, and by the leader itself if it wasn't joined before, and no other was
 pub record JoinsAtMost (old new : Members) (leader session : ℕ) : Type 0 where
   pub members : (l n : ℕ) → IsLed new l n
       → ((l ≡ leader) × (is_joined new leader ≡ true) × ((n ≡ session) ⊎ ((n ≡ leader) × (is_joined old leader ≡ false)))) ⊎ IsLed old l n

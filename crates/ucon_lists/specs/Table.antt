@@ -12,17 +12,17 @@ seen t = record { rows = t.rows.items; ends = t.ends.items }
 
 -- ---- in order
 
--- what is kept as the next behind a session, or, where there is none, as the first of a list
+-- what is kept as the next behind a session, or, if there is none, as the first of a list
 abbrev pub after : Members → ℕ → Option ℕ → Option ℕ
 after v leader None = (ends_at v.ends leader).first
 after v leader (Some n) = (member_at v.rows n).next
 
--- what is kept as the previous in front of a session, or, where there is none, as the last of a list
+-- what is kept as the previous in front of a session, or, if there is none, as the last of a list
 abbrev pub before : Members → ℕ → Option ℕ → Option ℕ
 before v leader None = (ends_at v.ends leader).last
 before v leader (Some n) = (member_at v.rows n).previous
 
--- the session, where there is one, is in the list of a leader
+-- the session, if there is one, is in the list of a leader
 abbrev pub IsIn : Members → ℕ → Option ℕ → Type 0
 IsIn v leader None = Unit {0}
 IsIn v leader (Some n) = IsLed v leader n
@@ -54,12 +54,12 @@ abbrev pub with_previous : List Member → Option ℕ → Option ℕ → List Me
 with_previous rows None previous = rows
 with_previous rows (Some n) previous = changed (λ row. record row { previous = previous }) rows n
 
--- the ends, of which the first changes where no session stands before
+-- the ends, of which the first changes if no session stands before
 abbrev pub with_first : List Ends → ℕ → Option ℕ → Option ℕ → List Ends
 with_first ends leader None next = changed (λ e. record e { first = next }) ends leader
 with_first ends leader (Some n) next = ends
 
--- the ends, of which the last changes where no session stands behind
+-- the ends, of which the last changes if no session stands behind
 abbrev pub with_last : List Ends → ℕ → Option ℕ → Option ℕ → List Ends
 with_last ends leader None previous = changed (λ e. record e { last = previous }) ends leader
 with_last ends leader (Some n) previous = ends

@@ -36,8 +36,8 @@ abbrev pub all_undone : List Change → Who → Who
 all_undone [] w = w
 all_undone (change ∷ changes) w = undone change (all_undone changes w)
 
--- what was changed can be changed back: a list that nobody is in, a session that is in its list, or one that is in none, and for which
--- there is a gap in the list that it left, and a row below this count
+-- What was changed can be changed back. A list that was founded counts as joined, and nobody is in it; a session that joined a list is in it. A
+-- session that left a list is in none, is below this count, and fits a gap in the list that it left, which counts as joined.
 abbrev pub CanUndo : Change → Who → ℕ → Type 0
 CanUndo (Founded leader) w count = (w.joined leader ≡ true) × ((n : ℕ) → w.leader n ≡ Some leader → ⊥)
 CanUndo (Joined leader session) w count = w.leader session ≡ Some leader

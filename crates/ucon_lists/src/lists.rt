@@ -56,7 +56,7 @@ impl Lists {
         })
     }
 
-    /// The leader of the list in which a session is. None where it is in none.
+    /// The leader of the list in which a session is. None if it is in none.
     pub fn leader(&self, session: u32) -> Option<u32>
         ensures leader { result ≡ leader_in self.now.members session }
         ensures joined { (l : ℕ) → result ≡ Some l → is_joined self.now.members l ≡ true }
@@ -71,7 +71,7 @@ impl Lists {
         self.table.is_joined(leader)
     }
 
-    /// The least member of a leader's list. None where it has no member.
+    /// The least member of a leader's list. None if it has no member.
     pub fn first(&self, leader: u32) -> Option<u32>
         ensures { IsNext (IsLed self.now.members leader) None result }
     {

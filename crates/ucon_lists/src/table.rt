@@ -3,7 +3,8 @@
 ghost use Rattle.std.specs.Prelude.{◌≡◌, ◌<◌, ◌≤◌, ℕ, length, None, Some, OnOk};
 ghost use Rattle.std.specs.Option.{ForSome};
 ghost use Rattle.ucon_lists.specs.Lists.{IsLed, IsNext, IsPrevious, ends_at, is_joined, leader_in, member_at, nobody, unjoined};
-ghost use Rattle.ucon_lists.specs.Table.{IsSound, after, before, gap_of, linked, marked, seen, unlinked, with_first, with_last, with_next, with_previous};
+ghost use Rattle.ucon_lists.specs.Table.{IsSound, after, before, gap_of, linked, marked, seen, unlinked, with_first, with_last, with_next};
+ghost use Rattle.ucon_lists.specs.Table.{with_previous};
 
 use ucon_base::NoMemory;
 
@@ -60,7 +61,7 @@ fn unjoined() -> Ends
 }
 
 impl Table {
-    /// The leader of the list in which a session is. None where it is in none.
+    /// The leader of the list in which a session is. None if it is in none.
     pub fn leader(&self, session: u32) -> Option<u32>
         ensures { result ≡ leader_in (seen self.now) session }
     {

@@ -1,5 +1,6 @@
 -- What a keeper has put on a disk, for a witness that a conversation's clauses can be met.
-use Rattle.std.proofs.Common.{◌≡◌, ◌⊎◌, inl, inr, ⊎_elim, ℕ, ◌+◌, ◌≤◌, ◌<◌, ◌^◌, List, [], ◌∷◌, ◌++◌, length, take, drop, min, Option, Some, None, refl, sym, ap, subst, ◌∙◌, arith, length-append}
+use Rattle.std.proofs.Common.{◌≡◌, ◌⊎◌, inl, inr, ⊎_elim, ℕ, ◌+◌, ◌≤◌, ◌<◌, ◌^◌, List, [], ◌∷◌, ◌++◌, length, take, drop, min, Option, Some, None}
+use Rattle.std.proofs.Common.{refl, sym, ap, subst, ◌∙◌, arith, length-append}
 use Rattle.std.specs.Prelude.{IfSome, is_some, codes, true}
 use Rattle.std.specs.Option.{option_map}
 use Rattle.std.proofs.Math.Seq.{take-append_seam}
@@ -63,7 +64,8 @@ keeps_again x y z a b c p q = record {
 }
 
 -- one call more, after which a crash leaves what begins so
-pub keeps_call : (x y z : DiskSeen) (a b : List ℕ) → KeepsOn x y a b → Elapses y.moment z.moment y.images_since z.images_since z.images → Keeps z b → KeepsOn x z a b
+pub keeps_call : (x y z : DiskSeen) (a b : List ℕ) → KeepsOn x y a b
+    → Elapses y.moment z.moment y.images_since z.images_since z.images → Keeps z b → KeepsOn x z a b
 keeps_call x y z a b p time k = record {
   run = goes_on x y z (BeginsWith a) z.images p.run time (λ file image. begins_trans a b file p.begun (k.each file image));
   keeps = k;
@@ -91,7 +93,8 @@ has_place (Some file) n at len is same small short = (omega arith, omega arith)
 pub looked : (y z : DiskSeen) (kept : List ℕ) → Keeps y kept → z.contents ≡ y.contents → SameImages y.images z.images → Keeps z kept
 looked y z kept k same images_are = record { file = k.file; told = same ∙ k.told; each = λ c image. k.each c (images_are.no_more c image) }
 
-pub written : (y z : DiskSeen) (kept : List ℕ) (at n : ℕ) → Keeps y kept → at ≡ length kept → is_some z.contents ≡ is_some y.contents → Follows (Torn at n) y.images z.images → Keeps z kept
+pub written : (y z : DiskSeen) (kept : List ℕ) (at n : ℕ) → Keeps y kept → at ≡ length kept
+    → is_some z.contents ≡ is_some y.contents → Follows (Torn at n) y.images z.images → Keeps z kept
 written y z kept at n k place same follows =
     let now = has_file y.contents z.contents k.file k.told same in
     record {
@@ -104,10 +107,13 @@ written y z kept at n k place same follows =
     }
 
 pub synced : (y z : DiskSeen) (kept : List ℕ) → Keeps y kept → is_some z.contents ≡ is_some y.contents → NoneNew y.images z.images → Keeps z kept
-synced y z kept k same none = let now = has_file y.contents z.contents k.file k.told same in record { file = now.0; told = now.1; each = λ c image. k.each c (none c image) }
+synced y z kept k same none =
+    let now = has_file y.contents z.contents k.file k.told same in
+    record { file = now.0; told = now.1; each = λ c image. k.each c (none c image) }
 
 -- bytes that were written at the end, and synced
-pub put_behind : (y z w : DiskSeen) (kept bytes : List ℕ) (at : ℕ) → Keeps y kept → IfSome y.contents y.images → IfSome y.contents (λ file. at ≡ length file) → at ≡ length kept
+pub put_behind : (y z w : DiskSeen) (kept bytes : List ℕ) (at : ℕ) → Keeps y kept → IfSome y.contents y.images
+    → IfSome y.contents (λ file. at ≡ length file) → at ≡ length kept
     → z.contents ≡ option_map (overwritten at bytes) y.contents → w.contents ≡ z.contents → Only z.contents w.images → Keeps w (kept ++ bytes)
 put_behind y z w kept bytes at k as_read end place wrote same only =
     let in_file : y.images k.file = if_some y.contents k.file y.images k.told as_read in
@@ -115,12 +121,15 @@ put_behind y z w kept bytes at k as_read end place wrote same only =
     let all : k.file ≡ kept = sym (take_all (length kept) k.file (omega arith)) ∙ k.each k.file in_file in
     let front : take at k.file ≡ kept = take_all at k.file (omega arith) ∙ all in
     let nothing : drop (at + length bytes) k.file ≡ [] = drop_all (at + length bytes) k.file (omega arith) in
-    let over : overwritten at bytes k.file ≡ kept ++ bytes = ap (λ (l : List ℕ). (l ++ bytes) ++ drop (at + length bytes) k.file) front ∙ (ap (λ (l : List ℕ). (kept ++ bytes) ++ l) nothing ∙ append-nil (kept ++ bytes)) in
+    let over : overwritten at bytes k.file ≡ kept ++ bytes =
+    ap (λ (l : List ℕ). (l ++ bytes) ++ drop (at + length bytes) k.file) front
+    ∙ (ap (λ (l : List ℕ). (kept ++ bytes) ++ l) nothing ∙ append-nil (kept ++ bytes)) in
     let now : z.contents ≡ Some (kept ++ bytes) = wrote ∙ (ap (option_map (overwritten at bytes)) k.told ∙ ap (λ (l : List ℕ). Some l) over) in
     record {
       file = kept ++ bytes;
       told = same ∙ now;
-      each = λ c image. subst (λ (file : List ℕ). BeginsWith (kept ++ bytes) file) (sym (only_file z.contents (kept ++ bytes) w.images now only c image)) (begins_all (kept ++ bytes));
+      each = λ c image. subst (λ (file : List ℕ). BeginsWith (kept ++ bytes) file)
+          (sym (only_file z.contents (kept ++ bytes) w.images now only c image)) (begins_all (kept ++ bytes));
     }
 
 -- ---- moments

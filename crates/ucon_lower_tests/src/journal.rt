@@ -153,7 +153,7 @@ fn is_written(alloc: Global, payloads: &[&[u8]], bytes: &[u8]) -> bool {
     done && disk.contents() == bytes
 }
 
-/// Files, and what is found in each: both payloads, and nothing where the first record's length is too large.
+/// Files, and what is found in each: both payloads, and nothing if the first record's length is too large.
 const FOUND: &[(&[u8], &[u8])] = &[
     (BYTES, b"right r {}\n|0 subject a\nok|"),
     (
@@ -293,7 +293,7 @@ fn first_other_filled(
     Ok(None)
 }
 
-/// The same where the disk stops at this call. All is to be found where all was added, and else perhaps a front part.
+/// The same if the disk stops at this call. All is to be found if all was added, and else perhaps a front part.
 fn first_other_stopped(
     alloc: Global,
     bytes: &[u8],
@@ -338,7 +338,7 @@ fn images_after_a_stop(rt: HostRuntime) -> Result<(), Fail> {
     Ok(())
 }
 
-/// The same where the payloads are added together: all is to be found, or nothing new.
+/// The same if the payloads are added together: all is to be found, or nothing new.
 fn first_other_together(
     alloc: Global,
     bytes: &[u8],

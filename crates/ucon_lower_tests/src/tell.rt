@@ -9,7 +9,7 @@ use ucon_disk::{Disk, MemDisk};
 use ucon_flow::{LineReader, MemSource};
 use ucon_tell::{Clocked, Keeper, MemVoice, TalkFault, talk, tell_all};
 
-/// Puts bytes on a disk behind the first `at`, where no more are there. They are there for good where it succeeds.
+/// Puts bytes on a disk behind the first `at`, where no more are there. They are there permanently if it succeeds.
 fn put<D: Disk>(disk: &mut D, at: u64, bytes: &[u8]) -> Result<(), ucon_disk::Failed>
     ensures later { (D.seen disk.old).moment ≤ (D.seen disk.new).moment }
     ensures keeps { (kept : List ℕ) → at ≡ length kept → Keeps (D.seen disk.old) kept → KeepsOn (D.seen disk.old) (D.seen disk.new) kept kept }

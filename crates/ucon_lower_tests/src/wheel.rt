@@ -4,7 +4,7 @@ use std::test::Fail;
 use ucon_base::Int;
 use ucon_wheel::Wheel;
 
-/// Gives sessions their deadlines, where there is memory for all.
+/// Gives sessions their deadlines, if there is memory for all.
 fn set_all(wheel: &mut Wheel, deadlines: &[(u32, i64)]) -> bool {
     for (session, deadline) in deadlines {
         if wheel.set(*session, Some(*deadline)).is_err() {

@@ -5,9 +5,9 @@ use Rattle.ucon_base.specs.declared.value.Value.{Value}
 use Rattle.ucon_model.specs.declared.command.Caller.{Caller}
 use Rattle.ucon_model.specs.Plain.{Bytes, PlainPolicy}
 
--- One thing that happens. `tries`, `permit`, `deny`, `ends` and `revoke` are tryaccess, permitaccess, denyaccess, endaccess and
--- revokeaccess of the formal model, and a `write` is any of its preupdate, onupdate and postupdate (Zhang, Parisi-Presicce, Sandhu
--- and Park, ACM TISSEC 8(4), 2005). An `amend` replaces the policy in force by the one that its text spells; it is this project's own.
+-- One thing that happens. `tries`, `permit`, `deny`, `ends` and `revoke` are tryaccess, permitaccess, denyaccess, endaccess and revokeaccess of
+-- the formal model. A `write` is any of its preupdate, onupdate and postupdate (Zhang, Parisi-Presicce, Sandhu and Park, ACM TISSEC 8(4), 2005).
+-- An `amend` replaces the policy in force by the one that its text spells; it is this project's own.
 pub data Action : Type 0 where
   subject : (name : Bytes) → Action
   object : (name : Bytes) → Action

@@ -18,12 +18,12 @@ abbrev pub permitted_by : Head → Work
 permitted_by (heads.Permitted n) = only n
 permitted_by head = nobody
 
--- where the updates before the usage write of whom a head tells to be permitted
+-- where the updates before the usage write, of the session that a head tells to be permitted
 abbrev pub permit_locations : PlainPolicy → Trace → Head → List Location
 permit_locations P T (heads.Permitted n) = session_targets P T n Before
 permit_locations P T head = []
 
--- where a command writes, or the updates that it runs but those before a usage
+-- where a command writes, and where the updates write that it runs, but for those before a usage
 abbrev pub command_locations : PlainPolicy → Trace → Command → List Location
 command_locations P T (Set side name attr v) = attribute_of side name attr ∷ []
 command_locations P T (Env name v) = variable_of name ∷ []
@@ -35,14 +35,15 @@ command_locations P T c = []
 abbrev pub is_timed : PlainPolicy → Trace → Work
 is_timed P T n = option_map_or (λ row. list_any is_by_tick (timed_of (in_force P T) row)) (session T n) false
 
--- whom a command concerns else: over whom the tick decides, where it moves it, and everybody where it replaces the policy
+-- whom else a command concerns: those over whom the tick decides, if it moves the tick, and everybody if it replaces the policy
 abbrev pub concerned_by : PlainPolicy → Trace → Command → Work
 concerned_by P T (Tick t) = is_timed P T
 concerned_by P T (Amend a) = everybody
 concerned_by P T c = nobody
 
--- The work after own actions, by the command and the head of its reply: who is permitted, who reads where they wrote, over whom the tick
--- decides where it moved, and everybody where the policy was replaced.
+-- The work after own actions, by the command and the head of its reply. It has who is permitted, who reads where they wrote, and over whom the
+-- tick decides if it moved. It has everybody if the policy was replaced.
 abbrev pub work_afterwards : PlainPolicy → Trace → Command → Head → Work
 work_afterwards P T c head =
-    joined (permitted_by head) (joined (readers P T (permit_locations P T head)) (joined (readers P T (command_locations P T c)) (concerned_by P T c)))
+    joined (permitted_by head) (joined (readers P T (permit_locations P T head))
+    (joined (readers P T (command_locations P T c)) (concerned_by P T c)))

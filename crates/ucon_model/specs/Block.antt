@@ -19,7 +19,7 @@ own_reply P T (refuse r) = refused r
 own_reply P T (tell reply) = reply
 own_reply P T (make head actions) = made head (revoked_in (settle P (extended T actions)))
 
--- the command's own actions, and then the settling after them; nothing where it is refused or reads
+-- the command's own actions, and then the settling after them; nothing if it is refused or reads
 abbrev pub block : PlainPolicy → Trace → Caller → Command → List Action
 block P T caller c = own_block P T (own P T caller c)
 

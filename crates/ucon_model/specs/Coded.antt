@@ -1,5 +1,5 @@
--- How the logic stores plain policies, so that one may stand in what a value of `src/` stands for: an expression and a formula as the list of
--- their parts, operands first, which a stack gives back.
+-- How the logic stores plain policies, so that one may stand in what a value of `src/` stands for. An expression and a formula are stored as the
+-- list of their parts, operands first, which a stack gives back.
 use Rattle.std.specs.Prelude.{◌≡◌, ◌==◌, ℕ, ℤ, pos, Bool, true, false, List, [], ◌∷◌, ◌++◌, refl, if◌then◌else◌}
 use Rattle.std.proofs.Common.{◌⊎◌, inl, inr, ap, ◌∙◌}
 use Rattle.std.specs.Coded.{Coded, code_by, coded_list, coded_ℕ, coded_ℤ, coded×, coded⊎}
@@ -22,7 +22,8 @@ use Rattle.ucon_model.specs.declared.policy.AttrDecl.{AttrDecl}
 use Rattle.ucon_model.specs.declared.policy.EnvDecl.{EnvDecl}
 use Rattle.ucon_model.specs.declared.policy.Phase.{Phase}
 use Rattle.ucon_model.specs.declared.policy.When.{When}
-use Rattle.ucon_model.specs.Plain.{Bytes, PlainExpr, lit, read, plus, minus, times, size, PlainFormula, both, either, negation, compare, lasts, PlainTest, authorisation, duty, condition, PlainPredicate, PlainUpdate, PlainRight, PlainPolicy, Amendment}
+use Rattle.ucon_model.specs.Plain.{Bytes, PlainExpr, lit, read, plus, minus, times, size, PlainFormula, both, either, negation, compare, lasts}
+use Rattle.ucon_model.specs.Plain.{PlainTest, authorisation, duty, condition, PlainPredicate, PlainUpdate, PlainRight, PlainPolicy, Amendment}
 
 abbrev bytes_code : Coded Bytes
 bytes_code = coded_list coded_ℕ
@@ -73,7 +74,8 @@ put_exprs-append [] qs stack = refl
 put_exprs-append (p ∷ ps) qs stack = put_exprs-append ps qs (put_expr p stack)
 
 -- what the parts of two operands and their operator put
-two_put : (a b c : PlainExpr) (n : ℕ) (stack : List PlainExpr) → put_exprs (expr_parts a) stack ≡ a ∷ stack → put_exprs (expr_parts b) (a ∷ stack) ≡ b ∷ a ∷ stack
+two_put : (a b c : PlainExpr) (n : ℕ) (stack : List PlainExpr) → put_exprs (expr_parts a) stack ≡ a ∷ stack
+    → put_exprs (expr_parts b) (a ∷ stack) ≡ b ∷ a ∷ stack
     → put_operator (n == 3) n (b ∷ a ∷ stack) ≡ c ∷ stack → put_exprs (expr_parts a ++ (expr_parts b ++ (operator n ∷ []))) stack ≡ c ∷ stack
 two_put a b c n stack first second joined =
     put_exprs-append (expr_parts a) (expr_parts b ++ (operator n ∷ [])) stack ∙ ap (put_exprs (expr_parts b ++ (operator n ∷ []))) first
@@ -94,7 +96,9 @@ pub expr_back : (e : PlainExpr) → expr_of_parts (expr_parts e) ≡ e
 expr_back e = ap expr_from (expr_put e [])
 
 abbrev expr_code : Coded PlainExpr
-expr_code = code_by (List ExprPart) (coded_list (coded⊎ (value_row.the_row).coded (coded⊎ (place_row.the_row).coded coded_ℕ))) expr_parts expr_of_parts expr_back
+expr_code =
+    code_by (List ExprPart) (coded_list (coded⊎ (value_row.the_row).coded (coded⊎ (place_row.the_row).coded coded_ℕ)))
+    expr_parts expr_of_parts expr_back
 
 -- ---- formulas
 
@@ -143,13 +147,15 @@ both_put : (f g h : PlainFormula) (n : ℕ) (stack : List PlainFormula) → put_
     → put_formulas (formula_parts g) (f ∷ stack) ≡ g ∷ f ∷ stack → put_connective (n == 2) n (g ∷ f ∷ stack) ≡ h ∷ stack
     → put_formulas (formula_parts f ++ (formula_parts g ++ (connective n ∷ []))) stack ≡ h ∷ stack
 both_put f g h n stack first second joined =
-    put_formulas-append (formula_parts f) (formula_parts g ++ (connective n ∷ [])) stack ∙ ap (put_formulas (formula_parts g ++ (connective n ∷ []))) first
+    put_formulas-append (formula_parts f) (formula_parts g ++ (connective n ∷ [])) stack
+    ∙ ap (put_formulas (formula_parts g ++ (connective n ∷ []))) first
     ∙ put_formulas-append (formula_parts g) (connective n ∷ []) (f ∷ stack) ∙ ap (put_formulas (connective n ∷ [])) second ∙ joined
 
 formula_put : (f : PlainFormula) (stack : List PlainFormula) → put_formulas (formula_parts f) stack ≡ f ∷ stack
 formula_put (both f g) stack = both_put f g (both f g) 0 stack (formula_put f stack) (formula_put g (f ∷ stack)) refl
 formula_put (either f g) stack = both_put f g (either f g) 1 stack (formula_put f stack) (formula_put g (f ∷ stack)) refl
-formula_put (negation f) stack = put_formulas-append (formula_parts f) (connective 2 ∷ []) stack ∙ ap (put_formulas (connective 2 ∷ [])) (formula_put f stack)
+formula_put (negation f) stack =
+    put_formulas-append (formula_parts f) (connective 2 ∷ []) stack ∙ ap (put_formulas (connective 2 ∷ [])) (formula_put f stack)
 formula_put (compare op a b) stack = refl
 formula_put (lasts n) stack = refl
 
@@ -183,7 +189,8 @@ test_back (condition f) = refl
 
 abbrev test_code : Coded PlainTest
 test_code =
-    code_by (PlainFormula ⊎ (Obligation ⊎ PlainFormula)) (coded⊎ formula_code (coded⊎ (duty_row.the_row).coded formula_code)) test_parts test_from test_back
+    code_by (PlainFormula ⊎ (Obligation ⊎ PlainFormula)) (coded⊎ formula_code (coded⊎ (duty_row.the_row).coded formula_code))
+    test_parts test_from test_back
 
 abbrev predicate_code : Coded PlainPredicate
 predicate_code =

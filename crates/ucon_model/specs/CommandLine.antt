@@ -1,6 +1,7 @@
 -- Command lines: the one text of each command, and the command or the refusal that a line gives. How the text of an amendment's policy is
 -- read is an argument.
-use Rattle.std.specs.Prelude.{IsTrue, ℕ, ◌+◌, ◌^◌, ◌<◌, ℤ, pos, negsuc, ◌==◌, nat_lt, nat_eq, List, [], ◌∷◌, length, drop, Option, Some, None, Result, Ok, Err, ok_or, option_map, option_and_then, codes, if◌then◌else◌}
+use Rattle.std.specs.Prelude.{IsTrue, ℕ, ◌+◌, ◌^◌, ◌<◌, ℤ, pos, negsuc, ◌==◌, nat_lt, nat_eq, List, [], ◌∷◌, length, drop, Option, Some, None, Result}
+use Rattle.std.specs.Prelude.{Ok, Err, ok_or, option_map, option_and_then, codes, if◌then◌else◌}
 use Rattle.std.specs.Fmt.{decimal, signed_decimal}
 use Rattle.std.specs.List.{slice_split, join_with_byte, starts_with}
 use Rattle.std.specs.Result.{result_ok}
@@ -14,7 +15,8 @@ use Rattle.ucon_base.specs.Reading.{value_read}
 pub use Rattle.ucon_base.specs.Reading.{integer_of, integer_in}
 use Rattle.ucon_base.specs.Spelling.{side_word, value_spelling, IsValue}
 use Rattle.ucon_model.specs.declared.command.Command.{Command}
-use Rattle.ucon_model.specs.declared.command.Command.TheVariants.{Subject, Object, Set, Env, Tick, Act, Try, Again, Beat, End, Look, Value as Value', Amend}
+use Rattle.ucon_model.specs.declared.command.Command.TheVariants.{Subject, Object, Set, Env, Tick, Act, Try, Again, Beat, End, Look, Value as Value'}
+use Rattle.ucon_model.specs.declared.command.Command.TheVariants.{Amend}
 use Rattle.ucon_model.specs.Amending.{has_newline, IsAmendment}
 use Rattle.ucon_model.specs.Plain.{Bytes, PlainPolicy, Amendment}
 
@@ -116,7 +118,7 @@ number_in bs = option_and_then number_of (integer_in bs)
 abbrev pub said : {A : Type 0} → (Bytes → Option A) → Word → Result A LineRefusal
 said kind w = ok_or (kind w.text) (bad_word w.at)
 
--- a line of other than its form's number of words
+-- a line that hasn't its form's number of words
 abbrev pub miscounted : {A : Type 0} → List Word → Result A LineRefusal
 miscounted words = Err (wrong_count (length words))
 

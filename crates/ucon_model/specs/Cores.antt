@@ -1,5 +1,5 @@
--- The core models that a right's predicates and updates make (Park and Sandhu, ACM TISSEC 7(1), 2004: preA, onA, preB, onB, preC and
--- onC, with index 0 for no update, 1 for updates before, 2 during and 3 after a usage).
+-- The core models that a right's predicates and updates make: preA, onA, preB, onB, preC and onC (Park and Sandhu, ACM TISSEC 7(1), 2004). Their
+-- index is 0 for no update, 1 for updates before, 2 during and 3 after a usage.
 use Rattle.std.specs.Prelude.{ℕ, Bool, true, false, ◌&&◌, ◌||◌, not, List, [], ◌∷◌, ◌++◌, map, codes, if◌then◌else◌}
 use Rattle.std.specs.List.{list_any, flat_map}
 use Rattle.std.specs.Fmt.{decimal}
@@ -58,7 +58,7 @@ is_of_kind OnC p = ongoing p && is_condition p.test
 abbrev pub index_if : Bool → ℕ → List ℕ
 index_if applies i = if applies then i ∷ [] else []
 
--- 0 alone where no other index applies
+-- 0 alone if no other index applies
 abbrev pub or_zero : List ℕ → List ℕ
 or_zero [] = 0 ∷ []
 or_zero (i ∷ is) = i ∷ is
@@ -83,7 +83,7 @@ indices_by before during after = or_zero (index_if before 1 ++ index_if during 2
 abbrev pub indices : CoreKind → List PlainUpdate → List ℕ
 indices kind us = indices_by (updates_at kind us Before) (updates_at kind us During) (updates_at kind us AfterEnd || updates_at kind us AfterRevoke)
 
--- a right's core models of a kind: none where it has no predicate of the kind
+-- a right's core models of a kind: none if it has no predicate of the kind
 abbrev pub cores_of_kind : PlainRight → CoreKind → List Core
 cores_of_kind r kind =
     if list_any (is_of_kind kind) r.preds then map (λ i. record { kind = kind; index = i }) (indices kind r.updates) else []

@@ -1,6 +1,7 @@
--- When time alone changes what a decision during the usage reads: the last tick at which a timed part holds, and the ticks after which one
--- may stop to hold.
-use Rattle.std.specs.Prelude.{ℕ, ℤ, ◌+ℤ◌, int_le, int_lt, Bool, false, ◌&&◌, map, List, [], ◌∷◌, Option, Some, None, option_map, unwrap_or, if◌then◌else◌}
+-- When time alone changes what a decision during the usage reads: the last tick at which a timed part holds, and the ticks after which one may
+-- stop holding.
+use Rattle.std.specs.Prelude.{ℕ, ℤ, ◌+ℤ◌, int_le, int_lt, Bool, false, ◌&&◌, map, List, [], ◌∷◌, Option, Some, None, option_map, unwrap_or}
+use Rattle.std.specs.Prelude.{if◌then◌else◌}
 use Rattle.std.specs.Int.{int_max}
 use Rattle.std.specs.Option.{option_map_or}
 use Rattle.std.specs.List.{list_any}
@@ -20,13 +21,13 @@ is_between now next d = int_le now d && int_lt d next
 
 -- ---- the last tick
 
--- up to which tick an obligation is met, by the moment of its act; none where the tick doesn't decide over it
+-- up to which tick an obligation is met, by the moment of its act; none if the tick doesn't decide over it
 abbrev pub form_limit : ℤ → Form → Option ℤ → Option ℤ
 form_limit start Done last = None
 form_limit start (Within n) last = option_map (λ m. m +ℤ n) last
 form_limit start (Every n) last = Some (int_max start (unwrap_or last start) +ℤ n)
 
--- the last tick at which a timed part holds for a session; none where the tick doesn't decide over it
+-- the last tick at which a timed part holds for a session; none if the tick doesn't decide over it
 abbrev pub limit_of : Readings → SessionRow → Timed → Option ℤ
 limit_of R row (lasting n) = Some (row.start +ℤ n)
 limit_of R row (owed o) =
@@ -37,10 +38,11 @@ abbrev pub passes : ℤ → ℤ → Option ℤ → Bool
 passes now next None = false
 passes now next (Some limit) = is_between now next limit
 
--- whether a timed part of session n's right stops to hold when the tick goes to t
+-- whether a timed part of session n's right stops holding when the tick goes to t
 abbrev pub is_due : PlainPolicy → Trace → ℤ → ℕ → Bool
 is_due P T t n =
-    option_map_or (λ row. list_any (λ part. passes (tick_of T) t (limit_of (readings P T) row part)) (timed_of (in_force P T) row)) (session T n) false
+    option_map_or (λ row. list_any (λ part. passes (tick_of T) t (limit_of (readings P T) row part)) (timed_of (in_force P T) row))
+    (session T n) false
 
 -- ---- all deadlines
 

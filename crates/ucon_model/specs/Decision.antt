@@ -50,8 +50,8 @@ no_right = codes "no_right"
 abbrev pub first_false_of : PlainPolicy → Readings → (PlainPredicate → Bool) → SessionRow → Option Bytes
 first_false_of P R sort row = option_and_then (λ right. first_false R row sort right.preds) (right_named P.rights row.right)
 
--- `no_right` where a session's right is not there; else the label of the first ongoing predicate of the right that is false; none
--- where all hold
+-- `no_right` if a session's right is not there; else the label of the first ongoing predicate of the right that is false; none
+-- if all hold
 abbrev pub failing_of : PlainPolicy → Readings → SessionRow → Option Bytes
 failing_of P R row = option_map_or (λ right. first_false R row ongoing right.preds) (right_named P.rights row.right) (Some no_right)
 

@@ -1,6 +1,7 @@
 -- How a document is divided: a policy, a divider, and a script of lines; what the lines say, and the first that is refused. How the text of a
 -- policy in a line is read is an argument.
-use Rattle.std.specs.Prelude.{ℕ, ◌+◌, Bool, true, false, not, ◌&&◌, ◌||◌, ◌==◌, nat_lt, List, [], ◌∷◌, ◌++◌, length, map, Option, Some, None, option_map, option_to_list, unwrap_or, Result, Ok, Err, codes, if◌then◌else◌}
+use Rattle.std.specs.Prelude.{ℕ, ◌+◌, Bool, true, false, not, ◌&&◌, ◌||◌, ◌==◌, nat_lt, List, [], ◌∷◌, ◌++◌, length, map, Option, Some, None}
+use Rattle.std.specs.Prelude.{option_map, option_to_list, unwrap_or, Result, Ok, Err, codes, if◌then◌else◌}
 use Rattle.std.specs.List.{slice_split, before_first, after_first, list_all}
 use Rattle.std.specs.Str.{bytes_eq}
 use Rattle.ucon_base.specs.Reading.{is_digit, number_of}
@@ -20,12 +21,12 @@ lines_of bytes = slice_split (λ b. b == 10) bytes
 abbrev pub is_divider : Bytes → Bool
 is_divider line = bytes_eq line (codes "%%")
 
--- the lines before the divider, each with its newline; none where there is no divider
+-- the lines before the divider, each with its newline; none if there is no divider
 abbrev pub before_divider : List Bytes → Option Bytes
 before_divider [] = None
 before_divider (l ∷ ls) = if is_divider l then Some [] else option_map (λ text. l ++ 10 ∷ text) (before_divider ls)
 
--- the policy part: all before the divider, and the whole text where there is none
+-- the policy part: all before the divider, and the whole text if there is none
 abbrev pub policy_part : Bytes → Bytes
 policy_part bytes = unwrap_or (before_divider (lines_of bytes)) bytes
 
@@ -53,7 +54,7 @@ behind_first_word line = after_first (λ b. b == 32) line
 abbrev pub is_heading : Bytes → Bool
 is_heading line = bytes_eq (first_word line) (codes "client")
 
--- digits, the first of them `0` only where it stands alone
+-- digits, of which the first is `0` only if it stands alone
 abbrev pub is_number : Bytes → Bool
 is_number [] = false
 is_number (d ∷ ds) = list_all is_digit (d ∷ ds) && (not (d == 48) || length ds == 0)
@@ -72,21 +73,21 @@ caller_of n = record { 0 = n }
 
 -- ---- what a script says
 
--- a command line: its number in the document, from 1, the client whose it is, and the command
+-- a command line: its number in the document, from 1, the client who gives it, and the command
 pub record ScriptLine : Type 0 where
   pub number : ℕ
   pub caller : Caller
   pub command : Command
 
--- why a document is refused, with the number of the line: a client of 64 or above; a heading of any other wrong form, or a command
--- line without a heading above it; one command line too many; a command line that is none
+-- why a document is refused, with the number of the line: a client of 64 or above; a heading of any other wrong form, or a command line without a
+-- heading above it; one command line too many; a line that is no command
 pub data DocumentRefusal : Type 0 where
   too_many_clients : (number : ℕ) → DocumentRefusal
   bad_heading : (number : ℕ) → DocumentRefusal
   too_many_lines : (number : ℕ) → DocumentRefusal
   bad_line : (number : ℕ) (cause : LineRefusal) → DocumentRefusal
 
--- whose lines stand below these, the nearest line first: those of the nearest heading's client
+-- the client of the lines below these, of which the nearest comes first: that of the nearest heading
 abbrev pub client_below : List Bytes → Option Caller
 client_below [] = None
 client_below (l ∷ above) = if is_heading l then option_map caller_of (heading_number l) else client_below above
@@ -111,8 +112,8 @@ abbrev pub said_told : (Bytes → Option PlainPolicy) → ℕ → Option Caller 
 said_told reads n None said l = Err (bad_heading n)
 said_told reads n (Some client) said l = if nat_lt said 262144 then command_told n client (line_read reads l) else Err (too_many_lines n)
 
--- what a script's line of this number says, below a heading of this client, if any, and so many command lines: a command line, if it
--- is one, or why the document is refused at it
+-- What a script's line of this number says, below a heading of this client, if any, and so many command lines. It says a command line or nothing,
+-- or it is why the document is refused.
 abbrev pub line_told : (Bytes → Option PlainPolicy) → ℕ → Option Caller → ℕ → Bytes → Result (Option ScriptLine) DocumentRefusal
 line_told reads n client said l =
     if is_skipped l then Ok None else
@@ -120,7 +121,8 @@ line_told reads n client said l =
     said_told reads n client said l
 
 -- what a line says before what the next ones say; the first refusal stands
-abbrev pub before_next : Result (Option ScriptLine) DocumentRefusal → Result (List ScriptLine) DocumentRefusal → Result (List ScriptLine) DocumentRefusal
+abbrev pub before_next : Result (Option ScriptLine) DocumentRefusal
+    → Result (List ScriptLine) DocumentRefusal → Result (List ScriptLine) DocumentRefusal
 before_next (Err r) next = Err r
 before_next (Ok told) (Err r) = Err r
 before_next (Ok told) (Ok next) = Ok (option_to_list told ++ next)

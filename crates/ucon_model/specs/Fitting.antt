@@ -31,7 +31,7 @@ pub record ValuesFit (P : PlainPolicy) (T : Trace) : Type 0 where
 abbrev pub ResultFits : PlainPolicy → Trace → SessionRow → PlainUpdate → Type 0
 ResultFits P T row u = AttributeAdmits (in_force P T) u.side u.attr (result P T row u)
 
--- where all values of the trace fit, and a session's subject and object are there, the result of each update of its right fits
+-- if all values of the trace fit, and a session's subject and object are there, the result of each update of its right fits
 abbrev pub UpdatesFit : PlainPolicy → Trace → Type 0
 UpdatesFit P T =
     (row : SessionRow) → ValuesFit P T → IsTrue (has_entity Subject row.subject T) → IsTrue (has_entity Object row.object T)

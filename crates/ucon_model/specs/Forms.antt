@@ -33,7 +33,7 @@ clear t = (t, None)
 abbrev pub beyond : Limit → ℕ → ℕ → Option Limit
 beyond limit most before = if nat_lt before most then None else Some limit
 
--- a token that opens a level, where so many are left
+-- a token that opens a level, with so many levels left
 abbrev pub opening : ℕ → Terminal → Marked
 opening zero t = (t, Some level)
 opening (suc room) t = (t, None)
@@ -93,7 +93,7 @@ either_of X Y = record {
 
 -- ---- chains
 
--- further operands, each behind an operator, where so many stand before
+-- further operands, each behind an operator, with so many before them
 abbrev pub further_tokens : {O A : Type 0} → (O → Terminal) → (X : Form A) → ℕ → List (O × X.Written) → List Marked
 further_tokens token X n [] = []
 further_tokens token X n (o ∷ os) = (token o.0, beyond operand 32 n) ∷ (X.tokens o.1 ++ further_tokens token X (suc n) os)

@@ -1,5 +1,6 @@
--- What a journal's payloads say, record by record. How a policy's text is read is an argument, and what a later payload may be.
-use Rattle.std.specs.Prelude.{◌≡◌, ℕ, ◌+◌, Bool, ◌&&◌, nat_lt, List, [], ◌∷◌, ◌++◌, length, Option, Some, None, option_map, option_and_then, unwrap_or, if◌then◌else◌}
+-- What a journal's payloads say, record by record. Two things are arguments: how a policy's text is read, and what a later payload may be.
+use Rattle.std.specs.Prelude.{◌≡◌, ℕ, ◌+◌, Bool, ◌&&◌, nat_lt, List, [], ◌∷◌, ◌++◌, length, Option, Some, None, option_map, option_and_then}
+use Rattle.std.specs.Prelude.{unwrap_or, if◌then◌else◌}
 use Rattle.std.specs.Result.{result_ok}
 use Rattle.std.specs.Str.{bytes_eq}
 use Rattle.ucon_model.specs.History.{History, said, changes}
@@ -31,12 +32,12 @@ is_next_step P H t = changes t.reply && bytes_eq (reply_spelling t.reply) (reply
 abbrev pub with_step : PlainPolicy → History → Told → Option History
 with_step P H t = if is_next_step P H t then Some (H ++ entry_told t ∷ []) else None
 
--- these entries with the step that a payload tells; none where the record is wrong
+-- these entries with the step that a payload tells; none if the record is wrong
 unfoldable pub taken : (Bytes → Option PlainPolicy) → PlainPolicy → History → Bytes → Option History
 taken reads P H payload =
     if nat_lt most_payload (length payload) then None else option_and_then (with_step P H) (result_ok (payload_read reads payload))
 
--- What a payload makes of the entries before it, under a policy that has this text; none where the record is wrong.
+-- What a payload makes of the entries before it, under a policy that has this text; none if the record is wrong.
 abbrev pub Takes : Type 0
 Takes = Bytes → PlainPolicy → History → Bytes → Option History
 
@@ -44,12 +45,13 @@ Takes = Bytes → PlainPolicy → History → Bytes → Option History
 abbrev pub only_steps : (Bytes → Option PlainPolicy) → Takes
 only_steps reads text P H payload = taken reads P H payload
 
--- each payload that tells the next step is taken as it
+-- each payload that tells the next step is taken as that step
 abbrev pub TakesSteps : (Bytes → Option PlainPolicy) → Takes → Type 0
 TakesSteps reads takes =
-    (text : Bytes) (P : PlainPolicy) (H later : History) (payload : Bytes) → taken reads P H payload ≡ Some later → takes text P H payload ≡ Some later
+    (text : Bytes) (P : PlainPolicy) (H later : History) (payload : Bytes) → taken reads P H payload ≡ Some later
+    → takes text P H payload ≡ Some later
 
--- the policy of record 0; none where the record is wrong
+-- the policy of record 0; none if the record is wrong
 abbrev pub policy_taken : (Bytes → Option PlainPolicy) → Bytes → Option PlainPolicy
 policy_taken reads payload = if nat_lt most_payload (length payload) then None else reads payload
 
@@ -69,7 +71,7 @@ found_in reads takes (text ∷ payloads) =
     (option_map (λ P. found_behind takes text P [] 1 (next_gate first_gate text) payloads) (policy_taken reads text))
     (damaged 0 first_gate)
 
--- what is found where behind so many payloads, in which this is found, stand more
+-- what is found once more payloads stand behind so many, in which this is found
 abbrev pub found_on : (Bytes → Option PlainPolicy) → Takes → Finding → ℕ → List Bytes → Finding
 found_on reads takes fresh number payloads = found_in reads takes payloads
 found_on reads takes (holds text P H gate) number payloads = found_behind takes text P H number gate payloads

@@ -59,7 +59,7 @@ drawn_try g =
     let c = stepped g in let a = stepped c in let b = stepped a in
     record { entry = by (1 + below 4 c.x) (Try (user (below 10 a.x)) (codes "use") (video (below 5 b.x))); after = record b { tries = b.tries + 1 } }
 
--- a client is drawn, and where there were tries one of their sessions: the client beats or ends it
+-- a client is drawn, and if there were tries one of their sessions: the client beats or ends it
 abbrev pub drawn_at_session : (ℕ → Command) → Generator → Drawn
 drawn_at_session command g =
     let c = stepped g in let n = stepped c in

@@ -21,9 +21,13 @@ use Rattle.ucon_model.specs.declared.policy.Phase.{Phase}
 use Rattle.ucon_model.specs.declared.policy.Phase.TheVariants as phases
 use Rattle.ucon_model.specs.declared.policy.When.{When}
 use Rattle.ucon_model.specs.declared.policy.When.TheVariants as whens
-use Rattle.ucon_model.specs.Plain.{Bytes, PlainExpr, lit, read, plus, minus, times, size, PlainFormula, both, either, negation, compare, lasts, PlainTest, authorisation, duty, condition, PlainPredicate, PlainUpdate, PlainRight, PlainPolicy}
-use Rattle.ucon_base.specs.Tokens.{Symbol, colon, semicolon, comma, dot, dots, equal_sign, unequal_sign, less_sign, at_most_sign, greater_sign, at_least_sign, plus_sign, minus_sign, star, open_round, close_round, open_square, close_square, open_curly, close_curly}
-use Rattle.ucon_model.specs.Forms.{Terminal, word, number, text, symbol, item, Marked, clear, beyond, opening, Form, nothing, no_form, one_of, before, and_then, mapped, either_of, chain, listed, at_any_depth}
+use Rattle.ucon_model.specs.Plain.{Bytes, PlainExpr, lit, read, plus, minus, times, size, PlainFormula, both, either, negation, compare, lasts}
+use Rattle.ucon_model.specs.Plain.{PlainTest, authorisation, duty, condition, PlainPredicate, PlainUpdate, PlainRight, PlainPolicy}
+use Rattle.ucon_base.specs.Tokens.{Symbol, colon, semicolon, comma, dot, dots, equal_sign, unequal_sign, less_sign, at_most_sign, greater_sign}
+use Rattle.ucon_base.specs.Tokens.{at_least_sign, plus_sign, minus_sign, star, open_round, close_round, open_square, close_square, open_curly}
+use Rattle.ucon_base.specs.Tokens.{close_curly}
+use Rattle.ucon_model.specs.Forms.{Terminal, word, number, text, symbol, item, Marked, clear, beyond, opening, Form, nothing, no_form, one_of, before}
+use Rattle.ucon_model.specs.Forms.{and_then, mapped, either_of, chain, listed, at_any_depth}
 
 abbrev pub keyword : Bytes → Marked
 keyword w = clear (word w)
@@ -278,7 +282,7 @@ when_token whens.During = word (codes "during")
 when_token whens.AfterEnd = word (codes "after_end")
 when_token whens.AfterRevoke = word (codes "after_revoke")
 
--- how many stand before, of each phase
+-- how many stand before, of each time
 pub record WhenCount : Type 0 where
   pub before_usage : ℕ
   pub during_usage : ℕ
@@ -297,7 +301,7 @@ count_when n whens.During = record n { during_usage = n.during_usage + 1 }
 count_when n whens.AfterEnd = record n { after_end = n.after_end + 1 }
 count_when n whens.AfterRevoke = record n { after_revoke = n.after_revoke + 1 }
 
--- update = ("before" | "during" | "after_end" | "after_revoke") side "." NAME "=" expr ";", the 17th of its phase marked at its
+-- update = ("before" | "during" | "after_end" | "after_revoke") side "." NAME "=" expr ";", the 17th of its time marked at its
 -- first word
 abbrev pub an_update : WhenCount → Form PlainUpdate
 an_update n =

@@ -46,7 +46,7 @@ pub record IsLed (P : PlainPolicy) (T : Trace) (first : ℕ → ℕ) : Type 0 wh
   pub low : (n : ℕ) → is_accessing (session T n) ≡ true → first n ≤ n
   pub like : (n : ℕ) → is_accessing (session T n) ≡ true → (first n ≡ n) ⊎ AreLike P T (first n) n
 
--- The index is exact: an accessing session reads what is kept at a location exactly where the leader of its list stands there.
+-- The index is exact: an accessing session reads what is kept at a location exactly if the leader of its list stands there.
 abbrev pub IsExact : PlainPolicy → Trace → (ℕ → ℕ) → (ℕ → Location → Bool) → Type 0
 IsExact P T leader stands =
     (n : ℕ) (row : SessionRow) (location : Location) → session T n ≡ Some row → is_accessing (Some row) ≡ true
@@ -56,7 +56,7 @@ IsExact P T leader stands =
 abbrev pub itself : ℕ → ℕ
 itself n = n
 
--- of each accessing session that fails the first of its list is in the work
+-- of each accessing session that fails, the first of its list is in the work
 abbrev pub FirstsCover : PlainPolicy → Trace → (ℕ → ℕ) → Work → Type 0
 FirstsCover P T first work = (n : ℕ) (label : Bytes) → fails_at P T n ≡ Some label → work (first n) ≡ true
 

@@ -43,8 +43,8 @@ changes r = false
 abbrev pub grown : PlainPolicy → History → Entry → History
 grown P H e = if changes (said P H e.caller e.command) then H ++ e ∷ [] else H
 
--- One run over these lines, from a history on: each reply with its place, which is its record's number where it changes something, and
--- the number of records so far where it doesn't.
+-- One run over these lines, from a history on: each reply with its place. That is its record's number if it changes something, and the number of
+-- records so far if it doesn't.
 abbrev pub serial : PlainPolicy → History → List Entry → List (ℕ × PlainReply)
 serial P H [] = []
 serial P H (e ∷ lines) = (length (grown P H e), said P H e.caller e.command) ∷ serial P (grown P H e) lines
@@ -65,8 +65,8 @@ pub record Agree (R S : Readings) : Type 0 where
   pub at : (row : SessionRow) (place : Ref) → R.at row place ≡ S.at row place
   pub done_at : (s a o : Bytes) → R.done_at s a o ≡ S.done_at s a o
 
--- a keeper of state stands for a history: its policy is the one in force after the history, and what it gives to read is that of the
--- history's trace
+-- A keeper of state stands for a history. Its policy is the one in force after the history, and what it gives to read is that of the history's
+-- trace.
 pub record StandsFor (policy : PlainPolicy) (given : Readings) (P : PlainPolicy) (H : History) : Type 0 where
   pub policy_is : policy ≡ in_force P (trace P H)
   pub readings_are : Agree given (readings P (trace P H))

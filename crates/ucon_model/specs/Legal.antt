@@ -7,7 +7,8 @@ use Rattle.ucon_model.specs.declared.session.SessionState.TheVariants.{Requestin
 use Rattle.ucon_model.specs.declared.session.Verdict.TheVariants.{Wait, Deny}
 use Rattle.ucon_model.specs.Plain.{Bytes, PlainPolicy}
 use Rattle.ucon_model.specs.Action.{Action, Trace, subject, object, write, env, tick, act, tries, wait, permit, deny, ends, revoke, amend, extended}
-use Rattle.ucon_model.specs.Readings.{in_force, tick_of, has_entity, entities, declared_attr, declared_env, moment, session, sessions, accessing, acts}
+use Rattle.ucon_model.specs.Readings.{in_force, tick_of, has_entity, entities, declared_attr, declared_env, moment, session, sessions, accessing}
+use Rattle.ucon_model.specs.Readings.{acts}
 use Rattle.ucon_model.specs.Truth.{readings}
 use Rattle.ucon_model.specs.Decision.{right_named, verdict, failing}
 use Rattle.ucon_model.specs.MayFollow.{MayFollow}
@@ -28,7 +29,8 @@ IsAccessing T n = IsSomeAnd (session T n) (λ row. row.state ≡ Accessing)
 abbrev pub IsLegal : PlainPolicy → Trace → Action → Type 0
 IsLegal P T (subject name) = IsFalse (has_entity sides.Subject name T) × (entities sides.Subject T < 16384)
 IsLegal P T (object name) = IsFalse (has_entity sides.Object name T) × (entities sides.Object T < 16384)
-IsLegal P T (write side name attr v) = IsTrue (has_entity side name T) × IsSomeAnd (declared_attr (in_force P T).attrs side attr) (λ d. IsTrue (admits d.kind v))
+IsLegal P T (write side name attr v) =
+    IsTrue (has_entity side name T) × IsSomeAnd (declared_attr (in_force P T).attrs side attr) (λ d. IsTrue (admits d.kind v))
 IsLegal P T (env name v) = IsSomeAnd (declared_env (in_force P T).envs name) (λ d. IsTrue (admits d.kind v))
 IsLegal P T (tick t) = tick_of T ≤ℤ t
 IsLegal P T (act s a o) =

@@ -1,5 +1,6 @@
 -- Legal runs: which answers the lines of a run may have.
-use Rattle.std.specs.Prelude.{◌≡◌, ℕ, ◌+◌, ◌-◌, ◌≤◌, Bool, true, false, IsTrue, nat_eq, nat_le, List, [], ◌∷◌, ◌++◌, length, take, map, count_by, if◌then◌else◌}
+use Rattle.std.specs.Prelude.{◌≡◌, ℕ, ◌+◌, ◌-◌, ◌≤◌, Bool, true, false, IsTrue, nat_eq, nat_le, List, [], ◌∷◌, ◌++◌, length, take, map, count_by}
+use Rattle.std.specs.Prelude.{if◌then◌else◌}
 use Rattle.std.specs.List.{list_any}
 use Rattle.ucon_base.specs.Elements.{Each}
 use Rattle.ucon_model.specs.declared.command.Caller.{Caller}
@@ -54,7 +55,7 @@ abbrev pub AreNumberedFrom : ℕ → List (ℕ × Entry) → Type 0
 AreNumberedFrom n [] = Unit {0}
 AreNumberedFrom n (x ∷ xs) = (x.0 ≡ n + 1) × AreNumberedFrom (n + 1) xs
 
--- how many entries a reply stands on: those before its place where it changes something, and those up to it where it doesn't
+-- how many entries a reply stands on: those before its place if it changes something, and those up to it if it doesn't
 abbrev pub stands_on : ℕ → PlainReply → ℕ
 stands_on place reply = if changes reply then place - 1 else place
 
@@ -101,16 +102,16 @@ pub record HaveCauses (P : PlainPolicy) (H : History) (told : List Answered) : T
   pub would_change : Each (λ t. IsTrue (is_disk_fault t.answer) → IsTrue (changes (said P H t.line.caller t.line.command))) told
   pub by_fault : IsTrue (list_any (λ t. is_stopped t.answer) told) → IsTrue (list_any (λ t. is_disk_fault t.answer) told)
 
--- The answers are a legal run after an opening history, where `sees` tells whose earlier answers a caller saw: the places of the changing
--- replies are those behind the opening history, each once; each reply is the serial run's at its place in the history that is made;
--- nobody is told less than before; and each fault has its cause.
+-- The answers are a legal run after an opening history. Here `sees` tells whose earlier answers a caller saw. The places of the changing replies
+-- are those behind the opening history, each once. Each reply is the serial run's at its place in the history that is made. Nobody is told less
+-- than before, and each fault has its cause.
 pub record IsLegalRun (P : PlainPolicy) (sees : Caller → Caller → Bool) (opening : History) (told : List Answered) : Type 0 where
   pub places : AreNumberedFrom (length opening) (by_place (recorded told))
   pub replies : Each (λ t. IsSaid P (length opening) (history_made opening told) t.line t.answer) told
   pub order : AreInOrder sees told
   pub causes : HaveCauses P (history_made opening told) told
 
--- everybody sees every earlier answer, as where one thread answers all lines in the order of the text
+-- everybody sees every earlier answer, as if one thread answered all lines in the order of the text
 abbrev pub in_text_order : Caller → Caller → Bool
 in_text_order earlier later = true
 
@@ -125,7 +126,7 @@ abbrev pub history_after : History → Entry → Answer → History
 history_after H line (placed place reply) = if changes reply then H ++ line ∷ [] else H
 history_after H line a = H
 
--- want of memory, or the serial run's reply at its place
+-- out of memory, or the serial run's reply at its place
 abbrev pub IsNext : PlainPolicy → History → Entry → Answer → Type 0
 IsNext P H line no_memory = Unit {0}
 IsNext P H line (placed place reply) =

@@ -15,7 +15,7 @@ same_phase phases.Pre phases.Pre = true
 same_phase phases.Ongoing phases.Ongoing = true
 same_phase a b = false
 
--- at most 16 predicates of each phase, and 16 updates
+-- at most 16 predicates of each phase, and 16 updates of each time
 pub record IsRightWithin (r : PlainRight) : Type 0 where
   pub preds : (phase : Phase) → count_by (λ p. same_phase phase p.phase) r.preds ≤ 16
   pub updates : (when : When) → count_by (λ u. same_when when u.when) r.updates ≤ 16
@@ -24,7 +24,7 @@ pub record IsRightWithin (r : PlainRight) : Type 0 where
 abbrev pub HasFewAttrs : PlainPolicy → Type 0
 HasFewAttrs p = (side : Side) → count_by (λ a. same_side side a.side) p.attrs ≤ 16
 
--- that, 32 variables and 64 rights
+-- at most 16 attributes of each side, 32 variables and 64 rights, each of which is within its limits
 pub record IsWithin (p : PlainPolicy) : Type 0 where
   pub attrs : HasFewAttrs p
   pub envs : length p.envs ≤ 32

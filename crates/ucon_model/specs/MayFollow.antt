@@ -1,5 +1,5 @@
--- Whether one policy may follow another while uses go on: an attribute of one side and name, and a variable of one name, that both
--- declare is of the same kind in both. Attributes and variables may be dropped and brought, defaults may change, and so may rights.
+-- Whether one policy may follow another while uses go on. Whatever both declare, an attribute of one side and name or a variable of one name, has
+-- to be of the same kind in both. Attributes and variables may be dropped and brought, defaults may change, and so may rights.
 use Rattle.std.specs.Prelude.{◌≡◌, Bool, true, false, ◌&&◌, not, List, find, Option, Some, None, option_map}
 use Rattle.std.specs.Option.{option_or}
 use Rattle.std.specs.Ordering.{int_eq}
@@ -17,7 +17,7 @@ same_kind kinds.Text kinds.Text = true
 same_kind kinds.Set kinds.Set = true
 same_kind k l = false
 
--- whether a kind is another than the declared one, where one is declared
+-- whether a kind is another than the declared one, if one is declared
 abbrev pub is_changed : Kind → Option Kind → Bool
 is_changed k None = false
 is_changed k (Some l) = not (same_kind k l)

@@ -5,7 +5,8 @@ use Rattle.ucon_base.specs.declared.value.Value.TheVariants.{Int, Text, Set}
 use Rattle.ucon_model.specs.declared.formula.Op.{Op}
 use Rattle.ucon_model.specs.declared.formula.Op.TheVariants.{Eq, Ne, Lt, Le, Gt, Ge, Member}
 use Rattle.ucon_model.specs.declared.formula.Ref.{Ref}
-use Rattle.ucon_model.specs.Plain.{PlainExpr, lit, read, plus, minus, times, size, PlainFormula, both, either, negation, compare, lasts, PlainTest, authorisation, duty, condition}
+use Rattle.ucon_model.specs.Plain.{PlainExpr, lit, read, plus, minus, times, size, PlainFormula, both, either, negation, compare, lasts, PlainTest}
+use Rattle.ucon_model.specs.Plain.{authorisation, duty, condition}
 use Rattle.ucon_model.specs.Truth.{value_of}
 
 abbrev pub are_integers : Value → Value → Bool

@@ -1,5 +1,6 @@
 -- The output of a run, and how its answers are read from it.
-use Rattle.std.specs.Prelude.{◌≡◌, ◌<◌, ◌^◌, false, ℕ, ◌==◌, List, [], ◌∷◌, ◌++◌, Option, Some, None, option_map, option_and_then, codes, if◌then◌else◌}
+use Rattle.std.specs.Prelude.{◌≡◌, ◌<◌, ◌^◌, false, ℕ, ◌==◌, List, [], ◌∷◌, ◌++◌, Option, Some, None, option_map, option_and_then, codes}
+use Rattle.std.specs.Prelude.{if◌then◌else◌}
 use Rattle.std.specs.Fmt.{decimal}
 use Rattle.std.specs.Str.{bytes_eq}
 use Rattle.std.specs.Str.Parse.{digits_value}
@@ -12,7 +13,7 @@ use Rattle.ucon_model.specs.Spelling.{reply_spelling}
 
 -- ---- what is written
 
--- the place, or `-` where there is none, a space, and the reply's text
+-- the place, or `-` if there is none, a space, and the reply's text
 abbrev pub answer_spelling : Answer → Bytes
 answer_spelling no_memory = codes "- no memory"
 answer_spelling disk_fault = codes "- disk fault"
@@ -63,7 +64,7 @@ placed_read text place = option_map (placed place) (reply_read text)
 abbrev pub answer_read : Bytes × Bytes → Option Answer
 answer_read p = if bytes_eq p.0 (codes "-") then unplaced_read p.1 else option_and_then (placed_read p.1) (number_read p.0)
 
--- the answer that a line of output tells, where it is this client's
+-- the answer that a line of output tells, if the line is this client's
 abbrev pub line_read : Entry → Bytes × Bytes → Option Answer
 line_read e p = if bytes_eq p.0 (decimal e.caller.0) then option_and_then answer_read (cut_at 32 p.1) else None
 
@@ -72,9 +73,10 @@ abbrev pub before_others : Entry → Option (List Answered) → Answer → Optio
 before_others e others a = option_map (λ told. record { line = e; answer = a } ∷ told) others
 
 -- The answers to these command lines, as they are read from an output: its lines are cut at the newlines, and each begins with its
--- client's number. None where it isn't such an output.
+-- client's number. None if it isn't such an output.
 abbrev pub answers_read : List Entry → Bytes → Option (List Answered)
 answers_read [] [] = Some []
 answers_read [] (b ∷ bs) = None
 answers_read (e ∷ lines) bytes =
-    option_and_then (λ p. option_and_then (before_others e (answers_read lines p.1)) (option_and_then (line_read e) (cut_at 32 p.0))) (cut_at 10 bytes)
+    option_and_then (λ p. option_and_then (before_others e (answers_read lines p.1)) (option_and_then (line_read e) (cut_at 32 p.0)))
+    (cut_at 10 bytes)

@@ -9,12 +9,15 @@ use Rattle.ucon_base.specs.declared.value.Value.{Value}
 use Rattle.ucon_base.specs.Admits.{admits}
 use Rattle.ucon_model.specs.declared.command.Caller.{Caller}
 use Rattle.ucon_model.specs.declared.command.Command.{Command}
-use Rattle.ucon_model.specs.declared.command.Command.TheVariants.{Subject, Object, Set, Env, Tick, Act, Try, Again, Beat, End, Look, Value as Value', Amend}
+use Rattle.ucon_model.specs.declared.command.Command.TheVariants.{Subject, Object, Set, Env, Tick, Act, Try, Again, Beat, End, Look, Value as Value'}
+use Rattle.ucon_model.specs.declared.command.Command.TheVariants.{Amend}
 use Rattle.ucon_model.specs.declared.policy.When.TheVariants.{Before, During, AfterEnd}
 use Rattle.ucon_model.specs.declared.reply.Head.{Head}
 use Rattle.ucon_model.specs.declared.reply.Head.TheVariants as heads
 use Rattle.ucon_model.specs.declared.reply.Refusal.{Refusal}
-use Rattle.ucon_model.specs.declared.reply.Refusal.TheVariants.{NotAdmin, NoRight, NoSubject, NoObject, NoAttribute, NoVariable, NoAct, NoSession, NotYours, NotAccessing, NotRequesting, AlreadyThere, BadValue, TickBack, KindChanged, FullSubjects, FullObjects, FullActs, FullSessions, FullAccessing}
+use Rattle.ucon_model.specs.declared.reply.Refusal.TheVariants.{NotAdmin, NoRight, NoSubject, NoObject, NoAttribute, NoVariable, NoAct, NoSession}
+use Rattle.ucon_model.specs.declared.reply.Refusal.TheVariants.{NotYours, NotAccessing, NotRequesting, AlreadyThere, BadValue, TickBack, KindChanged}
+use Rattle.ucon_model.specs.declared.reply.Refusal.TheVariants.{FullSubjects, FullObjects, FullActs, FullSessions, FullAccessing}
 use Rattle.ucon_model.specs.declared.session.SessionRow.{SessionRow}
 use Rattle.ucon_model.specs.declared.session.SessionState.{SessionState}
 use Rattle.ucon_model.specs.declared.session.SessionState.TheVariants.{Requesting}
@@ -22,7 +25,8 @@ use Rattle.ucon_model.specs.declared.session.Verdict.{Verdict}
 use Rattle.ucon_model.specs.declared.session.Verdict.TheVariants.{Permit, Deny, Wait}
 use Rattle.ucon_model.specs.Plain.{Bytes, PlainTest, duty, PlainRight, PlainPolicy, PlainReply, value_is, status}
 use Rattle.ucon_model.specs.Action.{Action, Trace, subject, object, write, env, tick, act, tries, wait, permit, deny, ends, amend}
-use Rattle.ucon_model.specs.Readings.{in_force, tick_of, has_entity, entities, attribute, declared_attr, declared_env, moment, session, sessions, is_accessing, accessing, acts}
+use Rattle.ucon_model.specs.Readings.{in_force, tick_of, has_entity, entities, attribute, declared_attr, declared_env, moment, session, sessions}
+use Rattle.ucon_model.specs.Readings.{is_accessing, accessing, acts}
 use Rattle.ucon_model.specs.Truth.{readings}
 use Rattle.ucon_model.specs.Decision.{right_named, verdict}
 use Rattle.ucon_model.specs.MayFollow.{changed_kind}
@@ -58,12 +62,12 @@ decide P T n = by_verdict P T n (verdict (in_force P T) (readings P T) n)
 abbrev pub is_admin : Caller → Bool
 is_admin caller = nat_eq caller.0 0
 
--- the refusal where an entity of a side is not there
+-- the refusal if an entity of a side is not there
 abbrev pub no_entity : Side → Refusal
 no_entity sides.Subject = NoSubject
 no_entity sides.Object = NoObject
 
--- the refusal where a side is full
+-- the refusal if a side is full
 abbrev pub full_entities : Side → Refusal
 full_entities sides.Subject = FullSubjects
 full_entities sides.Object = FullObjects
@@ -184,7 +188,7 @@ replace_policy P T caller text Q =
 
 -- ---- all commands
 
--- a command's own actions after a trace; each refusal is the first in its one order whose cause holds
+-- a command's own actions after a trace; a refusal is the first in the one order whose cause holds
 abbrev pub own : PlainPolicy → Trace → Caller → Command → Own
 own P T caller (Subject name) = add_entity T caller sides.Subject name
 own P T caller (Object name) = add_entity T caller sides.Object name

@@ -67,9 +67,9 @@ step_read reads place caller bytes = do
   reply ← ok_or (reply_read parts.1) (place + length parts.0 + 1)
   Ok (record { caller = caller; command = command; reply = reply })
 
--- The step that a payload tells, or the place of its first part that is none: 0 where the bytes up to the first space are no client's
--- number or there is no space; the place behind the space where the bytes from there to the first newline are no command line or there is
--- no newline; the place behind the newline where the rest is no reply's text.
+-- The step that a payload tells, or the place of its first part that is wrong. That place is 0 if there is no space, or the bytes up to the first
+-- one are no client's number. It is the place behind the space if no newline follows, or the bytes up to the first one are no command line. It is
+-- the place behind the newline if the rest is no reply's text.
 unfoldable pub payload_read : (Bytes → Option PlainPolicy) → Bytes → Result Told ℕ
 payload_read reads bytes = do
   parts ← ok_or (cut_at 32 bytes) 0

@@ -6,7 +6,8 @@ use Rattle.ucon_base.specs.declared.value.Side.{Side}
 use Rattle.ucon_base.specs.declared.value.Side.TheVariants as sides
 use Rattle.ucon_model.specs.declared.formula.Ref.{Ref}
 use Rattle.ucon_model.specs.declared.formula.Ref.TheVariants.{Subject, Object, Env}
-use Rattle.ucon_model.specs.Plain.{Bytes, PlainExpr, lit, read, plus, minus, times, size, PlainFormula, both, either, negation, compare, lasts, PlainTest, authorisation, duty, condition, PlainUpdate, PlainRight}
+use Rattle.ucon_model.specs.Plain.{Bytes, PlainExpr, lit, read, plus, minus, times, size, PlainFormula, both, either, negation, compare, lasts}
+use Rattle.ucon_model.specs.Plain.{PlainTest, authorisation, duty, condition, PlainUpdate, PlainRight}
 use Rattle.ucon_model.specs.Decision.{ongoing}
 
 -- the places that an expression reads

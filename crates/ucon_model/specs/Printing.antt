@@ -20,7 +20,8 @@ use Rattle.ucon_model.specs.declared.policy.Phase.{Phase}
 use Rattle.ucon_model.specs.declared.policy.Phase.TheVariants as phases
 use Rattle.ucon_model.specs.declared.policy.When.{When}
 use Rattle.ucon_model.specs.declared.policy.When.TheVariants as whens
-use Rattle.ucon_model.specs.Plain.{Bytes, PlainExpr, lit, read, plus, minus, times, size, PlainFormula, both, either, negation, compare, lasts, PlainTest, authorisation, duty, condition, PlainPredicate, PlainUpdate, PlainRight, PlainPolicy}
+use Rattle.ucon_model.specs.Plain.{Bytes, PlainExpr, lit, read, plus, minus, times, size, PlainFormula, both, either, negation, compare, lasts}
+use Rattle.ucon_model.specs.Plain.{PlainTest, authorisation, duty, condition, PlainPredicate, PlainUpdate, PlainRight, PlainPolicy}
 
 -- these bytes, if the test holds
 abbrev pub only_if : Bool → Bytes → Bytes
@@ -54,9 +55,12 @@ place_printing (refs.Env name) = codes "env." ++ name
 abbrev pub expr_printing : ℕ → PlainExpr → Bytes
 expr_printing least (lit v) = literal_printing v
 expr_printing least (read place) = place_printing place
-expr_printing least (plus a b) = only_if (nat_lt 0 least) (codes "(") ++ expr_printing 0 a ++ codes " + " ++ expr_printing 1 b ++ only_if (nat_lt 0 least) (codes ")")
-expr_printing least (minus a b) = only_if (nat_lt 0 least) (codes "(") ++ expr_printing 0 a ++ codes " - " ++ expr_printing 1 b ++ only_if (nat_lt 0 least) (codes ")")
-expr_printing least (times a b) = only_if (nat_lt 1 least) (codes "(") ++ expr_printing 1 a ++ codes " * " ++ expr_printing 2 b ++ only_if (nat_lt 1 least) (codes ")")
+expr_printing least (plus a b) =
+    only_if (nat_lt 0 least) (codes "(") ++ expr_printing 0 a ++ codes " + " ++ expr_printing 1 b ++ only_if (nat_lt 0 least) (codes ")")
+expr_printing least (minus a b) =
+    only_if (nat_lt 0 least) (codes "(") ++ expr_printing 0 a ++ codes " - " ++ expr_printing 1 b ++ only_if (nat_lt 0 least) (codes ")")
+expr_printing least (times a b) =
+    only_if (nat_lt 1 least) (codes "(") ++ expr_printing 1 a ++ codes " * " ++ expr_printing 2 b ++ only_if (nat_lt 1 least) (codes ")")
 expr_printing least (size a) = codes "size(" ++ expr_printing 0 a ++ codes ")"
 
 -- an operator, with a blank on each side
@@ -71,8 +75,10 @@ op_printing ops.Member = codes " in "
 
 -- A formula. Its place asks it to bind so strongly at the least: 0 lets an `or` stand there, 1 an `and`, 2 neither.
 abbrev pub formula_printing : ℕ → PlainFormula → Bytes
-formula_printing least (either f g) = only_if (nat_lt 0 least) (codes "[ ") ++ formula_printing 0 f ++ codes " or " ++ formula_printing 1 g ++ only_if (nat_lt 0 least) (codes " ]")
-formula_printing least (both f g) = only_if (nat_lt 1 least) (codes "[ ") ++ formula_printing 1 f ++ codes " and " ++ formula_printing 2 g ++ only_if (nat_lt 1 least) (codes " ]")
+formula_printing least (either f g) =
+    only_if (nat_lt 0 least) (codes "[ ") ++ formula_printing 0 f ++ codes " or " ++ formula_printing 1 g ++ only_if (nat_lt 0 least) (codes " ]")
+formula_printing least (both f g) =
+    only_if (nat_lt 1 least) (codes "[ ") ++ formula_printing 1 f ++ codes " and " ++ formula_printing 2 g ++ only_if (nat_lt 1 least) (codes " ]")
 formula_printing least (negation f) = codes "not " ++ formula_printing 2 f
 formula_printing least (compare op a b) = expr_printing 0 a ++ op_printing op ++ expr_printing 0 b
 formula_printing least (lasts n) = codes "lasts " ++ signed_decimal n
@@ -138,7 +144,9 @@ update_printing u = when_printing u.when ++ side_word u.side ++ codes "." ++ u.a
 -- ---- rights and policies
 
 abbrev pub right_printing : PlainRight → Bytes
-right_printing r = codes "right " ++ r.name ++ codes " {" ++ 10 ∷ [] ++ flat_map predicate_printing r.preds ++ flat_map update_printing r.updates ++ codes "}" ++ 10 ∷ []
+right_printing r =
+    codes "right " ++ r.name ++ codes " {" ++ 10 ∷ []
+    ++ flat_map predicate_printing r.preds ++ flat_map update_printing r.updates ++ codes "}" ++ 10 ∷ []
 
 -- the text of a policy, its items in the order of its lists
 abbrev pub policy_printing : PlainPolicy → Bytes

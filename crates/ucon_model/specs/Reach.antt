@@ -14,7 +14,8 @@ use Rattle.ucon_model.specs.declared.formula.Ref.{Ref}
 use Rattle.ucon_model.specs.declared.formula.Ref.TheVariants.{Subject, Object, Env}
 use Rattle.ucon_model.specs.declared.policy.When.{When}
 use Rattle.ucon_model.specs.declared.session.SessionRow.{SessionRow}
-use Rattle.ucon_model.specs.Plain.{Bytes, PlainFormula, both, either, negation, compare, lasts, PlainTest, authorisation, duty, condition, PlainUpdate, PlainRight, PlainPolicy}
+use Rattle.ucon_model.specs.Plain.{Bytes, PlainFormula, both, either, negation, compare, lasts, PlainTest, authorisation, duty, condition}
+use Rattle.ucon_model.specs.Plain.{PlainUpdate, PlainRight, PlainPolicy}
 use Rattle.ucon_model.specs.Action.{Action, Trace, subject, object, write, env, tick, act, tries, permit, deny, ends, revoke, amend}
 use Rattle.ucon_model.specs.Readings.{in_force, same_side, attribute, variable, session}
 use Rattle.ucon_model.specs.Truth.{Readings, is_done}
@@ -52,11 +53,11 @@ abbrev pub timed_truth : Readings → SessionRow → Timed → Bool
 timed_truth R row (lasting n) = int_le R.now (row.start +ℤ n)
 timed_truth R row (owed o) = is_done R row o
 
--- the places that a session's right reads during the usage; none where the policy doesn't have the right
+-- the places that a session's right reads during the usage; none if the policy doesn't have the right
 abbrev pub places_of : PlainPolicy → SessionRow → List Ref
 places_of Q row = option_map_or places_read (right_named Q.rights row.right) []
 
--- the timed parts of a session's right; none where the policy doesn't have the right
+-- the timed parts of a session's right; none if the policy doesn't have the right
 abbrev pub timed_of : PlainPolicy → SessionRow → List Timed
 timed_of Q row = option_map_or right_timed (right_named Q.rights row.right) []
 
@@ -64,8 +65,8 @@ timed_of Q row = option_map_or right_timed (right_named Q.rights row.right) []
 abbrev pub HoldTheSame : Readings → SessionRow → Readings → SessionRow → List Ref → Type 0
 HoldTheSame R row S other places = Each (λ place. R.at row place ≡ S.at other place) places
 
--- Two sessions, or one at two times, that read alike during their usages under a policy: their right is one, and each place and each timed
--- part of it says the same for both.
+-- Two sessions, or one at two times, read alike during their usages under a policy. Their right is one, and each place and each timed part of it
+-- says the same for both.
 pub record ReadAlike (Q : PlainPolicy) (R : Readings) (row : SessionRow) (S : Readings) (other : SessionRow) : Type 0 where
   pub right : row.right ≡ other.right
   pub places : HoldTheSame R row S other (places_of Q row)
@@ -132,7 +133,7 @@ alters (subject n) (attribute_of sides.Subject name attr) = bytes_eq name n
 alters (object n) (attribute_of sides.Object name attr) = bytes_eq name n
 alters a location = replaces a
 
--- whether the tick decides over an obligation: not where it is met once and for all
+-- whether the tick decides over an obligation: not if it is met once and for all
 abbrev pub is_ticking : Form → Bool
 is_ticking Done = false
 is_ticking (Within n) = true

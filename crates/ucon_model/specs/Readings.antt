@@ -1,5 +1,6 @@
 -- What can be read off a trace, by looking back through it. No current state is kept.
-use Rattle.std.specs.Prelude.{ℕ, suc, zero, ℤ, pos, ◌+◌, Bool, true, false, ◌&&◌, ◌||◌, nat_eq, ◌++◌, List, [], ◌∷◌, filter, find, position, Option, Some, None, option_map, is_none, is_some, if◌then◌else◌}
+use Rattle.std.specs.Prelude.{ℕ, suc, zero, ℤ, pos, ◌+◌, Bool, true, false, ◌&&◌, ◌||◌, nat_eq, ◌++◌, List, [], ◌∷◌, filter, find, position, Option}
+use Rattle.std.specs.Prelude.{Some, None, option_map, is_none, is_some, if◌then◌else◌}
 use Rattle.std.specs.Str.{bytes_eq}
 use Rattle.ucon_base.specs.declared.value.Side.{Side}
 use Rattle.ucon_base.specs.declared.value.Side.TheVariants.{Subject, Object}
@@ -80,11 +81,11 @@ attr_position P side attr = position (λ d. bytes_eq attr d.name) (attrs_of P si
 abbrev pub env_position : PlainPolicy → Bytes → Option ℕ
 env_position P name = position (λ d. bytes_eq name d.name) P.envs
 
--- the default of an attribute, where the policy declares it
+-- the default of an attribute, if the policy declares it
 abbrev pub attr_default : PlainPolicy → Side → Bytes → Option Value
 attr_default P side attr = option_map (λ d. d.start) (declared_attr P.attrs side attr)
 
--- the default of a variable, where the policy declares it
+-- the default of a variable, if the policy declares it
 abbrev pub env_default : PlainPolicy → Bytes → Option Value
 env_default P name = option_map (λ d. d.start) (declared_env P.envs name)
 
@@ -100,7 +101,7 @@ given_attr P side e attr (amend text Q ∷ T) =
     if is_some (declared_attr (in_force P T).attrs side attr) then given_attr P side e attr T else attr_default Q side attr
 given_attr P side e attr (a ∷ T) = given_attr P side e attr T
 
--- an attribute of an entity that is there, where the policy in force declares it
+-- an attribute of an entity that is there, if the policy in force declares it
 abbrev pub attribute : PlainPolicy → Trace → Side → Bytes → Bytes → Option Value
 attribute P T side e attr =
     if has_entity side e T && is_some (declared_attr (in_force P T).attrs side attr) then given_attr P side e attr T else None
@@ -114,7 +115,7 @@ given_env P name (amend text Q ∷ T) =
     if is_some (declared_env (in_force P T).envs name) then given_env P name T else env_default Q name
 given_env P name (a ∷ T) = given_env P name T
 
--- a variable, where the policy in force declares it
+-- a variable, if the policy in force declares it
 abbrev pub variable : PlainPolicy → Trace → Bytes → Option Value
 variable P T name = if is_some (declared_env (in_force P T).envs name) then given_env P name T else None
 
@@ -140,7 +141,7 @@ acts (b ∷ T) = acts T
 
 -- ---- sessions
 
--- the row with a change, where the action names its session
+-- the row with a change, if the action names its session
 abbrev pub changed_if : Bool → (SessionRow → SessionRow) → Option SessionRow → Option SessionRow
 changed_if same change row = if same then option_map change row else row
 

@@ -1,5 +1,6 @@
 -- Which replies there are, and which bytes are the text of one.
-use Rattle.std.specs.Prelude.{◌≡◌, ℕ, ◌<◌, ◌^◌, Bool, ◌||◌, IsTrue, ⊤, nat_eq, List, [], ◌∷◌, find, Option, Some, None, option_map, option_and_then, codes, if◌then◌else◌}
+use Rattle.std.specs.Prelude.{◌≡◌, ℕ, ◌<◌, ◌^◌, Bool, ◌||◌, IsTrue, ⊤, nat_eq, List, [], ◌∷◌, find, Option, Some, None, option_map, option_and_then}
+use Rattle.std.specs.Prelude.{codes, if◌then◌else◌}
 use Rattle.std.specs.List.{starts_with}
 use Rattle.std.specs.Str.{bytes_eq}
 use Rattle.ucon_base.specs.NameBytes.{is_name}
@@ -7,7 +8,9 @@ use Rattle.ucon_base.specs.Spelling.{IsValue}
 use Rattle.ucon_model.specs.declared.reply.Head.{Head}
 use Rattle.ucon_model.specs.declared.reply.Head.TheVariants as heads
 use Rattle.ucon_model.specs.declared.reply.Refusal.{Refusal}
-use Rattle.ucon_model.specs.declared.reply.Refusal.TheVariants.{NotAdmin, NoRight, NoSubject, NoObject, NoAttribute, NoVariable, NoAct, NoSession, NotYours, NotAccessing, NotRequesting, AlreadyThere, BadValue, TickBack, KindChanged, FullSubjects, FullObjects, FullActs, FullSessions, FullAccessing}
+use Rattle.ucon_model.specs.declared.reply.Refusal.TheVariants.{NotAdmin, NoRight, NoSubject, NoObject, NoAttribute, NoVariable, NoAct, NoSession}
+use Rattle.ucon_model.specs.declared.reply.Refusal.TheVariants.{NotYours, NotAccessing, NotRequesting, AlreadyThere, BadValue, TickBack, KindChanged}
+use Rattle.ucon_model.specs.declared.reply.Refusal.TheVariants.{FullSubjects, FullObjects, FullActs, FullSessions, FullAccessing}
 use Rattle.ucon_model.specs.declared.reply.Revoked.{Revoked}
 use Rattle.ucon_model.specs.declared.session.SessionState.{SessionState}
 use Rattle.ucon_model.specs.declared.session.SessionState.TheVariants as states
@@ -54,7 +57,8 @@ o >>= f = option_and_then f o
 -- all refusals
 abbrev pub refusals : List Refusal
 refusals =
-    NotAdmin ∷ NoRight ∷ NoSubject ∷ NoObject ∷ NoAttribute ∷ NoVariable ∷ NoAct ∷ NoSession ∷ NotYours ∷ NotAccessing ∷ NotRequesting ∷ AlreadyThere ∷ BadValue ∷ TickBack
+    NotAdmin ∷ NoRight ∷ NoSubject ∷ NoObject ∷ NoAttribute ∷ NoVariable ∷ NoAct ∷ NoSession
+    ∷ NotYours ∷ NotAccessing ∷ NotRequesting ∷ AlreadyThere ∷ BadValue ∷ TickBack
     ∷ KindChanged ∷ FullSubjects ∷ FullObjects ∷ FullActs ∷ FullSessions ∷ FullAccessing ∷ []
 
 -- the refusal of this text

@@ -37,7 +37,7 @@ settle_within (suc turns) P T =
 abbrev pub settled_to : ℕ → PlainPolicy → Trace → Trace
 settled_to turns P T = extended T (settle_within turns P T)
 
--- Nothing where no accessing session fails; else the least that fails is revoked, its updates run, and what is left is settled. Each
+-- Nothing if no accessing session fails; else the least that fails is revoked, its updates run, and what is left is settled. Each
 -- turn leaves one accessing session fewer, so there are no more turns than accessing sessions.
 abbrev pub settle : PlainPolicy → Trace → List Action
 settle P T = settle_within (accessing T) P T

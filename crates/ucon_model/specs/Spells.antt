@@ -108,6 +108,6 @@ pub record IsOverlong (text : Bytes) (fault : TextFault) (place : ℕ) : Type 0 
   pub cause : fault ≡ overlong
   pub placed : place ≡ 65536
 
--- the first fault of a text, at its place: that it has more than 65,536 bytes before all else
+-- the first fault of a text, at its place; more than 65,536 bytes come before all else
 abbrev pub IsTextFault : Bytes → TextFault → ℕ → Type 0
 IsTextFault text fault place = IsOverlong text fault place ⊎ FaultWithin text fault place

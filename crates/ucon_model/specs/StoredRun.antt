@@ -17,8 +17,8 @@ pub record BreaksOff (P : PlainPolicy) (H : History) (t : Answered) (behind : Li
   pub would_change : IsTrue (changes (said P H t.line.caller t.line.command))
   pub stops : Each (λ later. later.answer ≡ stopped) behind
 
--- Answers in text order lead from a history to a history: each is the next after those before it, up to the line that met a disk fault, if
--- one did.
+-- Answers in text order lead from a history to a history. Each is the next after those before it, up to the line that met a disk fault, if one
+-- did.
 abbrev pub LeadsTo : PlainPolicy → History → List Answered → History → Option Entry → Type 0
 LeadsTo P G [] H failed = (H ≡ G) × (failed ≡ None)
 LeadsTo P G (t ∷ told) H failed =

@@ -10,7 +10,7 @@ use Rattle.ucon_model.specs.LegalRun.{Answer, Answered, no_memory, placed}
 
 -- ---- replies
 
--- a command line with its reply and the reply's place; none where there was no memory
+-- a command line with its reply and the reply's place; none if there was no memory
 pub record LineReply : Type 0 where
   pub line : Entry
   pub reply : Option (ℕ × PlainReply)
@@ -74,7 +74,7 @@ with_reply (made head revoked) n = with_head head (record n { steps = n.steps + 
 with_reply (value_is v) n = n
 with_reply (status session state) n = n
 
--- one line more; where there was no memory it is counted as a line alone
+-- one line more; if there was no memory it is counted as a line alone
 abbrev pub with_line : Option (ℕ × PlainReply) → Counts → Counts
 with_line None n = record n { lines = n.lines + 1 }
 with_line (Some r) n = with_reply r.1 (record n { lines = n.lines + 1 })

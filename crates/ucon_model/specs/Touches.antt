@@ -13,7 +13,7 @@ use Rattle.ucon_model.specs.Work.{Work}
 
 -- ---- touches
 
--- how often an action after a trace touches an accessing session: a write once where its right reads what is written; a tick once for each
+-- how often an action after a trace touches an accessing session: a write once if its right reads what is written; a tick once for each
 -- of its timed parts of which it passes a deadline; an amendment once
 abbrev pub touches_row : PlainPolicy → Trace → Action → SessionRow → ℕ
 touches_row P T (write side name attr v) row = if reads_at (in_force P T) row (attribute_of side name attr) then 1 else 0

@@ -12,7 +12,8 @@ use Rattle.ucon_model.specs.declared.formula.Form.{Form}
 use Rattle.ucon_model.specs.declared.formula.Form.TheVariants.{Done, Within, Every}
 use Rattle.ucon_model.specs.declared.formula.Obligation.{Obligation}
 use Rattle.ucon_model.specs.declared.session.SessionRow.{SessionRow}
-use Rattle.ucon_model.specs.Plain.{Bytes, PlainExpr, lit, read, plus, minus, times, size, PlainFormula, both, either, negation, compare, lasts, PlainTest, authorisation, duty, condition, PlainPolicy}
+use Rattle.ucon_model.specs.Plain.{Bytes, PlainExpr, lit, read, plus, minus, times, size, PlainFormula, both, either, negation, compare, lasts}
+use Rattle.ucon_model.specs.Plain.{PlainTest, authorisation, duty, condition, PlainPolicy}
 use Rattle.ucon_base.specs.Arithmetic.{sum_of, difference_of, product_of, size_of}
 use Rattle.ucon_model.specs.Comparison.{compares}
 use Rattle.ucon_model.specs.Action.{Trace}
@@ -56,7 +57,7 @@ holds R row (negation f) = not (holds R row f)
 holds R row (compare op a b) = compares op (value_of (R.at row) a) (value_of (R.at row) b)
 holds R row (lasts n) = int_le R.now (row.start +ℤ n)
 
--- Whether an act is done in time, by the moment at which it was last done: once; within n ticks; or, where it recurs, within n ticks
+-- Whether an act is done in time, by the moment at which it was last done: once; within n ticks; or, if it recurs, within n ticks
 -- of the later of the session's start and that moment. These sums are plain and not clamped.
 abbrev pub in_time : ℤ → ℤ → Form → Option ℤ → Bool
 in_time now start Done last = is_some last

@@ -1,5 +1,6 @@
--- When a policy is well typed, and its first fault where it isn't.
-use Rattle.std.specs.Prelude.{ℕ, ◌+◌, ◌<◌, ◌≤◌, int_le, nat_lt, Bool, true, false, ◌&&◌, ◌||◌, not, List, [], ◌∷◌, ◌++◌, length, find, codes, Option, Some, None, is_some, is_none, option_map, IsTrue, if◌then◌else◌}
+-- When a policy is well typed, and its first fault if it isn't.
+use Rattle.std.specs.Prelude.{ℕ, ◌+◌, ◌<◌, ◌≤◌, int_le, nat_lt, Bool, true, false, ◌&&◌, ◌||◌, not, List, [], ◌∷◌, ◌++◌, length, find, codes, Option}
+use Rattle.std.specs.Prelude.{Some, None, is_some, is_none, option_map, IsTrue, if◌then◌else◌}
 use Rattle.std.specs.Option.{option_or}
 use Rattle.std.specs.List.{list_any}
 use Rattle.std.specs.Str.{bytes_eq}
@@ -19,7 +20,8 @@ use Rattle.ucon_model.specs.declared.formula.Form.{Form}
 use Rattle.ucon_model.specs.declared.formula.Form.TheVariants.{Every}
 use Rattle.ucon_model.specs.declared.policy.AttrDecl.{AttrDecl}
 use Rattle.ucon_model.specs.declared.policy.EnvDecl.{EnvDecl}
-use Rattle.ucon_model.specs.Plain.{Bytes, PlainExpr, lit, read, plus, minus, times, size, PlainFormula, both, either, negation, compare, lasts, PlainTest, authorisation, duty, condition, PlainPredicate, PlainUpdate, PlainRight, PlainPolicy}
+use Rattle.ucon_model.specs.Plain.{Bytes, PlainExpr, lit, read, plus, minus, times, size, PlainFormula, both, either, negation, compare, lasts}
+use Rattle.ucon_model.specs.Plain.{PlainTest, authorisation, duty, condition, PlainPredicate, PlainUpdate, PlainRight, PlainPolicy}
 use Rattle.ucon_model.specs.Readings.{declared_attr, declared_env}
 use Rattle.ucon_model.specs.Decision.{right_named, ongoing}
 use Rattle.ucon_model.specs.Places.{formula_places, test_places, attr_place, update_places, places_read}
@@ -138,7 +140,7 @@ product_sort k l = if is_of Integer k && is_of Integer l then Some Integer else 
 abbrev pub size_sort : Option Sort → Option Sort
 size_sort k = if is_of Set k then Some Integer else None
 
--- the sort of an expression, in an update or in a predicate; none where it isn't typed
+-- the sort of an expression, in an update or in a predicate; none if it isn't typed
 abbrev pub expr_sort : PlainPolicy → Bool → PlainExpr → Option Sort
 expr_sort P in_update (lit v) = Some (value_sort v)
 expr_sort P in_update (read place) = place_sort P place
@@ -220,7 +222,7 @@ update_fault P before n u =
 
 -- ---- the first fault
 
--- The first fault of these, behind those before them, from item n on. Each is asked with those before it, and counts as so many items.
+-- The first fault of these, behind those before them, from item n on. Each is judged with those before it, and counts as so many items.
 abbrev pub first_fault_of : {T : Type 0} → (T → ℕ) → (List T → ℕ → T → Option TypeFault) → List T → ℕ → List T → Option TypeFault
 first_fault_of items fault before n [] = None
 first_fault_of items fault before n (x ∷ xs) = option_or (fault before n x) (first_fault_of items fault (before ++ x ∷ []) (n + items x) xs)
@@ -247,7 +249,7 @@ right_fault P before n r =
     (option_or (first_fault_of one_item (update_fault P) [] (n + 1 + length r.preds) r.updates)
     (whole_fault r)))
 
--- a policy's first fault; none where it is well typed
+-- a policy's first fault; none if it is well typed
 unfoldable pub type_fault : PlainPolicy → Option TypeFault
 type_fault P =
     option_or (first_fault_of one_item attr_fault [] 1 P.attrs)

@@ -33,7 +33,7 @@ abbrev pub fitted_to : Option AttrDecl → Value → Value
 fitted_to None v = v
 fitted_to (Some d) v = fitted d.kind v
 
--- an update's result after a trace: its expression's value, clamped to the declared range where the attribute is an integer
+-- an update's result after a trace: its expression's value, clamped to the declared range if the attribute is an integer
 abbrev pub result : PlainPolicy → Trace → SessionRow → PlainUpdate → Value
 result P T row u = fitted_to (declared_attr (in_force P T).attrs u.side u.attr) (value_of ((readings P T).at row) u.value)
 
@@ -47,7 +47,7 @@ writes P row when [] T = []
 writes P row when (u ∷ us) T =
     if same_when when u.when then followed_by (write_of P row u T ∷ []) (writes P row when us) T else writes P row when us T
 
--- the updates of a session's right in a policy; none where it is not there
+-- the updates of a session's right in a policy; none if it is not there
 abbrev pub updates_of : PlainPolicy → SessionRow → List PlainUpdate
 updates_of P row = option_map_or (λ right. right.updates) (right_named P.rights row.right) []
 

@@ -10,7 +10,7 @@ abbrev pub going_on : Option SessionRow → Option SessionRow
 going_on None = None
 going_on (Some row) = if is_accessing_state row.state then Some row else None
 
--- The head tells of session n, before and after: its usage begins where it is permitted, is over where it is ended, and else is as it was.
+-- The head tells of session n, before and after. Its usage begins if it is permitted, is over if it is ended, and is otherwise as it was.
 pub record IsUsageTold (head : Head) (n : ℕ) (old new : Option SessionRow) : Type 0 where
   pub begun : head ≡ heads.Permitted n → (going_on old ≡ None) × IsSome (going_on new)
   pub over : head ≡ heads.Ended n → going_on new ≡ None

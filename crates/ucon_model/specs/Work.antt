@@ -68,7 +68,7 @@ concerned P T actions n = list_any (permits n) actions || reached P T actions n
 abbrev pub work_after : PlainPolicy → Trace → Work → ℕ → Work
 work_after P T work n = without n (joined work (readers P T (session_targets P T n AfterRevoke)))
 
--- Working off: the least member is taken; where it doesn't fail it is left out; where it does it is revoked, its updates run, and who
+-- Working off: the least member is taken; if it doesn't fail it is left out; if it does it is revoked, its updates run, and who
 -- reads what they wrote comes in. More may come in than has to.
 pub data WorksOff (P : PlainPolicy) : Trace → Work → List Action → Type 0 where
   done : {T : Trace} {work : Work} → IsEmpty work → WorksOff P T work []
@@ -80,9 +80,9 @@ pub data WorksOff (P : PlainPolicy) : Trace → Work → List Action → Type 0 
 
 -- ---- after a command's own actions
 
--- The work after a command's own actions, where nobody failed before them, by the head of its reply: who reads where they write, who is
--- permitted, and of whom the tick passed a limit. An amendment concerns everybody. An act makes nobody fail, and nobody reads of an entity
--- that is new.
+-- The work after a command's own actions, by the head of its reply, if nobody failed before them. It has who reads where they write, who is
+-- permitted, and of whom the tick passed a limit. An amendment concerns everybody. An act makes nobody fail, and nobody reads of an entity that is
+-- new.
 abbrev pub own_work : PlainPolicy → Trace → Caller → Command → Head → Work
 own_work P T caller (Set side name attr v) head = readers P T (attribute_of side name attr ∷ [])
 own_work P T caller (Env name v) head = readers P T (variable_of name ∷ [])

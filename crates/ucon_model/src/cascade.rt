@@ -17,7 +17,8 @@ ghost use Rattle.ucon_model.specs.Groups.{AreLike, FirstsCover, IsExact, IsLed, 
 ghost use Rattle.ucon_model.specs.History.{History, trace};
 ghost use Rattle.ucon_model.specs.OwnActions.{make, own};
 ghost use Rattle.ucon_model.specs.Plain.{Bytes, PlainPolicy, made};
-ghost use Rattle.ucon_model.specs.Reach.{HoldTheSame, Location, ReadAlike, Timed, kept_at, places_of, reads_at, readers, same_location, session_targets, timed_of, timed_truth};
+ghost use Rattle.ucon_model.specs.Reach.{HoldTheSame, Location, ReadAlike, Timed, kept_at, places_of, reads_at, readers, same_location};
+ghost use Rattle.ucon_model.specs.Reach.{session_targets, timed_of, timed_truth};
 ghost use Rattle.ucon_model.specs.Reach.{alters, moves, names, permits, reached, reaches, replaces};
 ghost use Rattle.ucon_model.specs.Readings.{accessing, in_force, is_accessing, session, tick_of};
 ghost use Rattle.ucon_model.specs.Settle.{fails_at, least_failing, revocation, revoked_in, settle};
@@ -25,10 +26,11 @@ ghost use Rattle.ucon_model.specs.Sound.{IsGrounded, IsNumbered, IsTimely};
 ghost use Rattle.ucon_model.specs.Touches.{IsPaid, IsThrifty, sum_to, touches_by};
 ghost use Rattle.ucon_model.specs.Truth.{Readings, readings};
 ghost use Rattle.ucon_model.specs.Updates.{session_writes};
-ghost use Rattle.ucon_model.specs.Work.{Covers, IsBounded, IsEmpty, IsLeastOf, IsWithin, NobodyFails, Work, WorksOff, concerned, joined, own_work, without, work_after};
+ghost use Rattle.ucon_model.specs.Work.{Covers, IsBounded, IsEmpty, IsLeastOf, IsWithin, NobodyFails, Work, WorksOff, concerned, joined, own_work};
+ghost use Rattle.ucon_model.specs.Work.{without, work_after};
 
-/// A decision during the usage reads the places of its right and its timed parts, and nothing else: under one policy, sessions that read
-/// alike fail alike, and so does one session at two times. Where the right has no timed part, the places are enough.
+/// A decision during the usage reads the places of its right and its timed parts, and nothing else. Under one policy, sessions that read alike
+/// fail alike, and so does one session at two times. If the right has no timed part, the places are enough.
 pub fn decisions_read_their_places()
     ensures rows { (Q : PlainPolicy) (R : Readings) (row : SessionRow) (S : Readings) (other : SessionRow) → ReadAlike Q R row S other
         → failing_of Q R row ≡ failing_of Q S other }
@@ -49,8 +51,8 @@ pub fn updates_write_their_targets()
         → session (extended T (session_writes P m when T)) n ≡ session T n }
 {}
 
-/// An action leaves the rest: the policy in force where it doesn't replace it, the value that is kept where it alters nothing, a timed part
-/// that it doesn't move, and a session that it doesn't name.
+/// An action leaves the rest. The policy in force stays if the action doesn't replace it, and a kept value if the action alters nothing there. A
+/// timed part stays if the action doesn't move it, and a session if it doesn't name it.
 pub fn actions_leave_the_rest()
     ensures policy { (P : PlainPolicy) (T : Trace) (a : Action) → replaces a ≡ false → in_force P (a ∷ T) ≡ in_force P T }
     ensures values { (P : PlainPolicy) (T : Trace) (a : Action) (location : Location) → alters a location ≡ false
@@ -69,14 +71,14 @@ pub fn unreached_sessions_fail_as_before()
         → reached P T actions n ≡ false → fails_at P (extended T actions) n ≡ Some label → fails_at P T n ≡ Some label }
 {}
 
-/// Settling goes turn by turn: the least that fails is revoked, and what is left is settled; where nobody is found it is over.
+/// Settling goes turn by turn: the least that fails is revoked, and what is left is settled; if nobody is found it is over.
 pub fn settling_goes_turn_by_turn()
     ensures over { (P : PlainPolicy) (T : Trace) → least_failing P T ≡ None → settle P T ≡ [] }
     ensures turn { (P : PlainPolicy) (T : Trace) (f : ℕ × Bytes) → least_failing P T ≡ Some f
         → settle P T ≡ revocation P T f ++ settle P (extended T (revocation P T f)) }
 {}
 
-/// Where sessions are numbered, nobody fails after settling; and settling revokes no more than were accessing.
+/// If sessions are numbered, nobody fails after settling; and settling revokes no more than were accessing.
 pub fn nobody_fails_after_settling()
     ensures nobody { (P : PlainPolicy) (T : Trace) (n : ℕ) → IsNumbered T → fails_at P (extended T (settle P T)) n ≡ None }
     ensures revoked { (P : PlainPolicy) (T : Trace) → length (revoked_in (settle P T)) ≤ accessing T }
@@ -94,20 +96,20 @@ pub fn work_goes_on_covering()
         → Covers P (extended T (revocation P T f)) (work_after P T work f.0) }
 {}
 
-/// Where nobody fails, those whom actions concern are all the work after them.
+/// If nobody fails, those whom actions concern are all the work after them.
 pub fn work_begins_with_the_concerned()
     ensures { (P : PlainPolicy) (T : Trace) (actions : List Action) → NobodyFails P T
         → Covers P (extended T actions) (concerned P T actions) }
 {}
 
-/// Of work that covers, the least member, if it fails, is the least session that fails; and where there is no work, none fails.
+/// Of work that covers, the least member, if it fails, is the least session that fails; and if there is no work, none fails.
 pub fn covering_work_has_the_least()
     ensures least { (P : PlainPolicy) (T : Trace) (work : Work) (f : ℕ × Bytes) → IsNumbered T → Covers P T work → IsLeastOf work f.0
         → fails_at P T f.0 ≡ Some f.1 → least_failing P T ≡ Some f }
     ensures empty { (P : PlainPolicy) (T : Trace) (work : Work) → Covers P T work → IsEmpty work → least_failing P T ≡ None }
 {}
 
-/// Working off work that covers is settling; and it ends, where the work is bounded.
+/// Working off work that covers is settling; and it ends, if the work is bounded.
 pub fn working_off_is_settling()
     ensures settles { (P : PlainPolicy) (T : Trace) (work : Work) (actions : List Action) → WorksOff P T work actions → IsNumbered T
         → Covers P T work → actions ≡ settle P T }
@@ -123,21 +125,21 @@ pub fn writes_reach_their_readers()
         → concerned P T (revocation P T f) n ≡ readers P T (session_targets P T f.0 AfterRevoke) n }
 {}
 
-/// Where nobody fails, the work after a command's own actions is read off the command and the reply's head.
+/// If nobody fails, the work after a command's own actions is read off the command and the reply's head.
 pub fn own_work_is_read_off()
     ensures { (P : PlainPolicy) (T : Trace) (caller : Caller) (c : Command) (head : Head) (actions : List Action)
         → ((n : ℕ) → IsGrounded T (session T n)) → IsTimely T → NobodyFails P T → own P T caller c ≡ make head actions
         → Covers P (extended T actions) (own_work P T caller c head) }
 {}
 
-/// After every history no act was done after the tick; and where that is so, an act makes no session fail.
+/// After every history no act was done after the tick; and if that is so, an act makes no session fail.
 pub fn acts_make_nobody_fail()
     ensures timely { (P : PlainPolicy) (H : History) → IsTimely (trace P H) }
     ensures none { (P : PlainPolicy) (T : Trace) (s a o : Bytes) (n : ℕ) → IsTimely T → fails_at P T n ≡ None
         → fails_at P (act s a o ∷ T) n ≡ None }
 {}
 
-/// A tick changes a timed part only where it passes its limit, and so whether a session fails only where it passes one of its limits.
+/// A tick changes a timed part only if it passes its limit, and so whether a session fails only if it passes one of its limits.
 pub fn ticks_change_at_limits()
     ensures parts { (P : PlainPolicy) (T : Trace) (t : ℤ) (row : SessionRow) (part : Timed) → tick_of T ≤ℤ t
         → passes (tick_of T) t (limit_of (readings P T) row part) ≡ false
@@ -155,7 +157,7 @@ pub fn one_judgement_serves_all_alike()
         → reads_at Q row location ≡ reads_at Q other location }
 {}
 
-/// Where the index is exact, an accessing session reads at one of these locations exactly where the leader of its list stands at one.
+/// If the index is exact, an accessing session reads at one of these locations exactly if the leader of its list stands at one.
 pub fn the_index_names_the_readers()
     ensures { (P : PlainPolicy) (T : Trace) (leader : ℕ → ℕ) (stands : ℕ → Location → Bool) (locations : List Location) (n : ℕ)
         → IsExact P T leader stands → is_accessing (session T n) ≡ true
@@ -173,7 +175,7 @@ pub fn firsts_go_on_covering()
         → FirstsCover P (extended T (revocation P T f)) new_first next }
 {}
 
-/// Where the firsts of lists cover, the least of the work, if it fails, is the least session that fails; and where there is no work,
+/// If the firsts of lists cover, the least of the work, if it fails, is the least session that fails; and if there is no work,
 /// none fails.
 pub fn firsts_have_the_least()
     ensures least { (P : PlainPolicy) (T : Trace) (first : ℕ → ℕ) (work : Work) (f : ℕ × Bytes) → IsNumbered T → IsLed P T first
@@ -182,8 +184,8 @@ pub fn firsts_have_the_least()
         → IsEmpty work → least_failing P T ≡ None }
 {}
 
-/// The loop over the firsts: it begins with work that covers, a first that holds is left out, one that fails is revoked, and where there
-/// is no work left, what was made is the settling.
+/// The loop over the firsts comes to the settling. It begins with work that covers. A first that holds is left out, and one that fails is revoked.
+/// If there is no work left, what was made is the settling.
 pub fn working_off_firsts_is_settling()
     ensures begins { (P : PlainPolicy) (T : Trace) (first : ℕ → ℕ) (work : Work) → IsNumbered T → IsLed P T first
         → FirstsCover P T first work → IsUnderway P T [] T first work }

@@ -58,7 +58,7 @@ pub fn revocations_are_few()
 {}
 
 /// Behind a sound trace after which at most 65,536 sessions are accessing, as few are after every history, and a reply has at most 65,536
-/// revocations. So where a state is taken up, nothing need be known of how it came about.
+/// revocations. So if a state is taken up, nothing need be known of how it came about.
 pub fn usages_stay_few()
     ensures usages { (P : PlainPolicy) (T : Trace) → IsSound P T → accessing T ≤ 65536 → (H : History) → accessing (trace_from P T H) ≤ 65536 }
     ensures revocations { (P : PlainPolicy) (T : Trace) → IsSound P T → accessing T ≤ 65536 → (H : History) (caller : Caller) (c : Command)
@@ -83,7 +83,7 @@ pub fn blocks_are_legal()
         → AreLegal P (trace P H) (block P (trace P H) caller c) }
 {}
 
-/// Where the first policy is well typed, so is the one in force after every history of commands.
+/// If the first policy is well typed, so is the one in force after every history of commands.
 pub fn policies_in_force_are_typed()
     ensures { (P : PlainPolicy) → IsTyped P → (H : History) → AreCommands H → IsTyped (in_force P (trace P H)) }
 {}
@@ -101,7 +101,7 @@ pub fn legal_actions_keep_traces_sound()
     ensures typed { (P : PlainPolicy) (T : Trace) (a : Action) → IsTyped (in_force P T) → IsLegal P T a → IsTyped (in_force P (a ∷ T)) }
 {}
 
-/// After a trace whose sessions are numbered, nobody fails where no least one is found that does; and the least one found may be
+/// After a trace whose sessions are numbered, nobody fails if no least one is found that does; and the least one found may be
 /// revoked.
 pub fn the_least_failing_is_found()
     ensures nobody { (P : PlainPolicy) (T : Trace) → IsNumbered T → least_failing P T ≡ None → (n : ℕ) → fails_at P T n ≡ None }
@@ -109,18 +109,18 @@ pub fn the_least_failing_is_found()
         → IsLegal P T (revoke n label) }
 {}
 
-/// Where the policy in force is well typed and all values of a trace fit, the result of each update fits.
+/// If the policy in force is well typed and all values of a trace fit, the result of each update fits.
 pub fn updates_fit()
     ensures { (P : PlainPolicy) (T : Trace) → IsTyped (in_force P T) → UpdatesFit P T }
 {}
 
-/// Where all values fit after a trace, each declared place that holds a value holds one of the declared sort, for any session.
+/// If all values fit after a trace, each declared place that holds a value holds one of the declared sort, for any session.
 pub fn places_hold_their_sorts()
     ensures { (P : PlainPolicy) (T : Trace) → ValuesFit P T → (row : SessionRow) → PlacesFit (in_force P T) (place_of P T row) }
 {}
 
-/// Under a well typed policy, after every history of commands, each predicate and each update of a session's right has a meaning: each
-/// place that it reads is there, and each of its sums, products, sizes and comparisons is one of the language's.
+/// Under a well typed policy, after every history of commands, each predicate and each update of a session's right has a meaning. Each place that
+/// it reads is there, and each of its sums, products, sizes and comparisons is one of the language's.
 pub fn predicates_and_updates_mean_something()
     ensures predicates { (P : PlainPolicy) → IsTyped P → (H : History) → AreCommands H → (n : ℕ) (row : SessionRow) (r : PlainRight)
         → session (trace P H) n ≡ Some row → right_named (in_force P (trace P H)).rights row.right ≡ Some r

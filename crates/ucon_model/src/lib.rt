@@ -1,4 +1,14 @@
 //! The types that every layer shares, what they mean, and the laws of these definitions.
+//!
+//! The clause of `run` is said in these definitions, from actions and traces to legal runs; `docs/definitions.md` goes through them in order. The
+//! laws tell that they fit together: after every history no use goes on with a false predicate.
+//!
+//! **Always.** The policy of a `Checked` is well typed.
+//!
+//! **Free.** How the types lie in memory.
+//!
+//! **Before a change.** A definition here says what all crates promise, so changing one changes all. The checker computes worked examples from the
+//! definitions. Begin at `specs/Action.antt`, then in the order of `docs/definitions.md`.
 #![tactic(auto)]
 
 mod amend;

@@ -30,7 +30,7 @@ pub fn writes_leave_sessions()
         → accessing (extended T (session_writes P m when T)) ≡ accessing T }
 {}
 
-/// So many turns of a settling, and one more: it revokes the least session that fails then. Where none fails, no further turn does
+/// So many turns of a settling, and one more: it revokes the least session that fails then. If none fails, no further turn does
 /// anything.
 pub fn turns_follow_each_other()
     ensures more { (k : ℕ) (P : PlainPolicy) (T : Trace) (f : ℕ × Bytes) → least_failing P (settled_to k P T) ≡ Some f

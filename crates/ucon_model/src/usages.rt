@@ -1,5 +1,5 @@
-//! Laws of usages: which actions begin one, which end it, and whom own actions concern. A law is a function without parameters that does nothing: its contract is
-//! what is proved.
+//! Laws of usages: which actions begin one, which end it, and whom own actions concern. A law is a function without parameters that does nothing:
+//! its contract is what is proved.
 
 ghost use Rattle.std.specs.Prelude.{◌≡◌, ◌≢◌, ℕ, List, None};
 ghost use Rattle.ucon_model.specs.declared.command.Caller.{Caller};
@@ -27,9 +27,9 @@ pub fn heads_tell_whose_usage_begins_or_ends()
         → session (extended T (revocation P T f)) n ≡ session T n }
 {}
 
-/// Work that covers can be read off the trace after actions. Where nobody failed, it is after a command's own actions who is permitted, who
-/// reads where they wrote, over whom the tick decides where it moved, and everybody where the policy was replaced. After a revocation it is the rest of the work before it, and who
-/// reads where its updates wrote.
+/// Work that covers can be read off the trace after actions. After a command's own actions, if nobody failed before them, it is who is permitted
+/// and who reads where they wrote. It is also those over whom the tick decides if it moved, and everybody if the policy was replaced. After a
+/// revocation it is the rest of the work before it, and who reads where its updates wrote.
 pub fn work_is_read_off_afterwards()
     ensures own { (P : PlainPolicy) (T : Trace) (caller : Caller) (c : Command) (head : Head) (actions : List Action) → IsNumbered T
         → ((n : ℕ) → IsGrounded T (session T n)) → IsTimely T → NobodyFails P T → own P T caller c ≡ make head actions

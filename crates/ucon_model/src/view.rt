@@ -19,19 +19,19 @@ pub trait View {
     fn checked(&self) -> &Checked
         ensures { checked_policy result.now ≡ policy self.now };
 
-    /// None where there is no such session.
+    /// None if there is no such session.
     fn session(&self, session: u32) -> Option<SessionRow>
         ensures { result ≡ (readings self.now).row session };
 
-    /// The right of a session. None where there is no such session, or the policy hasn't its right.
+    /// The right of a session. None if there is no such session, or the policy hasn't its right.
     fn right(&self, session: u32) -> Option<&Right>
         ensures { option_map right_of (option_copied result) ≡ right_read (policy self.now) (readings self.now) session };
 
-    /// The tick at which a session's usage began, 0 until then. None where there is no such session.
+    /// The tick at which a session's usage began, 0 until then. None if there is no such session.
     fn start(&self, session: u32) -> Option<Int>
         ensures { result ≡ start_read (readings self.now) session };
 
-    /// The value of a place for a session: of its own subject or object, or of a variable. None where the session or the name
+    /// The value of a place for a session: of its own subject or object, or of a variable. None if the session or the name
     /// isn't there.
     fn value(&self, session: u32, place: &Ref) -> Option<&Value>
         ensures { option_copied result ≡ value_read (readings self.now) session place.now };
@@ -39,12 +39,12 @@ pub trait View {
     fn tick(&self) -> Int
         ensures { result ≡ (readings self.now).now };
 
-    /// The tick at which an act was last done. None where it never was.
+    /// The tick at which an act was last done. None if it never was.
     fn moment(&self, subject: &Name, action: &Name, object: &Name) -> Option<Int>
         ensures { result ≡ (readings self.now).done_at subject.now action.now object.now };
 
-    /// The tick at which the act was last done that an obligation asks for, by or on the session's own where it names nobody. None
-    /// where it never was, or there is no such session.
+    /// The tick at which the act was last done that an obligation asks for, by or on the session's own if it names nobody. None if it never was,
+    /// or there is no such session.
     fn done_at(&self, session: u32, duty: &Obligation) -> Option<Int>
         ensures { result ≡ done_read (readings self.now) session duty.now };
 }

@@ -2,7 +2,8 @@
 use Rattle.std.specs.Prelude.{◌≡◌, ◌≢◌, ℕ, Bool, true, false, IsTrue, IsFalse}
 use Rattle.ucon_flow.specs.Causes.{raised}
 use Rattle.ucon_outcome.specs.declared.outcome.Outcome.{Outcome}
-use Rattle.ucon_outcome.specs.declared.outcome.Outcome.TheVariants.{Done, Usage, Policy, Script, SourceFault, SinkFault, DiskFault, Damaged, NotJournal, NoMemory, OtherPolicy, TooLong, FullPoint, OldJournal}
+use Rattle.ucon_outcome.specs.declared.outcome.Outcome.TheVariants.{Done, Usage, Policy, Script, SourceFault, SinkFault, DiskFault, Damaged}
+use Rattle.ucon_outcome.specs.declared.outcome.Outcome.TheVariants.{NotJournal, NoMemory, OtherPolicy, TooLong, FullPoint, OldJournal}
 use Rattle.ucon_flow.specs.declared.source.ReadFault.{ReadFault}
 use Rattle.ucon_flow.specs.declared.source.ReadFault.TheVariants as reads
 use Rattle.ucon_syntax.specs.declared.read.SyntaxFault.{SyntaxFault}
@@ -28,7 +29,7 @@ pub record Row : Type 0 where
   pub touched : Bool
   pub opened : Bool
   pub wrote : Bool
-  -- the disk or the journal on it ended it; a checkpoint did; it may end so where nothing hinders it
+  -- the disk or the journal on it ended it; a checkpoint did; it may end so if nothing hinders it
   pub by_disk : Bool
   pub by_point : Bool
   pub complete : Bool
@@ -100,7 +101,7 @@ ending OldJournal =
 abbrev pub status_of : Outcome → ℕ
 status_of outcome = (ending outcome).status
 
--- a count of faults, before and after: one more where the run ended by this fault, and otherwise as it was
+-- a count of faults, before and after: one more if the run ended by this fault, and otherwise as it was
 abbrev pub IsCounted : (outcome fault : Outcome) → (before now : ℕ) → Type 0
 IsCounted outcome fault before now = (outcome ≡ fault → now ≡ raised before) × (outcome ≢ fault → now ≡ before)
 

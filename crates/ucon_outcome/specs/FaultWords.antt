@@ -13,7 +13,8 @@ use Rattle.ucon_script.specs.declared.doc_fault.DocFault.TheVariants as scripts
 use Rattle.ucon_outcome.specs.declared.outcome.PolicyFault.{PolicyFault}
 use Rattle.ucon_outcome.specs.declared.outcome.PolicyFault.TheVariants.{Syntax, Typing}
 use Rattle.ucon_outcome.specs.declared.outcome.Outcome.{Outcome}
-use Rattle.ucon_outcome.specs.declared.outcome.Outcome.TheVariants.{Done, Usage, Policy, Script, SourceFault, SinkFault, DiskFault, Damaged, NotJournal, NoMemory, OtherPolicy, TooLong, FullPoint, OldJournal}
+use Rattle.ucon_outcome.specs.declared.outcome.Outcome.TheVariants.{Done, Usage, Policy, Script, SourceFault, SinkFault, DiskFault, Damaged}
+use Rattle.ucon_outcome.specs.declared.outcome.Outcome.TheVariants.{NotJournal, NoMemory, OtherPolicy, TooLong, FullPoint, OldJournal}
 
 -- words, and the place, item or line where, or how many
 abbrev pub told_at : Bytes → ℕ → Bytes
@@ -74,7 +75,7 @@ cause_words OldJournal = codes "old journal"
 abbrev pub fault_line : Bytes → Bytes
 fault_line cause = codes "ucon: " ++ cause ++ 10 ∷ []
 
--- what is printed: nothing where all is done
+-- what is printed: nothing if all is done
 abbrev pub fault_words : Outcome → Bytes
 fault_words Done = []
 fault_words outcome = fault_line (cause_words outcome)

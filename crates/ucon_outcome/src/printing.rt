@@ -2,7 +2,8 @@
 
 ghost use Rattle.std.specs.Prelude.{◌≡◌, ◌++◌, codes};
 ghost use Rattle.std.specs.Fmt.{decimal};
-ghost use Rattle.ucon_outcome.specs.FaultWords.{told_at, syntax_words, typing_words, policy_words, line_words, script_words, cause_words, fault_line, fault_words, point_line};
+ghost use Rattle.ucon_outcome.specs.FaultWords.{told_at, syntax_words, typing_words, policy_words, line_words, script_words, cause_words, fault_line};
+ghost use Rattle.ucon_outcome.specs.FaultWords.{fault_words, point_line};
 ghost use Rattle.ucon_outcome.specs.Out.{GoesOut};
 
 use crate::outcome::{Outcome, PolicyFault};
@@ -14,9 +15,10 @@ use ucon_flow::{Sink, SinkFault, write_all};
 use ucon_script::DocFault;
 use ucon_syntax::SyntaxFault;
 
-/// Writes what is printed of an outcome: a line, and nothing where all is done.
+/// Writes what is printed of an outcome: a line, and nothing if all is done.
 pub(crate) fn put_fault<W: Sink>(out: &mut W, outcome: &Outcome) -> Result<(), SinkFault>
-    ensures { GoesOut (W.seen out.old).contents (W.seen out.new).contents (W.seen out.old).faults (W.seen out.new).faults result (fault_words outcome.now) }
+    ensures { GoesOut (W.seen out.old).contents (W.seen out.new).contents
+        (W.seen out.old).faults (W.seen out.new).faults result (fault_words outcome.now) }
 {
     if let Outcome::Done = outcome {
         return Ok(());
@@ -35,7 +37,8 @@ fn put_line<W: Sink>(out: &mut W, outcome: &Outcome) -> Result<(), SinkFault>
 }
 
 fn put_cause<W: Sink>(out: &mut W, outcome: &Outcome) -> Result<(), SinkFault>
-    ensures { GoesOut (W.seen out.old).contents (W.seen out.new).contents (W.seen out.old).faults (W.seen out.new).faults result (cause_words outcome.now) }
+    ensures { GoesOut (W.seen out.old).contents (W.seen out.new).contents
+        (W.seen out.old).faults (W.seen out.new).faults result (cause_words outcome.now) }
 {
     match outcome {
         Outcome::Policy(fault) => put_policy(out, fault),
@@ -57,7 +60,8 @@ fn put_cause<W: Sink>(out: &mut W, outcome: &Outcome) -> Result<(), SinkFault>
 
 /// Writes the line that tells how many entries stand before a checkpoint.
 pub fn put_point_line<W: Sink>(out: &mut W, entries: u64) -> Result<(), SinkFault>
-    ensures { GoesOut (W.seen out.old).contents (W.seen out.new).contents (W.seen out.old).faults (W.seen out.new).faults result (point_line entries) }
+    ensures { GoesOut (W.seen out.old).contents (W.seen out.new).contents
+        (W.seen out.old).faults (W.seen out.new).faults result (point_line entries) }
 {
     put_at(out, b"point ", entries)?;
     put(out, b"\n")
@@ -80,7 +84,8 @@ fn put_policy<W: Sink>(out: &mut W, fault: &PolicyFault) -> Result<(), SinkFault
 }
 
 fn put_policy_fault<W: Sink>(out: &mut W, fault: &PolicyFault) -> Result<(), SinkFault>
-    ensures { GoesOut (W.seen out.old).contents (W.seen out.new).contents (W.seen out.old).faults (W.seen out.new).faults result (policy_words fault.now) }
+    ensures { GoesOut (W.seen out.old).contents (W.seen out.new).contents
+        (W.seen out.old).faults (W.seen out.new).faults result (policy_words fault.now) }
 {
     match fault {
         PolicyFault::Syntax(fault) => put_syntax(out, fault),
@@ -89,7 +94,8 @@ fn put_policy_fault<W: Sink>(out: &mut W, fault: &PolicyFault) -> Result<(), Sin
 }
 
 fn put_syntax<W: Sink>(out: &mut W, fault: &SyntaxFault) -> Result<(), SinkFault>
-    ensures { GoesOut (W.seen out.old).contents (W.seen out.new).contents (W.seen out.old).faults (W.seen out.new).faults result (syntax_words fault.now) }
+    ensures { GoesOut (W.seen out.old).contents (W.seen out.new).contents
+        (W.seen out.old).faults (W.seen out.new).faults result (syntax_words fault.now) }
 {
     match fault {
         SyntaxFault::UnknownByte(place) => put_at(out, b"unknown byte at ", *place as u64),
@@ -102,7 +108,8 @@ fn put_syntax<W: Sink>(out: &mut W, fault: &SyntaxFault) -> Result<(), SinkFault
 }
 
 fn put_typing<W: Sink>(out: &mut W, fault: &CheckFault) -> Result<(), SinkFault>
-    ensures { GoesOut (W.seen out.old).contents (W.seen out.new).contents (W.seen out.old).faults (W.seen out.new).faults result (typing_words fault.now) }
+    ensures { GoesOut (W.seen out.old).contents (W.seen out.new).contents
+        (W.seen out.old).faults (W.seen out.new).faults result (typing_words fault.now) }
 {
     match fault {
         CheckFault::Twice(name, item) => put_item(out, b"twice ", name, *item as u64),
@@ -125,7 +132,8 @@ fn put_script<W: Sink>(out: &mut W, fault: &DocFault) -> Result<(), SinkFault>
 }
 
 fn put_script_fault<W: Sink>(out: &mut W, fault: &DocFault) -> Result<(), SinkFault>
-    ensures { GoesOut (W.seen out.old).contents (W.seen out.new).contents (W.seen out.old).faults (W.seen out.new).faults result (script_words fault.now) }
+    ensures { GoesOut (W.seen out.old).contents (W.seen out.new).contents
+        (W.seen out.old).faults (W.seen out.new).faults result (script_words fault.now) }
 {
     match fault {
         DocFault::BadHeading(line) => put_at(out, b"bad heading at line ", *line as u64),
@@ -166,7 +174,8 @@ fn put_number<W: Sink>(out: &mut W, n: u64) -> Result<(), SinkFault>
 
 /// Writes words and a name.
 fn put_name<W: Sink>(out: &mut W, words: &[u8], name: &Name) -> Result<(), SinkFault>
-    ensures { GoesOut (W.seen out.old).contents (W.seen out.new).contents (W.seen out.old).faults (W.seen out.new).faults result (words.now ++ name.now) }
+    ensures { GoesOut (W.seen out.old).contents (W.seen out.new).contents
+        (W.seen out.old).faults (W.seen out.new).faults result (words.now ++ name.now) }
 {
     put(out, words)?;
     put(out, name.bytes())
@@ -174,7 +183,8 @@ fn put_name<W: Sink>(out: &mut W, words: &[u8], name: &Name) -> Result<(), SinkF
 
 /// Writes words and the number of a place, an item or a line, or of bytes.
 fn put_at<W: Sink>(out: &mut W, words: &[u8], n: u64) -> Result<(), SinkFault>
-    ensures { GoesOut (W.seen out.old).contents (W.seen out.new).contents (W.seen out.old).faults (W.seen out.new).faults result (told_at words.now n) }
+    ensures { GoesOut (W.seen out.old).contents (W.seen out.new).contents
+        (W.seen out.old).faults (W.seen out.new).faults result (told_at words.now n) }
 {
     put(out, words)?;
     put_number(out, n)

@@ -24,7 +24,7 @@ pub record IsLeastBit (row : List ℕ) (n : ℕ) : Type 0 where
   pub set : bit row n ≡ 1
   pub lower : (m : ℕ) → m < n → bit row m ≡ 0
 
--- bit i of the upper row is set exactly where word i of the lower row is not 0
+-- bit i of the upper row is set exactly if word i of the lower row is not 0
 pub record Summarizes (lower upper : List ℕ) : Type 0 where
   pub room : length lower ≤ 64 * length upper
   pub told : (i : ℕ) → bit upper i ≡ min (slice_index lower i) 1

@@ -62,7 +62,7 @@ impl Levels {
         Some(self.numbers.least_in(word))
     }
 
-    /// Sets a bit, and where its word had none the bits above that tell of it.
+    /// Sets a bit, and if its word had none the bits above that tell of it.
     pub(crate) fn set(&mut self, n: usize)
         requires { n / 64 < length self.old }
         ensures { SetsBit self.old self.new n 1 }

@@ -54,7 +54,7 @@ impl Pend {
         self.limit
     }
 
-    /// Adds a number, or leaves the set as it is where the number is there.
+    /// Adds a number, or leaves the set as it is if the number is there.
     pub fn put(&mut self, n: u32)
         requires { n < self.old.limit }
         ensures put { self.new ≡ record self.old { members = with_member self.old.members n } }

@@ -13,7 +13,7 @@ AreOwnAndCascade P T (refuse r) actions = actions ≡ []
 AreOwnAndCascade P T (tell reply) actions = actions ≡ []
 AreOwnAndCascade P T (make head first) actions = (cascade : List Action) × (actions ≡ first ++ cascade) × IsCascade P (extended T first) cascade
 
--- these actions after a trace begin with the command's own ones, and go on with legal revocations, each followed directly by its
--- session's updates after a revocation, up to where no accessing session fails; there are none where it is refused or reads
+-- These actions after a trace begin with the command's own ones, and go on with legal revocations up to where no accessing session fails. Each
+-- revocation is followed directly by its session's updates after a revocation. There are no actions if the command is refused or reads.
 abbrev pub AreActionsOf : PlainPolicy → Trace → Caller → Command → List Action → Type 0
 AreActionsOf P T caller c actions = AreOwnAndCascade P T (own P T caller c) actions

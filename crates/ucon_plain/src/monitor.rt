@@ -94,8 +94,8 @@ impl PlainMonitor {
         ensures follows { OnOk result ((P : PlainPolicy) (T : Trace) → IsReady self.old P T → IsReady self.new P (after P T caller command.now)) }
         ensures err { OnErr result (FollowsLike IsReady self.old self.new) }
 
-        // Under a well typed policy, after every history of commands, each action of the block is legal after those before it, and the block is the only list that begins with the command's own
-        // actions and goes on as a cascade.
+        // Under a well typed policy, after every history of commands, each action of the block is legal after those before it. The block is the
+        // only list that begins with the command's own actions and goes on as a cascade.
         ensures legal { (P : PlainPolicy) (H : History) → IsTyped P → AreCommands H → IsCommand command.now
             → AreLegal P (trace P H) (block P (trace P H) caller command.now) }
         ensures only { (P : PlainPolicy) (H : History) (actions : List Action)

@@ -42,7 +42,7 @@ pub fn take_step(
     }
 }
 
-/// After want of memory the state may be anywhere within the step.
+/// If memory runs out, the state may be anywhere within the step.
 fn make_step(
     alloc: Global,
     state: &mut State,

@@ -9,19 +9,20 @@ use Rattle.ucon_point.specs.HeldRows.{point_held}
 use Rattle.ucon_point.specs.PointRead.{Said, IsPoint, counted, point_spelling}
 use Rattle.ucon_point.specs.PointText.{point_text}
 
--- what is read is refused at this place, unless it is want of memory
+-- what is read is refused at this place, unless memory ran out
 abbrev pub IsBadAt : {A : Type 0} → Result A ℕ → PointFault → Type 0
 IsBadAt read (BadPlace place) = read ≡ Err place
 IsBadAt read (NoMemory e) = ⊤
 
--- the bytes are the text of no checkpoint, unless it is want of memory
+-- the bytes are the text of no checkpoint, unless memory ran out
 abbrev pub IsNoText : Bytes → PointFault → Type 0
 IsNoText bytes (BadPlace place) = (p : Said) → IsPoint p → point_spelling p ≡ bytes → ⊥
 IsNoText bytes (NoMemory e) = ⊤
 
--- the bytes are the text of nothing that is there so that it can be put row after row, unless it is want of memory
+-- the bytes are the text of nothing that is there so that it can be put row after row, unless memory ran out
 abbrev pub IsTextOfNothing : Bytes → PointFault → Type 0
-IsTextOfNothing bytes (BadPlace place) = (entries : ℕ) (text : Bytes) (h : Held) → IsPoint (point_held entries text h) → point_text entries text h ≡ bytes → ⊥
+IsTextOfNothing bytes (BadPlace place) =
+    (entries : ℕ) (text : Bytes) (h : Held) → IsPoint (point_held entries text h) → point_text entries text h ≡ bytes → ⊥
 IsTextOfNothing bytes (NoMemory e) = ⊤
 
 -- ---- where the bytes are refused

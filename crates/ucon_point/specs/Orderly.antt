@@ -1,5 +1,6 @@
 -- When the rows of what is there can be put, one after the other.
-use Rattle.std.specs.Prelude.{◌≡◌, ℕ, zero, suc, ◌<◌, ◌≤◌, ◌≤ℤ◌, ℤ, pos, Bool, ◌&&◌, List, [], ◌∷◌, ◌++◌, length, take, find, position, Option, Some, None, IsSome, IsSomeAnd, IsTrue, slice_get, unwrap_or}
+use Rattle.std.specs.Prelude.{◌≡◌, ℕ, zero, suc, ◌<◌, ◌≤◌, ◌≤ℤ◌, ℤ, pos, Bool, ◌&&◌, List, [], ◌∷◌, ◌++◌, length, take, find, position, Option, Some}
+use Rattle.std.specs.Prelude.{None, IsSome, IsSomeAnd, IsTrue, slice_get, unwrap_or}
 use Rattle.std.specs.Str.{bytes_eq}
 use Rattle.ucon_base.specs.declared.value.Side.{Side}
 use Rattle.ucon_base.specs.declared.value.Side.TheVariants as sides
@@ -49,7 +50,7 @@ abbrev pub HasRoomBehind : List SessionRow → SessionState → Type 0
 HasRoomBehind before Accessing = accessing_among before < 65536
 HasRoomBehind before state = Unit {0}
 
--- a session's entities are there, it started by now, and it has no start where it was never permitted
+-- a session's entities are there, it started by now, and it has no start if it was never permitted
 pub record IsSessionInOrder (h : Held) (n : ℕ) (row : SessionRow) : Type 0 where
   pub room : HasRoomBehind (sessions_to h.session n) row.state
   pub entities : AreBothThere h row.subject row.object
@@ -60,7 +61,8 @@ pub record IsSessionInOrder (h : Held) (n : ℕ) (row : SessionRow) : Type 0 whe
 -- sessions are in order; and the limits hold.
 pub record IsOrderly (h : Held) : Type 0 where
   pub variables : (i : ℕ) (d : EnvDecl) → slice_get h.policy.envs i ≡ Some d → IsSomeAnd (h.variable d.name) (λ v. IsTrue (admits d.kind v))
-  pub attributes : (side : Side) (k : ℕ) (e : Bytes) (i : ℕ) (d : AttrDecl) → slice_get (h.names side) k ≡ Some e → slice_get (attrs_of h.policy side) i ≡ Some d
+  pub attributes : (side : Side) (k : ℕ) (e : Bytes) (i : ℕ) (d : AttrDecl)
+      → slice_get (h.names side) k ≡ Some e → slice_get (attrs_of h.policy side) i ≡ Some d
       → IsSomeAnd (h.attribute side e d.name) (λ v. IsTrue (admits d.kind v))
   pub once : (side : Side) (k : ℕ) (e : Bytes) → slice_get (h.names side) k ≡ Some e → find (bytes_eq e) (take k (h.names side)) ≡ None
   pub few_entities : (side : Side) → length (h.names side) ≤ 16384

@@ -1,5 +1,6 @@
 -- Which bytes are the text of a checkpoint, and what they say. The policy in force is read as the texts of policies are.
-use Rattle.std.specs.Prelude.{◌≡◌, ℕ, ◌+◌, ◌-◌, ◌<◌, ◌^◌, ◌==◌, nat_le, nat_lt, ℤ, pos, negsuc, Bool, true, false, ◌&&◌, is_none, List, [], ◌∷◌, ◌++◌, length, take, drop, Option, Some, None, option_and_then, Result, Ok, Err, ok_or, codes, if◌then◌else◌}
+use Rattle.std.specs.Prelude.{◌≡◌, ℕ, ◌+◌, ◌-◌, ◌<◌, ◌^◌, ◌==◌, nat_le, nat_lt, ℤ, pos, negsuc, Bool, true, false, ◌&&◌, is_none, List, [], ◌∷◌, ◌++◌}
+use Rattle.std.specs.Prelude.{length, take, drop, Option, Some, None, option_and_then, Result, Ok, Err, ok_or, codes, if◌then◌else◌}
 use Rattle.std.specs.List.{flat_map}
 use Rattle.std.specs.Str.{bytes_eq}
 use Rattle.ucon_base.specs.declared.value.Value.TheVariants.{Int}
@@ -70,8 +71,8 @@ from_zero t = if is_whole t then Some t else None
 abbrev pub tick_read : Bytes → Option ℤ
 tick_read line = option_and_then from_zero (option_and_then integer_in (behind (codes "tick") line))
 
--- What the first line says, and what stands behind it. The bytes are the last of so many: where the line says nothing the result is its place,
--- and where there is no line that number.
+-- What the first line says, and what stands behind it. The bytes are the last of so many: if the line says nothing the result is its place,
+-- and if there is no line that number.
 unfoldable pub line_at : {A : Type 0} → (Bytes → Option A) → ℕ → Bytes → Result (A × Bytes) ℕ
 line_at reads total bytes = do
   p ← ok_or (cut_at 10 bytes) total
@@ -125,8 +126,8 @@ abbrev pub before : Row → Result (List Row) ℕ → Result (List Row) ℕ
 before row (Ok rows) = Ok (row ∷ rows)
 before row (Err place) = Err place
 
--- The rows of lines of which the first begins here, and behind the last of which these bytes stand. Where a line has no row that may come there
--- the result is its place; where the bytes end too soon, the place of their end.
+-- The rows of lines of which the first begins here, and behind the last of which these bytes stand. If a line has no row that may come there
+-- the result is its place; if the bytes end too soon, the place of their end.
 abbrev pub rows_at : ℕ → PlainPolicy → Standing → Bytes → List Bytes → Result (List Row) ℕ
 rows_at place Q r last [] = if length last == 0 && is_none (awaited Q r.reached) then Ok [] else Err (place + length last)
 rows_at place Q r last (line ∷ lines) = row_at place Q r line >>= (λ p. before p.0 (rows_at (place + length line + 1) Q p.1 last lines))
@@ -143,7 +144,7 @@ point_behind total entries text Q bytes = do
   Ok (record { entries = entries; text = text; policy = Q; tick = tick.0; rows = rows })
 
 -- What the bytes say as a checkpoint. Else the place of the first line that cannot be one there, the policy's line being one with its text;
--- or the length of the bytes where they end too soon.
+-- or the length of the bytes if they end too soon.
 unfoldable pub point_read : Bytes → Result Said ℕ
 point_read bytes = do
   entries ← line_at (counted (codes "point")) (length bytes) bytes

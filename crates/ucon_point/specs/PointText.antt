@@ -33,7 +33,7 @@ tick_line now = line (codes "tick" ∷ signed_decimal now ∷ [])
 abbrev pub variable_line : Held → EnvDecl → Bytes
 variable_line h d = value_line (codes "env") d.name (h.variable d.name)
 
--- an attribute of an entity, where its side declares it
+-- an attribute of an entity, if its side declares it
 abbrev pub attribute_line : Held → Side → Bytes → AttrDecl → Bytes
 attribute_line h side name d = if same_side side d.side then value_line (codes "value") d.name (h.attribute side name d.name) else []
 

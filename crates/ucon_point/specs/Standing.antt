@@ -1,5 +1,6 @@
 -- What the rows of a checkpoint make, one after the other: which row may come, and what the tables are with it.
-use Rattle.std.specs.Prelude.{◌≡◌, ℕ, zero, ◌-◌, ◌<◌, ℤ, pos, int_le, nat_lt, Bool, true, false, ◌&&◌, is_some, is_none, List, [], ◌∷◌, length, Option, Some, None, IsSomeAnd, option_and_then, if◌then◌else◌}
+use Rattle.std.specs.Prelude.{◌≡◌, ℕ, zero, ◌-◌, ◌<◌, ℤ, pos, int_le, nat_lt, Bool, true, false, ◌&&◌, is_some, is_none, List, [], ◌∷◌, length}
+use Rattle.std.specs.Prelude.{Option, Some, None, IsSomeAnd, option_and_then, if◌then◌else◌}
 use Rattle.std.specs.Option.{option_map_or}
 use Rattle.ucon_base.specs.declared.value.Side.{Side}
 use Rattle.ucon_base.specs.declared.value.Side.TheVariants as sides
@@ -72,7 +73,7 @@ abbrev pub is_zero : ℤ → Bool
 is_zero (pos zero) = true
 is_zero z = false
 
--- whether a session in this state may have this start: 0, where it was never permitted
+-- whether a session in this state may have this start: 0, if it was never permitted
 abbrev pub starts_right : SessionState → ℤ → Bool
 starts_right Requesting start = is_zero start
 starts_right Denied start = is_zero start
@@ -85,7 +86,8 @@ may_put_act t a =
 
 abbrev pub may_put_session : Tables → SessionRow → Bool
 may_put_session t s =
-    nat_lt (length t.sessions) 1048576 && (has_room_in t s.state && (are_there t s.subject s.object && (is_past t s.start && starts_right s.state s.start)))
+    nat_lt (length t.sessions) 1048576 && (has_room_in t s.state && (are_there t s.subject s.object &&
+    (is_past t s.start && starts_right s.state s.start)))
 
 -- an entity that isn't there
 abbrev pub may_put_entity : Tables → Side → Bytes → Bool
@@ -104,7 +106,7 @@ may_put t (Session s) = may_put_session t s
 abbrev pub with_next : PlainPolicy → Standing → Row → Reached → Option Standing
 with_next Q s row next = if may_put s.tables row then Some (record { reached = next; tables = with_put Q s.reached.stage s.tables row }) else None
 
--- what one more row makes; None where it may not come
+-- what one more row makes; None if it may not come
 abbrev pub put : PlainPolicy → Standing → Row → Option Standing
 put Q s row = option_and_then (with_next Q s row) (after Q s.reached row)
 

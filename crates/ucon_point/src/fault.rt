@@ -7,8 +7,8 @@ use ucon_base::NoMemory;
 /// Why bytes are no text of a checkpoint.
 #[derive(Clone, Copy, Debug)]
 pub enum PointFault {
-    /// The place, from 0, of the first line such that no such text begins with the bytes up to its end; or the length of the bytes, where
-    /// they end too soon.
+    /// The place, from 0, of the first line such that no such text begins with the bytes up to its end; or the length of the bytes, if they end
+    /// too soon.
     BadPlace(usize),
     NoMemory(NoMemory),
 }

@@ -1,6 +1,7 @@
 //! The lines of a checkpoint before its rows: the number of entries, the policy, the tick.
 
-ghost use Rattle.std.specs.Prelude.{◌≡◌, ◌≤◌, ◌≤ℤ◌, pos, option_and_then, option_map, codes, length, IfOk, IfSome, MatchOption, MatchResult, None, Ok, Some, ⊤};
+ghost use Rattle.std.specs.Prelude.{◌≡◌, ◌≤◌, ◌≤ℤ◌, pos, option_and_then, option_map, codes, length, IfOk, IfSome, MatchOption, MatchResult, None};
+ghost use Rattle.std.specs.Prelude.{Ok, Some, ⊤};
 ghost use Rattle.ucon_model.specs.Checked.{checked_policy};
 ghost use Rattle.ucon_model.specs.CommandLine.{integer_in};
 ghost use Rattle.ucon_syntax.specs.Policies.{accepted};

@@ -36,7 +36,7 @@ pub fn points_are_read_back()
     texts_lack_bytes();
 }
 
-/// The text of what is there is the text of its rows. So where these are the rows of a checkpoint, it is read back as them.
+/// The text of what is there is the text of its rows. So if these are the rows of a checkpoint, it is read back as them.
 pub fn texts_are_of_rows()
     ensures text { (entries : ℕ) (text : Bytes) (h : Held) → point_text entries text h ≡ point_spelling (point_held entries text h) }
     ensures read { (entries : ℕ) (text : Bytes) (h : Held) → IsPoint (point_held entries text h)
@@ -61,14 +61,14 @@ pub fn rows_make_what_they_say()
     what_is_put_is_followed();
 }
 
-/// Where names, values and numbers have their texts, what is there in order can be put, row after row: its rows are those of a checkpoint,
-/// whose text is so read back.
+/// What is there in order can be put, row after row, if names, values and numbers have their texts. Its rows are those of a checkpoint, whose text
+/// is so read back.
 pub fn what_is_in_order_can_be_put()
     ensures { (entries : ℕ) (text : Bytes) (h : Held) → entries < 2 ^ 64 → accepted text ≡ Some h.policy → IsSpelled (Int h.tick)
         → is_whole h.tick ≡ true → Each IsRow (rows_held h) → IsOrderly h → IsPoint (point_held entries text h) }
 {}
 
-/// What is there after a history of commands under a well typed policy is in order. So, where names, values and numbers have their texts, its
+/// What is there after a history of commands under a well typed policy is in order. So, if names, values and numbers have their texts, its
 /// rows are those of a checkpoint, whose text is read back.
 pub fn histories_are_in_order()
     ensures order { (P : PlainPolicy) (H : History) → IsTyped P → AreCommands H → IsOrderly (held_after P (trace P H)) }

@@ -27,7 +27,7 @@ use ucon_row::{Reached, after, awaited, beginning, cut_at, row_in};
 use ucon_state::State;
 
 /// What the bytes hold as the text of a checkpoint, as a state that an engine can take up: they are the text of what is there in it.
-/// Where they are refused they are the text of none that such a state holds.
+/// If they are refused they are the text of none that such a state holds.
 pub fn read_point(alloc: Global, bytes: &[u8]) -> Result<Point, PointFault>
     ensures text { IfOk result (λ p. point_text p.entries p.policy.items (held p.state) ≡ bytes.now) }
     ensures policy { IfOk result (λ p. accepted p.policy.items ≡ Some (held p.state).policy) }

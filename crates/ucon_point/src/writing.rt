@@ -5,7 +5,8 @@ ghost use Rattle.std.specs.List.{flat_map};
 ghost use Rattle.ucon_model.specs.Action.{Trace};
 ghost use Rattle.ucon_model.specs.History.{History, trace};
 ghost use Rattle.ucon_model.specs.Plain.{PlainPolicy};
-ghost use Rattle.ucon_point.specs.PointText.{act_line, attribute_line, entity_lines, entries_line, point_after, point_text, policy_lines, sessions_to, tick_line, variable_line};
+ghost use Rattle.ucon_point.specs.PointText.{act_line, attribute_line, entity_lines, entries_line, point_after, point_text, policy_lines};
+ghost use Rattle.ucon_point.specs.PointText.{sessions_to, tick_line, variable_line};
 ghost use Rattle.ucon_state.specs.Following.{Follows};
 ghost use Rattle.ucon_state.specs.Held.{held, held_after};
 ghost use Rattle.ucon_state.specs.Shown.{shown};
@@ -16,8 +17,8 @@ use ucon_model::{AttrDecl, View};
 use ucon_row::{put_act, put_entity, put_session, put_value};
 use ucon_state::{State, states_hold_what_they_follow};
 
-/// The text of the checkpoint after so many entries, this being the text of the policy in force: after each trace that the state follows,
-/// and so after each history of so many entries that it stands for.
+/// The text of the checkpoint after so many entries, if `policy` is the text of the policy in force. It is that after each trace that the state
+/// follows, and so after each history of so many entries that it stands for.
 pub fn point_text(
     alloc: Global,
     entries: u64,

@@ -13,7 +13,8 @@ use Rattle.ucon_model.specs.declared.formula.Form.TheVariants as forms
 use Rattle.ucon_model.specs.declared.formula.Obligation.{Obligation}
 use Rattle.ucon_model.specs.declared.policy.AttrDecl.{AttrDecl}
 use Rattle.ucon_model.specs.declared.policy.EnvDecl.{EnvDecl}
-use Rattle.ucon_model.specs.Plain.{Bytes, PlainExpr, lit, read, plus, minus, times, size, PlainFormula, both, either, negation, compare, lasts, PlainTest, authorisation, duty, condition, PlainPredicate, PlainUpdate, PlainRight, PlainPolicy}
+use Rattle.ucon_model.specs.Plain.{Bytes, PlainExpr, lit, read, plus, minus, times, size, PlainFormula, both, either, negation, compare, lasts}
+use Rattle.ucon_model.specs.Plain.{PlainTest, authorisation, duty, condition, PlainPredicate, PlainUpdate, PlainRight, PlainPolicy}
 use Rattle.ucon_model.specs.Printing.{policy_printing}
 use Rattle.ucon_model.specs.Limits.{IsWithin}
 
@@ -26,7 +27,7 @@ abbrev pub IsCount : ℤ → Type 0
 IsCount (pos n) = n ≤ 1000000000000000
 IsCount (negsuc n) = ⊥
 
--- one level where brackets are printed
+-- one level if brackets are printed
 abbrev pub level_if : Bool → ℕ
 level_if true = 1
 level_if false = 0
@@ -147,8 +148,8 @@ pub record IsRight (r : PlainRight) : Type 0 where
   pub preds : Each IsPredicate r.preds
   pub updates : Each IsUpdate r.updates
 
--- A policy within the limits as it is printed, in at most 65,536 bytes. The mirror of a policy says of no list of bytes that it
--- is a name or a text and of no integer that it is in range, so that is said here.
+-- A policy within the limits as it is printed, in at most 65,536 bytes. The mirror of a policy doesn't say that bytes are a name or a text, or
+-- that an integer is in range. So that is said here.
 pub record IsPrintable (p : PlainPolicy) : Type 0 where
   pub within : IsWithin p
   pub attrs : Each IsAttr p.attrs

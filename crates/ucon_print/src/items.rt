@@ -2,7 +2,9 @@
 
 ghost use Rattle.std.specs.Prelude.{◌≡◌, ◌++◌, OnOk};
 ghost use Rattle.ucon_model.specs.Views.{test_of, predicate_of, update_of};
-ghost use Rattle.ucon_model.specs.Printing.{kind_printing, declared_printing, attr_printing, env_printing, form_printing, party_printing, duty_printing, letter_printing, test_printing, phase_printing, predicate_printing, when_printing, update_printing};
+ghost use Rattle.ucon_model.specs.Printing.{kind_printing, declared_printing, attr_printing, env_printing, form_printing, party_printing};
+ghost use Rattle.ucon_model.specs.Printing.{duty_printing, letter_printing, test_printing, phase_printing, predicate_printing, when_printing};
+ghost use Rattle.ucon_model.specs.Printing.{update_printing};
 
 use crate::expr::put_expr;
 use crate::formula::put_formula;

@@ -19,7 +19,7 @@ pub record IsLimit (R : Readings) (row : SessionRow) (parts : List Timed) (limit
   pub is : limit_of R row part ≡ Some limit
   pub ahead : R.now ≤ℤ limit
 
--- it is such a limit, and isn't above any other; none where there is no limit
+-- it is such a limit, and isn't above any other; none if there is no limit
 abbrev pub IsFirstLimit : Readings → SessionRow → List Timed → Option ℤ → Type 0
 IsFirstLimit R row parts None = (limit : ℤ) → IsLimit R row parts limit → ⊥
 IsFirstLimit R row parts (Some first) = IsLimit R row parts first × ((limit : ℤ) → IsLimit R row parts limit → first ≤ℤ limit)

@@ -23,7 +23,7 @@ abbrev pub least_of : ℕ → List ℕ → ℕ
 least_of n [] = n
 least_of n (m ∷ ms) = min m (least_of n ms)
 
--- the least member of the list in which session n is; n itself where it is in none
+-- the least member of the list in which session n is; n itself if it is in none
 abbrev pub first_in : Members → ℕ → ℕ
 first_in v n = option_map_or (λ leader. least_of n (members_in v leader)) (leader_in v n) n
 

@@ -8,13 +8,13 @@ use Rattle.ucon_readers.specs.declared.readers.Readers.{Readers}
 abbrev pub readers_at : Readers → ℕ → List ℕ
 readers_at r place = readers_in r.standing place
 
--- the first of the list in which session n is, who is judged for it; n itself where it is in none
+-- the first of the list in which session n is, who is judged for it; n itself if it is in none
 abbrev pub first_of : Readers → ℕ → ℕ
 first_of r n = first_in r.standing.lists.members n
 
 -- ---- undoing
 
--- undoing gives what holds these: what was replaced, where something was, else what is there without its changes
+-- undoing gives what holds these: what was replaced, if something was, else what is there without its changes
 pub data UndoGives (r : Readers) (standing : ℕ → List ℕ) (first : ℕ → ℕ) : Type 0 where
   by_changes : r.replaced ≡ None → ChangesGive r.standing standing first → UndoGives r standing first
   by_replaced : (before : Listing) → r.replaced ≡ Some before → IsAtRest before

@@ -7,7 +7,7 @@ use Rattle.ucon_readers.specs.declared.timers.Timers.{Timers}
 abbrev pub deadlines_in : Timers → List (Option ℤ)
 deadlines_in t = t.wheel.now
 
--- undoing gives deadlines alike these: those at the last keep, of what was replaced, where something was, else of what is there
+-- undoing gives deadlines alike these: those at the last keep, of what was replaced, if something was, else of what is there
 pub data UndoGives (t : Timers) (before : List (Option ℤ)) : Type 0 where
   by_changes : t.replaced ≡ None → AreAlike before t.wheel.opening → UndoGives t before
   by_replaced : (was : Deadlines) → t.replaced ≡ Some was → AreAlike before was.opening → UndoGives t before

@@ -5,8 +5,8 @@
 pub struct Kind {
     /// The number of their right.
     pub right: u32,
-    /// The number of their subject. None where no attribute of it is read.
+    /// The number of their subject. None if no attribute of it is read.
     pub subject: Option<u32>,
-    /// The number of their object. None where no attribute of it is read.
+    /// The number of their object. None if no attribute of it is read.
     pub object: Option<u32>,
 }

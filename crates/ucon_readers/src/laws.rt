@@ -5,7 +5,7 @@ ghost use Rattle.ucon_readers.specs.Timers.{IsKept as AreKept, UndoGives as Time
 ghost use Rattle.ucon_readers.specs.declared.readers.Readers.{Readers};
 ghost use Rattle.ucon_readers.specs.declared.timers.Timers.{Timers};
 
-/// Where there is nothing to undo, undoing gives what is there.
+/// If there is nothing to undo, undoing gives what is there.
 pub fn undoing_gives_what_is_kept()
     ensures readers { (r : Readers) → IsKept r → UndoGives r (readers_at r) (first_of r) }
     ensures timers { (t : Timers) → AreKept t → TimersGive t (deadlines_in t) }

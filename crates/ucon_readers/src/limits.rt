@@ -14,7 +14,7 @@ use ucon_base::Int;
 use ucon_model::{Form, Formula, Predicate, Test, View};
 use ucon_state::State;
 
-/// Up to which tick an obligation is met that was last met then. None where the tick doesn't decide over it. The sum is not clamped.
+/// Up to which tick an obligation is met that was last met then. None if the tick doesn't decide over it. The sum is not clamped.
 fn form_limit(start: Int, form: Form, last: Option<Int>) -> Option<i64>
     ensures { result ≡ form_limit start form last }
 {
@@ -91,7 +91,7 @@ fn first_of_predicate(
     first_of_test(state, n, start, first, &p.test)
 }
 
-/// The first of the ticks up to which a timed part of session n's right holds, of those that the tick isn't above. None where there is no
+/// The first of the ticks up to which a timed part of session n's right holds, of those that the tick isn't above. None if there is no
 /// such session.
 pub fn first_limit(state: &State, n: u32) -> Option<i64>
     ensures first { (row : SessionRow) → session_in (shown state.now).tables n ≡ Some row

@@ -14,7 +14,7 @@ use std::mem;
 use ucon_base::NoMemory;
 use ucon_pend::Pend;
 
-/// Forgets those who were replaced, where some were: most often none were, and to move none costs as much as to move some.
+/// Forgets those who were replaced, if some were: most often none were, and to move none costs as much as to move some.
 #[inline(always)]
 fn forget(replaced: &mut Option<Standing>)
     ensures { replaced.new ≡ None }
@@ -37,7 +37,7 @@ fn forget_some(replaced: &mut Option<Standing>)
 #[derive(Drop)]
 pub struct Readers {
     standing: Standing,
-    /// Who stood where before the draft, where the draft has put others in their place.
+    /// Who stood where before the draft, if the draft has put others in their place.
     replaced: Option<Standing>,
     /// By its kind the leader whose list a session might join: a guess, which has to be checked, and of which nothing is undone.
     guesses: IndexMap<Kind, u32>,
@@ -59,14 +59,14 @@ impl Readers {
         })
     }
 
-    /// The first of the list in which a session is, who is judged for it. The session itself where it is in none.
+    /// The first of the list in which a session is, who is judged for it. The session itself if it is in none.
     pub fn first(&self, session: u32) -> u32
         ensures { result ≡ first_of self.now session }
     {
         self.standing.first(session)
     }
 
-    /// The first of a list that a session of this kind might join. None where none is known.
+    /// The first of a list that a session of this kind might join. None if none is known.
     pub fn guess(&self, kind: Kind) -> Option<u32>
         ensures itself { IfSome result (λ m. first_of self.now m ≡ m) }
         ensures stands { IfSome result (StandsSomewhere (readers_at self.now)) }
@@ -87,7 +87,7 @@ impl Readers {
     }
 
     /// From here on a session reads, in a list of its own, these places. One that reads none isn't kept. A session founds one list: a
-    /// second is answered as want of memory.
+    /// second is answered as out of memory.
     pub fn lead(&mut self, session: u32, places: &[u32]) -> Result<(), NoMemory>
         requires kept { IsKept self.old }
         requires distinct { IsDistinct places.now }
@@ -113,7 +113,7 @@ impl Readers {
         self.standing.join(session, other)
     }
 
-    /// From here on a session reads nothing. Where it was the first of others, that gives who is their first from here on.
+    /// From here on a session reads nothing. If it was the first of others, that gives who is their first from here on.
     pub fn hide(&mut self, session: u32) -> Result<Option<u32>, NoMemory>
         ensures read { OnOk result ((n place : ℕ) → Contains (readers_at self.new place) n
             ↔ ((n ≢ session) × Contains (readers_at self.old place) n)) }

@@ -54,7 +54,7 @@ impl Standing {
         })
     }
 
-    /// The first of the list in which a session is. The session itself where it is in none.
+    /// The first of the list in which a session is. The session itself if it is in none.
     pub(crate) fn first(&self, session: u32) -> u32
         ensures { result ≡ first_in self.now.lists.members session }
     {
@@ -64,7 +64,7 @@ impl Standing {
         self.lists.first(leader).unwrap_or(session)
     }
 
-    /// The first of a leader's list. None where nobody is in it.
+    /// The first of a leader's list. None if nobody is in it.
     pub(crate) fn first_led(&self, leader: u32) -> Option<u32>
         ensures itself { IfSome result (λ m. first_in self.now.lists.members m ≡ m) }
         ensures stands { IfSome result (StandsSomewhere (readers_in self.now)) }
@@ -77,7 +77,7 @@ impl Standing {
     }
 
     /// A session comes, in a list of its own, to these places. One that comes to none isn't kept. A list has its founder's number, and a
-    /// session founds one: a second is answered as want of memory.
+    /// session founds one: a second is answered as out of memory.
     pub(crate) fn lead(&mut self, session: u32, places: &[u32]) -> Result<(), NoMemory>
         requires kept { IsKept self.old }
         requires distinct { IsDistinct places.now }
@@ -116,7 +116,7 @@ impl Standing {
         self.lists.join(leader, session)
     }
 
-    /// A session leaves its list and its places. Where it was the first of others, that gives who is their first from here on.
+    /// A session leaves its list and its places. If it was the first of others, that gives who is their first from here on.
     pub(crate) fn hide(&mut self, session: u32) -> Result<Option<u32>, NoMemory>
         ensures read { OnOk result ((n place : ℕ) → Contains (readers_in self.new place) n
             ↔ ((n ≢ session) × Contains (readers_in self.old place) n)) }
@@ -221,7 +221,7 @@ fn hide_alone(lists: &Lists, index: &mut Index, session: u32)
     }
 }
 
-/// Takes a leader out of the index where its list has no first.
+/// Takes a leader out of the index if its list has no first.
 fn if_empty_hide(index: &mut Index, leader: u32, first: Option<u32>)
     requires { is_there leader index.old.places ≡ true }
     ensures led { IsSome first → index.new ≡ index.old }
@@ -242,7 +242,7 @@ fn first_without(session: u32, first: Option<u32>, next: Option<u32>) -> Option<
     if first == Some(session) { next } else { first }
 }
 
-/// The next first of a list that a session has left, where that was its first.
+/// The next first of a list that a session has left, if that was its first.
 fn next_first(session: u32, first: Option<u32>, next: Option<u32>) -> Option<u32>
     ensures was { first ≡ Some session → result ≡ next }
     ensures other { (first ≡ Some session → ⊥) → result ≡ None }
@@ -292,7 +292,7 @@ fn put_first(lists: &Lists, leader: u32, work: &mut Pend)
     }
 }
 
-/// The first of a leader's list. None where nobody is in it.
+/// The first of a leader's list. None if nobody is in it.
 fn first_in_list(lists: &Lists, leader: u32) -> Option<u32>
     ensures there { IfSome result (λ m. Contains (led_by lists.now.members leader) m) }
     ensures least { IfSome result (λ m. (n : ℕ) → Contains (led_by lists.now.members leader) n → m ≤ n) }

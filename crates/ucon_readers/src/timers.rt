@@ -8,7 +8,7 @@ use std::mem;
 use ucon_base::{Int, NoMemory};
 use ucon_wheel::Wheel;
 
-/// Forgets the wheel that was replaced, where one was: most often none was, and to move none costs as much as to move one.
+/// Forgets the wheel that was replaced, if one was: most often none was, and to move none costs as much as to move one.
 #[inline(always)]
 fn forget(replaced: &mut Option<Wheel>)
     ensures { replaced.new ≡ None }
@@ -31,7 +31,7 @@ fn forget_some(replaced: &mut Option<Wheel>)
 #[derive(Drop)]
 pub struct Timers {
     wheel: Wheel,
-    /// The wheel before the draft, where the draft has put another in its place.
+    /// The wheel before the draft, if the draft has put another in its place.
     replaced: Option<Wheel>,
 }
 

@@ -4,7 +4,8 @@ ghost use Rattle.std.specs.Prelude.{◌≡◌, ◌<◌, IfSome, is_none, is_some
 ghost use Rattle.ucon_base.specs.Admits.{admits};
 ghost use Rattle.ucon_model.specs.Decision.{right_named};
 ghost use Rattle.ucon_model.specs.OwnActions.{names_act};
-ghost use Rattle.ucon_model.specs.Readings.{in_force, has_entity, entities, tick_of, acts, sessions, accessing, session, moment, attribute, declared_attr, declared_env};
+ghost use Rattle.ucon_model.specs.Readings.{in_force, has_entity, entities, tick_of, acts, sessions, accessing, session, moment, attribute};
+ghost use Rattle.ucon_model.specs.Readings.{declared_attr, declared_env};
 ghost use Rattle.ucon_state.specs.Following.{AfterEach};
 ghost use Rattle.ucon_state.specs.Tables.{entity_number, entities_of, session_in, moment_in, accessing_among};
 ghost use Rattle.ucon_state.specs.Shown.{right_name, right_names, shown};
@@ -22,7 +23,7 @@ pub fn has_entity(state: &State, side: Side, name: &Name) -> bool
     state.find(side, name).is_some()
 }
 
-/// The number of an entity among those of its side. None where it isn't there.
+/// The number of an entity among those of its side. None if it isn't there.
 pub fn find_entity(state: &State, side: Side, name: &Name) -> Option<u32>
     ensures number { result ≡ entity_number (shown state.now).tables side name.now }
     ensures named { IfSome result (λ n. name_at (entities_of side (shown state.now).tables) n ≡ name.now) }
@@ -45,7 +46,7 @@ pub fn entities(state: &State, side: Side) -> u32
     }
 }
 
-/// The value of an attribute of an entity. None where one of them isn't there.
+/// The value of an attribute of an entity. None if one of them isn't there.
 #[tactic(auto, using(crate::specs::ReadOff::attribute_same))]
 pub fn attribute<'a>(state: &'a State, side: Side, name: &Name, attr: &Name) -> Option<&'a Value>
     ensures { AfterEach (shown state.now) (λ P T. attribute P T side name.now attr.now ≡ option_copied result) }
@@ -54,7 +55,7 @@ pub fn attribute<'a>(state: &'a State, side: Side, name: &Name, attr: &Name) -> 
     state.attribute(side, name, attr)
 }
 
-/// Whether the kind of an attribute admits the value. None where the policy in force has no such attribute.
+/// Whether the kind of an attribute admits the value. None if the policy in force has no such attribute.
 pub fn attr_admits(state: &State, side: Side, name: &Name, v: &Value) -> Option<bool>
     ensures policy { result ≡ option_map (λ d. admits d.kind v.now) (declared_attr (shown state.now).policy.attrs side name.now) }
     ensures trace { AfterEach (shown state.now) (λ P T.
@@ -67,7 +68,7 @@ pub fn attr_admits(state: &State, side: Side, name: &Name, v: &Value) -> Option<
     }
 }
 
-/// Whether the kind of a variable admits the value. None where the policy in force has no such variable.
+/// Whether the kind of a variable admits the value. None if the policy in force has no such variable.
 pub fn env_admits(state: &State, name: &Name, v: &Value) -> Option<bool>
     ensures policy { result ≡ option_map (λ d. admits d.kind v.now) (declared_env (shown state.now).policy.envs name.now) }
     ensures trace { AfterEach (shown state.now) (λ P T.
@@ -80,7 +81,7 @@ pub fn env_admits(state: &State, name: &Name, v: &Value) -> Option<bool>
     }
 }
 
-/// The number of a right. None where the policy in force hasn't it.
+/// The number of a right. None if the policy in force hasn't it.
 pub fn find_right(state: &State, name: &Name) -> Option<u32>
     ensures named { IfSome result (λ n. right_name state.now n ≡ name.now) }
     ensures within { IfSome result (λ n. n < length (right_names state.now)) }
@@ -148,7 +149,7 @@ pub fn session_state(state: &State, n: u32) -> Option<SessionState>
     state.session_state(n)
 }
 
-/// The tick at which an act was last done. None where it never was.
+/// The tick at which an act was last done. None if it never was.
 pub fn moment(state: &State, subject: &Name, action: &Name, object: &Name) -> Option<Int>
     ensures tables { result ≡ moment_in (shown state.now).tables subject.now action.now object.now }
     ensures trace { AfterEach (shown state.now) (λ P T. moment subject.now action.now object.now T ≡ result) }

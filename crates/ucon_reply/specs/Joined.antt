@@ -34,7 +34,8 @@ join-cons w (v ∷ vs) rest = refl
 -- the same, with a rest that may hold spaces
 pub split-join_rest : (ws : List Bytes) (rest : Bytes) → Each (Lacks 32) ws → split (join (ws ++ rest ∷ [])) ≡ ws ++ split rest
 split-join_rest [] rest h = refl
-split-join_rest (w ∷ ws) rest h = ap split (join-cons w ws rest) ∙ split_first w (join (ws ++ rest ∷ [])) h.0 ∙ ap (λ vs. w ∷ vs) (split-join_rest ws rest h.1)
+split-join_rest (w ∷ ws) rest h =
+    ap split (join-cons w ws rest) ∙ split_first w (join (ws ++ rest ∷ [])) h.0 ∙ ap (λ vs. w ∷ vs) (split-join_rest ws rest h.1)
 
 -- the place behind words of which the first begins here
 abbrev pub behind : ℕ → List Bytes → ℕ
@@ -44,9 +45,11 @@ behind at (w ∷ ws) = behind (at + length w + 1) ws
 drop-behind : (at : ℕ) (ws : List Bytes) (front rest : Bytes) → length front ≡ at → drop (behind at ws) (front ++ join (ws ++ rest ∷ [])) ≡ rest
 drop-behind at [] front rest here = ap (λ n. drop n (front ++ rest)) (sym here) ∙ drop-append_seam front rest
 drop-behind at (w ∷ ws) front rest here =
-    let longer : length (front ++ (w ++ 32 ∷ [])) ≡ at + length w + 1 = omega (arith, here, length-append front (w ++ 32 ∷ []), length-append w (32 ∷ [])) in
+    let longer : length (front ++ (w ++ 32 ∷ [])) ≡ at + length w + 1 =
+    omega (arith, here, length-append front (w ++ 32 ∷ []), length-append w (32 ∷ [])) in
     let same : front ++ (w ++ 32 ∷ join (ws ++ rest ∷ [])) ≡ (front ++ (w ++ 32 ∷ [])) ++ join (ws ++ rest ∷ []) =
-    ap (λ bs. front ++ bs) (sym (append_assoc w (32 ∷ []) (join (ws ++ rest ∷ [])))) ∙ sym (append_assoc front (w ++ 32 ∷ []) (join (ws ++ rest ∷ []))) in
+    ap (λ bs. front ++ bs) (sym (append_assoc w (32 ∷ []) (join (ws ++ rest ∷ []))))
+    ∙ sym (append_assoc front (w ++ 32 ∷ []) (join (ws ++ rest ∷ []))) in
     ap (λ bs. drop (behind (at + length w + 1) ws) (front ++ bs)) (join-cons w ws rest) ∙ ap (drop (behind (at + length w + 1) ws)) same
     ∙ drop-behind (at + length w + 1) ws (front ++ (w ++ 32 ∷ [])) rest longer
 

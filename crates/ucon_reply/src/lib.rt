@@ -1,4 +1,13 @@
 //! The text of replies, both ways, and the words that lines are made of.
+//!
+//! The output and the journal both write a reply as its one text, so it can be read back from either.
+//!
+//! **Always.** Bytes are read as a reply exactly if they are its one text.
+//!
+//! **Free.** How words are cut and told apart.
+//!
+//! **Before a change.** Commands are cut into words here, too, so a word has one meaning. A reply's text has no newline, and its length has a
+//! bound that lines and records count on. Begin at `replies.rt`, then `line_words.rt`.
 #![tactic(auto)]
 
 mod kinds;

@@ -2,7 +2,8 @@
 
 ghost use Rattle.std.specs.Prelude.{◌≡◌, List, ℕ, map, MatchResult, Some};
 ghost use Rattle.ucon_model.specs.declared.reply.Head.TheVariants as heads;
-ghost use Rattle.ucon_model.specs.ReplyText.{refusal_read, state_read, labelled_read, one_revoked, revoked_read, made_read, numbered_reply, labelled_reply, value_reply, status_of, status_reply, told_read, reply_read};
+ghost use Rattle.ucon_model.specs.ReplyText.{refusal_read, state_read, labelled_read, one_revoked, revoked_read, made_read, numbered_reply};
+ghost use Rattle.ucon_model.specs.ReplyText.{labelled_reply, value_reply, status_of, status_reply, told_read, reply_read};
 ghost use Rattle.ucon_model.specs.Spelling.{reply_spelling};
 ghost use Rattle.ucon_model.specs.Views.{reply_of};
 ghost use Rattle.ucon_reply.specs.Words.{word_of, BeginWithin};

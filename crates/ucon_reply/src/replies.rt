@@ -27,8 +27,8 @@ pub fn reply_text(alloc: Global, reply: &Reply) -> Result<Vec<u8>, NoMemory>
     Ok(text)
 }
 
-/// Adds the one text of a reply, which has no newline in it: at most 4306 bytes, and 52 for each revocation. Where there is no memory, some of it may stand
-/// there: a caller gives the text up.
+/// Adds the one text of a reply, which has no newline in it: at most 4306 bytes, and 52 for each revocation. If there is no memory, some of it may
+/// stand there, so a caller gives the text up.
 pub fn put_reply(alloc: Global, out: &mut Vec<u8>, reply: &Reply) -> Result<(), NoMemory>
     ensures text { OnOk result (out.new.items ≡ out.old.items ++ reply_spelling (reply_of reply.now)) }
     ensures read_back { OnOk result (reply_read (reply_spelling (reply_of reply.now)) ≡ Some (reply_of reply.now)) }
@@ -39,7 +39,7 @@ pub fn put_reply(alloc: Global, out: &mut Vec<u8>, reply: &Reply) -> Result<(), 
     put_spelling(alloc, out, reply)
 }
 
-/// Adds the one text of a reply, and tells that the reply is in form, from which what [`put_reply`] tells follows. Where there is no memory, some of
+/// Adds the one text of a reply, and tells that the reply is in form, from which what [`put_reply`] tells follows. If there is no memory, some of
 /// it may stand there: a caller gives the text up.
 #[inline(always)]
 pub fn put_spelling(alloc: Global, out: &mut Vec<u8>, reply: &Reply) -> Result<(), NoMemory>

@@ -13,12 +13,15 @@ pub cut_at-append : (byte : ℕ) (xs ys : Bytes) → Lacks byte xs → cut_at by
 cut_at-append byte [] ys h = rw (eq-eqb byte byte refl) refl
 cut_at-append byte (x ∷ xs) ys h = rw (h.0, cut_at-append byte xs ys h.1) refl
 
-cut_kept : (o : Option (Bytes × Bytes)) (b : ℕ) (p : Bytes × Bytes) → option_map (λ q. (b ∷ q.0, q.1)) o ≡ Some p → (q : Bytes × Bytes) × ((o ≡ Some q) × ((b ∷ q.0, q.1) ≡ p))
+cut_kept : (o : Option (Bytes × Bytes)) (b : ℕ) (p : Bytes × Bytes) → option_map (λ q. (b ∷ q.0, q.1)) o ≡ Some p
+    → (q : Bytes × Bytes) × ((o ≡ Some q) × ((b ∷ q.0, q.1) ≡ p))
 cut_kept None b p h = absurd (nothing h)
 cut_kept (Some q) b p h = (q, (refl, ap (λ o. unwrap_or o p) h))
 
 cut_more : (byte b : ℕ) (bs : Bytes) (p : Bytes × Bytes) → ((q : Bytes × Bytes) → cut_at byte bs ≡ Some q → q.0 ++ byte ∷ q.1 ≡ bs)
-    → (same : Bool) → (b == byte) ≡ same → cond {A = Option (Bytes × Bytes)} same (Some ([], bs)) (option_map (λ q. (b ∷ q.0, q.1)) (cut_at byte bs)) ≡ Some p → p.0 ++ byte ∷ p.1 ≡ b ∷ bs
+    → (same : Bool) → (b == byte) ≡ same
+    → cond {A = Option (Bytes × Bytes)} same (Some ([], bs)) (option_map (λ q. (b ∷ q.0, q.1)) (cut_at byte bs)) ≡ Some p
+    → p.0 ++ byte ∷ p.1 ≡ b ∷ bs
 cut_more byte b bs p next true is h =
     let e : ([], bs) ≡ p = ap (λ o. unwrap_or o p) h in
     ap (λ (q : Bytes × Bytes). q.0 ++ byte ∷ q.1) (sym e) ∙ ap (λ (n : ℕ). n ∷ bs) (sym (eqb-true b byte is))
@@ -31,7 +34,8 @@ cut_is byte [] p h = absurd (nothing h)
 cut_is byte (b ∷ bs) p h = cut_more byte b bs p (cut_is byte bs) (b == byte) refl h
 
 lacks_more : (byte b : ℕ) (bs : Bytes) (p : Bytes × Bytes) → ((q : Bytes × Bytes) → cut_at byte bs ≡ Some q → Lacks byte q.0)
-    → (same : Bool) → (b == byte) ≡ same → cond {A = Option (Bytes × Bytes)} same (Some ([], bs)) (option_map (λ q. (b ∷ q.0, q.1)) (cut_at byte bs)) ≡ Some p → Lacks byte p.0
+    → (same : Bool) → (b == byte) ≡ same
+    → cond {A = Option (Bytes × Bytes)} same (Some ([], bs)) (option_map (λ q. (b ∷ q.0, q.1)) (cut_at byte bs)) ≡ Some p → Lacks byte p.0
 lacks_more byte b bs p next true is h =
     let e : ([], bs) ≡ p = ap (λ o. unwrap_or o p) h in
     let P : Bytes × Bytes → Type 0 = λ q. Lacks byte q.0 in subst P e tt

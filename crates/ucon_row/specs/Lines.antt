@@ -14,7 +14,7 @@ use Rattle.ucon_model.specs.Spelling.{state_word}
 abbrev pub line : List Bytes → Bytes
 line words = join_with_byte 32 words ++ 10 ∷ []
 
--- a word, a name and its value; no line where it has none
+-- a word, a name and its value; no line if it has none
 abbrev pub value_line : Bytes → Bytes → Option Value → Bytes
 value_line word name None = []
 value_line word name (Some v) = line (word ∷ name ∷ value_spelling v ∷ [])
@@ -34,4 +34,5 @@ act_words a moment = codes "act" ∷ a.0 ∷ a.1 ∷ a.2 ∷ signed_decimal mome
 
 -- a session
 abbrev pub session_words : SessionRow → List Bytes
-session_words row = codes "session" ∷ decimal row.caller.0 ∷ row.right ∷ row.subject ∷ row.object ∷ state_word row.state ∷ signed_decimal row.start ∷ []
+session_words row =
+    codes "session" ∷ decimal row.caller.0 ∷ row.right ∷ row.subject ∷ row.object ∷ state_word row.state ∷ signed_decimal row.start ∷ []

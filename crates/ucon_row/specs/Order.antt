@@ -51,12 +51,12 @@ beginning = record { stage = Variables; values = 0 }
 abbrev pub awaited : PlainPolicy → Reached → Option (Bytes × Kind)
 awaited Q r = slice_get (declared_in Q r.stage) r.values
 
--- a value may come only where one of its name and kind is awaited
+-- a value may come only if one of its name and kind is awaited
 abbrev pub with_value : Option (Bytes × Kind) → Reached → Bytes → Value → Option Reached
 with_value None r name v = None
 with_value (Some d) r name v = if bytes_eq name d.0 && admits d.1 v then Some (record { stage = r.stage; values = r.values + 1 }) else None
 
--- any other row only where no value is awaited, and none of a later sort came
+-- any other row only if no value is awaited, and none of a later sort came
 abbrev pub with_row : Option (Bytes × Kind) → Reached → Stage → Option Reached
 with_row None r stage = if nat_le (rank r.stage) (rank stage) then Some (record { stage = stage; values = 0 }) else None
 with_row (Some d) r stage = None
@@ -65,7 +65,7 @@ abbrev pub is_variables : Stage → Bool
 is_variables Variables = true
 is_variables stage = false
 
--- how far the rows have come with one more; None where it may not come
+-- how far the rows have come with one more; None if it may not come
 abbrev pub after : PlainPolicy → Reached → Row → Option Reached
 after Q r (Variable name v) = if is_variables r.stage then with_value (awaited Q r) r name v else None
 after Q r (Attribute name v) = if is_variables r.stage then None else with_value (awaited Q r) r name v

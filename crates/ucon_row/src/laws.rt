@@ -13,8 +13,8 @@ ghost use Rattle.ucon_row.specs.RowText.{IsRow, IsSpelled, row_read, row_spellin
 use ucon_base::values_are_read_back;
 use ucon_model::texts_lack_bytes;
 
-/// Each row's line is read as the row, and bytes that are read are the line of the row read, which is of names, values and one of the 64
-/// clients. No row's line has a newline.
+/// Each row's line is read as the row. Bytes that are read are the line of the row read, which is of names, values and one of the 64 clients. No
+/// row's line has a newline.
 pub fn rows_are_read_back()
     ensures written { (row : Row) → IsRow row → row_read (row_spelling row) ≡ Some row }
     ensures read { (line : Bytes) (row : Row) → row_read line ≡ Some row → (row_spelling row ≡ line) × IsRow row }

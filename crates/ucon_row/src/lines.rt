@@ -1,4 +1,4 @@
-//! Lines of rows, one of each sort. Where there is no memory, some of a line may stand there: a caller gives the text up.
+//! Lines of rows, one of each sort. If there is no memory, some of a line may stand there: a caller gives the text up.
 
 ghost use Rattle.std.specs.Prelude.{◌≡◌, [], ◌∷◌, ◌++◌, codes, decimal, option_copied, OnOk};
 ghost use Rattle.std.specs.Fmt.{signed_decimal};

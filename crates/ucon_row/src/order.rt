@@ -38,7 +38,7 @@ pub fn beginning() -> Reached
     }
 }
 
-/// How far the rows have come with one more. None where it may not come.
+/// How far the rows have come with one more. None if it may not come.
 pub fn after(policy: &Policy, reached: Reached, row: &Row) -> Option<Reached>
     ensures { result ≡ after (policy_of policy.now) reached row.now }
 {
@@ -94,7 +94,7 @@ fn attribute_at(attrs: &[AttrDecl], side: Side, n: usize) -> Option<(Name, Kind)
     None
 }
 
-/// A value may come only where one of its name and kind is awaited.
+/// A value may come only if one of its name and kind is awaited.
 fn with_value(
     awaited: Option<(Name, Kind)>,
     reached: Reached,
@@ -113,7 +113,7 @@ fn with_value(
     }
 }
 
-/// Any other row may come only where no value is awaited, and none of a later sort came.
+/// Any other row may come only if no value is awaited, and none of a later sort came.
 fn with_row(awaited: Option<(Name, Kind)>, reached: Reached, stage: Stage) -> Option<Reached>
     ensures { result ≡ with_row awaited reached stage }
 {

@@ -1,5 +1,11 @@
-//! Laws of runs: that every run is a legal one, goes on behind another, and is read back from what it prints and stores. No code: the program
-//! stands on these, and no engine does.
+//! Laws of runs: every run is a legal one, goes on behind another, and is read back from what it prints and stores. It has no code.
+//!
+//! The program stands on these laws, and no engine does.
+//!
+//! **Free.** How the laws are proved.
+//!
+//! **Before a change.** `ucon_command`, `ucon_trial`, `ucon_store` and the crates above cite these laws, so a statement that gets weaker shows
+//! there. Begin at `laws.rt`.
 #![tactic(auto)]
 
 mod finding;

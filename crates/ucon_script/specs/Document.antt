@@ -35,7 +35,7 @@ spelled_line l = record { number = l.number; caller = l.caller; command = spelle
 abbrev pub lines_spelled : Script → List ScriptLine
 lines_spelled s = map spelled_line s.lines.items
 
--- the document's fault where the line of this number has this one
+-- the document's fault if the line of this number has this one
 abbrev pub fault_of : ℕ → LineFault → DocFault
 fault_of n (faults.NoMemory e) = NoMemory e
 fault_of n f = BadLine n f
@@ -57,8 +57,8 @@ IsCause read (TooManyClients n) = read ≡ Err (too_many_clients n)
 IsCause read (TooManyLines n) = read ≡ Err (too_many_lines n)
 IsCause read (NoMemory e) = ⊤
 
--- a fault where a line says this: all but a command is told whatever memory there is, so that there is no fault for a line that says
--- nothing or is a heading, and a wrong heading, a line above the first heading and one command line too many have their own
+-- This fault is told of a line that says this. All but a command is told whatever memory there is. So there is no fault for a line that says
+-- nothing or is a heading. A wrong heading, a line above the first heading and one command line too many have their own.
 abbrev pub IsSure : Result (Option ScriptLine) DocumentRefusal → DocFault → Type 0
 IsSure (Ok None) f = ⊥
 IsSure (Ok (Some said)) f = ⊤

@@ -2,7 +2,8 @@
 use Rattle.std.specs.Prelude.{◌≡◌, ℕ, ◌+◌, ◌||◌, List, [], ◌∷◌, Option, Some, None, option_map, Result, Ok, if◌then◌else◌}
 use Rattle.ucon_model.specs.declared.command.Caller.{Caller}
 use Rattle.ucon_model.specs.Plain.{Bytes}
-use Rattle.ucon_model.specs.Document.{ScriptLine, DocumentRefusal, is_skipped, is_heading, heading_number, caller_of, line_told, before_next, lines_of, script_lines, script_number, script_told}
+use Rattle.ucon_model.specs.Document.{ScriptLine, DocumentRefusal, is_skipped, is_heading, heading_number, caller_of, line_told, before_next}
+use Rattle.ucon_model.specs.Document.{lines_of, script_lines, script_number, script_told}
 use Rattle.ucon_syntax.specs.Policies.{accepted}
 use Rattle.ucon_script.specs.declared.part.Divider.{Divider}
 
@@ -17,9 +18,12 @@ count_after said l = if is_skipped l || is_heading l then said else said + 1
 -- what the lines from this number on say, below a heading of this client, if any, and so many command lines
 abbrev pub told_from : ℕ → Option Caller → ℕ → List Bytes → Result (List ScriptLine) DocumentRefusal
 told_from n client said [] = Ok []
-told_from n client said (l ∷ ls) = before_next (line_told accepted n client said l) (told_from (n + 1) (client_after client l) (count_after said l) ls)
+told_from n client said (l ∷ ls) =
+    before_next (line_told accepted n client said l) (told_from (n + 1) (client_after client l) (count_after said l) ls)
 
 -- a text's script begins behind this divider; without one it says nothing
 abbrev pub Divides : Bytes → Option Divider → Type 0
 Divides text None = script_lines (lines_of text) ≡ []
-Divides text (Some d) = (script_number (lines_of text) ≡ d.above + 2) × ((n : ℕ) → script_told accepted n [] (lines_of d.script.now) ≡ script_told accepted n [] (script_lines (lines_of text)))
+Divides text (Some d) =
+    (script_number (lines_of text) ≡ d.above + 2)
+    × ((n : ℕ) → script_told accepted n [] (lines_of d.script.now) ≡ script_told accepted n [] (script_lines (lines_of text)))

@@ -37,7 +37,7 @@ impl From<NoMemory> for DocFault {
     }
 }
 
-/// The document's fault where a line of this number has this one.
+/// The document's fault if a line of this number has this one.
 pub fn fault_of(number: u32, fault: LineFault) -> DocFault
     ensures { result ≡ fault_of number fault }
 {

@@ -4,7 +4,8 @@ ghost use Rattle.std.specs.Prelude.{◌≡◌, ◌≤◌, ◌<◌, ◌+◌, ◌^
 ghost use Rattle.std.specs.Fmt.{decimal};
 ghost use Rattle.ucon_base.specs.Name.{first_fault};
 ghost use Rattle.ucon_model.specs.Document.{caller_of};
-ghost use Rattle.ucon_model.specs.Generated.{next_x, below, user, video, drawn, drawn_try, drawn_at_session, drawn_tick, drawn_credit, generated, part_lines, text_of};
+ghost use Rattle.ucon_model.specs.Generated.{next_x, below, user, video, drawn, drawn_try, drawn_at_session, drawn_tick, drawn_credit, generated};
+ghost use Rattle.ucon_model.specs.Generated.{part_lines, text_of};
 ghost use Rattle.ucon_script.specs.Generator.{HasRoom, generator_of};
 
 use std::alloc::Global;
@@ -161,7 +162,7 @@ impl Generator {
         Entry { caller, command }
     }
 
-    /// A session that was tried. Where none was, none is drawn.
+    /// A session that was tried. If none was, none is drawn.
     fn session(&mut self) -> Option<u32>
         ensures some { IfSome result (λ n. (0 < self.old.tries) × (n ≡ 1 + below self.old.tries (next_x self.old.x))
             × (self.new ≡ record self.old { x = next_x self.old.x })) }

@@ -9,8 +9,8 @@ ghost use Rattle.ucon_syntax.specs.Policies.{accepted};
 
 use ucon_command::commands_are_read_back;
 
-/// A document's command lines are those that its script's lines say, told one after the other as a reader of the script tells them: each by its
-/// number, the client of the nearest heading above, and the number of command lines above.
+/// A document's command lines are those that its script's lines say, told one after the other. A reader of the script tells each by its number,
+/// the client of the nearest heading above, and the number of command lines above.
 pub fn documents_are_read_line_by_line()
     ensures { (bytes : Bytes)
         → let lines = lines_of bytes in document_read accepted bytes ≡ told_from (script_number lines) None 0 (script_lines lines) }

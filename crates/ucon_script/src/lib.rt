@@ -1,4 +1,14 @@
 //! Documents: the policy part, and the command lines of the script behind it.
+//!
+//! Each form that reads a document reads it here. A `Script` has its lines lent from the document's bytes, 32 bytes a line, each judged once. A
+//! `Document` has commands of its own. `draws.rt` makes the documents of `gen`.
+//!
+//! **Always.** A `LineText` holds bytes that spell a command.
+//!
+//! **Free.** How lines are found. The order of refusals is defined.
+//!
+//! **Before a change.** A line is judged by the nearest heading above it, so the definition has no state. Kept as a command, each line would take
+//! the room of the longest. Begin at `read.rt`.
 #![tactic(auto)]
 
 mod doc_fault;

@@ -18,7 +18,7 @@ pub struct Divider<'a> {
     pub script: &'a [u8],
 }
 
-/// The bytes before the divider, and all of them where there is none.
+/// The bytes before the divider, and all of them if there is none.
 pub fn policy_part(bytes: &[u8]) -> &[u8]
     ensures { result.now ≡ policy_part bytes.now }
 {

@@ -44,8 +44,8 @@ impl ScriptReader {
         }
     }
 
-    /// The command line that the next line is, given without its newline; None where it is a heading or says nothing, being empty or begun with `#`. A
-    /// line that is refused is counted as read, and changes nothing else. All but a command is told whatever memory there is.
+    /// The command line that the next line is, given without its newline. None if it is a heading or says nothing: it is empty or begins with `#`.
+    /// A line that is refused is counted as read, and changes nothing else. All but a command is told whatever memory there is.
     pub fn line<'a>(
         &mut self,
         alloc: Global,
@@ -104,7 +104,8 @@ fn command_line<'a>(
     }
 }
 
-/// What stands behind the word `client` and a space, where that is a line's first word. Most lines begin with another byte, and aren't looked at further.
+/// What stands behind the word `client` and a space, if that is a line's first word. Most lines begin with another byte, and aren't looked at
+/// further.
 #[inline(always)]
 #[tactic(auto, using(crate::proofs::Headings::other_byte))]
 fn behind_client(line: &[u8]) -> Option<&[u8]>

@@ -64,7 +64,7 @@ pub record StopsAt (bytes : List ℕ) (p : ℕ) : Type 0 where
   pub stopped : Stops front rest
   pub place : p ≡ length front
 
--- The place of a bad spelling: the `"` of a text that doesn't rise, and where no text falls so, the first place where the bytes stop
--- being the beginning of a spelling.
+-- The place of a bad spelling. It is the `"` of a text that doesn't rise. If no text falls so, it is the first place where the bytes stop being
+-- the beginning of a spelling.
 abbrev pub IsBadPlace : List ℕ → ℕ → Type 0
 IsBadPlace bytes p = FallsAt bytes p ⊎ (StopsAt bytes p × ((q : ℕ) → ¬ FallsAt bytes q))

@@ -9,7 +9,7 @@ ghost use Rattle.ucon_spelling.specs.Spellings.{IsSpelling, Begins, FallsAt, IsB
 
 use ucon_base::values_are_read_back;
 
-/// Bytes are refused for their spelling, at some place, exactly where they are no spelling of any length. A value's spelling is one.
+/// Bytes are refused for their spelling, at some place, exactly if they are no spelling of any length. A value's spelling is one.
 pub fn spellings_are_what_is_not_bad()
     ensures spelled { (bytes : List ℕ) (p : ℕ) → IsSpelling bytes → value_read bytes ≢ Err (BadSpelling p) }
     ensures read { (bytes : List ℕ) (v : Value) → value_read bytes ≡ Ok v → IsSpelling bytes }
@@ -19,8 +19,8 @@ pub fn spellings_are_what_is_not_bad()
     values_are_read_back();
 }
 
-/// The place of a bad spelling is the opening `"` of a set's text that doesn't rise; where there is none, it is the first place where the
-/// bytes stop being the beginning of a spelling, or their length where they end too soon.
+/// The place of a bad spelling is the opening `"` of a set's text that doesn't rise; if there is none, it is the first place where the
+/// bytes stop being the beginning of a spelling, or their length if they end too soon.
 pub fn bad_places_are_those_of_the_reader()
     ensures place { (bytes : List ℕ) (p : ℕ) → (value_read bytes ≡ Err (BadSpelling p)) ↔ IsBadPlace bytes p }
     ensures within { (bytes : List ℕ) (p : ℕ) → value_read bytes ≡ Err (BadSpelling p) → p ≤ length bytes }

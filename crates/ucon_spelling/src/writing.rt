@@ -8,7 +8,7 @@ ghost use Rattle.ucon_base.specs.TextBytes.{is_text};
 use std::alloc::Global;
 use ucon_base::{NoMemory, Text, Value, put, put_integer};
 
-/// Adds the one spelling of a value and tells that the value is in form, or adds nothing where there is no memory.
+/// Adds the one spelling of a value and tells that the value is in form, or adds nothing if there is no memory.
 pub fn put_spelling(alloc: Global, out: &mut Vec<u8>, v: &Value) -> Result<(), NoMemory>
     ensures ok { OnOk result (out.new.items ≡ out.old.items ++ value_spelling v.now) }
     ensures err { OnErr result (out.new.items ≡ out.old.items) }
@@ -31,7 +31,7 @@ fn spelling(alloc: Global, v: &Value) -> Result<Vec<u8>, NoMemory>
     Ok(text)
 }
 
-/// Adds bytes between quotes. Where there is no memory, some of it may stand there: a caller gives the text up.
+/// Adds bytes between quotes. If there is no memory, some of it may stand there: a caller gives the text up.
 pub fn put_quoted(out: &mut Vec<u8>, bytes: &[u8]) -> Result<(), NoMemory>
     ensures { OnOk result (out.new.items ≡ out.old.items ++ quoted bytes.now) }
 {

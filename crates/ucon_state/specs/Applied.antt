@@ -1,5 +1,6 @@
 -- What each action makes of the tables.
-use Rattle.std.specs.Prelude.{Bool, true, false, ℕ, ℤ, pos, ◌+◌, ◌-◌, List, [], ◌∷◌, ◌++◌, length, map, slice_get, slice_set, option_and_then, unwrap_or}
+use Rattle.std.specs.Prelude.{Bool, true, false, ℕ, ℤ, pos, ◌+◌, ◌-◌, List, [], ◌∷◌, ◌++◌, length, map, slice_get, slice_set, option_and_then}
+use Rattle.std.specs.Prelude.{unwrap_or}
 use Rattle.std.specs.Option.{option_map_or}
 use Rattle.indexmap.specs.IndexMap.{insert_entry}
 use Rattle.ucon_base.specs.declared.value.Side.{Side}
@@ -46,7 +47,7 @@ with_variable t position v = record t { variables = slice_set t.variables positi
 abbrev pub with_tick : {S : Type 0} → TablesOf S → ℤ → TablesOf S
 with_tick t now = record t { tick = now }
 
--- with this act as done now: at its own position, or behind the others where it was never done
+-- with this act as done now: at its own position, or behind the others if it was never done
 abbrev pub with_act : {S : Type 0} → TablesOf S → Act → TablesOf S
 with_act t a = record t { acts = insert_entry same_act t.acts a t.tick }
 
@@ -74,7 +75,7 @@ may_become Accessing Ended = true
 may_become Accessing Revoked = true
 may_become before after = false
 
--- a session once it is in this state; where it becomes accessing, it starts now
+-- a session once it is in this state; if it becomes accessing, it starts now
 abbrev pub moved_to : SessionState → ℤ → SessionRow → SessionRow
 moved_to Accessing now row = record row { state = Accessing; start = now }
 moved_to state now row = record row { state = state }
@@ -85,7 +86,7 @@ with_state t n state = option_map_or (λ row. with_row t (n - 1) (moved_to state
 
 -- ---- a policy that replaces another
 
--- what an entity with this first one of the cells has of a declaration: what it had, where the policy before declares it, else the default
+-- what an entity with this first one of the cells has of a declaration: what it had, if the policy before declares it, else the default
 abbrev pub kept_value : PlainPolicy → List Value → Side → ℕ → AttrDecl → Value
 kept_value P cells side first d =
     unwrap_or (option_and_then (λ position. slice_get cells (first + position)) (attr_position P side d.name)) d.start
@@ -104,7 +105,7 @@ abbrev pub laid_from : ℕ → ℕ → List (Bytes × ℕ) → List (Bytes × �
 laid_from first width [] = []
 laid_from first width (e ∷ es) = (e.0, first) ∷ laid_from (first + width) width es
 
--- what a variable has of a declaration: what it had, where the policy before declares it, else the default
+-- what a variable has of a declaration: what it had, if the policy before declares it, else the default
 abbrev pub kept_variable : {S : Type 0} → PlainPolicy → TablesOf S → EnvDecl → Value
 kept_variable P t d = unwrap_or (variable_in P t d.name) d.start
 

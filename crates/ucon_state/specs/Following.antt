@@ -7,7 +7,8 @@ use Rattle.ucon_base.specs.declared.value.Side.TheVariants.{Subject, Object}
 use Rattle.ucon_base.specs.declared.value.Value.{Value}
 use Rattle.ucon_model.specs.Plain.{Bytes, PlainPolicy}
 use Rattle.ucon_model.specs.Action.{Action, Trace}
-use Rattle.ucon_model.specs.Readings.{in_force, tick_of, has_entity, entities, entity_names, declared_attr, attribute, env_position, variable, moment, act_rows, acts, session, sessions, accessing}
+use Rattle.ucon_model.specs.Readings.{in_force, tick_of, has_entity, entities, entity_names, declared_attr, attribute, env_position, variable, moment}
+use Rattle.ucon_model.specs.Readings.{act_rows, acts, session, sessions, accessing}
 use Rattle.ucon_model.specs.Truth.{readings}
 use Rattle.ucon_model.specs.Legal.{IsLegal}
 use Rattle.ucon_model.specs.History.{Agree}
@@ -15,7 +16,8 @@ use Rattle.ucon_model.specs.Sound.{IsSound}
 use Rattle.ucon_model.specs.Typing.{IsTyped}
 use Rattle.ucon_state.specs.declared.act.Act.{Act}
 use Rattle.ucon_state.specs.declared.counts.Counts.{Counts}
-use Rattle.ucon_state.specs.Tables.{Tables, entities_of, entity_number, width, first_cell, cell_of, attribute_in, variable_in, same_act, session_in, readings_in, counts_in}
+use Rattle.ucon_state.specs.Tables.{Tables, entities_of, entity_number, width, first_cell, cell_of, attribute_in, variable_in, same_act, session_in}
+use Rattle.ucon_state.specs.Tables.{readings_in, counts_in}
 use Rattle.ucon_state.specs.Applied.{applied}
 use Rattle.ucon_state.specs.Shown.{Shown}
 
@@ -107,13 +109,14 @@ abbrev pub AfterEach : Shown → (PlainPolicy → Trace → Type 0) → Type 0
 AfterEach s Q = (P : PlainPolicy) (T : Trace) → Follows s P T → Q P T
 
 -- Tables under a policy give to read what a trace does, and count what it counts. The entities of a side stand in the order in which
--- they were first made, each under one number; an attribute has a cell where its entity is there and it is declared for the side.
+-- they were first made, each under one number; an attribute has a cell if its entity is there and it is declared for the side.
 pub record Keeps (Q : PlainPolicy) (t : Tables) (P : PlainPolicy) (T : Trace) : Type 0 where
   pub readings_agree : Agree (readings_in Q t) (readings P T)
   pub counts_agree : counts_in t ≡ counts_of T
   pub names : (side : Side) → map (λ e. e.0) (entities_of side t) ≡ entity_names side T
   pub entity_is_there : (side : Side) (name : Bytes) → is_some (entity_number t side name) ≡ has_entity side name T
-  pub number_is_position : (side : Side) (name : Bytes) (i : ℕ) → (entity_number t side name ≡ Some i) ↔ (slice_get (entity_names side T) i ≡ Some name)
+  pub number_is_position : (side : Side) (name : Bytes) (i : ℕ) → (entity_number t side name ≡ Some i)
+      ↔ (slice_get (entity_names side T) i ≡ Some name)
   pub cell_is_there : (side : Side) (name attr : Bytes)
       → is_some (cell_of Q t side name attr) ≡ (has_entity side name T && is_some (declared_attr (in_force P T).attrs side attr))
   pub attribute_agrees : (side : Side) (name attr : Bytes) → attribute_in Q t side name attr ≡ attribute P T side name attr

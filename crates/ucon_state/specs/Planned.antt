@@ -41,7 +41,7 @@ IsEnough P check asked = (R : Readings) (row : SessionRow) → IsMet P R row che
 abbrev pub AreEnough : PlainPolicy → List Check → List PlainPredicate → Type 0
 AreEnough P checks preds = (R : Readings) (row : SessionRow) → All (IsMet P R row) checks → first_false R row ongoing preds ≡ None
 
--- where there are checks at the position of a right, they are enough for its predicates
+-- if there are checks at the position of a right, they are enough for its predicates
 abbrev pub ArePlans : PlainPolicy → List (Option (Vec Check Global)) → Type 0
 ArePlans P plans =
     (k : ℕ) (r : PlainRight) (checks : Vec Check Global) → slice_get P.rights k ≡ Some r → slice_get plans k ≡ Some (Some checks)

@@ -41,7 +41,7 @@ StartsAtZero Requesting start = start ≡ pos 0
 StartsAtZero Denied start = start ≡ pos 0
 StartsAtZero state start = Unit {0}
 
--- where a session in this state is accessing, there is room for one more that is
+-- if a session in this state is accessing, there is room for one more that is
 abbrev pub HasRoomIn : Tables → SessionState → Type 0
 HasRoomIn t Accessing = accessing_among t.sessions < 65536
 HasRoomIn t state = Unit {0}

@@ -42,4 +42,5 @@ IsKept P rights t = IsSound P t × AreNumbered rights t.subjects t.objects t.ses
 -- the tables are so under the policy, and its rights are among these: now and at each stage of undoing these changes
 abbrev pub AllSound : PlainPolicy → List Bytes → List Undo → Stored → Type 0
 AllSound P rights changes t =
-    (kept : ℕ) → IsKept (policy_undone (drop kept changes) P) rights (all_undone (drop kept changes) t) × HasRights (policy_undone (drop kept changes) P) rights
+    (kept : ℕ) → IsKept (policy_undone (drop kept changes) P) rights (all_undone (drop kept changes) t)
+    × HasRights (policy_undone (drop kept changes) P) rights

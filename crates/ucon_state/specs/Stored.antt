@@ -26,7 +26,7 @@ moved_at state start (suc position) (s ∷ ss) = s ∷ moved_at state start posi
 abbrev pub with_moved : Stored → ℕ → SessionState → ℤ → Stored
 with_moved t position state start = record t { sessions = moved_at state start position t.sessions }
 
--- when a session starts that goes into this state: now where it becomes accessing, else as before
+-- when a session starts that goes into this state: now if it becomes accessing, else as before
 abbrev pub start_in : SessionState → ℤ → ℤ → ℤ
 start_in Accessing now before = now
 start_in state now before = before

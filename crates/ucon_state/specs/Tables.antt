@@ -1,5 +1,6 @@
 -- What a state keeps, as lists, and what can be read off it.
-use Rattle.std.specs.Prelude.{◌≡◌, ℕ, suc, zero, ℤ, ◌+◌, Bool, ◌&&◌, IsTrue, List, length, map, position, count_by, Option, Some, None, IsSomeAnd, option_and_then, option_map, slice_get}
+use Rattle.std.specs.Prelude.{◌≡◌, ℕ, suc, zero, ℤ, ◌+◌, Bool, ◌&&◌, IsTrue, List, length, map, position, count_by, Option, Some, None, IsSomeAnd}
+use Rattle.std.specs.Prelude.{option_and_then, option_map, slice_get}
 use Rattle.std.specs.Map.{lookup}
 use Rattle.std.specs.Str.{bytes_eq}
 use Rattle.ucon_base.specs.declared.value.Side.{Side}

@@ -33,7 +33,7 @@ pub fn env_defaults(alloc: Global, checked: &Checked) -> Result<Vec<Value>, NoMe
     Ok(defaults)
 }
 
-/// The names of the rights, which a 32-bit number counts: more of them are answered as want of memory.
+/// The names of the rights, which a 32-bit number counts: more of them are answered as out of memory.
 pub fn right_names(alloc: Global, checked: &Checked) -> Result<Vec<Name>, NoMemory>
     ensures names { IfOk result (λ names. names.items ≡ map (λ r. r.name) (checked_policy checked.now).rights) }
     ensures few { IfOk result (λ names. length names.items < 2 ^ 32) }

@@ -38,7 +38,7 @@ impl State {
         self.counts().acts
     }
 
-    /// The name of an entity by its number among those of its side, from 0 in the order in which they were made. None where there is
+    /// The name of an entity by its number among those of its side, from 0 in the order in which they were made. None if there is
     /// none of this number.
     pub fn entity(&self, side: Side, number: u32) -> Option<Name>
         ensures { result ≡ slice_get ((held self.now).names side) number }
@@ -47,7 +47,7 @@ impl State {
         Some(*name)
     }
 
-    /// An act by its number, from 0 in the order in which they were first done. None where there is none of this number.
+    /// An act by its number, from 0 in the order in which they were first done. None if there is none of this number.
     pub fn act(&self, number: u32) -> Option<ActRow>
         ensures names { option_map names_of result ≡ slice_get (held self.now).acts number }
         ensures moment { IfSome result (λ row. (held self.now).moment row.subject row.action row.object ≡ Some row.moment) }

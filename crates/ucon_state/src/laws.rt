@@ -31,8 +31,8 @@ pub fn each_action_is_followed()
     legal_actions_keep_traces_sound();
 }
 
-/// The tables of a state keep each trace that it follows, all of it that commands ask for: who is there and under which number, the
-/// cells of attributes, the values, the acts, the sessions, and how many there are of each sort.
+/// The tables of a state keep each trace that it follows: all of it that commands ask for. That is who is there and under which number, the cells
+/// of attributes, the values, the acts, the sessions, and how many there are of each sort.
 pub fn tables_keep_what_is_followed()
     ensures { (s : Shown) (P : PlainPolicy) (T : Trace) → Follows s P T → Keeps s.policy s.tables P T }
 {}

@@ -16,7 +16,7 @@ pub struct Numbers {
 }
 
 impl State {
-    /// The numbers of a session's right, its subject and its object. None where there is no such session.
+    /// The numbers of a session's right, its subject and its object. None if there is no such session.
     pub fn numbers(&self, session: u32) -> Option<Numbers>
         ensures { option_map (names_by self.now) result ≡ option_map names_of (session_in (shown self.now).tables session) }
     {

@@ -31,7 +31,7 @@ pub enum Check {
     Lasts(Int),
 }
 
-/// By the position of each right checks that are enough for all its ongoing predicates; None where one of them is of another form.
+/// By the position of each right checks that are enough for all its ongoing predicates; None if one of them is of another form.
 #[derive(Drop)]
 pub struct Plans {
     by_right: Vec<Option<Vec<Check>>>,
@@ -65,7 +65,7 @@ impl Planned {
         self.checked.policy()
     }
 
-    /// The checks of the right at a position. None where there are none that are enough.
+    /// The checks of the right at a position. None if there are none that are enough.
     #[inline(always)]
     pub fn plan(&self, right: usize) -> Option<&[Check]>
         ensures there { IsSome result → right < length (checked_policy self.now.checked).rights }
@@ -91,7 +91,7 @@ fn plans_of(alloc: Global, policy: &Policy) -> Result<Vec<Option<Vec<Check>>>, N
     Ok(plans)
 }
 
-/// Checks that are enough for a right's ongoing predicates. None where one of them is of another form.
+/// Checks that are enough for a right's ongoing predicates. None if one of them is of another form.
 fn plan_of(alloc: Global, policy: &Policy, right: &Right) -> Result<Option<Vec<Check>>, NoMemory>
     ensures { IfOk result (λ plan. IfSome plan (λ checks. AreEnough (policy_of policy.now) checks.items (right_of right.now).preds)) }
 {
@@ -148,7 +148,7 @@ fn position_of(policy: &Policy, place: &Ref) -> Option<(Side, usize)>
     }
 }
 
-/// From where to where an integer compares so with n. None where no integer does, or those that do have a gap.
+/// The range of integers for which the comparison with n holds. None if there is none, or it has a gap.
 fn range_of(op: Op, n: Int) -> Option<(Int, Int)>
     ensures { IfSome result (λ range. (m : ℤ) → range.0 ≤ℤ m → m ≤ℤ range.1 → compares op (IntValue m) (IntValue n) ≡ true) }
 {

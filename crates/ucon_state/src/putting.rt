@@ -57,7 +57,7 @@ impl State {
     }
 }
 
-/// Whether there is room for one more session in this state, where so many are accessing.
+/// Whether there is room for one more session in this state, if so many are accessing.
 fn has_room_in(state: SessionState, accessing: u32) -> bool
     ensures { (t : Tables) → accessing ≡ accessing_among t.sessions → IsTrue result ↔ HasRoomIn t state }
 {
@@ -67,7 +67,7 @@ fn has_room_in(state: SessionState, accessing: u32) -> bool
     }
 }
 
-/// Whether a session in this state may have this start: 0, where it was never permitted.
+/// Whether a session in this state may have this start: 0, if it was never permitted.
 fn starts_at_zero(state: SessionState, start: Int) -> bool
     ensures { IsTrue result ↔ StartsAtZero state start }
 {

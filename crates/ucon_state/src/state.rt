@@ -1,6 +1,7 @@
 //! The state of a policy, and its changes.
 
-ghost use Rattle.std.specs.Prelude.{◌≡◌, true, map, [], ◌∷◌, ◌++◌, ◌≤ℤ◌, ◌<◌, ◌+◌, ◌⊎◌, length, position, Some, None, OnOk, OnErr, IfOk, IfSome, IsSome, IsSomeAnd, IsTrue, is_some, vec_len, vec_capacity};
+ghost use Rattle.std.specs.Prelude.{◌≡◌, true, map, [], ◌∷◌, ◌++◌, ◌≤ℤ◌, ◌<◌, ◌+◌, ◌⊎◌, length, position, Some, None, OnOk, OnErr, IfOk, IfSome};
+ghost use Rattle.std.specs.Prelude.{IsSome, IsSomeAnd, IsTrue, is_some, vec_len, vec_capacity};
 ghost use Rattle.std.specs.Str.{bytes_eq};
 ghost use Rattle.ucon_base.specs.Admits.{admits};
 ghost use Rattle.ucon_model.specs.Action as actions;
@@ -49,7 +50,8 @@ pub struct State {
 
 impl State {
     ghost use Rattle.ucon_state.specs.Putting.{MayPutAct, MayPutSession, with_act_row};
-    ghost use Rattle.ucon_state.specs.Shown.{shown, changed_by, changed_to, given_back, kept, right_names, right_name, subject_name, object_name, AreThere};
+    ghost use Rattle.ucon_state.specs.Shown.{shown, changed_by, changed_to, given_back, kept, right_names, right_name, subject_name, object_name};
+    ghost use Rattle.ucon_state.specs.Shown.{AreThere};
 
     /// No entities, each variable at its default, tick 0.
     pub fn new(alloc: Global, checked: Checked) -> Result<State, NoMemory>
@@ -71,7 +73,7 @@ impl State {
         })
     }
 
-    /// The number of a right of the policy, from 0. None where the policy hasn't it.
+    /// The number of a right of the policy, from 0. None if the policy hasn't it.
     pub fn find_right(&self, name: &Name) -> Option<u32>
         ensures named { IfSome result (λ n. right_name self.now n ≡ name.now) }
         ensures within { IfSome result (λ n. n < length (right_names self.now)) }
@@ -82,7 +84,7 @@ impl State {
         Some(number as u32)
     }
 
-    /// The number of an entity among those of its side, from 0. None where it isn't there.
+    /// The number of an entity among those of its side, from 0. None if it isn't there.
     #[tactic(auto, using(crate::proofs::Numbered::name_of_number))]
     pub fn find(&self, side: Side, name: &Name) -> Option<u32>
         ensures number { result ≡ entity_number (shown self.now).tables side name.now }
@@ -93,7 +95,7 @@ impl State {
         Some(number as u32)
     }
 
-    /// The cell of an attribute of an entity. None where the attribute isn't declared for that side.
+    /// The cell of an attribute of an entity. None if the attribute isn't declared for that side.
     pub fn cell(&self, side: Side, entity: u32, attr: &Name) -> Option<CellId>
         requires { entity < length (entities_of side (shown self.now).tables) }
         ensures cell { result ≡ cell_at (shown self.now).policy (shown self.now).tables side entity attr.now }
@@ -256,7 +258,7 @@ impl State {
         })
     }
 
-    /// A session becomes denied, accessing, ended or revoked. Where it becomes accessing, it starts now.
+    /// A session becomes denied, accessing, ended or revoked. If it becomes accessing, it starts now.
     pub fn set_session(&mut self, session: u32, state: SessionState) -> Result<(), NoMemory>
         requires { IsSomeAnd (session_in (shown self.old).tables session) (λ row. IsTrue (may_become row.state state)) }
         ensures ok { OnOk result (shown self.new ≡ changed_to (shown self.old) (with_state (shown self.old).tables session state)) }
@@ -402,7 +404,7 @@ fn stand_first(rights: &[Right], names: &[Name]) -> bool
     true
 }
 
-/// When a session starts that goes into a state: now where it becomes accessing, else as before.
+/// When a session starts that goes into a state: now if it becomes accessing, else as before.
 fn start_in(state: SessionState, now: Int, before: Int) -> Int
     ensures { result ≡ start_in state now before }
 {

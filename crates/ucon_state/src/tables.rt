@@ -30,7 +30,8 @@ pub struct Tables {
 impl Tables {
     ghost use Rattle.std.specs.Prelude.{[], pos};
     ghost use Rattle.ucon_state.specs.Tables.{session_in, moment_in, entities_of, entity_number};
-    ghost use Rattle.ucon_state.specs.Applied.{with_name, with_new_entity, with_cell, with_variable, with_tick, with_act, with_new_act, with_new_session};
+    ghost use Rattle.ucon_state.specs.Applied.{with_name, with_new_entity, with_cell, with_variable, with_tick, with_act, with_new_act};
+    ghost use Rattle.ucon_state.specs.Applied.{with_new_session};
     ghost use Rattle.ucon_state.specs.Stored.{name_at, with_moved};
     ghost use Rattle.ucon_state.specs.Undo.{undone};
     ghost use Rattle.ucon_state.specs.Views.{lists_of, with_layout};

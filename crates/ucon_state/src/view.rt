@@ -1,6 +1,7 @@
 //! What a state gives to read.
 
-ghost use Rattle.std.specs.Prelude.{◌≡◌, ◌<◌, ◌≤ℤ◌, IfSome, IsSome, IsTrue, None, Some, is_some, length, option_and_then, option_copied, option_map, slice_get, unwrap_or};
+ghost use Rattle.std.specs.Prelude.{◌≡◌, ◌<◌, ◌≤ℤ◌, IfSome, IsSome, IsTrue, None, Some, is_some, length, option_and_then, option_copied, option_map};
+ghost use Rattle.std.specs.Prelude.{slice_get, unwrap_or};
 ghost use Rattle.std.specs.List.{All};
 ghost use Rattle.ucon_model.specs.Checked.{checked_policy};
 ghost use Rattle.ucon_model.specs.Decision.{failing, right_named};
@@ -21,7 +22,7 @@ use ucon_base::{Int, Name, Side, Value};
 use ucon_model::{Checked, Obligation, Ref, Right, SessionRow, SessionState, View};
 
 impl State {
-    /// The value of an attribute of an entity. None where one of them isn't there.
+    /// The value of an attribute of an entity. None if one of them isn't there.
     pub fn attribute(&self, side: Side, name: &Name, attr: &Name) -> Option<&Value>
         ensures { option_copied result ≡ attribute_in (shown self.now).policy (shown self.now).tables side name.now attr.now }
     {
@@ -29,7 +30,7 @@ impl State {
         self.attribute_at(side, entity, attr)
     }
 
-    /// The value of an attribute of the entity with this number. None where the attribute isn't declared for that side.
+    /// The value of an attribute of the entity with this number. None if the attribute isn't declared for that side.
     #[inline(always)]
     fn attribute_at(&self, side: Side, entity: u32, attr: &Name) -> Option<&Value>
         ensures { option_copied result ≡ option_and_then (slice_get (lists_of self.now.tables).cells)
@@ -39,7 +40,7 @@ impl State {
         self.tables.cells.get(cell)
     }
 
-    /// The cell of an attribute of a session's own subject or object. None where there is no such session, or the attribute isn't
+    /// The cell of an attribute of a session's own subject or object. None if there is no such session, or the attribute isn't
     /// declared for that side.
     pub fn own_cell(&self, session: u32, side: Side, attr: &Name) -> Option<CellId>
         ensures cell { result ≡ option_and_then (λ row. cell_of (shown self.now).policy (shown self.now).tables side (entity_of side row) attr.now)
@@ -54,7 +55,7 @@ impl State {
         }
     }
 
-    /// The value of a variable. None where the policy in force doesn't declare it.
+    /// The value of a variable. None if the policy in force doesn't declare it.
     pub fn variable(&self, name: &Name) -> Option<&Value>
         ensures { option_copied result ≡ variable_in (shown self.now).policy (shown self.now).tables name.now }
     {
@@ -62,7 +63,7 @@ impl State {
         self.tables.variables.get(position)
     }
 
-    /// The state of a session. None where there is no such session.
+    /// The state of a session. None if there is no such session.
     pub fn session_state(&self, session: u32) -> Option<SessionState>
         ensures { result ≡ option_map (λ row. row.state) (session_in (shown self.now).tables session) }
     {
@@ -78,7 +79,7 @@ impl State {
         &self.rights[right as usize]
     }
 
-    /// The right with this number. None where the policy in force hasn't it.
+    /// The right with this number. None if the policy in force hasn't it.
     pub(crate) fn right_numbered(&self, number: u32) -> Option<&Right>
         requires { number < length (right_names self.now) }
         ensures { option_map right_of (option_copied result)
@@ -93,7 +94,7 @@ impl State {
         policy.right(self.right_name(number))
     }
 
-    /// Whether all that session's right asks while the usage goes on holds, so far as that is seen at once: where it answers no, all may
+    /// Whether all that session's right asks while the usage goes on holds, so far as that is seen at once: if it answers no, all may
     /// hold yet.
     #[inline(always)]
     pub fn surely_goes_on(&self, session: u32) -> bool

@@ -48,19 +48,19 @@ pub record IsStanding {E : Type 0} (follows : E → PlainPolicy → Trace → Ty
   pub revokes : (T : Trace) → IsStart P (payload_in loaded.point) loaded.before T → RevokesFew P T
   pub in_force : loaded.in_force.text.items ≡ text_in_force (text_at_start loaded.policy.items (payload_in loaded.point)) loaded.entries
 
--- Under the policy, behind each trace at which the entries begin, taking the payload in gives these; None where it isn't the next step's.
+-- Under the policy, behind each trace at which the entries begin, taking the payload in gives these; None if it isn't the next step's.
 abbrev pub TakingGives : {E : Type 0} → Loaded E → Bytes → Option History → Type 0
 TakingGives loaded payload entries = (P : PlainPolicy) (T : Trace) → accepted loaded.policy.items ≡ Some P
     → IsStart P (payload_in loaded.point) loaded.before T → steps_after T loaded.policy.items P loaded.entries payload ≡ entries
 
--- what is found behind a trace in the records behind a journal's last checkpoint; where there is none, in those behind record 0
+-- what is found behind a trace in the records behind a journal's last checkpoint; if there is none, in those behind record 0
 abbrev pub found_from : PlainPolicy → Trace → Bytes → List Bytes → Option Parted → Finding
 found_from P T text payloads None = found_behind (steps_after T) text P [] 1 (next_gate first_gate text) payloads
 found_from P T text payloads (Some p) =
     found_behind (steps_after T) text P [] (length p.before + 2) (next_gate (gate_behind (next_gate first_gate text) p.before) p.point) p.behind
 
--- Record 0 of the file has this text, no record is too long, and the entries begin at the last checkpoint. Behind each trace that leads there, this is
--- found.
+-- Record 0 of the file has this text, no record is too long, and the entries begin at the last checkpoint. Behind each trace that leads there,
+-- this is found.
 pub record IsReadAs (text : Bytes) (P : PlainPolicy) (point : Option Bytes) (before : ℕ) (finds : Trace → Finding) (file : Bytes) : Type 0 where
   pub payloads : List Bytes
   pub counts : counted file ≡ text ∷ payloads
@@ -81,7 +81,7 @@ IsReadWhole text P point before H file = (gate : ℕ) × IsReadAs text P point b
 abbrev pub IsRead : Bytes → PlainPolicy → Option Bytes → ℕ → History → Bytes → Type 0
 IsRead text P point before H file = ((counted file ≡ []) × (found file ≡ fresh) × IsBeforeAll point before × (H ≡ [])) ⊎ IsReadWhole text P point before H file
 
--- Where the disk tells, the file is read up to the next gate. So many records were taken in, record 0 and as many more as there are entries among
+-- If the disk tells, the file is read up to the next gate. So many records were taken in, record 0 and as many more as there are entries among
 -- them, of five bytes at least each.
 pub record IsLoading {E D : Type 0} (follows : E → PlainPolicy → Trace → Type 0) (seen : D → DiskSeen)
     (loaded : Loaded E) (journal : Journal D) : Type 0 where
@@ -91,7 +91,7 @@ pub record IsLoading {E D : Type 0} (follows : E → PlainPolicy → Trace → T
   pub says : IfSome (seen (disk_of journal)).contents
       (IsReadTo loaded.policy.items standing.P (payload_in loaded.point) loaded.before loaded.entries loaded.records (gate_of journal))
 
--- where the disk tells, the file is read, and these are its entries
+-- if the disk tells, the file is read, and these are its entries
 pub record HasLoaded {E D : Type 0} (follows : E → PlainPolicy → Trace → Type 0) (seen : D → DiskSeen)
     (loaded : Loaded E) (journal : Journal D) : Type 0 where
   pub standing : IsStanding follows loaded

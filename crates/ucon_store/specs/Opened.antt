@@ -49,7 +49,7 @@ last_point file = parted_behind (has_points file) (counted file)
 
 -- ---- from a checkpoint on
 
--- The payload is the checkpoint after so many entries of what is there after the trace, in the text of the policy in force, and no accessing session
+-- The payload is the checkpoint after so many entries of what is there after the trace, in the text of the policy in force. No accessing session
 -- fails after the trace. What is there has to be such as can be written, and in order: else bytes that no reading takes would be a checkpoint.
 pub record IsPointBy (reads : PolicyReading) (entries : ℕ) (P : PlainPolicy) (T : Trace) (payload : Bytes) : Type 0 where
   pub text : Bytes
@@ -75,7 +75,7 @@ unfoldable pub steps_by : PolicyReading → Trace → Takes
 steps_by reads T text P H payload =
     if nat_lt most_payload (length payload) then None else option_and_then (with_next T P H) (result_ok (payload_read reads payload))
 
--- what is seen where this is found behind a trace after so many entries
+-- what is seen if this is found behind a trace after so many entries
 abbrev pub seen_after : ℕ → Trace → Finding → Seen
 seen_after entries T model.fresh = fresh
 seen_after entries T model.not_journal = not_journal
@@ -132,13 +132,13 @@ Sees = SeesBy accepted
 
 -- ---- around the last checkpoint of what is found
 
--- the text of the policy in force that a checkpoint says, or where it says none this one
+-- the text of the policy in force that a checkpoint says, or if it says none this one
 abbrev pub text_said : Bytes → Result Said ℕ → Bytes
 text_said text (Ok said) = said.text
 text_said text (Err place) = text
 
--- A history that is found, around the last checkpoint: the entries before it, whose checkpoint it is, and those behind it, which the records there
--- tell after the trace of those before.
+-- A history that is found stands around the last checkpoint. The entries before it are those whose checkpoint it is. Those behind it are what the
+-- records there tell after the trace of those before.
 pub record StandsAround (text : Bytes) (P : PlainPolicy) (H : History) (gate : ℕ) (p : Parted) : Type 0 where
   pub before : History
   pub behind : History

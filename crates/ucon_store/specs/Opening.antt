@@ -24,7 +24,7 @@ IsSeenAs P text point before H file =
 
 -- ---- why none is opened
 
--- the place of the first byte that differs, or the length of the shorter text where it begins the other; none where they are the same
+-- the place of the first byte that differs, or the length of the shorter text if it begins the other; none if they are the same
 abbrev pub first_difference : Bytes → Bytes → Option ℕ
 first_difference [] [] = None
 first_difference [] (b ∷ other) = Some 0
@@ -40,8 +40,8 @@ pub record HasOtherBy (reads : PolicyReading) (text : Bytes) (place : ℕ) (file
   pub is : SeesBy reads file (holds other entries there gate)
   pub differs : first_difference other text ≡ Some place
 
--- why a store isn't opened under the policy of this text: by what opening sees in the bytes as read, where the disk tells, or by the disk's count
--- of faults before and after, which is one more at a disk fault, and otherwise as it was; want of memory may come at any moment
+-- Why a store isn't opened under the policy of this text. It is what opening sees in the bytes as read, if the disk tells. Or it is a disk fault,
+-- at which the disk's count of faults is one more; otherwise the count is as it was. Out of memory may come at any moment.
 abbrev pub HasReasonBy : PolicyReading → StoreFault → Bytes → Option Bytes → ℕ → ℕ → Type 0
 HasReasonBy reads NotJournal text file before now = IfSome file (λ bytes. SeesBy reads bytes not_journal) × (now ≡ before)
 HasReasonBy reads (Damaged number place) text file before now = IfSome file (λ bytes. SeesBy reads bytes (damaged number place)) × (now ≡ before)
@@ -58,7 +58,8 @@ IsForeign not_journal text = ⊤
 IsForeign (damaged number place) text = ⊤
 IsForeign (holds other entries there gate) text = ¬ (other ≡ text)
 
--- what opening under the policy of this text may make of a file: what was found is still found, and where it sees a foreign one the file is as it was
+-- What opening under the policy of this text may make of a file. What was found is still found, and if opening sees a foreign file there, it is as
+-- it was.
 pub record OpensBy (reads : PolicyReading) (text file c : Bytes) : Type 0 where
   pub same : (H : History) → IsFoundBy reads text file H → IsFoundBy reads text c H
   pub untouched : (seen : Seen) → SeesBy reads file seen → IsForeign seen text → c ≡ file
@@ -74,7 +75,7 @@ HasReason = HasReasonBy accepted
 abbrev pub Opens : (text file c : Bytes) → Type 0
 Opens = OpensBy accepted
 
--- what was found in the file is held in it after, where the disk tells before and after
+-- what was found in the file is held in it after, if the disk tells before and after
 abbrev pub KeepsFound : Bytes → Option Bytes → Option Bytes → Type 0
 KeepsFound text None after = ⊤
 KeepsFound text (Some before) None = ⊤

@@ -19,12 +19,12 @@ abbrev pub text_behind : Bytes → Command → Bytes
 text_behind text (Amend a) = a.text
 text_behind text command = text
 
--- the text of the policy in force after these entries, where it was this before them
+-- the text of the policy in force after these entries, if it was this before them
 abbrev pub text_in_force : Bytes → History → Bytes
 text_in_force text [] = text
 text_in_force text (e ∷ H) = text_in_force (text_behind text e.command) H
 
--- where a command is an amendment, this is its text
+-- if a command is an amendment, this is its text
 abbrev pub HoldsAmendment : Bytes → Command → Type 0
 HoldsAmendment text (Amend a) = text ≡ a.text
 HoldsAmendment text command = ⊤
@@ -39,7 +39,7 @@ checkpoint text P H = point_after (text_in_force text H) P H
 abbrev pub PolicyReading : Type 0
 PolicyReading = Bytes → Option PlainPolicy
 
--- the checkpoint of the entries before it, which stay; none where the record is wrong
+-- the checkpoint of the entries before it, which stay; none if the record is wrong
 unfoldable pub point_taken : Takes
 point_taken text P H payload =
     if nat_lt most_payload (length payload) then None else if bytes_eq payload (checkpoint text P H) then Some H else None
@@ -58,7 +58,7 @@ takes_with = takes_by accepted
 
 -- ---- where the checkpoints stand
 
--- how many entries stand before each checkpoint among these payloads, where so many stand before the first payload
+-- how many entries stand before each checkpoint among these payloads, if so many stand before the first payload
 abbrev pub places_behind : ℕ → List Bytes → List ℕ
 places_behind before [] = []
 places_behind before (payload ∷ payloads) =
@@ -73,13 +73,13 @@ places_in (text ∷ payloads) = places_behind 0 payloads
 abbrev pub point_places : Bytes → List ℕ
 point_places file = if has_points file then places_in (counted file) else []
 
--- the checkpoints stand where they stood, where the disk tells before and after
+-- the checkpoints stand where they stood, if the disk tells before and after
 abbrev pub SamePlaces : Option Bytes → Option Bytes → Type 0
 SamePlaces None after = ⊤
 SamePlaces (Some before) None = ⊤
 SamePlaces (Some before) (Some after) = point_places after ≡ point_places before
 
--- the file may have checkpoints after where it might before, where the disk tells both times
+-- the file may have checkpoints afterwards exactly if it might have some before, if the disk tells both times
 abbrev pub SameKind : Option Bytes → Option Bytes → Type 0
 SameKind None after = ⊤
 SameKind (Some before) None = ⊤

@@ -18,7 +18,7 @@ abbrev pub IsStart : PlainPolicy → Option Bytes → ℕ → Trace → Type 0
 IsStart P None before T = (before ≡ 0) × (T ≡ [])
 IsStart P (Some payload) before T = IsPointOf before P T payload
 
--- it is at the last checkpoint, behind as many entries as stand before it; or before all entries, where there is no checkpoint
+-- it is at the last checkpoint, behind as many entries as stand before it; or before all entries, if there is no checkpoint
 abbrev pub BeginsAt : Option Parted → Option Bytes → ℕ → Type 0
 BeginsAt None point before = IsBeforeAll point before
 BeginsAt (Some p) point before = (point ≡ Some p.point) × (before ≡ steps_among p.before)
@@ -28,7 +28,7 @@ abbrev pub text_at_start : Bytes → Option Bytes → Bytes
 text_at_start text None = text
 text_at_start text (Some payload) = text_said text (point_read payload)
 
--- the text of a checkpoint behind these entries, from a trace on that leads there after so many others, where this is the text of the policy in force
+-- the text of a checkpoint behind these entries, from a trace on that leads there after so many others, if this is the text of the policy in force
 abbrev pub point_behind : Bytes → ℕ → PlainPolicy → Trace → History → Bytes
 point_behind text before P T H = point_text (before + length H) (text_in_force text H) (held_after P (trace_from P T H))
 

@@ -9,8 +9,8 @@ pub enum Event {
     Failed(Entry),
 }
 
-/// What no step changes: the policy's text, the payload of the checkpoint that opening used and the number of entries before it, and the number of
-/// entries that were found at the opening. No value of it is made.
+/// What no step changes: the policy's text, the payload of the checkpoint that opening used, and the number of entries before it. It also has the
+/// number of entries that were found at the opening. No value of it is made.
 pub struct Base {
     pub policy: LinkedList<u8>,
     pub point: Option<LinkedList<u8>>,

@@ -43,8 +43,8 @@ use ucon_state::{
 };
 use ucon_syntax::accepted_texts_spell_typed_policies;
 
-/// The journal of a proper history of commands of the 64 clients, in either version, is found as that history under its policy, with its
-/// last byte as the gate behind it.
+/// The journal of a proper history of commands of the 64 clients, in either version, is found as that history under its policy. Its last byte is
+/// the gate behind it.
 pub fn journals_are_found_as_their_histories()
     ensures { (version : ℕ) (text : Bytes) (P : PlainPolicy) (H : History) → IsVersion version → accepted text ≡ Some P → AreOfClients H
         → IsProper P H
@@ -54,8 +54,8 @@ pub fn journals_are_found_as_their_histories()
     proper_histories_are_found();
 }
 
-/// The journal, in version 2, of a proper history of commands of the 64 clients, with checkpoints at these places, of which each fits its record, is
-/// found as that history under its policy, with its last byte as the gate behind it, and with its checkpoints at these places.
+/// A journal with checkpoints is found as its history under its policy, with its last byte as the gate behind it, and with its checkpoints at
+/// their places. It is in version 2, of a proper history of commands of the 64 clients, and each checkpoint fits its record.
 pub fn journals_with_checkpoints_are_found()
     ensures { (text : Bytes) (P : PlainPolicy) (H : History) (places : List ℕ) → accepted text ≡ Some P → AreOfClients H → IsProper P H
         → ArePlaces 0 (length H) places → Each (λ place. length (checkpoint text P (take place H)) ≤ MAX_PAYLOAD) places
@@ -67,8 +67,8 @@ pub fn journals_with_checkpoints_are_found()
     proper_histories_are_found();
 }
 
-/// What is found in a file is what opening sees in it, though opening runs only the entries behind the last checkpoint: the same policy's text,
-/// as many entries, all that is there after them, and the gate behind the last record. No record, or no journal, is seen exactly where that is
+/// What is found in a file is what opening sees in it, though opening runs only the entries behind the last checkpoint. That is the same policy's
+/// text, as many entries, all that is there after them, and the gate behind the last record. No record, or no journal, is seen exactly if that is
 /// found. A checkpoint tells fewer than 2^64 entries. A journal on a disk has no more: each entry takes five bytes at least, and a disk's length
 /// is below 2^63.
 pub fn opening_sees_what_is_found()
@@ -89,8 +89,8 @@ pub fn opening_sees_what_is_found()
     histories_are_in_order();
 }
 
-/// The payload is the checkpoint of a trace, by what writes it, exactly where it is read as one: as a checkpoint after so many entries, whose rows
-/// make what is there after the trace. And the text of the policy in force that is read in it is the one that it was written with.
+/// The payload is the checkpoint of a trace, by what writes it, exactly if it is read as one. It is read as a checkpoint after so many entries,
+/// whose rows make what is there after the trace. And the text of the policy in force that is read in it is the one that it was written with.
 pub fn checkpoints_of_traces_are_read_back()
     ensures read { (entries : ℕ) (P : PlainPolicy) (T : Trace) (payload : Bytes) → IsPointOf entries P T payload ↔ IsReadPointOf entries P T payload }
     ensures text { (entries : ℕ) (P : PlainPolicy) (T : Trace) (payload : Bytes) → (point : IsPointOf entries P T payload) → (text : Bytes)
@@ -117,8 +117,8 @@ pub fn opening_sees_one_thing()
     the_least_failing_is_found();
 }
 
-/// What is there after a history of commands of the 64 clients, under a policy that a text spells, has rows of names, values and numbers, each
-/// of which has its text.
+/// What is there after a history of commands of the 64 clients, under a policy that a text spells, has rows of names, values and numbers. Each row
+/// has its text.
 pub fn rows_of_histories_have_their_texts()
     ensures { (text : Bytes) (P : PlainPolicy) (H : History) → accepted text ≡ Some P → AreOfClients H
         → Each IsRow (rows_held (held_after P (trace P H))) }
@@ -127,8 +127,8 @@ pub fn rows_of_histories_have_their_texts()
     accepted_texts_spell_typed_policies();
 }
 
-/// A history that is found in a file stands around the file's last checkpoint: as many of its first entries as the checkpoint tells lead to the
-/// checkpoint, and the records behind it tell the other entries after the trace of those.
+/// A history that is found in a file stands around the file's last checkpoint. As many of its first entries as the checkpoint tells lead to the
+/// checkpoint. The records behind it tell the other entries, after the trace of those.
 pub fn found_histories_stand_around_their_last_checkpoint()
     ensures { (file first text : Bytes) (payloads : List Bytes) (P : PlainPolicy) (H : History) (gate : ℕ) (p : Parted)
         → found file ≡ holds text P H gate → length H < 2 ^ 64 → has_points file ≡ true → counted file ≡ first ∷ payloads → parted payloads ≡ Some p

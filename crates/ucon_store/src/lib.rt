@@ -1,4 +1,15 @@
 //! A store: the history of a policy's journal, kept in memory by an engine and on a disk by the journal.
+//!
+//! `play`, `serve`, `point` and a conversation answer their lines through one. A step is drafted, its payload is spelled, all memory is taken, the
+//! record is appended, and only then the change is kept. `Stays` is what lies between a store and what it becomes.
+//!
+//! **Always.** Behind each trace that leads to the store's beginning the engine follows its entries, and nobody fails. Without a mark the journal
+//! is closed and at rest; with one nothing is written any more (`IsKept`).
+//!
+//! **Free.** How the checkpoint is found, and how lines are cut. That a record is on the disk before its step counts isn't free.
+//!
+//! **Before a change.** Of the entries the store keeps the number: which they are stands in proofs alone (`entries.rt`). Each clause takes the
+//! history before the store's checkpoint as an argument, since a history that wasn't run can't be kept. Begin at `store.rt`.
 #![tactic(auto)]
 
 mod accepting;

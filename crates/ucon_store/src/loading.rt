@@ -44,8 +44,8 @@ pub(crate) struct Loaded<E> {
 }
 
 impl<E: Engine> Loaded<E> {
-    /// Takes the step of a payload in, if it is the next one: the engine's reply changes something, and with it the step is spelled as the payload,
-    /// whose own reply isn't read. False where it isn't; the engine is then of no more use.
+    /// Takes the step of a payload in, if it is the next one: the engine's reply changes something, and the step with it is spelled as the
+    /// payload. The payload's own reply isn't read. False if it isn't the next one; the engine is then of no more use.
     fn take_step(&mut self, alloc: Global, payload: &[u8]) -> Result<bool, StoreFault>
         requires standing { IsStanding E.follows self.old }
         requires short { length payload.now ≤ MAX_PAYLOAD }
@@ -74,8 +74,8 @@ impl<E: Engine> Loaded<E> {
         Ok(true)
     }
 
-    /// Takes the memory that a payload's entry needs, and drafts it. Whether the engine's reply changes something, and spelled with the entry is the payload: then
-    /// the step is pending.
+    /// Takes the memory that a payload's entry needs, and drafts it. True if the engine's reply changes something, and spelled with the entry is
+    /// the payload: then the step is pending.
     fn drafts(&mut self, alloc: Global, entry: &Entry, payload: &[u8]) -> Result<bool, NoMemory>
         requires standing { IsStanding E.follows self.old }
         requires short { length payload.now ≤ MAX_PAYLOAD }

@@ -92,9 +92,9 @@ impl<E: Engine, D: Disk> Model for Store<E, D> {
 
 impl<E: Engine, D: Disk> Store<E, D> {
     /// Opens the store of the journal in a file, under the policy of this text, which has to be an accepted one. A file of at most nine bytes
-    /// becomes a journal, and one without a record gets the policy as record 0, so the file of an open store holds its policy. On a disk at
-    /// rest a file that is no journal, is damaged or has another policy keeps its bytes. A fault hands the disk back. The store begins behind the
-    /// last checkpoint, before which no record is run; so a file of which only what stands behind it is right is opened, too.
+    /// becomes a journal, and one without a record gets the policy as record 0. So the file of an open store holds its policy. On a disk at rest a
+    /// file that is no journal, is damaged or has another policy keeps its bytes. A fault hands the disk back. The store begins behind the last
+    /// checkpoint, before which no record is run. So a file of which only what stands behind it is right is opened, too.
     pub fn open(alloc: Global, policy: &[u8], disk: D) -> Result<Store<E, D>, (D, StoreFault)>
         requires { IsSome (accepted policy.now) }
         ensures store { IfOk result (λ s. (s.policy ≡ policy.now) × (s.opening ≡ s.before + length s.entries) × (s.mark ≡ None)) }
@@ -152,8 +152,8 @@ impl<E: Engine, D: Disk> Store<E, D> {
         }
     }
 
-    /// Answers a command, and puts it on the disk first where its reply changes something. It takes all memory before its first call of the
-    /// disk; after a disk fault the store is stopped, and what is in the file shows at the next opening.
+    /// Answers a command. If the reply changes something, the step is on the disk first. It takes all memory before its first call of the disk.
+    /// After a disk fault the store is stopped, and what is in the file shows at the next opening.
     pub fn step(
         &mut self,
         alloc: Global,

@@ -23,7 +23,7 @@ fn entries_found<R: Threads + Wait + Sync>(
     place_before(&end.output, " no session\n")
 }
 
-/// How many entries may be found behind so many and the steps that were answered: all of these, and where a step met a disk fault perhaps
+/// How many entries may be found behind so many and the steps that were answered: all of these, and if a step met a disk fault perhaps
 /// that one, too.
 fn may_be_found(before: u64, output: &[u8]) -> Result<(u64, u64), Fail> {
     let text = str::from_utf8(output).map_err(|_| "text")?;
@@ -194,8 +194,8 @@ fn opened_uses<R: Threads + Wait + Sync>(
     Ok((opened, lost))
 }
 
-/// What a crash leaves of the step that revokes 1,000 uses, on a disk that stops after so many calls: all of it or nothing, and all of it once
-/// it was answered, which it is or isn't as told.
+/// What a crash leaves of the step that revokes 1,000 uses, on a disk that stops after so many calls. It is all of it or nothing, and all of it if
+/// it was answered. The output tells whether it was.
 fn hold_cascade<R: Abort + Threads + Wait + Sync>(
     rt: &R,
     alloc: Global,

@@ -95,7 +95,7 @@ fn engines_answer_alike(rt: HostRuntime) -> Result<(), Fail> {
     Ok(())
 }
 
-/// The first row of which something else is printed where each step is drafted, undone and drafted again.
+/// The first row of which something else is printed if each step is drafted, undone and drafted again.
 fn first_wrong(alloc: Global, rows: &[Row]) -> Result<Option<&'static str>, Fail> {
     for row in rows {
         let document = document(alloc, row.policy, row.script)?;

@@ -5,8 +5,8 @@ use Rattle.ucon_token.specs.declared.stop.Cause.TheVariants.{TooMany}
 use Rattle.ucon_token.specs.Tokens.{first}
 use Rattle.ucon_token.specs.Reading.{Reads, ◌>>=◌}
 
--- What the operators of a chain are: those before one more operand, those before one too many, and how an operator joins
--- what stands before it with the operand behind it.
+-- What the operators of a chain are: those before one more operand, and those before one too many. It also says how an operator joins what stands
+-- before it with the operand behind it.
 pub record Operators (A : Type 0) : Type 0 where
   pub goes_on : Token → Bool
   pub is_late : Token → Bool

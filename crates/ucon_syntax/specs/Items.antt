@@ -1,5 +1,6 @@
 -- Reading attributes, variables, predicates and updates.
-use Rattle.std.specs.Prelude.{ℕ, List, ◌-◌, ◌==◌, Bool, if◌then◌else◌, [], ◌∷◌, drop, slice_index, slice_set, Option, Some, None, is_some, option_map, Ok, Err, codes}
+use Rattle.std.specs.Prelude.{ℕ, List, ◌-◌, ◌==◌, Bool, if◌then◌else◌, [], ◌∷◌, drop, slice_index, slice_set, Option, Some, None, is_some, option_map}
+use Rattle.std.specs.Prelude.{Ok, Err, codes}
 use Rattle.ucon_base.specs.declared.value.Side.{Side}
 use Rattle.ucon_base.specs.declared.value.Side.TheVariants as sides
 use Rattle.ucon_base.specs.declared.value.Kind.{Kind}
@@ -59,7 +60,7 @@ less n = if n == 0 then None else Some (n - 1)
 abbrev pub take : ℕ → Room → Option Room
 take sort r = option_map (λ n. record { left = slice_set r.left sort n }) (less (slice_index r.left sort))
 
--- what the first token stands for, where room is left for it
+-- what the first token stands for, if room is left for it
 abbrev pub with_room : {A S : Type 0} → A → Option S → Reads (A × S)
 with_room x None ts = Err (TooMany, ts)
 with_room x (Some room) ts = Ok ((x, room), drop 1 ts)

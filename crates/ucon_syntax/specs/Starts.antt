@@ -11,7 +11,8 @@ use Rattle.ucon_model.specs.declared.policy.Phase.TheVariants as phases
 use Rattle.ucon_model.specs.declared.policy.When.{When}
 use Rattle.ucon_model.specs.declared.policy.When.TheVariants as whens
 use Rattle.ucon_model.specs.Plain.{Bytes}
-use Rattle.ucon_base.specs.Tokens.{Token, a_word, a_number, a_text, a_symbol, Symbol, equal_sign, unequal_sign, less_sign, at_most_sign, greater_sign, at_least_sign, plus_sign, minus_sign, open_round, open_square, open_curly}
+use Rattle.ucon_base.specs.Tokens.{Token, a_word, a_number, a_text, a_symbol, Symbol, equal_sign, unequal_sign, less_sign, at_most_sign, greater_sign}
+use Rattle.ucon_base.specs.Tokens.{at_least_sign, plus_sign, minus_sign, open_round, open_square, open_curly}
 use Rattle.ucon_token.specs.Tokens.{is_symbol, is_word, is_joined, text_of}
 use Rattle.ucon_syntax.specs.declared.starts.FactorStart.{FactorStart}
 use Rattle.ucon_syntax.specs.declared.starts.FactorStart.TheVariants as factors

@@ -98,7 +98,7 @@ fn round(reader: &mut Reader, room: usize) -> Result<Expr, Stop>
     closed(reader, e, Symbol::CloseRound)
 }
 
-/// Both operands, joined by the sign between them, or by `*` where there is none.
+/// Both operands, joined by the sign between them, or by `*` if there is none.
 fn joined(sign: Option<SumSign>, left: Box<Expr>, right: Box<Expr>) -> Expr
     ensures { expr_of result ≡ joined sign (expr_of left.value) (expr_of right.value) }
 {

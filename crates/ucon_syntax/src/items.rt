@@ -6,7 +6,8 @@ ghost use Rattle.ucon_model.specs.Views.{test_of, predicate_of, update_of};
 ghost use Rattle.ucon_token.specs.Reading.{Gives, taken};
 ghost use Rattle.ucon_token.specs.Tokens.{first, is_word};
 ghost use Rattle.ucon_syntax.specs.Starts.{side_of, phase_of, test_sort, when_of};
-ghost use Rattle.ucon_syntax.specs.Items.{take, counted, range_at, kind_at, attr_at, env_at, keeps, declared_at, form_at, party_at, duty_at, test_from, pred_at, update_at, begins_pred, begins_update};
+ghost use Rattle.ucon_syntax.specs.Items.{take, counted, range_at, kind_at, attr_at, env_at, keeps, declared_at, form_at, party_at, duty_at};
+ghost use Rattle.ucon_syntax.specs.Items.{test_from, pred_at, update_at, begins_pred, begins_update};
 
 use crate::closing::closed;
 use crate::expr::{place, read_expr};

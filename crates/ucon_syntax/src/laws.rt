@@ -35,7 +35,7 @@ pub fn readings_are_what_texts_spell()
     ensures fault { (text : Bytes) (f : SyntaxFault) → (reading_of text ≡ Err f) ↔ IsSyntaxFault text f }
 {}
 
-/// A text is accepted as a policy exactly where it spells that policy and the policy is well typed.
+/// A text is accepted as a policy exactly if it spells that policy and the policy is well typed.
 pub fn accepted_texts_spell_typed_policies()
     ensures { (text : Bytes) (p : PlainPolicy) → (accepted text ≡ Some p) ↔ (Spells text p × IsTyped p) }
 {}

@@ -1,4 +1,14 @@
 //! The policy language, read.
+//!
+//! `read_policy` gives the policy that a text spells, or its first fault. It reads the grammar upwards over the tokens, from literals to policies.
+//! Its proofs tie the reader to the grammar of `ucon_model`, which shares only the tokens with it.
+//!
+//! **Always.** What was read is written so by the grammar, or the place where reading stopped has the first fault.
+//!
+//! **Free.** All below `read_policy`.
+//!
+//! **Before a change.** A text's first fault is defined by the grammar alone: what is before it can go on to some policy, and the next token can't
+//! follow. Begin at `read.rt`, then `policy.rt`.
 #![tactic(auto)]
 
 mod closing;

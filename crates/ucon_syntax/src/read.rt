@@ -75,7 +75,7 @@ pub fn read_policy(alloc: Global, text: &[u8]) -> Result<Policy, SyntaxFault>
     ensures reason { IfErr result (λ f. IsReason text.now f) }
     ensures refuses { (f : SyntaxFault) → IsSyntaxFault text.now f → RefusedFor result f }
     ensures reading { Reading result text.now }
-    // It is found before any memory is taken, so that want of memory can't stand in its place.
+    // It is found before any memory is taken, so that out of memory can't stand in its place.
     ensures too_long { 65536 < length text.now → result ≡ Err (SyntaxFault.TooLong 65536) }
 {
     read(alloc, text)

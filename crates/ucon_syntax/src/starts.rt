@@ -2,7 +2,8 @@
 
 ghost use Rattle.std.specs.Prelude.{◌≡◌, Some};
 ghost use Rattle.ucon_token.specs.Seen.{symbol_of, token_of};
-ghost use Rattle.ucon_syntax.specs.Starts.{symbol_factor, word_factor, factor_start, symbol_sum, sum_sign, unit_start, symbol_op, word_op, op_of, side_of, kind_word, phase_of, test_sort, duty_word, when_of, if_name, name_in};
+ghost use Rattle.ucon_syntax.specs.Starts.{symbol_factor, word_factor, factor_start, symbol_sum, sum_sign, unit_start, symbol_op, word_op, op_of};
+ghost use Rattle.ucon_syntax.specs.Starts.{side_of, kind_word, phase_of, test_sort, duty_word, when_of, if_name, name_in};
 
 use ucon_base::{Name, Side};
 use ucon_model::{Op, Phase, When};

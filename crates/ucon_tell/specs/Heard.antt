@@ -8,8 +8,8 @@ use Rattle.ucon_tell.specs.declared.talking.Heard.{Heard}
 use Rattle.ucon_tell.specs.declared.talking.Heard.TheVariants.{Line, TooLong}
 use Rattle.ucon_flow.specs.Seen.{SourceSeen}
 
--- What was read and not answered, by the ending. At the source's end: what stands behind the last newline. Where the source fails: no whole line. Where
--- the voice fails: what the reader holds. Else the input is too long for any process, or there was no memory.
+-- What was read and not answered, by the ending. At the source's end: what stands behind the last newline. If the source fails: no whole line. If
+-- the voice fails: what the reader holds. Otherwise the input is too long for any process, or there was no memory.
 abbrev pub LeftBy : Result (Unit {0}) TalkFault → List ℕ → List ℕ → List ℕ → Option (List ℕ) → Type 0
 LeftBy (Ok done) lines rest held left = IsBare rest × (held ≡ []) × IsAtEnd left
 LeftBy (Err faults.SourceFault) lines rest held left = IsBare rest
@@ -18,7 +18,8 @@ LeftBy (Err faults.TooLong) lines rest held left = 2 ^ 64 - 1 ≤ length (lines 
 LeftBy (Err (faults.NoMemory e)) lines rest held left = ⊤
 
 -- these lines came first, of what was held and read, and something may be left
-pub record Hears (result : Result (Unit {0}) TalkFault) (held_before held : List ℕ) (left_before left : Option (List ℕ)) (lines : List ℕ) : Type 0 where
+pub record Hears (result : Result (Unit {0}) TalkFault) (held_before held : List ℕ) (left_before left : Option (List ℕ))
+    (lines : List ℕ) : Type 0 where
   pub read : List ℕ
   pub consumed : Consumes left_before left read
   pub rest : List ℕ
@@ -70,7 +71,8 @@ SkippedAs (Err faults.TooLong) skipped held left = 2 ^ 64 - 1 ≤ length (skippe
 SkippedAs (Err (faults.NoMemory e)) skipped held left = ⊤
 
 -- the first line of what was held and read, or its beginning, is gone, and the rest is held
-pub record SkipsNext {S : Type 0} (seen : S → SourceSeen) (result : Result (Option Heard) TalkFault) (old new : Reading) (first last : S) : Type 0 where
+pub record SkipsNext {S : Type 0} (seen : S → SourceSeen) (result : Result (Option Heard) TalkFault) (old new : Reading)
+    (first last : S) : Type 0 where
   pub read : List ℕ
   pub reads : Reads seen old.held first last read
   pub skipped : List ℕ

@@ -24,8 +24,10 @@ abbrev pub replies_in : {K : Type 0} → List (Exchange K) → List ℕ
 replies_in [] = []
 replies_in (x ∷ xs) = x.reply ++ replies_in xs
 
--- One line was answered by one line. Where it fits the limit with its newline the keeper answered it; else the keeper refused it, and stayed as it was.
-pub record IsAnswered {K : Type 0} (limit : ℕ) (answers : K → K → List ℕ → List ℕ → Type 0) (refuses : K → List ℕ → Type 0) (before : K) (x : Exchange K) : Type 0 where
+-- One line was answered by one line. If it fits the limit with its newline, the keeper answered it. Otherwise the keeper refused it, and stayed as
+-- it was.
+pub record IsAnswered {K : Type 0} (limit : ℕ) (answers : K → K → List ℕ → List ℕ → Type 0) (refuses : K → List ℕ → Type 0)
+    (before : K) (x : Exchange K) : Type 0 where
   pub line : IsBare x.line
   pub reply : IsLine x.reply
   pub answer : length x.line < limit → answers before x.after x.line x.reply
@@ -33,14 +35,15 @@ pub record IsAnswered {K : Type 0} (limit : ℕ) (answers : K → K → List ℕ
 
 -- this line was answered by this reply
 abbrev pub IsAnsweredBy : {K : Type 0} → ℕ → (K → K → List ℕ → List ℕ → Type 0) → (K → List ℕ → Type 0) → K → K → List ℕ → List ℕ → Type 0
-IsAnsweredBy limit answers refuses before after line reply = IsAnswered limit answers refuses before (record { line = line; reply = reply; after = after })
+IsAnsweredBy limit answers refuses before after line reply =
+    IsAnswered limit answers refuses before (record { line = line; reply = reply; after = after })
 
 -- one line was answered after the other, from a keeper to a keeper
 abbrev pub AnswersEach : {K : Type 0} → ℕ → (K → K → List ℕ → List ℕ → Type 0) → (K → List ℕ → Type 0) → K → List (Exchange K) → K → Type 0
 AnswersEach limit answers refuses first [] last = first ≡ last
 AnswersEach limit answers refuses first (x ∷ xs) last = IsAnswered limit answers refuses first x × AnswersEach limit answers refuses x.after xs last
 
--- the keeper is as it was when it had answered the last line, but where there was no memory, maybe for a reply
+-- the keeper is as it was when it had answered the last line; if there was no memory, maybe for a reply, a call may have gone on from there
 abbrev pub ends_by : {K : Type 0} → (K → K → Type 0) → Result (Unit {0}) TalkFault → K → K → Type 0
 ends_by stays (Ok done) reached last = reached ≡ last
 ends_by stays (Err faults.SourceFault) reached last = reached ≡ last
@@ -48,7 +51,7 @@ ends_by stays (Err faults.SinkFault) reached last = reached ≡ last
 ends_by stays (Err faults.TooLong) reached last = reached ≡ last
 ends_by stays (Err (faults.NoMemory e)) reached last = stays reached last
 
--- the replies went out whole, but where the voice failed
+-- the replies went out whole, unless the voice failed
 abbrev pub writes_by : Result (Unit {0}) TalkFault → Option (List ℕ) → Option (List ℕ) → List ℕ → Type 0
 writes_by (Ok done) before now replies = Appends before now replies
 writes_by (Err faults.SourceFault) before now replies = Appends before now replies
@@ -57,8 +60,8 @@ writes_by (Err faults.TooLong) before now replies = Appends before now replies
 writes_by (Err (faults.NoMemory e)) before now replies = Appends before now replies
 
 module _ {K : Type 0} (seen : K → KeeperSeen) (stays : K → K → Type 0) where
-  -- These bytes were told by this moment, behind what the sink held: all replies before one, and that one or a front of it. The keeper had answered it by then; and
-  -- from this moment on, until now, a crash leaves an image that holds all that the keeper had answered with it.
+  -- These bytes were told by this moment, behind what the sink held: all replies before one, and that one or a front of it. The keeper had
+  -- answered it by then. From this moment on, until now, a crash leaves an image that holds all that the keeper had answered with it.
   pub record IsToldOnceKept (before : List ℕ) (exchanges : List (Exchange K)) (last : K) (b : List ℕ) (t : ℕ) : Type 0 where
     pub earlier : List (Exchange K)
     pub one : Exchange K
@@ -70,10 +73,10 @@ module _ {K : Type 0} (seen : K → KeeperSeen) (stays : K → K → Type 0) whe
     pub stays_from : stays one.after last
     pub kept : (c : List ℕ) → (seen last).images_since t c → (seen one.after).holds c
 
-  -- Lines of which this is so were answered one by one, each by one line; the sink holds what it held and then the replies; and whatever its reader was
-  -- told since, it was told once that was kept.
-  pub record HasTalked (answers : K → K → List ℕ → List ℕ → Type 0) (refuses : K → List ℕ → Type 0) (limit : ℕ) (result : Result (Unit {0}) TalkFault) (first last : K)
-      (before now : VoiceSeen) (hears : List ℕ → Type 0) : Type 0 where
+  -- Lines of which this is so were answered one by one, each by one line; the sink holds what it held and then the replies. Whatever its reader
+  -- was told since, it was told once that was kept.
+  pub record HasTalked (answers : K → K → List ℕ → List ℕ → Type 0) (refuses : K → List ℕ → Type 0) (limit : ℕ) (result : Result (Unit {0}) TalkFault)
+      (first last : K) (before now : VoiceSeen) (hears : List ℕ → Type 0) : Type 0 where
     pub exchanges : List (Exchange K)
     pub heard : hears (lines_in exchanges)
     pub reached : K

@@ -3,7 +3,7 @@ use Rattle.std.specs.Prelude.{◌≡◌, ◌⊎◌, ℕ, List, ◌++◌, IfSome}
 use Rattle.ucon_flow.specs.Lines.{IsLine}
 use Rattle.ucon_tell.specs.Seen.{VoiceSeen}
 
--- After a write at this moment: what was told is told, and nothing else was but what the sink holds now, where it tells, by this moment.
+-- After a write at this moment: what was told is told, and nothing else was but what the sink holds now, if it tells, by this moment.
 pub record Notes (old new : VoiceSeen) (moment : ℕ) : Type 0 where
   pub kept : (b : List ℕ) (t : ℕ) → old.told b t → new.told b t
   pub nothing_else : (b : List ℕ) (t : ℕ) → new.told b t → old.told b t ⊎ ((t ≡ moment) × IfSome new.contents (λ all. b ≡ all))
@@ -16,8 +16,8 @@ IsFrontOf front all = (rest : List ℕ) × (all ≡ front ++ rest)
 abbrev pub IsCut : List ℕ → List ℕ → List ℕ → Type 0
 IsCut before bytes b = (front : List ℕ) × IsFrontOf front bytes × (b ≡ before ++ front)
 
--- After a text was told at this moment: what was told is told; what else was told is what the sink held at first with a front of the text behind it, by
--- this moment.
+-- After a text was told at this moment: what was told is told. What else was told is what the sink held at first with a front of the text behind
+-- it, by this moment.
 pub record TellsFronts (old new : VoiceSeen) (bytes : List ℕ) (moment : ℕ) : Type 0 where
   pub kept : (b : List ℕ) (t : ℕ) → old.told b t → new.told b t
   pub nothing_else : (b : List ℕ) (t : ℕ) → new.told b t → old.told b t ⊎ ((t ≡ moment) × IfSome old.contents (λ before. IsCut before bytes b))

@@ -22,7 +22,7 @@ pub trait Keeper {
     ghost refuses: { Self → List ℕ → Type 0 };
 
     /// Answers a line, given without its newline, and adds the reply, one line with its newline, to a text. What the reply tells is kept when this
-    /// returns. Where there is no memory the line may have been taken, and no reply is told.
+    /// returns. If there is no memory the line may have been taken, and no reply is told.
     fn answer(&mut self, alloc: Global, line: &[u8], text: &mut Vec<u8>) -> Result<(), NoMemory>
         ensures reply { OnOk result (IsReplied (answers self.old self.new line.now) text.old.items text.new.items) }
         ensures stays { stays self.old self.new };
@@ -32,7 +32,8 @@ pub trait Keeper {
         ensures reply { OnOk result (IsReplied (refuses self.now) text.old.items text.new.items) };
 
     /// What it had answered at a moment each image holds, then and from then on.
-    ghost kept: { (x y : Self) (t : ℕ) (c : List ℕ) → stays x y → (seen x).moment ≤ t → t ≤ (seen y).moment → (seen y).images_since t c → (seen x).holds c };
+    ghost kept: { (x y : Self) (t : ℕ) (c : List ℕ) → stays x y → (seen x).moment ≤ t → t ≤ (seen y).moment
+        → (seen y).images_since t c → (seen x).holds c };
 
     /// Its disk's moment doesn't fall.
     ghost onward: { (x y : Self) → stays x y → (seen x).moment ≤ (seen y).moment };

@@ -21,8 +21,8 @@ pub struct Note {
     pub moment: u64,
 }
 
-/// A voice in memory. It takes at most `piece` bytes a call, and fails where it finds no memory. After each call it notes what it holds, by the
-/// moment of the keeper's disk: so what it told is known, and a test can hold it against what a crash leaves.
+/// A voice in memory. It takes at most `piece` bytes a call, and fails if it finds no memory. After each call it notes what it holds, by the
+/// moment of the keeper's disk. So what it told is known, and a test can hold it against what a crash leaves.
 #[derive(Drop)]
 pub struct MemVoice {
     alloc: Global,

@@ -24,9 +24,9 @@ pub(crate) enum Heard {
     TooLong,
 }
 
-/// Answers the lines that come, in their order, and tells each answer before more of the source is read. A line counts with its newline: what stands
-/// behind the last one is dropped. A line that is too long for the reader is skipped, and told so. `Ok` means that the source was read to its end; else the
-/// fault tells why not. Where the source fails, all lines that it had given whole are answered and told.
+/// Answers the lines that come, in their order, and tells each answer before more of the source is read. A line counts with its newline: what
+/// stands behind the last one is dropped. A line that is too long for the reader is skipped, and told so. `Ok` means that the source was read to
+/// its end; otherwise the fault tells why not. If the source fails, all lines that it had given whole are answered and told.
 pub fn talk<K: Keeper, S: Source, V: Voice<K>>(
     alloc: Global,
     keeper: &mut K,
@@ -74,7 +74,7 @@ fn hear<S: Source>(
     }
 }
 
-/// A line without its newline; None where it lacks one.
+/// A line without its newline; None if it lacks one.
 fn cut(mut line: Vec<u8>) -> Option<Heard>
     ensures line { IfSome result (λ heard. IsCutOf heard line.items) }
     ensures none { result ≡ None → (text : List ℕ) → line.items ≡ text ++ 10 ∷ [] → ⊥ }
@@ -85,7 +85,7 @@ fn cut(mut line: Vec<u8>) -> Option<Heard>
     }
 }
 
-/// Skips a line that is too long; None where the source ends before its newline.
+/// Skips a line that is too long; None if the source ends before its newline.
 fn skip<S: Source>(lines: &mut LineReader, input: &mut S) -> Result<Option<Heard>, TalkFault>
     ensures skips { SkipsNext S.seen result lines.old lines.new input.old input.new }
     ensures failed { IsErrOf result TalkFault.SourceFault → (S.seen input.new).faults ≡ raised (S.seen input.old).faults }

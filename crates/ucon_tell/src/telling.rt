@@ -10,7 +10,7 @@ use crate::keeper::Keeper;
 use crate::voice::Voice;
 use ucon_flow::{Failed, SinkFault};
 
-/// Tells all the bytes, or a front part of them where the voice fails, at this moment of the keeper's disk.
+/// Tells all the bytes, or a front part of them if the voice fails, at this moment of the keeper's disk.
 pub fn tell_all<K: Keeper, V: Voice<K>>(
     out: &mut V,
     bytes: &[u8],

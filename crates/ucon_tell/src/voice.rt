@@ -9,8 +9,8 @@ ghost use Rattle.ucon_tell.specs.Told.{Notes};
 use crate::Keeper;
 use ucon_flow::Failed;
 
-/// A sink whose reader stands outside, beside a keeper's disk. Each write is made at a moment of that disk, and the keeper is shown for that: so the
-/// sink's bytes and the disk's images have one clock, and a clause can say what a crash may leave once somebody was told something.
+/// A sink whose reader stands outside, beside a keeper's disk. Each write is made at a moment of that disk, and the keeper is shown for that. So
+/// the sink's bytes and the disk's images have one clock. A clause can say what a crash may leave once somebody was told something.
 pub trait Voice<K: Keeper> {
     /// What it holds, how often it has failed, and what it told by which moment of the disk.
     ghost seen: { Self → VoiceSeen };
@@ -22,7 +22,7 @@ pub trait Voice<K: Keeper> {
         ensures some { IfOk result (λ n. 0 < length bytes.now → 0 < n) }
         ensures bytes { WriteAppends (seen self.old).contents (seen self.new).contents result bytes.now }
         ensures cause { HasCause (seen self.old).faults (seen self.new).faults result }
-        // What it holds once it has taken them, where it tells, is told by the moment of the keeper's disk; nothing else is told.
+        // What it holds once it has taken them, if it tells, is told by the moment of the keeper's disk; nothing else is told.
         ensures noted { IfOk result (λ _. IfSome (seen self.new).contents (λ all. (seen self.new).told all (K.seen keeper.now).moment)) }
         ensures notes { Notes (seen self.old) (seen self.new) (K.seen keeper.now).moment };
 }

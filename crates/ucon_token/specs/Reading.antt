@@ -32,7 +32,8 @@ Gives view (Ok x) left reading = reading ≡ Ok (view x)
 Gives view (Err e) left reading = Fails e left reading
 
 -- a part that stops stops the whole
-pub stops_whole : {Y Z : Type 0} (e : Stop) (left : List Token) (part : Result Z Halt) (f : Z → Result Y Halt) (whole : Result Y Halt) → Fails e left part → (part >>= f) ≡ whole → Fails e left whole
+pub stops_whole : {Y Z : Type 0} (e : Stop) (left : List Token) (part : Result Z Halt) (f : Z → Result Y Halt) (whole : Result Y Halt)
+    → Fails e left part → (part >>= f) ≡ whole → Fails e left whole
 stops_whole (stops.Memory e) left part f whole fails so_far = tt
 stops_whole (stops.At c) left part f whole fails so_far = sym so_far ∙ ap (λ r. r >>= f) fails
 

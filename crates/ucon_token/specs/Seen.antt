@@ -1,5 +1,8 @@
 -- What the tokens of `src/` stand for.
-use Rattle.ucon_base.specs.Tokens.{Token, a_word, a_number, a_text, a_symbol, joined_word, flawed, the_end, Flaw, unknown, too_long, misplaced, Symbol, colon, semicolon, comma, dot, dots, equal_sign, unequal_sign, less_sign, at_most_sign, greater_sign, at_least_sign, plus_sign, minus_sign, star, open_round, close_round, open_square, close_square, open_curly, close_curly}
+use Rattle.ucon_base.specs.Tokens.{Token, a_word, a_number, a_text, a_symbol, joined_word, flawed, the_end, Flaw, unknown, too_long, misplaced}
+use Rattle.ucon_base.specs.Tokens.{Symbol, colon, semicolon, comma, dot, dots, equal_sign, unequal_sign, less_sign, at_most_sign, greater_sign}
+use Rattle.ucon_base.specs.Tokens.{at_least_sign, plus_sign, minus_sign, star, open_round, close_round, open_square, close_square, open_curly}
+use Rattle.ucon_base.specs.Tokens.{close_curly}
 use Rattle.ucon_token.specs.declared.token.Symbol.TheVariants as symbols
 use Rattle.ucon_token.specs.declared.token.Flaw.TheVariants as flaws
 use Rattle.ucon_token.specs.declared.token.Token.TheVariants as tokens

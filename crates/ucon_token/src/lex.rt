@@ -3,7 +3,9 @@
 ghost use Rattle.std.specs.Prelude.{◌≡◌, ◌≤◌, ◌&&◌, true, false, length, option_map, IfSome, drop};
 ghost use Rattle.ucon_base.specs.NameBytes.{is_letter, is_word_byte};
 ghost use Rattle.ucon_base.specs.Reading.{is_digit, text_len};
-ghost use Rattle.ucon_base.specs.Tokens.{is_blank, skip, word_len, digits_len, word_token, joined_token, value_from, number_of, is_zero_led, number_token, closed_text, text_token, single, symbol_with, longest, unequal, symbol_token, token_at, begins_word, begin_of, token_from, unless_closed, fault_from};
+ghost use Rattle.ucon_base.specs.Tokens.{is_blank, skip, word_len, digits_len, word_token, joined_token, value_from, number_of, is_zero_led};
+ghost use Rattle.ucon_base.specs.Tokens.{number_token, closed_text, text_token, single, symbol_with, longest, unequal, symbol_token, token_at};
+ghost use Rattle.ucon_base.specs.Tokens.{begins_word, begin_of, token_from, unless_closed, fault_from};
 ghost use Rattle.ucon_token.specs.Seen.{symbol_of, token_of};
 
 use crate::token::{Flaw, Symbol, Token};
@@ -179,7 +181,7 @@ fn text_token(bytes: &[u8]) -> (Token, &[u8])
     }
 }
 
-/// The longer symbol where its second byte follows.
+/// The longer symbol if its second byte follows.
 fn longest(second: u8, long: Symbol, short: Symbol, bytes: &[u8]) -> (Token, &[u8])
     ensures { (token_of result.0, result.1.now) ≡ longest second (symbol_of long) (symbol_of short) bytes.now }
 {

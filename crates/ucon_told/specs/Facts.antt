@@ -45,7 +45,7 @@ asks_tick (lasts n) = true
 abbrev pub formula_facts : Readings → SessionRow → PlainFormula → List Fact
 formula_facts R row f = map (value_fact R row) (distinct (formula_places f)) ++ tick_fact R (asks_tick f)
 
--- the facts that a test reads: of an obligation the act, and then the tick where the act may be too long ago
+-- the facts that a test reads: of an obligation the act, and then the tick if the act may be too long ago
 abbrev pub test_facts : Readings → SessionRow → PlainTest → List Fact
 test_facts R row (authorisation f) = formula_facts R row f
 test_facts R row (duty o) = act_fact R row o ∷ tick_fact R (is_timed o.form)

@@ -23,7 +23,7 @@ pub enum Fact {
         place: Ref,
         value: Value,
     },
-    /// The tick at which an act was last done, or None where it never was.
+    /// The tick at which an act was last done, or None if it never was.
     Moment {
         subject: Name,
         action: Name,

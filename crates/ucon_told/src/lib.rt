@@ -1,4 +1,10 @@
 //! What an explanation of a try says, and which truth its facts tell. Nothing here sees a state, and nothing evaluates over one.
+//!
+//! The checker of explanations stands on it, with an arithmetic of its own, so that a wrong evaluator can't vouch for itself.
+//!
+//! **Free.** How facts are looked up.
+//!
+//! **Before a change.** It stands on `ucon_asked` and on no evaluator. Keep it so. Begin at `explanation.rt`, then `told.rt`.
 #![tactic(auto)]
 
 mod asks;

@@ -29,9 +29,8 @@ pub record IsFoundJournalBy (reads : PolicyReading) (text : Bytes) (contents : O
   pub history : History
   pub found : IsFoundBy reads text file history
 
--- Nothing hinders a run of a form over these bytes: they are an accepted document, the journal of a form that has one, as the
--- disk tells it and opening sees it, is fresh or the document's own, and is found so where the form checks every record; and no count of
--- faults rose.
+-- Nothing hinders a run of a form over these bytes. They are an accepted document. The journal of a form that has one, as the disk tells it and
+-- opening sees it, is fresh or the document's own. It is found so if the form checks every record. No count of faults rose.
 pub record IsUnhinderedBy (reads : PolicyReading) (form : Form) (bytes : Bytes) (before after : Seen) : Type 0 where
   pub accepted : IsAcceptedBy reads bytes
   pub journal : OnTrue (traits form).disk (IsOwnJournalBy reads (policy_part bytes) before.disk.contents)

@@ -6,8 +6,8 @@ pub use Rattle.ucon_outcome.specs.Ending.{IsOfDocument, IsOfPrinting, IsOfAccept
 use Rattle.ucon_top.specs.declared.form.Form.{Form}
 use Rattle.ucon_top.specs.Traits.{traits}
 
--- how a form may end: one that reads nothing by nothing of the input, one that makes no call of the disk by nothing of that, and one that
--- writes no checkpoint by nothing of one
+-- How a form may end. One that reads nothing ends by nothing of the input. One that makes no call of the disk ends by nothing of that, and one
+-- that writes no checkpoint by nothing of one.
 abbrev pub MayEnd : Form → Outcome → Type 0
 MayEnd form outcome =
     OnFalse (traits form).reads (IsOfDocument outcome)

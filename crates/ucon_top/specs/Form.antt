@@ -96,10 +96,10 @@ abbrev pub asks_for_threads : Option Form → Bool
 asks_for_threads (Some form) = (traits form).threads
 asks_for_threads None = false
 
--- whose earlier answers a line's caller saw: its own, where each client has a thread, and otherwise everybody's
+-- whose earlier answers a line's caller saw: its own, if each client has a thread, and otherwise everybody's
 abbrev pub sees_by : Form → Caller → Caller → Bool
 sees_by form = if (traits form).threads then own_answers else in_text_order
 
--- the order in which a form's output has the lines: client by client, by rising number, where each has a thread, and otherwise as in the document
+-- the order in which a form's output has the lines: client by client, by rising number, if each has a thread, and otherwise as in the document
 abbrev pub output_order : Form → List Entry → List Entry
 output_order form lines = if (traits form).threads then by_client lines else lines

@@ -36,10 +36,10 @@ pub record IsFoundSinceBy (reads : PolicyReading) (text : Bytes) (opening H : Hi
   pub begun : Begins opening history
   pub within : Begins history H ⊎ ((e : Entry) × (failed ≡ Some e) × (history ≡ H ++ e ∷ []))
 
--- The answers are a legal run behind the history as which the file was found. Where a line met a disk fault the disk's count rose by one,
--- and otherwise it didn't. Where the disk was at rest, a crash at any moment since leaves a file that is found as a beginning of the history
--- that is made, which has the opening one, or as it with the line that met a disk fault. At rest or not, a crash now leaves one that is found
--- as the whole, or as it with that line.
+-- The answers are a legal run behind the history as which the file was found. If a line met a disk fault the disk's count rose by one, and
+-- otherwise it didn't. If the disk was at rest, a crash at any moment since leaves a file that is found as a beginning of the history that is
+-- made. That beginning has the opening history. Or the file is found as the whole history with the line that met a disk fault. At rest or not, a
+-- crash now leaves one that is found as the whole, or as it with that line.
 pub record IsPlayedBy (reads : PolicyReading) (sees : Caller → Caller → Bool) (text : Bytes) (P : PlainPolicy) (file : Bytes) (opening : History)
     (old new : DiskSeen) (told : List Answered) : Type 0 where
   pub legal : IsLegalRun P sees opening told
@@ -57,7 +57,7 @@ pub record HasRunBy (reads : PolicyReading) (sees : Caller → Caller → Bool) 
   pub played : IsPlayedBy reads sees text P file opening old new told
   pub is_so : so lines told
 
--- The bytes are an accepted document, and opening saw a fresh file, or a journal under the document's policy, where the disk told its file. Where
+-- The bytes are an accepted document, and opening saw a fresh file, or a journal under the document's policy, if the disk told its file. If
 -- the file is found as a history, the document's lines were played behind that. A file that opening alone accepts has none, and nothing is said
 -- of the answers.
 pub record IsRunOverBy (reads : PolicyReading) (form : Form) (bytes : Bytes) (old new : DiskSeen)
@@ -94,7 +94,7 @@ HasPlayedBy reads form (NoMemory e) bytes old new before now =
     ⊎ IsRunOverBy reads form bytes old new (λ lines told. Unit {0})
 HasPlayedBy reads form outcome bytes old new before now = IsAsBefore old new
 
--- so it was played over some bytes, which are those of the input where the source tells them
+-- so it was played over some bytes, which are those of the input if the source tells them
 pub record HasPlayedInputBy (reads : PolicyReading) (form : Form) (outcome : Outcome) (input : Option Bytes) (old new : DiskSeen)
     (before now : SinkSeen) : Type 0 where
   pub bytes : Bytes

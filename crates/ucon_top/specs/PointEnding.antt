@@ -22,7 +22,7 @@ abbrev pub IsOfPoint : Outcome → Type 0
 IsOfPoint outcome = IsTrue (ending outcome).opened
 
 module _ {D : Type 0} (seen : D → DiskSeen) where
-  -- Where the disk told the store's file, a crash since leaves one that is found as its entries, with or without a checkpoint behind them.
+  -- If the disk told the store's file, a crash since leaves one that is found as its entries, with or without a checkpoint behind them.
   abbrev pub LeavesPointed : Kept D → D → Type 0
   LeavesPointed store disk = (file : Bytes) → (seen store.disk).contents ≡ Some file
       → LeavesOnly (seen store.disk) (seen disk) (IsFoundPointed store.policy store.entries (point_places file))
@@ -38,7 +38,7 @@ module _ {D : Type 0} (seen : D → DiskSeen) where
   abbrev pub BehindEach : PlainPolicy → Kept D → (Kept D → Type 0) → Type 0
   BehindEach P store so = (G : History) → IsFounded seen P store G → so (whole G store)
 
-  -- where the disk told the store's file, it may have checkpoints
+  -- if the disk told the store's file, it may have checkpoints
   abbrev pub MayHavePoints : Kept D → Type 0
   MayHavePoints store = IfSome (seen store.disk).contents (λ file. has_points file ≡ true)
 
@@ -46,7 +46,7 @@ module _ {D : Type 0} (seen : D → DiskSeen) where
   abbrev pub IsPut : PlainPolicy → Kept D → D → Type 0
   IsPut P store disk = BehindEach P store (λ s. HasPut P s disk) × MayHavePoints store × ((seen disk).faults ≡ (seen store.disk).faults)
 
-  -- And so it ended, where the sink held this before and holds that now. But by a disk fault, where the checkpoint wasn't written nothing was.
+  -- And so it ended, if the sink held this before and holds that now. But by a disk fault, if the checkpoint wasn't written nothing was.
   module _ (P : PlainPolicy) (store : Kept D) (disk : D) (before now : Option Bytes) where
     abbrev pub EndsPoint : Outcome → Type 0
     EndsPoint Done = IsPut P store disk × Appends before now (point_line (store.before + length store.entries))
@@ -58,6 +58,6 @@ module _ {D : Type 0} (seen : D → DiskSeen) where
     EndsPoint OldJournal = (disk ≡ store.disk) × IfSome (seen store.disk).contents (λ file. has_points file ≡ false)
     EndsPoint outcome = ⊥
 
--- how it may end where the checkpoint isn't written
+-- how it may end if the checkpoint isn't written
 abbrev pub IsOfNoPoint : Outcome → Type 0
 IsOfNoPoint outcome = IsOfPoint outcome × (outcome ≢ Done) × (outcome ≢ SinkFault)

@@ -36,15 +36,15 @@ IsCheckpointSize text P H size = size ≡ length (checkpoint text P H)
 abbrev pub FitsRecord : (text : Bytes) (P : PlainPolicy) (H : History) → Type 0
 FitsRecord text P H = length (checkpoint text P H) ≤ 16777215
 
--- A file that was found as this history still is: where the disk was at rest, a crash at any moment since leaves one that is found as it; at
+-- A file that was found as this history still is: if the disk was at rest, a crash at any moment since leaves one that is found as it; at
 -- rest or not, a crash now leaves one that is found as it, and is of this kind.
 pub record IsStillFoundBy (reads : PolicyReading) (text file : Bytes) (opening : History) (old new : DiskSeen)
     (leaves : (file image : Bytes) → Type 0) : Type 0 where
   pub since : IsAtRest old file → LeavesOnly old new (λ c. IsFoundBy reads text c opening)
   pub now : (c : Bytes) → new.images c → IsFoundBy reads text c opening × leaves file c
 
--- The bytes are an accepted document; where the disk told its file, opening saw so many entries in it, under the document's policy, and of their
--- number this is so. Where the file is found as a history, it has as many, the file is still found as it, and of the history this is so. A file
+-- The bytes are an accepted document; if the disk told its file, opening saw so many entries in it, under the document's policy, and of their
+-- number this is so. If the file is found as a history, it has as many, the file is still found as it, and of the history this is so. A file
 -- that opening alone accepts has none.
 pub record IsPointOverBy (reads : PolicyReading) (bytes : Bytes) (old new : DiskSeen) (went : ℕ → Type 0) (leaves : ℕ → (file image : Bytes) → Type 0)
     (so : PlainPolicy → History → Type 0) : Type 0 where
@@ -94,7 +94,7 @@ HasPointedBy reads (NoMemory e) bytes old new before now =
     ⊎ HasNoPointBy reads bytes old new (Unit {0}) (λ P H. Unit {0})
 HasPointedBy reads outcome bytes old new before now = IsAsBefore old new
 
--- so it was done over some bytes, which are those of the input where the source tells them
+-- so it was done over some bytes, which are those of the input if the source tells them
 pub record HasPointedInputBy (reads : PolicyReading) (outcome : Outcome) (input : Option Bytes) (old new : DiskSeen)
     (before now : SinkSeen) : Type 0 where
   pub bytes : Bytes

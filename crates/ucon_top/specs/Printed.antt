@@ -46,7 +46,7 @@ pub record IsCutOutputOfBy (reads : PolicyReading) (form : Form) (bytes text : B
 abbrev pub added : Bytes → Bytes → Bytes
 added before now = drop (length before) now
 
--- Where source and sink tell what they hold: the sink holds what it held before, and what was added is so related to the source's bytes.
+-- If source and sink tell what they hold: the sink holds what it held before, and what was added is so related to the source's bytes.
 abbrev pub Adds : (Bytes → Bytes → Type 0) → Option Bytes → Option Bytes → Option Bytes → Type 0
 Adds R (Some bytes) (Some before) (Some now) = (now ≡ before ++ added before now) × R bytes (added before now)
 Adds R (Some bytes) (Some before) None = ⊥

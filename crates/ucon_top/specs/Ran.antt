@@ -1,5 +1,5 @@
--- What a run did, by what could be said of source, sink and disk before it and can be said after it: the causes of its end, what it made, what it
--- left, and when it is complete. Words that are no form are a case of their own, so all else speaks of one form.
+-- What a run did, by what could be said of source, sink and disk before it and can be said after it. That is the causes of its end, what it made,
+-- what it left, and when it is complete. Words that are no form are a case of their own, so all else speaks of one form.
 use Rattle.std.specs.Prelude.{◌≡◌, ◌≢◌, ◌⊎◌, ◌<◌, ◌≤◌, ◌+◌, length, Option, None, Some, IfSome}
 use Rattle.std.specs.Io.KnownBytes.{IsAtEnd}
 use Rattle.ucon_disk.specs.Causes.{raised}
@@ -30,9 +30,9 @@ pub record HasCauses (reads : PolicyReading) (asked : Form) (ended : Outcome) (b
   pub sink : IsCounted ended SinkFault before.sink.faults after.sink.faults
   pub fault : ended ≡ DiskFault → after.disk.faults ≡ raised before.disk.faults
 
--- With status 0 the bytes added to the sink are what the form prints of its document: for `trial` the output of a legal run, for `check` the core
--- models, for `gen` the summary of a legal run. Where the sink failed they are the front of such an output, and otherwise nothing is written. Of
--- the forms over a journal, by how they ended, what was printed and what each file is that a crash may leave.
+-- With status 0 the bytes added to the sink are what the form prints of its document. For `trial` that is the output of a legal run, for `check`
+-- the core models, for `gen` the summary of a legal run. If the sink failed they are the front of such an output, and otherwise nothing is
+-- written. Of the forms over a journal, by how they ended, what was printed and what each file is that a crash may leave.
 pub record HasMade (reads : PolicyReading) (asked : Form) (ended : Outcome) (before after : Seen) : Type 0 where
   pub done : ended ≡ Done → IsAlone asked
       → Adds (IsOutputOfBy reads asked) (document_of asked before.source.left) before.sink.contents after.sink.contents
@@ -44,7 +44,7 @@ pub record HasMade (reads : PolicyReading) (asked : Form) (ended : Outcome) (bef
   pub told : TellsText asked → HasToldInputBy reads asked ended before.source.left before.disk after.disk before.sink after.sink
 
 -- An accepted document was read to its end, with at most one read for each byte within the limit, and one more; for `gen` nothing is read. The disk
--- is as it was where the document is refused or wasn't had, and where the form has no journal.
+-- is as it was if the document is refused or wasn't had, and if the form has no journal.
 pub record HasLeft (reading : PolicyReading) (asked : Form) (ended : Outcome) (before after : Seen) : Type 0 where
   pub read : IsOfAccepted ended → ReadsInput asked → IsAtEnd after.source.left
   pub reads : after.source.reads ≤ before.source.reads + 4194305
@@ -53,7 +53,7 @@ pub record HasLeft (reading : PolicyReading) (asked : Form) (ended : Outcome) (b
   pub unaccepted : IfSome (document_of asked before.source.left) (λ bytes. IsAsBefore before.disk after.disk ⊎ IsAcceptedBy reading bytes)
   pub alone : IsAlone asked → IsAsBefore before.disk after.disk
 
--- Where nothing hinders the run, the lines were answered, or the checkpoint is written, and the output is whole; or there was no memory, or for
+-- If nothing hinders the run, the lines were answered, or the checkpoint is written, and the output is whole; or there was no memory, or for
 -- `point` one of its two causes.
 abbrev pub IsWhole : PolicyReading → Form → Outcome → Seen → Seen → Type 0
 IsWhole reads asked ended before after =

@@ -5,7 +5,7 @@ use Rattle.ucon_model.specs.Spells.{Spells}
 use Rattle.ucon_model.specs.Typing.{IsTyped}
 use Rattle.ucon_store.specs.Points.{PolicyReading}
 
--- Of each text it gives the policy that the text spells, where that is well typed, and nothing else. So two exact readings give the same.
+-- Of each text it gives the policy that the text spells, if that is well typed, and nothing else. So two exact readings give the same.
 pub record IsExact (reads : PolicyReading) : Type 0 where
   pub sound : (text : Bytes) (P : PlainPolicy) → reads text ≡ Some P → Spells text P × IsTyped P
   pub whole : (text : Bytes) (P : PlainPolicy) → Spells text P → IsTyped P → reads text ≡ Some P

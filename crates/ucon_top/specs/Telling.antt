@@ -33,9 +33,9 @@ use Rattle.ucon_top.specs.Seen.{IsAsBefore}
 abbrev pub HasItsPoints : (opening image : Bytes) → Type 0
 HasItsPoints opening image = point_places image ≡ point_places opening
 
--- The bytes are those of a document whose policy is accepted. Where the disk told its file, opening saw in it, under that policy, so many entries and
--- what is there after a trace, and of the trace this is so. Where the file is found as a history, that has as many entries, the file is still
--- found as it, with its checkpoints where they were, and the same is so of the history's trace. A file that opening alone accepts has none.
+-- The bytes are those of a document whose policy is accepted. If the disk told its file, opening saw in it, under that policy, so many entries and
+-- what is there after a trace, and of the trace this is so. If the file is found as a history, that has as many entries. The file is still found
+-- as it, with its checkpoints where they were, and the same is so of the history's trace. A file that opening alone accepts has none.
 pub record IsOpenedStateBy (reads : PolicyReading) (bytes : Bytes) (old new : DiskSeen) (so : PlainPolicy → Trace → Type 0) : Type 0 where
   pub policy : PlainPolicy
   pub has_policy : HasPolicy bytes policy

@@ -27,8 +27,8 @@ pub enum Form {
     Serve,
     /// `point JOURNAL`: runs no line of the document, and writes a checkpoint of a journal's state.
     Point,
-    /// `audit JOURNAL`, or `audit JOURNAL K HEX`: runs no line of the document, and tells of a journal that it checks from its first byte, and whether
-    /// it goes on from the head that is given, after so many records.
+    /// `audit JOURNAL`, or `audit JOURNAL K HEX`: runs no line of the document, and tells of a journal that it checks from its first byte. It also
+    /// tells whether the journal goes on from the head that is given, after so many records.
     Audit {
         kept: Option<Kept>,
     },

@@ -1,4 +1,15 @@
 //! The one call that does all that the program does.
+//!
+//! `run` reads the words and the input, does what the form asks, and tells how it ended. Its clause is the headline's. This crate has only the few
+//! steps between the crates below.
+//!
+//! **Always.** After each line the answers so far are a serial run behind the history that was found, and the store has the history that they
+//! made.
+//!
+//! **Free.** How texts are put together; the engine, any that meets `Engine`.
+//!
+//! **Before a change.** A form is a row of `specs/Traits.antt` and a case of each record of the clause. `proofs/Stepwise.antt` carries the loop
+//! over a store. `Playing.antt`, `Pointing.antt` and `Told.antt` go from its opening to its closing. Begin at `specs/Ran.antt`, then `top.rt`.
 #![tactic(auto)]
 
 mod document;

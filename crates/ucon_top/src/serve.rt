@@ -35,8 +35,8 @@ use ucon_script::{LineText, policy_part};
 use ucon_store::Store;
 use ucon_syntax::accepted_texts_spell_typed_policies;
 
-/// Runs the document that the bytes are over the journal on the disk, each client in a thread of its own, and writes the output, client by
-/// client, when all threads have returned. The gate is told of each line.
+/// Runs the document that the bytes are over the journal on the disk, each client in a thread of its own. It writes the output, client by client,
+/// when all threads have returned. The gate is told of each line.
 pub fn serve<E: Engine + Send, K: Sink, D: Disk + Send, G: Gate + Sync, R: Threads + Wait + Sync>(
     rt: &R,
     alloc: Global,

@@ -35,8 +35,8 @@ const LIMIT: usize = 4_194_304;
 
 /// Does what the words say, from the bytes read to the bytes written.
 ///
-/// `serve` runs the document over the journal on the disk, each client in a thread of its own, and writes one answer a line, client by client
-/// by rising number, when all threads have returned; the gate is told of each line. `run_alone` does all other forms.
+/// `serve` runs the document over the journal on the disk, each client in a thread of its own. It writes one answer a line, client by client by
+/// rising number, when all threads have returned; the gate is told of each line. `run_alone` does all other forms.
 pub fn run<S: Source, K: Sink, D: Disk + Send, G: Gate + Sync, R: Threads + Wait + Sync>(
     rt: &R,
     alloc: Global,

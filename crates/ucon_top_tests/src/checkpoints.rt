@@ -51,7 +51,7 @@ fn ticks_are_counted_over_a_checkpoint(rt: HostRuntime) -> Result<(), Fail> {
     Ok(())
 }
 
-/// The file that is left where one use is tried so many times, behind these lines, over a file.
+/// The file that is left if one use is tried so many times, behind these lines, over a file.
 fn repeated<R: Threads + Wait + Sync>(
     rt: &R,
     alloc: Global,
@@ -84,7 +84,7 @@ fn pointed<R: Threads + Wait + Sync>(
     Ok(left)
 }
 
-/// What is answered where one step revokes all uses, behind 503 more of them.
+/// What is answered if one step revokes all uses, behind 503 more of them.
 fn revoked<R: Threads + Wait + Sync>(rt: &R, alloc: Global, file: &[u8]) -> Result<Vec<u8>, Fail> {
     let more = repeated(rt, alloc, file, "client 0\n", 503)?;
     let revoking = document(alloc, CAPPED, b"client 0\nset o x most 0\n")?;

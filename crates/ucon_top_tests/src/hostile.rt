@@ -62,7 +62,7 @@ fn wrong_part<R: Threads + Wait + Sync>(
     Ok(wrong_end(&end, row, &output))
 }
 
-/// What is at a limit is accepted, and one more is refused at its place. The longest documents want minutes where each step is checked, as by
+/// What is at a limit is accepted, and one more is refused at its place. The longest documents want minutes if each step is checked, as by
 /// `rt try`.
 #[test]
 fn limits_are_met_exactly(rt: HostRuntime) -> Result<(), Fail> {
@@ -107,7 +107,7 @@ fn files_are_judged_by_what_they_hold(rt: HostRuntime) -> Result<(), Fail> {
     Ok(())
 }
 
-/// Whether `play` does nothing where this call of the source fails, and every call of the disk would. The source gives a byte a call.
+/// Whether `play` does nothing if this call of the source fails, and every call of the disk would. The source gives a byte a call.
 fn is_unread<R: Threads + Wait + Sync>(
     rt: &R,
     alloc: Global,
@@ -121,7 +121,7 @@ fn is_unread<R: Threads + Wait + Sync>(
     Ok(end.status == 4 && end.output.is_empty())
 }
 
-/// Whether all is done where this call of the sink fails, and the front of the output went out. The sink takes a byte a call.
+/// Whether all is done if this call of the sink fails, and the front of the output went out. The sink takes a byte a call.
 fn is_unwritten<R: Threads + Wait + Sync>(
     rt: &R,
     alloc: Global,
@@ -162,7 +162,7 @@ fn is_told_in_part<R: Threads + Wait + Sync>(
     Ok(end.status == 5 && is_front && same(end.disk.contents(), row.left))
 }
 
-/// Where a write of an explanation fails the front of it went out.
+/// If a write of an explanation fails the front of it went out.
 #[test]
 fn an_explanation_may_be_cut_short(rt: HostRuntime) -> Result<(), Fail> {
     let row = EXPLAINED_ROWS.first().ok_or("a row")?;
@@ -175,7 +175,7 @@ fn an_explanation_may_be_cut_short(rt: HostRuntime) -> Result<(), Fail> {
     Ok(())
 }
 
-/// Where a read fails nothing is done; where a write fails all is, and the front of the output went out.
+/// If a read fails nothing is done; if a write fails all is, and the front of the output went out.
 #[test]
 fn each_call_may_fail(rt: HostRuntime) -> Result<(), Fail> {
     let alloc = rt.alloc();

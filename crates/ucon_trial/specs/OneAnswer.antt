@@ -18,7 +18,8 @@ pub record WantsMemory (stands_for : History → Type 0) (hears : Option (ℕ ×
   pub heard : hears None
 
 -- the reply is the one said after the history, at its place, and the engine stands for the history that it grows to
-pub record Replies (P : PlainPolicy) (stands_for : History → Type 0) (hears : Option (ℕ × PlainReply) → Type 0) (H : History) (place place' : ℕ) (e : Entry) : Type 0 where
+pub record Replies (P : PlainPolicy) (stands_for : History → Type 0) (hears : Option (ℕ × PlainReply) → Type 0)
+    (H : History) (place place' : ℕ) (e : Entry) : Type 0 where
   pub stands : stands_for (grown P H e)
   pub place_is : place' ≡ min (if changes (said P H e.caller e.command) then place + 1 else place) (2 ^ 64 - 1)
   pub heard : hears (Some (place', said P H e.caller e.command))

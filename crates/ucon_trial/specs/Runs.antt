@@ -11,13 +11,13 @@ use Rattle.ucon_model.specs.Summary.{LineReply, IsReplyRun, whole_run, answered,
 abbrev pub IsUnfaulted : List Answered → Type 0
 IsUnfaulted told = Each (λ t. (is_disk_fault t.answer ≡ false) × (is_stopped t.answer ≡ false)) told
 
--- the text is the output of the answers that are read from it, and these are a legal run of the lines, in the order of the text, from the
--- empty history, in which no disk failed
+-- The text is the output of the answers that are read from it. These are a legal run of the lines from the empty history, in the order of the
+-- text, and no disk failed in it.
 abbrev pub IsRunOutput : PlainPolicy → List Entry → Bytes → Type 0
 IsRunOutput P lines text = IsSomeAnd (answers_read lines text) (λ told. (text ≡ output told) × IsLegalRun P in_text_order [] told × IsUnfaulted told)
 
--- The text is the summary of the replies of a run of the lines, in the order of the text, from the empty history, and their answers are a
--- legal run in which no disk failed. Where each line was a step or refused it is the one run in which there is memory for each line.
+-- The text is the summary of the replies of a run of the lines from the empty history, in the order of the text. Their answers are a legal run in
+-- which no disk failed. If each line was a step or refused, it is the one run in which there is memory for each line.
 pub record IsRunSummary (P : PlainPolicy) (lines : List Entry) (text : Bytes) : Type 0 where
   pub told : List LineReply
   pub lines_are : map (λ t. t.line) told ≡ lines

@@ -97,7 +97,7 @@ fn answer_one<E: Engine, R: Hearer>(
     }
 }
 
-/// Lets the engine answer a line's command, and keeps the change where it makes one. Want of memory changes nothing.
+/// Lets the engine answer a line's command, and keeps the change if it makes one. If there is no memory, nothing changes.
 fn answer<E: Engine, R: Hearer>(
     alloc: Global,
     engine: &mut E,
@@ -128,7 +128,7 @@ fn answer<E: Engine, R: Hearer>(
     }
 }
 
-/// Keeps the change that is pending, where there is one.
+/// Keeps the change that is pending, if there is one.
 #[inline(always)]
 fn keep_change<E: Engine>(engine: &mut E, changes: bool)
     requires pending { IsTrue changes → IsPending E.has_pending engine.old }
@@ -144,7 +144,7 @@ fn keep_change<E: Engine>(engine: &mut E, changes: bool)
     }
 }
 
-/// The number of records after a reply: one more where it changes something.
+/// The number of records after a reply: one more if it changes something.
 fn place_after(place: u64, changes: bool) -> u64
     ensures { result ≡ min (if changes then place + 1 else place) (2 ^ 64 - 1) }
 {

@@ -87,8 +87,8 @@ module _ {E N : Type 0} where
   abbrev pub joined : SeatView E N → SeatView E N → SeatView E N
   joined v w = record v { stage = Joined; seen = longer v.seen w.seen; taken = w.number ∷ v.taken; ours = v.seen; theirs = w.seen }
 
-  -- What the rule says of what a live seat, the j-th, knows: its list begins with the opening list and begins the turn's list, which has no entry of its own behind;
-  -- the seat with number 0 is the first one, and knows all numbers that were given
+  -- What the rule says of what a live seat, the j-th, knows. Its list begins with the opening list and begins the turn's list, which has no entry
+  -- of its own behind. The seat with number 0 is the first one, and knows all numbers that were given.
   pub record Knows (caller : N → ℕ) (entries : E → List N) (about : E) (log : List N) (all_given : List ℕ) (j : ℕ) (opened : List E) (number : ℕ) (seen : List N) (given taken : List ℕ) : Type 0 where
     pub opened_is : opened ≡ about ∷ []
     pub begins : Begins (entries about) seen
@@ -128,8 +128,8 @@ module _ {E N : Type 0} where
   abbrev pub Spot : (E → E → Type 0) → (E → List N) → E → List N → State (Option E) (SeatView E N) → Type 0
   Spot led_to entries about log s = AtHome led_to entries about log s ⊎ OutWith s
 
-  -- The rule of a turn that was opened with `about`. There is one list. The tickets out are those from `served` to just before `drawn`, one for each seat that has one.
-  -- There are no more seats than numbers that fit 32 bits, so no two tickets out are equal in the words
+  -- The rule of a turn that was opened with `about`. There is one list. The tickets out are those from `served` to just before `drawn`, one for
+  -- each seat that has one. There are no more seats than numbers that fit 32 bits, so no two tickets out are equal in the words.
   pub record Ruled (caller : N → ℕ) (led_to : E → E → Type 0) (entries : E → List N) (about : E) (s : State (Option E) (SeatView E N)) : Type 0 where
     pub drawn : ℕ
     pub served : ℕ

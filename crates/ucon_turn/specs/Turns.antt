@@ -11,8 +11,8 @@ pub record Opening (E : Type 0) : Type 0 where
   pub turn : Which
   pub opened : E
 
--- What a seat knows: its turn, the value that was handed in there (alone in a list), its number, the list that it has seen,
--- and the numbers that it gave and that it took back, the last one first
+-- What a seat knows: its turn; the value that was handed in there, alone in a list; its number; the list that it has seen; and the numbers that it
+-- gave and that it took back, the last one first.
 pub record Knowledge (E N : Type 0) : Type 0 where
   pub turn : Which
   pub opened : List E

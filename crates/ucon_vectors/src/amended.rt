@@ -48,7 +48,7 @@ value o x users
 ",
     },
     // An attribute and a variable that were dropped come back with their new defaults and not with their old values; what stays keeps
-    // its value, also where its default is new, and an entity that is made later has the new default.
+    // its value, also if its default is new, and an entity that is made later has the new default.
     Row {
         name: "dropped_and_brought_back",
         policy: LENT,

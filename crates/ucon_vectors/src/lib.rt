@@ -1,4 +1,8 @@
 //! Documents with what the program makes of them, as bytes for tests.
+//!
+//! The test crates run through these tables. Rows of policies and of time are worked out by hand from the rules.
+//!
+//! **Before a change.** Add a row to the table of its topic, with a name for what it shows. The test over the table needs no change.
 #![tactic(auto)]
 
 ghost use Rattle.std.specs.Prelude.{◌≡◌, ◌++◌, IfOk, codes};

@@ -1,4 +1,4 @@
-//! Uses that time ends: documents, each with what `trial` prints of it, as one works it out by hand: every limit at the tick before it, at
+//! Uses that time ends: documents, each with what `trial` prints of it, as one works it out by hand. Every limit is met at the tick before it, at
 //! it and after it.
 
 use crate::Row;
@@ -118,7 +118,7 @@ tick 10
 0 16 ok revoked 2 t
 ",
     },
-    // Where both parts have become false the first label is told; a tick passes the limits of many uses, and those of one use at once.
+    // If both parts have become false the first label is told; a tick passes the limits of many uses, and those of one use at once.
     Row {
         name: "parts_that_share_a_limit",
         policy: OFTEN,

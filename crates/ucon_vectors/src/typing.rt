@@ -1,7 +1,7 @@
 //! Policies with what `check` tells of them.
 
-/// Policies that are refused, with the line of the fault: each fault at its first and at a later item, two faults of one item and of two,
-/// each forbidden reading, each sum of each kind.
+/// Policies that are refused, with the line of the fault. They have each fault at its first and at a later item, two faults of one item and of
+/// two, each forbidden reading, and each sum of each kind.
 pub const TYPING_FAULTS: &[(&'static str, &'static str)] = &[
     // names that stand twice
     (

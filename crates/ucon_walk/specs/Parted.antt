@@ -19,12 +19,12 @@ preceded_by payload p = record { before = payload ∷ p.before; point = p.point;
 abbrev pub parted_here : Bytes → List Bytes → Option Parted
 parted_here payload payloads = if is_point payload then Some (record { before = []; point = payload; behind = payloads }) else None
 
--- the payloads around the last checkpoint; none where there is none
+-- the payloads around the last checkpoint; none if there is none
 abbrev pub parted : List Bytes → Option Parted
 parted [] = None
 parted (payload ∷ payloads) = option_or (option_map (preceded_by payload) (parted payloads)) (parted_here payload payloads)
 
--- the same where there may be checkpoints; where there may not, none is
+-- the same if there may be checkpoints; if there may not, none is
 abbrev pub parted_with : Bool → List Bytes → Option Parted
 parted_with points payloads = if points then parted payloads else None
 

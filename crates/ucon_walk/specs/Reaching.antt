@@ -27,7 +27,7 @@ pub record IsTaken (last : LastPoint) (p : Parted) (payload : Bytes) (next : ℕ
 abbrev pub CanBePassed : (number gate : ℕ) → Bytes → Type 0
 CanBePassed number gate file = (payloads_from file gate ≢ []) × (first_long number gate (payloads_from file gate) ≡ None)
 
--- why a record that can be passed isn't: a fault of the disk, or want of memory; where the disk doesn't tell, the record may be damaged, too
+-- why a record that can be passed isn't: a fault of the disk, or out of memory; if the disk doesn't tell, the record may be damaged, too
 abbrev pub IsUnpassed : RecordFault → Option Bytes → (before now : ℕ) → Type 0
 IsUnpassed (Damaged number place) file before now = (file ≡ None) × (now ≡ before)
 IsUnpassed DiskFault file before now = now ≡ raised before

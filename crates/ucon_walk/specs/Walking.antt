@@ -40,7 +40,8 @@ walked points number entries gate last (payload ∷ payloads) =
     then walked points (number + 1) entries (next_gate gate payload) (Some (record { number = number; place = gate; entries = entries })) payloads
     else walked points (number + 1) (entries + 1) (next_gate gate payload) last payloads
 
--- what a walk will find in the records from a gate on: the last checkpoint, and the first record that is too long, by its number and its gate's place
+-- what a walk will find in the records from a gate on: the last checkpoint; and the first record that is too long, by its number and its gate's
+-- place
 abbrev pub finds : Bool → Walk → ℕ → Bytes → Option LastPoint × Option (ℕ × ℕ)
 finds points w gate file =
     (walked points w.number w.entries gate w.last (payloads_from file gate), first_long w.number gate (payloads_from file gate))
@@ -51,7 +52,7 @@ pub record IsWalking (w : Walk) (gate : ℕ) : Type 0 where
   pub small : 5 * w.number ≤ gate
   pub last : IfSome w.last (IsPlacedBelow gate)
 
--- why a walk didn't come to the end: the first record that is too long, a fault of the disk, or want of memory
+-- why a walk didn't come to the end: the first record that is too long, a fault of the disk, or out of memory
 abbrev pub HasLong : RecordFault → Option Bytes → (number gate before now : ℕ) → Type 0
 HasLong (Damaged long place) file number gate before now =
     IfSome file (λ bytes. first_long number gate (payloads_from bytes gate) ≡ Some (long, place)) × (now ≡ before)

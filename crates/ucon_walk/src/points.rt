@@ -15,7 +15,7 @@ pub fn has_points<D: Disk>(journal: &Journal<D>) -> bool
     journal.version() == 2
 }
 
-/// Whether a payload has to be a checkpoint: where there may be any, it begins as one does.
+/// Whether a payload has to be a checkpoint: if there may be any, it begins as one does.
 pub(crate) fn is_point(points: bool, payload: &[u8]) -> bool
     ensures { result ≡ (points && is_point payload.now) }
 {

@@ -13,7 +13,7 @@ use crate::points::{has_points, is_point};
 use ucon_disk::Disk;
 use ucon_journal::Journal;
 
-/// A record that begins as a checkpoint, where there may be any.
+/// A record that begins as a checkpoint, if there may be any.
 #[derive(Clone, Copy)]
 pub struct LastPoint {
     /// Its number, from 0.
@@ -24,7 +24,7 @@ pub struct LastPoint {
     pub entries: u64,
 }
 
-/// The last checkpoint in the journal, of which no record was taken yet. None where there is none. Each record is read, and none may be too long.
+/// The last checkpoint in the journal, of which no record was taken yet. None if there is none. Each record is read, and none may be too long.
 pub fn last_point<D: Disk>(journal: &mut Journal<D>) -> Result<Option<LastPoint>, RecordFault>
     requires reading { IsReading D.seen journal.old }
     requires all { IfSome (D.seen (disk_of journal.old)).contents (λ file. payloads_from file 8 ≡ counted file) }
@@ -73,7 +73,7 @@ impl Walk {
         }
     }
 
-    /// Passes the next record. False where there is none.
+    /// Passes the next record. False if there is none.
     fn pass_next<D: Disk>(&mut self, journal: &mut Journal<D>) -> Result<bool, RecordFault>
         requires reading { IsReading D.seen journal.old }
         requires walking { IsWalking self.old (gate_of journal.old) }

@@ -21,7 +21,7 @@ pub struct Adder {
 
 impl Adder {
     /// Adds, keeps the answer, and gives the place, which is after all that the caller had seen.
-    /// None where nothing was added.
+    /// None if nothing was added.
     pub fn add<R: Wait>(&mut self, rt: &R, turn: &Turn<Counter>, amount: u64) -> Option<u64>
         requires turn { IsSeatOf turn.now self.old.seat }
         requires serial { self.old.answers.items ≡ serial self.old.seat.number self.old.seat.seen }

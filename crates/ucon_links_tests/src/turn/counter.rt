@@ -30,7 +30,7 @@ impl Counter {
         }
     }
 
-    /// None where memory runs out, or the total is too large.
+    /// None if memory runs out, or the total is too large.
     pub fn add(&mut self, by: u32, amount: u64) -> Option<Told>
         ensures { Adds by amount self.old.additions.items self.new.additions.items result }
     {
