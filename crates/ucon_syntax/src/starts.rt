@@ -8,6 +8,7 @@ use ucon_base::{Name, Side};
 use ucon_model::{Op, Phase, When};
 use ucon_token::{Symbol, Token};
 
+/// What a factor begins with: a literal, a place of the subject, of the object or of the environment, `size`, or `(`.
 #[derive(Clone, Copy)]
 pub enum FactorStart {
     Literal,
@@ -18,12 +19,14 @@ pub enum FactorStart {
     Round,
 }
 
+/// The sign between two terms: `+` or `-`.
 #[derive(Clone, Copy)]
 pub enum SumSign {
     Plus,
     Minus,
 }
 
+/// What a unit of a formula begins with: `not`, `[`, `lasts`, or else the left side of a comparison.
 #[derive(Clone, Copy)]
 pub enum UnitStart {
     Not,
@@ -32,6 +35,7 @@ pub enum UnitStart {
     Compare,
 }
 
+/// The word of a kind: `int`, `text` or `set`.
 #[derive(Clone, Copy)]
 pub enum KindWord {
     Int,
@@ -39,6 +43,7 @@ pub enum KindWord {
     Set,
 }
 
+/// The letter of a predicate: `a` (authorisation), `b` (obligation) or `c` (condition).
 #[derive(Clone, Copy)]
 pub enum TestSort {
     A,
@@ -46,6 +51,7 @@ pub enum TestSort {
     C,
 }
 
+/// The word of an obligation: `done`, `within` or `every`.
 #[derive(Clone, Copy)]
 pub enum DutyWord {
     Done,
@@ -81,6 +87,7 @@ fn word_factor(name: &Name) -> Option<FactorStart>
     }
 }
 
+/// Tells what kind of factor the token begins. None if it begins none.
 #[tactic(auto, unfolding(crate::specs::Starts::factor_start))]
 pub fn factor_start(token: &Token) -> Option<FactorStart>
     ensures { result ≡ factor_start (token_of token.now) }
@@ -104,6 +111,7 @@ fn symbol_sum(s: Symbol) -> Option<SumSign>
     }
 }
 
+/// Gives the sign of a token that is `+` or `-`. None for any other.
 #[tactic(auto, unfolding(crate::specs::Starts::sum_sign))]
 pub fn sum_sign(token: &Token) -> Option<SumSign>
     ensures { result ≡ sum_sign (token_of token.now) }
@@ -114,6 +122,7 @@ pub fn sum_sign(token: &Token) -> Option<SumSign>
     }
 }
 
+/// Tells what kind of unit the token begins. All that isn't `not`, `[` or `lasts` begins a comparison.
 #[tactic(auto, unfolding(crate::specs::Starts::unit_start))]
 pub fn unit_start(token: &Token) -> UnitStart
     ensures { result ≡ unit_start (token_of token.now) }
@@ -153,6 +162,7 @@ fn word_op(name: &Name) -> Option<Op>
     }
 }
 
+/// Gives the comparison that the token is: one of six symbols, or `in`. None for any other token.
 #[tactic(auto, unfolding(crate::specs::Starts::op_of))]
 pub fn op_of(token: &Token) -> Option<Op>
     ensures { result ≡ op_of (token_of token.now) }
@@ -164,6 +174,7 @@ pub fn op_of(token: &Token) -> Option<Op>
     }
 }
 
+/// Gives the side of the word `s` or `o`. None for any other token.
 #[tactic(auto, unfolding(crate::specs::Starts::side_of))]
 pub fn side_of(token: &Token) -> Option<Side>
     ensures { result ≡ side_of (token_of token.now) }
@@ -177,6 +188,7 @@ pub fn side_of(token: &Token) -> Option<Side>
     }
 }
 
+/// Gives the kind that the token is the word of. None for any other token.
 #[tactic(auto, unfolding(crate::specs::Starts::kind_word))]
 pub fn kind_word(token: &Token) -> Option<KindWord>
     ensures { result ≡ kind_word (token_of token.now) }
@@ -192,6 +204,7 @@ pub fn kind_word(token: &Token) -> Option<KindWord>
     }
 }
 
+/// Gives the phase of the word `pre` or `on`. None for any other token.
 #[tactic(auto, unfolding(crate::specs::Starts::phase_of))]
 pub fn phase_of(token: &Token) -> Option<Phase>
     ensures { result ≡ phase_of (token_of token.now) }
@@ -205,6 +218,7 @@ pub fn phase_of(token: &Token) -> Option<Phase>
     }
 }
 
+/// Gives the sort of the letter `a`, `b` or `c`. None for any other token.
 #[tactic(auto, unfolding(crate::specs::Starts::test_sort))]
 pub fn test_sort(token: &Token) -> Option<TestSort>
     ensures { result ≡ test_sort (token_of token.now) }
@@ -220,6 +234,7 @@ pub fn test_sort(token: &Token) -> Option<TestSort>
     }
 }
 
+/// Gives the word of an obligation that the token is. None for any other token.
 #[tactic(auto, unfolding(crate::specs::Starts::duty_word))]
 pub fn duty_word(token: &Token) -> Option<DutyWord>
     ensures { result ≡ duty_word (token_of token.now) }
@@ -235,6 +250,7 @@ pub fn duty_word(token: &Token) -> Option<DutyWord>
     }
 }
 
+/// Gives the time of an update that the token is the word of. None for any other token.
 #[tactic(auto, unfolding(crate::specs::Starts::when_of))]
 pub fn when_of(token: &Token) -> Option<When>
     ensures { result ≡ when_of (token_of token.now) }
