@@ -61,6 +61,7 @@ fn is_requesting(state: SessionState) -> bool
     matches!(state, SessionState::Requesting)
 }
 
+/// Tells whether a session in this state is accessing.
 pub fn is_accessing(state: SessionState) -> bool
     ensures { result ≡ is_accessing_state state }
 {

@@ -95,6 +95,7 @@ pub struct History {
 }
 
 impl History {
+    /// Begins a history: the board was opened at this place, with the states of the sessions from number 1 on.
     pub fn open(place: u64, sessions: &[SessionState]) -> History
         ensures { result.told.log ≡ events place sessions.now [] }
     {

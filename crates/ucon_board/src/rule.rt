@@ -10,6 +10,7 @@ use crossbeam_utils::rule::{Outcome, Protocol};
 /// What an end knows.
 pub type End = Option<Told>;
 
+/// The rule: what is shown is what its history makes, and each end's history begins it.
 pub struct Shows;
 
 impl Protocol<Shown, Option<Told>> for Shows {

@@ -283,6 +283,7 @@ pub const AUDIT_ROWS: &[Audit] = &[
     },
 ];
 
+/// Files of journals, with the state that `report` writes of each as JSON.
 pub const REPORT_ROWS: &[Report] = &[
     Report {
         name: "no file",

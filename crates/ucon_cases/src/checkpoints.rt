@@ -66,6 +66,7 @@ end 2
 again 65537
 ";
 
+/// What `WAITED` is answered.
 pub const WAITED_OUTPUT: &[u8] = b"0 65541 full accessing
 0 65542 ended 2
 0 65543 permitted 65537

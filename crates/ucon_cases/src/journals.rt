@@ -98,12 +98,14 @@ const POINTED: &[u8] =
 
 pub(crate) const FOREIGN: &[u8] = b"0123456789";
 
+/// A document that is a policy alone.
 pub const NO_LINES: &[u8] = b"right r {}\n";
 
 const SUBJECT_A: &[u8] = b"right r {}\n%%\nclient 0\nsubject a\n";
 
 const SUBJECT_B: &[u8] = b"right r {}\n%%\nclient 0\nsubject b\n";
 
+/// Two lines of client 0, each of which makes a subject.
 pub const SUBJECTS_B_AND_C: &[u8] = b"right r {}\n%%\nclient 0\nsubject b\nsubject c\n";
 
 /// One line that changes nothing: its place is the number of entries.

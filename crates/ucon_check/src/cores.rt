@@ -8,6 +8,7 @@ ghost use Rattle.ucon_model.specs.Views.{predicate_of, right_of, test_of, update
 
 use ucon_model::{Predicate, Right, Test, Update, When};
 
+/// Tells whether a test is a condition (C).
 pub fn is_condition(test: &Test) -> bool
     ensures { result ≡ is_condition (test_of test.now) }
 {

@@ -81,6 +81,7 @@ pub fn attr_place(side: Side, attr: &Name) -> Ref
     }
 }
 
+/// Tells whether two places are the same: of one sort, and of one name.
 pub fn same_place(p: &Ref, q: &Ref) -> bool
     ensures { result ≡ same_place p.now q.now }
 {

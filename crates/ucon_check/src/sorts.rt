@@ -171,6 +171,7 @@ fn is_typed_formula(policy: &Policy, f: &Formula) -> bool
     }
 }
 
+/// Tells whether a test is well typed under a policy. An obligation always is.
 pub fn is_typed_test(policy: &Policy, test: &Test) -> bool
     ensures { result ≡ is_typed_test (policy_of policy.now) (test_of test.now) }
 {

@@ -13,6 +13,7 @@ pub struct SinkVoice<W: Sink> {
 }
 
 impl<W: Sink> SinkVoice<W> {
+    /// Hands all bytes on to this sink.
     pub fn new(sink: W) -> SinkVoice<W> {
         SinkVoice { sink }
     }

@@ -23,6 +23,7 @@ pub struct FileDisk<R> {
 impl<R: Files<File = File>> FileDisk<R> {
     ghost use Rattle.ucon_disk.specs.FileDisk.{file_faults};
 
+    /// Gives a disk of which no call has failed yet. Its file is that of the path, and is opened at the first call.
     pub fn new(rt: R, path: String) -> FileDisk<R>
         ensures { file_faults result ≡ 0 }
     {

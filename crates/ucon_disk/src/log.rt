@@ -45,6 +45,7 @@ impl Log {
     ghost use Rattle.ucon_disk.specs.Recorded.{change_of};
     ghost use Rattle.ucon_disk.specs.Replayed.{state_of};
 
+    /// Begins with these bytes at rest, and no calls.
     pub fn new(alloc: Global, bytes: Vec<u8>) -> Log
         ensures { result ≡ record { start = bytes.items; changes = [] } }
     {
@@ -56,6 +57,7 @@ impl Log {
         }
     }
 
+    /// Gives the bytes of the file after all calls, fewer than 2^63.
     pub fn bytes(&self) -> &[u8]
         ensures file { result.now ≡ (state_now self.now).file }
         ensures small { length result.now < 2 ^ 63 }
@@ -70,6 +72,7 @@ impl Log {
         self.calls.len() as u64
     }
 
+    /// Gives the allocator that the log takes its memory from.
     pub fn allocator(&self) -> Global {
         self.alloc
     }

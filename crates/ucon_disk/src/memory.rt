@@ -13,6 +13,7 @@ use crate::{Disk, Failed};
 use std::alloc::Global;
 use ucon_base::NoMemory;
 
+/// A disk in memory, with all calls since it was made and the plan by which calls fail.
 #[derive(Drop)]
 pub struct MemDisk {
     log: Log,

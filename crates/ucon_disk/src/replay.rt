@@ -37,6 +37,7 @@ impl Replay {
         })
     }
 
+    /// Goes on by one call, as the disk model does. `Err` if there is no memory.
     pub fn apply(&mut self, alloc: Global, call: &Call) -> Result<(), NoMemory>
         ensures { OnOk result (state_of self.new ≡ step (state_of self.old) (change_of call.now)) }
     {

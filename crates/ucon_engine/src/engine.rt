@@ -55,12 +55,14 @@ pub trait Engine: Drop {
         ensures unchanged { IfOk result (λ d. IsFalse d.changes → FollowsLike follows self.old self.new) }
         ensures err { OnErr result (FollowsLike follows self.old self.new) };
 
+    /// Keeps the pending change. The monitor then follows the trace after the entry, and no session fails.
     fn keep(&mut self)
         requires { IsPending has_pending self.old }
         ensures follows { (P : PlainPolicy) (T : Trace) (e : Entry) → has_pending self.old P T e → follows self.new P (after P T e.caller e.command) }
         ensures nobody_fails { (P : PlainPolicy) (T : Trace) (e : Entry) → has_pending self.old P T e
             → (n : ℕ) → fails_at P (after P T e.caller e.command) n ≡ None };
 
+    /// Undoes the pending change. The monitor then follows the trace as it was before the draft.
     fn undo(&mut self)
         requires { IsPending has_pending self.old }
         ensures { (P : PlainPolicy) (T : Trace) (e : Entry) → has_pending self.old P T e → follows self.new P T };

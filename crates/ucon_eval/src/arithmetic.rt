@@ -10,6 +10,7 @@ use crate::worth::size_of_set;
 use std::alloc::Global;
 use ucon_base::{Int, Kind, NoMemory, Value};
 
+/// Gives the clamped sum of two integers, or a set with a text; else the left value. `Err` if there is no memory.
 pub fn sum(alloc: Global, a: Value, b: Value) -> Result<Value, NoMemory>
     ensures { IfOk result (λ v. v ≡ sum_of a b) }
 {
@@ -20,6 +21,7 @@ pub fn sum(alloc: Global, a: Value, b: Value) -> Result<Value, NoMemory>
     }
 }
 
+/// Gives the clamped difference of two integers, or a set without a text; else the left value. `Err` if there is no memory.
 pub fn difference(alloc: Global, a: Value, b: Value) -> Result<Value, NoMemory>
     ensures { IfOk result (λ v. v ≡ difference_of a b) }
 {
@@ -30,6 +32,7 @@ pub fn difference(alloc: Global, a: Value, b: Value) -> Result<Value, NoMemory>
     }
 }
 
+/// Gives the clamped product of two integers; else the left value.
 pub fn product(a: Value, b: Value) -> Value
     ensures { result ≡ product_of a b }
 {
@@ -49,6 +52,7 @@ pub fn size(v: Value) -> Value
     }
 }
 
+/// Gives the greater of two integers.
 pub fn later(a: Int, b: Int) -> Int
     ensures { result ≡ int_max a b }
 {

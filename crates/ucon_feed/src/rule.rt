@@ -21,6 +21,7 @@ pub struct Known<T> {
     pub taken: Told<T>,
 }
 
+/// The rule: what was fed is what was taken and then what the inbox holds. One pass at most feeds, and one at most takes.
 pub struct Ordered;
 
 impl<T> Protocol<Item<T>, Known<T>> for Ordered {
@@ -56,6 +57,7 @@ impl<T> Join<Known<T>> for Ends {
     ghost spent = { known false false nothing nothing };
 }
 
+/// A step that feeds an item: the pass then knows one more as fed.
 pub struct Feeds;
 
 impl<T> Outcome<Item<T>, Known<T>> for Feeds {
@@ -66,6 +68,7 @@ impl<T> Lesson<Item<T>, Known<T>> for Feeds {
     ghost fact = { λ v held. ⊤ };
 }
 
+/// A step that takes an item: the pass then knows one more as taken.
 pub struct Takes;
 
 impl<T> Outcome<Item<T>, Known<T>> for Takes {
@@ -76,6 +79,7 @@ impl<T> Lesson<Item<T>, Known<T>> for Takes {
     ghost fact = { λ v held. ⊤ };
 }
 
+/// What is learned once both ends are one pass again: what was fed is what was taken and then what the inbox holds.
 pub struct Total;
 
 impl<T> Lesson<Item<T>, Known<T>> for Total {

@@ -24,6 +24,7 @@ impl Model for FailingCalls {
 }
 
 impl FailingCalls {
+    /// Lets the calls with these numbers fail. The first call is number 0.
     pub fn new(failing: Vec<u64>) -> FailingCalls
         ensures { result ≡ no_calls failing.items }
     {

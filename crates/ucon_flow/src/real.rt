@@ -27,6 +27,7 @@ impl<R> Model for ReadSource<R> {
 }
 
 impl<R: Read> ReadSource<R> {
+    /// Reads from this reader. No call was made yet, and none has failed.
     pub fn new(r: R) -> ReadSource<R>
         ensures { result ≡ record { inner = r; calls = 0; faults = 0 } }
     {
@@ -75,6 +76,7 @@ impl<W> Model for WriteSink<W> {
 }
 
 impl<W: Write> WriteSink<W> {
+    /// Writes to this writer. No call was made yet, and none has failed.
     pub fn new(w: W) -> WriteSink<W>
         ensures { result ≡ record { inner = w; calls = 0; faults = 0 } }
     {

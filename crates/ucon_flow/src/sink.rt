@@ -9,6 +9,7 @@ ghost use Rattle.ucon_flow.specs.Writing.{AppendsPrefix};
 use crate::Failed;
 use thiserror::Error;
 
+/// Takes bytes piece by piece, as a file or a standard output does.
 pub trait Sink {
     /// What can be said of the sink at this moment.
     ghost seen: { Self → SinkSeen };

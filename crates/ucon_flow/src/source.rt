@@ -17,6 +17,7 @@ use ucon_base::NoMemory;
 #[derive(Clone, Copy)]
 pub struct Failed;
 
+/// Gives bytes piece by piece, as a file or a standard input does.
 pub trait Source {
     /// What can be said of the source at this moment.
     ghost seen: { Self → SourceSeen };

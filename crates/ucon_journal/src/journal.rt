@@ -31,6 +31,8 @@ const HEADER: u64 = 5;
 /// The longest payload, in bytes.
 pub const MAX_PAYLOAD: u64 = 16_777_215;
 
+/// A journal in a file of a disk: records of a gate, a length and a payload behind the magic of its version. A record counts once its gate is
+/// open.
 #[derive(Drop)]
 pub struct Journal<D> {
     disk: D,
@@ -314,6 +316,7 @@ impl<D: Disk> Journal<D> {
         Ok(())
     }
 
+    /// Ends the journal, writes nothing, and gives the disk back.
     pub fn close(self) -> D
         ensures { result ≡ disk_of self }
     {

@@ -29,7 +29,7 @@ pub struct Node {
 impl State {
     ghost use Rattle.ucon_links.specs.Layout.{below_of};
 
-    // The node below on the stack.
+    /// The node below on the stack.
     pub fn below(self) -> Option<NodeId>
         ensures { result ≡ below_of self }
     {
@@ -43,7 +43,7 @@ impl State {
 impl Node {
     ghost use Rattle.ucon_links.specs.Layout.{spare_node};
 
-    // A spare node above another.
+    /// A spare node above another.
     pub fn spare(below: Option<NodeId>) -> Node
         ensures { result ≡ spare_node below }
     {
@@ -57,6 +57,7 @@ impl Node {
     }
 }
 
+/// The nodes by number, from 0, and of each list its first node. None for an empty list.
 #[derive(Drop)]
 pub struct Table {
     pub nodes: Vec<Node>,
@@ -77,7 +78,7 @@ impl Table {
         }
     }
 
-    // Lets `before` and `after` stand next to each other, where none stands for the list's end on that side.
+    /// Lets `before` and `after` stand next to each other, where none stands for the list's end on that side.
     pub fn join(&mut self, list: u32, before: Option<NodeId>, after: Option<NodeId>)
         requires list { list < length self.old.firsts.items }
         requires before { ForSome before (λ b. b < length self.old.nodes.items) }
@@ -91,7 +92,7 @@ impl Table {
         }
     }
 
-    // Puts a node between the neighbours that it names.
+    /// Puts a node between the neighbours that it names.
     pub fn insert(&mut self, id: NodeId, node: Node)
         requires id { id < length self.old.nodes.items }
         requires list { node.list < length self.old.firsts.items }

@@ -33,6 +33,7 @@ impl Model for Amend {
 }
 
 impl Amend {
+    /// Joins a policy with its text. The text must be one line that spells this policy.
     pub fn new(text: Rows<u8>, checked: Checked) -> Amend
         requires { IsAmendment (record { text = text.items; policy = checked_policy checked }) }
         ensures { result ≡ record { text = text.items; policy = checked_policy checked } }
@@ -56,6 +57,7 @@ impl Amend {
         &self.checked
     }
 
+    /// Copies the text and the policy. `Err` if there is no memory.
     pub fn copy(&self, alloc: Global) -> Result<Amend, NoMemory>
         ensures { IfOk result (λ a. a ≡ self.now) }
     {

@@ -20,6 +20,7 @@ pub struct Checked {
 impl Checked {
     ghost use Rattle.ucon_model.specs.Checked.{checked_policy};
 
+    /// Marks a policy as checked. It must be well typed and have at most 16 attributes of each side.
     pub fn new(policy: Policy) -> Checked
         requires typed { IsTyped (policy_of policy) }
         requires few { HasFewAttrs (policy_of policy) }
@@ -28,6 +29,7 @@ impl Checked {
         Checked { policy }
     }
 
+    /// Lends the policy, which is well typed and has at most 16 attributes of each side.
     pub fn policy(&self) -> &Policy
         ensures policy { policy_of result.now ≡ checked_policy self.now }
         ensures typed { IsTyped (checked_policy self.now) }
@@ -36,6 +38,7 @@ impl Checked {
         &self.policy
     }
 
+    /// Copies the policy, still checked. `Err` if there is no memory.
     pub fn copy(&self, alloc: Global) -> Result<Checked, NoMemory>
         ensures { IfOk result (λ c. checked_policy c ≡ checked_policy self.now) }
     {

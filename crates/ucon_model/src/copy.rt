@@ -8,6 +8,7 @@ use std::alloc::Global;
 use ucon_base::{NoMemory, Rows};
 
 impl Policy {
+    /// Copies the policy, with its rows in the same order. `Err` if there is no memory.
     pub fn copy(&self, alloc: Global) -> Result<Policy, NoMemory>
         ensures { IfOk result (λ p. policy_of p ≡ policy_of self.now) }
     {
@@ -20,6 +21,7 @@ impl Policy {
 }
 
 impl AttrDecl {
+    /// Copies the declaration. `Err` if there is no memory.
     pub fn copy(&self, alloc: Global) -> Result<AttrDecl, NoMemory>
         ensures { IfOk result (λ d. d ≡ self.now) }
     {
@@ -33,6 +35,7 @@ impl AttrDecl {
 }
 
 impl EnvDecl {
+    /// Copies the declaration. `Err` if there is no memory.
     pub fn copy(&self, alloc: Global) -> Result<EnvDecl, NoMemory>
         ensures { IfOk result (λ d. d ≡ self.now) }
     {
@@ -45,6 +48,7 @@ impl EnvDecl {
 }
 
 impl Right {
+    /// Copies the right, with its predicates and updates in the same order. `Err` if there is no memory.
     pub fn copy(&self, alloc: Global) -> Result<Right, NoMemory>
         ensures { IfOk result (λ r. right_of r ≡ right_of self.now) }
     {
@@ -57,6 +61,7 @@ impl Right {
 }
 
 impl Predicate {
+    /// Copies the predicate. `Err` if there is no memory.
     pub fn copy(&self, alloc: Global) -> Result<Predicate, NoMemory>
         ensures { IfOk result (λ p. predicate_of p ≡ predicate_of self.now) }
     {
@@ -69,6 +74,7 @@ impl Predicate {
 }
 
 impl Test {
+    /// Copies the test. `Err` if there is no memory.
     pub fn copy(&self, alloc: Global) -> Result<Test, NoMemory>
         ensures { IfOk result (λ t. test_of t ≡ test_of self.now) }
     {
@@ -81,6 +87,7 @@ impl Test {
 }
 
 impl Update {
+    /// Copies the update. `Err` if there is no memory.
     pub fn copy(&self, alloc: Global) -> Result<Update, NoMemory>
         ensures { IfOk result (λ u. update_of u ≡ update_of self.now) }
     {

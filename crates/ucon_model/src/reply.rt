@@ -5,6 +5,7 @@ ghost use Rattle.std.specs.Prelude.{◌≡◌};
 use crate::SessionState;
 use ucon_base::{Name, Rows, Value};
 
+/// Why a command is refused. Nothing changed then.
 #[derive(Clone, Copy, Debug, PartialEq, Eq)]
 pub enum Refusal {
     NotAdmin,
@@ -29,6 +30,7 @@ pub enum Refusal {
     FullAccessing,
 }
 
+/// What a step did, with the number of its session from 1, and the label by which it is denied or waits.
 #[derive(Clone, Copy, PartialEq, Eq)]
 pub enum Head {
     Ok,
@@ -38,12 +40,14 @@ pub enum Head {
     Ended(u32),
 }
 
+/// A usage that a step revoked: the number of its session, and the label of what failed.
 #[derive(Clone, Copy, PartialEq, Eq)]
 pub struct Revoked {
     pub session: u32,
     pub label: Name,
 }
 
+/// What a command is answered: a refusal, what was made and then revoked, a value, or the state of a session.
 #[derive(Drop)]
 pub enum Reply {
     Refused(Refusal),

@@ -12,10 +12,13 @@ use ucon_base::{Int, Name, Value};
 
 /// A policy with what can be read under it, as by the readings of a trace. No call takes memory.
 pub trait View {
+    /// The policy that is in force.
     ghost policy: { Self → PlainPolicy };
 
+    /// What can be read: the tick, the sessions, the values of places, the moments of acts.
     ghost readings: { Self → Readings };
 
+    /// Lends the policy that is in force.
     fn checked(&self) -> &Checked
         ensures { checked_policy result.now ≡ policy self.now };
 
@@ -36,6 +39,7 @@ pub trait View {
     fn value(&self, session: u32, place: &Ref) -> Option<&Value>
         ensures { option_copied result ≡ value_read (readings self.now) session place.now };
 
+    /// Gives the present tick.
     fn tick(&self) -> Int
         ensures { result ≡ (readings self.now).now };
 

@@ -39,6 +39,7 @@ fn put_declared(out: &mut Vec<u8>, kind: &Kind, start: &Value) -> Result<(), NoM
     put(out, b";\n")
 }
 
+/// Adds an attribute's declaration, as the printer writes it. `Err` if there is no memory.
 pub fn put_attr(out: &mut Vec<u8>, attr: &AttrDecl) -> Result<(), NoMemory>
     ensures { OnOk result (out.new.items ≡ out.old.items ++ attr_printing attr.now) }
 {
@@ -49,6 +50,7 @@ pub fn put_attr(out: &mut Vec<u8>, attr: &AttrDecl) -> Result<(), NoMemory>
     put_declared(out, &attr.kind, &attr.start)
 }
 
+/// Adds a variable's declaration, as the printer writes it. `Err` if there is no memory.
 pub fn put_env(out: &mut Vec<u8>, env: &EnvDecl) -> Result<(), NoMemory>
     ensures { OnOk result (out.new.items ≡ out.old.items ++ env_printing env.now) }
 {
@@ -126,6 +128,7 @@ fn phase_text(phase: Phase) -> &'static [u8]
     }
 }
 
+/// Adds a predicate, as the printer writes it. `Err` if there is no memory.
 pub fn put_predicate(out: &mut Vec<u8>, predicate: &Predicate) -> Result<(), NoMemory>
     ensures { OnOk result (out.new.items ≡ out.old.items ++ predicate_printing (predicate_of predicate.now)) }
 {
@@ -149,6 +152,7 @@ fn when_text(when: When) -> &'static [u8]
     }
 }
 
+/// Adds an update, as the printer writes it. `Err` if there is no memory.
 pub fn put_update(out: &mut Vec<u8>, update: &Update) -> Result<(), NoMemory>
     ensures { OnOk result (out.new.items ≡ out.old.items ++ update_printing (update_of update.now)) }
 {

@@ -8,6 +8,7 @@ use ucon_base::{NoMemory, Text, Value, put, put_integer};
 use ucon_model::Ref;
 use ucon_spelling::put_quoted;
 
+/// Adds the bytes if the test is true, and else nothing. `Err` if there is no memory.
 pub fn put_if(out: &mut Vec<u8>, test: bool, bytes: &[u8]) -> Result<(), NoMemory>
     ensures { OnOk result (out.new.items ≡ out.old.items ++ only_if test bytes.now) }
 {
@@ -41,6 +42,7 @@ fn put_set(out: &mut Vec<u8>, texts: &[Text]) -> Result<(), NoMemory>
     }
 }
 
+/// Adds a literal, as the printer writes it. `Err` if there is no memory.
 pub fn put_literal(out: &mut Vec<u8>, v: &Value) -> Result<(), NoMemory>
     ensures { OnOk result (out.new.items ≡ out.old.items ++ literal_printing v.now) }
 {
@@ -51,6 +53,7 @@ pub fn put_literal(out: &mut Vec<u8>, v: &Value) -> Result<(), NoMemory>
     }
 }
 
+/// Adds a place: `s.`, `o.` or `env.`, and its name. `Err` if there is no memory.
 pub fn put_place(out: &mut Vec<u8>, place: &Ref) -> Result<(), NoMemory>
     ensures { OnOk result (out.new.items ≡ out.old.items ++ place_printing place.now) }
 {

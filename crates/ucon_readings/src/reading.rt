@@ -15,6 +15,7 @@ use ucon_base::{Int, Name, Side, Value};
 use ucon_model::{SessionRow, SessionState, View};
 use ucon_state::{State, tables_keep_what_is_followed};
 
+/// Tells whether the side has an entity of this name.
 pub fn has_entity(state: &State, side: Side, name: &Name) -> bool
     ensures there { result ≡ is_some (entity_number (shown state.now).tables side name.now) }
     ensures trace { AfterEach (shown state.now) (λ P T. has_entity side name.now T ≡ result) }
@@ -34,6 +35,7 @@ pub fn find_entity(state: &State, side: Side, name: &Name) -> Option<u32>
     state.find(side, name)
 }
 
+/// Counts the entities of a side.
 pub fn entities(state: &State, side: Side) -> u32
     ensures count { result ≡ length (entities_of side (shown state.now).tables) }
     ensures trace { AfterEach (shown state.now) (λ P T. entities side T ≡ result) }
@@ -99,6 +101,7 @@ pub fn names_act(state: &State, action: &Name) -> bool
     state.checked().policy().names_act(action)
 }
 
+/// Gives the present tick.
 pub fn tick(state: &State) -> Int
     ensures tables { result ≡ (shown state.now).tables.tick }
     ensures trace { AfterEach (shown state.now) (λ P T. tick_of T ≡ result) }
@@ -116,6 +119,7 @@ pub fn acts(state: &State) -> u32
     state.counts().acts
 }
 
+/// Counts the sessions that were ever tried.
 pub fn sessions(state: &State) -> u32
     ensures tables { result ≡ length (shown state.now).tables.sessions }
     ensures trace { AfterEach (shown state.now) (λ P T. sessions T ≡ result) }
@@ -124,6 +128,7 @@ pub fn sessions(state: &State) -> u32
     state.counts().sessions
 }
 
+/// Counts the sessions that are accessing.
 pub fn accessing(state: &State) -> u32
     ensures tables { result ≡ accessing_among (shown state.now).tables.sessions }
     ensures trace { AfterEach (shown state.now) (λ P T. accessing T ≡ result) }
@@ -132,6 +137,7 @@ pub fn accessing(state: &State) -> u32
     state.counts().accessing
 }
 
+/// Gives the row of a session, by its number from 1. None if there is no such session.
 pub fn session(state: &State, n: u32) -> Option<SessionRow>
     ensures tables { result ≡ session_in (shown state.now).tables n }
     ensures trace { AfterEach (shown state.now) (λ P T. session T n ≡ result) }

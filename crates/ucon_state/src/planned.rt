@@ -48,6 +48,7 @@ pub struct Planned {
 }
 
 impl Planned {
+    /// Keeps this policy, and finds checks that are enough for its rights. `Err` if there is no memory.
     pub fn new(alloc: Global, checked: Checked) -> Result<Planned, NoMemory>
         ensures { IfOk result (λ p. p.checked ≡ checked) }
     {
@@ -58,6 +59,7 @@ impl Planned {
         })
     }
 
+    /// Lends the policy, which is well typed.
     pub fn policy(&self) -> &Policy
         ensures policy { policy_of result.now ≡ checked_policy self.now.checked }
         ensures typed { IsTyped (checked_policy self.now.checked) }

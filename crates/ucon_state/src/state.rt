@@ -148,6 +148,7 @@ impl State {
         Ok(())
     }
 
+    /// Moves the tick, never back. `Err` if there is no memory to note the change, and the state is as before.
     pub fn set_tick(&mut self, tick: Int) -> Result<(), NoMemory>
         requires { (shown self.old).tables.tick ≤ℤ tick }
         ensures ok { OnOk result (shown self.new ≡ changed_by (shown self.old) (actions.tick tick)) }
@@ -276,6 +277,7 @@ impl State {
         Ok(())
     }
 
+    /// Counts the entities of each side, the acts, the sessions, and those that are accessing.
     pub fn counts(&self) -> Counts
         ensures { result ≡ counts_in (shown self.now).tables }
     {

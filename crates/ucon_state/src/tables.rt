@@ -53,6 +53,7 @@ impl Tables {
         }
     }
 
+    /// Lends the entities of a side by name, each with its first cell.
     pub fn entities(&self, side: Side) -> &IndexMap<Name, usize>
         ensures { result.now.entries ≡ entities_of side (lists_of self.now) }
     {
@@ -62,6 +63,7 @@ impl Tables {
         }
     }
 
+    /// Gives an entity's number among those of its side, from 0. None if it isn't there.
     pub fn entity_number(&self, side: Side, name: &Name) -> Option<usize>
         ensures number { result ≡ entity_number (lists_of self.now) side name.now }
         ensures within { IfSome result (λ n. n < length (entities_of side (lists_of self.now))) }
@@ -99,6 +101,7 @@ impl Tables {
         name
     }
 
+    /// Lends a session by its number, from 1. None if there is no such session.
     pub fn session(&self, n: u32) -> Option<&Session>
         ensures { option_copied result ≡ session_in (lists_of self.now) n }
     {
@@ -108,6 +111,7 @@ impl Tables {
         }
     }
 
+    /// Gives the tick at which an act was last done. None if it never was.
     pub fn moment(&self, subject: &Name, action: &Name, object: &Name) -> Option<Int>
         ensures { result ≡ moment_in (lists_of self.now) subject.now action.now object.now }
     {
@@ -154,6 +158,7 @@ impl Tables {
         Ok(())
     }
 
+    /// Puts a value into a cell, and gives what undoes that.
     #[tactic(auto, using(crate::proofs::Lists::written_back))]
     pub fn set_cell(&mut self, cell: usize, value: Value) -> Change
         requires { cell < length (lists_of self.old).cells }
@@ -164,6 +169,7 @@ impl Tables {
         Change::Cell(cell, before)
     }
 
+    /// Puts a value into the variable at this position, from 0, and gives what undoes that.
     #[tactic(auto, using(crate::proofs::Lists::written_back))]
     pub fn set_variable(&mut self, position: usize, value: Value) -> Change
         requires { position < length (lists_of self.old).variables }
@@ -174,6 +180,7 @@ impl Tables {
         Change::Variable(position, before)
     }
 
+    /// Sets the tick, and gives what undoes that.
     pub fn set_tick(&mut self, tick: Int) -> Change
         ensures tables { lists_of self.new ≡ with_tick (lists_of self.old) tick }
         ensures undone { undone result (lists_of self.new) ≡ lists_of self.old }

@@ -78,6 +78,7 @@ impl Entries {
         Entries { count: 0, told }
     }
 
+    /// Counts the entries.
     pub fn len(&self) -> u64
         ensures { result ≡ length self.now }
     {

@@ -17,6 +17,7 @@ pub(crate) struct InForce {
 }
 
 impl InForce {
+    /// Keeps the text of the policy that is in force at the beginning.
     pub fn new(alloc: Global, text: Vec<u8>) -> InForce
         ensures { result.text ≡ text }
     {

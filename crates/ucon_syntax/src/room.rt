@@ -11,6 +11,7 @@ const MOST: usize = 16;
 
 /// What items are counted by. There are at most four sorts.
 pub trait Sort: Copy {
+    /// The sort's number, from 0.
     ghost number_of: { Self → ℕ };
 
     /// The sort's number, from 0.
@@ -61,6 +62,7 @@ pub struct Room {
 }
 
 impl Room {
+    /// Begins with room for 16 of each sort.
     pub fn full() -> Room
         ensures { result ≡ full }
     {

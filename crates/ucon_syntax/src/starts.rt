@@ -9,6 +9,7 @@ use ucon_base::{Name, Side};
 use ucon_model::{Op, Phase, When};
 use ucon_token::{Symbol, Token};
 
+/// What a factor begins with: a literal, a place of the subject, of the object or of the environment, `size`, or `(`.
 #[derive(Clone, Copy)]
 pub enum FactorStart {
     Literal,
@@ -19,12 +20,14 @@ pub enum FactorStart {
     Round,
 }
 
+/// The sign between two terms: `+` or `-`.
 #[derive(Clone, Copy)]
 pub enum SumSign {
     Plus,
     Minus,
 }
 
+/// What a unit of a formula begins with: `not`, `[`, `lasts`, or else the left side of a comparison.
 #[derive(Clone, Copy)]
 pub enum UnitStart {
     Not,
@@ -33,6 +36,7 @@ pub enum UnitStart {
     Compare,
 }
 
+/// The word of a kind: `int`, `text` or `set`.
 #[derive(Clone, Copy)]
 pub enum KindWord {
     Int,
@@ -40,6 +44,7 @@ pub enum KindWord {
     Set,
 }
 
+/// The letter of a predicate: `a` (authorisation), `b` (obligation) or `c` (condition).
 #[derive(Clone, Copy)]
 pub enum TestSort {
     A,
@@ -47,6 +52,7 @@ pub enum TestSort {
     C,
 }
 
+/// The word of an obligation: `done`, `within` or `every`.
 #[derive(Clone, Copy)]
 pub enum DutyWord {
     Done,
@@ -82,6 +88,7 @@ fn word_factor(name: &Name) -> Option<FactorStart>
     }
 }
 
+/// Tells what kind of factor the token begins. None if it begins none.
 #[tactic(auto, unfolding(crate::specs::Starts::factor_start))]
 pub fn factor_start(token: &Token) -> Option<FactorStart>
     ensures { result ≡ factor_start (token_of token.now) }
@@ -105,6 +112,7 @@ fn symbol_sum(s: Symbol) -> Option<SumSign>
     }
 }
 
+/// Gives the sign of a token that is `+` or `-`. None for any other.
 #[tactic(auto, unfolding(crate::specs::Starts::sum_sign))]
 pub fn sum_sign(token: &Token) -> Option<SumSign>
     ensures { result ≡ sum_sign (token_of token.now) }
@@ -115,6 +123,7 @@ pub fn sum_sign(token: &Token) -> Option<SumSign>
     }
 }
 
+/// Tells what kind of unit the token begins. All that isn't `not`, `[` or `lasts` begins a comparison.
 #[tactic(auto, unfolding(crate::specs::Starts::unit_start))]
 pub fn unit_start(token: &Token) -> UnitStart
     ensures { result ≡ unit_start (token_of token.now) }
@@ -154,6 +163,7 @@ fn word_op(name: &Name) -> Option<Op>
     }
 }
 
+/// Gives the comparison that the token is: one of six symbols, or `in`. None for any other token.
 #[tactic(auto, unfolding(crate::specs::Starts::op_of))]
 pub fn op_of(token: &Token) -> Option<Op>
     ensures { result ≡ op_of (token_of token.now) }
@@ -165,6 +175,7 @@ pub fn op_of(token: &Token) -> Option<Op>
     }
 }
 
+/// Gives the side of the word `s` or `o`. None for any other token.
 #[tactic(auto, unfolding(crate::specs::Starts::side_of))]
 pub fn side_of(token: &Token) -> Option<Side>
     ensures { result ≡ side_of (token_of token.now) }
@@ -178,6 +189,7 @@ pub fn side_of(token: &Token) -> Option<Side>
     }
 }
 
+/// Gives the kind that the token is the word of. None for any other token.
 #[tactic(auto, unfolding(crate::specs::Starts::kind_word))]
 pub fn kind_word(token: &Token) -> Option<KindWord>
     ensures { result ≡ kind_word (token_of token.now) }
@@ -193,6 +205,7 @@ pub fn kind_word(token: &Token) -> Option<KindWord>
     }
 }
 
+/// Gives the phase of the word `pre` or `on`. None for any other token.
 #[tactic(auto, unfolding(crate::specs::Starts::phase_of))]
 pub fn phase_of(token: &Token) -> Option<Phase>
     ensures { result ≡ phase_of (token_of token.now) }
@@ -206,6 +219,7 @@ pub fn phase_of(token: &Token) -> Option<Phase>
     }
 }
 
+/// Gives the sort of the letter `a`, `b` or `c`. None for any other token.
 #[tactic(auto, unfolding(crate::specs::Starts::test_sort))]
 pub fn test_sort(token: &Token) -> Option<TestSort>
     ensures { result ≡ test_sort (token_of token.now) }
@@ -221,6 +235,7 @@ pub fn test_sort(token: &Token) -> Option<TestSort>
     }
 }
 
+/// Gives the word of an obligation that the token is. None for any other token.
 #[tactic(auto, unfolding(crate::specs::Starts::duty_word))]
 pub fn duty_word(token: &Token) -> Option<DutyWord>
     ensures { result ≡ duty_word (token_of token.now) }
@@ -236,6 +251,7 @@ pub fn duty_word(token: &Token) -> Option<DutyWord>
     }
 }
 
+/// Gives the time of an update that the token is the word of. None for any other token.
 #[tactic(auto, unfolding(crate::specs::Starts::when_of))]
 pub fn when_of(token: &Token) -> Option<When>
     ensures { result ≡ when_of (token_of token.now) }

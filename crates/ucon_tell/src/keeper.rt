@@ -38,7 +38,9 @@ pub trait Keeper {
     /// Its disk's moment doesn't fall.
     ghost onward: { (x y : Self) → stays x y → (seen x).moment ≤ (seen y).moment };
 
+    /// A keeper that did nothing stays what it is.
     ghost same: { (x : Self) → stays x x };
 
+    /// What stays through two stretches stays through both.
     ghost again: { (x y z : Self) → stays x y → stays y z → stays x z };
 }

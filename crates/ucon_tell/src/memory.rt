@@ -10,6 +10,7 @@ use ucon_flow::Failed;
 
 /// A keeper that can say at which moment its disk is.
 pub trait Clocked: Keeper {
+    /// Gives the moment of the keeper's disk.
     fn moment(&self) -> u64
         ensures { result ≡ (Self.seen self.now).moment };
 }
@@ -34,6 +35,7 @@ pub struct MemVoice {
 }
 
 impl MemVoice {
+    /// Begins with no bytes and no notes. It takes at most `piece` bytes in a call, which is at least 1.
     pub fn new(alloc: Global, piece: usize) -> MemVoice
         requires { 0 < piece }
         ensures bytes { result.bytes.items ≡ [] }

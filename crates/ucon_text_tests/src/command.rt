@@ -59,7 +59,7 @@ fn is_line_back(alloc: Global, line: &[u8]) -> bool {
 #[test]
 fn each_line_is_read_and_written_back(rt: HostRuntime) {
     for &line in LINES {
-        assert!(rt; is_line_back(rt.alloc(), line), "{line:?}");
+        assert!(rt; is_line_back(rt.alloc(), line), "{}", line.escape_ascii());
     }
 }
 
@@ -114,7 +114,11 @@ const WORDS: &[(&[u8], [&[u8]; 4])] = &[
 #[test]
 fn words_stand_where_the_form_says(rt: HostRuntime) {
     for (line, words) in WORDS {
-        assert!(rt; has_words(rt.alloc(), *line, words), "{line:?}");
+        assert!(rt;
+            has_words(rt.alloc(), *line, words),
+            "{}",
+            line.escape_ascii()
+        );
     }
 }
 
@@ -180,7 +184,11 @@ fn is_judged(alloc: Global, line: &[u8], fault: Option<LineFault>) -> bool {
 #[test]
 fn each_refusal_has_its_place(rt: HostRuntime) {
     for &(line, fault) in REFUSED {
-        assert!(rt; is_judged(rt.alloc(), line, Some(fault)), "{line:?}");
+        assert!(rt;
+            is_judged(rt.alloc(), line, Some(fault)),
+            "{}",
+            line.escape_ascii()
+        );
     }
 }
 
@@ -203,7 +211,11 @@ const LONG: &[(&[u8], u8, usize, Option<LineFault>)] = &[
 fn amendments_may_be_long(rt: HostRuntime) -> Result<(), Fail> {
     for &(word, byte, more, fault) in LONG {
         let line = long_line(rt.alloc(), word, byte, more)?;
-        assert!(rt; is_judged(rt.alloc(), &line, fault), "{word:?} {more}");
+        assert!(rt;
+            is_judged(rt.alloc(), &line, fault),
+            "{} {more}",
+            word.escape_ascii()
+        );
     }
     Ok(())
 }
@@ -243,7 +255,7 @@ fn is_reply_back(alloc: Global, text: &[u8]) -> bool {
 #[test]
 fn each_reply_is_read_and_written_back(rt: HostRuntime) {
     for &text in REPLIES {
-        assert!(rt; is_reply_back(rt.alloc(), text), "{text:?}");
+        assert!(rt; is_reply_back(rt.alloc(), text), "{}", text.escape_ascii());
     }
 }
 
@@ -278,7 +290,11 @@ fn is_refusal(alloc: Global, refusal: Refusal, text: &[u8]) -> bool {
 #[test]
 fn each_refusal_has_its_text(rt: HostRuntime) {
     for &(refusal, text) in REFUSALS {
-        assert!(rt; is_refusal(rt.alloc(), refusal, text), "{text:?}");
+        assert!(rt;
+            is_refusal(rt.alloc(), refusal, text),
+            "{}",
+            text.escape_ascii()
+        );
     }
 }
 
@@ -326,7 +342,7 @@ fn is_no_reply(alloc: Global, text: &[u8]) -> bool {
 #[test]
 fn other_bytes_are_no_reply(rt: HostRuntime) {
     for &text in NO_REPLIES {
-        assert!(rt; is_no_reply(rt.alloc(), text), "{text:?}");
+        assert!(rt; is_no_reply(rt.alloc(), text), "{}", text.escape_ascii());
     }
 }
 
@@ -400,7 +416,11 @@ fn is_bad_at(alloc: Global, payload: &[u8], place: usize) -> bool {
 #[test]
 fn the_first_part_that_is_none_is_told(rt: HostRuntime) {
     for &(payload, place) in NO_PAYLOADS {
-        assert!(rt; is_bad_at(rt.alloc(), payload, place), "{payload:?}");
+        assert!(rt;
+            is_bad_at(rt.alloc(), payload, place),
+            "{}",
+            payload.escape_ascii()
+        );
     }
 }
 
@@ -438,6 +458,10 @@ fn is_asked(alloc: Global, line: &[u8], caller: Option<u8>, fault: Option<LineFa
 #[test]
 fn each_request_is_read_or_refused(rt: HostRuntime) {
     for &(line, caller, fault) in REQUESTS {
-        assert!(rt; is_asked(rt.alloc(), line, caller, fault), "{line:?}");
+        assert!(rt;
+            is_asked(rt.alloc(), line, caller, fault),
+            "{}",
+            line.escape_ascii()
+        );
     }
 }

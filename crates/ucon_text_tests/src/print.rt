@@ -25,7 +25,11 @@ const RIGHTS: &[(&[u8], &[u8])] = &[
 #[test]
 fn rights_are_printed(rt: HostRuntime) {
     for &(written, wanted) in RIGHTS {
-        assert!(rt; is_printed(rt.alloc(), written, wanted), "{wanted:?}");
+        assert!(rt;
+            is_printed(rt.alloc(), written, wanted),
+            "{}",
+            wanted.escape_ascii()
+        );
     }
 }
 

@@ -31,7 +31,7 @@ const PARTS: &[(&[u8], &[u8])] = &[
 #[test]
 fn policy_parts(rt: HostRuntime) {
     for &(text, part) in PARTS {
-        assert!(rt; policy_part(text) == part, "{text:?}");
+        assert!(rt; policy_part(text) == part, "{}", text.escape_ascii());
     }
 }
 
@@ -141,11 +141,16 @@ const SEEN: &[(&[u8], &[(u32, u8, u32)])] = &[
 #[test]
 fn lines_have_their_numbers_and_clients(rt: HostRuntime) {
     for &(text, lines) in SEEN {
-        assert!(rt; text.len() <= MOST_BYTES);
-        assert!(rt; are_seen_whole(rt.alloc(), text, lines), "{text:?} whole");
+        assert!(rt; text.len() <= MOST_BYTES, "{}", text.escape_ascii());
+        assert!(rt;
+            are_seen_whole(rt.alloc(), text, lines),
+            "{} whole",
+            text.escape_ascii()
+        );
         assert!(rt;
             are_seen_in_place(rt.alloc(), text, lines),
-            "{text:?} in place"
+            "{} in place",
+            text.escape_ascii()
         );
     }
 }
@@ -226,7 +231,11 @@ const REFUSED: &[(&[u8], DocFault)] = &[
 #[test]
 fn the_first_refusal_decides(rt: HostRuntime) {
     for &(text, first) in REFUSED {
-        assert!(rt; fault(rt.alloc(), &rt, text) == Some(first), "{text:?}");
+        assert!(rt;
+            fault(rt.alloc(), &rt, text) == Some(first),
+            "{}",
+            text.escape_ascii()
+        );
     }
 }
 

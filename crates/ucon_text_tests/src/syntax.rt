@@ -110,7 +110,7 @@ const FAULTS: &[(&[u8], Option<SyntaxFault>)] = &[
 #[test]
 fn faults_stand_at_their_places(rt: HostRuntime) {
     for &(text, want) in FAULTS {
-        assert!(rt; fault(rt.alloc(), text) == want, "{text:?}");
+        assert!(rt; fault(rt.alloc(), text) == want, "{}", text.escape_ascii());
     }
 }
 
@@ -302,7 +302,9 @@ fn limits_are_met_exactly(rt: HostRuntime) -> Result<(), Fail> {
         let text = repeated(rt.alloc(), front, part, times, back)?;
         assert!(rt;
             fault(rt.alloc(), &text) == want,
-            "{front:?} {part:?} {times}"
+            "{} {} {times}",
+            front.escape_ascii(),
+            part.escape_ascii()
         );
     }
     Ok(())
@@ -333,7 +335,11 @@ const SETS: &[(u32, &[u8], Option<SyntaxFault>)] = &[
 fn a_set_has_at_most_64_texts(rt: HostRuntime) -> Result<(), Fail> {
     for &(texts, back, want) in SETS {
         let text = set_of(rt.alloc(), texts, back)?;
-        assert!(rt; fault(rt.alloc(), &text) == want, "{texts} {back:?}");
+        assert!(rt;
+            fault(rt.alloc(), &text) == want,
+            "{texts} {}",
+            back.escape_ascii()
+        );
     }
     Ok(())
 }

@@ -38,6 +38,7 @@ impl<'a> Model for Reader<'a> {
 }
 
 impl<'a> Reader<'a> {
+    /// Begins at the first token of a text. Bytes that are no token show as a flaw when the reader comes to them.
     pub fn new(alloc: Global, text: &'a [u8]) -> Reader<'a>
         ensures text { result.text ≡ text.now }
         ensures tokens { result.tokens ≡ tokens_of text.now }

@@ -7,6 +7,7 @@ ghost use Rattle.ucon_token.specs.declared.stop.Stop.TheVariants.{Memory};
 use std::alloc::{AllocError, AllocFailed};
 use ucon_base::NoMemory;
 
+/// Why the grammar can't go on at a token: another one must stand there, an item is above its count, or a nesting is above its depth.
 #[derive(Clone, Copy)]
 pub enum Cause {
     Unexpected,
@@ -14,6 +15,7 @@ pub enum Cause {
     TooDeep,
 }
 
+/// Why reading ends early: there is no memory, or the text has a fault at the present token.
 #[derive(Clone, Copy)]
 pub enum Stop {
     Memory(NoMemory),

@@ -6,6 +6,7 @@ ghost use Rattle.ucon_token.specs.Tokens.{code, is_symbol, is_word, is_joined, w
 
 use ucon_base::{Int, Name, Text};
 
+/// The 20 symbols of the policy language. The longest one that the bytes begin with is taken.
 #[derive(Clone, Copy)]
 pub enum Symbol {
     Colon,
@@ -41,6 +42,7 @@ pub enum Flaw {
     Misplaced,
 }
 
+/// A token of the policy language, the end of the text, or what is no token.
 #[derive(Clone, Copy)]
 pub enum Token {
     Word(Name),
@@ -83,6 +85,7 @@ fn code(s: Symbol) -> u8
 }
 
 impl Token {
+    /// Tells whether the token is this symbol.
     #[tactic(auto, unfolding(crate::specs::Tokens::is_symbol))]
     pub fn is_symbol(&self, s: Symbol) -> bool
         ensures { result ≡ is_symbol (token_of self.now) (symbol_of s) }
@@ -93,6 +96,7 @@ impl Token {
         }
     }
 
+    /// Tells whether the token is this word. A word directly behind a number is none.
     #[tactic(auto, unfolding(crate::specs::Tokens::is_word))]
     pub fn is_word(&self, word: &[u8]) -> bool
         ensures { result ≡ is_word (token_of self.now) word.now }
@@ -114,6 +118,7 @@ impl Token {
         }
     }
 
+    /// Gives the name of a word. None for any other token.
     #[tactic(auto, unfolding(crate::specs::Tokens::word_of))]
     pub fn word(&self) -> Option<Name>
         ensures { result ≡ word_of (token_of self.now) }
@@ -124,6 +129,7 @@ impl Token {
         }
     }
 
+    /// Gives the integer of a number. None for any other token.
     #[tactic(auto, unfolding(crate::specs::Tokens::number_of))]
     pub fn number(&self) -> Option<Int>
         ensures { result ≡ number_of (token_of self.now) }
@@ -134,6 +140,7 @@ impl Token {
         }
     }
 
+    /// Gives the text between the quotes. None for any other token.
     #[tactic(auto, unfolding(crate::specs::Tokens::text_of))]
     pub fn text(&self) -> Option<Text>
         ensures { result ≡ text_of (token_of self.now) }
@@ -144,6 +151,7 @@ impl Token {
         }
     }
 
+    /// Gives the symbol. None for any other token.
     #[tactic(auto, unfolding(crate::specs::Tokens::sign_of))]
     pub fn symbol(&self) -> Option<Symbol>
         ensures { option_map symbol_of result ≡ sign_of (token_of self.now) }
@@ -154,6 +162,7 @@ impl Token {
         }
     }
 
+    /// Gives the flaw of bytes that are no token. None for any token, and for the end.
     #[tactic(auto, unfolding(crate::specs::Tokens::flaw_at))]
     pub fn flaw(&self) -> Option<Flaw>
         ensures { option_map flaw_of result ≡ flaw_at (token_of self.now) }

@@ -19,6 +19,7 @@ pub enum Worth<'a> {
 }
 
 impl<'a> Worth<'a> {
+    /// Lends a value: what it gives has that value.
     pub fn of(value: &'a Value) -> Worth<'a>
         ensures { worth_value result ≡ value.now }
     {
@@ -82,6 +83,7 @@ impl<'a> Worth<'a> {
         }
     }
 
+    /// Tells whether two values are of one kind and equal. Sets are equal if they have the same texts.
     pub fn equals(&self, other: &Worth<'a>) -> bool
         ensures { result ≡ same_value (worth_value self.now) (worth_value other.now) }
     {
@@ -132,6 +134,7 @@ impl<'a> Worth<'a> {
     }
 }
 
+/// Counts the texts of a set.
 pub fn size_of_set(s: &TextSet) -> Int
     ensures { result ≡ pos (length s.now) }
 {

@@ -30,6 +30,7 @@ pub struct Tally {
 }
 
 impl Tally {
+    /// Begins with every count at 0.
     pub fn new() -> Tally
         ensures { counts_of result ≡ no_lines }
     {

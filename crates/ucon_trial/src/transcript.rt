@@ -25,6 +25,7 @@ pub struct Transcript {
 }
 
 impl Transcript {
+    /// Begins with no lines, the transcript of no answers.
     pub fn new(alloc: Global) -> Transcript
         ensures { IsTranscript result.text.items [] }
     {

@@ -53,6 +53,7 @@ pub struct SeatView<E, N> {
     pub theirs: LinkedList<N>,
 }
 
+/// The rule that the table keeps of a turn, as `Ruled` of `specs/Rule.antt` states it. No value of it is made.
 pub struct TurnRule<E> {
     of: PhantomData<E>,
 }
@@ -65,6 +66,7 @@ impl<E: Turned> TableRule<Option<E>, SeatView<E, E::Entry>, Snapshot<E>> for Tur
     ghost first = { λ about. first_view about.value (E.entries about.value) };
 }
 
+/// The table of a turn: three words, one slot for the value, and what is kept of each seat.
 pub type TurnTable<E> = Table<
     Option<E>,
     SeatView<E, <E as Turned>::Entry>,
@@ -81,4 +83,5 @@ pub type SharedTable<E> = Shared<
     TurnRule<E>,
 >;
 
+/// A seat at such a table, with what the table keeps of it.
 pub type TableSeat<E> = Seat<Option<E>, SeatView<E, <E as Turned>::Entry>>;
