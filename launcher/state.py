@@ -2,14 +2,15 @@
 Prometheus (its text format, version 0.0.4)."""
 import os
 import pathlib
-from typing import Dict, Iterable, Iterator, List, NamedTuple, Optional, Sequence, Tuple
+from itertools import chain
+from typing import Any, Dict, Iterable, Iterator, List, NamedTuple, Optional, Sequence, Tuple, Union
 
 from launcher import reported
 from launcher.asking import ask
 from launcher.journal import DAMAGED, Journal, Refused, open_journal
 from launcher.log import say_cut_off, write
 from launcher.reading import is_path
-from launcher.reported import Row, Session, State, spelled
+from launcher.reported import Row, State, spelled
 from launcher.told import path_of, read_told
 
 # How many subjects, or objects, sessions, acts and uses in progress a journal has at most.
@@ -17,6 +18,7 @@ ENTITIES, SESSIONS, ACTS, ACCESSING = 16_384, 1_048_576, 1_048_576, 65_536
 # A column is filled up to so many characters; what is longer stands as it is.
 WIDEST = 32
 FORMS = ("--json", "--metrics")
+Cells = Tuple[Union[str, int], ...]
 
 
 class Asked(NamedTuple):
@@ -40,7 +42,7 @@ def run(path_of_program: pathlib.Path, asked: Asked) -> int:
         else:
             state = read(journal, text)
             lines = metrics(journal, state, records, end) if asked.form else tables(state)
-            write("".join(f"{line}\n" for line in lines).encode())
+            write("\n".join([*lines, ""]).encode())
         say_cut_off(journal, end)
     return 0
 
@@ -58,37 +60,40 @@ def read(journal: Journal, text: bytes) -> State:
 def tables(state: State) -> Iterator[str]:
     yield f"tick {state.tick}"
     yield f"steps {state.entries}"
-    yield from table(["variable", "value"], ([name, spelled(value)] for name, value in state.env.items()))
+    yield from table(("variable", "value"), ((name, spelled(value)) for name, value in state.env.items()))
     yield from entities("subject", state.subjects)
     yield from entities("object", state.objects)
-    yield from table(["act", "subject", "object", "tick"], ([it.action, it.subject, it.object, str(it.at)] for it in state.acts))
+    yield from table(("act", "subject", "object", "tick"), ((it.action, it.subject, it.object, it.at) for it in state.acts))
     uses, waiting = state.uses, state.waiting
-    head = ["client", "subject", "right", "object"]
-    yield from table(["use", *head, "since"], ([*session(it), str(it.start)] for it in uses))
-    yield from table(["waiting", *head], map(session, waiting))
+    # As the fields of a session stand.
+    head = ("client", "subject", "right", "object")
+    yield from table(("use", *head, "since"), (it[:6] for it in uses))
+    yield from table(("waiting", *head), (it[:5] for it in waiting))
     closed = ", ".join(f"{count} {name}" for name, count in state.counts.items() if name not in reported.OPEN)
     yield ""
     yield f"sessions {sum(state.counts.values())}: {len(uses)} in use, {len(waiting)} waiting, {closed}"
 
 
-def session(it: Session) -> List[str]:
-    return [str(it.number), str(it.client), it.subject, it.right, it.object]
-
-
 def entities(side: str, found: Dict[str, Row]) -> Iterator[str]:
     names = list(next(iter(found.values()), {}))
-    return table([side, *names], ([name, *(spelled(row[it]) for it in names)] for name, row in found.items()))
+    return table((side, *names), ((name, *(spelled(row[it]) for it in names)) for name, row in found.items()))
 
 
-def table(head: List[str], rows: Iterable[List[str]]) -> Iterator[str]:
+def table(head: Cells, rows: Iterable[Cells]) -> Iterator[str]:
     """An empty line, the head and the rows, in columns. Nothing where there is no row."""
     lines = [head, *rows]
     if len(lines) == 1:
-        return
-    form = "  ".join(f"%-{min(max(map(len, column)), WIDEST)}s" for column in zip(*lines))
-    yield ""
-    for line in lines:
-        yield (form % tuple(line)).rstrip()
+        return iter(())
+    *columns, _ = zip(*lines)
+    form = "".join(f"%-{min(max(widths(column)), WIDEST)}s  " for column in columns) + "%s"
+    return chain([""], map(form.__mod__, lines))
+
+
+def widths(column: Tuple[Any, ...]) -> Iterable[int]:
+    """How wide a column's cells are; of numbers below their head the widest ones are enough."""
+    if isinstance(column[1], int):
+        return (len(str(it)) for it in (column[0], min(column[1:]), max(column[1:])))
+    return map(len, column)
 
 
 # ---- metrics

@@ -87,14 +87,16 @@ def wrong_in(journal: Journal) -> Found:
         wrong.append(f"{journal.name}: behind the last whole step, at byte {end.at}, stands what no write of the program leaves: {end.strange}")
     elif end.is_torn:
         say_cut_off(journal, end.at)
+    companion = path_of(os.path.realpath(journal.name))
     try:
-        met = meet(journal)
+        # The audit has followed it already.
+        met = meet(journal) if os.path.lexists(companion) else None
     except Refused as why:
         if why.status != LOST:
             raise
         return Found(end.behind, "unread", [*wrong, why.sentence])
-    if met.told is None:
-        sys.stderr.write(f"ucon: {near(path_of(os.path.realpath(journal.name)))} isn't there, so nobody knows what was told\n")
+    if met is None or met.told is None:
+        sys.stderr.write(f"ucon: {near(companion)} isn't there, so nobody knows what was told\n")
         return Found(end.behind, "none", wrong)
     if met.told.others == ARE:
         says = f"others are told of it, or were until a conversation was stopped: place {met.told.place} needn't be the last"
