@@ -18,6 +18,8 @@ ACT = re.compile(rf'\{{"action":{NAME},"at":{NUMBER},"object":{NAME},"subject":{
 SESSION = re.compile(
     rf'\{{"caller":{NUMBER},"number":{NUMBER},"object":{NAME},"right":{NAME},"start":{NUMBER},"state":{NAME},"subject":{NAME}\}}'
 )
+# How a row of a session that is counted alone shows its state.
+STATED = '"state":"%s"'
 
 
 class Unread(Exception):
@@ -44,7 +46,8 @@ class Session(NamedTuple):
 
 
 class State(NamedTuple):
-    """What stands in a journal behind its last step. `sessions` has those that go on or wait; `counts` counts all by their states."""
+    """What stands in a journal behind its last step. `sessions` has those that go on or wait, or none where they were only counted; `counts`
+    counts all by their states."""
 
     entries: int
     tick: int
@@ -92,6 +95,16 @@ class Text:
             raise Unread(str(why)) from None
         return found
 
+    def count_of(self, key: str, texts: List[str]) -> List[int]:
+        """How many rows of a list have each of these texts, of which each row has one."""
+        self.must(f'"{key}":[')
+        end = self.text.find("]", self.at)
+        counts = [self.text.count(text, self.at, end) for text in texts]
+        if end < 0 or self.text.count("{", self.at, end) != sum(counts):
+            raise Unread(f"`{key}` isn't a list of rows, behind {self.at}")
+        self.at = end + 1
+        return counts
+
     def rows(self, key: str, row: Pattern[str]) -> Iterator[List[Tuple[str, ...]]]:
         """The rows of a list, some of them at once. They have names and numbers alone, so that a bracket or a brace in it is no text's."""
         self.must(f'"{key}":[')
@@ -109,15 +122,15 @@ class Text:
         self.must("]")
 
 
-def read(raw: bytes) -> State:
-    """The state that a report tells. Its keys stand in the order of their bytes."""
+def read(raw: bytes, with_sessions: bool = True) -> State:
+    """The state that a report tells; where no session is asked for, they are only counted. Its keys stand in the order of their bytes."""
     try:
-        return read_all(Text(raw.decode("ascii")))
+        return read_all(Text(raw.decode("ascii")), with_sessions)
     except (KeyError, TypeError, ValueError) as why:
         raise Unread(f"{type(why).__name__}: {why}") from None
 
 
-def read_all(text: Text) -> State:
+def read_all(text: Text, with_sessions: bool) -> State:
     name = sys.intern
     text.must("{")
     rows = (row for part in text.rows("acts", ACT) for row in part)
@@ -127,7 +140,7 @@ def read_all(text: Text) -> State:
         text.must(",")
         found[key] = text.value(key)
     text.must(",")
-    sessions, counts = read_sessions(text)
+    sessions, counts = read_sessions(text) if with_sessions else ([], dict(zip(STATES, text.count_of("sessions", [STATED % it for it in STATES]))))
     for key in ("subjects", "tick"):
         text.must(",")
         found[key] = text.value(key)
@@ -139,15 +152,14 @@ def read_sessions(text: Text) -> Tuple[List[Session], Dict[str, int]]:
     counts = {state: 0 for state in STATES}
     kept: List[Session] = []
     for rows in text.rows("sessions", SESSION):
-        states = [row[5] for row in rows]
+        # Column by column takes a third of the time that row by row takes.
+        clients, numbers, things, rights, starts, states, subjects = zip(*rows)
         for state in counts:
             counts[state] += states.count(state)
         if not counts.keys() >= set(states):
             raise Unread(f"a session is {', '.join(set(states) - counts.keys())}")
-        kept += [
-            Session(int(number), int(client), subject, right, thing, int(start), state)
-            for client, number, thing, right, start, state, subject in rows if state in OPEN
-        ]
+        made = map(Session._make, zip(map(int, numbers), map(int, clients), subjects, rights, things, map(int, starts), states))
+        kept += [it for it in made if it.state in OPEN]
     return kept, counts
 
 
