@@ -11,7 +11,7 @@ TOP = pathlib.Path(__file__).resolve().parent.parent
 sys.path.insert(0, str(TOP))
 
 from checks.runs import journal_with  # noqa: E402
-from launcher import asking, journal, lock  # noqa: E402
+from launcher import asking, journal, kit, lock, program as programs, which  # noqa: E402
 
 UCON = TOP / "ucon"
 POLICY = b"right r {}\n"
@@ -115,6 +115,15 @@ def has_forms(program: pathlib.Path) -> bool:
         path = pathlib.Path(folder) / "shown"
         path.write_bytes(journal_with([POLICY, b"0 subject a\nok"]))
         return all(asking.answered(program, [form, str(path)], POLICY).status == 0 for form in ("report", "audit"))
+
+
+def program_to_try(stand_in: pathlib.Path, of: programs.Program = programs.RUNS) -> pathlib.Path:
+    """The program that ./ucon runs, compiled as it is written where it isn't built. The stand-in where none can be had."""
+    try:
+        return which.find(of).path
+    except kit.Failed as why:
+        print(f"journals: {why}")
+        return stand_in
 
 
 def refused(call: Callable[[], object]) -> Optional[journal.Refused]:

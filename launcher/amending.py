@@ -24,7 +24,8 @@ from launcher.told import loss_of
 # The journal wasn't amended.
 NOT_AMENDED = 121
 PLACE = re.compile(r"(?:s|o|env)\.[a-z][a-z0-9_]{0,31}")
-KEPT_FIRST = "documents for this journal still begin with the policy that it began with: `ucon policy {} --first` prints it"
+KEPT_FIRST = """documents for this journal still begin with the policy that it began with: `ucon policy {0} --first` prints it
+scripts need none: `ucon play {0} --script FILE` takes it from the journal"""
 
 
 class Asked(NamedTuple):

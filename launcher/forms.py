@@ -30,22 +30,38 @@ KNOWN = [
     Form("trial", "runs the script under the policy, and prints a reply for each command", "./ucon trial < examples/first.ucon"),
     Form("check", "prints which core models of usage control each right makes", "./ucon check < examples/music.ucon"),
     Form("gen SEED SIZE", "draws SIZE commands, 1 to 100000, from a number, runs them, and prints counts; reads nothing", "./ucon gen 1 1000"),
-    Form("play JOURNAL", "runs the script over a journal, a file that keeps each step", "./ucon play door.journal < door.ucon"),
-    Form("serve JOURNAL", "runs each client of the script in a thread of its own, over a journal", "./ucon serve door.journal < door.ucon"),
-    Form("point JOURNAL", "adds a checkpoint to a journal, and runs no line of the script", "./ucon point door.journal < door.ucon"),
+    Form(
+        "play JOURNAL [--script FILE]",
+        "runs the script over a journal, a file that keeps each step",
+        "./ucon play door.journal < door.ucon",
+    ),
+    Form(
+        "serve JOURNAL [--script FILE]",
+        "runs each client of the script in a thread of its own, over a journal",
+        "./ucon serve door.journal < door.ucon",
+    ),
+    Form(
+        "point JOURNAL [--journal-policy]",
+        "adds a checkpoint to a journal, and runs no line of the script",
+        "./ucon point door.journal < door.ucon",
+    ),
     Form(
         "converse JOURNAL [--journal-policy]",
         "answers lines one by one over a journal, each told once its step is kept; the policy comes first, or is the journal's",
         "./ucon converse door.journal --journal-policy",
     ),
     Form(
-        "audit JOURNAL [K HEX]",
+        "audit JOURNAL [K HEX] [--journal-policy]",
         "checks each record of a journal from the first one on, and prints its head; K records and HEX are a head that was kept",
         "./ucon audit door.journal < door.ucon",
     ),
-    Form("report JOURNAL", "checks a journal so, and prints its state as JSON", "./ucon report door.journal < door.ucon"),
     Form(
-        "explain JOURNAL SUBJECT RIGHT OBJECT",
+        "report JOURNAL [--journal-policy]",
+        "checks a journal so, and prints its state as JSON",
+        "./ucon report door.journal < door.ucon",
+    ),
+    Form(
+        "explain JOURNAL SUBJECT RIGHT OBJECT [--journal-policy]",
         "says what a try would meet now, and on which values; runs no line of the script",
         "./ucon explain door.journal ann enter hall < door.ucon",
     ),
@@ -126,15 +142,24 @@ ARGUMENTS: Dict[str, Callable[[str], bool]] = {
     "OBJECT": is_name,
     "K": lambda word: is_decimal(word, 0, 2**64 - 1),
     "HEX": lambda word: re.fullmatch("[0-9a-f]{64}", word) is not None,
+    "FILE": lambda word: word != "",
 }
 
 
 def fits(form: Form, words: List[str]) -> bool:
-    needed, _, optional = form.words.partition(" [")
-    pattern = [*needed.split(), *optional.rstrip("]").split()]
-    return len(words) in (len(needed.split()), len(pattern)) and all(
-        ARGUMENTS[wanted](word) if wanted.isupper() else wanted == word for wanted, word in zip(pattern, words)
-    )
+    """Whether words are a form's: first those that it needs, and then those of each part between brackets, or none of it."""
+    needed, *optional = (part.rstrip("]").split() for part in form.words.split(" ["))
+    if not starts(needed, words):
+        return False
+    left = words[len(needed) :]
+    for part in optional:
+        left = left[len(part) :] if starts(part, left) else left
+    return not left
+
+
+def starts(part: List[str], words: List[str]) -> bool:
+    """Whether words begin with those of a part of a form."""
+    return len(part) <= len(words) and all(ARGUMENTS[it](word) if it.isupper() else it == word for it, word in zip(part, words))
 
 
 def form_of(words: List[str]) -> Optional[Form]:
@@ -168,6 +193,8 @@ Pages: docs/policy-language.md, docs/commands.md, docs/errors.md, docs/grammar.m
 INSTALLED = "The manual page: man ucon\n"
 NOTES = """\
 After a fault of a document that is a file, the place, the line and a hint follow the program's own line.
+With --script FILE no document comes on standard input: FILE has the script alone (- is standard input), and the policy is the one that
+the journal began with. With --journal-policy it is that policy, and no script.
 A journal has one writer at a time, and what was told of it stands beside it, in JOURNAL.told. Where it lacks some of that, play,
 serve, point, converse and explain are refused before anything is written; --accept-loss behind JOURNAL goes on with what is there. What an opening
 cuts off behind the last whole record is kept in JOURNAL.torn.

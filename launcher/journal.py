@@ -8,6 +8,8 @@ import struct
 from typing import Iterator, List, NamedTuple, Optional, Tuple, Union
 
 MAGICS = {b"UCONJR01": 1, b"UCONJR02": 2}
+# What a journal begins with that is made now.
+FRESH_MAGIC = b"UCONJR02"
 # A journal whose making was stopped has at most so many bytes.
 LONGEST_FRESH = 9
 FIRST_GATE = 8

@@ -1,7 +1,8 @@
 """What stands around a form that writes a journal: one writer, never below what was told, and what was cut off is kept.
 
 The journal is locked; what was told of it is looked for in it; the program runs, and inherits the lock; then what is told now is written
-beside the journal. Nothing here changes the journal."""
+beside the journal. Of a conversation the replies go to somebody else as they come, so that others are told is written before it begins.
+Nothing here changes the journal."""
 import os
 import pathlib
 import signal
@@ -10,12 +11,12 @@ from types import FrameType
 from typing import IO, List, NamedTuple, Optional, Tuple
 
 from launcher import lock, program
-from launcher.heads import Followed, follow, start
-from launcher.journal import LONGEST_FRESH, End, Journal, Refused
+from launcher.heads import Followed, first_head, follow, start
+from launcher.journal import FRESH_MAGIC, LONGEST_FRESH, End, Journal, Refused
 from launcher.lock import Lock
 from launcher.program import Ended
 from launcher.seal import EMPTY, Front
-from launcher.told import LOST, Told, meet, near, path_of, read_told, told_of
+from launcher.told import ARE, LOST, WERE, Told, meet, near, path_of, read_told, told_of
 
 # The forms that open the journal that is their second word, and write it.
 WRITES = ("play", "serve", "point", "converse", "explain")
@@ -51,7 +52,7 @@ def run(path_of_program: pathlib.Path, words: List[str], accepts_loss: bool, cat
             # The program says what is wrong with the path.
             return started([str(path_of_program), *asked(words)], None, catches)
         try:
-            return Keeper(words[1], held, accepts_loss).run([str(path_of_program), *asked(words)], catches)
+            return Keeper(words[1], held, accepts_loss, words[0] == "converse").run([str(path_of_program), *asked(words)], catches)
         finally:
             held.release()
     except Refused as why:
@@ -78,13 +79,14 @@ class Tail(NamedTuple):
 
 
 class Keeper:
-    """One run over a journal that is locked."""
+    """One run over a journal that is locked. `tells_others` says that its replies go to somebody else as they come."""
 
-    def __init__(self, name: str, held: Lock, accepts_loss: bool) -> None:
+    def __init__(self, name: str, held: Lock, accepts_loss: bool, tells_others: bool = False) -> None:
         self.journal = Journal(name, held.file)
         self.held = held
         self.told_path = path_of(held.path)
         self.accepts_loss = accepts_loss
+        self.tells_others = tells_others
         self.said: List[str] = []
 
     def say(self, line: str) -> None:
@@ -94,11 +96,16 @@ class Keeper:
         """Runs the program over standard input and output, or other files."""
         found = self.looked_at()
         tail = self.keep_tail(found)
+        tells_others = self.tells_others and not found.accepted
+        if tells_others:
+            self.tell_others(found)
         ended = started(words, self.held.file, catches, source, output)
         if tail:
             self.say_cut(tail)
         if ended.status not in UNTOUCHED:
             self.tell(found, ended.status)
+        elif tells_others:
+            self.put_back(found)
         return Ended(ended.status, ended.errors + "".join(self.said).encode())
 
     # ---- before
@@ -115,11 +122,13 @@ class Keeper:
     def judged(self) -> Found:
         journal, told = self.journal, read_told(self.told_path)
         if journal.size <= LONGEST_FRESH:
-            if told:
+            if told and told.is_of_nothing:
+                self.say_of_others(told, 0)
+            elif told:
                 says = "isn't there" if self.held.is_made else "holds no record"
                 hint = f"put a copy back that has them; to begin a new journal, take {near(self.told_path)} away, or say {ACCEPT} behind the name"
                 raise Refused(LOST, f"{journal.name} {says}, and {told.place} steps of it were told", hint)
-            return Found()
+            return Found(None, told)
         try:
             followed, _, loss, front = meet(journal)
         except Refused as why:
@@ -134,7 +143,15 @@ class Keeper:
         if strange:
             says = f"{journal.name}: behind {followed.steps} whole steps, at byte {end.at}, stands what no write of the program leaves: {strange}"
             raise Refused(LOST, says, f"nothing was written: put a copy back, or see what wrote there; {GOES_ON}")
+        if told:
+            self.say_of_others(told, followed.steps)
         return Found(followed, told, end, front)
+
+    def say_of_others(self, told: Told, steps: int) -> None:
+        """Says that others were told of steps, and that nobody wrote down which one was the last."""
+        if told.others == ARE:
+            says = f"a conversation was stopped whose replies others read; {steps - told.place} steps stand behind place {told.place}"
+            self.say(f"{says}, where it began: see that all that they were told are there")
 
     def found_plainly(self) -> Found:
         """What the journal is found as, whatever was told of it."""
@@ -161,7 +178,27 @@ class Keeper:
             return None
         return Tail(path, found.end.at, raw)
 
+    def tell_others(self, found: Found) -> None:
+        """Writes what was told as a conversation begins, and that others are told from here on."""
+        now = Told(0, 0, first_head(FRESH_MAGIC), b"", others=ARE)
+        try:
+            if found.followed:
+                now = told_of(self.journal, found.followed, found.front, ARE)
+            self.write_beside(self.told_path, now.text().encode())
+        except (Refused, OSError) as why:
+            self.say(f"{near(self.told_path)} doesn't say that others are told: {why}")
+
     # ---- behind
+
+    def put_back(self, found: Found) -> None:
+        """Writes what was told before, behind a conversation that told nothing."""
+        try:
+            if found.told:
+                self.write_beside(self.told_path, found.told.text().encode())
+            else:
+                remove(self.told_path)
+        except Refused as why:
+            self.say(f"{near(self.told_path)} says that others are told: {why}")
 
     def say_cut(self, tail: Tail) -> None:
         if self.journal.read(tail.at, len(tail.raw)) == tail.raw:
@@ -179,7 +216,7 @@ class Keeper:
                 os.replace(self.told_path, lost)
                 self.say(f"went on; what was told before is kept in {near(lost)}")
             now = self.told_now(found, status)
-            if now and not (found.told and (now.records, now.head) == (found.told.records, found.told.head)):
+            if now and not (found.told and now.says_the_same(found.told)):
                 self.write_beside(self.told_path, now.text().encode())
         except (Refused, OSError) as why:
             self.say(f"{near(self.told_path)} doesn't say what this run told: {why}")
@@ -196,7 +233,7 @@ class Keeper:
         if status == DISK_FAULT and now.records > begins.records:
             # The last one may be the one that failed, of which nobody was told.
             now, _ = follow(self.journal, begins, most=now.records - 1)
-        return told_of(self.journal, now, found.front) if now.records else None
+        return told_of(self.journal, now, found.front, WERE if self.tells_others else "") if now.records else None
 
     def write_beside(self, path: str, raw: bytes) -> None:
         """Writes a file whole: beside its place, synced, and then renamed. It may be read by whoever may read the journal."""

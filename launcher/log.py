@@ -5,7 +5,8 @@ import os
 import re
 import select
 import sys
-from typing import Dict, List, NamedTuple, Optional
+from functools import lru_cache
+from typing import Dict, List, NamedTuple, Optional, Set, Union
 
 from launcher.journal import FIRST_GATE, POINT, STEP, Damaged, Journal, Refused, Window, open_journal
 from launcher.reading import is_path
@@ -18,8 +19,16 @@ NAMED = re.compile(rb"(permitted|ended) (\d+)|(denied|waiting|revoked) (\d+) (\w
 # All that a line may show as it is; a policy's comment may hold any byte.
 PRINTABLE = bytes(range(0x20, 0x7F)) + b"\n"
 PLACE = re.compile("[1-9][0-9]{0,18}")
-# What a payload of the clients that have one digit begins with.
-CLIENTS = {f"{client} " for client in range(10)}
+# How the payload of a step begins and ends that is answered `ok` alone.
+BEGINS = re.compile(r"([0-9]|[1-5][0-9]|6[0-3]) [^\n]")
+OK, PERMITTED = "\nok", "\npermitted "
+# What stands between the two numbers of a `try` that is permitted, in JSON.
+PERMITS = '","sessions":[{"outcome":"permitted","session":'
+TRIES = re.compile(r"([0-9]|[1-5][0-9]|6[0-3]) (try ([a-z0-9_]+) ([a-z0-9_]+) ([a-z0-9_]+))")
+
+
+class NoStep(Exception):
+    """A payload hasn't the form of a step."""
 
 
 class Asked(NamedTuple):
@@ -62,6 +71,28 @@ def uses_in(reply: bytes) -> List[Use]:
     return [Use((a or c).decode(), int(b or d), label.decode() if label else None) for a, b, c, d, label in found]
 
 
+class Tried(NamedTuple):
+    """A `try` as a client said it, and was permitted: its names, and what stands in its line between place and number, and behind that."""
+
+    names: bytes
+    front: str
+    back: str
+
+
+@lru_cache(8192)
+def tried_in(said: str, as_json: bool) -> Optional[Tried]:
+    """The `try` that a client said. None where it said something else."""
+    found = TRIES.fullmatch(said)
+    if found is None:
+        return None
+    client, command, subject, right, name = found.groups()
+    names = command[4:]
+    if not as_json:
+        return Tried(names.encode(), f" {said} -> permitted ", f" [{names}]\n")
+    back = f',"subject":"{subject}","right":"{right}","object":"{name}"}}]}}\n'
+    return Tried(names.encode(), f',"client":{client},"command":"{command}","reply":"permitted ', back)
+
+
 class Sessions:
     """What each session was tried for: `SUBJECT RIGHT OBJECT` as the command has it."""
 
@@ -96,50 +127,86 @@ class Lines:
         # Text of one character a byte is put together in a third of the time that bytes take.
         raw = window.raw.decode("latin-1")
         payloads = [raw[a + 5 : b] for a, b in zip(window.gates, window.gates[1:])]
-        said = "".join(payloads)
+        steps = payloads if self.records else payloads[1:]
+        if self.has_points and POINT in window.raw:
+            steps = [it for it in steps if not it.startswith(POINT.decode())]
+        said = "".join(steps)
         is_plain = said.isascii() and not said.encode().translate(None, PRINTABLE)
-        # A text within quotes has to be spelled anew for JSON.
-        is_quick = is_plain and not (self.asked.as_json and ('"' in said or "\\" in said))
-        left_out = max(self.asked.first - self.place - 1, 0)
-        made: List[str] = []
-        try:
-            self.add_lines(made, window, payloads, is_quick)
-        except Damaged as why:
-            self.wrong = why
+        left_out, count = max(self.asked.first - self.place - 1, 0), len(steps)
+        made = self.plain_lines(steps) if is_plain else None
+        if made is None:
+            lines: List[str] = []
+            try:
+                self.add_lines(lines, window, payloads)
+            except Damaged as why:
+                self.wrong = why
+            made, count = "".join(lines), len(lines)
         self.records += len(payloads)
-        lines = "".join(made[left_out:]).encode("latin-1")
-        return lines if is_plain else escaped(lines)
+        if left_out:
+            made = made.split("\n", left_out)[-1] if left_out < count else ""
+        raw_lines = made.encode("latin-1")
+        return raw_lines if is_plain else escaped(raw_lines)
 
-    def add_lines(self, made: List[str], window: Window, payloads: List[str], is_quick: bool) -> None:
-        """Adds a line for each step. One that is answered `ok` alone takes no search, nor does a `try` that is only permitted."""
-        clients, as_json, tries, place = CLIENTS if is_quick else (), self.asked.as_json, self.sessions.tries, self.place
-        add, first = made.append, self.records
-        for n, payload in enumerate(payloads, first):
-            said, _, reply = payload.partition("\n")
-            if reply == "ok" and said[:2] in clients and len(said) > 2 and n:
-                place += 1
-                if as_json:
-                    add(f'{{"place":{place},"client":{said[0]},"command":"{said[2:]}","reply":"ok","sessions":[]}}\n')
-                else:
-                    add(f"{place} {said} -> ok\n")
-            elif said[1:6] == " try " and said[:2] in clients and reply == f"permitted {len(tries) + 1}" and said.count(" ") == 4 and n:
-                place += 1
-                tried = said[6:]
-                tries.append(tried.encode())
-                if as_json:
-                    subject, right, name = tried.split(" ")
-                    use = f'"session":{len(tries)},"subject":"{subject}","right":"{right}","object":"{name}"'
-                    front = f'{{"place":{place},"client":{said[0]},"command":"{said[2:]}","reply":"{reply}"'
-                    add(f'{front},"sessions":[{{"outcome":"permitted",{use}}}]}}\n')
-                else:
-                    add(f"{place} {said} -> {reply} [{tried}]\n")
-            else:
-                self.place = place
-                line = self.line(n, window, payload)
-                place = self.place
-                if line:
-                    add(line)
-        self.place = place
+    def plain_lines(self, steps: List[str]) -> Optional[str]:
+        """The lines of steps that are printable: those that are answered `ok` alone are made at once, by what stands before and behind each
+        command. None where a payload isn't a step by its form."""
+        tried = len(self.sessions.tries)
+        alone = [it for it in steps if it.endswith(OK)]
+        begins = list(map(BEGINS.match, {it[:4] for it in alone}))
+        # Another line stands for itself, and has no newline here.
+        are_alone = len(alone) == len(steps)
+        text = "\0".join(["", *(steps if are_alone else [it if it.endswith(OK) else "\1" for it in steps]), ""])
+        if None in begins or text.count("\n") != len(alone):
+            return None
+        try:
+            said = range(self.place + 1, self.place + 1 + len(steps)) if are_alone else self.others_among(steps)
+        except NoStep:
+            del self.sessions.tries[tried:]
+            return None
+        self.place += len(steps)
+        return self.around(text, {it[1] for it in begins if it}) % tuple(said)
+
+    def around(self, text: str, clients: Set[str]) -> str:
+        """Payloads between zeros, put into lines with `%s` for each place, and for the whole line where a one stands."""
+        text = text.replace("%", "%%").replace("\1", "%s")
+        before, behind = "%%s %s ", " -> ok\n"
+        if self.asked.as_json:
+            text = text.replace("\\", "\\\\").replace('"', '\\"')
+            before, behind = '{"place":%%s,"client":%s,"command":"', '","reply":"ok","sessions":[]}\n'
+        for client in clients:
+            text = text.replace(f"\0{client} ", "\0" + before % client)
+        return text.replace(f"{OK}\0", f"{behind}\0").replace("\0", "")
+
+    def others_among(self, steps: List[str]) -> List[Union[int, str]]:
+        """For each step its place where it is answered `ok` alone, and else its line. That of a `try` that is only permitted takes no search."""
+        found: List[Union[int, str]] = []
+        add, as_json, tries = found.append, self.asked.as_json, self.sessions.tries
+        for place, payload in enumerate(steps, self.place + 1):
+            if payload.endswith(OK):
+                add(place)
+                continue
+            said, _, number = payload.partition(PERMITTED)
+            tried = tried_in(said, as_json)
+            if tried is None or number != str(len(tries) + 1):
+                add(self.other_line(place, payload))
+                continue
+            names, front, back = tried
+            tries.append(names)
+            add(f'{{"place":{place}{front}{number}{PERMITS}{number}{back}' if as_json else f"{place}{front}{number}{back}")
+        return found
+
+    def other_line(self, place: int, payload: str) -> str:
+        step = STEP.fullmatch(payload.encode())
+        if step is None:
+            raise NoStep
+        return self.step_line(place, step)
+
+    def add_lines(self, made: List[str], window: Window, payloads: List[str]) -> None:
+        """Adds a line for each step, one after the other."""
+        for number, payload in enumerate(payloads, self.records):
+            line = self.line(number, window, payload)
+            if line:
+                made.append(line)
 
     def line(self, number: int, window: Window, payload: str) -> str:
         """The line of any record. Empty where it is no step; refused where it should be one."""
@@ -150,24 +217,25 @@ class Lines:
         if step is None:
             at = window.at + window.gates[number - self.records]
             raise Damaged(self.journal.name, number, at, "it has not the form of a step")
-        client, command, reply = step.groups()
         self.place += 1
-        self.sessions.note(command, reply)
-        line = self.json_line(client, command, reply) if self.asked.as_json else self.text_line(client, command, reply)
-        return line.decode("latin-1")
+        return self.step_line(self.place, step)
 
-    def text_line(self, client: bytes, command: bytes, reply: bytes) -> bytes:
-        return b"%d %b %b -> %b\n" % (self.place, client, command, NAMED.sub(self.with_use, reply))
+    def step_line(self, place: int, step: "re.Match[bytes]") -> str:
+        client, command, reply = step.groups()
+        self.sessions.note(command, reply)
+        if self.asked.as_json:
+            return self.json_line(place, client, command, reply)
+        return (b"%d %b %b -> %b\n" % (place, client, command, NAMED.sub(self.with_use, reply))).decode("latin-1")
 
     def with_use(self, named: "re.Match[bytes]") -> bytes:
         tried = self.sessions.of(int(named[2] or named[4]))
         return b"%b [%b]" % (named[0], tried) if tried else named[0]
 
-    def json_line(self, client: bytes, command: bytes, reply: bytes) -> bytes:
+    def json_line(self, place: int, client: bytes, command: bytes, reply: bytes) -> str:
         import json
 
-        said = {"place": self.place, "client": int(client), "command": text_of(command), "reply": text_of(reply), "sessions": self.uses(reply)}
-        return json.dumps(said, separators=(",", ":")).encode() + b"\n"
+        said = {"place": place, "client": int(client), "command": text_of(command), "reply": text_of(reply), "sessions": self.uses(reply)}
+        return json.dumps(said, separators=(",", ":")) + "\n"
 
     def uses(self, reply: bytes) -> List[Dict[str, object]]:
         found = []

@@ -1,4 +1,5 @@
 """The words over a journal that need the program: `amend` and `carry`, which write one, and `state` and `verify`, which only read."""
+import gc
 import importlib
 import pathlib
 import sys
@@ -23,6 +24,8 @@ def called(words: List[str]) -> Optional[Call]:
 
 def run(path_of_program: pathlib.Path, call: Call) -> int:
     """Runs such words, and says why where that can't be."""
+    # To look for cycles again and again among 60,000 uses takes as long as to read them, and what there is of these ends with the word.
+    gc.disable()
     try:
         return call(path_of_program)
     except Refused as why:

@@ -55,10 +55,12 @@ def path(which: Program = RUNS) -> pathlib.Path:
 
 
 class Input(NamedTuple):
-    """A standard input that can be read again: the file's name as a person would write it, and where reading began."""
+    """A standard input that can be read again: the file's name as a person would write it, where reading began, and how many bytes stand
+    before what is in that file."""
 
     name: str
     start: int
+    front: int = 0
 
     def read(self) -> bytes:
         parts, at = [], self.start

@@ -1,4 +1,5 @@
 """The words that read a journal and never write it: `log`, `policy`, `copy`. They take no lock, and need no program."""
+import gc
 import importlib
 import os
 import signal
@@ -22,6 +23,8 @@ def run(words: List[str]) -> Optional[int]:
         return None
     module = importlib.import_module(f"launcher.{WORDS[words[0]]}")
     asked = module.asked_of(words)
+    # Nothing here makes cycles, and to look for them among 160,000 steps takes as long as to print these.
+    gc.disable()
     try:
         return module.run(asked) if asked else None
     except Refused as why:

@@ -1,8 +1,9 @@
 """The state of a journal as `report` prints it, read in parts: a closed session is counted and not kept, since there may be a million of
 them."""
 import json
+import re
 import sys
-from typing import Any, Dict, Iterator, List, NamedTuple, Tuple, Union
+from typing import Any, Dict, Iterator, List, NamedTuple, Pattern, Tuple, Union
 
 Value = Union[int, str, List[str]]
 Row = Dict[str, Value]
@@ -11,6 +12,14 @@ STATES = (*OPEN, "denied", "revoked", "ended")
 decode = json.JSONDecoder().raw_decode
 # About how many characters of a list are read at once.
 PART = 1 << 20
+# A row of a list as the program spells it, its keys in the order of their bytes: names and numbers.
+NAME, NUMBER = r'"([a-z][a-z0-9_]*)"', "(-?[0-9]+)"
+ACT = re.compile(rf'\{{"action":{NAME},"at":{NUMBER},"object":{NAME},"subject":{NAME}\}}')
+SESSION = re.compile(
+    rf'\{{"caller":{NUMBER},"number":{NUMBER},"object":{NAME},"right":{NAME},"start":{NUMBER},"state":{NAME},"subject":{NAME}\}}'
+)
+# How a row of a session that is counted alone shows its state.
+STATED = '"state":"%s"'
 
 
 class Unread(Exception):
@@ -37,7 +46,8 @@ class Session(NamedTuple):
 
 
 class State(NamedTuple):
-    """What stands in a journal behind its last step. `sessions` has those that go on or wait; `counts` counts all by their states."""
+    """What stands in a journal behind its last step. `sessions` has those that go on or wait, or none where they were only counted; `counts`
+    counts all by their states."""
 
     entries: int
     tick: int
@@ -85,39 +95,52 @@ class Text:
             raise Unread(str(why)) from None
         return found
 
-    def each(self, key: str) -> Iterator[Dict[str, Any]]:
-        """The objects of a list, of names and numbers alone, so that a bracket or a brace in it is no text's."""
+    def count_of(self, key: str, texts: List[str]) -> List[int]:
+        """How many rows of a list have each of these texts, of which each row has one."""
+        self.must(f'"{key}":[')
+        end = self.text.find("]", self.at)
+        counts = [self.text.count(text, self.at, end) for text in texts]
+        if end < 0 or self.text.count("{", self.at, end) != sum(counts):
+            raise Unread(f"`{key}` isn't a list of rows, behind {self.at}")
+        self.at = end + 1
+        return counts
+
+    def rows(self, key: str, row: Pattern[str]) -> Iterator[List[Tuple[str, ...]]]:
+        """The rows of a list, some of them at once. They have names and numbers alone, so that a bracket or a brace in it is no text's."""
         self.must(f'"{key}":[')
         end = self.text.find("]", self.at)
         while self.at < end:
             part = self.text.find("}", self.at + PART, end) + 1 or end
-            try:
-                yield from json.loads(f"[{self.text[self.at:part]}]")
-            except ValueError as why:
-                raise Unread(f"behind {self.at}: {why}") from None
+            found = row.findall(self.text, self.at, part)
+            # As many rows as braces of each kind, and a comma alone between two of them: so they are all that is there.
+            counts = {self.text.count(brace, self.at, part) for brace in "{}"} | {self.text.count("},{", self.at, part) + 1}
+            if counts != {len(found)} or not self.text.startswith("{", self.at) or self.text[part - 1] != "}":
+                raise Unread(f"a row of `{key}` isn't one, behind {self.at}")
+            yield found
             self.at = part
             self.skip(",")
         self.must("]")
 
 
-def read(raw: bytes) -> State:
-    """The state that a report tells. Its keys stand in the order of their bytes."""
+def read(raw: bytes, with_sessions: bool = True) -> State:
+    """The state that a report tells; where no session is asked for, they are only counted. Its keys stand in the order of their bytes."""
     try:
-        return read_all(Text(raw.decode("ascii")))
+        return read_all(Text(raw.decode("ascii")), with_sessions)
     except (KeyError, TypeError, ValueError) as why:
         raise Unread(f"{type(why).__name__}: {why}") from None
 
 
-def read_all(text: Text) -> State:
+def read_all(text: Text, with_sessions: bool) -> State:
     name = sys.intern
     text.must("{")
-    acts = [Act(name(it["subject"]), name(it["action"]), name(it["object"]), it["at"]) for it in text.each("acts")]
+    rows = (row for part in text.rows("acts", ACT) for row in part)
+    acts = [Act(name(subject), name(action), name(thing), int(at)) for action, at, thing, subject in rows]
     found: Dict[str, Any] = {}
     for key in ("entries", "env", "objects"):
         text.must(",")
         found[key] = text.value(key)
     text.must(",")
-    sessions, counts = read_sessions(text)
+    sessions, counts = read_sessions(text) if with_sessions else ([], dict(zip(STATES, text.count_of("sessions", [STATED % it for it in STATES]))))
     for key in ("subjects", "tick"):
         text.must(",")
         found[key] = text.value(key)
@@ -127,11 +150,16 @@ def read_all(text: Text) -> State:
 
 def read_sessions(text: Text) -> Tuple[List[Session], Dict[str, int]]:
     counts = {state: 0 for state in STATES}
-    kept = []
-    for it in text.each("sessions"):
-        counts[it["state"]] += 1
-        if it["state"] in OPEN:
-            kept.append(Session(it["number"], it["caller"], it["subject"], it["right"], it["object"], it["start"], it["state"]))
+    kept: List[Session] = []
+    for rows in text.rows("sessions", SESSION):
+        # Column by column takes a third of the time that row by row takes.
+        clients, numbers, things, rights, starts, states, subjects = zip(*rows)
+        for state in counts:
+            counts[state] += states.count(state)
+        if not counts.keys() >= set(states):
+            raise Unread(f"a session is {', '.join(set(states) - counts.keys())}")
+        made = map(Session._make, zip(map(int, numbers), map(int, clients), subjects, rights, things, map(int, starts), states))
+        kept += [it for it in made if it.state in OPEN]
     return kept, counts
 
 

@@ -42,8 +42,10 @@ def text_end(raw: bytes, at: int) -> int:
 class Document:
     """A document's bytes with its file's name."""
 
-    def __init__(self, name: str, raw: bytes, text: Optional[bytes] = None):
+    def __init__(self, name: str, raw: bytes, text: Optional[bytes] = None, front: int = 0):
         self.name = name
+        # So many bytes are none of the file's, which begins behind them: a policy that a journal has.
+        self.front = front
         # What is looked into, and what is shown of it: the same lines, whose columns are the same.
         self.raw = raw
         self.text = raw if text is None else text
@@ -51,7 +53,7 @@ class Document:
     def part(self, span: "Span") -> "Document":
         """This document with blanks before a passage and nothing behind it: places are the same."""
         blank = re.sub(rb"[^\n]", b" ", self.raw[: span.start])
-        return Document(self.name, blank + self.raw[span.start : span.end], self.text)
+        return Document(self.name, blank + self.raw[span.start : span.end], self.text, self.front)
 
     def line_start(self, at: int) -> int:
         return self.raw.rfind(b"\n", 0, at) + 1
@@ -67,7 +69,7 @@ class Document:
         return Span(min(start, len(self.raw)), self.line_end(start))
 
     def place(self, at: int) -> str:
-        line = self.raw.count(b"\n", 0, at) + 1
+        line = self.raw.count(b"\n", self.front if at >= self.front else 0, at) + 1
         return f"{self.name}:{line}:{at - self.line_start(at) + 1}"
 
     def marked(self, mark: Span, what: str = "") -> str:

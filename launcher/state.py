@@ -2,14 +2,15 @@
 Prometheus (its text format, version 0.0.4)."""
 import os
 import pathlib
-from typing import Dict, Iterable, Iterator, List, NamedTuple, Optional, Sequence, Tuple
+from itertools import chain
+from typing import Any, Dict, Iterator, List, NamedTuple, Optional, Sequence, Tuple, Union
 
 from launcher import reported
 from launcher.asking import ask
 from launcher.journal import DAMAGED, Journal, Refused, open_journal
 from launcher.log import say_cut_off, write
 from launcher.reading import is_path
-from launcher.reported import Row, Session, State, spelled
+from launcher.reported import Row, State, spelled
 from launcher.told import path_of, read_told
 
 # How many subjects, or objects, sessions, acts and uses in progress a journal has at most.
@@ -17,6 +18,7 @@ ENTITIES, SESSIONS, ACTS, ACCESSING = 16_384, 1_048_576, 1_048_576, 65_536
 # A column is filled up to so many characters; what is longer stands as it is.
 WIDEST = 32
 FORMS = ("--json", "--metrics")
+Cell = Union[str, int]
 
 
 class Asked(NamedTuple):
@@ -38,16 +40,16 @@ def run(path_of_program: pathlib.Path, asked: Asked) -> int:
         if asked.form == "--json":
             write(text)
         else:
-            state = read(journal, text)
+            state = read(journal, text, asked.form == "")
             lines = metrics(journal, state, records, end) if asked.form else tables(state)
-            write("".join(f"{line}\n" for line in lines).encode())
+            write("\n".join([*lines, ""]).encode())
         say_cut_off(journal, end)
     return 0
 
 
-def read(journal: Journal, text: bytes) -> State:
+def read(journal: Journal, text: bytes, with_sessions: bool = True) -> State:
     try:
-        return reported.read(text)
+        return reported.read(text, with_sessions)
     except reported.Unread as why:
         raise Refused(DAMAGED, f"{journal.name}: the program's report can't be read: {why}", "see which program is run: `ucon --version`") from None
 
@@ -58,37 +60,39 @@ def read(journal: Journal, text: bytes) -> State:
 def tables(state: State) -> Iterator[str]:
     yield f"tick {state.tick}"
     yield f"steps {state.entries}"
-    yield from table(["variable", "value"], ([name, spelled(value)] for name, value in state.env.items()))
+    yield from table(("variable", "value"), [(name, spelled(value)) for name, value in state.env.items()])
     yield from entities("subject", state.subjects)
     yield from entities("object", state.objects)
-    yield from table(["act", "subject", "object", "tick"], ([it.action, it.subject, it.object, str(it.at)] for it in state.acts))
+    yield from table(("act", "subject", "object", "tick"), [(it.action, it.subject, it.object, it.at) for it in state.acts])
     uses, waiting = state.uses, state.waiting
-    head = ["client", "subject", "right", "object"]
-    yield from table(["use", *head, "since"], ([*session(it), str(it.start)] for it in uses))
-    yield from table(["waiting", *head], map(session, waiting))
+    # As the first fields of a session stand.
+    head = ("client", "subject", "right", "object")
+    yield from table(("use", *head, "since"), uses)
+    yield from table(("waiting", *head), waiting)
     closed = ", ".join(f"{count} {name}" for name, count in state.counts.items() if name not in reported.OPEN)
     yield ""
     yield f"sessions {sum(state.counts.values())}: {len(uses)} in use, {len(waiting)} waiting, {closed}"
 
 
-def session(it: Session) -> List[str]:
-    return [str(it.number), str(it.client), it.subject, it.right, it.object]
-
-
 def entities(side: str, found: Dict[str, Row]) -> Iterator[str]:
     names = list(next(iter(found.values()), {}))
-    return table([side, *names], ([name, *(spelled(row[it]) for it in names)] for name, row in found.items()))
+    return table((side, *names), [(name, *(spelled(row[it]) for it in names)) for name, row in found.items()])
 
 
-def table(head: List[str], rows: Iterable[List[str]]) -> Iterator[str]:
-    """An empty line, the head and the rows, in columns. Nothing where there is no row."""
-    lines = [head, *rows]
-    if len(lines) == 1:
-        return
-    form = "  ".join(f"%-{min(max(map(len, column)), WIDEST)}s" for column in zip(*lines))
-    yield ""
-    for line in lines:
-        yield (form % tuple(line)).rstrip()
+def table(head: Sequence[str], rows: Sequence[Sequence[Cell]]) -> Iterator[str]:
+    """An empty line, the head and the rows, in columns: of each row as many cells as the head has. Nothing where there is no row."""
+    if not rows:
+        return iter(())
+    columns = list(zip(*rows))[: len(head)]
+    widths = [min(max(len(name), width_of(column)), WIDEST) for name, column in zip(head, columns)]
+    form = "".join(f"%-{width}s  " for width in widths[:-1]) + "%s"
+    return chain([""], map(form.__mod__, chain([tuple(head)], zip(*columns))))
+
+
+def width_of(column: Tuple[Any, ...]) -> int:
+    """The width of a column's widest cell. Of numbers that is the least or the greatest."""
+    widest = {min(column), max(column)} if isinstance(column[0], int) else column
+    return max(map(len, map(str, widest)))
 
 
 # ---- metrics

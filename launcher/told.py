@@ -7,6 +7,8 @@ The file is text, a word and what it says on each line:
     records 21          how many records the head is after
     head 5f1c..         the head after them, 64 digits
     marks 9a03..        of the head after each of them the first 2 bytes, so that the first record that differs can be named
+    others are told     another reader is told of what stands behind the head, as it comes; `others were told` once that has ended, and
+                        then the place is the last one. A program that hands the replies on itself has no such line
     bytes 315           where the gate behind these records is
     seal 77b1..         by which it is seen at once that the bytes before that gate, and the lines above, are what they were
 
@@ -21,11 +23,13 @@ from launcher.seal import EMPTY, Front, up_to
 # The journal lacks what was told of it, or something that no write of the program leaves stands behind its records.
 LOST = 123
 FIRST_LINE = "ucon told 1"
+# What is said of others: that they are told, and that they were.
+ARE, WERE = "are told", "were told"
 
 
 class Told(NamedTuple):
     """The last place that somebody was told, and the head after so many records. `marks` may be short, or empty; `seal` may be empty, and
-    where it isn't the place is that of the head."""
+    where it isn't the place is that of the head. `others` says whether others are told of a journal, or were; empty is neither."""
 
     place: int
     records: int
@@ -33,11 +37,13 @@ class Told(NamedTuple):
     marks: bytes
     at: int = 0
     seal: str = ""
+    others: str = ""
 
     @property
     def lines(self) -> str:
         marks = f"marks {self.marks.hex()}\n" if self.marks else ""
-        return f"{FIRST_LINE}\nplace {self.place}\nrecords {self.records}\nhead {self.head.hex()}\n{marks}"
+        others = f"others {self.others}\n" if self.others else ""
+        return f"{FIRST_LINE}\nplace {self.place}\nrecords {self.records}\nhead {self.head.hex()}\n{marks}{others}"
 
     @property
     def sealed(self) -> str:
@@ -49,13 +55,21 @@ class Told(NamedTuple):
         """The journal as it was followed where it is sealed."""
         return Followed(self.at, self.records, self.place, self.head, self.marks)
 
+    @property
+    def is_of_nothing(self) -> bool:
+        """Whether nobody was told a step: it was written before a journal was begun."""
+        return (self.place, self.records) == (0, 0)
+
+    def says_the_same(self, other: "Told") -> bool:
+        return (self.records, self.head, self.others) == (other.records, other.head, other.others)
+
     def text(self) -> str:
         return f"{self.sealed}seal {self.seal}\n" if self.seal else self.lines
 
 
-def told_of(journal: Journal, followed: Followed, front: Front = EMPTY) -> Told:
+def told_of(journal: Journal, followed: Followed, front: Front = EMPTY, others: str = "") -> Told:
     """What is told of a journal that was followed so far, of which a front was read before."""
-    told = Told(followed.steps, followed.records, followed.head, followed.marks, followed.at)
+    told = Told(followed.steps, followed.records, followed.head, followed.marks, followed.at, others=others)
     return told._replace(seal=up_to(journal, told.at, front).sealed(told.sealed))
 
 
@@ -86,7 +100,8 @@ def read_told(path: str) -> Optional[Told]:
         if not HEAD.fullmatch(said["head"]):
             raise ValueError("its head isn't 64 digits")
         head, marks = bytes.fromhex(said["head"]), bytes.fromhex(said.get("marks", ""))
-        return Told(int(said["place"]), int(said["records"]), head, marks, int(said.get("bytes", 0)), said.get("seal", ""))
+        others = said.get("others", "")
+        return Told(int(said["place"]), int(said["records"]), head, marks, int(said.get("bytes", 0)), said.get("seal", ""), others)
     except (KeyError, ValueError) as why:
         raise unread(path, str(why)) from None
 

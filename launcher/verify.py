@@ -10,7 +10,7 @@ from launcher.asking import ask
 from launcher.journal import FILE_FAILED, Journal, Refused, open_journal
 from launcher.log import say_cut_off, write
 from launcher.reading import is_path
-from launcher.told import LOST, meet, near, path_of
+from launcher.told import ARE, LOST, meet, near, path_of
 
 # A head as `copy`, `audit` and `verify` print it, and companion files keep it.
 RECORDS = re.compile(r"^records (0|[1-9][0-9]{0,19})$", re.M)
@@ -87,13 +87,18 @@ def wrong_in(journal: Journal) -> Found:
         wrong.append(f"{journal.name}: behind the last whole step, at byte {end.at}, stands what no write of the program leaves: {end.strange}")
     elif end.is_torn:
         say_cut_off(journal, end.at)
+    companion = path_of(os.path.realpath(journal.name))
     try:
-        met = meet(journal)
+        # The audit has followed it already.
+        met = meet(journal) if os.path.lexists(companion) else None
     except Refused as why:
         if why.status != LOST:
             raise
         return Found(end.behind, "unread", [*wrong, why.sentence])
-    if met.told is None:
-        sys.stderr.write(f"ucon: {near(path_of(os.path.realpath(journal.name)))} isn't there, so nobody knows what was told\n")
+    if met is None or met.told is None:
+        sys.stderr.write(f"ucon: {near(companion)} isn't there, so nobody knows what was told\n")
         return Found(end.behind, "none", wrong)
+    if met.told.others == ARE:
+        says = f"others are told of it, or were until a conversation was stopped: place {met.told.place} needn't be the last"
+        sys.stderr.write(f"ucon: {journal.name}: {says}\n")
     return Found(end.behind, "no" if met.loss else "yes", [*wrong, met.loss.text(journal.name)] if met.loss else wrong)
