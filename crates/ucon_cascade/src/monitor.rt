@@ -64,6 +64,8 @@ impl Engine for Monitor {
 
     ghost has_pending = { HasPending };
 
+    ghost costs = { λ _ P T e before now. now ≤ before + touched P T e.caller e.command };
+
     fn begin(alloc: Global, checked: Checked) -> Result<Monitor, NoMemory> {
         each_action_is_followed();
         let state = State::new(alloc, checked)?;
@@ -116,7 +118,7 @@ impl Monitor {
 
     /// Drafts the command, and tells what that costs: the counter rises by at most the touches of the actions of the command's block, also
     /// after want of memory.
-    pub fn draft_at_cost(
+    fn draft_at_cost(
         &mut self,
         caller: Caller,
         command: &Command,
@@ -130,6 +132,7 @@ impl Monitor {
         ensures unchanged { IfOk result (λ d. IsFalse d.changes → FollowsLike IsReady self.old self.new) }
         ensures err { OnErr result (FollowsLike IsReady self.old self.new) }
         ensures cost { (P : PlainPolicy) (T : Trace) → IsReady self.old P T → steps.new ≤ steps.old + touched P T caller command.now }
+        ensures later { steps.old ≤ steps.new }
     {
         match self.make_step(caller, command, steps) {
             Ok(reply) => {
@@ -156,6 +159,7 @@ impl Monitor {
             → (P : PlainPolicy) (T : Trace) → IsReady self.old P T → HasPending self.new P T (record { caller = caller; command = command.now })) }
         ensures unchanged { IfOk result (λ r. IsFalse (changes (reply_of r)) → FollowsLike IsReady self.old self.new) }
         ensures cost { (P : PlainPolicy) (T : Trace) → IsReady self.old P T → steps.new ≤ steps.old + touched P T caller command.now }
+        ensures later { steps.old ≤ steps.new }
         ensures err { OnErr result ((P : PlainPolicy) (T : Trace) → IsReady self.old P T → GoesBack self.new P T) }
     {
         actions_are_done_in_order();
@@ -201,6 +205,7 @@ impl Monitor {
         ensures done { OnOk result (self.new.work.members ≡ []) }
         ensures limit { self.new.work.limit ≡ self.old.work.limit }
         ensures base { KeepsBase (shown self.old.state) (shown self.new.state) }
+        ensures later { steps.old ≤ steps.new }
     {
         actions_are_done_in_order();
         cells_are_of_one_attribute();

@@ -1,7 +1,7 @@
 //! The cascade of revocations by a list of work: only who is in it is rechecked, least first. Of each list of sessions that are judged
 //! alike at most the first is in it, and is judged for all.
 
-ghost use Rattle.std.specs.Prelude.{◌≡◌, ◌≢◌, ◌↔◌, ◌⊎◌, ◌+◌, ◌≤◌, ◌∷◌, [], ◌++◌, ℕ, ℤ, false, Option, Some, IfNone, IfOk, IfSome, OnOk, List};
+ghost use Rattle.std.specs.Prelude.{◌≡◌, ◌≢◌, ◌↔◌, ◌⊎◌, ◌+◌, ◌-◌, ◌^◌, ◌≤◌, ◌∷◌, [], ◌++◌, ℕ, ℤ, true, false, min, Option, Some, IfNone, IfOk, IfSome, OnOk, List};
 ghost use Rattle.std.specs.List.{Contains};
 ghost use Rattle.ucon_model.specs.Action.{extended};
 ghost use Rattle.ucon_model.specs.Settle.{fails_at, least_failing, revocation, settle, revoked_in};
@@ -40,13 +40,15 @@ use ucon_state::{
     State, cells_are_of_one_attribute, sessions_are_few, tables_keep_what_is_followed,
 };
 
-/// The label by which session n fails, if it is accessing. Only then it is judged.
+/// The label by which session n fails, if it is accessing. Only then it is judged, and that is counted once.
 #[inline(always)]
 pub fn fails_at(state: &State, n: u32, steps: &mut Steps) -> Option<Name>
     requires { IsFollowing (shown state.now) }
     ensures label { AfterEach (shown state.now) (λ P T. fails_at P T n ≡ result) }
-    ensures once { steps.new ≤ steps.old + 1 }
+    ensures judged { is_accessing (session_in (shown state.now).tables n) ≡ true → steps.new ≡ min (steps.old + 1) (2 ^ 64 - 1) }
     ensures not_judged { is_accessing (session_in (shown state.now).tables n) ≡ false → steps.new ≡ steps.old }
+    ensures once { steps.new ≤ steps.old + 1 }
+    ensures later { steps.old ≤ steps.new }
 {
     readings_that_agree_are_one();
     tables_keep_what_is_followed();
@@ -75,6 +77,7 @@ fn next_failing(state: &State, work: &mut Pend, steps: &mut Steps) -> Option<(u3
     ensures found { IfSome result (λ found. (first : ℕ → ℕ) → IsWork (shown state.now) first work.old.members
         → StayPaid (shown state.now) first work.old.members (found.0 ∷ work.new.members) (steps.old + 1) steps.new) }
     ensures limit { work.new.limit ≡ work.old.limit }
+    ensures later { steps.old ≤ steps.new }
 {
     firsts_go_on_covering();
     firsts_have_the_least();
@@ -178,6 +181,7 @@ pub fn settle(
     ensures cost { CostsItsTouches (shown state.old) (first_of readers.old) work.old.members steps.old steps.new }
     ensures limit { work.new.limit ≡ work.old.limit }
     ensures base { KeepsBase (shown state.old) (shown state.new) }
+    ensures later { steps.old ≤ steps.new }
 {
     actions_are_done_in_order();
     judgements_are_paid_for();

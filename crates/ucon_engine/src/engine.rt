@@ -1,6 +1,6 @@
 //! The trait that every engine meets.
 
-ghost use Rattle.std.specs.Prelude.{◌≡◌, [], ℕ, None, IsTrue, IsFalse, IfOk, OnErr};
+ghost use Rattle.std.specs.Prelude.{◌≡◌, ◌≤◌, [], ℕ, None, IsTrue, IsFalse, IfOk, OnErr};
 ghost use Rattle.ucon_model.specs.declared.command.Entry.{Entry};
 ghost use Rattle.ucon_model.specs.Action.{Trace};
 ghost use Rattle.ucon_model.specs.Block.{after, reply as reply_to};
@@ -36,11 +36,14 @@ pub trait Engine: Drop {
     /// The change of an entry after a trace is pending.
     ghost has_pending: { Self → PlainPolicy → Trace → Entry → Type 0 };
 
+    /// What drafting an entry after a trace may cost: the counts of judgements before and after it.
+    ghost costs: { Self → PlainPolicy → Trace → Entry → ℕ → ℕ → Type 0 };
+
     /// The opening state.
     fn begin(alloc: Global, checked: Checked) -> Result<Self, NoMemory>
         ensures { IfOk result (λ e. follows e (checked_policy checked) []) };
 
-    /// Each recheck of a session counts a step; no clause speaks of the count.
+    /// Each recheck of a session counts a step. What that comes to is bounded on both endings.
     fn draft(
         &mut self,
         caller: Caller,
@@ -53,7 +56,10 @@ pub trait Engine: Drop {
         ensures pending { IfOk result (λ d. IsTrue d.changes
             → (P : PlainPolicy) (T : Trace) → follows self.old P T → has_pending self.new P T (record { caller = caller; command = command.now })) }
         ensures unchanged { IfOk result (λ d. IsFalse d.changes → FollowsLike follows self.old self.new) }
-        ensures err { OnErr result (FollowsLike follows self.old self.new) };
+        ensures err { OnErr result (FollowsLike follows self.old self.new) }
+        ensures cost { (P : PlainPolicy) (T : Trace) → follows self.old P T
+            → costs self.old P T (record { caller = caller; command = command.now }) steps.old steps.new }
+        ensures later { steps.old ≤ steps.new };
 
     /// Keeps the pending change. The monitor then follows the trace after the entry, and no session fails.
     fn keep(&mut self)

@@ -99,6 +99,7 @@ pub fn failing<V: View>(view: &V, session: u32, steps: &mut Steps) -> Option<Nam
     requires no_set { tests_make_no_set (V.policy view.now) (V.readings view.now) session ≡ true }
     ensures label { result ≡ failing (V.policy view.now) (V.readings view.now) session }
     ensures steps { steps.new ≡ min (steps.old + 1) (2 ^ 64 - 1) }
+    ensures later { steps.old ≤ steps.new }
 {
     steps.tick();
     match view.right(session) {

@@ -1,5 +1,5 @@
 -- An inbox as contracts see it: what was fed and what was taken.
-use Rattle.std.specs.Prelude.{Bool, true, false, List, [], ◌∷◌, ◌++◌, map}
+use Rattle.std.specs.Prelude.{ℕ, Bool, true, false, List, [], ◌∷◌, ◌++◌, map}
 use Rattle.atomic_table.specs.declared.badge.Badge.{Badge}
 use Rattle.atomic_table.specs.Seated.{TableId}
 use Rattle.crossbeam_channel.specs.declared.flavors.array.Key.{Key}
@@ -30,10 +30,11 @@ module _ {T : Type 0} where
 abbrev pub Which : Type 0 → Type 0
 Which T = TableId × Badge (Key (Item T))
 
--- what a feeder has fed into its inbox
+-- what a feeder has fed into its inbox, and how many items the inbox has room for
 pub record Fed (T : Type 0) : Type 0 where
   pub inbox : Which T
   pub fed : Told T
+  pub room : ℕ
 
 -- what a taker has taken from its inbox
 pub record Taken (T : Type 0) : Type 0 where

@@ -21,13 +21,13 @@ pub struct Feeder<T: Drop> {
 impl<T: Drop> Model for Feeder<T> {
     ghost use Rattle.std.specs.Prelude.{◌≡◌, true};
     ghost use Rattle.crossbeam_channel.specs.Claims.{IsSeatAt};
-    ghost use Rattle.crossbeam_channel.specs.Ends.{sends_on};
+    ghost use Rattle.crossbeam_channel.specs.Ends.{ruled_capacity, sends_on};
     ghost use Rattle.ucon_feed.specs.Inbox.{Fed};
     ghost use Rattle.ucon_feed.specs.Rule.{known_by, inbox_of};
 
     ghost Value = { Fed T };
 
-    ghost view = { λ f. record { inbox = inbox_of f.pass; fed = (known_by f.pass).fed } };
+    ghost view = { λ f. record { inbox = inbox_of f.pass; fed = (known_by f.pass).fed; room = ruled_capacity (sends_on f.sender) } };
 
     ghost invariant = { λ f. IsSeatAt (sends_on f.sender) f.pass × ((known_by f.pass).feeds ≡ true) };
 }
@@ -59,6 +59,7 @@ pub fn inbox<T: Drop>(alloc: Global, room: u32) -> Result<(Feeder<T>, Taker<T>),
     ensures one { IfOk result (λ ends. ends.1.inbox ≡ ends.0.inbox) }
     ensures fed { IfOk result (λ ends. ends.0.fed ≡ nothing) }
     ensures taken { IfOk result (λ ends. ends.1.taken ≡ nothing) }
+    ensures room { IfOk result (λ ends. ends.0.room ≡ room) }
 {
     let (sender, receiver, mut pass) = bounded_with(alloc, room as usize)?;
     let other = sender.another::<Ends>(&mut pass);

@@ -37,6 +37,9 @@ impl Engine for PlainMonitor {
 
     ghost has_pending = { HasPending };
 
+    // It may judge as often as it likes.
+    ghost costs = { λ _ _ _ _ _ _. Unit {0} };
+
     fn begin(alloc: Global, checked: Checked) -> Result<PlainMonitor, NoMemory> {
         each_action_is_followed();
         let state = State::new(alloc, checked)?;

@@ -1,6 +1,6 @@
 //! The cascade of revocations: after each one all accessing sessions are rechecked.
 
-ghost use Rattle.std.specs.Prelude.{◌≡◌, ◌∷◌, [], ◌++◌, Some, IfOk, OnOk};
+ghost use Rattle.std.specs.Prelude.{◌≡◌, ◌≤◌, ◌∷◌, [], ◌++◌, Some, IfOk, OnOk};
 ghost use Rattle.ucon_model.specs.Action.{extended};
 ghost use Rattle.ucon_model.specs.Settle.{fails_at, least_failing, revocation, settle, revoked_in};
 ghost use Rattle.ucon_actions.specs.Leads.{AfterEach, IsFollowing, KeepsBase, Leads};
@@ -18,7 +18,8 @@ use ucon_state::{State, tables_keep_what_is_followed};
 /// The label by which session n fails, if it is accessing.
 fn fails_at(state: &State, n: u32, steps: &mut Steps) -> Option<Name>
     requires { IsFollowing (shown state.now) }
-    ensures { AfterEach (shown state.now) (λ P T. fails_at P T n ≡ result) }
+    ensures label { AfterEach (shown state.now) (λ P T. fails_at P T n ≡ result) }
+    ensures later { steps.old ≤ steps.new }
 {
     tables_keep_what_is_followed();
     typed_tests_make_no_set();
@@ -32,7 +33,8 @@ fn fails_at(state: &State, n: u32, steps: &mut Steps) -> Option<Name>
 /// The least accessing session that fails, with its label.
 pub fn least_failing(state: &State, steps: &mut Steps) -> Option<(u32, Name)>
     requires { IsFollowing (shown state.now) }
-    ensures { AfterEach (shown state.now) (λ P T. least_failing P T ≡ result) }
+    ensures least { AfterEach (shown state.now) (λ P T. least_failing P T ≡ result) }
+    ensures later { steps.old ≤ steps.new }
 {
     let count = sessions(state);
     for before in 0..count {
@@ -72,6 +74,7 @@ pub fn settle(
     ensures leads { OnOk result (Leads (shown state.old) (shown state.new) (λ P T. extended T (settle P T))) }
     ensures revoked { IfOk result (λ revoked. AfterEach (shown state.old) (λ P T. revoked.items ≡ revoked_in (settle P T))) }
     ensures base { KeepsBase (shown state.old) (shown state.new) }
+    ensures later { steps.old ≤ steps.new }
 {
     turns_follow_each_other();
     let mut revoked = Rows::new(alloc);

@@ -1,6 +1,6 @@
 //! One step: a command's own actions, and then the cascade.
 
-ghost use Rattle.std.specs.Prelude.{◌≡◌, ℕ, None, IfOk, OnErr, IsTrue, IsFalse};
+ghost use Rattle.std.specs.Prelude.{◌≡◌, ◌≤◌, ℕ, None, IfOk, OnErr, IsTrue, IsFalse};
 ghost use Rattle.ucon_model.specs.Block.{after, reply};
 ghost use Rattle.ucon_model.specs.History.{changes};
 ghost use Rattle.ucon_model.specs.Settle.{fails_at};
@@ -32,6 +32,7 @@ pub fn take_step(
     ensures unchanged { IfOk result (λ r. IsFalse (changes (reply_of r)) → shown state.new ≡ shown state.old) }
     ensures undone { OnErr result (shown state.new ≡ given_back (shown state.old)) }
     ensures opening { KeepsOpening (shown state.old) (shown state.new) }
+    ensures later { steps.old ≤ steps.new }
 {
     match make_step(alloc, state, caller, command, steps) {
         Ok(reply) => Ok(reply),
@@ -58,6 +59,7 @@ fn make_step(
         → AfterEach (shown state.old) (λ P T. (n : ℕ) → fails_at P (after P T caller command.now) n ≡ None)) }
     ensures unchanged { IfOk result (λ r. IsFalse (changes (reply_of r)) → shown state.new ≡ shown state.old) }
     ensures opening { KeepsOpening (shown state.old) (shown state.new) }
+    ensures later { steps.old ≤ steps.new }
 {
     actions_are_done_in_order();
     nobody_fails_after_settling();

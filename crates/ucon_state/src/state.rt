@@ -348,6 +348,7 @@ impl State {
         ensures there { OnOk result (is_some (position (bytes_eq name) (right_names self.new)) ≡ true) }
         ensures stay { OnOk result ((e : Bytes) → is_some (position (bytes_eq e) (right_names self.old)) ≡ true
             → is_some (position (bytes_eq e) (right_names self.new)) ≡ true) }
+        ensures same { OnOk result (is_some (position (bytes_eq name) (right_names self.old)) ≡ true → right_names self.new ≡ right_names self.old) }
     {
         if number_of(&self.rights, &name).is_some() {
             return Ok(());

@@ -14,6 +14,7 @@ loop-n-init c = record {
   work = λ first work. work;
   paid = λ first work. paid_at_first (shown c.args.state.now) first c.args.work.now.members c.args.steps.now;
   limit = refl;
+  later = omega arith;
 }
 
 pub returns-in-Some-fails_at-clause-least : goal.returns-in-Some-fails_at-clause-least
@@ -54,6 +55,7 @@ loop-n-preserved c =
           (λ m has. All-contains (λ m. n < m) rest m c.in-Some.ensures.first has) ((popped first given).firsts n (0, omega arith, refl))
           c.fails_at.ensures.once c.fails_at.ensures.not_judged);
       limit = c.pop_least.ensures.limit ∙ c.loop-n.invariant.limit;
+      later = omega (arith, c.loop-n.invariant.later, c.fails_at.ensures.later);
     }
 
 pub returns-in-Some-fails_at-clause-found : goal.returns-in-Some-fails_at-clause-found

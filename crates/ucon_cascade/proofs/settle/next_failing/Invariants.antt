@@ -1,4 +1,4 @@
-use Rattle.std.proofs.Common.{◌≡◌, ℕ, length}
+use Rattle.std.proofs.Common.{◌≡◌, ◌≤◌, ℕ, length}
 use Rattle.ucon_state.specs.Shown.{shown}
 use Rattle.ucon_cascade.specs.Cascading.{IsWork}
 use Rattle.ucon_cascade.specs.Paid.{StayPaid}
@@ -9,6 +9,7 @@ invariant-loop-n l = record {
   work : (first : ℕ → ℕ) → IsWork (shown l.state) first l.initial.work.members → IsWork (shown l.state) first l.work.members;
   paid : (first : ℕ → ℕ) → IsWork (shown l.state) first l.initial.work.members → StayPaid (shown l.state) first l.initial.work.members l.work.members l.initial.steps l.steps;
   limit : l.work.limit ≡ l.initial.work.limit;
+  later : l.initial.steps ≤ l.steps;
 }
 
 abbrev pub decreases-loop-n : goal.decreases-loop-n

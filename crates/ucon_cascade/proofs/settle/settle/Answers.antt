@@ -74,6 +74,7 @@ turns-preserved c =
       fewer = λ k up_to n goes. c.turns.invariant.fewer k up_to n (c.in_ok-revoke_next-in-Some.ensures.fewer n goes);
       limit = c.in_ok-revoke_next-in-Some.ensures.limit ∙ (c.next_failing.ensures.limit ∙ c.turns.invariant.limit);
       base = base_on s s1 s2 c.turns.invariant.base c.in_ok-revoke_next-in-Some.ensures.base;
+      later = omega (arith, c.turns.invariant.later, c.next_failing.ensures.later);
     }
 
 pub returns-clause-leads : goal.returns-clause-leads

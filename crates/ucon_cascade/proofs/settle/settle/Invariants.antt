@@ -1,4 +1,4 @@
-use Rattle.std.proofs.Common.{◌≡◌, ℕ, ℤ, List}
+use Rattle.std.proofs.Common.{◌≡◌, ◌≤◌, ℕ, ℤ, List}
 use Rattle.std.specs.Prelude.{Option}
 use Rattle.ucon_model.specs.Plain.{PlainPolicy}
 use Rattle.ucon_model.specs.Action.{Trace}
@@ -28,4 +28,5 @@ invariant-turns l = record {
   fewer : FewerGoOn (shown l.fn.state) (shown l.state);
   limit : l.work.limit ≡ l.fn.work.limit;
   base : KeepsBase (shown l.fn.state) (shown l.state);
+  later : l.fn.steps ≤ l.steps;
 }

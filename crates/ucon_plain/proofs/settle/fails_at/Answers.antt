@@ -9,8 +9,8 @@ use Rattle.ucon_plain.proofs.settle.fails_at.Goals as goal
 pub failing-requires-clause-no_set : goal.failing-requires-clause-no_set
 failing-requires-clause-no_set c = no_sets_there c.typed_tests_make_no_set.ensures.all c.tables_keep_what_is_followed.ensures (shown c.args.state.now) c.requires.policy c.requires.trace c.requires.follows c.args.n
 
-pub returns : goal.returns
-returns c = λ P T h.
+pub returns-clause-label : goal.returns-clause-label
+returns-clause-label c = λ P T h.
     let s = shown c.args.state.now in
     let told = told_is_there (session_in s.tables c.args.n) c.in_ok-session_state.field-0 (sym c.in_ok-session_state.ensures.tables) in
     let going : is_accessing_state c.in_ok-session_state.field-0 ≡ true = search rules in

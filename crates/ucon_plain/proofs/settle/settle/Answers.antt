@@ -28,14 +28,14 @@ least_failing-requires c =
 pub returns-in-None-clause-leads : goal.returns-in-None-clause-leads
 returns-in-None-clause-leads c = λ P T h.
     let none : least_failing P (settled_to c.turns.counter P T) ≡ None =
-    c.least_failing.ensures P (settled_to c.turns.counter P T) (c.turns.invariant.leads P T h) ∙ c.in-None.is in
+    c.least_failing.ensures.least P (settled_to c.turns.counter P T) (c.turns.invariant.leads P T h) ∙ c.in-None.is in
     let le : c.turns.counter ≤ accessing T = omega (arith, c.turns-test.true, c.accessing-turns.ensures.trace P T h) in
     subst (λ (actions : List Action). Follows (shown c.turns.state) P (extended T actions)) (sym (c.turns_follow_each_other.ensures.done c.turns.counter (accessing T) P T le none)) (c.turns.invariant.leads P T h)
 
 pub returns-in-None-clause-revoked : goal.returns-in-None-clause-revoked
 returns-in-None-clause-revoked c = λ P T h.
     let none : least_failing P (settled_to c.turns.counter P T) ≡ None =
-    c.least_failing.ensures P (settled_to c.turns.counter P T) (c.turns.invariant.leads P T h) ∙ c.in-None.is in
+    c.least_failing.ensures.least P (settled_to c.turns.counter P T) (c.turns.invariant.leads P T h) ∙ c.in-None.is in
     let le : c.turns.counter ≤ accessing T = omega (arith, c.turns-test.true, c.accessing-turns.ensures.trace P T h) in
     c.turns.invariant.revoked P T h ∙ ap revoked_in (sym (c.turns_follow_each_other.ensures.done c.turns.counter (accessing T) P T le none))
 
@@ -51,7 +51,7 @@ turns-preserved c =
     let s2 = shown c.revoke_next.new.state in
     let i = c.turns.counter in
     let found = c.in-Some.found in
-    let least = λ (P : PlainPolicy) (T : Trace) (h : Follows s P T). c.least_failing.ensures P (settled_to i P T) (c.turns.invariant.leads P T h) ∙ c.in-Some.is in
+    let least = λ (P : PlainPolicy) (T : Trace) (h : Follows s P T). c.least_failing.ensures.least P (settled_to i P T) (c.turns.invariant.leads P T h) ∙ c.in-Some.is in
     record {
       leads = λ P T h.
           subst (λ (U : Trace). Follows s2 P U) (sym (c.turns_follow_each_other.ensures.trace i P T (found.0, found.1) (least P T h)))
@@ -61,6 +61,7 @@ turns-preserved c =
           (ap (λ (rs : List Revoked). rs ++ record { session = found.0; label = found.1 } ∷ []) (c.turns.invariant.revoked P T h)
           ∙ sym (c.turns_follow_each_other.ensures.revokes i P T (found.0, found.1) (least P T h)));
       base = base_on s (shown c.turns.state) s2 c.turns.invariant.base c.in_ok-revoke_next-in-Some.ensures.base;
+      later = omega (arith, c.turns.invariant.later, c.least_failing.ensures.later);
     }
 
 pub returns-clause-leads : goal.returns-clause-leads

@@ -1,4 +1,4 @@
-use Rattle.std.proofs.Common.{◌≡◌}
+use Rattle.std.proofs.Common.{◌≡◌, ◌≤◌}
 use Rattle.ucon_model.specs.Plain.{PlainPolicy}
 use Rattle.ucon_model.specs.Action.{Trace}
 use Rattle.ucon_model.specs.Settle.{settle_within, settled_to, revoked_in}
@@ -13,4 +13,5 @@ invariant-turns l = record {
   leads : Leads (shown l.fn.state) (shown l.state) (settled_to l.counter);
   revoked : (P : PlainPolicy) (T : Trace) → Follows (shown l.fn.state) P T → l.revoked.items ≡ revoked_in (settle_within l.counter P T);
   base : KeepsBase (shown l.fn.state) (shown l.state);
+  later : l.fn.steps ≤ l.steps;
 }
