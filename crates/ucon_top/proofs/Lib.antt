@@ -1,6 +1,7 @@
 pub mod Reading
 pub mod Answering
 pub mod Behind
+pub mod Checked
 pub mod Forms
 pub mod Closing
 pub mod Completing

@@ -117,6 +117,7 @@ module _ (bytes : Bytes) (old new : DiskSeen) where
     as_it_was = t.as_it_was;
     at_rest = t.at_rest;
     images_kept = t.images_kept;
+    still = t.still;
   }
   tells_so forms.Report so more then t = record {
     policy = t.policy;
@@ -125,6 +126,7 @@ module _ (bytes : Bytes) (old new : DiskSeen) where
     as_it_was = t.as_it_was;
     at_rest = t.at_rest;
     images_kept = t.images_kept;
+    still = t.still;
   }
   tells_so form so more then t = absurd t
 

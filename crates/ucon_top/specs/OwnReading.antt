@@ -18,7 +18,7 @@ use Rattle.ucon_top.specs.Own.{IsOwnFileBy, IsOwnStateBy}
 use Rattle.ucon_top.specs.Played.{HasPlayedBy, HasPlayedInputBy, HasRunBy, IsFoundSinceBy, IsPlayedBy, IsRunOverBy, IsUnopenedBy}
 use Rattle.ucon_top.specs.Pointed.{HasNoPointBy, HasPointBy, HasPointedBy, HasPointedInputBy, IsPointOverBy, IsStillFoundBy, MayHavePointBy}
 use Rattle.ucon_store.specs.declared.fault.StoreFault.{StoreFault}
-use Rattle.ucon_top.specs.Telling.{HasToldBy, HasToldInputBy, IsCheckedStateBy, IsOpenedStateBy, IsUncheckedBy, TellsBy, TellsNothingBy}
+use Rattle.ucon_top.specs.Telling.{ChecksBy, HasToldBy, HasToldInputBy, IsCheckedStateBy, IsOpenedStateBy, IsUncheckedBy, TellsBy, TellsNothingBy}
 use Rattle.ucon_top.specs.Printed.{IsCutOutputOfBy, IsOutputOfBy}
 use Rattle.ucon_top.specs.Seen.{Seen}
 use Rattle.ucon_top.specs.declared.form.Form.{Form}
@@ -93,6 +93,9 @@ IsOpenedState = IsOpenedStateBy accepted
 
 abbrev pub IsCheckedState : Bytes → DiskSeen → DiskSeen → (PlainPolicy → History → Bytes → Type 0) → Type 0
 IsCheckedState = IsCheckedStateBy accepted
+
+abbrev pub Checks : (text file c : Bytes) → Type 0
+Checks = ChecksBy accepted
 
 abbrev pub IsUnchecked : StoreFault → Bytes → DiskSeen → DiskSeen → Type 0
 IsUnchecked = IsUncheckedBy accepted

@@ -1,5 +1,5 @@
 -- What a form that runs no line tells of a journal, and what it leaves on the disk.
-use Rattle.std.specs.Prelude.{◌≡◌, ◌⊎◌, ℕ, length, Option, Some, IfSome, option_map}
+use Rattle.std.specs.Prelude.{◌≡◌, ◌≢◌, ◌⊎◌, ℕ, length, Option, Some, IfSome, option_map}
 use Rattle.std.specs.Io.KnownBytes.{Appends}
 use Rattle.ucon_audit.specs.Audited.{IsPrintedBy, audit_spelling}
 use Rattle.ucon_audit.specs.Refusing.{IsRefusedBy}
@@ -47,7 +47,8 @@ pub record IsOpenedStateBy (reads : PolicyReading) (bytes : Bytes) (old new : Di
       → (length opening ≡ entries) × IsStillFoundBy reads (policy_part bytes) file opening old new HasItsPoints × so policy (trace policy opening)
 
 -- The bytes are those of a document whose policy is accepted. Where the disk told its file, that is found as a history under that policy, and of both
--- this is so. The file is as it was, and a crash leaves nothing else; one of at most nine bytes is a journal without a record.
+-- this is so. The file is as it was, and a crash leaves nothing else; one of at most nine bytes is a journal without a record. So the file is still
+-- found as the history, with its checkpoints where they were.
 pub record IsCheckedStateBy (reads : PolicyReading) (bytes : Bytes) (old new : DiskSeen) (so : PlainPolicy → History → Bytes → Type 0) : Type 0 where
   pub policy : PlainPolicy
   pub has_policy : HasPolicy bytes policy
@@ -55,11 +56,21 @@ pub record IsCheckedStateBy (reads : PolicyReading) (bytes : Bytes) (old new : D
   pub as_it_was : new.contents ≡ option_map opened old.contents
   pub at_rest : Only new.contents new.images
   pub images_kept : LeavesAfter old new Untouched
+  pub still : (file : Bytes) (opening : History) → old.contents ≡ Some file → IsFoundBy reads (policy_part bytes) file opening
+      → IsStillFoundBy reads (policy_part bytes) file opening old new HasItsPoints
 
--- a full check refuses the journal for this reason, and a crash of a disk at rest leaves what was there before
+-- What a full check under the policy of this text may make of a file: what was found is still found. Where nothing was, the file is as it was.
+pub record ChecksBy (reads : PolicyReading) (text file c : Bytes) : Type 0 where
+  pub same : (H : History) → IsFoundBy reads text file H → IsFoundBy reads text c H
+  pub untouched : ((H : History) → IsFoundBy reads text file H → ⊥) → c ≡ file
+
+-- A full check refuses the journal for this reason. But for a disk fault the file is as it was, where the disk told it; and a crash of a disk at rest
+-- leaves what was there before, in which the same is found.
 pub record IsUncheckedBy (reads : PolicyReading) (fault : StoreFault) (text : Bytes) (old new : DiskSeen) : Type 0 where
   pub reason : IsRefusedBy reads fault text old.contents old.faults new.faults
+  pub as_it_was : fault ≢ stores.DiskFault → IfSome old.contents (λ file. new.contents ≡ Some (opened file))
   pub images_kept : LeavesAfter old new Untouched
+  pub still : LeavesAfter old new (ChecksBy reads text)
 
 -- ---- by the form
 
