@@ -124,7 +124,7 @@ module _ {D : Type 0} (seen : D → DiskSeen) (only : (d : D) (c : List ℕ) →
 
   module _ (P : PlainPolicy) (G : History) where
     said_along : (first last : Kept D) (xs : List (Exchange (Kept D))) → accepted first.policy ≡ Some P → IsFront P first G → Answered' first xs last
-        → AnswersEach 65546 (GivesReplyBy accepted P) IsTooLong (standing G first) (shown G xs) (standing G last)
+        → AnswersEach 65546 (GivesReplyBy accepted P first.policy) IsTooLong (standing G first) (shown G xs) (standing G last)
     said_along first last [] accepts front run = ap (standing G) run
     said_along first last (x ∷ xs) accepts front run =
         let s = (keeps_one first x run.0).stays in (
@@ -134,7 +134,8 @@ module _ {D : Type 0} (seen : D → DiskSeen) (only : (d : D) (c : List ℕ) →
             answer = λ lt. (run.0.answer lt).said P G accepts front;
             refusal = λ le. (ap (standing G) (run.0.refusal le).0, (run.0.refusal le).1);
           },
-          said_along x.after last xs (ap accepted s.policy ∙ accepts) (front_same P first x.after G s.policy s.point s.before front) run.1,
+          subst (λ (text : Bytes). AnswersEach 65546 (GivesReplyBy accepted P text) IsTooLong (standing G x.after) (shown G xs) (standing G last)) s.policy
+              (said_along x.after last xs (ap accepted s.policy ∙ accepts) (front_same P first x.after G s.policy s.point s.before front) run.1),
         )
 
     module _ (first last : Kept D) (keeps : Keeps seen first last) (v0 v1 v2 : VoiceSeen) (steps : ℕ) (count : steps ≡ length (G ++ first.entries)) where
@@ -210,7 +211,7 @@ module _ {D : Type 0} (seen : D → DiskSeen) (only : (d : D) (c : List ℕ) →
         pub conversed : (r : Result (Unit {0}) TalkFault) → HasGreeted (Ok tt) steps (moment_of (seen first.disk)) v0 v1
             → HasTalked (kept_seen seen) (Keeps seen) (GivesReply seen) Refuses 65546 r first last v1 v2 hears → Conversed r
         conversed r greeted h =
-            let lead = exchanges_lead accepted P 65546 (long_lines_ask_nothing accepted) (standing G first) (standing G h.reached) (shown G h.exchanges) unmarked
+            let lead = exchanges_lead accepted P first.policy 65546 (long_lines_ask_nothing accepted) (standing G first) (standing G h.reached) (shown G h.exchanges) unmarked
             (said_along first h.reached h.exchanges accepts front h.answered) in
             let wrote : Appends v0.contents v1.contents ready = subst (λ (n : ℕ). Appends v0.contents v1.contents (ready_line n)) count greeted.0 in
             record {

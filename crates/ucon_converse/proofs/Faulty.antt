@@ -16,6 +16,7 @@ use Rattle.ucon_model.specs.CommandLine.{LineRefusal, line_read, line_too_long, 
 use Rattle.ucon_model.specs.LegalRun.{Answered}
 use Rattle.ucon_model.specs.Plain.{Bytes, PlainPolicy}
 use Rattle.ucon_syntax.specs.Policies.{accepted}
+use Rattle.ucon_converse.specs.Readings.{IsNoReading}
 use Rattle.ucon_converse.specs.Replies.{GivesReplyBy, IsStep, Standing, client_line, refusal_line, unheard}
 use Rattle.ucon_converse.specs.Requests.{refusal_words}
 use Rattle.ucon_converse.specs.Said.{fault_line, line_told, unheard_so}
@@ -41,9 +42,9 @@ unheard_step : (P : PlainPolicy) (history : List Entry) (failed : Option Entry) 
 unheard_step P history None e = inl (refl, inl (tt, (refl, refl)))
 unheard_step P history (Some f) e = inr (refl, refl, refl)
 
-module _ (line : Bytes) (P : PlainPolicy) (before : Standing) (stopped : Bool) (is : is_some before.failed ≡ stopped) where
+module _ (line : Bytes) (P : PlainPolicy) (policy : Bytes) (before : Standing) (stopped : Bool) (is : is_some before.failed ≡ stopped) (unread : IsNoReading line) where
   abbrev Gives : Bytes → Type 0
-  Gives reply = GivesReplyBy accepted P before before line reply
+  Gives reply = GivesReplyBy accepted P policy before before line reply
 
   -- its text is no command, for this reason
   refused_for : (whose : Caller) (text : Bytes) (refusal : LineRefusal) → IsAskedBy line whose text → line_read accepted text ≡ Err refusal
@@ -52,6 +53,7 @@ module _ (line : Bytes) (P : PlainPolicy) (before : Standing) (stopped : Bool) (
     none = λ e q.
         let same : q.text ≡ text = one_text line whose e.caller text q.text (one e.caller q.text q.by) by q.by in
         said_otherwise (line_read accepted text) e.command refusal (sym (ap (line_read accepted) same) ∙ q.says) refused;
+    unread = unread;
     words = refusal_words refusal;
     why = inr (record { caller = whose; text = text; by = by; refusal = refusal; refused = refused; words_are = refl });
     reply_is = refl;
@@ -80,7 +82,7 @@ module _ (line : Bytes) (P : PlainPolicy) (before : Standing) (stopped : Bool) (
             step = unheard_step P before.history before.failed e;
             reply_is = told_is;
           })
-      by_said (Err refusal) refused = inr (inr (record {
+      by_said (Err refusal) refused = inr (inr (inl (record {
         none = λ e q.
             let same : q.text ≡ text = one_text line whose e.caller text q.text (one e.caller q.text q.by) by q.by in
             said_otherwise (line_read accepted text) e.command refusal (sym (ap (line_read accepted) same) ∙ q.says) refused;
@@ -90,7 +92,7 @@ module _ (line : Bytes) (P : PlainPolicy) (before : Standing) (stopped : Bool) (
         amending = not_sure (amends text) refl refusal refused;
         reply_is = told_is;
         same = refl;
-      }))
+      })))
 
   by_fault : (whose : Caller) (text : Bytes) (fault : LineFault) → IsAskedBy line whose text → ((caller : Caller) (other : Bytes) → IsAskedBy line caller other → whose ≡ caller)
       → IsRefusedTo whose text (BadCommand whose fault) → Gives (line_told stopped whose fault)
@@ -106,6 +108,7 @@ module _ (line : Bytes) (P : PlainPolicy) (before : Standing) (stopped : Bool) (
       → Gives (fault_line fault stopped)
   fault_told BadClient of to = inr (inl (record {
     none = λ e q. to e.caller q.text q.by;
+    unread = unread;
     words = codes "bad client";
     why = inl (record { nobody = to; words_are = refl });
     reply_is = refl;

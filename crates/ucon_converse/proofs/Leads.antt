@@ -12,31 +12,33 @@ use Rattle.ucon_store.specs.Points.{PolicyReading}
 use Rattle.ucon_tell.specs.Talk.{AnswersEach, Exchange, IsAnswered}
 use Rattle.ucon_converse.specs.Replies.{AreAnswersBy, GivesReplyBy, IsAskedAndAnswered, IsTooLong, Standing}
 use Rattle.ucon_converse.specs.Requests.{IsNoRequestBy}
+use Rattle.ucon_converse.proofs.Unasked.{no_request}
 
 pub short_or_long : (n m : ℕ) → (n < m) ⊎ (m ≤ n)
 short_or_long n m = elim (leb_tells m n) [ inl less ↦ inr less.1 | inr more ↦ inl more.1 ]
 
-module _ (reads : PolicyReading) (P : PlainPolicy) (limit : ℕ)
+module _ (reads : PolicyReading) (P : PlainPolicy) (text : Bytes) (limit : ℕ)
     -- a line that is too long is no request
     (long : (line : Bytes) → limit ≤ length line → IsNoRequestBy reads line) where
   abbrev pub Each' : Standing → List (Exchange Standing) → Standing → Type 0
-  Each' first xs last = AnswersEach limit (GivesReplyBy reads P) IsTooLong first xs last
+  Each' first xs last = AnswersEach limit (GivesReplyBy reads P text) IsTooLong first xs last
 
   -- one line was no request and changed nothing, or it was answered
   data OneOf (before : Standing) (x : Exchange Standing) : Type 0 where
     nothing_asked : IsNoRequestBy reads x.line → x.after ≡ before → OneOf before x
     asked : IsAskedAndAnswered reads P before x.after x.line x.reply → OneOf before x
 
-  one_of : (before : Standing) (x : Exchange Standing) → IsAnswered limit (GivesReplyBy reads P) IsTooLong before x → OneOf before x
+  one_of : (before : Standing) (x : Exchange Standing) → IsAnswered limit (GivesReplyBy reads P text) IsTooLong before x → OneOf before x
   one_of before x a = ⊎_elim
       (λ (lt : length x.line < limit). by (a.answer lt))
       (λ (le : limit ≤ length x.line). nothing_asked (long x.line le) (a.refusal le).0)
       (short_or_long (length x.line) limit)
     where
-      by : GivesReplyBy reads P before x.after x.line x.reply → OneOf before x
+      by : GivesReplyBy reads P text before x.after x.line x.reply → OneOf before x
       by (inl is) = asked is
       by (inr (inl is)) = nothing_asked is.none is.same
-      by (inr (inr is)) = nothing_asked is.none is.same
+      by (inr (inr (inl is))) = nothing_asked is.none is.same
+      by (inr (inr (inr is))) = nothing_asked (λ e q. no_request x.line is.reading e.caller q.text is.asks q.by) is.same
 
   -- the answers to the requests, from the first standing to the last, of which this is so
   pub record Run (first last : Standing) (xs : List (Exchange Standing)) (so : List Answered → Type 0) : Type 0 where

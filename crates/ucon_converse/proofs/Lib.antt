@@ -1,3 +1,4 @@
+pub mod Bare
 pub mod Behind
 pub mod Conversing
 pub mod Ended
@@ -6,4 +7,8 @@ pub mod Leads
 pub mod Long
 pub mod OneLine
 pub mod PolicyLines
+pub mod ReadingBack
+pub mod Records
 pub mod Stepping
+pub mod Tellings
+pub mod Unasked

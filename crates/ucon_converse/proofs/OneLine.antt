@@ -26,7 +26,7 @@ bare_of (b ∷ text) lacks =
     ap (λ (is : Bool). cond (not is) (1 + newline text) 0) lacks.0 ∙ more
 
 -- a text that a test finds to lack a newline lacks it
-all_lack : (text : Bytes) → list_all (λ b. not (b == 10)) text ≡ true → Lacks 10 text
+pub all_lack : (text : Bytes) → list_all (λ b. not (b == 10)) text ≡ true → Lacks 10 text
 all_lack [] all = tt
 all_lack (b ∷ text) all = by (all_lack text) (b == 10) refl
   where

@@ -49,13 +49,14 @@ pub record IsToldOnceKeptBy (reads : PolicyReading) (text : Bytes) (disk : DiskS
   pub kept : (c : Bytes) → disk.images_since t c → IsFoundPastBy reads text (behind opening by_then).history c
 
 -- Lines, of which this is so, were answered one by one, each by one line, from an opening standing on. The answers to the requests among them are a legal
--- run in text order behind the opening history, which made the history that was reached. And where the disk tells, whatever was told since was told once kept.
+-- run in text order behind the opening history, which made the history that was reached. A reading takes no part in it, and is told of the history at its
+-- place. And where the disk tells, whatever was told since was told once kept.
 pub record HasConversedBy (reads : PolicyReading) (P : PlainPolicy) (text : Bytes) (limit : ℕ) (result : Result (Unit {0}) TalkFault) (opening last : Standing)
     (before now : VoiceSeen) (disk : DiskSeen) (tells : Type 0) (hears : Bytes → Type 0) : Type 0 where
   pub exchanges : List (Exchange Standing)
   pub heard : hears (lines_in exchanges)
   pub reached : Standing
-  pub answered : AnswersEach limit (GivesReplyBy reads P) IsTooLong opening exchanges reached
+  pub answered : AnswersEach limit (GivesReplyBy reads P text) IsTooLong opening exchanges reached
   pub ends : ends_at result reached last
   pub output : goes_out result before.contents now.contents (ready_line (length opening.history)) (replies_in exchanges)
   -- the run

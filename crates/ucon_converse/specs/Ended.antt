@@ -1,14 +1,17 @@
 -- How a whole conversation ends: the journal isn't opened, or lines were answered over it.
-use Rattle.std.specs.Prelude.{◌≡◌, ◌⊎◌, ⊤, ℕ, Bool, true, false, [], ◌∷◌, ◌++◌, Option, Some, None, is_some, IsSome, Result, Ok, Err}
+use Rattle.std.specs.Prelude.{◌≡◌, ◌⊎◌, ⊤, ℕ, ◌<◌, Bool, true, false, List, [], ◌∷◌, ◌++◌, length, Option, IfSome, Some, None, is_some, IsSome, Result, Ok, Err}
 use Rattle.ucon_disk.specs.Causes.{raised}
 use Rattle.ucon_disk.specs.Run.{IsAtRest, LeavesAfter, LeavesOnly}
 use Rattle.ucon_disk.specs.Seen.{DiskSeen}
+use Rattle.ucon_journal.specs.Found.{counted}
 use Rattle.ucon_model.specs.declared.command.Entry.{Entry}
 use Rattle.ucon_model.specs.History.{History}
 use Rattle.ucon_model.specs.Plain.{Bytes, PlainPolicy}
 use Rattle.ucon_outcome.specs.declared.outcome.Outcome.{Outcome}
 use Rattle.ucon_outcome.specs.declared.outcome.Outcome.TheVariants as outcomes
 use Rattle.ucon_outcome.specs.declared.outcome.PolicyFault.{PolicyFault}
+use Rattle.ucon_outcome.specs.declared.outcome.Refused.{Refused}
+use Rattle.ucon_outcome.specs.declared.outcome.Refused.TheVariants as refusals
 use Rattle.ucon_outcome.specs.Ending.{by_opening}
 use Rattle.ucon_store.specs.declared.fault.StoreFault.{StoreFault}
 use Rattle.ucon_store.specs.Found.{IsFoundBy, IsFoundWithBy}
@@ -131,10 +134,58 @@ HasNoPolicy outcomes.TooLong left_before left = ⊤
 HasNoPolicy (outcomes.NoMemory e) left_before left = ⊤
 HasNoPolicy outcome left_before left = ⊥
 
--- why the policy of a journal isn't had
-abbrev pub IsOfRecord : Outcome → Type 0
-IsOfRecord outcomes.NotJournal = ⊤
-IsOfRecord outcomes.DiskFault = ⊤
-IsOfRecord (outcomes.Damaged number place) = ⊤
-IsOfRecord (outcomes.NoMemory e) = ⊤
-IsOfRecord outcome = ⊥
+-- ---- under the policy that a journal has
+
+-- a crash leaves the file as it was
+abbrev pub LeavesSame : DiskSeen → DiskSeen → Type 0
+LeavesSame old new = LeavesAfter old new (λ file c. c ≡ file)
+
+-- the disk was read, and nothing else
+pub record IsOnlyRead (old new : DiskSeen) : Type 0 where
+  pub contents : new.contents ≡ old.contents
+  pub faults : new.faults ≡ old.faults
+  pub images_kept : LeavesSame old new
+
+-- the first record that counts in a file has this payload
+abbrev pub HasFirst : Bytes → Bytes → Type 0
+HasFirst text file = (others : List Bytes) × (counted file ≡ text ∷ others)
+
+-- it has more bytes than a record may have, or is refused as a policy
+abbrev pub IsNoPolicy : Bytes → Type 0
+IsNoPolicy text = (16777215 < length text) ⊎ ((f : PolicyFault) × IsPolicyFaultOf f text)
+
+abbrev pub HasBadFirst : Bytes → Type 0
+HasBadFirst file = (text : Bytes) × HasFirst text file × IsNoPolicy text
+
+-- Why the policy of a journal isn't had. Where the disk tells, the reason is in its file: no record counts in it, as in one that is no journal, or its first
+-- record is wrong. At a disk fault the disk's count of faults is one more, and else it is as it was.
+abbrev pub IsOfRecord : Outcome → Option Bytes → (before now : ℕ) → Type 0
+IsOfRecord outcomes.NotJournal file before now = IfSome file (λ bytes. counted bytes ≡ []) × (now ≡ before)
+IsOfRecord outcomes.DiskFault file before now = now ≡ raised before
+IsOfRecord (outcomes.Damaged number place) file before now = (number ≡ 0) × (place ≡ 8) × IfSome file HasBadFirst × (now ≡ before)
+IsOfRecord (outcomes.NoMemory e) file before now = now ≡ before
+IsOfRecord outcome file before now = ⊥
+
+-- how it ends where the payload is refused so
+abbrev pub record_refused : Refused → Outcome
+record_refused (refusals.Policy f) = outcomes.Damaged 0 8
+record_refused (refusals.Script f) = outcomes.Damaged 0 8
+record_refused (refusals.NoMemory e) = outcomes.NoMemory e
+
+-- it isn't had for this reason; then nothing is written, told or read of the input
+pub record HasNoRecord (outcome : Outcome) (old new : DiskSeen) (before now : VoiceSeen) (left_before left : Option Bytes) : Type 0 where
+  pub reason : IsOfRecord outcome old.contents old.faults new.faults
+  pub images_kept : LeavesSame old new
+  pub contents : now.contents ≡ before.contents
+  pub silent : (b : Bytes) (t : ℕ) → now.told b t → before.told b t
+  pub unread : left ≡ left_before
+
+-- The policy's text is the payload of the journal's first record, where the disk tells. It was read off, and the conversation under it ended so.
+pub record EndsUnderRecordBy {D : Type 0} (seen : D → DiskSeen) (reads : PolicyReading) (outcome : Outcome) (disk there : D) (before now : VoiceSeen)
+    (left_before left : Option Bytes) : Type 0 where
+  pub text : Bytes
+  pub first : IfSome (seen disk).contents (HasFirst text)
+  pub between : D
+  pub only_read : IsOnlyRead (seen disk) (seen between)
+  pub held_after : Bytes
+  pub ends : EndsUnderBy reads text outcome (seen between) (seen there) before now (λ r heard. Hears r [] held_after left_before left heard)

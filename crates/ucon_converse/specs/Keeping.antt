@@ -46,7 +46,7 @@ pub record Keeps {D : Type 0} (seen : D → DiskSeen) (x y : Kept D) : Type 0 wh
 -- from one store to the next a line was given this reply, behind each history that leads to where the first one begins
 pub record GivesReply {D : Type 0} (seen : D → DiskSeen) (x y : Kept D) (line reply : Bytes) : Type 0 where
   pub keeps : Keeps seen x y
-  pub said : (P : PlainPolicy) (G : History) → accepted x.policy ≡ Some P → IsFront P x G → GivesReplyBy accepted P (standing G x) (standing G y) line reply
+  pub said : (P : PlainPolicy) (G : History) → accepted x.policy ≡ Some P → IsFront P x G → GivesReplyBy accepted P x.policy (standing G x) (standing G y) line reply
 
 -- a line that is too long is told so, whatever the store
 abbrev pub Refuses : {D : Type 0} → Kept D → Bytes → Type 0

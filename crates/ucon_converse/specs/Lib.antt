@@ -5,6 +5,8 @@ pub mod Holding
 pub mod Keeping
 pub mod PolicyFaults
 pub mod PolicyPart
+pub mod ReadingLines
+pub mod Readings
 pub mod Replies
 pub mod Requests
 pub mod Said

@@ -12,6 +12,8 @@ use Rattle.ucon_model.specs.Plain.{Bytes, PlainPolicy}
 use Rattle.ucon_model.specs.StoredRun.{LeadsTo}
 use Rattle.ucon_store.specs.Points.{PolicyReading}
 use Rattle.ucon_tell.specs.Talk.{Exchange}
+use Rattle.ucon_converse.specs.declared.reading.Reading.{Reading}
+use Rattle.ucon_converse.specs.Readings.{IsNoReading, IsReadingOf, line_told}
 use Rattle.ucon_converse.specs.Requests.{IsNoRequestBy, IsRequestBy, TellsWhyBy}
 
 -- what a store stands for at one moment: the whole history, and the entry of the step that met a disk fault, if one did
@@ -54,9 +56,10 @@ pub record IsAskedAndAnswered (reads : PolicyReading) (P : PlainPolicy) (before 
   pub step : IsStep P before after told
   pub reply_is : reply ≡ answer_line told
 
--- it is none, and that was told
+-- it is none, and no reading, and that was told
 pub record IsRefused (reads : PolicyReading) (before after : Standing) (line reply : Bytes) : Type 0 where
   pub none : IsNoRequestBy reads line
+  pub unread : IsNoReading line
   pub words : Bytes
   pub why : TellsWhyBy reads line words
   pub reply_is : reply ≡ refusal_line words
@@ -72,10 +75,23 @@ pub record IsUnjudged (reads : PolicyReading) (before after : Standing) (line re
   pub reply_is : reply ≡ client_line caller (unheard before.failed)
   pub same : after ≡ before
 
--- a line was given this reply, which led from here to there
-abbrev pub GivesReplyBy : PolicyReading → PlainPolicy → Standing → Standing → Bytes → Bytes → Type 0
-GivesReplyBy reads P before after line reply =
+-- a reading is told so; or there was no memory for what is told; and behind a disk fault none is told
+abbrev pub IsToldSo : Option Entry → Bytes → Bytes → Type 0
+IsToldSo None told reply = (reply ≡ told) ⊎ (reply ≡ refusal_line (codes "no memory"))
+IsToldSo (Some failed) told reply = reply ≡ refusal_line (codes "stopped")
+
+-- it is a reading, and was told of the history that is there, which began under a policy of this text
+pub record IsRead (P : PlainPolicy) (text : Bytes) (before after : Standing) (line reply : Bytes) : Type 0 where
+  pub reading : Reading
+  pub asks : IsReadingOf line reading
+  pub told : IsToldSo before.failed (line_told P text before.history reading) reply
+  pub same : after ≡ before
+
+-- a line was given this reply, which led from here to there, behind a history that began under a policy of this text
+abbrev pub GivesReplyBy : PolicyReading → PlainPolicy → Bytes → Standing → Standing → Bytes → Bytes → Type 0
+GivesReplyBy reads P text before after line reply =
     IsAskedAndAnswered reads P before after line reply ⊎ IsRefused reads before after line reply ⊎ IsUnjudged reads before after line reply
+    ⊎ IsRead P text before after line reply
 
 -- a line that is too long was given this reply
 abbrev pub IsTooLong : Standing → Bytes → Type 0

@@ -3,8 +3,9 @@
 ghost use Rattle.std.specs.Prelude.{◌≡◌, ◌+◌, length};
 ghost use Rattle.ucon_converse.specs.Keeping.{IsLed};
 
-use crate::lines::{put_answer, put_fault, put_refusal};
+use crate::lines::{put_answer, put_refusal};
 use crate::requests::take;
+use crate::telling::answer_unasked;
 use std::alloc::Global;
 use std::marker::Model;
 use ucon_base::NoMemory;
@@ -85,7 +86,7 @@ impl<E: Engine, D: Disk> Keeper for StoreKeeper<E, D> {
                 let said = take(alloc, &mut self.store, &request);
                 put_answer(alloc, text, request.caller, &said)
             }
-            Err(fault) => put_fault(text, fault, self.store.failed().is_some()),
+            Err(fault) => answer_unasked(alloc, &self.store, line, fault, text),
         }
     }
 

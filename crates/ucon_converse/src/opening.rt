@@ -5,7 +5,7 @@ ghost use Rattle.ucon_converse.specs.Keeping.{IsLed};
 ghost use Rattle.ucon_syntax.specs.Policies.{accepted};
 ghost use Rattle.ucon_outcome.specs.Ending.{IsCounted, status_of};
 ghost use Rattle.ucon_tell.specs.Heard.{Hears};
-ghost use Rattle.ucon_converse.specs.Ended.{EndsBehindPolicyBy, EndsUnderBy, HasNoPolicy, IsTalkedOver, IsUntouched, ended_so};
+ghost use Rattle.ucon_converse.specs.Ended.{EndsBehindPolicyBy, EndsUnderBy, EndsUnderRecordBy, HasNoPolicy, HasNoRecord, IsTalkedOver, IsUntouched, ended_so, record_refused};
 
 use crate::holding::{MOST_LINE, hold};
 use crate::keeper::StoreKeeper;
@@ -41,6 +41,9 @@ pub fn converse<E: Engine, S: Source, D: Disk, V: Voice<StoreKeeper<E, D>>>(
     ensures under_input { from ≡ PolicyFrom.Input
         → (HasNoPolicy result.outcome (S.seen input.old).left (S.seen input.new).left × IsUntouched disk result.disk (V.seen out.old) (V.seen out.new))
         ⊎ EndsBehindPolicyBy accepted result.outcome (D.seen disk) (D.seen result.disk) (V.seen out.old) (V.seen out.new) (S.seen input.old).left (S.seen input.new).left }
+    ensures under_journal { from ≡ PolicyFrom.Journal
+        → HasNoRecord result.outcome (D.seen disk) (D.seen result.disk) (V.seen out.old) (V.seen out.new) (S.seen input.old).left (S.seen input.new).left
+        ⊎ EndsUnderRecordBy D.seen accepted result.outcome disk result.disk (V.seen out.old) (V.seen out.new) (S.seen input.old).left (S.seen input.new).left }
     ensures source { IsCounted result.outcome Outcome.SourceFault (S.seen input.old).faults (S.seen input.new).faults }
     ensures sink { IsCounted result.outcome Outcome.SinkFault (V.seen out.old).faults (V.seen out.new).faults }
 {
@@ -82,6 +85,8 @@ fn converse_under_record<E: Engine, S: Source, D: Disk, V: Voice<StoreKeeper<E, 
     disk: D,
 ) -> Ended<D>
     ensures status { result.status ≡ status_of result.outcome }
+    ensures ends { HasNoRecord result.outcome (D.seen disk) (D.seen result.disk) (V.seen out.old) (V.seen out.new) (S.seen input.old).left (S.seen input.new).left
+        ⊎ EndsUnderRecordBy D.seen accepted result.outcome disk result.disk (V.seen out.old) (V.seen out.new) (S.seen input.old).left (S.seen input.new).left }
     ensures source { IsCounted result.outcome Outcome.SourceFault (S.seen input.old).faults (S.seen input.new).faults }
     ensures sink { IsCounted result.outcome Outcome.SinkFault (V.seen out.old).faults (V.seen out.new).faults }
 {
@@ -94,14 +99,20 @@ fn converse_under_record<E: Engine, S: Source, D: Disk, V: Voice<StoreKeeper<E, 
             let mut lines = LineReader::new(alloc, MOST_LINE);
             converse_under(alloc, &text, &mut lines, input, out, disk)
         }
-        Err(Refused::NoMemory(refused)) => Ended::by(Outcome::NoMemory(refused), disk),
-        Err(_) => Ended::by(
-            Outcome::Damaged {
-                number: 0,
-                place: FIRST_GATE,
-            },
-            disk,
-        ),
+        Err(refused) => Ended::by(refused_record(refused), disk),
+    }
+}
+
+/// How it ends where the text of record 0 is refused so.
+fn refused_record(refused: Refused) -> Outcome
+    ensures { result ≡ record_refused refused }
+{
+    match refused {
+        Refused::NoMemory(refused) => Outcome::NoMemory(refused),
+        Refused::Policy(_) | Refused::Script(_) => Outcome::Damaged {
+            number: 0,
+            place: FIRST_GATE,
+        },
     }
 }
 

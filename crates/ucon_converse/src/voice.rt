@@ -17,6 +17,12 @@ impl<W: Sink> SinkVoice<W> {
     pub fn new(sink: W) -> SinkVoice<W> {
         SinkVoice { sink }
     }
+
+    /// The sink.
+    pub fn into_sink(self) -> W {
+        let SinkVoice { sink } = self;
+        sink
+    }
 }
 
 impl<K: Keeper, W: Sink> Voice<K> for SinkVoice<W> {

@@ -7,9 +7,10 @@
 
 use std::alloc::{AllocError, Global};
 use std::env;
+use std::fs::File;
 use std::io::ErrorKind;
 use std::process::ExitCode;
-use std::rt::Env;
+use std::rt::{Env, Files};
 use ucon_base::NoMemory;
 use ucon_cascade::Monitor;
 use ucon_converse::{PolicyFrom, SinkVoice, converse};
@@ -23,6 +24,7 @@ fn main(rt: HostRuntime) -> ExitCode {
     let mut voice = SinkVoice::new(WriteSink::new(rt.stdout()));
     let mut err = WriteSink::new(rt.stderr());
     let outcome = match read_words(&rt) {
+        Ok(asked) if asked.needs_file() && is_missing(&rt, &asked.journal) => Outcome::NotJournal,
         Ok(asked) => {
             let disk = FileDisk::new(rt, asked.journal);
             converse::<Monitor, _, _, _>(alloc, asked.policy, &mut source, &mut voice, disk).outcome
@@ -38,6 +40,21 @@ struct Asked {
     /// The path of the journal.
     journal: String,
     policy: PolicyFrom,
+}
+
+impl Asked {
+    /// Whether the journal has to be there, since its policy is asked of it.
+    fn needs_file(&self) -> bool {
+        matches!(self.policy, PolicyFrom::Journal)
+    }
+}
+
+/// Whether no file is at a path. The disk's first call would make one there.
+fn is_missing<R: Files<File = File>>(rt: &R, path: &str) -> bool {
+    match File::open(rt, path) {
+        Ok(_) => false,
+        Err(e) => e.kind() == ErrorKind::NotFound,
+    }
 }
 
 /// The program's words, without its name: a path, and behind it perhaps `--journal-policy`.

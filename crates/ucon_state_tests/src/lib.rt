@@ -1,4 +1,4 @@
-//! Tests of what is judged and told of policies and states: typing, checkpoints, explanations and audits. They stand here since a crate with
+//! Tests of what is judged and told of policies and states: typing, checkpoints, explanations, audits and readings. They stand here since a crate with
 //! tests of its own is proved twice, with and without them.
 #![tactic(auto)]
 
@@ -6,6 +6,8 @@
 mod audit;
 #[cfg(test)]
 mod check;
+#[cfg(test)]
+mod conversation;
 #[cfg(test)]
 mod explain;
 #[cfg(test)]

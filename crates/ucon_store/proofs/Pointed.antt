@@ -113,7 +113,7 @@ module _ (one : OneByOne) (text : Bytes) (P : PlainPolicy) (H : History) (payloa
 
 -- ---- behind a history that a store is founded on
 
-text_append : (text : Bytes) (G H : History) → text_in_force text (G ++ H) ≡ text_in_force (text_in_force text G) H
+pub text_append : (text : Bytes) (G H : History) → text_in_force text (G ++ H) ≡ text_in_force (text_in_force text G) H
 text_append text [] H = refl
 text_append text (e ∷ G) H = text_append (text_behind text e.command) G H
 

@@ -29,6 +29,8 @@ ghost use Rattle.ucon_store.specs.Stays.{Stays};
 ghost use Rattle.ucon_store.specs.Steps.{AddsAtMost, IsPlaced, IsPlacedBehind, HasFailed, HasFailedBehind, step_payload};
 ghost use Rattle.ucon_store.specs.Whole.{GoesOnFrom, IsFounded, IsFront, trace_behind, whole};
 
+mod lending;
+
 use crate::beginning::Beginning;
 use crate::entries::Entries;
 use crate::fault::{PointRefusal, StepFault, StoreFault};

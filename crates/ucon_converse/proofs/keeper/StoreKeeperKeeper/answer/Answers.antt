@@ -1,17 +1,20 @@
 use Rattle.std.proofs.Common.{rules, ◌≡◌, ◌++◌, List, ℕ, refl, subst, inl}
-use Rattle.std.specs.Prelude.{is_some}
+use Rattle.std.specs.Prelude.{Some}
 use Rattle.ucon_flow.specs.Lines.{IsLine}
 use Rattle.ucon_model.specs.CommandLine.{line_read}
 use Rattle.ucon_model.specs.declared.command.Entry.{Entry}
+use Rattle.ucon_model.specs.History.{History}
 use Rattle.ucon_model.specs.LegalRun.{Answered}
+use Rattle.ucon_model.specs.Plain.{PlainPolicy}
 use Rattle.ucon_store.specs.Kept.{Kept}
+use Rattle.ucon_store.specs.Whole.{IsFront}
 use Rattle.ucon_syntax.specs.Policies.{accepted}
 use Rattle.ucon_converse.specs.Keeping.{GivesReply, Keeps, keeps_same, standing}
-use Rattle.ucon_converse.specs.Replies.{client_line}
-use Rattle.ucon_converse.specs.Said.{answer_said, fault_line}
-use Rattle.ucon_converse.proofs.Faulty.{fault_told}
-use Rattle.ucon_converse.proofs.OneLine.{fault_line_is, on_ok, on_ok_both}
+use Rattle.ucon_converse.specs.Replies.{GivesReplyBy, client_line}
+use Rattle.ucon_converse.specs.Said.{answer_said}
+use Rattle.ucon_converse.proofs.OneLine.{on_ok_both}
 use Rattle.ucon_converse.proofs.Stepping.{ok_is}
+use Rattle.ucon_converse.proofs.Tellings.{replied_as}
 use Rattle.ucon_converse.proofs.keeper.StoreKeeperKeeper.answer.Goals.{in-Ok+in-Made-1, in-Ok+in-Value+in-Set-1, in-Ok+in-Value+in-Int-1, in-Ok+in-Refused-1, in-Err-1}
 use Rattle.ucon_converse.proofs.keeper.StoreKeeperKeeper.answer.Goals as goal
 
@@ -62,16 +65,10 @@ returns-in-Err-clause-reply g c =
     let seen = g.D.Disk.seen in
     let was = c.args.self.now in
     let line = c.args.line.now in
-    let fault = c.in-Err.fault in
-    let stopped = c.is_some.result in
-    let inside : is_some c.self.inside.store.mark ≡ stopped = search rules in
-    let is : is_some was.mark ≡ stopped = subst (λ (s : Kept g.row.D.Denot). is_some s.mark ≡ stopped) c.self.view_is inside in
-    let reply : List ℕ = fault_line fault stopped in
-    let text = c.args.text.now.items in
-    let gives : GivesReply seen was was line reply = record {
+    let Said : Kept g.row.D.Denot → List ℕ → Type 0 = λ s reply. (P : PlainPolicy) (G : History) → accepted s.policy ≡ Some P → IsFront P s G
+    → GivesReplyBy accepted P s.policy (standing G s) (standing G s) line reply in
+    replied_as c.answer_unasked.result c.args.text.now.items c.answer_unasked.new.out.items (Said c.self.inside.store) (GivesReply seen was was line)
+    (λ reply said. record {
       keeps = keeps_same seen g.met.D.Disk.only_now was;
-      said = λ P G accepts front. fault_told line P (standing G was) stopped is fault c.in-Err.ensures.told c.in-Err.ensures.asked;
-    } in
-    on_ok c.put_fault.result (c.put_fault.new.out.items ≡ text ++ reply)
-    ((x : List ℕ) × IsLine x × GivesReply seen was was line x × (c.put_fault.new.out.items ≡ text ++ x))
-    (λ written. (reply, fault_line_is c.texts_lack_bytes.ensures.numbers line fault stopped c.in-Err.ensures.told, gives, written)) c.put_fault.ensures
+      said = subst (λ (s : Kept g.row.D.Denot). Said s reply) c.self.view_is said;
+    }) c.answer_unasked.ensures
