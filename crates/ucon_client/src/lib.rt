@@ -8,6 +8,7 @@ mod gate;
 mod laws;
 mod part;
 mod serving;
+mod shared;
 mod step;
 
 pub use answer::Answer;
@@ -17,3 +18,4 @@ pub use gate::{Gate, OpenGate};
 pub use laws::{a_seen_mark_stops, faults_are_marked};
 pub use part::Part;
 pub use serving::{serve, serve_all};
+pub use shared::Shared;

@@ -85,7 +85,7 @@ impl<E: Engine, D: Disk> Keeper for StoreKeeper<E, D> {
                 let said = take(alloc, &mut self.store, &request);
                 put_answer(alloc, text, request.caller, &said)
             }
-            Err(fault) => put_fault(text, fault, self.store.failed().is_some()),
+            Err(fault) => put_fault(text, fault, self.store.is_stopped()),
         }
     }
 

@@ -16,10 +16,9 @@ mod recording;
 mod restoring;
 mod starting;
 mod store;
-mod turned;
 
 pub use event::{Base, Event};
-pub use fault::{PointRefusal, StepFault, StoreFault};
+pub use fault::{PointFault, StepFault, StoreFault};
 pub use laws::{
     checkpoints_of_traces_are_read_back, found_histories_stand_around_their_last_checkpoint,
     journals_are_found_as_their_histories, journals_with_checkpoints_are_found,
