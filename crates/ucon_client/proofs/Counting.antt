@@ -1,6 +1,6 @@
 -- One answer more, and the parts of all clients.
 use Rattle.std.proofs.Common.{◌≡◌, ◌↔◌, ℕ, zero, suc, ◌<◌, List, [], ◌∷◌, ◌++◌, Option, Some, None, Result, Ok, Err, map, length, get_or, refl, sym, ap, ◌∙◌, subst, arith}
-use Rattle.std.specs.Prelude.{IsSome, IfOk, IsErrOf}
+use Rattle.std.specs.Prelude.{IsSome, IfOk, IsErrOf, is_some, true}
 use Rattle.ucon_base.specs.Elements.{Each}
 use Rattle.ucon_model.specs.declared.command.Entry.{Entry}
 use Rattle.ucon_model.specs.History.{History}
@@ -12,6 +12,7 @@ use Rattle.ucon_store.specs.declared.fault.StepFault.TheVariants as faults
 use Rattle.ucon_client.specs.declared.answer.Answer.{Answer}
 use Rattle.ucon_base.specs.Memory.{out_of_memory}
 use Rattle.ucon_store.specs.Kept.{Kept}
+use Rattle.ucon_store.specs.Marks.{is_marked, marked, none_marked, one_marked, same_marked}
 use Rattle.ucon_store.specs.Steps.{IsPlaced, HasFailed}
 use Rattle.ucon_store.specs.Whole.{IsFront, whole}
 use Rattle.ucon_client.specs.Answers.{entry_of, answer_of, answered_by}
@@ -20,33 +21,35 @@ use Rattle.ucon_disk.specs.Seen.{DiskSeen}
 
 -- ---- what a step answers
 
-no_mark : (mark : Option Entry) → (IsSome mark → ⊥) → mark ≡ None
+no_mark : (mark : Option History) → (IsSome mark → ⊥) → mark ≡ None
 no_mark None none = refl
-no_mark (Some e) none = absurd (none refl)
+no_mark (Some es) none = absurd (none refl)
 
--- a step's answer, from what the store says of it with a history before it
-pub answers_step : {D : Type 0} (seen : D → DiskSeen) (policy : Option PlainPolicy) (P : PlainPolicy) (H : History) → policy ≡ Some P → (old new : Kept D) → IsFront P old H → (e : Entry) (said_by : Result Placed StepFault)
+-- a step's answer, from what the store says of it with a history before it; its marks are those of steps
+pub answers_step : {D : Type 0} (seen : D → DiskSeen) (policy : Option PlainPolicy) (P : PlainPolicy) (H : History) → policy ≡ Some P → (old new : Kept D) → IsFront P old H
+    → (m n : Option Entry) → old.mark ≡ marked m → new.mark ≡ marked n → (e : Entry) (said_by : Result Placed StepFault)
     → (IsErrOf said_by faults.Stopped ↔ IsSome old.mark)
     → IfOk said_by (λ p. (Q : PlainPolicy) (G : History) → policy ≡ Some Q → IsFront Q old G → IsPlaced Q (whole G old) (whole G new) e p)
     → (IsErrOf said_by (faults.NoMemory out_of_memory) → new ≡ old)
     → (IsErrOf said_by faults.Stopped → new ≡ old)
     → (IsErrOf said_by faults.DiskFault → (Q : PlainPolicy) (G : History) → policy ≡ Some Q → IsFront Q old G → HasFailed seen Q (whole G old) (whole G new) e)
-    → Stepped P e (H ++ old.entries) old.mark (H ++ new.entries) new.mark (answer_of (answered_by said_by))
-answers_step {D} seen policy P H is old new front e (Ok p) stopped placed no_memory still failed =
+    → Stepped P e (H ++ old.entries) m (H ++ new.entries) n (answer_of (answered_by said_by))
+answers_step {D} seen policy P H is old new front m n was now e (Ok p) stopped placed no_memory still failed =
     let h = placed P H is front in
     let none : old.mark ≡ None = no_mark old.mark (λ some. let no : Ok p ≡ Err faults.Stopped = stopped.1 some in absurd (cc no)) in
-    (none, h.reply, h.place, h.entries, h.unmarked)
-answers_step {D} seen policy P H is old new front e (Err (faults.NoMemory m)) stopped placed no_memory still failed =
-    let none : old.mark ≡ None = no_mark old.mark (λ some. let no : Err (faults.NoMemory m) ≡ Err faults.Stopped = stopped.1 some in absurd (cc no)) in
+    (none_marked m (sym was ∙ none), h.reply, h.place, h.entries, none_marked n (sym now ∙ h.unmarked))
+answers_step {D} seen policy P H is old new front m n was now e (Err (faults.NoMemory w)) stopped placed no_memory still failed =
+    let none : old.mark ≡ None = no_mark old.mark (λ some. let no : Err (faults.NoMemory w) ≡ Err faults.Stopped = stopped.1 some in absurd (cc no)) in
     let same : new ≡ old = no_memory refl in
-    (none, ap (λ (s : Kept D). H ++ s.entries) same, ap (λ (s : Kept D). s.mark) same ∙ none)
-answers_step {D} seen policy P H is old new front e (Err faults.DiskFault) stopped placed no_memory still failed =
+    (none_marked m (sym was ∙ none), ap (λ (s : Kept D). H ++ s.entries) same, none_marked n (sym now ∙ (ap (λ (s : Kept D). s.mark) same ∙ none)))
+answers_step {D} seen policy P H is old new front m n was now e (Err faults.DiskFault) stopped placed no_memory still failed =
     let h = failed refl P H is front in
     let none : old.mark ≡ None = no_mark old.mark (λ some. let no : Err faults.DiskFault ≡ Err faults.Stopped = stopped.1 some in absurd (cc no)) in
-    (none, h.would_change, h.entries, h.mark)
-answers_step {D} seen policy P H is old new front e (Err faults.Stopped) stopped placed no_memory still failed =
+    (none_marked m (sym was ∙ none), h.would_change, h.entries, one_marked n e (sym now ∙ h.mark))
+answers_step {D} seen policy P H is old new front m n was now e (Err faults.Stopped) stopped placed no_memory still failed =
     let same : new ≡ old = still refl in
-    (stopped.0 refl, ap (λ (s : Kept D). H ++ s.entries) same, ap (λ (s : Kept D). s.mark) same)
+    let some : is_some m ≡ true = sym (is_marked m) ∙ (ap is_some (sym was) ∙ stopped.0 refl) in
+    (some, ap (λ (s : Kept D). H ++ s.entries) same, same_marked n m (sym now ∙ (ap (λ (s : Kept D). s.mark) same ∙ was)))
 
 -- ---- one answer more
 

@@ -31,7 +31,6 @@ use Rattle.ucon_model.specs.contracts.amend.Amend as Amend
 use Rattle.ucon_model.specs.contracts.amend.Amend.TheInside as amend_inside
 use Rattle.ucon_model.specs.contracts.checked.Checked as Checked
 use Rattle.ucon_model.specs.contracts.command.Command as Command
-use Rattle.ucon_model.specs.contracts.command.Entry as Entry
 use Rattle.ucon_model.specs.contracts.formula.Expr as Expr
 use Rattle.ucon_model.specs.contracts.formula.Formula as Formula
 use Rattle.ucon_model.specs.contracts.policy.AttrDecl as AttrDecl
@@ -50,7 +49,6 @@ use Rattle.ucon_store.specs.contracts.event.Base as Base
 use Rattle.ucon_store.specs.contracts.event.Event as Event
 use Rattle.ucon_store.specs.contracts.store.Store as Store
 use Rattle.ucon_store.specs.contracts.store.Store.TheInside as store_inside
-use Rattle.ucon_store.specs.contracts.turned.StoreTurned.TheImpl as turned
 use Rattle.ucon_turn.proofs.seat.SeatToken.TheSendSync as seat
 use Rattle.ucon_turn.proofs.turn.Turn.TheSendSync as turn
 use Rattle.ucon_turn.specs.contracts.turn.Turn as Turn
@@ -59,6 +57,9 @@ use Rattle.ucon_client.proofs.answer.Answer.TheSendSync as answer
 use Rattle.ucon_client.specs.contracts.answer.Answer as Answer
 use Rattle.ucon_client.specs.contracts.client.Client as Client
 use Rattle.ucon_client.specs.contracts.part.Part as Part
+use Rattle.ucon_client.specs.contracts.shared.Shared as Shared
+use Rattle.ucon_client.specs.contracts.shared.Shared.TheInside as shared_inside
+use Rattle.ucon_client.specs.contracts.shared.SharedTurned.TheImpl as turned
 
 expr_field_send : IsSend (Expr.the_field).row
 expr_field_send = search (expr.hole_send-Expr, value.the_field_send, ref.the_field_send, crosses, sendable) depth 30 fits 4000
@@ -128,10 +129,6 @@ command_field_send =
       ),
     )
 
-entry_send : IsSend Entry.the_row
-entry_send =
-    recorded_send (Entry.the_field).row _ _ (Entry.the_type).to_one (struct_send (structs.shape Entry.the_type) (caller.the_field_send, (command_field_send, tt)))
-
 line_send : IsSend Line.the_row
 line_send =
     recorded_send (Line.the_field).row _ _ (Line.the_type).to_one
@@ -162,7 +159,7 @@ module _ (E D : RattleType) (g : engine.Ghosts E.Denot) (d : disk.Ghosts D.Denot
                 search sendable,
                 (
                   search sendable,
-                  (entries.the_send, (in_force.the_field_send, (search (entry_send, crosses, sendable) depth 20, (search (crosses, sendable) depth 20, tt)))),
+                  (entries.the_send, (in_force.the_field_send, (search (entries.the_send, crosses, sendable) depth 20, (search (crosses, sendable) depth 20, tt)))),
                 ),
               ),
             ),
@@ -170,17 +167,25 @@ module _ (E D : RattleType) (g : engine.Ghosts E.Denot) (d : disk.Ghosts D.Denot
         ),
       ))
 
-  pub store_send : IsSend (Store.the_row E D g d)
+  store_send : IsSend (Store.the_row E D g d)
   store_send = view_send (store_inside.the_row E D g d) _ _ _ _ store_inside_send
+
+  shared_inside_send : IsSend (shared_inside.the_row E D g d)
+  shared_inside_send =
+      recorded_send (shared_inside.the_field E D g d).row _ _ (shared_inside.the_type E D g d).to_one
+      (struct_send (structs.shape (shared_inside.the_type E D g d)) (store_send, tt))
+
+  shared_send : IsSend (Shared.the_row E D g d)
+  shared_send = view_send (shared_inside.the_row E D g d) _ _ _ _ shared_inside_send
 
   pub client_send : IsSend (Client.the_row E D g d)
   client_send =
       recorded_send (Client.the_field E D g d).row _ _ (Client.the_type E D g d).to_one
-      (struct_send (structs.shape (Client.the_type E D g d)) (part_field_send, (seat.the_send (Store.the_row E D g d) Event.the_row store_send, tt)))
+      (struct_send (structs.shape (Client.the_type E D g d)) (part_field_send, (seat.the_send (Shared.the_row E D g d) Event.the_row shared_send, tt)))
 
-  abbrev turned_ghosts : Turned.Ghosts (Store.the_row E D g d).Denot (Base.the_row).Denot (Event.the_row).Denot
+  abbrev turned_ghosts : Turned.Ghosts (Shared.the_row E D g d).Denot (Base.the_row).Denot (Event.the_row).Denot
   turned_ghosts = turned.ghosts E D g turned.no_dict d turned.no_dict turned.no_dict
 
   -- threads may share the turn, too
-  pub turn_sync : IsSync (Turn.the_row (Store.the_row E D g d) Base.the_row Event.the_row turned_ghosts)
-  turn_sync = turn.the_sync (Store.the_row E D g d) Base.the_row Event.the_row turned_ghosts store_send
+  pub turn_sync : IsSync (Turn.the_row (Shared.the_row E D g d) Base.the_row Event.the_row turned_ghosts)
+  turn_sync = turn.the_sync (Shared.the_row E D g d) Base.the_row Event.the_row turned_ghosts shared_send

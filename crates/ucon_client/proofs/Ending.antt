@@ -1,6 +1,5 @@
 -- The parts of all clients, once they are answered and their seats are back.
-use Rattle.std.proofs.Common.{◌≡◌, ℕ, ◌+◌, ◌<◌, List, [], ◌∷◌, ◌++◌, None, map, length, get_or, suc, arith, refl, sym, ap, ◌∙◌, subst}
-use Rattle.std.specs.Option.{option_to_list}
+use Rattle.std.proofs.Common.{◌≡◌, ℕ, ◌+◌, ◌<◌, List, [], ◌∷◌, ◌++◌, None, map, length, get_or, suc, arith, refl, sym, ap, ◌∙◌, subst, Option}
 use Rattle.ucon_turn.specs.Lists.{Has, Continues}
 use Rattle.ucon_model.specs.History.{History}
 use Rattle.ucon_model.specs.Plain.{PlainPolicy}
@@ -13,6 +12,8 @@ use Rattle.ucon_client.specs.declared.part.Part.{Part}
 use Rattle.ucon_store.specs.Kept.{Kept}
 use Rattle.ucon_store.specs.declared.event.Event.TheVariants.{Done}
 use Rattle.ucon_store.specs.Events.{events, events_behind, events_of, number_of}
+use Rattle.ucon_store.specs.Marks.{marked}
+use Rattle.ucon_client.specs.Shared.{IsMarkOf, IsOfSteps}
 use Rattle.ucon_client.specs.Answers.{IsAnswered, IsPart, Keeps, answer_of, asked, entry_of, lines_in, number, told_in, told_of}
 use Rattle.ucon_client.specs.Clients.{AreRising, AreJoined, Served, answered, told_by, faulted}
 use Rattle.ucon_base.specs.Elements.{Each, each_append}
@@ -63,20 +64,24 @@ each_part Q part_of (x ∷ xs) h = (h 0 x (omega arith), each_part Q part_of xs 
 -- what closing the turn says of all clients, with a history before the store's own
 pub closed_legal : {D : Type 0} (P : PlainPolicy) (G : History) (opened store closed : Kept D) (seen : List Event) (taken : List ℕ) (clients : List Served)
     → opened ≡ store → store.mark ≡ None → AreJoined P (G ++ opened.entries) (map Done G ++ seen) taken clients → events_of closed ≡ seen
-    → Continues (λ e. Has (0 ∷ taken) (number_of e)) (events_of opened) (events_of closed)
+    → Continues (λ e. Has (0 ∷ taken) (number_of e)) (events_of opened) (events_of closed) → IsOfSteps closed.mark
     → IsLegalRun P own_answers (G ++ store.entries) (told_by clients) × (history_made (G ++ store.entries) (told_by clients) ≡ G ++ closed.entries)
-    × (faulted (told_by clients) ≡ option_to_list closed.mark)
-closed_legal {D} P G opened store closed seen taken clients same none joined list callers =
+    × IsMarkOf closed.mark (faulted (told_by clients))
+closed_legal {D} P G opened store closed seen taken clients same none joined list callers by_steps =
+    let failed : Option Entry = by_steps.failed in
     let done : List Event = map Done G in
     let theirs : Event → Type 0 = λ e. Has (0 ∷ taken) (number_of e) in
     let first : done ++ events_of opened ≡ events (G ++ store.entries) None =
     ap (λ (l : List Event). done ++ l) (ap events_of same ∙ ap (events store.entries) none) ∙ sym (events_behind G store.entries None) in
-    let last : done ++ events_of closed ≡ events (G ++ closed.entries) closed.mark = sym (events_behind G closed.entries closed.mark) in
-    legal_together P (G ++ store.entries) (G ++ closed.entries) closed.mark taken clients
+    let last : done ++ events_of closed ≡ events (G ++ closed.entries) (marked failed) =
+    sym (events_behind G closed.entries closed.mark) ∙ ap (events (G ++ closed.entries)) by_steps.is in
+    let all =
+    legal_together P (G ++ store.entries) (G ++ closed.entries) failed taken clients
     (subst (λ (z : Kept D × List Event). AreJoined P (G ++ z.0.entries) z.1 taken clients)
     (λ i. (same i, (ap (λ (l : List Event). done ++ l) (sym list) ∙ last) i)) joined)
     (subst (λ (z : List Event × List Event). Continues theirs z.0 z.1) (λ i. (first i, last i))
-    (continues_behind theirs done (events_of opened) (events_of closed) callers))
+    (continues_behind theirs done (events_of opened) (events_of closed) callers)) in
+    (all.0, all.1, record { failed = failed; is = by_steps.is; lines_are = all.2 })
 
 -- ---- the lines
 

@@ -8,6 +8,7 @@ use Rattle.ucon_model.specs.History.{History}
 use Rattle.ucon_store.specs.declared.event.Event.{Event}
 use Rattle.ucon_store.specs.declared.event.Event.TheVariants.{Done, Failed}
 use Rattle.ucon_store.specs.Events.{events}
+use Rattle.ucon_store.specs.Marks.{marked}
 use Rattle.ucon_client.specs.Events.{entries_in, marks_in, EndsAtMark}
 use Rattle.ucon_client.specs.Clients.{numbered_from, behind}
 use Rattle.ucon_client.proofs.Placing.{numbered_append}
@@ -34,11 +35,11 @@ pub ends_done : (G : History) → EndsAtMark (map Done G)
 ends_done [] = tt
 ends_done (e ∷ G) = ends_done G
 
-pub entries_in-events : (H : History) (mark : Option Entry) → entries_in (events H mark) ≡ H
+pub entries_in-events : (H : History) (mark : Option Entry) → entries_in (events H (marked mark)) ≡ H
 entries_in-events H None = entries_done H
 entries_in-events H (Some e) = entries_append (map Done H) (Failed e ∷ []) ∙ (ap (λ l. l ++ []) (entries_done H) ∙ append-nil H)
 
-pub marks_in-events : (H : History) (mark : Option Entry) → marks_in (events H mark) ≡ option_to_list mark
+pub marks_in-events : (H : History) (mark : Option Entry) → marks_in (events H (marked mark)) ≡ option_to_list mark
 marks_in-events H None = marks_done H
 marks_in-events H (Some e) = marks_append (map Done H) (Failed e ∷ []) ∙ ap (λ l. l ++ e ∷ []) (marks_done H)
 
@@ -47,7 +48,7 @@ ends_more [] ys m h = h
 ends_more (Done e ∷ xs) ys m h = ends_more xs ys m h
 ends_more (Failed e ∷ xs) ys m h = absurd (cc)
 
-pub ends_events : (H : History) (mark : Option Entry) → EndsAtMark (events H mark)
+pub ends_events : (H : History) (mark : Option Entry) → EndsAtMark (events H (marked mark))
 ends_events H None = ends_done H
 ends_events H (Some e) = ends_more (map Done H) (Failed e ∷ []) (marks_done H) refl
 

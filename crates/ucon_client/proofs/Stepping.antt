@@ -12,6 +12,7 @@ use Rattle.ucon_model.specs.LegalRun.{Answer, no_memory, disk_fault, stopped, pl
 use Rattle.ucon_store.specs.declared.event.Event.{Event}
 use Rattle.ucon_store.specs.declared.event.Event.TheVariants.{Done, Failed}
 use Rattle.ucon_store.specs.Events.{events, number_of}
+use Rattle.ucon_store.specs.Marks.{marked}
 use Rattle.ucon_client.specs.Events.{marks_in, appended}
 use Rattle.ucon_client.specs.Clients.{Stepped, Tells, Steps}
 use Rattle.ucon_client.proofs.Listing.{entries_in-events, marks_in-events, ends_events}
@@ -23,23 +24,23 @@ done_grown true H line = map-append Done H (line ∷ [])
 done_grown false H line = sym (append-nil (map Done H))
 
 appends : (P : PlainPolicy) (line : Entry) (H : History) (mark : Option Entry) (later : History) (next : Option Entry) (a : Answer)
-    → Stepped P line H mark later next a → events later next ≡ events H mark ++ appended line a
-appends P line H mark later next no_memory s = (λ i. events (s.1 i) ((s.2 ∙ sym s.0) i)) ∙ sym (append-nil (events H mark))
-appends P line H mark later next stopped s = (λ i. events (s.1 i) (s.2 i)) ∙ sym (append-nil (events H mark))
-appends P line H mark later next disk_fault s = (λ i. events (s.2 i) (s.3 i)) ∙ ap (λ m. events H m ++ Failed line ∷ []) (sym s.0)
+    → Stepped P line H mark later next a → events later (marked next) ≡ events H (marked mark) ++ appended line a
+appends P line H mark later next no_memory s = (λ i. events (s.1 i) (marked ((s.2 ∙ sym s.0) i))) ∙ sym (append-nil (events H (marked mark)))
+appends P line H mark later next stopped s = (λ i. events (s.1 i) (marked (s.2 i))) ∙ sym (append-nil (events H (marked mark)))
+appends P line H mark later next disk_fault s = (λ i. events (s.2 i) (marked (s.3 i))) ∙ ap (λ m. events H (marked m) ++ Failed line ∷ []) (sym s.0)
 appends P line H mark later next (placed place reply) s =
-    (λ i. events (s.3 i) (s.4 i)) ∙ (done_grown (changes (said P H line.caller line.command)) H line
-    ∙ (ap (λ reply. map Done H ++ (if changes reply then Done line ∷ [] else [])) (sym s.1) ∙ ap (λ m. events H m ++ appended line (placed place reply)) (sym s.0)))
+    (λ i. events (s.3 i) (marked (s.4 i))) ∙ (done_grown (changes (said P H line.caller line.command)) H line
+    ∙ (ap (λ reply. map Done H ++ (if changes reply then Done line ∷ [] else [])) (sym s.1) ∙ ap (λ m. events H (marked m) ++ appended line (placed place reply)) (sym s.0)))
 
-no_marks : (H : History) (mark : Option Entry) → mark ≡ None → marks_in (events H mark) ≡ []
+no_marks : (H : History) (mark : Option Entry) → mark ≡ None → marks_in (events H (marked mark)) ≡ []
 no_marks H mark e = marks_in-events H mark ∙ ap option_to_list e
 
-some_mark : (H : History) (mark : Option Entry) → IsSome mark → marks_in (events H mark) ≢ []
+some_mark : (H : History) (mark : Option Entry) → IsSome mark → marks_in (events H (marked mark)) ≢ []
 some_mark H None some e = absurd (cc)
 some_mark H (Some m) some e = absurd (let none = sym (marks_in-events H (Some m)) ∙ e in (cc))
 
 tells : (P : PlainPolicy) (line : Entry) (H : History) (mark : Option Entry) (later : History) (next : Option Entry) (a : Answer)
-    → Stepped P line H mark later next a → Tells P line (events H mark) (events later next) a
+    → Stepped P line H mark later next a → Tells P line (events H (marked mark)) (events later (marked next)) a
 tells P line H mark later next no_memory s = no_marks H mark s.0
 tells P line H mark later next stopped s = some_mark H mark s.0
 tells P line H mark later next disk_fault s = (
@@ -53,7 +54,7 @@ tells P line H mark later next (placed place reply) s = (
 )
 
 pub stepped : (P : PlainPolicy) (line : Entry) (H : History) (mark : Option Entry) (later : History) (next : Option Entry) (a : Answer)
-    → Stepped P line H mark later next a → Steps P line (events H mark) (events later next) a
+    → Stepped P line H mark later next a → Steps P line (events H (marked mark)) (events later (marked next)) a
 stepped P line H mark later next a s =
     record { ends = ends_events H mark; appends = appends P line H mark later next a s; tells = tells P line H mark later next a s }
 

@@ -15,6 +15,7 @@ use Rattle.ucon_model.specs.LegalRun.{Answer, no_memory, disk_fault, stopped, pl
 use Rattle.ucon_store.specs.declared.event.Event.{Event}
 use Rattle.ucon_store.specs.declared.event.Event.TheVariants.{Done, Failed}
 use Rattle.ucon_store.specs.Events.{events, number_of}
+use Rattle.ucon_store.specs.Marks.{marked}
 use Rattle.ucon_client.specs.Events.{entries_in, marks_in, EndsAtMark}
 use Rattle.ucon_client.specs.Clients.{numbered_from, behind, faulted, Shows, IsSaidIn, WouldChange, AreRight, Served, told_by, AreRising, AreJoined}
 use Rattle.ucon_base.specs.Elements.{Each, each_always, each_append, each_both, each_map, filter_all, filter_none}
@@ -199,8 +200,8 @@ legal_behind P G rest clients taken right apart ends theirs ours =
     )
 
 pub legal_together : (P : PlainPolicy) (G H : History) (mark : Option Entry) (taken : List ℕ) (clients : List Served)
-    → AreJoined P G (events H mark) taken clients
-    → Continues (λ i. Has (0 ∷ taken) (number_of i)) (events G None) (events H mark)
+    → AreJoined P G (events H (marked mark)) taken clients
+    → Continues (λ i. Has (0 ∷ taken) (number_of i)) (events G None) (events H (marked mark))
     → IsLegalRun P own_answers G (told_by clients) × (history_made G (told_by clients) ≡ H) × (faulted (told_by clients) ≡ option_to_list mark)
 legal_together P G H mark taken clients j c =
     let legal = legal_behind P G c.0 clients taken

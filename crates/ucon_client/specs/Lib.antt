@@ -1,5 +1,6 @@
-pub mod Events
-pub mod Clients
-pub mod Laws
 pub mod Answers
+pub mod Clients
 pub mod Dividing
+pub mod Events
+pub mod Laws
+pub mod Shared

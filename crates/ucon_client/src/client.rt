@@ -7,24 +7,24 @@ ghost use Rattle.ucon_store.specs.Events.{events_of};
 
 use crate::gate::Gate;
 use crate::part::Part;
+use crate::shared::Shared;
 use crate::step::Step;
 use std::alloc::Global;
 use std::sync::Wait;
 use ucon_disk::Disk;
 use ucon_engine::Engine;
-use ucon_store::Store;
 use ucon_turn::{Seat, Turn};
 
 /// A client of a store behind a turn.
 #[derive(Drop)]
 pub struct Client<E: Engine, D: Disk> {
     pub part: Part,
-    pub seat: Seat<Store<E, D>>,
+    pub seat: Seat<Shared<E, D>>,
 }
 
 impl<E: Engine, D: Disk> Client<E, D> {
     /// A client none of whose lines is answered, with a seat that has seen nothing yet but the opening list.
-    pub fn new(turn: &Turn<Store<E, D>>, part: Part, seat: Seat<Store<E, D>>) -> Client<E, D>
+    pub fn new(turn: &Turn<Shared<E, D>>, part: Part, seat: Seat<Shared<E, D>>) -> Client<E, D>
         requires seat { IsSeatOf turn.now seat × (seat.number ≡ part.number + 1) }
         requires part { IsPart part × (part.answers.items ≡ []) }
         requires unmarked { turn.now.opened.mark ≡ None }
@@ -36,7 +36,7 @@ impl<E: Engine, D: Disk> Client<E, D> {
     }
 
     /// Answers the next line in the client's turn, which it waits for. False where all lines are answered.
-    pub fn turn<R: Wait>(&mut self, rt: &R, alloc: Global, turn: &Turn<Store<E, D>>) -> bool
+    pub fn turn<R: Wait>(&mut self, rt: &R, alloc: Global, turn: &Turn<Shared<E, D>>) -> bool
         requires { Serves turn.now self.old.part self.old.seat }
         ensures serves { Serves turn.now self.new.part self.new.seat }
         ensures ends { (result ≡ false) ↔ IsAnswered self.old.part }
@@ -52,7 +52,7 @@ impl<E: Engine, D: Disk> Client<E, D> {
         true
     }
 
-    fn answer_next<R: Wait>(&mut self, rt: &R, alloc: Global, turn: &Turn<Store<E, D>>)
+    fn answer_next<R: Wait>(&mut self, rt: &R, alloc: Global, turn: &Turn<Shared<E, D>>)
         requires serves { Serves turn.now self.old.part self.old.seat }
         requires more { length self.old.part.answers.items < length self.old.part.lines.items }
         ensures serves { Serves turn.now self.new.part self.new.seat }
@@ -70,7 +70,7 @@ impl<E: Engine, D: Disk> Client<E, D> {
         &mut self,
         rt: &R,
         alloc: Global,
-        turn: &Turn<Store<E, D>>,
+        turn: &Turn<Shared<E, D>>,
         gate: &G,
     )
         requires { Serves turn.now self.old.part self.old.seat }

@@ -3,7 +3,8 @@
 //! `serve` opens the turn, splits a seat for each client, lets all run, takes the seats back and closes the turn. In the end the records of all,
 //! put by their places, are the entries behind the opening history (`proofs/Together.antt`).
 //!
-//! **Always.** A client's answers are right for what its seat has seen (`AreRight`, `Serves`).
+//! **Always.** In the store that clients share nothing but steps is made (`Shared`). A client's answers are right for what its seat has seen
+//! (`AreRight`, `Serves`).
 //!
 //! **Free.** What a gate does between lines.
 //!
@@ -18,6 +19,7 @@ mod gate;
 mod laws;
 mod part;
 mod serving;
+mod shared;
 mod step;
 
 pub use answer::Answer;
@@ -27,3 +29,4 @@ pub use gate::{Gate, OpenGate};
 pub use laws::{a_seen_mark_stops, faults_are_marked};
 pub use part::Part;
 pub use serving::{serve, serve_all};
+pub use shared::Shared;

@@ -1,7 +1,6 @@
 //! All clients, each in a thread of its own: seats are split for them, all are served, and all seats are taken back.
 
 ghost use Rattle.std.specs.Prelude.{◌≡◌, ℕ, ◌+◌, ◌<◌, ◌≤◌, ◌++◌, All, List, [], None, Some, map, length, slice_index_or, IfOk, IfErr, vec_len, vec_capacity};
-ghost use Rattle.std.specs.Option.{option_to_list};
 ghost use Rattle.ucon_base.specs.Elements.{Each};
 ghost use Rattle.ucon_turn.specs.Lists.{Has};
 ghost use Rattle.ucon_turn.specs.Turns.{IsSeatOf};
@@ -10,6 +9,7 @@ ghost use Rattle.ucon_model.specs.Plain.{PlainPolicy};
 ghost use Rattle.ucon_model.specs.LegalRun.{IsLegalRun, own_answers, history_made};
 ghost use Rattle.ucon_client.specs.Answers.{IsPart, IsAnswered, Serves, Keeps, asked, lines_in, number, served_of, told_in};
 ghost use Rattle.ucon_client.specs.Clients.{AreRising, AreJoined, faulted};
+ghost use Rattle.ucon_client.specs.Shared.{IsMarkOf};
 ghost use Rattle.ucon_syntax.specs.Policies.{accepted};
 ghost use Rattle.ucon_store.specs.declared.event.Event.TheVariants.{Done};
 ghost use Rattle.ucon_store.specs.Events.{events_of};
@@ -19,6 +19,7 @@ ghost use Rattle.ucon_store.specs.Whole.{IsFront};
 use crate::client::Client;
 use crate::gate::Gate;
 use crate::part::Part;
+use crate::shared::Shared;
 use std::alloc::Global;
 use std::sync::Wait;
 use std::thread;
@@ -34,7 +35,7 @@ pub fn serve_all<E: Engine + Send, D: Disk + Send, G: Gate + Sync, R: Threads + 
     rt: &R,
     alloc: Global,
     clients: &mut [Client<E, D>],
-    turn: &Turn<Store<E, D>>,
+    turn: &Turn<Shared<E, D>>,
     gate: &G,
 )
     requires { All (λ c. Serves turn.now c.part c.seat) clients.old }
@@ -54,8 +55,8 @@ pub fn serve_all<E: Engine + Send, D: Disk + Send, G: Gate + Sync, R: Threads + 
 
 /// Splits a seat for each part, by rising client number.
 fn seat_all<E: Engine, D: Disk>(
-    turn: &Turn<Store<E, D>>,
-    seat: &mut Seat<Store<E, D>>,
+    turn: &Turn<Shared<E, D>>,
+    seat: &mut Seat<Shared<E, D>>,
     parts: Vec<Part>,
     clients: &mut Vec<Client<E, D>>,
 )
@@ -77,8 +78,8 @@ fn seat_all<E: Engine, D: Disk>(
 
 /// Takes all seats back, by rising client number, and keeps the answered parts.
 fn join_all<E: Engine, D: Disk>(
-    turn: &Turn<Store<E, D>>,
-    seat: &mut Seat<Store<E, D>>,
+    turn: &Turn<Shared<E, D>>,
+    seat: &mut Seat<Shared<E, D>>,
     clients: Vec<Client<E, D>>,
     parts: &mut Vec<Part>,
 )
@@ -125,24 +126,25 @@ pub fn serve<E: Engine + Send, D: Disk + Send, G: Gate + Sync, R: Threads + Wait
     ensures made { IfOk result (λ r. (P : PlainPolicy) (H : History) → accepted store.policy ≡ Some P → IsFront P store H
         → history_made (H ++ store.entries) (told_in r.1.items) ≡ H ++ r.0.entries) }
     ensures fault { IfOk result (λ r. (P : PlainPolicy) (H : History) → accepted store.policy ≡ Some P → IsFront P store H
-        → faulted (told_in r.1.items) ≡ option_to_list r.0.mark) }
+        → IsMarkOf r.0.mark (faulted (told_in r.1.items))) }
 {
     let (mut clients, mut answered) = match room_for(alloc, parts.len()) {
         Ok(room) => room,
         Err(want) => return Err((store, parts, want)),
     };
-    let (turn, mut seat) = match Turn::open(alloc, store) {
+    let (turn, mut seat) = match Turn::open(alloc, Shared::new(store)) {
         Ok(opened) => opened,
-        Err((store, want)) => {
+        Err((shared, want)) => {
             clients.destroy_empty();
             answered.destroy_empty();
-            return Err((store, parts, want));
+            return Err((shared.into_store(), parts, want));
         }
     };
     seat_all(&turn, &mut seat, parts, &mut clients);
     serve_all(rt, alloc, clients.as_mut_slice(), &turn, gate);
     join_all(&turn, &mut seat, clients, &mut answered);
-    Ok((turn.close(seat), answered))
+    let shared = turn.close(seat);
+    Ok((shared.into_store(), answered))
 }
 
 /// Room for so many clients, and for so many answered parts.

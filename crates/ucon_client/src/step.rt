@@ -8,11 +8,11 @@ ghost use Rattle.ucon_client.specs.Answers.{IsLedTo, entry_of, answer_of};
 ghost use Rattle.ucon_client.specs.Clients.{Steps};
 
 use crate::answer::Answer;
+use crate::shared::Shared;
 use std::alloc::Global;
 use ucon_disk::Disk;
 use ucon_engine::Engine;
 use ucon_script::Line;
-use ucon_store::Store;
 use ucon_turn::Job;
 
 /// The step of one line.
@@ -23,7 +23,7 @@ pub(crate) struct Step<'a> {
     ghost few: { line.now.caller.0 < 64 },
 }
 
-impl<E: Engine, D: Disk> Job<Store<E, D>> for Step<'_> {
+impl<E: Engine, D: Disk> Job<Shared<E, D>> for Step<'_> {
     type Answer = Answer;
 
     ghost by = { λ j. j.line.now.caller.0 + 1 };
@@ -35,7 +35,8 @@ impl<E: Engine, D: Disk> Job<Store<E, D>> for Step<'_> {
         self.line.caller.0 as u32 + 1
     }
 
-    fn run(&mut self, store: &mut Store<E, D>) -> Answer {
-        Answer::from(store.step(self.alloc, self.line.caller, &self.line.command))
+    fn run(&mut self, shared: &mut Shared<E, D>) -> Answer {
+        let line = self.line;
+        Answer::from(shared.store.step(self.alloc, line.caller, &line.command))
     }
 }

@@ -4,12 +4,11 @@ use Rattle.std.specs.Prelude.{Option, Some, None, is_some, IsSome, Result}
 use Rattle.ucon_disk.specs.Causes.{raised}
 use Rattle.ucon_disk.specs.Run.{IsAtRest, LeavesAfter, LeavesOnly, joined, weaker}
 use Rattle.ucon_disk.specs.Seen.{DiskSeen}
-use Rattle.ucon_model.specs.declared.command.Entry.{Entry}
 use Rattle.ucon_model.specs.Action.{Trace}
 use Rattle.ucon_model.specs.History.{History}
 use Rattle.ucon_model.specs.Plain.{Bytes, PlainPolicy}
 use Rattle.ucon_outcome.specs.declared.outcome.Outcome.{Outcome}
-use Rattle.ucon_store.specs.Found.{IsFoundAs, IsFoundWith}
+use Rattle.ucon_store.specs.Found.{IsFoundAs, IsFoundMarked}
 use Rattle.ucon_store.specs.Kept.{Kept}
 use Rattle.ucon_store.specs.Opening.{Opens}
 use Rattle.ucon_store.specs.Starts.{IsStart}
@@ -91,14 +90,14 @@ module _ {D : Type 0} (seen : D → DiskSeen) (text : Bytes) (P : PlainPolicy) (
           result = over.result;
           last = standing G over.closed;
           outcome_is = over.outcome_is;
-          conversed = subst (λ (z : Bytes × Option Entry × D). HasConversedBy accepted P z.0 65546 over.result (record { history = G ++ store.entries; failed = z.1 })
+          conversed = subst (λ (z : Bytes × Option History × D). HasConversedBy accepted P z.0 65546 over.result (record { history = G ++ store.entries; failed = z.1 })
               (standing G over.closed) before after (seen z.2) (Unit {0}) (hears over.result))
               (λ i. (policy i, unmarked i, sym over.disk_is i)) met;
           unfailed = λ none. ap (λ (d : D). (seen d).faults) over.disk_is ∙ (over.stays.unfailed (ap is_some (none ∙ sym unmarked)) ∙ unfailed);
-          failed = λ e is. ap (λ (d : D). (seen d).faults) over.disk_is ∙ (over.stays.failed unmarked e is ∙ ap raised unfailed);
+          failed = λ es is. ap (λ (d : D). (seen d).faults) over.disk_is ∙ (over.stays.failed unmarked es is ∙ ap raised unfailed);
           since = λ rest. subst (λ (d : D). LeavesOnly (seen disk) (seen d) Since) (sym over.disk_is) (since_opened rest);
           left = λ c image.
-              subst (λ (t : Bytes). IsFoundWith t (G ++ over.closed.entries) over.closed.mark c) (over.stays.policy ∙ policy)
+              subst (λ (t : Bytes). IsFoundMarked t (G ++ over.closed.entries) over.closed.mark c) (over.stays.policy ∙ policy)
               (over.stays.left_now P G f (over.stays.tells told_opened) c (subst (λ (d : D). (seen d).images c) over.disk_is image));
         }
 

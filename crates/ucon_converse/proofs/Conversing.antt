@@ -13,6 +13,7 @@ use Rattle.ucon_model.specs.LegalRun.{Answered, IsLegalRun, history_made, in_tex
 use Rattle.ucon_model.specs.Plain.{Bytes, PlainPolicy}
 use Rattle.ucon_model.specs.StoredRun.{LeadsTo, failed_line}
 use Rattle.ucon_store.specs.Kept.{Kept}
+use Rattle.ucon_store.specs.Marks.{marked}
 use Rattle.ucon_store.specs.Points.{text_in_force}
 use Rattle.ucon_store.specs.Starts.{IsStart, text_at_start}
 use Rattle.ucon_store.specs.Whole.{IsFounded, IsFront}
@@ -224,9 +225,9 @@ module _ {D : Type 0} (seen : D → DiskSeen) (only : (d : D) (c : List ℕ) →
                   (went_out r v0.contents v1.contents v2.contents ready (replies_in h.exchanges) wrote h.output);
               told = lead.told;
               among = lead.among;
-              legal = legal lead.told (G ++ h.reached.entries) h.reached.mark lead.is_so;
-              made = made lead.told (G ++ h.reached.entries) h.reached.mark lead.is_so;
-              failed = fault lead.told (G ++ h.reached.entries) h.reached.mark lead.is_so;
+              legal = legal lead.told (G ++ h.reached.entries) lead.is_so.failed lead.is_so.leads;
+              made = made lead.told (G ++ h.reached.entries) lead.is_so.failed lead.is_so.leads;
+              failed = lead.is_so.mark ∙ ap marked (sym (fault lead.told (G ++ h.reached.entries) lead.is_so.failed lead.is_so.leads));
               kept = λ founded b t is. ⊎_elim
                   (λ (m : v1.told b t). ⊎_elim inl
                   (λ (g : (t ≡ moment_of (seen first.disk)) × IfSome v0.contents (λ held. IsCut held (ready_line steps) b)).
@@ -241,7 +242,7 @@ module _ {D : Type 0} (seen : D → DiskSeen) (only : (d : D) (c : List ℕ) →
         not_greeted (Err faults.SourceFault) same none greeted bad = absurd greeted
         not_greeted (Err faults.TooLong) same none greeted bad = absurd greeted
         not_greeted (Err faults.SinkFault) same none greeted bad =
-            let base : LeadsTo P (G ++ first.entries) [] (G ++ first.entries) first.mark = (refl, unmarked) in
+            let base : LeadsTo P (G ++ first.entries) [] (G ++ first.entries) None = (refl, refl) in
             record {
               exchanges = [];
               heard = none;
@@ -251,15 +252,15 @@ module _ {D : Type 0} (seen : D → DiskSeen) (only : (d : D) (c : List ℕ) →
               output = subst (λ (l : Bytes). AppendsPrefix v0.contents v2.contents l) (ap ready_line count ∙ sym (append-nil ready)) greeted.0;
               told = [];
               among = refl;
-              legal = legal [] (G ++ first.entries) first.mark base;
-              made = made [] (G ++ first.entries) first.mark base;
-              failed = fault [] (G ++ first.entries) first.mark base;
+              legal = legal [] (G ++ first.entries) None base;
+              made = made [] (G ++ first.entries) None base;
+              failed = unmarked;
               kept = λ founded b t is. ⊎_elim inl
                   (λ (g : (t ≡ moment_of (seen first.disk)) × IfSome v0.contents (λ held. IsCut held (ready_line steps) b)).
                   inr (greeted_once_kept founded.0 founded.1 v0.contents [] b t g.0 g.1)) (greeted.1.nothing_else b t is);
             }
         not_greeted (Err (faults.NoMemory e)) same none greeted bad =
-            let base : LeadsTo P (G ++ first.entries) [] (G ++ first.entries) first.mark = (refl, unmarked) in
+            let base : LeadsTo P (G ++ first.entries) [] (G ++ first.entries) None = (refl, refl) in
             record {
               exchanges = [];
               heard = none;
@@ -269,8 +270,8 @@ module _ {D : Type 0} (seen : D → DiskSeen) (only : (d : D) (c : List ℕ) →
               output = inr (greeted.0, refl);
               told = [];
               among = refl;
-              legal = legal [] (G ++ first.entries) first.mark base;
-              made = made [] (G ++ first.entries) first.mark base;
-              failed = fault [] (G ++ first.entries) first.mark base;
+              legal = legal [] (G ++ first.entries) None base;
+              made = made [] (G ++ first.entries) None base;
+              failed = unmarked;
               kept = λ founded b t is. inl (greeted.1 b t is);
             }

@@ -13,6 +13,7 @@ use Rattle.ucon_model.specs.declared.command.Caller.{Caller}
 use Rattle.ucon_model.specs.declared.command.Command.{Command}
 use Rattle.ucon_model.specs.declared.command.Entry.{Entry}
 use Rattle.ucon_model.specs.CommandLine.{LineRefusal, line_read, line_too_long, no_word, unknown_word, wrong_count, bad_word}
+use Rattle.ucon_model.specs.History.{History}
 use Rattle.ucon_model.specs.LegalRun.{Answered}
 use Rattle.ucon_model.specs.Plain.{Bytes, PlainPolicy}
 use Rattle.ucon_syntax.specs.Policies.{accepted}
@@ -32,14 +33,14 @@ said_otherwise : {A B : Type 0} (r : Result A B) (a : A) (b : B) → r ≡ Ok a 
 said_otherwise r a b ok err = let bad : Ok a ≡ Err b = sym ok ∙ err in cc bad
 
 -- what is told where no memory was there, as it is done
-pub unheard_is : (failed : Option Entry) (stopped : Bool) → is_some failed ≡ stopped → unheard_so stopped ≡ unheard failed
+pub unheard_is : (failed : Option History) (stopped : Bool) → is_some failed ≡ stopped → unheard_so stopped ≡ unheard failed
 unheard_is None stopped is = ap unheard_so (sym is)
 unheard_is (Some e) stopped is = ap unheard_so (sym is)
 
 -- to be told so is a step that changes nothing
-unheard_step : (P : PlainPolicy) (history : List Entry) (failed : Option Entry) (e : Entry)
+unheard_step : (P : PlainPolicy) (history : History) (failed : Option History) (e : Entry)
     → IsStep P (record { history = history; failed = failed }) (record { history = history; failed = failed }) (record { line = e; answer = unheard failed })
-unheard_step P history None e = inl (refl, inl (tt, (refl, refl)))
+unheard_step P history None e = inl (refl, record { failed = None; mark = refl; leads = inl (tt, (refl, refl)) })
 unheard_step P history (Some f) e = inr (refl, refl, refl)
 
 module _ (line : Bytes) (P : PlainPolicy) (policy : Bytes) (before : Standing) (stopped : Bool) (is : is_some before.failed ≡ stopped) (unread : IsNoReading line) where

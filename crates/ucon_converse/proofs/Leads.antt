@@ -8,9 +8,10 @@ use Rattle.ucon_model.specs.Plain.{Bytes, PlainPolicy}
 use Rattle.ucon_model.specs.History.{History}
 use Rattle.ucon_model.specs.LegalRun.{Answered, stopped}
 use Rattle.ucon_model.specs.StoredRun.{LeadsTo}
+use Rattle.ucon_store.specs.Marks.{marked}
 use Rattle.ucon_store.specs.Points.{PolicyReading}
 use Rattle.ucon_tell.specs.Talk.{AnswersEach, Exchange, IsAnswered}
-use Rattle.ucon_converse.specs.Replies.{AreAnswersBy, GivesReplyBy, IsAskedAndAnswered, IsTooLong, Standing}
+use Rattle.ucon_converse.specs.Replies.{AreAnswersBy, GivesReplyBy, IsAskedAndAnswered, IsTooLong, LeadsOn, Standing}
 use Rattle.ucon_converse.specs.Requests.{IsNoRequestBy}
 use Rattle.ucon_converse.proofs.Unasked.{no_request}
 
@@ -63,7 +64,7 @@ module _ (reads : PolicyReading) (P : PlainPolicy) (text : Bytes) (limit : ℕ)
           let rest = others (subst (λ (s : Standing). IsSome s.failed) (sym same) some) in
           record { told = rest.told; among = inl (none, rest.among); is_so = (rest.is_so.0, rest.is_so.1 ∙ same) }
       by others (asked a) = ⊎_elim
-          (λ (is : (first.failed ≡ None) × LeadsTo P first.history (a.told ∷ []) x.after.history x.after.failed). absurd (none_is_some first.failed is.0 some))
+          (λ (is : (first.failed ≡ None) × LeadsOn P first x.after (a.told ∷ [])). absurd (none_is_some first.failed is.0 some))
           (λ (is : IsSome first.failed × (a.told.answer ≡ stopped) × (x.after ≡ first)).
           let rest = others (subst (λ (s : Standing). IsSome s.failed) (sym is.2) some) in
           record {
@@ -72,46 +73,57 @@ module _ (reads : PolicyReading) (P : PlainPolicy) (text : Bytes) (limit : ℕ)
             is_so = ((is.1, rest.is_so.0), rest.is_so.1 ∙ is.2);
           }) a.step
 
-  abbrev pub LeadsOn : Standing → Standing → List Answered → Type 0
-  LeadsOn first last told = LeadsTo P first.history told last.history last.failed
-
-  pub exchanges_lead : (first last : Standing) (xs : List (Exchange Standing)) → first.failed ≡ None → Each' first xs last → Run first last xs (LeadsOn first last)
-  exchanges_lead first last [] none run = record { told = []; among = refl; is_so = (ap (λ (s : Standing). s.history) (sym run), ap (λ (s : Standing). s.failed) (sym run) ∙ none) }
+  pub exchanges_lead : (first last : Standing) (xs : List (Exchange Standing)) → first.failed ≡ None → Each' first xs last → Run first last xs (LeadsOn P first last)
+  exchanges_lead first last [] none run = record {
+    told = [];
+    among = refl;
+    is_so = record { failed = None; mark = ap (λ (s : Standing). s.failed) (sym run) ∙ none; leads = (ap (λ (s : Standing). s.history) (sym run), refl) };
+  }
   exchanges_lead first last (x ∷ xs) none run =
       by (λ still. all_stopped x.after last xs still run.1) (λ none'. exchanges_lead x.after last xs none' run.1) (one_of first x run.0)
     where
-      by_step : (IsSome x.after.failed → Run x.after last xs (AreStopped x.after last)) → (x.after.failed ≡ None → Run x.after last xs (LeadsOn x.after last))
-          → (a : IsAskedAndAnswered reads P first x.after x.line x.reply) → LeadsTo P first.history (a.told ∷ []) x.after.history x.after.failed
-          → Run first last (x ∷ xs) (LeadsOn first last)
-      by_step stops others a (inl is) =
-          let rest = others is.1.1 in
+      by_step : (IsSome x.after.failed → Run x.after last xs (AreStopped x.after last)) → (x.after.failed ≡ None → Run x.after last xs (LeadsOn P x.after last))
+          → (a : IsAskedAndAnswered reads P first x.after x.line x.reply)
+          → (failed : Option Entry) → x.after.failed ≡ marked failed → LeadsTo P first.history (a.told ∷ []) x.after.history failed
+          → Run first last (x ∷ xs) (LeadsOn P first last)
+      by_step stops others a failed mark (inl is) =
+          let rest = others (mark ∙ ap marked is.1.1) in
           record {
             told = a.told ∷ rest.told;
             among = inr (a.told, rest.told, refl, a.request, a.reply_is, rest.among);
-            is_so = inl (is.0, subst (λ (H : History). LeadsTo P H rest.told last.history last.failed) is.1.0 rest.is_so);
+            is_so = record {
+              failed = rest.is_so.failed;
+              mark = rest.is_so.mark;
+              leads = inl (is.0, subst (λ (H : History). LeadsTo P H rest.told last.history rest.is_so.failed) is.1.0 rest.is_so.leads);
+            };
           }
-      by_step stops others a (inr is) =
-          let rest = stops (subst (λ (o : Option Entry). IsSome o) (sym is.2) refl) in
+      by_step stops others a failed mark (inr is) =
+          let mark_is : x.after.failed ≡ Some (a.told.line ∷ []) = mark ∙ ap marked is.2 in
+          let rest = stops (subst (λ (o : Option History). IsSome o) (sym mark_is) refl) in
           record {
             told = a.told ∷ rest.told;
             among = inr (a.told, rest.told, refl, a.request, a.reply_is, rest.among);
-            is_so =
-                inr (
-                  record { failed = is.0.failed; would_change = is.0.would_change; stops = rest.is_so.0 },
-                  ap (λ (s : Standing). s.history) rest.is_so.1 ∙ is.1,
-                  ap (λ (s : Standing). s.failed) rest.is_so.1 ∙ is.2,
-                );
+            is_so = record {
+              failed = Some a.told.line;
+              mark = ap (λ (s : Standing). s.failed) rest.is_so.1 ∙ mark_is;
+              leads =
+                  inr (
+                    record { failed = is.0.failed; would_change = is.0.would_change; stops = rest.is_so.0 },
+                    ap (λ (s : Standing). s.history) rest.is_so.1 ∙ is.1,
+                    refl,
+                  );
+            };
           }
 
-      by : (IsSome x.after.failed → Run x.after last xs (AreStopped x.after last)) → (x.after.failed ≡ None → Run x.after last xs (LeadsOn x.after last))
-          → OneOf first x → Run first last (x ∷ xs) (LeadsOn first last)
+      by : (IsSome x.after.failed → Run x.after last xs (AreStopped x.after last)) → (x.after.failed ≡ None → Run x.after last xs (LeadsOn P x.after last))
+          → OneOf first x → Run first last (x ∷ xs) (LeadsOn P first last)
       by stops others (nothing_asked none' same) =
           let rest = others (ap (λ (s : Standing). s.failed) same ∙ none) in
           record {
             told = rest.told;
             among = inl (none', rest.among);
-            is_so = subst (λ (s : Standing). LeadsTo P s.history rest.told last.history last.failed) same rest.is_so;
+            is_so = subst (λ (s : Standing). LeadsOn P s last rest.told) same rest.is_so;
           }
       by stops others (asked a) = ⊎_elim
-          (λ (is : (first.failed ≡ None) × LeadsTo P first.history (a.told ∷ []) x.after.history x.after.failed). by_step stops others a is.1)
+          (λ (is : (first.failed ≡ None) × LeadsOn P first x.after (a.told ∷ [])). by_step stops others a is.1.failed is.1.mark is.1.leads)
           (λ (is : IsSome first.failed × (a.told.answer ≡ stopped) × (x.after ≡ first)). absurd (none_is_some first.failed none is.0)) a.step

@@ -17,9 +17,9 @@ use Rattle.ucon_converse.specs.Keeping.{moment_by, moment_of, standing}
 use Rattle.ucon_converse.specs.Replies.{IsStep}
 use Rattle.ucon_converse.specs.Said.{answer_said}
 
-pub not_marked : (mark : Option Entry) → (IsSome mark → ⊥) → mark ≡ None
+pub not_marked : (mark : Option History) → (IsSome mark → ⊥) → mark ≡ None
 not_marked None none = refl
-not_marked (Some e) none = absurd (none refl)
+not_marked (Some es) none = absurd (none refl)
 
 pub ok_is : {A E : Type 0} (r : Result A E) → IsOk r → (a : A) × (r ≡ Ok a)
 ok_is (Ok a) is = (a, refl)
@@ -28,7 +28,14 @@ ok_is (Err e) is = absurd (let no : false ≡ true = is in cc no)
 -- there was no memory, and nothing changed
 pub no_memory_step : {D : Type 0} (P : PlainPolicy) (G : History) (old new : Kept D) (e : Entry) → old.mark ≡ None → new ≡ old
     → IsStep P (standing G old) (standing G new) (record { line = e; answer = answer_said (Err (faults.NoMemory out_of_memory)) })
-no_memory_step P G old new e none same = inl (none, inl (tt, (ap (λ (s : Kept _). G ++ s.entries) same, ap (λ (s : Kept _). s.mark) same ∙ none)))
+no_memory_step P G old new e none same = inl (
+  none,
+  record {
+    failed = None;
+    mark = ap (λ (s : Kept _). s.mark) same ∙ none;
+    leads = inl (tt, (ap (λ (s : Kept _). G ++ s.entries) same, refl));
+  },
+)
 
 pub stopped_step : {D : Type 0} (P : PlainPolicy) (G : History) (old new : Kept D) (e : Entry) → IsSome old.mark → new ≡ old
     → IsStep P (standing G old) (standing G new) (record { line = e; answer = answer_said (Err faults.Stopped) })
@@ -49,14 +56,28 @@ module _ {D : Type 0} (seen : D → DiskSeen) (policy : Option PlainPolicy) (P :
       let H : History = G ++ old.entries in
       let none : old.mark ≡ None = not_marked old.mark (λ some. let no : Ok p ≡ Err faults.Stopped = halted.1 some in absurd (cc no)) in
       let same : history_after H e (answer_said (Ok p)) ≡ grown P H e = ap (λ (reply : PlainReply). if changes reply then H ++ e ∷ [] else H) h.reply in
-      inl (none, inl ((h.reply, h.place ∙ ap length (h.entries ∙ sym same)), (h.entries ∙ sym same, h.unmarked)))
+      inl (
+        none,
+        record {
+          failed = None;
+          mark = h.unmarked;
+          leads = inl ((h.reply, h.place ∙ ap length (h.entries ∙ sym same)), (h.entries ∙ sym same, refl));
+        },
+      )
   store_steps (Err (faults.NoMemory m)) halted placed no_memory still failed =
       let none : old.mark ≡ None = not_marked old.mark (λ some. let no : Err (faults.NoMemory m) ≡ Err faults.Stopped = halted.1 some in absurd (cc no)) in
       no_memory_step P G old new e none (no_memory refl)
   store_steps (Err faults.DiskFault) halted placed no_memory still failed =
       let h = failed refl P G is front in
       let none : old.mark ≡ None = not_marked old.mark (λ some. let no : Err faults.DiskFault ≡ Err faults.Stopped = halted.1 some in absurd (cc no)) in
-      inl (none, inr (record { failed = refl; would_change = h.would_change; stops = tt }, h.entries, h.mark))
+      inl (
+        none,
+        record {
+          failed = Some e;
+          mark = h.mark;
+          leads = inr (record { failed = refl; would_change = h.would_change; stops = tt }, h.entries, refl);
+        },
+      )
   store_steps (Err faults.Stopped) halted placed no_memory still failed = stopped_step P G old new e (halted.0 refl) (still refl)
 
 rises : (o p : Option Bytes) (m n : ℕ) → ((file : Bytes) → o ≡ Some file → m ≤ n) → (IsSome o → IsSome p) → moment_by o m ≤ moment_by p n

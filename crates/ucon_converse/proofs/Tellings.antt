@@ -3,7 +3,6 @@ use Rattle.std.proofs.Common.{◌≡◌, inl, inr, true, false, ℕ, ◌+◌, �
 use Rattle.std.proofs.lemmas.List.{take_at}
 use Rattle.std.specs.Prelude.{Option, Some, None, is_some, Result, Ok, Err, IfOk, OnOk, codes, decimal}
 use Rattle.ucon_flow.specs.Lines.{IsLine}
-use Rattle.ucon_model.specs.declared.command.Entry.{Entry}
 use Rattle.ucon_model.specs.Action.{Trace}
 use Rattle.ucon_model.specs.Block.{after}
 use Rattle.ucon_model.specs.History.{History, trace, trace_from}
@@ -68,16 +67,16 @@ pub replied_as : {T E : Type 0} (r : Result T E) (old new : Bytes) (A B : Bytes 
 replied_as (Ok v) old new A B f a = (a.0, a.1, f a.0 a.2, a.3)
 replied_as (Err e) old new A B f a = tt
 
--- ---- by whether a step has met a disk fault
+-- ---- by whether the store is stopped
 
-pub stopped_told : (failed : Option Entry) (told : Bytes) → is_some failed ≡ true → IsToldSo failed told (refusal_line (codes "stopped"))
+pub stopped_told : (failed : Option History) (told : Bytes) → is_some failed ≡ true → IsToldSo failed told (refusal_line (codes "stopped"))
 stopped_told None told is = absurd (let no : false ≡ true = is in cc no)
 stopped_told (Some e) told is = refl
 
-pub told_so : (failed : Option Entry) (told reply : Bytes) → is_some failed ≡ false → reply ≡ told → IsToldSo failed told reply
+pub told_so : (failed : Option History) (told reply : Bytes) → is_some failed ≡ false → reply ≡ told → IsToldSo failed told reply
 told_so None told reply is e = inl e
 told_so (Some f) told reply is e = absurd (let no : true ≡ false = is in cc no)
 
-pub no_memory_told : (failed : Option Entry) (told : Bytes) → is_some failed ≡ false → IsToldSo failed told (refusal_line (codes "no memory"))
+pub no_memory_told : (failed : Option History) (told : Bytes) → is_some failed ≡ false → IsToldSo failed told (refusal_line (codes "no memory"))
 no_memory_told None told is = inr refl
 no_memory_told (Some f) told is = absurd (let no : true ≡ false = is in cc no)

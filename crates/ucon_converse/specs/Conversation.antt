@@ -6,6 +6,7 @@ use Rattle.ucon_flow.specs.Writing.{AppendsPrefix}
 use Rattle.ucon_model.specs.LegalRun.{Answered, IsLegalRun, history_made, in_text_order}
 use Rattle.ucon_model.specs.Plain.{Bytes, PlainPolicy}
 use Rattle.ucon_model.specs.StoredRun.{failed_line}
+use Rattle.ucon_store.specs.Marks.{marked}
 use Rattle.ucon_store.specs.Points.{PolicyReading}
 use Rattle.ucon_tell.specs.Seen.{VoiceSeen}
 use Rattle.ucon_tell.specs.Talk.{AnswersEach, Exchange, lines_in, replies_in}
@@ -64,7 +65,7 @@ pub record HasConversedBy (reads : PolicyReading) (P : PlainPolicy) (text : Byte
   pub among : AreAnswersBy reads exchanges told
   pub legal : IsLegalRun P in_text_order opening.history told
   pub made : history_made opening.history told ≡ reached.history
-  pub failed : failed_line told ≡ reached.failed
+  pub failed : reached.failed ≡ marked (failed_line told)
   -- what was told
   pub kept : tells → (b : Bytes) (t : ℕ) → now.told b t
       → before.told b t ⊎ IfSome before.contents (λ held. IsToldOnceKeptBy reads text disk held opening exchanges b t)

@@ -4,7 +4,6 @@ use Rattle.ucon_disk.specs.Causes.{raised}
 use Rattle.ucon_disk.specs.Run.{IsAtRest, LeavesAfter, LeavesOnly}
 use Rattle.ucon_disk.specs.Seen.{DiskSeen}
 use Rattle.ucon_journal.specs.Found.{counted}
-use Rattle.ucon_model.specs.declared.command.Entry.{Entry}
 use Rattle.ucon_model.specs.History.{History}
 use Rattle.ucon_model.specs.Plain.{Bytes, PlainPolicy}
 use Rattle.ucon_outcome.specs.declared.outcome.Outcome.{Outcome}
@@ -14,7 +13,7 @@ use Rattle.ucon_outcome.specs.declared.outcome.Refused.{Refused}
 use Rattle.ucon_outcome.specs.declared.outcome.Refused.TheVariants as refusals
 use Rattle.ucon_outcome.specs.Ending.{by_opening}
 use Rattle.ucon_store.specs.declared.fault.StoreFault.{StoreFault}
-use Rattle.ucon_store.specs.Found.{IsFoundBy, IsFoundWithBy}
+use Rattle.ucon_store.specs.Found.{IsFoundBy, IsFoundMarkedBy}
 use Rattle.ucon_store.specs.Kept.{Kept}
 use Rattle.ucon_store.specs.Opening.{HasReasonBy, OpensBy}
 use Rattle.ucon_store.specs.Points.{PolicyReading}
@@ -57,12 +56,12 @@ pub record IsTalkedOver {D : Type 0} (seen : D → DiskSeen) (store : Kept D) (d
 
 -- ---- over a journal that was found as a history
 
--- a file is found as a history that has the opening one and begins this one, or as this one with the step that met a disk fault
-pub record IsFoundSinceBy (reads : PolicyReading) (text : Bytes) (opening H : History) (failed : Option Entry) (file : Bytes) : Type 0 where
+-- a file is found as a history that has the opening one and begins this one, or as this one with the entries of a mark behind
+pub record IsFoundSinceBy (reads : PolicyReading) (text : Bytes) (opening H : History) (mark : Option History) (file : Bytes) : Type 0 where
   pub history : History
   pub found : IsFoundBy reads text file history
   pub begun : Begins opening history
-  pub within : Begins history H ⊎ ((e : Entry) × (failed ≡ Some e) × (history ≡ H ++ e ∷ []))
+  pub within : Begins history H ⊎ ((es : History) × (mark ≡ Some es) × (history ≡ H ++ es))
 
 -- The conversation went on behind the opening history to a last standing. The disk's count of faults is one more if a step met a disk fault, and
 -- otherwise as it was. A crash at any moment since, if the disk was at rest before, and a crash now at any rate, leaves what was done by then.
@@ -73,9 +72,9 @@ pub record IsHeldBehindBy (reads : PolicyReading) (text : Bytes) (P : PlainPolic
   pub outcome_is : outcome ≡ ended_so result (is_some last.failed)
   pub conversed : HasConversedBy reads P text 65546 result (record { history = opening; failed = None }) last before now new (Unit {0}) (hears result)
   pub unfailed : last.failed ≡ None → new.faults ≡ old.faults
-  pub failed : (e : Entry) → last.failed ≡ Some e → new.faults ≡ raised old.faults
+  pub failed : (es : History) → last.failed ≡ Some es → new.faults ≡ raised old.faults
   pub since : IsAtRest old file → LeavesOnly old new (IsFoundSinceBy reads text opening last.history last.failed)
-  pub left : (c : Bytes) → new.images c → IsFoundWithBy reads text last.history last.failed c
+  pub left : (c : Bytes) → new.images c → IsFoundMarkedBy reads text last.history last.failed c
 
 -- ---- under a policy
 

@@ -1,10 +1,9 @@
 -- What each image of a store's disk holds once a line was answered.
-use Rattle.std.proofs.Common.{◌≡◌, ◌⊎◌, inl, inr, ⊎_elim, ℕ, List, [], ◌∷◌, ◌++◌, Option, Some, None, IsSome, refl, subst}
+use Rattle.std.proofs.Common.{◌≡◌, ◌⊎◌, inl, inr, ⊎_elim, ℕ, List, ◌++◌, Option, Some, None, IsSome, refl, subst}
 use Rattle.ucon_disk.specs.Seen.{DiskSeen}
-use Rattle.ucon_model.specs.declared.command.Entry.{Entry}
 use Rattle.ucon_model.specs.History.{History}
 use Rattle.ucon_model.specs.Plain.{Bytes, PlainPolicy}
-use Rattle.ucon_store.specs.Found.{IsFoundAs, IsFoundBy, IsFoundWith}
+use Rattle.ucon_store.specs.Found.{IsFoundAs, IsFoundBy, IsFoundMarked}
 use Rattle.ucon_store.specs.Kept.{Kept}
 use Rattle.ucon_store.specs.Points.{PolicyReading}
 use Rattle.ucon_store.specs.Stays.{IsFoundBetween, Stays}
@@ -26,7 +25,7 @@ IsFoundPast = IsFoundPastBy accepted
 pub record IsBased {D : Type 0} (seen : D → DiskSeen) (P : PlainPolicy) (s : Kept D) (G : History) : Type 0 where
   pub founded : s.mark ≡ None → IsFounded seen P s G
   pub told : IsSome (seen s.disk).contents
-  pub each : (c : Bytes) → (seen s.disk).images c → IsFoundWith s.policy (G ++ s.entries) s.mark c
+  pub each : (c : Bytes) → (seen s.disk).images c → IsFoundMarked s.policy (G ++ s.entries) s.mark c
 
 -- this image holds all that the store has answered, behind each history that stands before its entries
 abbrev pub HoldsAll : {D : Type 0} → (D → DiskSeen) → Kept D → Bytes → Type 0
@@ -36,9 +35,9 @@ none_or_some : {A : Type 0} (o : Option A) → (o ≡ None) ⊎ ((a : A) × (o �
 none_or_some None = inl refl
 none_or_some (Some a) = inr (a, refl)
 
-past_of : (text : Bytes) (H : History) (mark : Option Entry) (c : Bytes) → IsFoundWith text H mark c → IsFoundPast text H c
+past_of : (text : Bytes) (H : History) (mark : Option History) (c : Bytes) → IsFoundMarked text H mark c → IsFoundPast text H c
 past_of text H mark c (inl f) = record { history = H; found = f; begun = begins_refl H }
-past_of text H mark c (inr f) = record { history = H ++ f.0 ∷ []; found = f.2; begun = (f.0 ∷ [], refl) }
+past_of text H mark c (inr f) = record { history = H ++ f.0; found = f.2; begun = (f.0, refl) }
 
 module _ {D : Type 0} (seen : D → DiskSeen) where
   -- what a store had answered each image holds, at its moment and from then on
@@ -50,7 +49,7 @@ module _ {D : Type 0} (seen : D → DiskSeen) where
       ⊎_elim (λ (image : (seen x.disk).images c). past_of x.policy (G ++ x.entries) x.mark c (based.each c image))
       (λ (f : IsFoundBetween (whole G x) (whole G y) c).
       record { history = f.history; found = subst (λ (text : Bytes). IsFoundAs text c f.history) stays.policy f.found; begun = f.begun }) (run.each c since))
-      (λ (marked : (e : Entry) × (x.mark ≡ Some e)).
+      (λ (marked : (es : History) × (x.mark ≡ Some es)).
       let same : y ≡ x = stays.mark marked.0 marked.1 in
       let image : (seen x.disk).images c = only x.disk c (subst (λ (s : Kept D). (seen s.disk).images_since (seen x.disk).moment c) same since) in
       past_of x.policy (G ++ x.entries) x.mark c (based.each c image))

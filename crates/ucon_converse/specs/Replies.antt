@@ -10,22 +10,29 @@ use Rattle.ucon_model.specs.LegalRun.{Answer, Answered, no_memory, stopped}
 use Rattle.ucon_model.specs.Output.{answer_line, answer_spelling}
 use Rattle.ucon_model.specs.Plain.{Bytes, PlainPolicy}
 use Rattle.ucon_model.specs.StoredRun.{LeadsTo}
+use Rattle.ucon_store.specs.Marks.{marked}
 use Rattle.ucon_store.specs.Points.{PolicyReading}
 use Rattle.ucon_tell.specs.Talk.{Exchange}
 use Rattle.ucon_converse.specs.declared.reading.Reading.{Reading}
 use Rattle.ucon_converse.specs.Readings.{IsNoReading, IsReadingOf, line_told}
 use Rattle.ucon_converse.specs.Requests.{IsNoRequestBy, IsRequestBy, TellsWhyBy}
 
--- what a store stands for at one moment: the whole history, and the entry of the step that met a disk fault, if one did
+-- what a store stands for at one moment: the whole history, and its mark, if it is stopped
 pub record Standing : Type 0 where
   pub history : History
-  pub failed : Option Entry
+  pub failed : Option History
 
--- One request was answered. Where no step has failed the answer is the next one of a run in text order behind the history; else it is that the
+-- answers in text order lead from the history of one standing to another, whose mark is that of the step that met a disk fault, if one did
+pub record LeadsOn (P : PlainPolicy) (before after : Standing) (told : List Answered) : Type 0 where
+  pub failed : Option Entry
+  pub mark : after.failed ≡ marked failed
+  pub leads : LeadsTo P before.history told after.history failed
+
+-- One request was answered. Where the store isn't stopped the answer is the next one of a run in text order behind the history; else it is that the
 -- disk had failed.
 abbrev pub IsStep : PlainPolicy → Standing → Standing → Answered → Type 0
 IsStep P before after t =
-    ((before.failed ≡ None) × LeadsTo P before.history (t ∷ []) after.history after.failed)
+    ((before.failed ≡ None) × LeadsOn P before after (t ∷ []))
     ⊎ (IsSome before.failed × (t.answer ≡ stopped) × (after ≡ before))
 
 -- ---- the lines that go out
@@ -43,9 +50,9 @@ abbrev pub client_line : Caller → Answer → Bytes
 client_line caller answer = decimal caller.0 ++ 32 ∷ answer_spelling answer ++ 10 ∷ []
 
 -- what a client is told for whose line there is no memory; behind a disk fault, that it had failed
-abbrev pub unheard : Option Entry → Answer
+abbrev pub unheard : Option History → Answer
 unheard None = no_memory
-unheard (Some failed) = stopped
+unheard (Some mark) = stopped
 
 -- ---- one line
 
@@ -76,9 +83,9 @@ pub record IsUnjudged (reads : PolicyReading) (before after : Standing) (line re
   pub same : after ≡ before
 
 -- a reading is told so; or there was no memory for what is told; and behind a disk fault none is told
-abbrev pub IsToldSo : Option Entry → Bytes → Bytes → Type 0
+abbrev pub IsToldSo : Option History → Bytes → Bytes → Type 0
 IsToldSo None told reply = (reply ≡ told) ⊎ (reply ≡ refusal_line (codes "no memory"))
-IsToldSo (Some failed) told reply = reply ≡ refusal_line (codes "stopped")
+IsToldSo (Some mark) told reply = reply ≡ refusal_line (codes "stopped")
 
 -- it is a reading, and was told of the history that is there, which began under a policy of this text
 pub record IsRead (P : PlainPolicy) (text : Bytes) (before after : Standing) (line reply : Bytes) : Type 0 where

@@ -160,7 +160,7 @@ fn converse_over<E: Engine, S: Source, D: Disk, V: Voice<StoreKeeper<E, D>>>(
     let mut keeper = StoreKeeper::new(store);
     let talked = hold(alloc, &mut keeper, lines, input, out);
     let store = keeper.into_store();
-    let outcome = ended_by(talked, store.failed().is_some());
+    let outcome = ended_by(talked, store.is_stopped());
     Ended::by(outcome, store.close())
 }
 

@@ -38,7 +38,7 @@ pub(crate) fn take<E: Engine, D: Disk>(
         → moment_of (D.seen store.old.disk) ≤ moment_of (D.seen store.new.disk) }
 {
     texts_tell_changes();
-    if store.failed().is_some() {
+    if store.is_stopped() {
         return Err(StepFault::Stopped);
     }
     let command = request.command.command(alloc)?;

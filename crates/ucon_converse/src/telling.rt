@@ -43,7 +43,7 @@ pub(crate) fn answer_unasked<E: Engine, D: Disk>(
     texts_lack_bytes();
     match read_reading(line) {
         Some(reading) => tell_reading(alloc, store, &reading, out),
-        None => put_fault(out, fault, store.failed().is_some()),
+        None => put_fault(out, fault, store.is_stopped()),
     }
 }
 
@@ -59,7 +59,7 @@ fn tell_reading<E: Engine, D: Disk>(
         → IsToldSo store.now.mark (line_told P store.now.policy (G ++ store.now.entries) reading.now) reply) out.old.items out.new.items) }
 {
     texts_lack_bytes();
-    if store.failed().is_some() {
+    if store.is_stopped() {
         return put_refusal(out, b"stopped");
     }
     match reading_text(alloc, store, reading) {

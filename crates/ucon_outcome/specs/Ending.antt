@@ -11,8 +11,8 @@ use Rattle.ucon_syntax.specs.declared.read.SyntaxFault.TheVariants as syntax
 use Rattle.ucon_check.specs.declared.fault.CheckFault.{CheckFault}
 use Rattle.ucon_script.specs.declared.doc_fault.DocFault.{DocFault}
 use Rattle.ucon_script.specs.declared.doc_fault.DocFault.TheVariants as scripts
-use Rattle.ucon_store.specs.declared.fault.PointRefusal.{PointRefusal}
-use Rattle.ucon_store.specs.declared.fault.PointRefusal.TheVariants as points
+use Rattle.ucon_store.specs.declared.fault.PointFault.{PointFault}
+use Rattle.ucon_store.specs.declared.fault.PointFault.TheVariants as points
 use Rattle.ucon_store.specs.declared.fault.StoreFault.{StoreFault}
 use Rattle.ucon_store.specs.declared.fault.StoreFault.TheVariants as stores
 use Rattle.ucon_outcome.specs.declared.outcome.PolicyFault.TheVariants.{Syntax, Typing}
@@ -137,12 +137,13 @@ by_opening (stores.OtherPolicy place) = OtherPolicy place
 by_opening stores.DiskFault = DiskFault
 by_opening (stores.NoMemory e) = NoMemory e
 
--- how a run ends whose checkpoint was refused; a store that was just opened isn't stopped, and what stops one is its disk
-abbrev pub by_refusal : PointRefusal → Outcome
-by_refusal points.Stopped = DiskFault
-by_refusal points.OldJournal = OldJournal
-by_refusal (points.TooLarge size) = FullPoint size
-by_refusal (points.NoMemory e) = NoMemory e
+-- how a run ends whose checkpoint wasn't written; a store that was just opened isn't stopped, and what stops one is its disk
+abbrev pub by_point : PointFault → Outcome
+by_point points.DiskFault = DiskFault
+by_point points.Stopped = DiskFault
+by_point points.OldJournal = OldJournal
+by_point (points.TooLarge size) = FullPoint size
+by_point (points.NoMemory e) = NoMemory e
 
 -- how a run ends that had its document
 abbrev pub IsOfDocument : Outcome → Type 0

@@ -3,13 +3,13 @@
 ghost use Rattle.std.specs.Prelude.{◌≡◌};
 ghost use Rattle.ucon_outcome.specs.declared.outcome.Refused.TheVariants as refusals;
 ghost use Rattle.ucon_outcome.specs.declared.outcome.Outcome.TheVariants as outcomes;
-ghost use Rattle.ucon_outcome.specs.Ending.{by_opening, by_reading, by_refusal, by_script, by_syntax, by_typing, outcome_of};
+ghost use Rattle.ucon_outcome.specs.Ending.{by_opening, by_point, by_reading, by_script, by_syntax, by_typing, outcome_of};
 
 use ucon_base::NoMemory;
 use ucon_check::CheckFault;
 use ucon_flow::ReadFault;
 use ucon_script::DocFault;
-use ucon_store::{PointRefusal, StoreFault};
+use ucon_store::{PointFault, StoreFault};
 use ucon_syntax::SyntaxFault;
 
 /// Why a policy is refused: it is no policy, or it is not well typed.
@@ -144,15 +144,15 @@ impl From<StoreFault> for Outcome {
     }
 }
 
-impl From<PointRefusal> for Outcome {
-    ghost from_gives = { λ refusal outcome. outcome ≡ by_refusal refusal };
+impl From<PointFault> for Outcome {
+    ghost from_gives = { λ fault outcome. outcome ≡ by_point fault };
 
-    fn from(refusal: PointRefusal) -> Outcome {
-        match refusal {
-            PointRefusal::Stopped => Outcome::DiskFault,
-            PointRefusal::OldJournal => Outcome::OldJournal,
-            PointRefusal::TooLarge(size) => Outcome::FullPoint(size),
-            PointRefusal::NoMemory(e) => Outcome::NoMemory(e),
+    fn from(fault: PointFault) -> Outcome {
+        match fault {
+            PointFault::DiskFault | PointFault::Stopped => Outcome::DiskFault,
+            PointFault::OldJournal => Outcome::OldJournal,
+            PointFault::TooLarge(size) => Outcome::FullPoint(size),
+            PointFault::NoMemory(e) => Outcome::NoMemory(e),
         }
     }
 }

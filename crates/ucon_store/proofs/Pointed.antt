@@ -1,17 +1,16 @@
 -- What putting a checkpoint on the disk leaves there.
-use Rattle.std.proofs.Common.{◌≡◌, inl, inr, ⊎_elim, ℕ, ◌≤◌, Bool, List, [], ◌∷◌, ◌++◌, length, Option, Some, None, Ok, Err, refl, sym, ap, ◌∙◌, subst, true, false, arith, ◌+◌, length-append}
-use Rattle.std.specs.Prelude.{◌&&◌, is_some, Result, OnOk, nat_lt, IfSome, if◌then◌else◌}
-use Rattle.std.specs.Result.{is_err}
+use Rattle.std.proofs.Common.{◌≡◌, inl, inr, ⊎_elim, ℕ, ◌≤◌, Bool, List, [], ◌∷◌, ◌++◌, length, Option, Some, None, refl, sym, ap, ◌∙◌, subst, true, false, arith, ◌+◌, length-append}
+use Rattle.std.specs.Prelude.{◌&&◌, is_some, nat_lt, IfSome, if◌then◌else◌}
 use Rattle.std.specs.Str.{bytes_eq}
 use Rattle.std.proofs.lemmas.Slice.Eq.{bytes_eq-Decides}
 use Rattle.ucon_model.specs.Found.{found_in, holds}
-use Rattle.ucon_model.specs.declared.command.Entry.{Entry}
 use Rattle.ucon_model.specs.Action.{Trace}
 use Rattle.ucon_model.specs.History.{History, trace, trace_from}
 use Rattle.ucon_model.specs.Payload.{most_payload}
 use Rattle.ucon_model.specs.Plain.{Bytes, PlainPolicy}
-use Rattle.ucon_disk.specs.Causes.{HasCause}
-use Rattle.ucon_disk.specs.Run.{LeavesOnly, LeavesAfter, weaker}
+use Rattle.ucon_disk.specs.Causes.{raised}
+use Rattle.ucon_disk.specs.Disk.{Only}
+use Rattle.ucon_disk.specs.Run.{LeavesOnly, LeavesAfter, started, weaker}
 use Rattle.ucon_journal.specs.declared.journal.Journal.{Journal}
 use Rattle.ucon_journal.specs.Journal.{disk_of, version_of, told_payloads, IsClosed}
 use Rattle.ucon_journal.specs.Found as journalled
@@ -20,21 +19,22 @@ use Rattle.ucon_point.specs.PointText.{point_text}
 use Rattle.ucon_state.specs.Held.{held_after}
 use Rattle.ucon_turn.specs.Lists.{begins_refl}
 use Rattle.ucon_syntax.specs.Policies.{accepted}
-use Rattle.ucon_store.specs.Found.{Holds, found_as}
+use Rattle.ucon_store.specs.Found.{Holds, IsFoundMarked, found_as}
 use Rattle.ucon_store.specs.declared.beginning.Beginning.{Beginning}
 use Rattle.ucon_store.specs.Kept.{Kept, IsKept, payload_in}
-use Rattle.ucon_store.specs.declared.fault.PointRefusal.{PointRefusal}
-use Rattle.ucon_store.specs.declared.fault.PointRefusal.TheVariants.{Stopped, OldJournal, TooLarge, NoMemory}
+use Rattle.ucon_store.specs.declared.fault.PointFault.{PointFault}
+use Rattle.ucon_store.specs.declared.fault.PointFault.TheVariants.{DiskFault, Stopped, OldJournal, TooLarge, NoMemory}
 use Rattle.ucon_store.specs.Pointing.{IsFoundPointed, IsUnpointed, IsUnprepared}
 use Rattle.ucon_store.specs.Points.{checkpoint, has_points, is_point, places_in, point_places, point_taken, points_of, steps_and_points, takes_with, text_behind, text_in_force}
 use Rattle.ucon_store.specs.Starts.{IsStart, checkpoint_behind, point_behind, text_at_start}
 use Rattle.ucon_store.specs.Stays.{Stays}
-use Rattle.ucon_store.specs.Whole.{IsFounded, left_founded}
+use Rattle.ucon_store.specs.Whole.{IsFounded, found_founded, left_founded}
+use Rattle.ucon_store.proofs.Adding.{Adds, adds_payload, added_payload}
 use Rattle.ucon_store.proofs.Finding.{counted_hold, holds_more, holds_same, takes_of}
 use Rattle.ucon_store.proofs.Versions.{closed_kind, takes_as}
 use Rattle.ucon_store.proofs.Places.{place_added}
 use Rattle.ucon_store.proofs.SamePlaces.{places_same}
-use Rattle.ucon_store.proofs.Recorded.{HoldsAtRest, IsAppended, OneByOne, at_rest_as, counted_then, holds_now, kind_now, kind_then, rest_with, same_kind, some_told, told_file}
+use Rattle.ucon_store.proofs.Recorded.{HoldsAtRest, IsAppended, OneByOne, at_rest_as, counted_then, holds_now, kind_now, kind_then, rest_with, same_kind, stays_marked, told_file, with_mark}
 use Rattle.ucon_store.proofs.Stepped.{holds_founded, parts}
 use Rattle.ucon_store.proofs.Stepping.{stands_as, trace_append}
 use Rattle.ucon_disk.specs.Seen.{DiskSeen}
@@ -126,12 +126,14 @@ checkpoint_whole text start before P G H is count =
     let traces : trace_from P (trace P G) H ≡ trace P (G ++ H) = sym (trace_append P [] G H) in
     λ i. point_text (number i) (in_force i) (held_after P (traces i))
 
--- A checkpoint of a store is ready for the disk: no step has failed, the journal is closed over the store's disk, and may have checkpoints, and the
--- payload isn't too long, and is the store's checkpoint behind each trace that leads to its beginning.
+-- A checkpoint of a store is ready for the disk: no call has met a disk fault, the journal is closed over the store's disk, of which a crash leaves
+-- nothing but the file, and may have checkpoints, and the payload isn't too long, and is the store's checkpoint behind each trace that leads to its
+-- beginning.
 pub record IsPointReady {D : Type 0} (seen : D → DiskSeen) (x : Kept D) (k : Journal D) (payload : Bytes) : Type 0 where
   pub unmarked : x.mark ≡ None
   pub closed : IsClosed seen k
   pub same : disk_of k ≡ x.disk
+  pub only : Only (seen x.disk).contents (seen x.disk).images
   pub second : points_of (version_of k) ≡ true
   pub short : length payload ≤ most_payload
   pub writes : (P : PlainPolicy) (T : Trace) → accepted x.policy ≡ Some P → IsStart P x.point x.before T
@@ -142,17 +144,18 @@ same_points : (o : Option Bytes) (points b : Bool) → points ≡ b → IfSome o
 same_points o points b is kind = subst (λ (x : Bool). IfSome o (λ file. has_points file ≡ x)) is kind
 
 -- why a checkpoint wasn't prepared is why the store has none more
-unpointed : {D : Type 0} (seen : D → DiskSeen) (P : PlainPolicy) (T : Trace) (store : Kept D) (refusal : PointRefusal) (points : Bool)
+unpointed : {D : Type 0} (seen : D → DiskSeen) (P : PlainPolicy) (T : Trace) (store : Kept D) (refusal : PointFault) (points : Bool)
     (payload : Bytes)
     → IsUnprepared points payload refusal → payload ≡ checkpoint_behind store.policy store.point store.before P T store.entries → IfSome (seen store.disk).contents (λ file. has_points file ≡ points)
     → IsUnpointed seen P T store refusal
+unpointed seen P T store DiskFault points payload h is kind = absurd h
 unpointed seen P T store Stopped points payload h is kind = absurd h
 unpointed seen P T store OldJournal points payload h is kind = same_points (seen store.disk).contents points false h kind
 unpointed seen P T store (TooLarge size) points payload h is kind = (same_points (seen store.disk).contents points true h.0 kind, h.1 ∙ ap (λ (l : Bytes). length l) is, h.2)
 unpointed seen P T store (NoMemory e) points payload h is kind = tt
 
 module _ {E D : Type 0} {follows : E → PlainPolicy → Trace → Type 0} {seen : D → DiskSeen} {engine : E}
-    {j : Journal D} {text : Bytes} {point : Option Beginning} {before opening : ℕ} {now : Bytes} {H : History} {mark : Option Entry}
+    {j : Journal D} {text : Bytes} {point : Option Beginning} {before opening : ℕ} {now : Bytes} {H : History} {mark : Option History}
     (kept : IsKept follows seen engine j text point before now H mark)
     {x : Kept D} (is : parts text point before opening H mark (disk_of j) ≡ x) (none : mark ≡ None) where
   -- the checkpoint after the entries, in the text that is kept
@@ -174,6 +177,7 @@ module _ {E D : Type 0} {follows : E → PlainPolicy → Trace → Type 0} {seen
         unmarked = none;
         closed = closed (kept.rests none).closed;
         same = same;
+        only = (kept.rests none).only;
         second = ap points_of version ∙ second;
         short = subst (λ (l : Bytes). length l ≤ most_payload) (sym is_written) short;
         writes = λ P T accepts leads.
@@ -182,7 +186,7 @@ module _ {E D : Type 0} {follows : E → PlainPolicy → Trace → Type 0} {seen
       })
 
   -- and why it wasn't prepared is why the store has none more
-  pub point_refused : (refusal : PointRefusal) {count : ℕ} → count ≡ before + length H → {shown : Bytes} → shown ≡ now
+  pub point_refused : (refusal : PointFault) {count : ℕ} → count ≡ before + length H → {shown : Bytes} → shown ≡ now
       → ((P : PlainPolicy) (T : Trace) → follows engine P T
       → IsUnprepared (points_of (version_of j)) (point_text count shown (held_after P T)) refusal)
       → (P : PlainPolicy) (T : Trace) → accepted x.policy ≡ Some P → IsStart P x.point x.before T → IsUnpointed seen P T x refusal
@@ -205,6 +209,17 @@ LeavesPoint seen x new = (P : PlainPolicy) (G : History) (file : List ℕ) → I
     → (seen x.disk).contents ≡ Some file
     → LeavesOnly (seen x.disk) (seen new) (IsFoundPointed x.policy (G ++ x.entries) (point_places file))
 
+-- before a call of the disk
+pub points_nothing : {D : Type 0} (seen : D → DiskSeen) (x : Kept D) → ((d : D) (c : List ℕ) → (seen d).images_since (seen d).moment c → (seen d).images c)
+    → (new : D) → new ≡ x.disk → LeavesPoint seen x new
+points_nothing {D} seen x only new same P G file f told =
+    let all : Only (Some file) (seen x.disk).images = subst (λ (o : Option Bytes). Only o (seen x.disk).images) told f.only in
+    subst (λ (d : D). LeavesOnly (seen x.disk) (seen d) (IsFoundPointed x.policy (G ++ x.entries) (point_places file))) (sym same)
+    (started (seen x.disk) (IsFoundPointed x.policy (G ++ x.entries) (point_places file))
+    (λ c since.
+    let image = only x.disk c since in
+    (found_founded seen P x G f (ap is_some told) c image, inl (ap point_places (all c image)))))
+
 module _ {D : Type 0} {seen : D → DiskSeen} {x : Kept D} {k : Journal D} {payload : Bytes}
     (ready : IsPointReady seen x k payload) where
   -- the file may have checkpoints
@@ -218,16 +233,16 @@ module _ {D : Type 0} {seen : D → DiskSeen} {x : Kept D} {k : Journal D} {payl
       → length (checkpoint_behind x.policy x.point x.before P T x.entries) ≤ most_payload
   fits_ready P T accepts leads = subst (λ (l : Bytes). length l ≤ most_payload) (ready.writes P T accepts leads) ready.short
 
-  -- once it is there, it stands behind the payloads of before, whatever is found in them
+  -- since its record's making has begun, each image has it at most more, whatever is found in them
+  pub adds_point : {new : D} → LeavesAfter (seen (disk_of k)) (seen new) (PerhapsAdded payload)
+      → Adds seen x (λ P T. checkpoint_behind x.policy x.point x.before P T x.entries) new
+  adds_point = adds_payload seen x (λ P T. checkpoint_behind x.policy x.point x.before P T x.entries) k ready.same ready.only ready.writes
+
+  -- once it is there, it stands behind the payloads of before
   pub written_point : {next : Journal D} → IsAppended seen k next payload
       → (P : PlainPolicy) (T : Trace) (file : Bytes) → accepted x.policy ≡ Some P → IsStart P x.point x.before T → (seen x.disk).contents ≡ Some file
       → told_payloads (seen (disk_of next)).contents ≡ journalled.counted file ++ checkpoint_behind x.policy x.point x.before P T x.entries ∷ []
-  written_point {next} appended P T file accepts leads is =
-      let here : (seen (disk_of k)).contents ≡ Some file = ap (λ d. (seen d).contents) ready.same ∙ is in
-      some_told (λ _. told_payloads (seen (disk_of next)).contents ≡ told_payloads (seen (disk_of k)).contents ++ payload ∷ [])
-      (seen (disk_of k)).contents file here appended.added
-      ∙ (ap (λ (o : Option Bytes). told_payloads o ++ payload ∷ []) here
-      ∙ ap (λ (p : Bytes). journalled.counted file ++ p ∷ []) (ready.writes P T accepts leads))
+  written_point = added_payload seen x (λ P T. checkpoint_behind x.policy x.point x.before P T x.entries) k ready.same ready.only ready.writes
 
   module _ (P : PlainPolicy) (G : History) (f : IsFounded seen P x G) where
     is_checkpoint : payload ≡ checkpoint x.policy P (G ++ x.entries)
@@ -247,6 +262,20 @@ module _ {D : Type 0} {seen : D → DiskSeen} {x : Kept D} {k : Journal D} {payl
         → LeavesOnly (seen d) (seen new) (IsFoundPointed x.policy (G ++ x.entries) (point_places file))) ready.same
         (run_pointed one x.policy P (G ++ x.entries) payload (is_checkpoint P G f) ready.short
         (rest P G f) ready.second new run file) told
+
+    -- where the disk failed, the store stays with a mark of no entries
+    pub stays_stopped : {new : D} → LeavesAfter (seen (disk_of k)) (seen new) (PerhapsAdded payload)
+        → is_some (seen new).contents ≡ is_some (seen (disk_of k)).contents
+        → (seen new).faults ≡ raised (seen (disk_of k)).faults
+        → ((d : D) (t : ℕ) (c : List ℕ) → t ≤ (seen d).moment → (seen d).images c → (seen d).images_since t c)
+        → {y : Kept D} → y ≡ with_mark x [] new → Stays seen x y
+    stays_stopped {new} run tells failed counts is =
+        stays_marked seen x [] new is ready.unmarked (failed ∙ ap (λ (d : D). raised (seen d).faults) ready.same)
+        (tells ∙ ap (λ (d : D). is_some (seen d).contents) ready.same) counts
+        (λ P G f told.
+        let file = told_file (seen x.disk).contents told in
+        weaker (seen x.disk) (seen new) (IsFoundPointed x.policy (G ++ x.entries) (point_places file.0)) (IsFoundMarked x.policy (G ++ x.entries) (Some []))
+        (λ c h. inl h.0) (leaves_point run P G file.0 f file.1))
 
     module _ {next : Journal D} (appended : IsAppended seen k next payload) where
       -- where the checkpoints stand then
@@ -281,9 +310,9 @@ module _ {D : Type 0} {seen : D → DiskSeen} {x : Kept D} {k : Journal D} {payl
             before = refl;
             opening = refl;
             entries = begins_refl x.entries;
-            mark = λ e some. let no : None ≡ Some e = sym ready.unmarked ∙ some in absurd (cc no);
+            mark = λ es some. let no : None ≡ Some es = sym ready.unmarked ∙ some in absurd (cc no);
             unfailed = λ _. unfailed ∙ ap (λ d. (seen d).faults) ready.same;
-            failed = λ _ e some. let no : None ≡ Some e = sym ready.unmarked ∙ some in absurd (cc no);
+            failed = λ _ es some. let no : None ≡ Some es = sym ready.unmarked ∙ some in absurd (cc no);
             tells = λ told. appended.tells ∙ (ap (λ (d : D). is_some (seen d).contents) ready.same ∙ told);
             left = λ P G f told.
                 let file = told_file (seen x.disk).contents told in
@@ -295,15 +324,3 @@ module _ {D : Type 0} {seen : D → DiskSeen} {x : Kept D} {k : Journal D} {payl
             founded = λ P G f _. founded_point refl P G f;
             left_now = λ P G f. left_founded seen P (on_disk x (disk_of next)) G (founded_point refl P G f);
           })
-
--- ---- what a call that failed, or didn't, tells
-
-module _ {T E X : Type 0} where
-  pub ok_told : (r : Result T E) → is_err r ≡ false → OnOk r X → X
-  ok_told (Ok x) is h = h
-  ok_told (Err e) is h = absurd (cc is)
-
-module _ {T E : Type 0} where
-  pub no_cause : (before now : ℕ) (r : Result T E) → is_err r ≡ false → HasCause before now r → now ≡ before
-  no_cause before now (Ok x) is h = h
-  no_cause before now (Err e) is h = absurd (cc is)

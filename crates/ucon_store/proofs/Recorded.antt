@@ -18,7 +18,7 @@ use Rattle.ucon_turn.specs.Lists.{Begins, Continues, begins_refl}
 use Rattle.ucon_store.specs.declared.event.Event.TheVariants.{Done, Failed}
 use Rattle.ucon_store.specs.Events.{events, events_of, number_of}
 use Rattle.ucon_syntax.specs.Policies.{accepted}
-use Rattle.ucon_store.specs.Found.{Holds, IsFoundAs, IsFoundWith, found_as}
+use Rattle.ucon_store.specs.Found.{Holds, IsFoundAs, IsFoundMarked, IsFoundWith, found_as, found_marked}
 use Rattle.ucon_store.specs.Kept.{Kept}
 use Rattle.ucon_store.specs.Stays.{Stays, IsFoundBetween}
 use Rattle.ucon_store.specs.Whole.{IsFounded, found_founded, left_founded, whole}
@@ -125,16 +125,15 @@ module _ {D : Type 0} {seen : D → DiskSeen} {journal : Journal D} {text : Byte
 
 -- ---- what becomes of a store
 
--- the store with this entry more, on this disk
-abbrev pub with_entry : {D : Type 0} → Kept D → Entry → D → Kept D
-with_entry x e disk = record x { entries = x.entries ++ e ∷ []; mark = None; disk = disk }
+-- the store with these entries more, on this disk
+abbrev pub with_entries : {D : Type 0} → Kept D → History → D → Kept D
+with_entries x es disk = record x { entries = x.entries ++ es; mark = None; disk = disk }
 
--- the store with this entry's mark, on this disk
-abbrev pub with_mark : {D : Type 0} → Kept D → Entry → D → Kept D
-with_mark x e disk = record x { mark = Some e; disk = disk }
+-- the store with this mark, on this disk
+abbrev pub with_mark : {D : Type 0} → Kept D → History → D → Kept D
+with_mark x es disk = record x { mark = Some es; disk = disk }
 
-module _ {D : Type 0} (seen : D → DiskSeen)
-    (x : Kept D) (e : Entry) where
+module _ {D : Type 0} (seen : D → DiskSeen) (x : Kept D) (e : Entry) where
   -- a crash inside a step of x leaves the history that x is founded on with x's entries, or with the step's entry behind them
   abbrev pub LeavesStep : D → Type 0
   LeavesStep new = (P : PlainPolicy) (G : History) → IsFounded seen P x G → IsSome (seen x.disk).contents
@@ -147,15 +146,23 @@ module _ {D : Type 0} (seen : D → DiskSeen)
       (started (seen x.disk) (IsFoundWith x.policy (G ++ x.entries) (Some e))
       (λ c since. inl (found_founded seen P x G f told c (only x.disk c since))))
 
-  -- what a step did that put a record on the disk, or met a fault there
+module _ {D : Type 0} (seen : D → DiskSeen) (x : Kept D) (es : History) where
+  -- the same of a call that writes these entries, or none
+  abbrev pub LeavesWith : D → Type 0
+  LeavesWith new = (P : PlainPolicy) (G : History) → IsFounded seen P x G → IsSome (seen x.disk).contents
+      → LeavesOnly (seen x.disk) (seen new) (IsFoundMarked x.policy (G ++ x.entries) (Some es))
+
+  -- what a call did that put records on the disk, or met a fault there
   goes : (y : Kept D) → x.mark ≡ None → y.policy ≡ x.policy → y.point ≡ x.point → y.before ≡ x.before → y.opening ≡ x.opening
       → Begins x.entries y.entries
-      → (is_some y.mark ≡ is_some x.mark → (seen y.disk).faults ≡ (seen x.disk).faults) → ((a : Entry) → y.mark ≡ Some a → (seen y.disk).faults ≡ raised (seen x.disk).faults)
+      → (is_some y.mark ≡ is_some x.mark → (seen y.disk).faults ≡ (seen x.disk).faults)
+      → ((m : History) → y.mark ≡ Some m → (seen y.disk).faults ≡ raised (seen x.disk).faults)
       → is_some (seen y.disk).contents ≡ is_some (seen x.disk).contents
-      → ((G : History) (c : Bytes) → IsFoundWith x.policy (G ++ x.entries) (Some e) c → IsFoundBetween (whole G x) (whole G y) c)
-      → LeavesStep y.disk
+      → ((G : History) (c : Bytes) → IsFoundMarked x.policy (G ++ x.entries) (Some es) c → IsFoundBetween (whole G x) (whole G y) c)
+      → LeavesWith y.disk
       → ((P : PlainPolicy) (G : History) → IsFounded seen P x G → y.mark ≡ None → IsFounded seen P y G)
-      → ((P : PlainPolicy) (G : History) → IsFounded seen P x G → IsSome (seen y.disk).contents → (c : Bytes) → (seen y.disk).images c → IsFoundWith y.policy (G ++ y.entries) y.mark c)
+      → ((P : PlainPolicy) (G : History) → IsFounded seen P x G → IsSome (seen y.disk).contents
+      → (c : Bytes) → (seen y.disk).images c → IsFoundMarked y.policy (G ++ y.entries) y.mark c)
       → Stays seen x y
   goes y none policy point before opening entries unfailed failed tells found run founded now = record {
     policy = policy;
@@ -163,80 +170,86 @@ module _ {D : Type 0} (seen : D → DiskSeen)
     before = before;
     opening = opening;
     entries = entries;
-    mark = λ a some. let no : None ≡ Some a = sym none ∙ some in absurd (cc no);
+    mark = λ m some. let no : None ≡ Some m = sym none ∙ some in absurd (cc no);
     unfailed = unfailed;
     failed = λ _. failed;
     tells = λ told. tells ∙ told;
-    left = λ P G f told. weaker (seen x.disk) (seen y.disk) (IsFoundWith x.policy (G ++ x.entries) (Some e)) _ (λ c h. inr (found G c h)) (run P G f told);
+    left = λ P G f told. weaker (seen x.disk) (seen y.disk) (IsFoundMarked x.policy (G ++ x.entries) (Some es)) _ (λ c h. inr (found G c h)) (run P G f told);
     founded = founded;
     left_now = now;
   }
 
-  -- a store stays with the entry of a step more
-  pub stays_more : {y : Kept D} (new : D) → y ≡ with_entry x e new → x.mark ≡ None → (seen new).faults ≡ (seen x.disk).faults
+  -- a store stays with these entries more
+  pub stays_more : {y : Kept D} (new : D) → y ≡ with_entries x es new → x.mark ≡ None → (seen new).faults ≡ (seen x.disk).faults
       → is_some (seen new).contents ≡ is_some (seen x.disk).contents
-      → LeavesStep new → ((P : PlainPolicy) (G : History) → IsFounded seen P x G → IsFounded seen P (with_entry x e new) G)
+      → LeavesWith new → ((P : PlainPolicy) (G : History) → IsFounded seen P x G → IsFounded seen P (with_entries x es new) G)
       → Stays seen x y
   stays_more new is none unfailed tells run founded =
       subst (Stays seen x) (sym is)
-      (goes (with_entry x e new) none refl refl refl refl (e ∷ [], refl) (λ _. unfailed)
-      (λ a some. let no : None ≡ Some a = some in absurd (cc no)) tells found run
-      (λ P G f _. founded P G f) (λ P G f. left_founded seen P (with_entry x e new) G (founded P G f)))
+      (goes (with_entries x es new) none refl refl refl refl (es, refl) (λ _. unfailed)
+      (λ m some. let no : None ≡ Some m = some in absurd (cc no)) tells found run
+      (λ P G f _. founded P G f) (λ P G f. left_founded seen P (with_entries x es new) G (founded P G f)))
     where
-      found : (G : History) (c : Bytes) → IsFoundWith x.policy (G ++ x.entries) (Some e) c
-          → IsFoundBetween (whole G x) (whole G (with_entry x e new)) c
+      found : (G : History) (c : Bytes) → IsFoundMarked x.policy (G ++ x.entries) (Some es) c
+          → IsFoundBetween (whole G x) (whole G (with_entries x es new)) c
       found G c h = ⊎_elim
           (λ (old : IsFoundAs x.policy c (G ++ x.entries)).
           record {
             history = G ++ x.entries;
             found = old;
             begun = begins_refl (G ++ x.entries);
-            within = inl (e ∷ [], append_assoc G x.entries (e ∷ []));
+            within = inl (es, append_assoc G x.entries es);
           })
-          (λ (more : (a : Entry) × (Some e ≡ Some a) × IsFoundAs x.policy c ((G ++ x.entries) ++ a ∷ [])).
-          let same : more.0 ≡ e = cc (more.1) in
-          let all : (G ++ x.entries) ++ more.0 ∷ [] ≡ G ++ (x.entries ++ e ∷ []) =
-          ap (λ (a : Entry). (G ++ x.entries) ++ a ∷ []) same ∙ append_assoc G x.entries (e ∷ []) in
+          (λ (more : (m : History) × (Some es ≡ Some m) × IsFoundAs x.policy c ((G ++ x.entries) ++ m)).
+          let same : more.0 ≡ es = cc (more.1) in
+          let all : (G ++ x.entries) ++ more.0 ≡ G ++ (x.entries ++ es) =
+          ap (λ (m : History). (G ++ x.entries) ++ m) same ∙ append_assoc G x.entries es in
           record {
-            history = (G ++ x.entries) ++ more.0 ∷ [];
+            history = (G ++ x.entries) ++ more.0;
             found = more.2;
-            begun = (more.0 ∷ [], refl);
-            within = inl (subst (Begins ((G ++ x.entries) ++ more.0 ∷ [])) all (begins_refl ((G ++ x.entries) ++ more.0 ∷ [])));
+            begun = (more.0, refl);
+            within = inl (subst (Begins ((G ++ x.entries) ++ more.0)) all (begins_refl ((G ++ x.entries) ++ more.0)));
           })
           h
 
-  -- and with the mark of its entry
-  pub stays_marked : {y : Kept D} (new : D) → y ≡ with_mark x e new → x.mark ≡ None → (seen new).faults ≡ raised (seen x.disk).faults
+  -- and with them as its mark
+  pub stays_marked : {y : Kept D} (new : D) → y ≡ with_mark x es new → x.mark ≡ None → (seen new).faults ≡ raised (seen x.disk).faults
       → is_some (seen new).contents ≡ is_some (seen x.disk).contents
-      → ((d : D) (t : ℕ) (c : List ℕ) → t ≤ (seen d).moment → (seen d).images c → (seen d).images_since t c) → LeavesStep new
+      → ((d : D) (t : ℕ) (c : List ℕ) → t ≤ (seen d).moment → (seen d).images c → (seen d).images_since t c) → LeavesWith new
       → Stays seen x y
   stays_marked new is none failed tells counts run =
       subst (Stays seen x) (sym is)
-      (goes (with_mark x e new) none refl refl refl refl (begins_refl x.entries)
+      (goes (with_mark x es new) none refl refl refl refl (begins_refl x.entries)
       (λ alike. absurd (let bad : true ≡ false = alike ∙ ap is_some none in cc bad)) (λ _ _. failed) tells found run
-      (λ P G f unmarked. absurd (let no : None ≡ Some e = sym unmarked in cc no))
+      (λ P G f unmarked. absurd (let no : None ≡ Some es = sym unmarked in cc no))
       (λ P G f told c image. let left = run P G f (sym tells ∙ told) in left.each c (counts new (seen x.disk).moment c left.later image)))
     where
-      found : (G : History) (c : Bytes) → IsFoundWith x.policy (G ++ x.entries) (Some e) c
-          → IsFoundBetween (whole G x) (whole G (with_mark x e new)) c
+      found : (G : History) (c : Bytes) → IsFoundMarked x.policy (G ++ x.entries) (Some es) c
+          → IsFoundBetween (whole G x) (whole G (with_mark x es new)) c
       found G c h = ⊎_elim
           (λ (old : IsFoundAs x.policy c (G ++ x.entries)).
           record { history = G ++ x.entries; found = old; begun = begins_refl (G ++ x.entries); within = inl (begins_refl (G ++ x.entries)) })
-          (λ (more : (a : Entry) × (Some e ≡ Some a) × IsFoundAs x.policy c ((G ++ x.entries) ++ a ∷ [])).
-          record { history = (G ++ x.entries) ++ more.0 ∷ []; found = more.2; begun = (more.0 ∷ [], refl); within = inr (more.0, more.1, refl) })
+          (λ (more : (m : History) × (Some es ≡ Some m) × IsFoundAs x.policy c ((G ++ x.entries) ++ m)).
+          record { history = (G ++ x.entries) ++ more.0; found = more.2; begun = (more.0, refl); within = inr (more.0, more.1, refl) })
           h
+
+-- what a step leaves is what its entry, being written, does
+pub leaves_with : {D : Type 0} {seen : D → DiskSeen} {x : Kept D} {e : Entry} {new : D} → LeavesStep seen x e new → LeavesWith seen x (e ∷ []) new
+leaves_with {D} {seen} {x} {e} {new} run P G f told =
+    weaker (seen x.disk) (seen new) (IsFoundWith x.policy (G ++ x.entries) (Some e)) (IsFoundMarked x.policy (G ++ x.entries) (Some (e ∷ [])))
+    (found_marked accepted x.policy (G ++ x.entries) (Some e)) (run P G f told)
 
 -- ---- the list of a turn's store
 
 module _ {D : Type 0} (x : Kept D) (e : Entry) (none : x.mark ≡ None) (new : D) where
-  pub events_more : {y : Kept D} → y ≡ with_entry x e new → Continues (λ v. number_of v ≡ e.caller.0 + 1) (events_of x) (events_of y)
+  pub events_more : {y : Kept D} → y ≡ with_entries x (e ∷ []) new → Continues (λ v. number_of v ≡ e.caller.0 + 1) (events_of x) (events_of y)
   events_more is =
-      subst (λ (z : Option Entry × Kept D). Continues (λ v. number_of v ≡ e.caller.0 + 1) (events x.entries z.0) (events_of z.1))
+      subst (λ (z : Option History × Kept D). Continues (λ v. number_of v ≡ e.caller.0 + 1) (events x.entries z.0) (events_of z.1))
       (λ i. (sym none i, sym is i))
       (Done e ∷ [], sym (map-append Done x.entries (e ∷ [])), (refl, tt))
 
-  pub events_marked : {y : Kept D} → y ≡ with_mark x e new → Continues (λ v. number_of v ≡ e.caller.0 + 1) (events_of x) (events_of y)
+  pub events_marked : {y : Kept D} → y ≡ with_mark x (e ∷ []) new → Continues (λ v. number_of v ≡ e.caller.0 + 1) (events_of x) (events_of y)
   events_marked is =
-      subst (λ (z : Option Entry × Kept D). Continues (λ v. number_of v ≡ e.caller.0 + 1) (events x.entries z.0) (events_of z.1))
+      subst (λ (z : Option History × Kept D). Continues (λ v. number_of v ≡ e.caller.0 + 1) (events x.entries z.0) (events_of z.1))
       (λ i. (sym none i, sym is i))
       (Failed e ∷ [], refl, (refl, tt))

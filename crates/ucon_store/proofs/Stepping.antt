@@ -13,7 +13,7 @@ use Rattle.ucon_journal.specs.declared.journal.Journal.{Journal}
 use Rattle.ucon_journal.specs.Journal.{gate_of}
 use Rattle.ucon_syntax.specs.Policies.{accepted}
 use Rattle.ucon_store.specs.declared.beginning.Beginning.{Beginning}
-use Rattle.ucon_store.specs.Kept.{IsKept, IsAtRestWith, RevokesFew, payload_in}
+use Rattle.ucon_store.specs.Kept.{IsKept, IsAtRestWith, payload_in}
 use Rattle.ucon_store.specs.Points.{text_behind, text_in_force}
 use Rattle.ucon_store.specs.Starts.{IsStart, text_at_start}
 use Rattle.ucon_store.proofs.Recorded.{IsAppended}
@@ -46,7 +46,7 @@ pub said_behind : (P : PlainPolicy) (G H : History) (caller : Caller) (c : Comma
 said_behind P G H caller c = ap (λ (T : Trace). reply P T caller c) (trace_append P [] G H)
 
 module _ {E D : Type 0} {follows : E → PlainPolicy → Trace → Type 0} {seen : D → DiskSeen} {engine : E}
-    {journal : Journal D} {text : Bytes} {point : Option Beginning} {before : ℕ} {now : Bytes} {H : History} {mark : Option Entry}
+    {journal : Journal D} {text : Bytes} {point : Option Beginning} {before : ℕ} {now : Bytes} {H : History} {mark : Option History}
     (kept : IsKept follows seen engine journal text point before now H mark) where
   -- behind each trace that leads to where the store begins its engine follows the entries
   pub stands_as : (P : PlainPolicy) → accepted text ≡ Some P → (T : Trace) → IsStart P (payload_in point) before T
@@ -56,7 +56,7 @@ module _ {E D : Type 0} {follows : E → PlainPolicy → Trace → Type 0} {seen
       (one_policy text kept.P P kept.accepts accepts) kept.stands
 
   -- a store goes on from where it began, with another engine, journal, text in force, entries and mark
-  kept_as : {next : E} {k : Journal D} {later : Bytes} {items : History} {m : Option Entry}
+  kept_as : {next : E} {k : Journal D} {later : Bytes} {items : History} {m : Option History}
       → ((T : Trace) → IsStart kept.P (payload_in point) before T → follows next kept.P (trace_from kept.P T items))
       → ((T : Trace) → IsStart kept.P (payload_in point) before T → NobodyFails kept.P (trace_from kept.P T items))
       → later ≡ text_in_force (text_at_start text (payload_in point)) items
@@ -82,20 +82,24 @@ module _ {E D : Type 0} {follows : E → PlainPolicy → Trace → Type 0} {seen
       let few : 5 * (before + length H) ≤ gate_of k = omega (arith, (kept.rests none).few, same, appended.gate) in
       kept_as kept.stands kept.settled kept.in_force kept.few (λ _. record { closed = appended.closed; few = few; only = appended.only })
 
+  -- and so does a mark
+  pub kept_stopped : {k : Journal D} {failed : History} → IsKept follows seen engine k text point before now H (Some failed)
+  kept_stopped = kept_as kept.stands kept.settled kept.in_force kept.few (λ none. absurd (cc none))
+
   module _ (has_pending : PlainPolicy → Trace → Entry → Type 0) (e : Entry)
       (pending : (P : PlainPolicy) (T : Trace) → follows engine P T → has_pending P T e) (next : E) (k : Journal D) where
     pends : (T : Trace) → IsStart kept.P (payload_in point) before T → has_pending kept.P (trace_from kept.P T H) e
     pends T start = pending kept.P (trace_from kept.P T H) (kept.stands T start)
 
-    -- and so does the entry of a step that met a disk fault, as the mark
+    -- and so does a mark, once the change is undone
     pub kept_marked : ((P : PlainPolicy) (T : Trace) (a : Entry) → has_pending P T a → follows next P T) → {later : Bytes} → later ≡ now
-        → {items : History} → items ≡ H → {failed : Entry} → failed ≡ e → IsKept follows seen next k text point before later items (Some failed)
-    kept_marked undone unchanged same is =
-        subst (λ (z : Bytes × History × Entry). IsKept follows seen next k text point before z.0 z.1 (Some z.2))
-        (λ i. (sym unchanged i, sym same i, sym is i))
+        → {items : History} → items ≡ H → {failed : History} → IsKept follows seen next k text point before later items (Some failed)
+    kept_marked undone unchanged same {failed} =
+        subst (λ (z : Bytes × History). IsKept follows seen next k text point before z.0 z.1 (Some failed))
+        (λ i. (sym unchanged i, sym same i))
         (kept_as (λ T start. undone kept.P (trace_from kept.P T H) e (pends T start)) kept.settled kept.in_force kept.few (λ none. absurd (cc none)))
 
-    -- and that of one that was kept, behind the others
+    -- and so does an entry that was kept, behind the others
     pub kept_more : mark ≡ None → {prepared : Journal D} {payload : Bytes} → gate_of prepared ≡ gate_of journal
         → IsAppended seen prepared k payload → gate_of k < 2 ^ 63
         → ((P : PlainPolicy) (T : Trace) (a : Entry) → has_pending P T a → follows next P (after P T a.caller a.command))

@@ -1,13 +1,14 @@
 -- What is found in a file: the payloads of its records that count, and what they say. Behind record 0 each payload of version 1 tells a step,
 -- and each of version 2 tells a step or is a checkpoint. It is said by a reading of policies' texts, and then by the program's own.
-use Rattle.std.proofs.Common.{refl, sym, subst}
-use Rattle.std.specs.Prelude.{◌≡◌, ◌⊎◌, ℕ, Option, Some, [], ◌∷◌, ◌++◌}
+use Rattle.std.proofs.Common.{inl, inr, refl, sym, subst}
+use Rattle.std.specs.Prelude.{◌≡◌, ◌⊎◌, ℕ, Option, Some, None, [], ◌∷◌, ◌++◌}
 use Rattle.ucon_model.specs.declared.command.Entry.{Entry}
 use Rattle.ucon_model.specs.Plain.{Bytes, PlainPolicy}
 use Rattle.ucon_model.specs.History.{History}
 use Rattle.ucon_model.specs.Found.{Finding, Takes, fresh, not_journal, damaged, holds, found_in}
 use Rattle.ucon_journal.specs.Found as journal
 use Rattle.ucon_syntax.specs.Policies.{accepted}
+use Rattle.ucon_store.specs.Marks.{marked}
 use Rattle.ucon_store.specs.Points.{has_points, takes_by, PolicyReading}
 
 -- what the payloads that were found say
@@ -58,3 +59,28 @@ IsFoundWithBy reads text H mark file =
 
 abbrev pub IsFoundWith : Bytes → History → Option Entry → Bytes → Type 0
 IsFoundWith = IsFoundWithBy accepted
+
+-- it is found as this history, or as the history with the entries of a mark behind it, if there is one
+abbrev pub IsFoundMarkedBy : PolicyReading → Bytes → History → Option History → Bytes → Type 0
+IsFoundMarkedBy reads text H mark file =
+    IsFoundBy reads text file H ⊎ ((es : History) × (mark ≡ Some es) × IsFoundBy reads text file (H ++ es))
+
+abbrev pub IsFoundMarked : Bytes → History → Option History → Bytes → Type 0
+IsFoundMarked = IsFoundMarkedBy accepted
+
+-- with the mark of one step a file is found so if it is found with the step
+pub found_with : (reads : PolicyReading) (text : Bytes) (H : History) (failed : Option Entry) (file : Bytes)
+    → IsFoundMarkedBy reads text H (marked failed) file → IsFoundWithBy reads text H failed file
+found_with reads text H failed file (inl found) = inl found
+found_with reads text H None file (inr more) = absurd (cc (more.1))
+found_with reads text H (Some e) file (inr more) =
+    let is : e ∷ [] ≡ more.0 = cc (more.1) in
+    inr (e, refl, subst (λ (es : History). IsFoundBy reads text file (H ++ es)) (sym is) more.2)
+
+pub found_marked : (reads : PolicyReading) (text : Bytes) (H : History) (failed : Option Entry) (file : Bytes)
+    → IsFoundWithBy reads text H failed file → IsFoundMarkedBy reads text H (marked failed) file
+found_marked reads text H failed file (inl found) = inl found
+found_marked reads text H None file (inr more) = absurd (cc (more.1))
+found_marked reads text H (Some e) file (inr more) =
+    let is : e ≡ more.0 = cc (more.1) in
+    inr (e ∷ [], refl, subst (λ (a : Entry). IsFoundBy reads text file (H ++ a ∷ [])) (sym is) more.2)

@@ -4,7 +4,6 @@ use Rattle.std.specs.Coded.{Coded, code_by, coded_list, coded_option, coded_ℕ,
 use Rattle.ucon_model.specs.contracts.command.Entry as entry_row
 use Rattle.ucon_model.specs.declared.command.Caller.{Caller}
 use Rattle.ucon_model.specs.declared.command.Command.{Command}
-use Rattle.ucon_model.specs.declared.command.Entry.{Entry}
 use Rattle.ucon_model.specs.Action.{Trace}
 use Rattle.ucon_model.specs.Block.{reply}
 use Rattle.ucon_model.specs.History.{History, trace_from}
@@ -21,23 +20,23 @@ use Rattle.ucon_store.specs.Starts.{IsStart, text_at_start}
 use Rattle.ucon_disk.specs.Seen.{DiskSeen}
 
 -- the policy's text; the payload of the checkpoint that opening used, if it used one, and the number of entries before it, or 0; the number
--- of entries that were found at the opening; the entries behind that checkpoint, or all; the entry of the step that met a disk fault, if there
--- is one; and the disk
+-- of entries that were found at the opening; the entries behind that checkpoint, or all; the mark, where a call met a disk fault: the entries that
+-- it was writing, which are those of a step, or none, where it wrote a checkpoint; and the disk
 pub record Kept (D : Type 0) : Type 0 where
   pub policy : Bytes
   pub point : Option Bytes
   pub before : ℕ
   pub opening : ℕ
   pub entries : History
-  pub mark : Option Entry
+  pub mark : Option History
   pub disk : D
 
 -- a store is kept by the logic as its seven parts, one after the other
 abbrev pub kept_code : {D : Type 0} → Coded D → Coded (Kept D)
 kept_code {D} code =
-    code_by (Bytes × (Option Bytes × (ℕ × (ℕ × (History × (Option Entry × D))))))
+    code_by (Bytes × (Option Bytes × (ℕ × (ℕ × (History × (Option History × D))))))
     (coded× (coded_list coded_ℕ) (coded× (coded_option (coded_list coded_ℕ)) (coded× coded_ℕ (coded× coded_ℕ
-    (coded× (coded_list (entry_row.the_row).coded) (coded× (coded_option (entry_row.the_row).coded) code))))))
+    (coded× (coded_list (entry_row.the_row).coded) (coded× (coded_option (coded_list (entry_row.the_row).coded)) code))))))
     (λ k. (k.policy, (k.point, (k.before, (k.opening, (k.entries, (k.mark, k.disk)))))))
     (λ p. record { policy = p.0; point = p.1.0; before = p.1.1.0; opening = p.1.1.1.0; entries = p.1.1.1.1.0; mark = p.1.1.1.1.1.0; disk = p.1.1.1.1.1.1 })
     (λ _. refl)
@@ -58,10 +57,11 @@ abbrev pub RevokesFew : PlainPolicy → Trace → Type 0
 RevokesFew P T = (H : History) (caller : Caller) (c : Command) → length (revocations_in (reply P (trace_from P T H) caller c)) ≤ 65536
 
 -- Some trace leads to where the store begins, and behind each such trace the engine follows the store's entries, no accessing session fails, and
--- no reply will have too many revocations. The text that is kept for it is that of the policy in force behind the entries. Without a mark the journal is at rest. What its file is found as isn't said here, since a store that
--- begins behind a checkpoint may be of no history: where there is one, the calls pass it on (`IsFounded`).
+-- no reply will have too many revocations. The text that is kept for it is that of the policy in force behind the entries. Without a mark the
+-- journal is at rest. What its file is found as isn't said here, since a store that begins behind a checkpoint may be of no history: where there is
+-- one, the calls pass it on (`IsFounded`).
 pub record IsKept {E D : Type 0} (follows : E → PlainPolicy → Trace → Type 0) (seen : D → DiskSeen)
-    (engine : E) (journal : Journal D) (text : Bytes) (point : Option Beginning) (before : ℕ) (now : Bytes) (H : History) (mark : Option Entry) : Type 0 where
+    (engine : E) (journal : Journal D) (text : Bytes) (point : Option Beginning) (before : ℕ) (now : Bytes) (H : History) (mark : Option History) : Type 0 where
   pub P : PlainPolicy
   pub accepts : accepted text ≡ Some P
   pub begun : Trace

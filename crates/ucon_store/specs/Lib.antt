@@ -4,6 +4,7 @@ pub mod Found
 pub mod Kept
 pub mod Loading
 pub mod Made
+pub mod Marks
 pub mod Opened
 pub mod Opening
 pub mod Pointing

@@ -1,11 +1,12 @@
 -- What writing a checkpoint answers and does.
-use Rattle.std.specs.Prelude.{◌≡◌, ◌⊎◌, ℕ, ◌<◌, Bool, true, false, List, [], ◌∷◌, ◌++◌, length, IsSome, IfSome, ⊤}
+use Rattle.std.specs.Prelude.{◌≡◌, ◌⊎◌, ℕ, ◌<◌, ◌≤◌, Bool, true, false, List, [], ◌∷◌, ◌++◌, length, Some, None, IsSome, IfSome, ⊤}
+use Rattle.ucon_disk.specs.Causes.{raised}
 use Rattle.ucon_model.specs.Action.{Trace}
 use Rattle.ucon_model.specs.History.{History}
 use Rattle.ucon_model.specs.Payload.{most_payload}
 use Rattle.ucon_model.specs.Plain.{Bytes, PlainPolicy}
-use Rattle.ucon_store.specs.declared.fault.PointRefusal.{PointRefusal}
-use Rattle.ucon_store.specs.declared.fault.PointRefusal.TheVariants.{Stopped, OldJournal, TooLarge, NoMemory}
+use Rattle.ucon_store.specs.declared.fault.PointFault.{PointFault}
+use Rattle.ucon_store.specs.declared.fault.PointFault.TheVariants.{DiskFault, Stopped, OldJournal, TooLarge, NoMemory}
 use Rattle.ucon_store.specs.Found.{IsFoundAs}
 use Rattle.ucon_store.specs.Kept.{Kept}
 use Rattle.ucon_store.specs.Points.{has_points, point_places}
@@ -14,15 +15,19 @@ use Rattle.ucon_disk.specs.Seen.{DiskSeen}
 
 -- Why a checkpoint isn't prepared: there may be none; or there may, and it has more bytes than a payload may have, and so many; or memory is
 -- wanting.
-abbrev pub IsUnprepared : Bool → Bytes → PointRefusal → Type 0
+abbrev pub IsUnprepared : Bool → Bytes → PointFault → Type 0
+IsUnprepared points text DiskFault = ⊥
 IsUnprepared points text Stopped = ⊥
 IsUnprepared points text OldJournal = points ≡ false
 IsUnprepared points text (TooLarge size) = (points ≡ true) × (size ≡ length text) × (most_payload < size)
 IsUnprepared points text (NoMemory e) = ⊤
 
--- Why a store of the policy P, to whose beginning the trace T leads, has no checkpoint more: a step had failed; the file may have none; it may,
--- but this one is too long, and how long; or memory is wanting.
-abbrev pub IsUnpointed : {D : Type 0} → (D → DiskSeen) → PlainPolicy → Trace → Kept D → PointRefusal → Type 0
+-- Why a store of the policy P, to whose beginning the trace T leads, was given no checkpoint more: it was stopped; the file may have none; it may,
+-- but this one is too long, and how long; memory is wanting; or the disk failed, where none of these was so.
+abbrev pub IsUnpointed : {D : Type 0} → (D → DiskSeen) → PlainPolicy → Trace → Kept D → PointFault → Type 0
+IsUnpointed seen P T store DiskFault =
+    (store.mark ≡ None) × IfSome (seen store.disk).contents (λ file. has_points file ≡ true)
+    × (length (checkpoint_behind store.policy store.point store.before P T store.entries) ≤ most_payload)
 IsUnpointed seen P T store Stopped = IsSome store.mark
 IsUnpointed seen P T store OldJournal = IfSome (seen store.disk).contents (λ file. has_points file ≡ false)
 IsUnpointed seen P T store (TooLarge size) =
@@ -43,3 +48,10 @@ pub record IsSameStore {D : Type 0} (old new : Kept D) : Type 0 where
   pub opening : new.opening ≡ old.opening
   pub entries : new.entries ≡ old.entries
   pub mark : new.mark ≡ old.mark
+
+-- A checkpoint met a disk fault: the store is stopped with none of its entries in doubt, and nothing else is other.
+pub record HasFailedPoint {D : Type 0} (seen : D → DiskSeen) (old new : Kept D) : Type 0 where
+  pub unmarked : old.mark ≡ None
+  pub rose : (seen new.disk).faults ≡ raised (seen old.disk).faults
+  pub mark : new.mark ≡ Some []
+  pub entries : new.entries ≡ old.entries

@@ -1,13 +1,12 @@
 -- What the runs of a store leave true between it and what it becomes.
-use Rattle.std.proofs.Common.{◌≡◌, ◌⊎◌, inl, inr, ⊎_elim, ℕ, ◌≤◌, List, [], ◌∷◌, ◌++◌, append_assoc, Option, Some, None, IsSome, true, false, arith, sym, ap, ◌∙◌, refl, subst}
+use Rattle.std.proofs.Common.{◌≡◌, ◌⊎◌, inl, inr, ⊎_elim, ℕ, ◌≤◌, List, ◌++◌, append_assoc, Option, Some, None, IsSome, true, false, arith, sym, ap, ◌∙◌, refl, subst}
 use Rattle.std.specs.Prelude.{is_some}
-use Rattle.ucon_model.specs.declared.command.Entry.{Entry}
 use Rattle.ucon_model.specs.History.{History}
 use Rattle.ucon_model.specs.Plain.{Bytes, PlainPolicy}
 use Rattle.ucon_disk.specs.Causes.{raised}
 use Rattle.ucon_disk.specs.Run.{LeavesOnly}
 use Rattle.ucon_turn.specs.Lists.{Begins, begins_refl, begins_trans}
-use Rattle.ucon_store.specs.Found.{IsFoundAs, IsFoundWith}
+use Rattle.ucon_store.specs.Found.{IsFoundAs, IsFoundMarked}
 use Rattle.ucon_store.specs.Kept.{Kept}
 use Rattle.ucon_store.specs.Whole.{IsFounded, left_founded, whole}
 use Rattle.ucon_disk.specs.Seen.{DiskSeen}
@@ -17,7 +16,7 @@ pub record IsFoundBetween {D : Type 0} (x y : Kept D) (c : Bytes) : Type 0 where
   pub history : History
   pub found : IsFoundAs y.policy c history
   pub begun : Begins x.entries history
-  pub within : Begins history y.entries ⊎ ((e : Entry) × (y.mark ≡ Some e) × (history ≡ y.entries ++ e ∷ []))
+  pub within : Begins history y.entries ⊎ ((es : History) × (y.mark ≡ Some es) × (history ≡ y.entries ++ es))
 
 -- The policy, where the store begins and the opening stay, entries are only added, and a store with a mark stays as it is. The disk's count of
 -- faults is one more where there is a mark now and was none, and otherwise as it was. Where the disk tells, it still does. Behind each history
@@ -29,15 +28,15 @@ pub record Stays {D : Type 0} (seen : D → DiskSeen) (x y : Kept D) : Type 0 wh
   pub before : y.before ≡ x.before
   pub opening : y.opening ≡ x.opening
   pub entries : Begins x.entries y.entries
-  pub mark : (e : Entry) → x.mark ≡ Some e → y ≡ x
+  pub mark : (es : History) → x.mark ≡ Some es → y ≡ x
   pub unfailed : is_some y.mark ≡ is_some x.mark → (seen y.disk).faults ≡ (seen x.disk).faults
-  pub failed : x.mark ≡ None → (e : Entry) → y.mark ≡ Some e → (seen y.disk).faults ≡ raised (seen x.disk).faults
+  pub failed : x.mark ≡ None → (es : History) → y.mark ≡ Some es → (seen y.disk).faults ≡ raised (seen x.disk).faults
   pub tells : IsSome (seen x.disk).contents → IsSome (seen y.disk).contents
   pub left : (P : PlainPolicy) (G : History) → IsFounded seen P x G → IsSome (seen x.disk).contents
       → LeavesOnly (seen x.disk) (seen y.disk) (λ c. (seen x.disk).images c ⊎ IsFoundBetween (whole G x) (whole G y) c)
   pub founded : (P : PlainPolicy) (G : History) → IsFounded seen P x G → y.mark ≡ None → IsFounded seen P y G
   pub left_now : (P : PlainPolicy) (G : History) → IsFounded seen P x G → IsSome (seen y.disk).contents
-      → (c : Bytes) → (seen y.disk).images c → IsFoundWith y.policy (G ++ y.entries) y.mark c
+      → (c : Bytes) → (seen y.disk).images c → IsFoundMarked y.policy (G ++ y.entries) y.mark c
 
 none_or_some : {A : Type 0} (o : Option A) → (o ≡ None) ⊎ ((a : A) × (o ≡ Some a))
 none_or_some None = inl refl
@@ -57,9 +56,9 @@ module _ {D : Type 0} (seen : D → DiskSeen) where
     before = refl;
     opening = refl;
     entries = begins_refl x.entries;
-    mark = λ e is. refl;
+    mark = λ es is. refl;
     unfailed = λ same. refl;
-    failed = λ none e some. let no : None ≡ Some e = sym none ∙ some in absurd (cc no);
+    failed = λ none es some. let no : None ≡ Some es = sym none ∙ some in absurd (cc no);
     tells = λ told. told;
     left = λ P G f told. record { later = omega arith; each = λ c since. inl (only x.disk c since); before = λ t c le since. inl since };
     founded = λ P G f none. f;
@@ -77,7 +76,7 @@ module _ {D : Type 0} (seen : D → DiskSeen) where
         within = ⊎_elim
             (λ (b : Begins f.history (G ++ y.entries)).
             inl (begins_trans f.history (G ++ y.entries) (G ++ z.entries) b (begins_behind G y.entries z.entries q.entries)))
-            (λ (b : (e : Entry) × (y.mark ≡ Some e) × (f.history ≡ (G ++ y.entries) ++ e ∷ [])).
+            (λ (b : (es : History) × (y.mark ≡ Some es) × (f.history ≡ (G ++ y.entries) ++ es)).
             let no : None ≡ Some b.0 = sym none ∙ b.1 in absurd (cc no))
             f.within;
       }
@@ -110,15 +109,15 @@ module _ {D : Type 0} (seen : D → DiskSeen) where
                 (λ h. inr (second none run c h)) (next.before t c (omega (arith, le, run.later)) since);
           }
 
-    -- what y leaves where a step has failed stays
-    stopped : (Q : Kept D → Type 0) (e : Entry) → y.mark ≡ Some e → Q y → Q z
-    stopped Q e is h = subst Q (sym (q.mark e is)) h
+    -- what y leaves where it is stopped stays
+    stopped : (Q : Kept D → Type 0) (es : History) → y.mark ≡ Some es → Q y → Q z
+    stopped Q es is h = subst Q (sym (q.mark es is)) h
 
     left_again : (P : PlainPolicy) (G : History) → IsFounded seen P x G → IsSome (seen x.disk).contents
         → LeavesOnly (seen x.disk) (seen z.disk) (λ c. (seen x.disk).images c ⊎ IsFoundBetween (whole G x) (whole G z) c)
     left_again P G f told = ⊎_elim
         (λ (unmarked : y.mark ≡ None). left_unmarked G P f unmarked told)
-        (λ (marked : (a : Entry) × (y.mark ≡ Some a)).
+        (λ (marked : (es : History) × (y.mark ≡ Some es)).
         stopped (λ (s : Kept D). LeavesOnly (seen x.disk) (seen s.disk) (λ c. (seen x.disk).images c ⊎ IsFoundBetween (whole G x) (whole G s) c))
         marked.0 marked.1 (p.left P G f told))
         (none_or_some y.mark)
@@ -126,37 +125,37 @@ module _ {D : Type 0} (seen : D → DiskSeen) where
     unmarked_before : z.mark ≡ None → y.mark ≡ None
     unmarked_before none = ⊎_elim
         (λ (unmarked : y.mark ≡ None). unmarked)
-        (λ (marked : (a : Entry) × (y.mark ≡ Some a)). ap (λ (s : Kept D). s.mark) (sym (q.mark marked.0 marked.1)) ∙ none)
+        (λ (marked : (es : History) × (y.mark ≡ Some es)). ap (λ (s : Kept D). s.mark) (sym (q.mark marked.0 marked.1)) ∙ none)
         (none_or_some y.mark)
 
     left_now_again : (P : PlainPolicy) (G : History) → IsFounded seen P x G → IsSome (seen z.disk).contents
-        → (c : Bytes) → (seen z.disk).images c → IsFoundWith z.policy (G ++ z.entries) z.mark c
+        → (c : Bytes) → (seen z.disk).images c → IsFoundMarked z.policy (G ++ z.entries) z.mark c
     left_now_again P G f = ⊎_elim
         (λ (unmarked : y.mark ≡ None). q.left_now P G (p.founded P G f unmarked))
-        (λ (marked : (a : Entry) × (y.mark ≡ Some a)).
-        stopped (λ (s : Kept D). IsSome (seen s.disk).contents → (c : Bytes) → (seen s.disk).images c → IsFoundWith s.policy (G ++ s.entries) s.mark c)
+        (λ (marked : (es : History) × (y.mark ≡ Some es)).
+        stopped (λ (s : Kept D). IsSome (seen s.disk).contents → (c : Bytes) → (seen s.disk).images c → IsFoundMarked s.policy (G ++ s.entries) s.mark c)
         marked.0 marked.1 (p.left_now P G f))
         (none_or_some y.mark)
 
     unfailed_again : is_some z.mark ≡ is_some x.mark → (seen z.disk).faults ≡ (seen x.disk).faults
     unfailed_again same = by_mark x.mark refl
       where
-        by_mark : (m : Option Entry) → x.mark ≡ m → (seen z.disk).faults ≡ (seen x.disk).faults
-        by_mark (Some e) is =
-            let here : y ≡ x = p.mark e is in
-            let there : z ≡ y = q.mark e (ap (λ (s : Kept D). s.mark) here ∙ is) in
+        by_mark : (m : Option History) → x.mark ≡ m → (seen z.disk).faults ≡ (seen x.disk).faults
+        by_mark (Some es) is =
+            let here : y ≡ x = p.mark es is in
+            let there : z ≡ y = q.mark es (ap (λ (s : Kept D). s.mark) here ∙ is) in
             ap (λ (s : Kept D). (seen s.disk).faults) (there ∙ here)
         by_mark None is = ⊎_elim
             (λ (unmarked : y.mark ≡ None). q.unfailed (same ∙ ap is_some (is ∙ sym unmarked)) ∙ p.unfailed (ap is_some (unmarked ∙ sym is)))
-            (λ (marked : (a : Entry) × (y.mark ≡ Some a)).
+            (λ (marked : (es : History) × (y.mark ≡ Some es)).
             let there : z.mark ≡ Some marked.0 = ap (λ (s : Kept D). s.mark) (q.mark marked.0 marked.1) ∙ marked.1 in
             let bad : true ≡ false = sym (ap is_some there) ∙ (same ∙ ap is_some is) in absurd (cc bad))
             (none_or_some y.mark)
 
-    failed_again : x.mark ≡ None → (e : Entry) → z.mark ≡ Some e → (seen z.disk).faults ≡ raised (seen x.disk).faults
-    failed_again none e some = ⊎_elim
-        (λ (unmarked : y.mark ≡ None). q.failed unmarked e some ∙ ap raised (p.unfailed (ap is_some (unmarked ∙ sym none))))
-        (λ (marked : (a : Entry) × (y.mark ≡ Some a)).
+    failed_again : x.mark ≡ None → (es : History) → z.mark ≡ Some es → (seen z.disk).faults ≡ raised (seen x.disk).faults
+    failed_again none es some = ⊎_elim
+        (λ (unmarked : y.mark ≡ None). q.failed unmarked es some ∙ ap raised (p.unfailed (ap is_some (unmarked ∙ sym none))))
+        (λ (marked : (es : History) × (y.mark ≡ Some es)).
         ap (λ (s : Kept D). (seen s.disk).faults) (q.mark marked.0 marked.1) ∙ p.failed none marked.0 marked.1)
         (none_or_some y.mark)
 
@@ -167,7 +166,7 @@ module _ {D : Type 0} (seen : D → DiskSeen) where
       before = q.before ∙ p.before;
       opening = q.opening ∙ p.opening;
       entries = begins_trans x.entries y.entries z.entries p.entries q.entries;
-      mark = λ e is. let here : y ≡ x = p.mark e is in q.mark e (ap (λ (s : Kept D). s.mark) here ∙ is) ∙ here;
+      mark = λ es is. let here : y ≡ x = p.mark es is in q.mark es (ap (λ (s : Kept D). s.mark) here ∙ is) ∙ here;
       unfailed = unfailed_again;
       failed = failed_again;
       tells = λ told. q.tells (p.tells told);

@@ -22,11 +22,11 @@ pub record IsPlaced {D : Type 0} (P : PlainPolicy) (old new : Kept D) (e : Entry
   pub place : p.place ≡ length new.entries
   pub unmarked : new.mark ≡ None
 
--- the entry's step would have changed something, and met a disk fault: it is the mark, and nothing else is other
+-- the entry's step would have changed something, and met a disk fault: it alone is the mark, and nothing else is other
 pub record HasFailed {D : Type 0} (seen : D → DiskSeen) (P : PlainPolicy) (old new : Kept D) (e : Entry) : Type 0 where
   pub would_change : changes (said P old.entries e.caller e.command) ≡ true
   pub rose : (seen new.disk).faults ≡ raised (seen old.disk).faults
-  pub mark : new.mark ≡ Some e
+  pub mark : new.mark ≡ Some (e ∷ [])
   pub entries : new.entries ≡ old.entries
 
 -- ---- behind a trace
@@ -47,7 +47,7 @@ pub record IsPlacedBehind {D : Type 0} (P : PlainPolicy) (T : Trace) (old new : 
 pub record HasFailedBehind {D : Type 0} (seen : D → DiskSeen) (P : PlainPolicy) (T : Trace) (old new : Kept D) (e : Entry) : Type 0 where
   pub would_change : changes (reply_to P (trace_from P T old.entries) e.caller e.command) ≡ true
   pub rose : (seen new.disk).faults ≡ raised (seen old.disk).faults
-  pub mark : new.mark ≡ Some e
+  pub mark : new.mark ≡ Some (e ∷ [])
   pub entries : new.entries ≡ old.entries
 
 -- ---- in the file, whatever it is found as

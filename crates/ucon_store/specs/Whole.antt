@@ -8,7 +8,7 @@ use Rattle.ucon_model.specs.Plain.{Bytes, PlainPolicy}
 use Rattle.ucon_point.specs.PointText.{point_text}
 use Rattle.ucon_state.specs.Held.{held_after}
 use Rattle.ucon_syntax.specs.Policies.{accepted}
-use Rattle.ucon_store.specs.Found.{Holds, IsFoundAs, IsFoundWith, found_as}
+use Rattle.ucon_store.specs.Found.{Holds, IsFoundAs, IsFoundMarked, found_as}
 use Rattle.ucon_store.specs.Kept.{Kept}
 use Rattle.ucon_store.specs.Opened.{Parted, StandsAround, steps_among}
 use Rattle.ucon_store.specs.Points.{checkpoint, text_in_force}
@@ -29,7 +29,7 @@ pub record IsFront {D : Type 0} (P : PlainPolicy) (s : Kept D) (G : History) : T
 abbrev pub whole : {D : Type 0} → History → Kept D → Kept D
 whole G s = record { policy = s.policy; point = None; before = 0; opening = s.opening; entries = G ++ s.entries; mark = s.mark; disk = s.disk }
 
--- The store's policy is this one, this history leads to where the store begins, and no step has failed. Where the disk tells, its file holds
+-- The store's policy is this one, this history leads to where the store begins, and no call has met a disk fault. Where the disk tells, its file holds
 -- the policy and this history with the store's entries behind it, and a crash leaves nothing else. Where the file was found when the store was
 -- opened there is one such history; where opening alone accepted it there is none.
 pub record IsFounded {D : Type 0} (seen : D → DiskSeen) (P : PlainPolicy) (s : Kept D) (G : History) : Type 0 where
@@ -57,7 +57,7 @@ found_founded seen P s G f told c image = by_contents (seen s.disk).contents f.h
         subst (λ (f : Bytes). IsFoundAs s.policy f (G ++ s.entries)) (sym (only c image)) (found_as s.policy P (G ++ s.entries) file holds)
 
 pub left_founded : {D : Type 0} (seen : D → DiskSeen) (P : PlainPolicy) (s : Kept D) (G : History)
-    → IsFounded seen P s G → IsSome (seen s.disk).contents → (c : Bytes) → (seen s.disk).images c → IsFoundWith s.policy (G ++ s.entries) s.mark c
+    → IsFounded seen P s G → IsSome (seen s.disk).contents → (c : Bytes) → (seen s.disk).images c → IsFoundMarked s.policy (G ++ s.entries) s.mark c
 left_founded seen P s G f told c image = inl (found_founded seen P s G f told c image)
 
 -- ---- a store that begins before all entries: the empty history leads there, and with it before its own entries the store is itself

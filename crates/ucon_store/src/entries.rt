@@ -78,6 +78,15 @@ impl Entries {
         Entries { count: 0, told }
     }
 
+    /// One entry. It takes no memory.
+    pub fn of(caller: Caller, command: &Command) -> Entries
+        ensures { result ≡ record { caller = caller; command = command.now } ∷ [] }
+    {
+        let mut entries = Entries::new();
+        entries.push(caller, command);
+        entries
+    }
+
     /// Counts the entries.
     pub fn len(&self) -> u64
         ensures { result ≡ length self.now }

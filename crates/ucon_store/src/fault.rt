@@ -1,7 +1,7 @@
 //! Why a call of a store failed.
 
 ghost use Rattle.std.specs.Prelude.{◌≡◌};
-ghost use Rattle.ucon_store.specs.declared.fault.PointRefusal.TheVariants as refusals;
+ghost use Rattle.ucon_store.specs.declared.fault.PointFault.TheVariants as point_faults;
 ghost use Rattle.ucon_store.specs.declared.fault.StepFault.TheVariants as step_faults;
 ghost use Rattle.ucon_store.specs.declared.fault.StoreFault.TheVariants as store_faults;
 ghost use Rattle.ucon_store.specs.Faults.{of_open, of_record, of_take};
@@ -69,10 +69,12 @@ pub(crate) fn at_record(number: u64, fault: TakeFault) -> StoreFault
     ucon_walk::at_record(number, fault).into()
 }
 
-/// Why no checkpoint was written, and nothing else either.
+/// Why no checkpoint was written. But for a disk fault nothing else was, either.
 #[derive(Clone, Copy)]
-pub enum PointRefusal {
-    /// The disk failed at an earlier step.
+pub enum PointFault {
+    /// The disk failed. Whether the checkpoint is in the file shows at the next opening.
+    DiskFault,
+    /// The disk failed at an earlier step or checkpoint.
     Stopped,
     /// The journal is of version 1, which has no checkpoints.
     OldJournal,
@@ -81,11 +83,11 @@ pub enum PointRefusal {
     NoMemory(NoMemory),
 }
 
-impl From<NoMemory> for PointRefusal {
-    ghost from_gives = { λ e refusal. refusal ≡ refusals.NoMemory e };
+impl From<NoMemory> for PointFault {
+    ghost from_gives = { λ e fault. fault ≡ point_faults.NoMemory e };
 
-    fn from(e: NoMemory) -> PointRefusal {
-        PointRefusal::NoMemory(e)
+    fn from(e: NoMemory) -> PointFault {
+        PointFault::NoMemory(e)
     }
 }
 
@@ -94,7 +96,7 @@ impl From<NoMemory> for PointRefusal {
 pub enum StepFault {
     /// The disk failed. Whether the step's record is in the file shows at the next opening.
     DiskFault,
-    /// The disk failed at an earlier step.
+    /// The disk failed at an earlier step or checkpoint.
     Stopped,
     NoMemory(NoMemory),
 }

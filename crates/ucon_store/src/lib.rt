@@ -8,8 +8,8 @@
 //!
 //! **Free.** How the checkpoint is found, and how lines are cut. That a record is on the disk before its step counts isn't free.
 //!
-//! **Before a change.** Of the entries the store keeps the number: which they are stands in proofs alone (`entries.rt`). Each clause takes the
-//! history before the store's checkpoint as an argument, since a history that wasn't run can't be kept. Begin at `store.rt`.
+//! **Before a change.** Of the entries, and of those of the mark, the store keeps the number: which they are stands in proofs alone (`entries.rt`).
+//! Each clause takes the history before the store's checkpoint as an argument, since a history that wasn't run can't be kept. Begin at `store.rt`.
 #![tactic(auto)]
 
 mod accepting;
@@ -27,10 +27,9 @@ mod recording;
 mod restoring;
 mod starting;
 mod store;
-mod turned;
 
 pub use event::{Base, Event};
-pub use fault::{PointRefusal, StepFault, StoreFault};
+pub use fault::{PointFault, StepFault, StoreFault};
 pub use laws::{
     checkpoints_of_traces_are_read_back, found_histories_stand_around_their_last_checkpoint,
     journals_are_found_as_their_histories, journals_with_checkpoints_are_found,

@@ -9,7 +9,7 @@ ghost use Rattle.ucon_point.specs.PointText.{point_text};
 ghost use Rattle.ucon_state.specs.Held.{held_after};
 ghost use Rattle.ucon_store.specs.Points.{points_of};
 
-use crate::fault::PointRefusal;
+use crate::fault::PointFault;
 use std::alloc::Global;
 use ucon_disk::Disk;
 use ucon_engine::Engine;
@@ -25,7 +25,7 @@ pub(crate) fn prepare_point<E: Engine, D: Disk>(
     count: u64,
     in_force: &[u8],
     engine: &E,
-) -> Result<Vec<u8>, PointRefusal>
+) -> Result<Vec<u8>, PointFault>
     ensures disk { disk_of journal.new ≡ disk_of journal.old }
     ensures closed { IsClosed D.seen journal.old → IsClosed D.seen journal.new }
     ensures gate { gate_of journal.new ≡ gate_of journal.old }
@@ -35,16 +35,16 @@ pub(crate) fn prepare_point<E: Engine, D: Disk>(
         → text.items ≡ point_text count in_force.now (held_after P T)) }
     ensures short { IfOk result (λ text. length text.items ≤ MAX_PAYLOAD) }
     ensures room { IfOk result (λ text. HasRoomFor journal.new (length text.items)) }
-    ensures refused { IfErr result (λ refusal. (P : PlainPolicy) (T : Trace) → E.follows engine.now P T
-        → IsUnprepared (points_of (version_of journal.old)) (point_text count in_force.now (held_after P T)) refusal) }
+    ensures refused { IfErr result (λ fault. (P : PlainPolicy) (T : Trace) → E.follows engine.now P T
+        → IsUnprepared (points_of (version_of journal.old)) (point_text count in_force.now (held_after P T)) fault) }
 {
     if !has_points(journal) {
-        return Err(PointRefusal::OldJournal);
+        return Err(PointFault::OldJournal);
     }
     let text = point_text(alloc, count, in_force, engine.state())?;
     let size = text.len() as u64;
     if size > MAX_PAYLOAD {
-        return Err(PointRefusal::TooLarge(size));
+        return Err(PointFault::TooLarge(size));
     }
     journal.reserve(text.len())?;
     Ok(text)

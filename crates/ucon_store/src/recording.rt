@@ -1,6 +1,6 @@
 //! How a change that is pending in the engine gets onto the disk and into the history.
 
-ghost use Rattle.std.specs.Prelude.{◌≡◌, ◌+◌, ◌<◌, ◌≤◌, ◌^◌, ◌∷◌, [], ◌++◌, length, true, is_some, Some, IfSome, IfOk, IfErr, OnOk, OnErr};
+ghost use Rattle.std.specs.Prelude.{◌≡◌, ◌+◌, ◌<◌, ◌≤◌, ◌^◌, ◌∷◌, [], ◌++◌, length, true, is_some, Some, IfSome, OnOk, OnErr};
 ghost use Rattle.ucon_disk.specs.Causes.{HasCause};
 ghost use Rattle.ucon_disk.specs.Disk.{Only};
 ghost use Rattle.ucon_disk.specs.Run.{LeavesAfter};
@@ -27,10 +27,10 @@ use ucon_base::NoMemory;
 use ucon_command::{put_payload, steps_are_taken_as_spelled};
 use ucon_disk::Disk;
 use ucon_engine::Engine;
-use ucon_journal::{Journal, MAX_PAYLOAD};
-use ucon_model::{Caller, Command, Entry, Reply};
+use ucon_journal::{DiskFault, Journal, MAX_PAYLOAD};
+use ucon_model::{Caller, Command, Reply};
 
-/// Takes all the memory that a step needs, before anything is written: the payload of its record, the text of its amendment, and its entry.
+/// Takes all the memory that a step needs, before anything is written: the payload of its record, and the text of its amendment.
 pub(crate) fn prepare<D: Disk>(
     alloc: Global,
     journal: &mut Journal<D>,
@@ -39,17 +39,16 @@ pub(crate) fn prepare<D: Disk>(
     caller: Caller,
     command: &Command,
     reply: &Reply,
-) -> Result<Entry, NoMemory>
+) -> Result<(), NoMemory>
     requires client { caller.0 < 64 }
     requires few { length (revocations_in (reply_of reply.now)) ≤ 65536 }
     ensures disk { disk_of journal.new ≡ disk_of journal.old }
     ensures closed { IsClosed D.seen journal.old → IsClosed D.seen journal.new }
     ensures gate { gate_of journal.new ≡ gate_of journal.old }
     ensures in_force { in_force.new.text.items ≡ in_force.old.text.items }
-    ensures entry { IfOk result (λ e. e ≡ record { caller = caller; command = command.now }) }
-    ensures taken { IfOk result (λ e. (P : PlainPolicy) (H : History)
+    ensures taken { OnOk result ((P : PlainPolicy) (H : History)
         → reply_of reply.now ≡ said P H caller command.now → changes (reply_of reply.now) ≡ true
-        → taken accepted P H payload.new.items ≡ Some (H ++ e ∷ [])) }
+        → taken accepted P H payload.new.items ≡ Some (H ++ record { caller = caller; command = command.now } ∷ [])) }
     ensures spelled { OnOk result (payload.new.items ≡ payload_spelling (told_of caller command.now reply.now)) }
     ensures short { OnOk result (length payload.new.items ≤ MAX_PAYLOAD) }
     ensures room { OnOk result (HasRoomFor journal.new (length payload.new.items)) }
@@ -60,35 +59,33 @@ pub(crate) fn prepare<D: Disk>(
     put_payload(alloc, payload, caller, command, reply)?;
     journal.reserve(payload.len())?;
     in_force.prepare(command)?;
-    let command = command.copy(alloc)?;
-    Ok(Entry { caller, command })
+    Ok(())
 }
 
-/// Puts the record of a step on the disk, and then keeps the change that is pending. After a disk fault the change is undone, and the entry
-/// comes back.
+/// Puts the record of a step on the disk, and then keeps the change that is pending. After a disk fault the change is undone.
 pub(crate) fn record<E: Engine, D: Disk>(
     engine: &mut E,
     journal: &mut Journal<D>,
     entries: &mut Entries,
     in_force: &mut InForce,
     payload: &[u8],
-    entry: Entry,
-) -> Result<(), Entry>
+    caller: Caller,
+    command: &Command,
+) -> Result<(), DiskFault>
     requires pending { IsPending E.has_pending engine.old }
     requires closed { IsClosed D.seen journal.old }
     requires short { length payload.now ≤ MAX_PAYLOAD }
     requires room { HasRoomFor journal.old (length payload.now) }
     requires few { length entries.old + 1 < 2 ^ 64 }
-    requires ready { HoldsAmendment in_force.old.next.items entry.command }
+    requires ready { HoldsAmendment in_force.old.next.items command.now }
     ensures kept { OnOk result ((P : PlainPolicy) (T : Trace) (e : Entry) → E.has_pending engine.old P T e
         → E.follows engine.new P (after P T e.caller e.command)) }
     ensures settled { OnOk result ((P : PlainPolicy) (T : Trace) (e : Entry) → E.has_pending engine.old P T e
         → NobodyFails P (after P T e.caller e.command)) }
     ensures undone { OnErr result ((P : PlainPolicy) (T : Trace) (e : Entry) → E.has_pending engine.old P T e → E.follows engine.new P T) }
-    ensures added { OnOk result (entries.new ≡ entries.old ++ entry ∷ []) }
-    ensures in_force { OnOk result (in_force.new.text.items ≡ text_behind in_force.old.text.items entry.command) }
+    ensures added { OnOk result (entries.new ≡ entries.old ++ record { caller = caller; command = command.now } ∷ []) }
+    ensures in_force { OnOk result (in_force.new.text.items ≡ text_behind in_force.old.text.items command.now) }
     ensures same { OnErr result ((entries.new ≡ entries.old) × (in_force.new ≡ in_force.old)) }
-    ensures entry { IfErr result (λ e. e ≡ entry) }
     ensures closed { OnOk result (IsClosed D.seen journal.new) }
     ensures gate { OnOk result (gate_of journal.old + 5 ≤ gate_of journal.new) }
     ensures small { gate_of journal.new < 2 ^ 63 }
@@ -102,10 +99,10 @@ pub(crate) fn record<E: Engine, D: Disk>(
 {
     if journal.append(payload).is_err() {
         engine.undo();
-        return Err(entry);
+        return Err(DiskFault);
     }
     engine.keep();
-    entries.push(entry.caller, &entry.command);
-    in_force.go_on(&entry.command);
+    entries.push(caller, command);
+    in_force.go_on(command);
     Ok(())
 }

@@ -1,8 +1,7 @@
 //! The store.
 
-ghost use Rattle.std.specs.Prelude.{◌≡◌, ◌↔◌, ◌⊎◌, ◌∷◌, [], ◌++◌, ℕ, List, length, true, false, None, Some, IsSome, IfSome, IfOk, IfErr, OnOk, IsErrOf, ◌≤◌, ◌<◌, ◌+◌, ◌^◌, option_copied, is_some};
+ghost use Rattle.std.specs.Prelude.{◌≡◌, ◌≢◌, ◌↔◌, ◌⊎◌, ◌∷◌, [], ◌++◌, ℕ, List, length, true, false, None, Some, IsSome, IfSome, IfOk, IfErr, OnOk, IsErrOf, ◌≤◌, ◌<◌, ◌+◌, ◌^◌, is_some};
 ghost use Rattle.ucon_base.specs.Memory.{out_of_memory};
-ghost use Rattle.ucon_disk.specs.Causes.{raised};
 ghost use Rattle.ucon_disk.specs.Disk.{Only};
 ghost use Rattle.ucon_disk.specs.Run.{LeavesAfter, LeavesOnly};
 ghost use Rattle.ucon_journal.specs.Found.{counted};
@@ -22,7 +21,7 @@ ghost use Rattle.ucon_store.specs.Found.{IsFoundAs, IsFoundWith};
 ghost use Rattle.ucon_store.specs.Kept.{Kept};
 ghost use Rattle.ucon_store.specs.Opened.{last_point};
 ghost use Rattle.ucon_store.specs.Opening.{HasReason, IsSeenAs, Opens};
-ghost use Rattle.ucon_store.specs.Pointing.{IsFoundPointed, IsSameStore, IsUnpointed};
+ghost use Rattle.ucon_store.specs.Pointing.{HasFailedPoint, IsFoundPointed, IsSameStore, IsUnpointed};
 ghost use Rattle.ucon_store.specs.Points.{IsOld, SamePlaces, has_points, point_places};
 ghost use Rattle.ucon_store.specs.Starts.{BeginsAt, IsBeforeAll, IsStart, checkpoint_behind};
 ghost use Rattle.ucon_store.specs.Stays.{Stays};
@@ -33,7 +32,7 @@ mod lending;
 
 use crate::beginning::Beginning;
 use crate::entries::Entries;
-use crate::fault::{PointRefusal, StepFault, StoreFault};
+use crate::fault::{PointFault, StepFault, StoreFault};
 use crate::in_force::InForce;
 use crate::laws::found_histories_stand_around_their_last_checkpoint;
 use crate::loading::Loaded;
@@ -46,8 +45,8 @@ use std::marker::Model;
 use ucon_base::Steps;
 use ucon_disk::Disk;
 use ucon_engine::Engine;
-use ucon_journal::{Journal, MAX_PAYLOAD};
-use ucon_model::{Caller, Command, Entry, SessionState};
+use ucon_journal::{DiskFault, Journal, MAX_PAYLOAD};
+use ucon_model::{Caller, Command, SessionState};
 use ucon_runs::payloads_are_found_one_by_one;
 use ucon_state::State;
 
@@ -65,7 +64,8 @@ pub struct Store<E: Engine, D: Disk> {
     /// The entries behind that checkpoint, or all.
     entries: Entries,
     in_force: InForce,
-    mark: Option<Entry>,
+    /// Where a call met a disk fault, the entries that it was writing: its step's, or none, where it wrote a checkpoint.
+    mark: Option<Entries>,
     /// The payload of the last record that was spelled. Its memory is kept for the next one.
     payload: Vec<u8>,
 }
@@ -193,6 +193,7 @@ impl<E: Engine, D: Disk> Store<E, D> {
             → IsFounded D.seen P self.new G) }
         ensures unfailed { OnOk result ((D.seen self.new.disk).faults ≡ (D.seen self.old.disk).faults) }
         ensures events { Continues (λ event. number_of event ≡ caller.0 + 1) (events_of self.old) (events_of self.new) }
+        ensures mark { (self.new.mark ≡ self.old.mark) ⊎ (self.new.mark ≡ Some (record { caller = caller; command = command.now } ∷ [])) }
         ensures stays { Stays D.seen self.old self.new }
     {
         payloads_are_found_one_by_one();
@@ -207,7 +208,7 @@ impl<E: Engine, D: Disk> Store<E, D> {
                 reply: drafted.reply,
             });
         }
-        let entry = match prepare(
+        if let Err(refused) = prepare(
             alloc,
             &mut self.journal,
             &mut self.in_force,
@@ -216,21 +217,19 @@ impl<E: Engine, D: Disk> Store<E, D> {
             command,
             &drafted.reply,
         ) {
-            Ok(entry) => entry,
-            Err(refused) => {
-                self.engine.undo();
-                return Err(StepFault::NoMemory(refused));
-            }
-        };
-        if let Err(entry) = record(
+            self.engine.undo();
+            return Err(StepFault::NoMemory(refused));
+        }
+        if let Err(DiskFault) = record(
             &mut self.engine,
             &mut self.journal,
             &mut self.entries,
             &mut self.in_force,
             &self.payload,
-            entry,
+            caller,
+            command,
         ) {
-            self.mark = Some(entry);
+            self.mark = Some(Entries::of(caller, command));
             return Err(StepFault::DiskFault);
         }
         Ok(Placed {
@@ -239,95 +238,62 @@ impl<E: Engine, D: Disk> Store<E, D> {
         })
     }
 
-    /// Puts a checkpoint behind all entries, and gives the store back with their number, or as it was with why not. It takes all memory before
-    /// its first call of the disk. A disk fault ends the store and hands the disk back; whether the checkpoint is in the file shows at the next
-    /// opening.
-    pub fn point(self, alloc: Global) -> Result<(Store<E, D>, Result<u64, PointRefusal>), D>
-        ensures stopped { IfOk result (λ r. IsErrOf r.1 PointRefusal.Stopped ↔ IsSome self.mark) }
-        ensures same { IfOk result (λ r. IfErr r.1 (λ _. r.0 ≡ self)) }
-        ensures why { IfOk result (λ r. IfErr r.1 (λ refusal. (P : PlainPolicy) (T : Trace) → accepted self.policy ≡ Some P
-            → IsStart P self.point self.before T → IsUnpointed D.seen P T self refusal)) }
-        ensures pointed { IfOk result (λ r. IfOk r.1 (λ entries. IsSameStore self r.0 × (entries ≡ self.before + length self.entries)
-            × (self.mark ≡ None))) }
-        ensures second { IfOk result (λ r. OnOk r.1 (IfSome (D.seen self.disk).contents (λ file. has_points file ≡ true))) }
-        ensures added { IfOk result (λ r. OnOk r.1 ((P : PlainPolicy) (G : History) (before file : List ℕ)
-            → IsFounded D.seen P self G → (D.seen self.disk).contents ≡ Some before → (D.seen r.0.disk).contents ≡ Some file
-            → point_places file ≡ point_places before ++ length (G ++ self.entries) ∷ [])) }
-        ensures written { IfOk result (λ r. OnOk r.1 ((P : PlainPolicy) (T : Trace) (file : List ℕ) → accepted self.policy ≡ Some P
-            → IsStart P self.point self.before T → (D.seen self.disk).contents ≡ Some file → told_payloads (D.seen r.0.disk).contents
-            ≡ counted file ++ checkpoint_behind self.policy self.point self.before P T self.entries ∷ [])) }
-        ensures fits { IfOk result (λ r. OnOk r.1 ((P : PlainPolicy) (T : Trace) → accepted self.policy ≡ Some P
-            → IsStart P self.point self.before T → length (checkpoint_behind self.policy self.point self.before P T self.entries) ≤ MAX_PAYLOAD)) }
-        ensures inside { IfOk result (λ r. OnOk r.1 ((P : PlainPolicy) (G : History) (file : List ℕ) → IsFounded D.seen P self G
-            → (D.seen self.disk).contents ≡ Some file
-            → LeavesOnly (D.seen self.disk) (D.seen r.0.disk) (IsFoundPointed self.policy (G ++ self.entries) (point_places file)))) }
-        ensures at_rest { IfOk result (λ r. OnOk r.1 (Only (D.seen r.0.disk).contents (D.seen r.0.disk).images)) }
-        ensures founded { IfOk result (λ r. OnOk r.1 ((P : PlainPolicy) (G : History) → IsFounded D.seen P self G
-            → IsFounded D.seen P r.0 G)) }
-        ensures stays { IfOk result (λ r. OnOk r.1 (Stays D.seen self r.0)) }
-        ensures failed { IfErr result (λ disk. (self.mark ≡ None) × ((D.seen disk).faults ≡ raised (D.seen self.disk).faults)) }
-        ensures inside_err { IfErr result (λ disk. (P : PlainPolicy) (G : History) (file : List ℕ) → IsFounded D.seen P self G
-            → (D.seen self.disk).contents ≡ Some file
-            → LeavesOnly (D.seen self.disk) (D.seen disk) (IsFoundPointed self.policy (G ++ self.entries) (point_places file))) }
+    /// Puts a checkpoint behind all entries, and answers their number; the store goes on as it stood. It takes all memory before its first call of
+    /// the disk, and where it refuses, the store is as it was. A disk fault stops the store as a step's does; whether the checkpoint is in the file
+    /// shows at the next opening.
+    pub fn point(&mut self, alloc: Global) -> Result<u64, PointFault>
+        ensures stopped { IsErrOf result PointFault.Stopped ↔ IsSome self.old.mark }
+        ensures same { IfErr result (λ fault. fault ≢ PointFault.DiskFault → self.new ≡ self.old) }
+        ensures why { IfErr result (λ fault. (P : PlainPolicy) (T : Trace) → accepted self.old.policy ≡ Some P
+            → IsStart P self.old.point self.old.before T → IsUnpointed D.seen P T self.old fault) }
+        ensures pointed { IfOk result (λ entries. IsSameStore self.old self.new × (entries ≡ self.old.before + length self.old.entries)
+            × (self.old.mark ≡ None)) }
+        ensures second { OnOk result (IfSome (D.seen self.old.disk).contents (λ file. has_points file ≡ true)) }
+        ensures added { OnOk result ((P : PlainPolicy) (G : History) (before file : List ℕ)
+            → IsFounded D.seen P self.old G → (D.seen self.old.disk).contents ≡ Some before → (D.seen self.new.disk).contents ≡ Some file
+            → point_places file ≡ point_places before ++ length (G ++ self.old.entries) ∷ []) }
+        ensures written { OnOk result ((P : PlainPolicy) (T : Trace) (file : List ℕ) → accepted self.old.policy ≡ Some P
+            → IsStart P self.old.point self.old.before T → (D.seen self.old.disk).contents ≡ Some file → told_payloads (D.seen self.new.disk).contents
+            ≡ counted file ++ checkpoint_behind self.old.policy self.old.point self.old.before P T self.old.entries ∷ []) }
+        ensures fits { OnOk result ((P : PlainPolicy) (T : Trace) → accepted self.old.policy ≡ Some P → IsStart P self.old.point self.old.before T
+            → length (checkpoint_behind self.old.policy self.old.point self.old.before P T self.old.entries) ≤ MAX_PAYLOAD) }
+        ensures failed { IsErrOf result PointFault.DiskFault → HasFailedPoint D.seen self.old self.new }
+        ensures inside { (P : PlainPolicy) (G : History) (file : List ℕ) → IsFounded D.seen P self.old G → (D.seen self.old.disk).contents ≡ Some file
+            → LeavesOnly (D.seen self.old.disk) (D.seen self.new.disk)
+            (IsFoundPointed self.old.policy (G ++ self.old.entries) (point_places file)) }
+        ensures adds { (P : PlainPolicy) (T : Trace) (file : List ℕ) → accepted self.old.policy ≡ Some P
+            → IsStart P self.old.point self.old.before T → self.old.mark ≡ None → (D.seen self.old.disk).contents ≡ Some file
+            → LeavesOnly (D.seen self.old.disk) (D.seen self.new.disk)
+            (AddsAtMost (checkpoint_behind self.old.policy self.old.point self.old.before P T self.old.entries) file) }
+        ensures at_rest { OnOk result (Only (D.seen self.new.disk).contents (D.seen self.new.disk).images) }
+        ensures founded { OnOk result ((P : PlainPolicy) (G : History) → IsFounded D.seen P self.old G → IsFounded D.seen P self.new G) }
+        ensures unfailed { OnOk result ((D.seen self.new.disk).faults ≡ (D.seen self.old.disk).faults) }
+        ensures stays { Stays D.seen self.old self.new }
     {
         payloads_are_found_one_by_one();
         if self.mark.is_some() {
-            return Ok((self, Err(PointRefusal::Stopped)));
+            return Err(PointFault::Stopped);
         }
-        let Store {
-            engine,
-            mut journal,
-            policy,
-            point,
-            before,
-            opening,
-            entries,
-            in_force,
-            mark,
-            payload,
-        } = self;
-        let count = before + entries.len();
-        let text = match prepare_point(alloc, &mut journal, count, &in_force.text, &engine) {
-            Ok(text) => text,
-            Err(refusal) => {
-                let same = Store {
-                    engine,
-                    journal,
-                    policy,
-                    point,
-                    before,
-                    opening,
-                    entries,
-                    in_force,
-                    mark,
-                    payload,
-                };
-                return Ok((same, Err(refusal)));
-            }
-        };
-        if journal.append(&text).is_err() {
-            return Err(journal.close());
+        let count = self.before + self.entries.len();
+        let text = prepare_point(
+            alloc,
+            &mut self.journal,
+            count,
+            &self.in_force.text,
+            &self.engine,
+        )?;
+        if let Err(DiskFault) = self.journal.append(&text) {
+            self.mark = Some(Entries::new());
+            return Err(PointFault::DiskFault);
         }
-        let store = Store {
-            engine,
-            journal,
-            policy,
-            point,
-            before,
-            opening,
-            entries,
-            in_force,
-            mark,
-            payload,
-        };
-        Ok((store, Ok(count)))
+        Ok(count)
     }
 
-    /// The entry of the step that met a disk fault. None where no step did.
-    pub fn failed(&self) -> Option<&Entry>
-        ensures { option_copied result ≡ self.now.mark }
+    /// Whether a step or a checkpoint met a disk fault.
+    pub fn is_stopped(&self) -> bool
+        ensures { result ≡ is_some self.now.mark }
     {
-        self.mark.as_ref()
+        self.mark.is_some()
     }
 
     /// The number of entries before the checkpoint that opening used. 0 where it ran every record.

@@ -13,6 +13,7 @@ use Rattle.ucon_model.specs.History.{History}
 use Rattle.ucon_model.specs.LegalRun.{Answered, no_memory, Saw, StaysStopped, AreInOrder, IsLegalRun, history_made, in_text_order, is_disk_fault, is_stopped}
 use Rattle.ucon_model.specs.StoredRun.{LeadsTo, failed_line}
 use Rattle.ucon_store.specs.Kept.{Kept}
+use Rattle.ucon_store.specs.Marks.{marked}
 use Rattle.ucon_client.specs.Clients.{faulted}
 use Rattle.ucon_trial.specs.Runs.{IsUnfaulted}
 use Rattle.ucon_top.specs.Stepping.{AreAnswered, HaveOutput, HaveSteps, IsRunBetween}
@@ -48,9 +49,9 @@ module _ {D : Type 0} (laws : AreLegal) (P : PlainPolicy) where
   -- steps in the order of the text
   pub run_of_steps : (old new : Kept D) (lines : List Entry) (told : List Answered) → HaveSteps P old new lines told → IsRunBetween in_text_order P old new told
   run_of_steps old new lines told steps = record {
-    legal = laws.legal P old.entries told new.entries new.mark steps.leads;
-    made = laws.made P old.entries told new.entries new.mark steps.leads;
-    failed = laws.failed P old.entries told new.entries new.mark steps.leads;
+    legal = laws.legal P old.entries told new.entries steps.failed steps.leads;
+    made = laws.made P old.entries told new.entries steps.failed steps.leads;
+    failed = steps.mark ∙ ap marked (sym (laws.failed P old.entries told new.entries steps.failed steps.leads));
   }
 
   -- where there is no room for the answers, there was no memory for any line
@@ -68,7 +69,7 @@ module _ {D : Type 0} (laws : AreLegal) (P : PlainPolicy) where
             causes = legal.causes;
           };
           made = laws.made P store.entries (map wants_memory lines) store.entries None run;
-          failed = laws.failed P store.entries (map wants_memory lines) store.entries None run ∙ sym none;
+          failed = none ∙ ap marked (sym (laws.failed P store.entries (map wants_memory lines) store.entries None run));
         };
         is_so = tt;
       }

@@ -5,6 +5,7 @@ use Rattle.std.specs.Io.KnownBytes.{Appends}
 use Rattle.ucon_flow.specs.Writing.{AppendsPrefix}
 use Rattle.ucon_model.specs.declared.command.Caller.{Caller}
 use Rattle.ucon_model.specs.declared.command.Entry.{Entry}
+use Rattle.ucon_model.specs.History.{History}
 use Rattle.ucon_model.specs.Plain.{Bytes, PlainPolicy}
 use Rattle.ucon_store.specs.Kept.{Kept}
 use Rattle.ucon_outcome.specs.declared.outcome.Outcome.{Outcome}
@@ -13,9 +14,9 @@ use Rattle.ucon_top.specs.Closing.{EndsRun, IsMarkedBy, IsOfRun, IsWritten}
 use Rattle.ucon_top.specs.Ending.{IsCounted}
 use Rattle.ucon_top.specs.Stepping.{AreAnswered, HaveOutput}
 
-no_mark : (mark : Option Entry) → is_some mark ≡ false → mark ≡ None
+no_mark : (mark : Option History) → is_some mark ≡ false → mark ≡ None
 no_mark None is = refl
-no_mark (Some e) is = absurd (cc is)
+no_mark (Some es) is = absurd (cc is)
 
 -- an output was written in one of these ways
 pub of_run : (outcome : Outcome) (text : Bytes) (stopped : Bool) (before now : Option Bytes) (failed fails : ℕ) → IsWritten outcome text stopped before now failed fails → IsOfRun outcome
@@ -33,7 +34,7 @@ counted outcomes.SinkFault text stopped before now failed fails w = ((λ is. w.0
 counted outcome text stopped before now failed fails w = absurd w
 
 -- and it tells of the store's mark
-pub marked_so : (outcome : Outcome) (mark : Option Entry) (text : Bytes) (stopped : Bool) (before now : Option Bytes) (failed fails : ℕ)
+pub marked_so : (outcome : Outcome) (mark : Option History) (text : Bytes) (stopped : Bool) (before now : Option Bytes) (failed fails : ℕ)
     → is_some mark ≡ stopped → IsWritten outcome text stopped before now failed fails → IsMarkedBy outcome mark
 marked_so outcomes.Done mark text stopped before now failed fails is w = no_mark mark (is ∙ w.0)
 marked_so outcomes.DiskFault mark text stopped before now failed fails is w = is ∙ w.0

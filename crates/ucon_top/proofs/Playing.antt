@@ -1,5 +1,5 @@
 -- From the opening of a journal to its closing: what was played over it.
-use Rattle.std.proofs.Common.{Bool, ⊎_elim, ◌≡◌, ◌⊎◌, ℕ, ◌+◌, true, false, List, [], ◌++◌, length, refl, sym, ap, subst, ◌∙◌, inl, inr, arith}
+use Rattle.std.proofs.Common.{Bool, ⊎_elim, ◌≡◌, ◌⊎◌, ℕ, ◌+◌, true, false, List, [], ◌∷◌, ◌++◌, length, refl, sym, ap, subst, ◌∙◌, inl, inr, arith}
 use Rattle.std.specs.Prelude.{Option, Some, None, Ok, is_some, IsSome, IfSome}
 use Rattle.std.specs.Io.KnownBytes.{Appends}
 use Rattle.ucon_flow.specs.Writing.{AppendsPrefix}
@@ -15,8 +15,9 @@ use Rattle.ucon_model.specs.Plain.{Bytes, PlainPolicy}
 use Rattle.ucon_model.specs.LegalRun.{Answered, history_made}
 use Rattle.ucon_model.specs.StoredRun.{failed_line}
 use Rattle.ucon_syntax.specs.Policies.{accepted}
-use Rattle.ucon_store.specs.Found.{IsFoundAs, IsFoundWith}
+use Rattle.ucon_store.specs.Found.{IsFoundAs, IsFoundMarked, IsFoundWith, found_with}
 use Rattle.ucon_store.specs.Kept.{Kept}
+use Rattle.ucon_store.specs.Marks.{is_marked, marked, none_marked, with_marked}
 use Rattle.ucon_store.specs.Opened as seens
 use Rattle.ucon_store.specs.Opening.{IsSeenAs, Opens}
 use Rattle.ucon_store.specs.Starts.{IsStart}
@@ -54,48 +55,52 @@ module _ {D : Type 0} (seen : D → DiskSeen) where
     -- ---- images, behind a history on which the store is founded and as which with its entries the file was found
 
     module _ (file : Bytes) (told : (seen disk).contents ≡ Some file) (G : History) (f : IsFounded seen P store G) (found : IsFoundAs text file (G ++ store.entries)) where
-      abbrev Since : Bytes → Type 0
-      Since c = IsFoundSince text (G ++ store.entries) (G ++ closed.entries) closed.mark c
-
       told_opened : IsSome (seen store.disk).contents
       told_opened = opened.tells (rw told refl)
-
-      found_at_first : (c : Bytes) → IsFoundAs text c (G ++ store.entries) → Since c
-      found_at_first c found = record {
-        history = G ++ store.entries;
-        found = found;
-        begun = begins_refl (G ++ store.entries);
-        within = inl (begins_behind G store.entries closed.entries closes.stays.entries);
-      }
-
-      found_between : (c : Bytes) → IsFoundBetween (whole G store) (whole G closed) c → Since c
-      found_between c b = record {
-        history = b.history;
-        found = subst (λ (t : Bytes). IsFoundAs t c b.history) (closes.stays.policy ∙ opened.policy) b.found;
-        begun = b.begun;
-        within = b.within;
-      }
 
       -- what a crash leaves where the store was opened
       found_resting : (c : Bytes) → (seen store.disk).images c → IsFoundAs text c (G ++ store.entries)
       found_resting c image =
           subst (λ (t : Bytes). IsFoundAs t c (G ++ store.entries)) opened.policy (found_founded seen P store G f told_opened c image)
 
-      since_opened : IsAtRest (seen disk) file → LeavesOnly (seen disk) (seen closed.disk) Since
-      since_opened rest =
-          joined (seen disk) (seen store.disk) (seen closed.disk) Since
-          (weaker (seen disk) (seen store.disk) (Opens text file) Since (λ c o. found_at_first c (o.same (G ++ store.entries) found)) (opened.images_kept.each file rest))
-          (weaker (seen store.disk) (seen closed.disk) (λ c. (seen store.disk).images c ⊎ IsFoundBetween (whole G store) (whole G closed) c) Since
-          (λ c. ⊎_elim (λ image. found_at_first c (found_resting c image)) (found_between c)) (closes.stays.left P G f told_opened))
+      module _ (failed : Option Entry) (marks : closed.mark ≡ marked failed) where
+        abbrev Since : Bytes → Type 0
+        Since c = IsFoundSince text (G ++ store.entries) (G ++ closed.entries) failed c
 
-      since_now : IsAtRest (seen disk) file → LeavesOnly (seen disk) (seen now) Since
-      since_now rest = subst (λ (d : D). LeavesOnly (seen disk) (seen d) Since) (sym closes.disk_is) (since_opened rest)
+        found_at_first : (c : Bytes) → IsFoundAs text c (G ++ store.entries) → Since c
+        found_at_first c found = record {
+          history = G ++ store.entries;
+          found = found;
+          begun = begins_refl (G ++ store.entries);
+          within = inl (begins_behind G store.entries closed.entries closes.stays.entries);
+        }
 
-      -- what a crash leaves behind the closing
-      left_now : (c : Bytes) → (seen now).images c → IsFoundWith text (G ++ closed.entries) closed.mark c
-      left_now c image =
-          subst (λ (t : Bytes). IsFoundWith t (G ++ closed.entries) closed.mark c) (closes.stays.policy ∙ opened.policy)
-          (closes.stays.left_now P G f (closes.stays.tells told_opened) c (subst (λ (d : D). (seen d).images c) closes.disk_is image))
+        found_between : (c : Bytes) → IsFoundBetween (whole G store) (whole G closed) c → Since c
+        found_between c b = record {
+          history = b.history;
+          found = subst (λ (t : Bytes). IsFoundAs t c b.history) (closes.stays.policy ∙ opened.policy) b.found;
+          begun = b.begun;
+          within = ⊎_elim inl
+              (λ (m : (es : History) × (closed.mark ≡ Some es) × (b.history ≡ (G ++ closed.entries) ++ es)).
+              inr (with_marked failed m.0 (G ++ closed.entries) b.history (sym marks ∙ m.1) m.2)) b.within;
+        }
+
+        since_opened : IsAtRest (seen disk) file → LeavesOnly (seen disk) (seen closed.disk) Since
+        since_opened rest =
+            joined (seen disk) (seen store.disk) (seen closed.disk) Since
+            (weaker (seen disk) (seen store.disk) (Opens text file) Since (λ c o. found_at_first c (o.same (G ++ store.entries) found)) (opened.images_kept.each file rest))
+            (weaker (seen store.disk) (seen closed.disk) (λ c. (seen store.disk).images c ⊎ IsFoundBetween (whole G store) (whole G closed) c) Since
+            (λ c. ⊎_elim (λ image. found_at_first c (found_resting c image)) (found_between c)) (closes.stays.left P G f told_opened))
+
+        since_now : IsAtRest (seen disk) file → LeavesOnly (seen disk) (seen now) Since
+        since_now rest = subst (λ (d : D). LeavesOnly (seen disk) (seen d) Since) (sym closes.disk_is) (since_opened rest)
+
+        -- what a crash leaves behind the closing
+        left_now : (c : Bytes) → (seen now).images c → IsFoundWith text (G ++ closed.entries) failed c
+        left_now c image =
+            found_with accepted text (G ++ closed.entries) failed c
+            (subst (λ (z : Bytes × Option History). IsFoundMarked z.0 (G ++ closed.entries) z.1 c) (λ i. ((closes.stays.policy ∙ opened.policy) i, marks i))
+            (closes.stays.left_now P G f (closes.stays.tells told_opened) c (subst (λ (d : D). (seen d).images c) closes.disk_is image)))
 
       -- ---- the run
 
@@ -103,12 +108,12 @@ module _ {D : Type 0} (seen : D → DiskSeen) where
           → IsPlayed sees text P file (G ++ store.entries) (seen disk) (seen now) told
       played sees told run =
           let made : history_made (G ++ store.entries) told ≡ G ++ closed.entries = run.made in
-          let marked : failed_line told ≡ closed.mark = run.failed in record {
+          let failed : Option Entry = failed_line told in record {
             legal = run.legal;
-            unfailed = λ none. ap (λ d. (seen d).faults) closes.disk_is ∙ closes.stays.unfailed (ap is_some (sym marked ∙ none) ∙ sym (ap is_some opened.unmarked)) ∙ opened.unfailed;
-            failed = λ e is. ap (λ d. (seen d).faults) closes.disk_is ∙ closes.stays.failed opened.unmarked e (sym marked ∙ is) ∙ ap raised opened.unfailed;
-            since = λ rest. rw (made, marked) (since_now rest);
-            now = λ c image. rw (made, marked) (left_now c image);
+            unfailed = λ none. ap (λ d. (seen d).faults) closes.disk_is ∙ closes.stays.unfailed (ap is_some (run.failed ∙ ap marked none) ∙ sym (ap is_some opened.unmarked)) ∙ opened.unfailed;
+            failed = λ e is. ap (λ d. (seen d).faults) closes.disk_is ∙ closes.stays.failed opened.unmarked (e ∷ []) (run.failed ∙ ap marked is) ∙ ap raised opened.unfailed;
+            since = λ rest. rw made (since_now failed run.failed rest);
+            now = λ c image. rw made (left_now failed run.failed c image);
           }
 
       has_run : (sees : Caller → Caller → Bool) (lines : List Entry) (so : List Entry → List Answered → Type 0) (given : List Answered → Type 0)
@@ -174,21 +179,21 @@ module _ {D : Type 0} (seen : D → DiskSeen) where
 
       ends : (outcome : Outcome) → IsOfRun outcome → IsMarkedBy outcome closed.mark → EndsSo closed outcome
           → HasPlayed form outcome bytes (seen disk) (seen now) was written
-      ends outcomes.Done of marked e = (
+      ends outcomes.Done of by e = (
         over (λ (es : List Entry) (told : List Answered). (failed_line told ≡ None) × IsUnfaulted told × HaveOutput (Appends was.contents written.contents) es told)
             (HaveOutput (Appends was.contents written.contents) Entries) e
-            (λ G told run output. let none = run.failed ∙ marked in (none, none_faulted P (sees_by form) (G ++ store.entries) told run.legal none, output)),
-        unfailed marked,
+            (λ G told run output. let none = none_marked (failed_line told) (sym run.failed ∙ by) in (none, none_faulted P (sees_by form) (G ++ store.entries) told run.legal none, output)),
+        unfailed by,
       )
-      ends outcomes.SinkFault of marked e =
+      ends outcomes.SinkFault of by e =
           over (HaveOutput (AppendsPrefix was.contents written.contents)) (HaveOutput (AppendsPrefix was.contents written.contents) Entries) e (λ G told run output. output)
-      ends outcomes.DiskFault of marked e = inl (
+      ends outcomes.DiskFault of by e = inl (
           over (λ (es : List Entry) (told : List Answered). IsSome (failed_line told) × HaveOutput (Appends was.contents written.contents) es told)
-          (HaveOutput (Appends was.contents written.contents) Entries) e (λ G told run output. (subst (λ (o : Option Entry). IsSome o) (sym run.failed) marked, output))
+          (HaveOutput (Appends was.contents written.contents) Entries) e (λ G told run output. (sym (is_marked (failed_line told)) ∙ (ap is_some (sym run.failed) ∙ by), output))
           )
-      ends (outcomes.NoMemory m) of marked e =
+      ends (outcomes.NoMemory m) of by e =
           inr (inr (over (λ (es : List Entry) (told : List Answered). Unit {0}) (λ (told : List Answered). Unit {0}) e (λ G told run nothing. tt)))
-      ends outcome of marked e = absurd (cc (of.0, of.1))
+      ends outcome of by e = absurd (cc (of.0, of.1))
 
     pub ends_run : (outcome : Outcome) → IsOfRun outcome
         → IsClosedRun seen (sees_by form) P store Entries outcome now was.contents written.contents
@@ -200,9 +205,9 @@ module _ {D : Type 0} (seen : D → DiskSeen) where
       → IsClosedRun seen sees P store lines outcomes.DiskFault now was written → (seen now).faults ≡ raised (seen disk).faults
   run_raised sees P disk store unmarked unfailed lines now was written run = by_mark run.closed.mark refl run.marked
     where
-      by_mark : (mark : Option Entry) → run.closed.mark ≡ mark → IsSome mark → (seen now).faults ≡ raised (seen disk).faults
+      by_mark : (mark : Option History) → run.closed.mark ≡ mark → IsSome mark → (seen now).faults ≡ raised (seen disk).faults
       by_mark None is some = absurd (let no : false ≡ true = some in (cc))
-      by_mark (Some e) is some = ap (λ d. (seen d).faults) run.closes.disk_is ∙ run.closes.stays.failed unmarked e is ∙ ap raised unfailed
+      by_mark (Some es) is some = ap (λ d. (seen d).faults) run.closes.disk_is ∙ run.closes.stays.failed unmarked es is ∙ ap raised unfailed
 
   -- what opening saw is the document's own file
   pub own_seen : (P : PlainPolicy) (text : Bytes) (store : Kept D) → store.policy ≡ text → (T : Trace) → IsStart P store.point store.before T

@@ -1,6 +1,6 @@
 -- From the opening of a journal to its closing: the checkpoint that was written over it.
-use Rattle.std.proofs.Common.{◌≡◌, ◌⊎◌, ◌↔◌, ⊎_elim, ℕ, ◌+◌, ◌<◌, ◌≤◌, false, true, List, [], ◌∷◌, ◌++◌, length, length-append, refl, sym, ap, subst, ◌∙◌, inl, inr}
-use Rattle.std.specs.Prelude.{Option, Some, None, IsSome, IfSome, Result, Ok, Err, IfOk, IfErr, OnOk}
+use Rattle.std.proofs.Common.{◌≡◌, ◌≢◌, ◌⊎◌, ◌↔◌, ⊎_elim, ℕ, ◌+◌, ◌<◌, ◌≤◌, false, true, List, [], ◌∷◌, ◌++◌, length, length-append, refl, sym, ap, subst, ◌∙◌, inl, inr}
+use Rattle.std.specs.Prelude.{Option, Some, None, IsSome, IfSome, Result, Ok, IfOk}
 use Rattle.std.specs.Io.KnownBytes.{Appends}
 use Rattle.ucon_flow.specs.Writing.{AppendsPrefix}
 use Rattle.ucon_disk.specs.Causes.{raised}
@@ -14,8 +14,8 @@ use Rattle.ucon_store.specs.Found.{Holds, IsFoundAs, found_as}
 use Rattle.ucon_store.specs.Kept.{Kept}
 use Rattle.ucon_store.specs.Opening.{Opens}
 use Rattle.ucon_store.specs.Pointing.{IsFoundPointed, IsSameStore, IsUnpointed}
-use Rattle.ucon_store.specs.declared.fault.PointRefusal.{PointRefusal}
-use Rattle.ucon_store.specs.declared.fault.PointRefusal.TheVariants as refusals
+use Rattle.ucon_store.specs.declared.fault.PointFault.{PointFault}
+use Rattle.ucon_store.specs.declared.fault.PointFault.TheVariants as faults
 use Rattle.ucon_store.specs.Points.{IsOld, SamePlaces, has_points, point_places}
 use Rattle.ucon_store.specs.Starts.{IsStart, checkpoint_behind}
 use Rattle.ucon_store.specs.Stays.{Stays}
@@ -24,7 +24,7 @@ use Rattle.ucon_outcome.specs.declared.outcome.Outcome.{Outcome}
 use Rattle.ucon_outcome.specs.declared.outcome.Outcome.TheVariants as outcomes
 use Rattle.ucon_top.specs.Accepted.{HasPolicy}
 use Rattle.ucon_top.specs.Closing.{IsWritten}
-use Rattle.ucon_outcome.specs.Ending.{by_refusal}
+use Rattle.ucon_outcome.specs.Ending.{by_point}
 use Rattle.ucon_top.specs.Pointed.{FitsRecord, IsCheckpointSize, IsNotOld, IsPointedAt, point_line}
 use Rattle.ucon_top.specs.PointEnding.{BehindEach, EndsPoint, HasPut, IsOfNoPoint, IsOfPoint, IsPut, LeavesPointed, MayHavePoints}
 use Rattle.ucon_top.specs.Seen.{as_it_was}
@@ -261,21 +261,26 @@ same_end seen P store disk before now outcomes.NotJournal none e = absurd e
 same_end seen P store disk before now (outcomes.OtherPolicy place) none e = absurd e
 same_end seen P store disk before now outcomes.TooLong none e = absurd e
 
--- and by why the store had no checkpoint more, which is told by each trace that leads to where it begins, of which there is one
+-- And by why the store was given no checkpoint more, which is told by each trace that leads to where it begins, of which there is one. But by a disk
+-- fault the disk is as it was; by one it may have the checkpoint, and its count rose.
 pub refused_end : {D : Type 0} (seen : D → DiskSeen)
-    (P : PlainPolicy) (store : Kept D) (disk : D) (refusal : PointRefusal) → disk ≡ store.disk → store.mark ≡ None → (T : Trace) → IsStart P store.point store.before T
-    → ((T : Trace) → IsStart P store.point store.before T → IsUnpointed seen P T store refusal)
-    → EndsPoint seen P store disk None None (by_refusal refusal)
-refused_end seen P store disk refusals.Stopped same none T starts why =
+    (P : PlainPolicy) (store : Kept D) (disk : D) (fault : PointFault) → (fault ≢ faults.DiskFault → disk ≡ store.disk) → store.mark ≡ None
+    → (T : Trace) → IsStart P store.point store.before T
+    → ((T : Trace) → IsStart P store.point store.before T → IsUnpointed seen P T store fault)
+    → BehindEach seen P store (λ s. LeavesPointed seen s disk)
+    → (fault ≡ faults.DiskFault → (seen disk).faults ≡ raised (seen store.disk).faults)
+    → EndsPoint seen P store disk None None (by_point fault)
+refused_end seen P store disk faults.DiskFault same none T starts why inside rose = (inside, rose refl)
+refused_end seen P store disk faults.Stopped same none T starts why inside rose =
     absurd (let no : false ≡ true = subst (λ m. IsSome m) none (why T starts) in (cc))
-refused_end seen P store disk refusals.OldJournal same none T starts why = (same, why T starts)
-refused_end seen P store disk (refusals.TooLarge size) same none T starts why = (
-  same,
+refused_end seen P store disk faults.OldJournal same none T starts why inside rose = (same (λ is. cc is), why T starts)
+refused_end seen P store disk (faults.TooLarge size) same none T starts why inside rose = (
+  same (λ is. cc is),
   (why T starts).0,
   (why T starts).2,
   λ G f. (why (trace P G) f.front.starts).1 ∙ ap (λ (l : Bytes). length l) (checkpoint_whole P store G f.front),
 )
-refused_end seen P store disk (refusals.NoMemory e) same none T starts why = same
+refused_end seen P store disk (faults.NoMemory e) same none T starts why inside rose = same (λ is. cc is)
 
 -- how it ended with it, by how the line was written
 module _ {D : Type 0} (seen : D → DiskSeen)
@@ -295,15 +300,9 @@ of_told outcomes.SinkFault text before now failed fails w = (refl, λ is. cc is)
 of_told outcomes.DiskFault text before now failed fails w = absurd (let bad : false ≡ true = w.0 in cc bad)
 of_told outcome text before now failed fails w = absurd w
 
--- what is said of an answer that is there, or of a fault
+-- what is said of an answer that is there
 pub ok_so : {T E : Type 0} (r : Result T E) (t : T) (so : T → Type 0) → r ≡ Ok t → IfOk r so → so t
 ok_so {T} {E} r t so is h = subst (λ (x : Result T E). IfOk x so) is h
-
-pub err_so : {T E : Type 0} (r : Result T E) (e : E) (so : E → Type 0) → r ≡ Err e → IfErr r so → so e
-err_so {T} {E} r e so is h = subst (λ (x : Result T E). IfErr x so) is h
-
-pub ok_on : {T E : Type 0} (r : Result T E) (t : T) (P : Type 0) → r ≡ Ok t → OnOk r P → P
-ok_on {T} {E} r t P is h = subst (λ (x : Result T E). OnOk x P) is h
 
 -- the checkpoint was written, and the store closed
 pub put_so : {D : Type 0} (seen : D → DiskSeen)

@@ -1,6 +1,6 @@
 -- Lines answered over a store, one after the other.
 use Rattle.std.proofs.Common.{◌≡◌, ◌↔◌, true, false, Result, Ok, Err, ℕ, ◌+◌, ◌<◌, List, [], ◌∷◌, ◌++◌, length, get_or, take, refl, sym, ap, subst, ◌∙◌, inl, inr}
-use Rattle.std.specs.Prelude.{IsTrue, IsSome, IfOk, IsErrOf, Option, Some, None, if◌then◌else◌}
+use Rattle.std.specs.Prelude.{IsTrue, is_some, IsSome, IfOk, IsErrOf, Option, Some, None, if◌then◌else◌}
 use Rattle.std.proofs.lemmas.List.{map-append, take_more}
 use Rattle.ucon_base.specs.Elements.{each_append}
 use Rattle.ucon_model.specs.declared.command.Entry.{Entry}
@@ -13,6 +13,7 @@ use Rattle.ucon_store.specs.declared.placed.Placed.{Placed}
 use Rattle.ucon_store.specs.declared.fault.StepFault.{StepFault}
 use Rattle.ucon_store.specs.declared.fault.StepFault.TheVariants as faults
 use Rattle.ucon_store.specs.Kept.{Kept}
+use Rattle.ucon_store.specs.Marks.{is_marked, marked, none_marked}
 use Rattle.ucon_store.specs.Steps.{IsPlaced, HasFailed}
 use Rattle.ucon_store.specs.Whole.{IsFront, whole}
 use Rattle.ucon_client.specs.Answers.{answer_of, answered_by}
@@ -37,53 +38,71 @@ leads_fault P G [] H mark e none run changing =
 leads_fault P G (t ∷ told) H mark e none (inl n) changing = inl (n.0, leads_fault P (history_after G t.line t.answer) told H mark e none n.1 changing)
 leads_fault P G (t ∷ told) H mark e none (inr off) changing = absurd (let no = sym none ∙ off.2 in (cc))
 
-leads_stopped : (P : PlainPolicy) (G : History) (told : List Answered) (H : History) (mark : Option Entry) (failed e : Entry) → mark ≡ Some failed → LeadsTo P G told H mark
-    → LeadsTo P G (told ++ answered e stopped ∷ []) H (Some failed)
-leads_stopped P G [] H mark failed e some run = absurd (let no = sym some ∙ run.1 in (cc))
-leads_stopped P G (t ∷ told) H mark failed e some (inl n) = inl (n.0, leads_stopped P (history_after G t.line t.answer) told H mark failed e some n.1)
-leads_stopped P G (t ∷ told) H mark failed e some (inr off) = inr (
+leads_stopped : (P : PlainPolicy) (G : History) (told : List Answered) (H : History) (failed : Option Entry) (e : Entry) → IsSome failed → LeadsTo P G told H failed
+    → LeadsTo P G (told ++ answered e stopped ∷ []) H failed
+leads_stopped P G [] H failed e some run = absurd (let no : false ≡ true = sym (ap is_some run.1) ∙ some in cc no)
+leads_stopped P G (t ∷ told) H failed e some (inl n) = inl (n.0, leads_stopped P (history_after G t.line t.answer) told H failed e some n.1)
+leads_stopped P G (t ∷ told) H failed e some (inr off) = inr (
   record {
     failed = off.0.failed;
     would_change = off.0.would_change;
     stops = each_append (λ (later : Answered). later.answer ≡ stopped) told (answered e stopped ∷ []) off.0.stops (refl, tt);
   },
   off.1,
-  sym some ∙ off.2,
+  off.2,
 )
 
 -- ---- from store to store
 
 module _ {D : Type 0} (P : PlainPolicy) where
-  leads_more : (first old new : Kept D) (told : List Answered) (e : Entry) (a : Answer) → LeadsTo P first.entries told old.entries old.mark → Steps P old new e a
-      → LeadsTo P first.entries (told ++ answered e a ∷ []) new.entries new.mark
-  leads_more first old new told e a run (inl is) =
-      rw (is.entries, is.mark) (leads_next P first.entries told old.entries old.mark e a is.unmarked run is.next)
-  leads_more first old new told e a run (inr (inl is)) =
-      rw (is.entries, is.mark, is.answer) (leads_fault P first.entries told old.entries old.mark e is.unmarked run is.would_change)
-  leads_more first old new told e a run (inr (inr is)) =
-      rw (is.entries, is.mark, is.answer) (leads_stopped P first.entries told old.entries old.mark is.failed e is.marked run)
+  -- the answers so far lead from one store to another, whose mark is that of the step that failed, if one did
+  record Leads (first : Kept D) (told : List Answered) (new : Kept D) : Type 0 where
+    pub failed : Option Entry
+    pub mark : new.mark ≡ marked failed
+    pub leads : LeadsTo P first.entries told new.entries failed
+
+  leads_more : (first old new : Kept D) (told : List Answered) (e : Entry) (a : Answer) → Leads first told old → Steps P old new e a
+      → Leads first (told ++ answered e a ∷ []) new
+  leads_more first old new told e a run (inl is) = record {
+    failed = None;
+    mark = is.mark;
+    leads = rw is.entries (leads_next P first.entries told old.entries run.failed e a (none_marked run.failed (sym run.mark ∙ is.unmarked)) run.leads is.next);
+  }
+  leads_more first old new told e a run (inr (inl is)) = record {
+    failed = Some e;
+    mark = is.mark;
+    leads = rw (is.entries, is.answer) (
+        leads_fault P first.entries told old.entries run.failed e (none_marked run.failed (sym run.mark ∙ is.unmarked)) run.leads is.would_change
+        );
+  }
+  leads_more first old new told e a run (inr (inr is)) = record {
+    failed = run.failed;
+    mark = is.mark ∙ run.mark;
+    leads = rw (is.entries, is.answer) (
+        leads_stopped P first.entries told old.entries run.failed e (sym (is_marked run.failed) ∙ (ap is_some (sym run.mark) ∙ is.failed)) run.leads
+        );
+  }
 
   pub one_line_more : (first old new : Kept D) (lines : List Entry) (i : ℕ) (told : List Answered) (e : Entry) (a : Answer) → i < length lines → e ≡ get_or lines i e
       → HaveSteps P first old (take i lines) told → Steps P old new e a → HaveSteps P first new (take (i + 1) lines) (told ++ answered e a ∷ [])
-  one_line_more first old new lines i told e a lt is so_far step = record {
-    lines_are = map-append (λ (t : Answered). t.line) told (answered e a ∷ []) ∙ ap (λ (es : List Entry). es ++ e ∷ []) so_far.lines_are
-        ∙ ap (λ (x : Entry). take i lines ++ x ∷ []) is ∙ sym (take_more lines i e lt);
-    leads = leads_more first old new told e a so_far.leads step;
-  }
+  one_line_more first old new lines i told e a lt is so_far step =
+      let run = leads_more first old new told e a (record { failed = so_far.failed; mark = so_far.mark; leads = so_far.leads }) step in record {
+        lines_are = map-append (λ (t : Answered). t.line) told (answered e a ∷ []) ∙ ap (λ (es : List Entry). es ++ e ∷ []) so_far.lines_are
+            ∙ ap (λ (x : Entry). take i lines ++ x ∷ []) is ∙ sym (take_more lines i e lt);
+        failed = run.failed;
+        mark = run.mark;
+        leads = run.leads;
+      }
 
   -- no line is answered yet
   pub begun : (store : Kept D) (lines : List Entry) → store.mark ≡ None → HaveSteps P store store (take 0 lines) []
-  begun store lines none = record { lines_are = refl; leads = (refl, none) }
+  begun store lines none = record { lines_are = refl; failed = None; mark = none; leads = (refl, refl) }
 
 -- ---- what a store's step is, by its answer
 
-some_mark : (mark : Option Entry) → IsSome mark → (e : Entry) × (mark ≡ Some e)
-some_mark None some = absurd (let no : false ≡ true = some in (cc))
-some_mark (Some e) some = (e, refl)
-
-not_marked : (mark : Option Entry) → (IsSome mark → ⊥) → mark ≡ None
+not_marked : (mark : Option History) → (IsSome mark → ⊥) → mark ≡ None
 not_marked None none = refl
-not_marked (Some e) none = absurd (none refl)
+not_marked (Some es) none = absurd (none refl)
 
 module _ {D : Type 0} (seen : D → DiskSeen) (policy : Option PlainPolicy) (P : PlainPolicy) (is : policy ≡ Some P)
     (old new : Kept D) (G : History) (front : IsFront P old G) (e : Entry) where
@@ -111,5 +130,4 @@ module _ {D : Type 0} (seen : D → DiskSeen) (policy : Option PlainPolicy) (P :
       inr (inl (record { unmarked = none; answer = refl; would_change = h.would_change; entries = h.entries; mark = h.mark }))
   store_steps (Err faults.Stopped) halted placed no_memory still failed =
       let same : new ≡ old = still refl in
-      let marked = some_mark old.mark (halted.0 refl) in
-      inr (inr (record { failed = marked.0; marked = marked.1; answer = refl; entries = ap (λ (s : Kept D). G ++ s.entries) same; mark = ap (λ (s : Kept D). s.mark) same ∙ marked.1 }))
+      inr (inr (record { failed = halted.0 refl; answer = refl; entries = ap (λ (s : Kept D). G ++ s.entries) same; mark = ap (λ (s : Kept D). s.mark) same }))

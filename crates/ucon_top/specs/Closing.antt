@@ -28,7 +28,7 @@ IsWritten SinkFault text stopped before now failed fails = (fails ≡ raised fai
 IsWritten outcome text stopped before now failed fails = ⊥
 
 -- the store's mark, by how the run over it ended
-abbrev pub IsMarkedBy : Outcome → Option Entry → Type 0
+abbrev pub IsMarkedBy : Outcome → Option History → Type 0
 IsMarkedBy Done mark = mark ≡ None
 IsMarkedBy DiskFault mark = IsSome mark
 IsMarkedBy outcome mark = Unit {0}

@@ -1,7 +1,7 @@
 -- How a run ends, by its form.
 use Rattle.std.specs.Bool.{OnFalse}
 use Rattle.ucon_outcome.specs.declared.outcome.Outcome.{Outcome}
-pub use Rattle.ucon_outcome.specs.Ending.{ending, status_of, IsCounted, by_syntax, by_typing, by_script, outcome_of, by_reading, by_opening, by_refusal}
+pub use Rattle.ucon_outcome.specs.Ending.{ending, status_of, IsCounted, by_syntax, by_typing, by_script, outcome_of, by_reading, by_opening, by_point}
 pub use Rattle.ucon_outcome.specs.Ending.{IsOfDocument, IsOfPrinting, IsOfAccepted, IsUnwritten, IsUntouched, IsUnrefused, IsOffPoint, IsOffDisk}
 use Rattle.ucon_top.specs.declared.form.Form.{Form}
 use Rattle.ucon_top.specs.Traits.{traits}

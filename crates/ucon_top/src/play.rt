@@ -70,7 +70,7 @@ fn play_lines<E: Engine, K: Sink, D: Disk>(
     ensures unwritten { IsUnwritten result.outcome → out.new ≡ out.old }
 {
     let text = steps_text(alloc, &mut store, lines);
-    let stopped = store.failed().is_some();
+    let stopped = store.is_stopped();
     let disk = store.close();
     match text {
         Ok(text) => Ended::by(write_output(out, &text, stopped), disk),

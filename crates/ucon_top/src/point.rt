@@ -78,7 +78,7 @@ fn point_opened<E: Engine, K: Sink, D: Disk>(
 /// Writes the checkpoint, and gives the disk back with the number of entries before it, or with how the run ends without it.
 fn put_point<E: Engine, D: Disk>(
     alloc: Global,
-    store: Store<E, D>,
+    mut store: Store<E, D>,
 ) -> Result<(D, u64), (D, Outcome)>
     requires { store.mark ≡ None }
     ensures entries { IfOk result (λ r. r.1 ≡ store.before + length store.entries) }
@@ -87,13 +87,11 @@ fn put_point<E: Engine, D: Disk>(
     ensures ends { IfErr result (λ e. (P : PlainPolicy) (T : Trace) → accepted store.policy ≡ Some P → IsStart P store.point store.before T
         → EndsPoint D.seen P store e.0 None None e.1) }
 {
-    let (store, pointed) = match store.point(alloc) {
-        Ok(answer) => answer,
-        Err(disk) => return Err((disk, Outcome::DiskFault)),
-    };
+    let pointed = store.point(alloc);
+    let disk = store.close();
     match pointed {
-        Ok(entries) => Ok((store.close(), entries)),
-        Err(refusal) => Err((store.close(), Outcome::from(refusal))),
+        Ok(entries) => Ok((disk, entries)),
+        Err(fault) => Err((disk, Outcome::from(fault))),
     }
 }
 

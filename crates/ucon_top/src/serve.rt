@@ -118,7 +118,7 @@ fn end_served<E: Engine, K: Sink, D: Disk>(
 {
     outputs_are_read_back();
     let text = parts_text(alloc, parts);
-    let stopped = store.failed().is_some();
+    let stopped = store.is_stopped();
     let disk = store.close();
     match text {
         Ok(text) => Ended::by(write_output(out, &text, stopped), disk),

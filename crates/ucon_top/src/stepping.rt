@@ -79,7 +79,7 @@ fn answer_line<E: Engine, D: Disk>(
         → Steps P (whole G store.old) (whole G store.new) (entry_of line.now) (answer_of result) }
     ensures stays { Stays D.seen store.old store.new }
 {
-    if store.failed().is_some() {
+    if store.is_stopped() {
         return Answer::Stopped;
     }
     match line.line(alloc) {

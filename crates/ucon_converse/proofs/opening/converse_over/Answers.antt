@@ -18,8 +18,8 @@ returns-clause-talked g c =
     let hears : Result (Unit {0}) TalkFault → List ℕ → Type 0 =
     λ r heard. Hears r c.args.lines.now.held c.hold-talked.new.lines.held (g.S.Source.seen c.args.input.now).left (g.S.Source.seen c.hold-talked.new.input).left heard in
     let given_back : c.into_store-store.result ≡ closed = c.into_store-store.ensures in
-    let there : is_some c.into_store-store.result.mark ≡ c.is_some.result = search rules in
-    let failed : is_some closed.mark ≡ c.is_some.result = ap (λ (s : Kept g.row.D.Denot). is_some s.mark) (sym given_back) ∙ there in
+    let there : is_some c.into_store-store.result.mark ≡ c.is_stopped.result = search rules in
+    let failed : is_some closed.mark ≡ c.is_stopped.result = ap (λ (s : Kept g.row.D.Denot). is_some s.mark) (sym given_back) ∙ there in
     let over : IsTalkedOver seen first c.by.result.disk c.by.result.outcome (g.V.Voice.seen c.args.out.now) (g.V.Voice.seen c.hold-talked.new.out) hears = record {
       closed = closed;
       disk_is = c.by.ensures.disk ∙ (c.close.ensures.disk ∙ ap (λ (s : Kept g.row.D.Denot). s.disk) given_back);
@@ -36,11 +36,11 @@ returns-clause-source g c =
     let before = (g.S.Source.seen c.args.input.now).faults in
     let now = (g.S.Source.seen c.hold-talked.new.input).faults in
     subst (λ (o : Outcome). IsCounted o outcomes.SourceFault before now) (sym (c.by.ensures.outcome ∙ c.ended_by-outcome.ensures))
-    (source_counted before now c.hold-talked.result c.is_some.result c.hold-talked.ensures.source_failed c.hold-talked.ensures.source_unfailed)
+    (source_counted before now c.hold-talked.result c.is_stopped.result c.hold-talked.ensures.source_failed c.hold-talked.ensures.source_unfailed)
 
 pub returns-clause-sink : goal.returns-clause-sink
 returns-clause-sink g c =
     let before = (g.V.Voice.seen c.args.out.now).faults in
     let now = (g.V.Voice.seen c.hold-talked.new.out).faults in
     subst (λ (o : Outcome). IsCounted o outcomes.SinkFault before now) (sym (c.by.ensures.outcome ∙ c.ended_by-outcome.ensures))
-    (sink_counted before now c.hold-talked.result c.is_some.result c.hold-talked.ensures.sink_failed c.hold-talked.ensures.sink_unfailed)
+    (sink_counted before now c.hold-talked.result c.is_stopped.result c.hold-talked.ensures.sink_failed c.hold-talked.ensures.sink_unfailed)

@@ -1,5 +1,4 @@
-use Rattle.std.proofs.Common.{◌≡◌, ◌∷◌, [], ◌++◌, ◌≤◌, length, Some, sym, ap, ◌∙◌, arith}
-use Rattle.ucon_model.specs.declared.command.Command.{Command}
+use Rattle.std.proofs.Common.{◌≡◌, ◌∷◌, [], ◌++◌, ◌≤◌, length, sym, ap, ◌∙◌, arith}
 use Rattle.ucon_model.specs.History.{said, changes}
 use Rattle.ucon_model.specs.Payload.{most_payload, Told, entry_told, told, payload_spelling, payload_read}
 use Rattle.ucon_model.specs.Plain.{Bytes, PlainReply}
@@ -17,6 +16,4 @@ returns-clause-taken g c = λ P H said_is changing.
     let spelled : payload_spelling (told (entry_told t) r) ≡ payload = ap (λ (x : PlainReply). payload_spelling (told (entry_told t) x)) (sym said_is) ∙ sym text in
     let short : length payload ≤ most_payload = omega (arith, ap length text, c.in_ok-put_payload.ensures.short, c.requires.few) in
     let test = c.steps_are_taken_as_spelled.ensures.taken P H payload t short (ap (payload_read accepted) text ∙ c.in_ok-put_payload.ensures.read_back c.requires.client) in
-    let copied : c.in_ok-command.command ≡ c.args.command.now = c.in_ok-command.ensures in
-    test ∙ (same_taken (H ++ entry_told t ∷ []) (payload_spelling (told (entry_told t) r)) payload (changes r) (ap changes (sym said_is) ∙ changing) spelled
-    ∙ ap (λ (x : Command). Some (H ++ record { caller = c.args.caller; command = x } ∷ [])) (sym copied))
+    test ∙ same_taken (H ++ entry_told t ∷ []) (payload_spelling (told (entry_told t) r)) payload (changes r) (ap changes (sym said_is) ∙ changing) spelled

@@ -9,7 +9,7 @@ use Rattle.ucon_model.specs.Plain.{Bytes}
 use Rattle.ucon_model.specs.Work.{NobodyFails}
 use Rattle.ucon_point.specs.PointRead.{point_read}
 use Rattle.ucon_store.specs.Loading.{IsOfNone, IsReadTo, TakesUp}
-use Rattle.ucon_store.specs.Opened.{IsPointOf, Parted, text_said}
+use Rattle.ucon_store.specs.Opened.{IsPointOf, text_said}
 use Rattle.ucon_store.specs.Points.{text_in_force}
 use Rattle.ucon_syntax.specs.Policies.{accepted}
 use Rattle.ucon_store.proofs.Reading.{accepted_some, behind_told, comes_told, no_point_told}

@@ -20,7 +20,7 @@ returns-in-Ok-clause-run g c = λ P opened stays run.
     let now = (g.K.Sink.seen c.write_output.new.out).contents in
     let failed = (g.K.Sink.seen c.args.out.now).faults in
     let fails = (g.K.Sink.seen c.write_output.new.out).faults in
-    let stopped = c.is_some-stopped.result in
+    let stopped = c.is_stopped-stopped.result in
     let is_stopped : is_some closed.mark ≡ stopped = search rules in
     let written : IsWritten c.write_output.result c.in-Ok.text.items stopped before now failed fails =
     subst (λ (t : Bytes). IsWritten c.write_output.result t stopped before now failed fails) c.deref.ensures.value c.write_output.ensures in

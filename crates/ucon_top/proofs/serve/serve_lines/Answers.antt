@@ -3,6 +3,7 @@ use Rattle.ucon_model.specs.declared.command.Entry.{Entry}
 use Rattle.ucon_model.specs.History.{History}
 use Rattle.ucon_model.specs.LegalRun.{Answered, own_answers}
 use Rattle.ucon_store.specs.Kept.{Kept}
+use Rattle.ucon_store.specs.Marks.{marked}
 use Rattle.ucon_store.specs.Whole.{IsFront, whole}
 use Rattle.ucon_client.specs.declared.part.Part.{Part}
 use Rattle.ucon_client.specs.Answers.{told_in}
@@ -32,7 +33,11 @@ returns-in-Ok-serve-clause-run g c = λ P accepts.
     let is : c.deref.result.now ≡ c.in-Ok-serve.parts.items = c.deref.ensures.value in
     let run : (H : History) → IsFront P store H → IsRunBetween own_answers P (whole H store) (whole H closed) (told_in c.deref.result.now) =
     λ H front. subst (λ (parts : List Part). IsRunBetween own_answers P (whole H store) (whole H closed) (told_in parts)) (sym is)
-    (record { legal = r.legal P H accepts front; made = r.made P H accepts front; failed = failed_first (told_in c.in-Ok-serve.parts.items) closed.mark (r.fault P H accepts front) }) in
+    (let mark = r.fault P H accepts front in record {
+      legal = r.legal P H accepts front;
+      made = r.made P H accepts front;
+      failed = mark.is ∙ ap marked (sym (failed_first (told_in c.in-Ok-serve.parts.items) mark.failed mark.lines_are));
+    }) in
     let lines : map (λ (t : Answered). t.line) (told_in c.deref.result.now) ≡ by_client (map entry_of c.args.lines.now) =
     ap (λ (parts : List Part). map (λ (t : Answered). t.line) (told_in parts)) is ∙ (r.lines ∙ c.in-Ok.ensures.lines) in
     subst (λ (es : List Entry). IsClosedRun g.D.Disk.seen own_answers P store es

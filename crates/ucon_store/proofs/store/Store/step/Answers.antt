@@ -1,24 +1,24 @@
-use Rattle.std.proofs.Common.{rules, ◌≡◌, ◌∷◌, [], ◌++◌, ◌≤◌, List, length, true, None, Some, refl, sym, ap, ◌∙◌, subst}
+use Rattle.std.proofs.Common.{rules, ◌≡◌, ◌∷◌, [], ◌++◌, ◌≤◌, length, true, None, Some, refl, sym, ap, ◌∙◌, subst}
 use Rattle.ucon_journal.specs.Journal.{disk_of}
 use Rattle.ucon_model.specs.declared.command.Caller.{Caller}
 use Rattle.ucon_model.specs.declared.command.Command.{Command}
 use Rattle.ucon_model.specs.declared.command.Entry.{Entry}
-use Rattle.ucon_model.specs.History.{trace_from}
+use Rattle.ucon_model.specs.History.{History, trace_from}
 use Rattle.ucon_model.specs.Payload.{revocations_in}
-use Rattle.ucon_model.specs.Plain.{PlainReply}
+use Rattle.ucon_model.specs.Plain.{Bytes, PlainReply}
 use Rattle.ucon_model.specs.Views.{reply_of}
 use Rattle.ucon_syntax.specs.Policies.{accepted}
-use Rattle.ucon_store.specs.declared.in_force.InForce.{InForce}
 use Rattle.ucon_store.specs.Kept.{Kept}
 use Rattle.ucon_store.specs.Points.{text_behind}
 use Rattle.ucon_store.specs.Stays.{Stays, stays_same}
-use Rattle.ucon_store.proofs.Adding.{Adds, added_ready, adds_nothing, adds_ready}
+use Rattle.ucon_store.specs.Steps.{step_payload}
+use Rattle.ucon_store.proofs.Adding.{Adds, adds_nothing}
 use Rattle.ucon_store.proofs.Placing.{failed_whole, placed_whole}
-use Rattle.ucon_store.proofs.Recorded.{IsAppended, LeavesStep, OneByOne, events_marked, events_more, unbegun, with_entry, with_mark}
-use Rattle.ucon_store.proofs.Stepped.{IsReady, founded_ready, leaves_ready, marked_parts, more_parts, only_kept, parts, ready_for, stays_failed, stays_ready}
-use Rattle.ucon_store.proofs.Stepping.{kept_marked, kept_more, unmarked}
+use Rattle.ucon_store.proofs.Recorded.{IsAppended, LeavesStep, OneByOne, events_marked, events_more, unbegun, with_entries, with_mark}
+use Rattle.ucon_store.proofs.Stepped.{IsReady, added_ready, adds_ready, founded_ready, leaves_ready, marked_parts, more_parts, only_kept, parts, ready_for, stays_failed, stays_ready}
+use Rattle.ucon_store.proofs.Stepping.{kept_more, unmarked}
 use Rattle.ucon_store.proofs.store.Store.step.Given.{Over}
-use Rattle.ucon_store.proofs.store.Store.step.Goals.{After-record, Else-is_some, In-Err-record, In_default}
+use Rattle.ucon_store.proofs.store.Store.step.Goals.{After-record, Else-is_some, In-Err-record, In_default-record}
 use Rattle.ucon_store.proofs.store.Store.step.Goals as goal
 
 abbrev entry : Caller → Command → Entry
@@ -46,7 +46,7 @@ module _ (g : Over) (c : After-record g) where
       let changed : c.in_ok-drafted.drafted.changes ≡ true = search rules in
       ready_for c.self.invariant c.self.view_is none c.prepare.ensures.closed c.prepare.ensures.disk (entry c.args.caller c.args.command.now)
       (reply_of c.in_ok-drafted.drafted.reply) (sym c.in_ok-drafted.ensures.changes ∙ changed) c.in_ok-drafted.ensures.reply
-      c.deref.ensures.value c.in-Ok.ensures.spelled c.in-Ok.ensures.entry c.in-Ok.ensures.taken
+      c.deref.ensures.value c.in_default.ensures.spelled c.in_default.ensures.taken
 
   one : OneByOne
   one takes front behind = c.payloads_are_found_one_by_one.ensures accepted takes front behind
@@ -57,21 +57,14 @@ module _ (g : Over) (c : After-record g) where
 
 -- ---- it met a disk fault
 
-module _ (g : Over) (c : In-Err-record g) where
+module _ (g : Over) (c : In-Err-record g) (failed : History) (is : failed ≡ entry c.args.caller c.args.command.now ∷ []) where
   -- its entry is the mark of the store
   marked : parts c.self.inside.policy.items c.self.inside.point c.self.inside.before c.self.inside.opening c.record.new.entries
-      (Some c.in-Err-record.entry) (disk_of c.record.new.journal)
-      ≡ with_mark c.args.self.now (entry c.args.caller c.args.command.now) (disk_of c.record.new.journal)
+      (Some failed) (disk_of c.record.new.journal)
+      ≡ with_mark c.args.self.now (entry c.args.caller c.args.command.now ∷ []) (disk_of c.record.new.journal)
   marked =
-      marked_parts c.self.inside.point c.self.view_is (entry c.args.caller c.args.command.now) (disk_of c.record.new.journal)
-      c.in-Err-record.ensures.same.0 (c.in-Err-record.ensures.entry ∙ c.in-Ok.ensures.entry)
-
-pub invariant_of-self-in-Err-record : goal.invariant_of-self-in-Err-record
-invariant_of-self-in-Err-record g c =
-    let changed : c.in_ok-drafted.drafted.changes ≡ true = search rules in
-    kept_marked c.self.invariant (g.E.Engine.has_pending c.draft.new.self) (entry c.args.caller c.args.command.now)
-    (c.in_ok-drafted.ensures.pending changed) c.record.new.engine c.record.new.journal c.in-Err-record.ensures.undone
-    (ap (λ (t : InForce). t.text.items) c.in-Err-record.ensures.same.1 ∙ c.prepare.ensures.in_force) c.in-Err-record.ensures.same.0 (c.in-Err-record.ensures.entry ∙ c.in-Ok.ensures.entry)
+      marked_parts c.self.inside.point c.self.view_is (entry c.args.caller c.args.command.now ∷ []) (disk_of c.record.new.journal)
+      c.in-Err-record.ensures.same.0 is
 
 pub returns-in-Err-record-clause-inside : goal.returns-in-Err-record-clause-inside
 returns-in-Err-record-clause-inside g c = leaves g (goal.at.returns-in-Err-record-clause-inside g c).After-record
@@ -80,48 +73,46 @@ pub returns-in-Err-record-clause-stays : goal.returns-in-Err-record-clause-stays
 returns-in-Err-record-clause-stays g c =
     let before = (goal.at.returns-in-Err-record-clause-stays g c).After-record in
     stays_failed (ready g before) (one g before) c.record.ensures.images c.record.ensures.tells
-    c.in-Err-record.ensures.cause g.met.D.Disk.counts_now (marked g (goal.at.returns-in-Err-record-clause-stays g c).In-Err-record)
+    c.in-Err-record.ensures.cause g.met.D.Disk.counts_now (marked g (goal.at.returns-in-Err-record-clause-stays g c).In-Err-record c.of.result c.of.ensures)
 
 pub returns-in-Err-record-clause-events : goal.returns-in-Err-record-clause-events
 returns-in-Err-record-clause-events g c =
     events_marked c.args.self.now (entry c.args.caller c.args.command.now)
     (ready g (goal.at.returns-in-Err-record-clause-events g c).After-record).unmarked (disk_of c.record.new.journal)
-    (marked g (goal.at.returns-in-Err-record-clause-events g c).In-Err-record)
+    (marked g (goal.at.returns-in-Err-record-clause-events g c).In-Err-record c.of.result c.of.ensures)
 
 -- ---- it is there
 
-module _ (g : Over) (c : In_default g) where
+module _ (g : Over) (c : In_default-record g) where
   appended : IsAppended g.D.Disk.seen c.prepare.new.journal c.record.new.journal c.deref.result.now
   appended = record {
-    closed = c.in_default.ensures.closed;
+    closed = c.in_default-record.ensures.closed;
     version = c.record.ensures.version;
-    gate = c.in_default.ensures.gate;
-    only = c.in_default.ensures.only;
+    gate = c.in_default-record.ensures.gate;
+    only = c.in_default-record.ensures.only;
     tells = c.record.ensures.tells;
-    added = c.in_default.ensures.payloads;
+    added = c.in_default-record.ensures.payloads;
   }
 
   grown : c.record.new.entries ≡ c.self.inside.entries ++ entry c.args.caller c.args.command.now ∷ []
-  grown =
-      c.in_default.ensures.added
-      ∙ ap (λ (x : Entry). c.self.inside.entries ++ x ∷ []) c.in-Ok.ensures.entry
+  grown = c.in_default-record.ensures.added
 
   -- its entry is the last of the store
   longer : parts c.self.inside.policy.items c.self.inside.point c.self.inside.before c.self.inside.opening c.record.new.entries
       c.self.inside.mark (disk_of c.record.new.journal)
-      ≡ with_entry c.args.self.now (entry c.args.caller c.args.command.now) (disk_of c.record.new.journal)
+      ≡ with_entries c.args.self.now (entry c.args.caller c.args.command.now ∷ []) (disk_of c.record.new.journal)
   longer =
-      more_parts c.self.inside.point c.self.view_is (entry c.args.caller c.args.command.now) (disk_of c.record.new.journal)
+      more_parts c.self.inside.point c.self.view_is (entry c.args.caller c.args.command.now ∷ []) (disk_of c.record.new.journal)
       (unmarked c.self.inside.mark (search rules)) grown
 
 pub invariant_of-self-2 : goal.invariant_of-self-2
 invariant_of-self-2 g c =
-    let there = (goal.at.invariant_of-self-2 g c).In_default in
+    let there = (goal.at.invariant_of-self-2 g c).In_default-record in
     let changed : c.in_ok-drafted.drafted.changes ≡ true = search rules in
     kept_more c.self.invariant (g.E.Engine.has_pending c.draft.new.self) (entry c.args.caller c.args.command.now)
     (c.in_ok-drafted.ensures.pending changed) c.record.new.engine c.record.new.journal (unmarked c.self.inside.mark (search rules))
-    c.prepare.ensures.gate (appended g there) c.record.ensures.small c.in_default.ensures.kept c.in_default.ensures.settled
-    (c.in_default.ensures.in_force ∙ (λ i. text_behind (c.prepare.ensures.in_force i) (c.in-Ok.ensures.entry i).command)) (grown g there)
+    c.prepare.ensures.gate (appended g there) c.record.ensures.small c.in_default-record.ensures.kept c.in_default-record.ensures.settled
+    (c.in_default-record.ensures.in_force ∙ ap (λ (t : Bytes). text_behind t c.args.command.now) c.prepare.ensures.in_force) (grown g there)
 
 pub returns-clause-inside : goal.returns-clause-inside
 returns-clause-inside g c = leaves g (goal.at.returns-clause-inside g c).After-record
@@ -129,20 +120,20 @@ returns-clause-inside g c = leaves g (goal.at.returns-clause-inside g c).After-r
 pub returns-clause-founded : goal.returns-clause-founded
 returns-clause-founded g c =
     let before = (goal.at.returns-clause-founded g c).After-record in
-    let there = (goal.at.returns-clause-founded g c).In_default in
+    let there = (goal.at.returns-clause-founded g c).In_default-record in
     founded_ready (ready g before) (one g before) (appended g there) (longer g there)
 
 pub returns-clause-stays : goal.returns-clause-stays
 returns-clause-stays g c =
     let before = (goal.at.returns-clause-stays g c).After-record in
-    let there = (goal.at.returns-clause-stays g c).In_default in
-    stays_ready (ready g before) (one g before) c.record.ensures.images (appended g there) c.in_default.ensures.cause
+    let there = (goal.at.returns-clause-stays g c).In_default-record in
+    stays_ready (ready g before) (one g before) c.record.ensures.images (appended g there) c.in_default-record.ensures.cause
     (longer g there)
 
 pub returns-clause-events : goal.returns-clause-events
 returns-clause-events g c =
     events_more c.args.self.now (entry c.args.caller c.args.command.now) (ready g (goal.at.returns-clause-events g c).After-record).unmarked
-    (disk_of c.record.new.journal) (longer g (goal.at.returns-clause-events g c).In_default)
+    (disk_of c.record.new.journal) (longer g (goal.at.returns-clause-events g c).In_default-record)
 
 -- ---- memory was wanting: nothing has changed
 
@@ -182,22 +173,26 @@ returns-in-Err-record-clause-failed g c is = failed_whole (returns-in-Err-record
 
 -- ---- what a step puts into the file, whatever that is found as
 
+module _ (g : Over) (c : After-record g) where
+  adds : Adds g.D.Disk.seen c.args.self.now (λ P T. step_payload P T c.args.self.now.entries (entry c.args.caller c.args.command.now)) (disk_of c.record.new.journal)
+  adds = adds_ready (ready g c) c.record.ensures.images
+
 pub returns-clause-adds : goal.returns-clause-adds
-returns-clause-adds g c = adds_ready (ready g (goal.at.returns-clause-adds g c).After-record) c.record.ensures.images
+returns-clause-adds g c = adds g (goal.at.returns-clause-adds g c).After-record
 
 pub returns-in-Err-record-clause-adds : goal.returns-in-Err-record-clause-adds
-returns-in-Err-record-clause-adds g c = adds_ready (ready g (goal.at.returns-in-Err-record-clause-adds g c).After-record) c.record.ensures.images
+returns-in-Err-record-clause-adds g c = adds g (goal.at.returns-in-Err-record-clause-adds g c).After-record
 
 pub returns-clause-added : goal.returns-clause-added
 returns-clause-added g c _ =
-    added_ready (ready g (goal.at.returns-clause-added g c).After-record) (appended g (goal.at.returns-clause-added g c).In_default)
+    added_ready (ready g (goal.at.returns-clause-added g c).After-record) (appended g (goal.at.returns-clause-added g c).In_default-record)
 
 module _ (g : Over) (c : Else-is_some g) where
   -- before a call of the disk nothing is added
   nothing : (new : g.row.D.Denot) → new ≡ disk_of c.self.inside.journal
-      → Adds g.D.Disk.seen c.args.self.now (entry c.args.caller c.args.command.now) new
+      → Adds g.D.Disk.seen c.args.self.now (λ P T. step_payload P T c.args.self.now.entries (entry c.args.caller c.args.command.now)) new
   nothing new same =
-      adds_nothing g.D.Disk.seen c.args.self.now (entry c.args.caller c.args.command.now)
+      adds_nothing g.D.Disk.seen c.args.self.now (λ P T. step_payload P T c.args.self.now.entries (entry c.args.caller c.args.command.now))
       g.met.D.Disk.only_now (only_kept c.self.invariant c.self.view_is) new (same ∙ ap (λ (s : Kept g.row.D.Denot). s.disk) c.self.view_is)
 
 pub returns-in-Err-clause-adds : goal.returns-in-Err-clause-adds
