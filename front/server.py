@@ -224,6 +224,10 @@ class Front:
         assert runner.server
         factory = self.connections.guard(runner.server)
         try:
+            if self.config.socket:
+                remove_socket(self.config.socket)
+                servers.append(await loop.create_unix_server(factory, str(self.config.socket), backlog=512))
+                log.warning("listening on %s", self.config.socket)
             if self.config.has_port:
                 server = await loop.create_server(factory, self.config.host, self.config.port, backlog=512, reuse_address=True)
                 servers.append(server)
@@ -231,10 +235,6 @@ class Front:
                     host, port = it.getsockname()[:2]
                     where = f"[{host}]" if ":" in host else host
                     log.warning("listening on http://%s:%d, the journal has %d steps", where, port, self.book.history.steps)
-            if self.config.socket:
-                remove_socket(self.config.socket)
-                servers.append(await loop.create_unix_server(factory, str(self.config.socket), backlog=512))
-                log.warning("listening on %s", self.config.socket)
         except OSError as why:
             raise Failed(1, f"can't listen: {why.strerror or why}") from None
         return servers
