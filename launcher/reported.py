@@ -11,7 +11,7 @@ OPEN = ("accessing", "requesting")
 STATES = (*OPEN, "denied", "revoked", "ended")
 decode = json.JSONDecoder().raw_decode
 # About how many characters of a list are read at once.
-PART = 1 << 20
+PART = 1 << 16
 # A row of a list as the program spells it, its keys in the order of their bytes: names and numbers.
 NAME, NUMBER = r'"([a-z][a-z0-9_]*)"', "(-?[0-9]+)"
 ACT = re.compile(rf'\{{"action":{NAME},"at":{NUMBER},"object":{NAME},"subject":{NAME}\}}')
