@@ -8,6 +8,7 @@ pub mod Long
 pub mod OneLine
 pub mod PolicyLines
 pub mod ReadingBack
+pub mod ReadingExamples
 pub mod Records
 pub mod Stepping
 pub mod Tellings
