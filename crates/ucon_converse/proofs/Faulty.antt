@@ -1,5 +1,5 @@
 -- Lines that aren't taken.
-use Rattle.std.proofs.Common.{◌≡◌, true, false, Result, Ok, Err, List, ◌∷◌, ◌++◌, refl, sym, ap, subst, ◌∙◌, inl, inr}
+use Rattle.std.proofs.Common.{◌≡◌, true, false, Result, Ok, Err, ◌∷◌, ◌++◌, refl, sym, ap, subst, ◌∙◌, inl, inr}
 use Rattle.std.proofs.lemmas.List.{append_cancel_left}
 use Rattle.std.specs.Prelude.{Bool, IsFalse, IsOk, Option, Some, None, is_some, codes}
 use Rattle.std.specs.Fmt.{decimal}

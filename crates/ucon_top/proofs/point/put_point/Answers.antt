@@ -1,4 +1,4 @@
-use Rattle.std.proofs.Common.{◌≡◌, ◌++◌, sym, ap, ◌∙◌, subst}
+use Rattle.std.proofs.Common.{◌++◌, None, Err, sym, ap, ◌∙◌, subst}
 use Rattle.ucon_disk.specs.Run.{LeavesOnly}
 use Rattle.ucon_model.specs.History.{trace}
 use Rattle.ucon_store.specs.Pointing.{IsFoundPointed}
@@ -34,4 +34,4 @@ returns-in-Err-clause-ends g c = λ P T accepts starts.
     (λ U leads. c.in-Err.ensures.why P U accepts leads)
     (λ G f file is. subst (λ d. LeavesOnly (seen store.disk) (seen d) (IsFoundPointed store.policy (G ++ store.entries) (point_places file))) (sym closed)
     (point.inside P G file f is))
-    (λ is. ap (λ d. (seen d).faults) closed ∙ (point.failed is).rose))
+    (λ is. ap (λ d. (seen d).faults) closed ∙ (point.failed (c.in-Err.is ∙ ap Err is)).rose))
