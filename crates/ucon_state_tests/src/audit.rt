@@ -16,13 +16,13 @@ use ucon_audit::{
 };
 use ucon_base::Name;
 use ucon_cascade::Monitor;
-use ucon_cases::{AUDIT_ROWS, Audit, REPORT_ROWS, Report, Told};
 use ucon_command::read_accepted;
 use ucon_disk::MemDisk;
 use ucon_eval::verdict;
 use ucon_model::{Verdict, View};
 use ucon_state::{State, tables_keep_what_is_followed};
 use ucon_store::StoreFault;
+use ucon_vectors::{AUDIT_ROWS, Audit, REPORT_ROWS, Report, Told};
 
 /// The example of FIPS 180-4.
 #[test]

@@ -7,11 +7,12 @@ use std::str;
 use std::sync::Wait;
 use std::test::Fail;
 use std::thread::Threads;
-use ucon_cases::{LOOKING, PLAYED_ROWS, SUBJECTS_B_AND_C, WITH_A, WITH_A_AND_POINT};
 use ucon_client::OpenGate;
 use ucon_disk::MemDisk;
 use ucon_top::Outcome;
-use ucon_vectors::{CAPPED, document};
+use ucon_vectors::{
+    CAPPED, LOOKING, PLAYED_ROWS, SUBJECTS_B_AND_C, WITH_A, WITH_A_AND_POINT, document,
+};
 
 /// The number of entries that are found in a file: the place of a reply that changes nothing.
 fn entries_found<R: Threads + Wait + Sync>(

@@ -9,11 +9,10 @@ use std::test::Fail;
 use std::thread::Threads;
 use std::{str, thread};
 use ucon_cascade::Monitor;
-use ucon_cases::{Meeting, two_clients};
 use ucon_client::{Gate, OpenGate};
 use ucon_disk::MemDisk;
 use ucon_top::Outcome;
-use ucon_vectors::{CAPPED, document};
+use ucon_vectors::{CAPPED, Meeting, document, two_clients};
 
 /// The most turns that a gate waits.
 const TURNS: u32 = 10_000_000;

@@ -6,9 +6,10 @@ use std::str;
 use std::sync::Wait;
 use std::test::Fail;
 use std::thread::Threads;
-use ucon_cases::{FILLED, TICKS_AROUND_A_CHECKPOINT, WAITED, WAITED_OUTPUT, WAITING};
 use ucon_flow::{MemSink, MemSource};
-use ucon_vectors::{CAPPED, document};
+use ucon_vectors::{
+    CAPPED, FILLED, TICKS_AROUND_A_CHECKPOINT, WAITED, WAITED_OUTPUT, WAITING, document,
+};
 
 /// What a form writes over a document and a file, and the file that it leaves. It has to end well.
 fn over<R: Threads + Wait + Sync>(

@@ -6,11 +6,11 @@ use std::alloc::Global;
 use std::sync::Wait;
 use std::test::Fail;
 use std::thread::Threads;
-use ucon_cases::{
-    EXPLAINED_ROWS, HOSTILE_DOCUMENTS, HOSTILE_JOURNALS, Limit, Played, WITH_A, WITHOUT_ENTRIES,
-};
 use ucon_flow::{MemSink, MemSource};
-use ucon_vectors::{Row, WORKED_ROWS, document};
+use ucon_vectors::{
+    EXPLAINED_ROWS, HOSTILE_DOCUMENTS, HOSTILE_JOURNALS, Limit, Played, Row, WITH_A,
+    WITHOUT_ENTRIES, WORKED_ROWS, document,
+};
 
 fn document_of(alloc: Global, row: &Limit) -> Result<Vec<u8>, Fail> {
     let mut bytes = Vec::from_slice(alloc, row.front)?;

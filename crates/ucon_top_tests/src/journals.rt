@@ -5,9 +5,11 @@ use std::alloc::Global;
 use std::sync::Wait;
 use std::test::Fail;
 use std::thread::Threads;
-use ucon_cases::{EXPLAINED_ROWS, PLAYED_ROWS, POINTED_ROWS, Played, UNEXPLAINED_ROWS};
 use ucon_flow::{MemSink, MemSource};
-use ucon_vectors::{AMENDED_ROWS, Row, document};
+use ucon_vectors::{
+    AMENDED_ROWS, EXPLAINED_ROWS, PLAYED_ROWS, POINTED_ROWS, Played, Row, UNEXPLAINED_ROWS,
+    document,
+};
 
 /// How a row's form ends over its document and its file.
 fn played<R: Threads + Wait + Sync>(rt: &R, alloc: Global, row: &Played) -> Result<End, Fail> {

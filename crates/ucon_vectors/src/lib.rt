@@ -1,6 +1,7 @@
-//! Documents with what the program makes of them, as bytes for tests.
+//! Documents with what the program makes of them, as bytes for tests: alone, over journals, at each limit, and of clients that meet.
 //!
-//! The test crates run through these tables. Rows of policies and of time are worked out by hand from the rules.
+//! The test crates run through these tables. Rows of policies and of time are worked out by hand from the rules. A row over a journal has its
+//! bytes before, the calls that fail, and the bytes that are left.
 //!
 //! **Before a change.** Add a row to the table of its topic, with a name for what it shows. The test over the table needs no change.
 #![tactic(auto)]
@@ -8,16 +9,30 @@
 ghost use Rattle.std.specs.Prelude.{◌≡◌, ◌++◌, IfOk, codes};
 
 mod amended;
+mod audits;
+mod checkpoints;
+mod clients;
+mod explained;
 mod generated;
 mod guide;
+mod hostile;
+mod journals;
 mod language;
 mod timed;
 mod typing;
 mod worked;
 
 pub use amended::AMENDED_ROWS;
+pub use audits::{AUDIT_ROWS, Audit, REPORT_ROWS, Report, Told};
+pub use checkpoints::{FILLED, Part, TICKS_AROUND_A_CHECKPOINT, WAITED, WAITED_OUTPUT, WAITING};
+pub use clients::{Meeting, two_clients};
+pub use explained::{EXPLAINED_ROWS, UNEXPLAINED_ROWS};
 pub use generated::{GENERATED_ROWS, Generated};
 pub use guide::GUIDE_EXAMPLES;
+pub use hostile::{HOSTILE_DOCUMENTS, HOSTILE_JOURNALS, Limit, WITHOUT_ENTRIES};
+pub use journals::{
+    LOOKING, PLAYED_ROWS, POINTED_ROWS, Played, SUBJECTS_B_AND_C, WITH_A, WITH_A_AND_POINT,
+};
 pub use language::LANGUAGE_EXAMPLES;
 use std::alloc::{AllocError, Global};
 pub use timed::TIMED_ROWS;

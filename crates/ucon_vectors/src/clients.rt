@@ -1,6 +1,6 @@
 //! Two clients that meet, for `serve`.
 
-use ucon_vectors::CAPPED;
+use crate::worked::CAPPED;
 
 /// What is played first, what is served then, and the outputs of which one is printed.
 #[derive(Clone, Copy)]
