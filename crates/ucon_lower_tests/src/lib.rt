@@ -1,5 +1,4 @@
-//! Tests of the lower crates, a module for each. They stand here since a crate with tests of its own is proved twice, with and without
-//! them.
+//! Tests of the lower crates, a module for each. They stand here since a crate with tests of its own is proved twice, with and without them.
 #![tactic(auto)]
 
 #[cfg(test)]
@@ -13,12 +12,18 @@ mod feed;
 #[cfg(test)]
 mod flow;
 #[cfg(test)]
+mod index;
+#[cfg(test)]
 mod journal;
 #[cfg(test)]
 mod lines;
 #[cfg(test)]
+mod links;
+#[cfg(test)]
 mod pend;
 #[cfg(test)]
 mod tell;
+#[cfg(test)]
+mod turn;
 #[cfg(test)]
 mod wheel;
