@@ -2,8 +2,6 @@
 #![tactic(auto)]
 
 #[cfg(test)]
-mod base;
-#[cfg(test)]
 mod board;
 #[cfg(test)]
 mod disk;
@@ -15,8 +13,6 @@ mod flow;
 mod index;
 #[cfg(test)]
 mod journal;
-#[cfg(test)]
-mod lines;
 #[cfg(test)]
 mod links;
 #[cfg(test)]
