@@ -15,3 +15,21 @@ mod Steps
 mod Reading
 pub mod Restoring
 pub mod Walking
+mod Weights
+mod Rows
+mod Standing
+mod IndexSteps
+mod Stack
+mod Listed
+mod IndexHiding
+mod Undone
+mod Returning
+mod Sums
+mod Removing
+mod Adding
+mod IndexGrowing
+mod Several
+pub mod Walks
+mod WhoStands
+mod Added
+mod There

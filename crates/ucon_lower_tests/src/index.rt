@@ -1,13 +1,12 @@
-//! Tests of `ucon_index`: a session is added, walked to, hidden and put back.
+//! Tests of the index of `ucon_links`: a session is added, walked to, hidden and put back.
 
 ghost use Rattle.std.specs.Prelude.{◌≡◌, ◌-◌, ◌<◌, ◌≤◌, ◌^◌, true, [], ◌∷◌, length, map, IfOk};
-ghost use Rattle.ucon_index.specs.Dependents.{empty_place, is_there, place_at};
+ghost use Rattle.ucon_links.specs.Dependents.{empty_place, is_there, place_at};
 
 use std::alloc::Global;
 use std::test::Fail;
 use ucon_base::NoMemory;
-use ucon_index::Index;
-use ucon_links::nodes_stand_where_listed;
+use ucon_links::{Index, nodes_stand_where_listed};
 
 // The sessions of a place, as a walk meets them.
 fn walk(alloc: Global, index: &Index, place: u32) -> Result<Vec<u32>, NoMemory>

@@ -4,7 +4,7 @@ use Rattle.std.specs.Prelude.{Option, Some, None, IfNone, IfSome, cond, nat_eq, 
 use Rattle.std.specs.List.{All, Contains, flat_map}
 use Rattle.std.proofs.lemmas.Bool.Decides.{eqb_tells}
 use Rattle.std.proofs.lemmas.List.Elements.{All-contains}
-use Rattle.ucon_index.specs.Dependents.{Dependents, Place, has_session, is_there, others, place_at, stands_in}
+use Rattle.ucon_links.specs.Dependents.{Dependents, Place, has_session, is_there, others, place_at, stands_in}
 use Rattle.ucon_links.specs.Lists.{IsAbsent}
 use Rattle.ucon_lists.specs.Lists.{IsLed, IsNext, JoinsAtMost, Members, is_joined, leader_in}
 use Rattle.ucon_lists.specs.Undoing.{Who, who_in}

@@ -2,7 +2,7 @@
 use Rattle.std.proofs.Common.{◌≡◌, ℕ, zero, suc, List, [], ◌∷◌, ◌++◌, length, false, refl, sym, ap, ◌∙◌, subst, replicate, ◌||◌}
 use Rattle.std.specs.Prelude.{Option, None, Some}
 use Rattle.std.specs.List.{flat_map}
-use Rattle.ucon_index.specs.Dependents.{Place, Dependents, UnhideGives, empty_place, hide, place_at, stands_in, has_session, is_there}
+use Rattle.ucon_links.specs.Dependents.{Place, Dependents, UnhideGives, empty_place, hide, place_at, stands_in, has_session, is_there}
 use Rattle.ucon_lists.specs.Lists.{Members}
 use Rattle.ucon_lists.specs.Undoing.{CanUndoAll, IsKept as AreKept, Listed, UndoGives as ListsGive, Who, all_undone, who_in}
 use Rattle.ucon_lists.specs.declared.lists.Change.{Change}

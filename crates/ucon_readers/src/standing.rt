@@ -3,7 +3,7 @@
 ghost use Rattle.std.specs.Prelude.{◌≡◌, ◌≢◌, ◌↔◌, ◌⊎◌, ◌<◌, ◌≤◌, ℕ, [], None, Some, false, true, IsSome, List, OnOk, IfNone, IfOk, IfSome, length};
 ghost use Rattle.std.specs.List.{All, Contains};
 ghost use Rattle.ucon_links.specs.Lists.{IsDistinct};
-ghost use Rattle.ucon_index.specs.Dependents.{Dependents, UnhideGives, hide, is_there, others, stands_in};
+ghost use Rattle.ucon_links.specs.Dependents.{Dependents, UnhideGives, hide, is_there, others, stands_in};
 ghost use Rattle.ucon_lists.specs.Lists.{is_joined, leader_in};
 ghost use Rattle.ucon_readers.specs.Listing.{AreLed, TakingOutGives, standing_by};
 ghost use Rattle.ucon_readers.specs.Joining.{Joins, StandsAlone};
@@ -12,7 +12,7 @@ ghost use Rattle.ucon_readers.specs.Lists.{first_in, led_by};
 use std::alloc::{AllocError, Global};
 use std::marker::Model;
 use ucon_base::NoMemory;
-use ucon_index::{Index, walks_meet_who_stands};
+use ucon_links::{Index, walks_meet_who_stands};
 use ucon_lists::Lists;
 use ucon_pend::Pend;
 

@@ -1,6 +1,6 @@
 use Rattle.std.proofs.Common.{ap, is_some, subst}
-use Rattle.ucon_index.specs.Walk.{IsWalked}
-use Rattle.ucon_index.proofs.Walks.{walk_meets, session_is_met}
+use Rattle.ucon_links.specs.Walk.{IsWalked}
+use Rattle.ucon_links.proofs.Walks.{walk_meets, session_is_met}
 use Rattle.ucon_lower_tests.proofs.index.walk.Goals as goal
 
 pub owner-requires : goal.owner-requires

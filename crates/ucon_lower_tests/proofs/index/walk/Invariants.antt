@@ -1,7 +1,7 @@
 use Rattle.std.proofs.Common.{length, ◌-◌}
 use Rattle.ucon_links.specs.Lists.{listed_nodes, IsDistinct}
-use Rattle.ucon_index.specs.Dependents.{place_at, walked}
-use Rattle.ucon_index.specs.Walk.{IsWalked}
+use Rattle.ucon_links.specs.Dependents.{place_at, walked}
+use Rattle.ucon_links.specs.Walk.{IsWalked}
 use Rattle.ucon_lower_tests.proofs.index.walk.Given as goal
 
 abbrev pub invariant-loop-at : goal.invariant-loop-at

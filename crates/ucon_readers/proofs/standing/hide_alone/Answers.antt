@@ -1,6 +1,6 @@
 use Rattle.std.proofs.Common.{◌≡◌, ◌≢◌, ◌↔◌, ◌∙◌, ℕ, List, false, true, sym, subst}
 use Rattle.std.specs.List.{Contains}
-use Rattle.ucon_index.specs.Dependents.{stands_in}
+use Rattle.ucon_links.specs.Dependents.{stands_in}
 use Rattle.ucon_readers.proofs.Leading.{in_others, not_in_others, of_others, there_if_stands}
 use Rattle.ucon_readers.proofs.standing.hide_alone.Goals as goal
 

@@ -2,7 +2,7 @@ use Rattle.std.proofs.Common.{rules, slice_index_or, ◌≡◌, ◌<◌, ◌∙�
 use Rattle.std.proofs.lemmas.List.{take_all, length-replicate}
 use Rattle.std.proofs.lemmas.List.Elements.{All-more, All-weaker}
 use Rattle.std.specs.List.{All}
-use Rattle.ucon_index.specs.Dependents.{Dependents, Place, is_there, stands_in, empty_place}
+use Rattle.ucon_links.specs.Dependents.{Dependents, Place, is_there, stands_in, empty_place}
 use Rattle.ucon_readers.proofs.Outcomes.{on_ok}
 use Rattle.ucon_readers.proofs.Placed.{place_at-grown, is_there-grown}
 use Rattle.ucon_readers.proofs.standing.make_room.Goals as goal

@@ -1,6 +1,6 @@
 use Rattle.std.proofs.Common.{◌≡◌, ◌<◌, ℕ, length, take}
 use Rattle.std.specs.List.{All}
-use Rattle.ucon_index.specs.Dependents.{is_there, stands_in}
+use Rattle.ucon_links.specs.Dependents.{is_there, stands_in}
 use Rattle.ucon_readers.proofs.standing.make_room.Given as goal
 
 abbrev pub invariant-loop-place : goal.invariant-loop-place

@@ -1,7 +1,7 @@
 use Rattle.std.proofs.Common.{◌≡◌, ◌<◌, ◌∙◌, ◌++◌, ◌∷◌, ◌⊎◌, ◌↔◌, [], ℕ, List, Some, None, ap, is_some, subst, sym, refl}
 use Rattle.std.specs.List.{All, Contains}
-use Rattle.ucon_index.specs.Dependents.{place_at, stands_in}
-use Rattle.ucon_index.specs.Walk.{IsWalked, left_from}
+use Rattle.ucon_links.specs.Dependents.{place_at, stands_in}
+use Rattle.ucon_links.specs.Walk.{IsWalked, left_from}
 use Rattle.ucon_readers.specs.Lists.{first_in, led_by}
 use Rattle.ucon_readers.proofs.Leading.{there_if_stands}
 use Rattle.ucon_readers.proofs.Walking.{IsFirstOf, members_below, nobody_met, one_met}

@@ -1,6 +1,6 @@
 use Rattle.std.proofs.Common.{◌≡◌}
-use Rattle.ucon_index.specs.Dependents.{place_at}
-use Rattle.ucon_index.specs.Walk.{left_from}
+use Rattle.ucon_links.specs.Dependents.{place_at}
+use Rattle.ucon_links.specs.Walk.{left_from}
 use Rattle.ucon_readers.proofs.Walking.{IsPutting}
 use Rattle.ucon_readers.proofs.standing.put_firsts.Given as goal
 

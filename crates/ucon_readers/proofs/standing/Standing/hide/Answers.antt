@@ -1,7 +1,7 @@
 use Rattle.std.proofs.Common.{◌≡◌, ◌≢◌, ◌↔◌, inl, inr, ℕ, List, Some, None, true, ap, sym, refl, subst, ◌≤◌, ◌∙◌}
 use Rattle.std.specs.Prelude.{Option, IfNone, IfSome, is_some}
 use Rattle.std.specs.List.{Contains}
-use Rattle.ucon_index.specs.Dependents.{Dependents, stands_in}
+use Rattle.ucon_links.specs.Dependents.{Dependents, stands_in}
 use Rattle.ucon_lists.specs.Lists.{Members}
 use Rattle.ucon_readers.specs.Listing.{AreLed, ChangesGive, Listing, readers_in, standing_by}
 use Rattle.ucon_lists.specs.Lists.{is_joined}

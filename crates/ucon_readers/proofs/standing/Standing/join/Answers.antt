@@ -1,7 +1,7 @@
 use Rattle.std.proofs.Common.{◌≡◌, ◌↔◌, ◌<◌, ◌∙◌, ◌⊎◌, ℕ, true, ap, sym, refl, subst}
 use Rattle.std.specs.Prelude.{Option, unwrap_or}
 use Rattle.std.specs.List.{Contains}
-use Rattle.ucon_index.specs.Dependents.{Dependents, is_there}
+use Rattle.ucon_links.specs.Dependents.{Dependents, is_there}
 use Rattle.ucon_lists.specs.Lists.{Members}
 use Rattle.ucon_readers.specs.Joining.{Joins}
 use Rattle.ucon_readers.specs.Listing.{AreLed, ChangesGive, IsKept, Listing, StandsNowhere, StandsSomewhere, readers_in, standing_by}

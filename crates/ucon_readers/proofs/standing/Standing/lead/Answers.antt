@@ -1,6 +1,6 @@
 use Rattle.std.proofs.Common.{◌≡◌, ◌↔◌, ◌∙◌, ◌⊎◌, ℕ, List, [], None, Some, false, ap, sym, refl, subst}
 use Rattle.std.specs.List.{Contains, flat_map}
-use Rattle.ucon_index.specs.Dependents.{Dependents, stands_in}
+use Rattle.ucon_links.specs.Dependents.{Dependents, stands_in}
 use Rattle.ucon_readers.specs.Joining.{StandsAlone}
 use Rattle.ucon_readers.specs.Listing.{ChangesGive, ComesTo, IsKept, Listing, StandsNowhere, readers_in, standing_by}
 use Rattle.ucon_lists.specs.Lists.{is_joined, leader_in}

@@ -1,3 +1,0 @@
-pub mod Dependents
-pub mod Tables
-pub mod Walk
