@@ -8,7 +8,7 @@ use Rattle.ucon_model.specs.Plain.{Bytes, PlainPolicy}
 use Rattle.ucon_state.specs.Shown.{Shown}
 use Rattle.ucon_accept.specs.declared.checker.Wrong.{Wrong}
 use Rattle.ucon_accept.specs.declared.checker.Wrong.TheVariants.{Names, Line, Verdict as WrongVerdict}
-use Rattle.ucon_told.specs.Explanation.{PlainExplanation}
+use Rattle.ucon_accept.specs.Explanation.{PlainExplanation}
 use Rattle.ucon_accept.specs.Trying.{IsCauseIn, IsRight, IsWrongAfter, explained_with, explanation, refusal_shown, try_refusal}
 use Rattle.ucon_accept.proofs.Meeting.{ActionsAreFollowed, AgreeingAreOne, TablesKeep, refusal_same, try_is_explained}
 

@@ -1,3 +1,4 @@
+pub mod SameTexts
 pub mod Same
 pub mod SingleFacts
 pub mod Reading

@@ -7,9 +7,9 @@ use Rattle.ucon_model.specs.declared.formula.Ref.{Ref}
 use Rattle.ucon_model.specs.declared.session.SessionRow.{SessionRow}
 use Rattle.ucon_model.specs.Places.{distinct, same_place, with_place}
 use Rattle.ucon_model.specs.Truth.{Readings, read_or_zero}
-use Rattle.ucon_told.specs.declared.explanation.Fact.{Fact}
-use Rattle.ucon_told.specs.Facts.{tick_fact, value_fact}
-use Rattle.ucon_told.specs.Told.{tick_told, told_else, value_told}
+use Rattle.ucon_accept.specs.declared.explanation.Fact.{Fact}
+use Rattle.ucon_accept.specs.Facts.{tick_fact, value_fact}
+use Rattle.ucon_accept.specs.Told.{tick_told, told_else, value_told}
 use Rattle.ucon_accept.proofs.Same.{place_same}
 
 -- ---- the distinct places are all places

@@ -24,7 +24,7 @@ use Rattle.ucon_state.specs.Applied.{tried, with_new_session}
 use Rattle.ucon_state.specs.Following.{Follows, Keeps}
 use Rattle.ucon_state.specs.Shown.{Shown, changed_by}
 use Rattle.ucon_state.specs.Tables.{accessing_among, entity_number, readings_in}
-use Rattle.ucon_told.specs.Explanation.{explained}
+use Rattle.ucon_accept.specs.Explanation.{explained}
 use Rattle.ucon_accept.specs.Judged.{MayBeJudged}
 use Rattle.ucon_accept.specs.Trying.{admin, explained_with, explanation, readings_with, refusal_of, refusal_shown, try_refusal, with_try}
 use Rattle.ucon_accept.proofs.OneSession.{session_new}

@@ -11,9 +11,9 @@ use Rattle.ucon_model.specs.declared.session.SessionRow.{SessionRow}
 use Rattle.ucon_model.specs.Places.{distinct, formula_places, same_place, with_place}
 use Rattle.ucon_model.specs.Plain.{PlainFormula, PlainTest, authorisation, duty, condition}
 use Rattle.ucon_model.specs.Truth.{Readings}
-use Rattle.ucon_told.specs.declared.explanation.Fact.{Fact}
+use Rattle.ucon_accept.specs.declared.explanation.Fact.{Fact}
 use Rattle.ucon_accept.specs.Checking.{all_read, is_of_place, one_read, tell_formula, tell_test, tell_tick, tells_act, tells_value}
-use Rattle.ucon_told.specs.Facts.{asks_tick, formula_facts, is_timed, test_facts, tick_fact, value_fact}
+use Rattle.ucon_accept.specs.Facts.{asks_tick, formula_facts, is_timed, test_facts, tick_fact, value_fact}
 use Rattle.ucon_accept.proofs.SingleFacts.{act_fact_told, act_told_right, tick_fact_told, tick_told_right, value_fact_told, value_told_right}
 use Rattle.std.proofs.lemmas.Bool.{and_parts}
 

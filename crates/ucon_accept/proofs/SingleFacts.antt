@@ -10,10 +10,10 @@ use Rattle.ucon_model.specs.declared.session.SessionRow.{SessionRow}
 use Rattle.ucon_model.specs.Places.{same_place}
 use Rattle.ucon_model.specs.Plain.{Bytes}
 use Rattle.ucon_model.specs.Truth.{Readings, read_or_zero}
-use Rattle.ucon_told.specs.declared.explanation.Fact.{Fact}
-use Rattle.ucon_told.specs.declared.explanation.Fact.TheVariants.{Value, Moment, Tick}
+use Rattle.ucon_accept.specs.declared.explanation.Fact.{Fact}
+use Rattle.ucon_accept.specs.declared.explanation.Fact.TheVariants.{Value, Moment, Tick}
 use Rattle.ucon_accept.specs.Checking.{same_moment, tell_tick, tells_act, tells_moment, tells_value}
-use Rattle.ucon_told.specs.Facts.{act_fact, moment_fact, tick_fact, value_fact}
+use Rattle.ucon_accept.specs.Facts.{act_fact, moment_fact, tick_fact, value_fact}
 use Rattle.ucon_accept.proofs.Same.{bytes_same, bytes_self, int_same, int_self, moment_same, moment_self, place_same, place_self, value_same, value_self}
 
 -- ---- values

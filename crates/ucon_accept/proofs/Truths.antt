@@ -9,10 +9,10 @@ use Rattle.ucon_model.specs.Plain.{PlainFormula, PlainTest, authorisation, duty,
 use Rattle.ucon_model.specs.Truth.{Readings, holds, in_time, read_or_zero, truth}
 use Rattle.ucon_asked.specs.Asked.{no_session}
 use Rattle.ucon_asked.specs.Sums.{test_makes_no_set}
-use Rattle.ucon_told.specs.declared.explanation.Fact.{Fact}
-use Rattle.ucon_told.specs.declared.explanation.Fact.TheVariants.{Moment}
-use Rattle.ucon_told.specs.Facts.{asks_tick, formula_facts, is_timed, test_facts, tick_fact, value_fact}
-use Rattle.ucon_told.specs.Told.{tick_told, told, truth_told, value_told}
+use Rattle.ucon_accept.specs.declared.explanation.Fact.{Fact}
+use Rattle.ucon_accept.specs.declared.explanation.Fact.TheVariants.{Moment}
+use Rattle.ucon_accept.specs.Facts.{asks_tick, formula_facts, is_timed, test_facts, tick_fact, value_fact}
+use Rattle.ucon_accept.specs.Told.{tick_told, told, truth_told, value_told}
 use Rattle.ucon_accept.proofs.Agreeing.{AgreeOn, formula_sets_agree, truths_agree}
 use Rattle.ucon_accept.proofs.Lookup.{distinct-has, tick_told-facts, value_told-facts}
 

@@ -7,7 +7,7 @@ use Rattle.ucon_model.specs.Decision.{first_false, first_false_of, is_duty, ongo
 use Rattle.ucon_model.specs.Plain.{PlainTest, authorisation, duty, condition, PlainPredicate, PlainRight, PlainPolicy}
 use Rattle.ucon_model.specs.Truth.{Readings, truth}
 use Rattle.ucon_accept.specs.Checking.{first_untrue, is_on_duty, verdict_told}
-use Rattle.ucon_told.specs.Explanation.{factor_of, line, lines, lines_from}
+use Rattle.ucon_accept.specs.Explanation.{factor_of, line, lines, lines_from}
 
 on_duty : (t : PlainTest) → is_on_duty (factor_of t) ≡ is_duty t
 on_duty (authorisation f) = refl

@@ -17,12 +17,12 @@ use Rattle.ucon_model.specs.Plain.{Bytes, PlainFormula, PlainTest, authorisation
 use Rattle.ucon_model.specs.Truth.{Readings, read_or_zero}
 use Rattle.ucon_accept.specs.declared.checker.Wrong.{Wrong}
 use Rattle.ucon_accept.specs.declared.checker.Wrong.TheVariants.{Names, Line, Verdict as WrongVerdict}
-use Rattle.ucon_told.specs.declared.explanation.Fact.{Fact}
-use Rattle.ucon_told.specs.declared.explanation.Fact.TheVariants as facts
-use Rattle.ucon_told.specs.declared.explanation.Factor.{Factor}
-use Rattle.ucon_told.specs.declared.explanation.Factor.TheVariants.{Authorisation, Obligation as Obligation', Condition}
-use Rattle.ucon_told.specs.Explanation.{PlainWhy}
-use Rattle.ucon_told.specs.Facts.{asks_tick, is_timed}
+use Rattle.ucon_accept.specs.declared.explanation.Fact.{Fact}
+use Rattle.ucon_accept.specs.declared.explanation.Fact.TheVariants as facts
+use Rattle.ucon_accept.specs.declared.explanation.Factor.{Factor}
+use Rattle.ucon_accept.specs.declared.explanation.Factor.TheVariants.{Authorisation, Obligation as Obligation', Condition}
+use Rattle.ucon_accept.specs.Explanation.{PlainWhy}
+use Rattle.ucon_accept.specs.Facts.{asks_tick, is_timed}
 
 -- ---- facts one by one
 

@@ -17,7 +17,7 @@ use Rattle.ucon_state.specs.Tables.{accessing_among, entity_number, readings_in}
 use Rattle.ucon_accept.specs.declared.checker.Wrong.{Wrong}
 use Rattle.ucon_accept.specs.declared.checker.Wrong.TheVariants.{Names, Line, Verdict as WrongVerdict}
 use Rattle.ucon_accept.specs.Checking.{IsCause}
-use Rattle.ucon_told.specs.Explanation.{PlainExplanation, explained}
+use Rattle.ucon_accept.specs.Explanation.{PlainExplanation, explained}
 
 -- ---- after a trace
 

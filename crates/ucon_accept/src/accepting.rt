@@ -3,16 +3,16 @@
 ghost use Rattle.std.specs.Prelude.{◌≡◌, ◌↔◌, IfErr, IsOk, None, OnOk};
 ghost use Rattle.ucon_state.specs.Following.{AfterEach, IsFollowing};
 ghost use Rattle.ucon_state.specs.Shown.{shown};
-ghost use Rattle.ucon_told.specs.Explanation.{explanation_of};
+ghost use Rattle.ucon_accept.specs.Explanation.{explanation_of};
 ghost use Rattle.ucon_accept.specs.Trying.{IsCauseIn, IsRight, IsWrongAfter, explained_with, refusal_shown};
 
 use crate::checker::{Wrong, check};
+use crate::explanation::Explanation;
 use crate::one_more::OneMore;
 use crate::trying::{refusal, tried};
 use ucon_asked::typed_tests_make_no_set;
 use ucon_model::readings_that_agree_are_one;
 use ucon_state::{State, each_action_is_followed, tables_keep_what_is_followed};
-use ucon_told::Explanation;
 
 /// Whether the explanation of a try that isn't refused is right.
 fn check_try(state: &State, e: &Explanation) -> Result<(), Wrong>

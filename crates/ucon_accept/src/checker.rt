@@ -10,17 +10,17 @@ ghost use Rattle.ucon_base.specs.Arithmetic.{same_value};
 ghost use Rattle.ucon_asked.specs.Sums.{preds_make_no_set, test_makes_no_set};
 ghost use Rattle.ucon_accept.specs.Checking.{IsCause, IsFirstWrong, all_read, first_untrue, is_of_place, is_on_duty, one_read, same_moment};
 ghost use Rattle.ucon_accept.specs.Checking.{tell_duty, tell_formula, tell_test, tell_tick, tells_act, tells_moment, tells_value, verdict_told};
-ghost use Rattle.ucon_told.specs.Explanation.{explanation_of, factor_of, line, lines, lines_from, why_of};
-ghost use Rattle.ucon_told.specs.Facts.{test_facts};
+ghost use Rattle.ucon_accept.specs.Explanation.{explanation_of, factor_of, line, lines, lines_from, why_of};
+ghost use Rattle.ucon_accept.specs.Facts.{test_facts};
 ghost use Rattle.ucon_accept.specs.Judged.{MayBeJudged};
 
+use crate::asks::{asks_tick, is_same_place, is_timed, name_or};
+use crate::explanation::{Explanation, Fact, Factor, Why, factor_of};
+use crate::told::truth_told;
+use crate::worth::Worth;
 use ucon_base::{Int, Name, Value};
 use ucon_model::{
     Expr, Formula, Obligation, Predicate, Ref, Refusal, SessionRow, Test, Verdict, View,
-};
-use ucon_told::{
-    Explanation, Fact, Factor, Why, Worth, asks_tick, factor_of, is_same_place, is_timed, name_or,
-    truth_told,
 };
 
 /// What is wrong with an explanation.

@@ -10,7 +10,7 @@ ghost use Rattle.ucon_state.specs.Applied.{tried, with_new_session};
 ghost use Rattle.ucon_state.specs.Following.{Follows, IsFollowing};
 ghost use Rattle.ucon_state.specs.Shown.{Shown};
 ghost use Rattle.ucon_state.specs.Tables.{readings_in};
-ghost use Rattle.ucon_told.specs.Explanation.{explained, lines};
+ghost use Rattle.ucon_accept.specs.Explanation.{explained, lines};
 ghost use Rattle.ucon_accept.specs.Checking.{verdict_told};
 ghost use Rattle.ucon_accept.specs.Judged.{MayBeJudged};
 ghost use Rattle.ucon_accept.specs.Trying.{IsRight, admin, explained_with, explanation, refusal_shown};

@@ -5,10 +5,10 @@ ghost use Rattle.ucon_state.specs.Applied.{with_new_session};
 ghost use Rattle.ucon_state.specs.Shown.{shown};
 ghost use Rattle.ucon_state.specs.Tables.{readings_in};
 
+use crate::asks::name_or;
 use ucon_base::{Int, Name, Side, Value};
 use ucon_model::{Checked, Obligation, Ref, Right, SessionRow, View};
 use ucon_state::{State, sessions_are_few};
-use ucon_told::name_or;
 
 /// What a state would give to read with this session behind the others.
 #[derive(Drop)]

@@ -15,7 +15,7 @@ use Rattle.ucon_model.specs.Readings.{in_force, session, sessions}
 use Rattle.ucon_model.specs.Truth.{Readings, holds, place_of, readings, truth}
 use Rattle.ucon_state.specs.Applied.{tried}
 use Rattle.ucon_accept.specs.Checking.{verdict_told}
-use Rattle.ucon_told.specs.Explanation.{PlainWhy, line, lines, lines_from}
+use Rattle.ucon_accept.specs.Explanation.{PlainWhy, line, lines, lines_from}
 use Rattle.ucon_accept.specs.Trying.{admin, explanation, with_try}
 
 -- ---- what the laws say that these stand on

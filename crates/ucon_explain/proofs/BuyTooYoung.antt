@@ -13,9 +13,9 @@ use Rattle.ucon_model.specs.declared.reply.Refusal.TheVariants.{NoSubject}
 use Rattle.ucon_model.specs.declared.session.Verdict.TheVariants.{Deny}
 use Rattle.ucon_model.specs.Action.{Trace, object, subject}
 use Rattle.ucon_model.specs.Plain.{Bytes, PlainPolicy, PlainExpr, lit, read, compare, authorisation, duty, condition}
-use Rattle.ucon_told.specs.declared.explanation.Fact.TheVariants as facts
-use Rattle.ucon_told.specs.declared.explanation.Factor.TheVariants.{Authorisation, Obligation, Condition}
-use Rattle.ucon_told.specs.Explanation.{PlainExplanation}
+use Rattle.ucon_accept.specs.declared.explanation.Fact.TheVariants as facts
+use Rattle.ucon_accept.specs.declared.explanation.Factor.TheVariants.{Authorisation, Obligation, Condition}
+use Rattle.ucon_accept.specs.Explanation.{PlainExplanation}
 use Rattle.ucon_explain.specs.Text.{explanation_spelling}
 use Rattle.ucon_accept.specs.Trying.{explanation, try_refusal}
 

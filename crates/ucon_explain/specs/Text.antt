@@ -12,11 +12,11 @@ use Rattle.ucon_model.specs.Action.{Trace}
 use Rattle.ucon_model.specs.Plain.{Bytes, PlainPolicy}
 use Rattle.ucon_model.specs.Spelling.{refusal_words}
 use Rattle.ucon_accept.specs.Trying.{explanation, try_refusal}
-use Rattle.ucon_told.specs.declared.explanation.Fact.{Fact}
-use Rattle.ucon_told.specs.declared.explanation.Fact.TheVariants.{Value, Moment, Tick}
-use Rattle.ucon_told.specs.declared.explanation.Factor.{Factor}
-use Rattle.ucon_told.specs.declared.explanation.Factor.TheVariants.{Authorisation, Obligation, Condition}
-use Rattle.ucon_told.specs.Explanation.{PlainExplanation, PlainWhy}
+use Rattle.ucon_accept.specs.declared.explanation.Fact.{Fact}
+use Rattle.ucon_accept.specs.declared.explanation.Fact.TheVariants.{Value, Moment, Tick}
+use Rattle.ucon_accept.specs.declared.explanation.Factor.{Factor}
+use Rattle.ucon_accept.specs.declared.explanation.Factor.TheVariants.{Authorisation, Obligation, Condition}
+use Rattle.ucon_accept.specs.Explanation.{PlainExplanation, PlainWhy}
 
 -- ---- words
 

@@ -4,15 +4,15 @@ ghost use Rattle.std.specs.Prelude.{◌≡◌, IfOk, Some, map};
 ghost use Rattle.ucon_model.specs.Decision.{right_named};
 ghost use Rattle.ucon_model.specs.Views.{predicate_of, right_of};
 ghost use Rattle.ucon_asked.specs.Asked.{predicate_at};
-ghost use Rattle.ucon_told.specs.Explanation.{explained, explanation_of, line, lines, lines_from, why_of};
+ghost use Rattle.ucon_accept.specs.Explanation.{explained, explanation_of, line, lines, lines_from, why_of};
 ghost use Rattle.ucon_accept.specs.Judged.{MayBeJudged};
 
 use crate::facts::test_facts;
 use std::alloc::{AllocError, Global};
+use ucon_accept::{Explanation, Why, factor_of};
 use ucon_base::{NoMemory, Rows};
 use ucon_eval::{truth, verdict};
 use ucon_model::{Predicate, Right, SessionRow, View};
-use ucon_told::{Explanation, Why, factor_of};
 
 /// The line on the predicate with this number of a session's right.
 fn line<V: View>(

@@ -3,13 +3,13 @@
 ghost use Rattle.std.specs.Prelude.{◌≡◌, ◌++◌, ◌∷◌, IfOk, OnOk, Some, map, option_copied};
 ghost use Rattle.ucon_model.specs.Truth.{read_or_zero};
 ghost use Rattle.ucon_model.specs.Views.{formula_of, test_of};
-ghost use Rattle.ucon_told.specs.Facts.{act_fact, formula_facts, is_timed, test_facts, tick_fact, value_fact};
+ghost use Rattle.ucon_accept.specs.Facts.{act_fact, formula_facts, is_timed, test_facts, tick_fact, value_fact};
 
 use crate::places::places_of;
 use std::alloc::Global;
+use ucon_accept::{Fact, asks_tick, is_timed, name_or};
 use ucon_base::{Int, NoMemory, Rows, Value};
 use ucon_model::{Formula, Obligation, Ref, SessionRow, Test, View};
-use ucon_told::{Fact, asks_tick, is_timed, name_or};
 
 /// A copy of a value that was read; a place that isn't there reads as 0.
 fn copy_or_zero(alloc: Global, value: Option<&Value>) -> Result<Value, NoMemory>

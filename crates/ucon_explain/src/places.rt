@@ -6,9 +6,9 @@ ghost use Rattle.ucon_model.specs.Places.{distinct, expr_places, formula_places,
 ghost use Rattle.ucon_model.specs.Views.{expr_of, formula_of};
 
 use std::alloc::Global;
+use ucon_accept::is_same_place;
 use ucon_base::NoMemory;
 use ucon_model::{Expr, Formula, Ref};
-use ucon_told::is_same_place;
 
 fn has_place(places: &[Ref], place: &Ref) -> bool
     ensures { result ≡ list_any (same_place place.now) places.now }

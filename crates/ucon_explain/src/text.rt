@@ -1,16 +1,16 @@
 //! Explanations as text.
 
 ghost use Rattle.std.specs.Prelude.{◌≡◌, ◌++◌, ◌∷◌, [], IfOk, OnOk, codes, map};
-ghost use Rattle.ucon_told.specs.declared.explanation.Fact.TheVariants as facts;
-ghost use Rattle.ucon_told.specs.Explanation.{explanation_of, why_of};
+ghost use Rattle.ucon_accept.specs.declared.explanation.Fact.TheVariants as facts;
+ghost use Rattle.ucon_accept.specs.Explanation.{explanation_of, why_of};
 ghost use Rattle.ucon_explain.specs.Text.{explanation_spelling, fact_spelling, factor_word, facts_spelling, moment_spelling, place_spelling};
 ghost use Rattle.ucon_explain.specs.Text.{truth_word, verdict_spelling, why_spelling, whys_spelling};
 
 use std::alloc::Global;
+use ucon_accept::{Explanation, Fact, Factor, Why};
 use ucon_base::{Int, Name, NoMemory, Value, put, put_integer};
 use ucon_model::{Ref, Verdict};
 use ucon_spelling::put_spelling;
-use ucon_told::{Explanation, Fact, Factor, Why};
 
 /// The letter of what a predicate decides by.
 fn factor_word(factor: Factor) -> &'static [u8]

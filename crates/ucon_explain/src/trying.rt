@@ -3,18 +3,17 @@
 ghost use Rattle.std.specs.Prelude.{◌≡◌, IfErr, IfOk, None};
 ghost use Rattle.ucon_state.specs.Following.{AfterEach, IsFollowing};
 ghost use Rattle.ucon_state.specs.Shown.{shown};
-ghost use Rattle.ucon_told.specs.Explanation.{explanation_of};
+ghost use Rattle.ucon_accept.specs.Explanation.{explanation_of};
 ghost use Rattle.ucon_accept.specs.Trying.{IsRight, explained_with, explanation, refusal_shown};
 ghost use Rattle.ucon_explain.specs.declared.trying.ExplainFault.TheVariants as faults;
 ghost use Rattle.ucon_explain.specs.Refusing.{IsRefused};
 
 use crate::explainer::explained;
 use std::alloc::Global;
-use ucon_accept::{OneMore, refusal, tried, tries_are_explained_as_shown};
+use ucon_accept::{Explanation, OneMore, refusal, tried, tries_are_explained_as_shown};
 use ucon_base::{Name, NoMemory};
 use ucon_model::Refusal;
 use ucon_state::State;
-use ucon_told::Explanation;
 
 /// Why there is no explanation.
 #[derive(Clone, Copy, Debug)]

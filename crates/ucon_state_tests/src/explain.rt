@@ -6,12 +6,11 @@ ghost use Rattle.ucon_state.specs.Shown.{shown};
 use crate::lines::{opening, steps};
 use std::alloc::Global;
 use std::test::Fail;
-use ucon_accept::{Wrong, accept};
+use ucon_accept::{Explanation, Wrong, accept};
 use ucon_base::{Name, Rows};
 use ucon_explain::{ExplainFault, explain, explanation_text};
 use ucon_model::{Refusal, Verdict};
 use ucon_state::State;
-use ucon_told::Explanation;
 
 /// The explanation of a try by `a` on `x`.
 fn explained(alloc: Global, state: &State, right: &[u8]) -> Result<Explanation, Fail>

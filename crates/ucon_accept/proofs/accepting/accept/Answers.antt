@@ -1,7 +1,7 @@
 use Rattle.std.proofs.Common.{◌≡◌, ◌∙◌, sym, rules}
 use Rattle.std.specs.Prelude.{None}
 use Rattle.ucon_state.specs.Shown.{shown}
-use Rattle.ucon_told.specs.Explanation.{explanation_of}
+use Rattle.ucon_accept.specs.Explanation.{explanation_of}
 use Rattle.ucon_accept.specs.Trying.{refusal_shown}
 use Rattle.ucon_accept.proofs.Answered.{accepted_right, refused_wrong, right_accepted, right_is_allowed}
 use Rattle.ucon_accept.proofs.Meeting.{refusal_same}

@@ -2,7 +2,7 @@ use Rattle.std.proofs.Common.{◌≡◌, refl, subst}
 use Rattle.std.specs.Prelude.{IfErr, OnOk}
 use Rattle.ucon_state.specs.Shown.{shown}
 use Rattle.ucon_accept.specs.Checking.{IsCause}
-use Rattle.ucon_told.specs.Explanation.{PlainExplanation, explanation_of}
+use Rattle.ucon_accept.specs.Explanation.{PlainExplanation, explanation_of}
 use Rattle.ucon_accept.specs.Trying.{explained_with}
 use Rattle.ucon_accept.proofs.Answered.{checked_same}
 use Rattle.ucon_accept.proofs.Meeting.{explained_by, judged_by}

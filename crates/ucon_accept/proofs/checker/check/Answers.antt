@@ -1,6 +1,6 @@
 use Rattle.std.proofs.Common.{◌≡◌, ◌∙◌, true, false, map, sym, ap, rules}
 use Rattle.ucon_accept.specs.Checking.{verdict_told}
-use Rattle.ucon_told.specs.Explanation.{why_of}
+use Rattle.ucon_accept.specs.Explanation.{why_of}
 use Rattle.ucon_accept.proofs.Verdicts.{verdict_of_lines}
 use Rattle.ucon_accept.proofs.checker.check.Goals as goal
 

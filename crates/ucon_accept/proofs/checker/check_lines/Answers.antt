@@ -7,7 +7,7 @@ use Rattle.std.proofs.lemmas.Option.{slice_get-map, slice_get_within}
 use Rattle.ucon_model.specs.Decision.{ongoing}
 use Rattle.ucon_model.specs.Plain.{PlainPredicate}
 use Rattle.ucon_model.specs.Views.{predicate_of}
-use Rattle.ucon_told.specs.Explanation.{PlainWhy, line, lines_from, why_of}
+use Rattle.ucon_accept.specs.Explanation.{PlainWhy, line, lines_from, why_of}
 use Rattle.ucon_accept.proofs.Lines.{lines_from-before, lines_from-ongoing, no_set_in_rest, one_right, wrong_end, wrong_here}
 use Rattle.ucon_accept.proofs.checker.check_lines.Goals as goal
 use Rattle.ucon_accept.proofs.checker.check_lines.Goals.{then-not-is_ongoing+else-not-has_line, else-not-is_ongoing}

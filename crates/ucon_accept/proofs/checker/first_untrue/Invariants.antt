@@ -1,6 +1,6 @@
 use Rattle.std.proofs.Common.{◌≡◌, drop, map}
 use Rattle.ucon_accept.specs.Checking.{first_untrue}
-use Rattle.ucon_told.specs.Explanation.{why_of}
+use Rattle.ucon_accept.specs.Explanation.{why_of}
 use Rattle.ucon_accept.proofs.checker.first_untrue.Given as goal
 
 -- no line so far is it

@@ -1,6 +1,6 @@
 use Rattle.std.proofs.Common.{◌≡◌, ◌∙◌, true, false, List, sym, ap, rules}
 use Rattle.ucon_model.specs.Views.{test_of}
-use Rattle.ucon_told.specs.declared.explanation.Fact.{Fact}
+use Rattle.ucon_accept.specs.declared.explanation.Fact.{Fact}
 use Rattle.ucon_accept.specs.Checking.{tell_test}
 use Rattle.ucon_accept.proofs.Reading.{test_facts_told, test_told_right}
 use Rattle.ucon_accept.proofs.Truths.{told_is_true, told_makes_no_set}

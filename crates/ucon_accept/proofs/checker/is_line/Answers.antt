@@ -1,5 +1,5 @@
 use Rattle.std.proofs.Common.{◌≡◌, ◌∙◌, true, false, sym, ap, rules}
-use Rattle.ucon_told.specs.Explanation.{PlainWhy}
+use Rattle.ucon_accept.specs.Explanation.{PlainWhy}
 use Rattle.ucon_accept.proofs.checker.is_line.Goals as goal
 
 pub returns-then-not-is_on : goal.returns-then-not-is_on

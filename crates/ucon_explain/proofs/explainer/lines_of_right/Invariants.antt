@@ -1,6 +1,6 @@
 use Rattle.std.proofs.Common.{◌≡◌, ◌++◌, drop, map}
 use Rattle.ucon_model.specs.Views.{predicate_of}
-use Rattle.ucon_told.specs.Explanation.{lines_from, why_of}
+use Rattle.ucon_accept.specs.Explanation.{lines_from, why_of}
 use Rattle.ucon_explain.proofs.explainer.lines_of_right.Given as goal
 
 -- the lines so far, and those on the predicates that are left

@@ -1,5 +1,5 @@
 use Rattle.std.proofs.Common.{◌≡◌, map, take}
-use Rattle.ucon_told.specs.Facts.{value_fact}
+use Rattle.ucon_accept.specs.Facts.{value_fact}
 use Rattle.ucon_explain.proofs.facts.value_facts.Given as goal
 
 -- those of the places so far

@@ -1,5 +1,5 @@
 use Rattle.std.proofs.Common.{◌≡◌, ◌++◌, drop, map}
-use Rattle.ucon_told.specs.Explanation.{why_of}
+use Rattle.ucon_accept.specs.Explanation.{why_of}
 use Rattle.ucon_explain.specs.Text.{whys_spelling}
 use Rattle.ucon_explain.proofs.text.put_whys.Given as goal
 

@@ -1,7 +1,7 @@
 use Rattle.std.proofs.Common.{◌≡◌, ◌∙◌, sym, subst, rules}
 use Rattle.std.specs.Prelude.{None}
 use Rattle.ucon_state.specs.Shown.{shown}
-use Rattle.ucon_told.specs.Explanation.{PlainExplanation}
+use Rattle.ucon_accept.specs.Explanation.{PlainExplanation}
 use Rattle.ucon_accept.specs.Trying.{IsRight, refusal_shown}
 use Rattle.ucon_explain.proofs.trying.explain.Goals as goal
 

@@ -1,7 +1,7 @@
 use Rattle.std.proofs.Common.{◌≡◌, subst}
 use Rattle.std.specs.Prelude.{IfOk}
 use Rattle.ucon_state.specs.Shown.{shown}
-use Rattle.ucon_told.specs.Explanation.{PlainExplanation, explanation_of}
+use Rattle.ucon_accept.specs.Explanation.{PlainExplanation, explanation_of}
 use Rattle.ucon_explain.proofs.trying.explain_try.Goals as goal
 
 pub explained-requires : goal.explained-requires

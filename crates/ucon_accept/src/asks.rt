@@ -3,7 +3,7 @@
 ghost use Rattle.std.specs.Prelude.{◌≡◌, unwrap_or};
 ghost use Rattle.ucon_model.specs.Places.{same_place};
 ghost use Rattle.ucon_model.specs.Views.{formula_of};
-ghost use Rattle.ucon_told.specs.Facts.{asks_tick, is_timed};
+ghost use Rattle.ucon_accept.specs.Facts.{asks_tick, is_timed};
 
 use ucon_base::Name;
 use ucon_model::{Form, Formula, Ref};

@@ -1,6 +1,6 @@
 use Rattle.std.proofs.Common.{◌≡◌, drop}
-use Rattle.ucon_told.specs.Told.{tick_told}
-use Rattle.ucon_told.proofs.told.tick_told.Given as goal
+use Rattle.ucon_accept.specs.Told.{tick_told}
+use Rattle.ucon_accept.proofs.told.tick_told.Given as goal
 
 -- the facts so far tell nothing of it
 abbrev pub invariant-loop-fact : goal.invariant-loop-fact

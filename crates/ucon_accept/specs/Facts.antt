@@ -8,8 +8,8 @@ use Rattle.ucon_model.specs.declared.session.SessionRow.{SessionRow}
 use Rattle.ucon_model.specs.Places.{distinct, formula_places}
 use Rattle.ucon_model.specs.Plain.{Bytes, PlainFormula, both, either, negation, compare, lasts, PlainTest, authorisation, duty, condition}
 use Rattle.ucon_model.specs.Truth.{Readings, read_or_zero}
-use Rattle.ucon_told.specs.declared.explanation.Fact.{Fact}
-use Rattle.ucon_told.specs.declared.explanation.Fact.TheVariants.{Value, Moment, Tick}
+use Rattle.ucon_accept.specs.declared.explanation.Fact.{Fact}
+use Rattle.ucon_accept.specs.declared.explanation.Fact.TheVariants.{Value, Moment, Tick}
 
 -- what a place holds for a session
 abbrev pub value_fact : Readings → SessionRow → Ref → Fact

@@ -1,8 +1,8 @@
 use Rattle.std.proofs.Common.{◌≡◌, ◌<◌, true, false, length, sym, ◌∙◌, arith}
 use Rattle.std.specs.List.{slice_get}
 use Rattle.ucon_asked.specs.Sums.{is_same_text}
-use Rattle.ucon_told.proofs.SameTexts.{same_texts-lengths, same_texts-on, same_texts-off}
-use Rattle.ucon_told.proofs.worth.are_same_texts.Goals as goal
+use Rattle.ucon_accept.proofs.SameTexts.{same_texts-lengths, same_texts-on, same_texts-off}
+use Rattle.ucon_accept.proofs.worth.are_same_texts.Goals as goal
 
 pub returns-then-size : goal.returns-then-size
 returns-then-size c = sym (same_texts-lengths c.args.a.now c.args.b.now (λ same. c.if-size.true (cc)))

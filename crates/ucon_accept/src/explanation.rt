@@ -2,7 +2,7 @@
 
 ghost use Rattle.std.specs.Prelude.{◌≡◌};
 ghost use Rattle.ucon_model.specs.Views.{test_of};
-ghost use Rattle.ucon_told.specs.Explanation.{factor_of};
+ghost use Rattle.ucon_accept.specs.Explanation.{factor_of};
 
 use ucon_base::{Int, Name, Rows, Value};
 use ucon_model::{Ref, Test, Verdict};

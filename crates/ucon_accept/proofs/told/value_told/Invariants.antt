@@ -1,6 +1,6 @@
 use Rattle.std.proofs.Common.{◌≡◌, drop}
-use Rattle.ucon_told.specs.Told.{value_told}
-use Rattle.ucon_told.proofs.told.value_told.Given as goal
+use Rattle.ucon_accept.specs.Told.{value_told}
+use Rattle.ucon_accept.proofs.told.value_told.Given as goal
 
 -- the facts so far tell nothing of the place
 abbrev pub invariant-loop-fact : goal.invariant-loop-fact

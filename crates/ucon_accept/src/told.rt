@@ -6,8 +6,8 @@ ghost use Rattle.ucon_model.specs.Truth.{holds, in_time, is_done, value_of};
 ghost use Rattle.ucon_model.specs.Views.{expr_of, formula_of, test_of};
 ghost use Rattle.ucon_asked.specs.Asked.{no_session};
 ghost use Rattle.ucon_asked.specs.Sums.{formula_makes_no_set, makes_no_set, test_makes_no_set};
-ghost use Rattle.ucon_told.specs.Told.{moment_told, tick_told, told, truth_told, value_in, value_told};
-ghost use Rattle.ucon_told.specs.Worth.{worth_value};
+ghost use Rattle.ucon_accept.specs.Told.{moment_told, tick_told, told, truth_told, value_in, value_told};
+ghost use Rattle.ucon_accept.specs.Worth.{worth_value};
 
 use crate::asks::is_same_place;
 use crate::explanation::Fact;

@@ -6,8 +6,8 @@ use Rattle.ucon_model.specs.Places.{same_place}
 use Rattle.ucon_model.specs.Plain.{PlainTest}
 use Rattle.ucon_model.specs.Truth.{Readings, truth}
 use Rattle.ucon_asked.specs.Asked.{no_session}
-use Rattle.ucon_told.specs.declared.explanation.Fact.{Fact}
-use Rattle.ucon_told.specs.declared.explanation.Fact.TheVariants as facts
+use Rattle.ucon_accept.specs.declared.explanation.Fact.{Fact}
+use Rattle.ucon_accept.specs.declared.explanation.Fact.TheVariants as facts
 
 -- what a fact says that a place holds, if it is of this place
 abbrev pub value_in : Fact → Ref → Option Value

@@ -6,12 +6,12 @@ use Rattle.ucon_model.specs.declared.session.Verdict.{Verdict}
 use Rattle.ucon_model.specs.Decision.{ongoing, right_named, verdict}
 use Rattle.ucon_model.specs.Plain.{Bytes, PlainTest, authorisation, duty, condition, PlainPredicate, PlainPolicy}
 use Rattle.ucon_model.specs.Truth.{Readings, truth}
-use Rattle.ucon_told.specs.declared.explanation.Explanation.{Explanation}
-use Rattle.ucon_told.specs.declared.explanation.Fact.{Fact}
-use Rattle.ucon_told.specs.declared.explanation.Factor.{Factor}
-use Rattle.ucon_told.specs.declared.explanation.Factor.TheVariants.{Authorisation, Obligation, Condition}
-use Rattle.ucon_told.specs.declared.explanation.Why.{Why}
-use Rattle.ucon_told.specs.Facts.{test_facts}
+use Rattle.ucon_accept.specs.declared.explanation.Explanation.{Explanation}
+use Rattle.ucon_accept.specs.declared.explanation.Fact.{Fact}
+use Rattle.ucon_accept.specs.declared.explanation.Factor.{Factor}
+use Rattle.ucon_accept.specs.declared.explanation.Factor.TheVariants.{Authorisation, Obligation, Condition}
+use Rattle.ucon_accept.specs.declared.explanation.Why.{Why}
+use Rattle.ucon_accept.specs.Facts.{test_facts}
 
 -- ---- explanations without the room that their rows have left
 

@@ -1,4 +1,0 @@
-pub mod Facts
-pub mod Explanation
-pub mod Told
-pub mod Worth
