@@ -13,7 +13,7 @@ ghost use Rattle.ucon_model.specs.Readings.{is_accessing, session};
 ghost use Rattle.ucon_model.specs.Touches.{touches_by};
 ghost use Rattle.ucon_model.specs.Plain.{PlainPolicy};
 ghost use Rattle.ucon_state.specs.Shown.{shown};
-ghost use Rattle.ucon_wheel.specs.Deadlines.{count_below};
+ghost use Rattle.ucon_deadlines.specs.Deadlines.{count_below};
 ghost use Rattle.ucon_cascade.specs.Passing.{AreTimedBefore, MayPass, PassesAll, WereMade, is_tick};
 ghost use Rattle.ucon_cascade.specs.Timely.{AreTimedBelow, AreTimely, GivesFirst};
 ghost use Rattle.ucon_readers.specs.Timers.{IsKept, UndoGives, deadlines_in};

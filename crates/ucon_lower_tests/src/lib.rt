@@ -4,6 +4,8 @@
 #[cfg(test)]
 mod board;
 #[cfg(test)]
+mod deadlines;
+#[cfg(test)]
 mod disk;
 #[cfg(test)]
 mod feed;
@@ -21,5 +23,3 @@ mod pend;
 mod tell;
 #[cfg(test)]
 mod turn;
-#[cfg(test)]
-mod wheel;

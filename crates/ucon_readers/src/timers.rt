@@ -1,16 +1,16 @@
 //! The deadlines of usages that go on, and what a draft has changed of them.
 
 ghost use Rattle.std.specs.Prelude.{◌≡◌, ◌+◌, ◌≤ℤ◌, ℕ, ℤ, List, Option, IfNone, IfOk, IfSome, None, OnErr, OnOk, Some};
-ghost use Rattle.ucon_wheel.specs.Deadlines.{AreAlike, Gives, IsPassed, count_below, deadline_of, passed};
+ghost use Rattle.ucon_deadlines.specs.Deadlines.{AreAlike, Gives, IsPassed, count_below, deadline_of, passed};
 
 use std::alloc::Global;
 use std::mem;
 use ucon_base::{Int, NoMemory};
-use ucon_wheel::Wheel;
+use ucon_deadlines::Deadlines;
 
-/// Forgets the wheel that was replaced, if one was: most often none was, and to move none costs as much as to move one.
+/// Forgets the deadlines that was replaced, if one was: most often none was, and to move none costs as much as to move one.
 #[inline(always)]
-fn forget(replaced: &mut Option<Wheel>)
+fn forget(replaced: &mut Option<Deadlines>)
     ensures { replaced.new ≡ None }
 {
     if replaced.is_some() {
@@ -18,9 +18,9 @@ fn forget(replaced: &mut Option<Wheel>)
     }
 }
 
-/// Forgets the wheel that was replaced. It stands alone, so that who forgets none makes no room for one.
+/// Forgets the deadlines that were replaced. It stands alone, so that who forgets none makes no room for some.
 #[inline(never)]
-fn forget_some(replaced: &mut Option<Wheel>)
+fn forget_some(replaced: &mut Option<Deadlines>)
     ensures { replaced.new ≡ None }
 {
     *replaced = None;
@@ -30,9 +30,9 @@ fn forget_some(replaced: &mut Option<Wheel>)
 /// changes can be undone until it is kept.
 #[derive(Drop)]
 pub struct Timers {
-    wheel: Wheel,
-    /// The wheel before the draft, if the draft has put another in its place.
-    replaced: Option<Wheel>,
+    deadlines: Deadlines,
+    /// The deadlines before the draft, if the draft has put another in its place.
+    replaced: Option<Deadlines>,
 }
 
 impl Timers {
@@ -44,7 +44,7 @@ impl Timers {
         ensures kept { IsKept result }
     {
         Timers {
-            wheel: Wheel::new(alloc),
+            deadlines: Deadlines::new(alloc),
             replaced: None,
         }
     }
@@ -57,7 +57,7 @@ impl Timers {
         ensures err { OnErr result (AreAlike (deadlines_in self.old) (deadlines_in self.new)) }
         ensures undo { (before : List (Option ℤ)) → UndoGives self.old before → UndoGives self.new before }
     {
-        self.wheel.set(session, deadline)
+        self.deadlines.set(session, deadline)
     }
 
     /// Takes the earliest deadline from its session, if it is below the tick, and says which session that is.
@@ -72,7 +72,7 @@ impl Timers {
         ensures err { OnErr result (AreAlike (deadlines_in self.old) (deadlines_in self.new)) }
         ensures undo { (before : List (Option ℤ)) → UndoGives self.old before → UndoGives self.new before }
     {
-        self.wheel.take_due(tick)
+        self.deadlines.take_due(tick)
     }
 
     /// From here on these are the deadlines. Undoing gives back those before.
@@ -81,7 +81,7 @@ impl Timers {
         ensures deadlines { deadlines_in self.new ≡ deadlines_in others }
         ensures undo { UndoGives self.new (deadlines_in self.old) }
     {
-        let before = mem::replace(&mut self.wheel, others.wheel);
+        let before = mem::replace(&mut self.deadlines, others.deadlines);
         self.replaced = Some(before);
     }
 
@@ -91,9 +91,9 @@ impl Timers {
         ensures kept { IsKept self.new }
     {
         if let Some(before) = self.replaced.take() {
-            self.wheel = before;
+            self.deadlines = before;
         }
-        self.wheel.undo();
+        self.deadlines.undo();
     }
 
     /// From here on undoing gives what is there now.
@@ -102,7 +102,7 @@ impl Timers {
         ensures deadlines { deadlines_in self.new ≡ deadlines_in self.old }
         ensures kept { IsKept self.new }
     {
-        self.wheel.keep();
+        self.deadlines.keep();
         forget(&mut self.replaced);
     }
 }

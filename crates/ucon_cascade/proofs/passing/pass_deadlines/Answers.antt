@@ -3,7 +3,7 @@ use Rattle.std.specs.Prelude.{◌≤ℤ◌}
 use Rattle.ucon_pend.specs.NumberSet.{NumberSet}
 use Rattle.ucon_readers.specs.Timers.{deadlines_in}
 use Rattle.ucon_state.specs.Shown.{shown}
-use Rattle.ucon_wheel.specs.Deadlines.{IsPassed, count_below, deadline_of}
+use Rattle.ucon_deadlines.specs.Deadlines.{IsPassed, count_below, deadline_of}
 use Rattle.ucon_cascade.proofs.Moving.{passed_below, passes_on}
 use Rattle.ucon_cascade.proofs.Ticking.{passing_like}
 use Rattle.ucon_cascade.proofs.passing.pass_deadlines.Goals as goal

@@ -5,5 +5,5 @@ use Rattle.ucon_readers.proofs.timers.Timers.set.Goals as goal
 
 pub returns-clause-undo : goal.returns-clause-undo
 returns-clause-undo c = λ before gives.
-    let now : Timers = record { wheel = c.set.new.self; replaced = c.args.self.now.replaced } in
+    let now : Timers = record { deadlines = c.set.new.self; replaced = c.args.self.now.replaced } in
     gives_still c.args.self.now now before refl c.set.ensures.opening gives

@@ -5,5 +5,5 @@ use Rattle.ucon_readers.proofs.timers.Timers.take_due.Goals as goal
 
 pub returns-clause-undo : goal.returns-clause-undo
 returns-clause-undo c = λ before gives.
-    let now : Timers = record { wheel = c.take_due.new.self; replaced = c.args.self.now.replaced } in
+    let now : Timers = record { deadlines = c.take_due.new.self; replaced = c.args.self.now.replaced } in
     gives_still c.args.self.now now before refl c.take_due.ensures.opening gives

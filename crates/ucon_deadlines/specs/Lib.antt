@@ -1,0 +1,5 @@
+pub mod Deadlines
+pub mod Entries
+pub mod Owned
+pub mod Queue
+pub mod Sound
