@@ -12,7 +12,7 @@ use crate::follow::all_readers;
 use crate::passing::all_timers;
 use std::alloc::Global;
 use ucon_base::NoMemory;
-use ucon_pend::Pend;
+use ucon_number_set::NumberSet;
 use ucon_readers::{Readers, Timers};
 use ucon_state::State;
 
@@ -21,7 +21,7 @@ use ucon_state::State;
 pub(crate) struct Indexes {
     pub readers: Readers,
     pub timers: Timers,
-    pub work: Pend,
+    pub work: NumberSet,
 }
 
 impl Indexes {
@@ -34,7 +34,7 @@ impl Indexes {
         ensures timers_kept { IfOk result (λ i. AreKept i.timers) }
         ensures work { IfOk result (λ i. i.work ≡ record { limit = 1048577; members = [] }) }
     {
-        let work = Pend::new(alloc, 1_048_577)?;
+        let work = NumberSet::new(alloc, 1_048_577)?;
         let mut timers = all_timers(alloc, state)?;
         let mut readers = all_readers(alloc, state)?;
         readers.keep();

@@ -38,7 +38,7 @@ use ucon_model::{
     own_work_is_read_off, readings_that_agree_are_one, the_least_failing_is_found,
     updates_write_their_targets, work_is_read_off_afterwards,
 };
-use ucon_pend::Pend;
+use ucon_number_set::NumberSet;
 use ucon_readers::{Readers, Timers, undoing_gives_what_is_kept};
 use ucon_state::{
     State, cells_are_of_one_attribute, each_action_is_followed, sessions_are_few,
@@ -54,7 +54,7 @@ pub struct Monitor {
     readers: Readers,
     timers: Timers,
     /// The sessions that are to be rechecked. Empty between two steps.
-    work: Pend,
+    work: NumberSet,
 }
 
 impl Engine for Monitor {

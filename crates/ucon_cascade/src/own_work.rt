@@ -15,7 +15,7 @@ use crate::places::{attribute_place, place_of_session, variable_place};
 use ucon_actions::{is_accessing, is_of};
 use ucon_base::{Name, Side};
 use ucon_model::{Command, Head, Update, View, When};
-use ucon_pend::Pend;
+use ucon_number_set::NumberSet;
 use ucon_readers::Readers;
 use ucon_readings::{session_state, sessions};
 use ucon_state::State;
@@ -27,7 +27,7 @@ fn put_attribute(
     side: Side,
     name: &Name,
     attr: &Name,
-    work: &mut Pend,
+    work: &mut NumberSet,
 )
     requires { AllBelow (readers_at readers.now) work.old.limit }
     ensures limit { work.new.limit ≡ work.old.limit }
@@ -41,7 +41,7 @@ fn put_attribute(
 }
 
 /// Puts into the work who reads a variable.
-fn put_variable(state: &State, readers: &Readers, name: &Name, work: &mut Pend)
+fn put_variable(state: &State, readers: &Readers, name: &Name, work: &mut NumberSet)
     requires { AllBelow (readers_at readers.now) work.old.limit }
     ensures limit { work.new.limit ≡ work.old.limit }
     ensures members { GainsFirsts (first_of readers.now) work.old.members work.new.members
@@ -54,7 +54,14 @@ fn put_variable(state: &State, readers: &Readers, name: &Name, work: &mut Pend)
 }
 
 /// Puts into the work who reads where an update of session n's right writes, if it is of this time.
-fn put_target(state: &State, readers: &Readers, n: u32, u: &Update, when: When, work: &mut Pend)
+fn put_target(
+    state: &State,
+    readers: &Readers,
+    n: u32,
+    u: &Update,
+    when: When,
+    work: &mut NumberSet,
+)
     requires { AllBelow (readers_at readers.now) work.old.limit }
     ensures limit { work.new.limit ≡ work.old.limit }
     ensures members { (row : SessionRow) → session_in (shown state.now).tables n ≡ Some row
@@ -71,7 +78,7 @@ fn put_target(state: &State, readers: &Readers, n: u32, u: &Update, when: When, 
 }
 
 /// Puts into the work who reads where the updates of a time of session n write.
-pub fn put_targets(state: &State, readers: &Readers, n: u32, when: When, work: &mut Pend)
+pub fn put_targets(state: &State, readers: &Readers, n: u32, when: When, work: &mut NumberSet)
     requires { AllBelow (readers_at readers.now) work.old.limit }
     ensures limit { work.new.limit ≡ work.old.limit }
     ensures members { GainsFirsts (first_of readers.now) work.old.members work.new.members
@@ -86,7 +93,7 @@ pub fn put_targets(state: &State, readers: &Readers, n: u32, when: When, work: &
 }
 
 /// Puts into the work whom a permit concerns, if the head tells one: its session, and who reads where the updates before its usage wrote.
-fn put_permitted(state: &State, readers: &Readers, head: &Head, work: &mut Pend)
+fn put_permitted(state: &State, readers: &Readers, head: &Head, work: &mut NumberSet)
     requires below { AllBelow (readers_at readers.now) work.old.limit }
     requires permitted { (n : ℕ) → head.now ≡ heads.Permitted n → n < work.old.limit }
     ensures limit { work.new.limit ≡ work.old.limit }
@@ -102,7 +109,7 @@ fn put_permitted(state: &State, readers: &Readers, head: &Head, work: &mut Pend)
 
 /// Puts session n into the work, if it is the first of its list.
 #[inline(always)]
-fn put_first(readers: &Readers, n: u32, work: &mut Pend)
+fn put_first(readers: &Readers, n: u32, work: &mut NumberSet)
     requires { n < work.old.limit }
     ensures limit { work.new.limit ≡ work.old.limit }
     ensures members { GainsFirsts (first_of readers.now) work.old.members work.new.members (λ m. m ≡ n) }
@@ -113,7 +120,7 @@ fn put_first(readers: &Readers, n: u32, work: &mut Pend)
 }
 
 /// Puts session n into the work, if it is accessing and the first of its list.
-fn put_if_accessing(state: &State, readers: &Readers, n: u32, work: &mut Pend)
+fn put_if_accessing(state: &State, readers: &Readers, n: u32, work: &mut NumberSet)
     requires { n < work.old.limit }
     ensures limit { work.new.limit ≡ work.old.limit }
     ensures members { GainsFirsts (first_of readers.now) work.old.members work.new.members (λ m. (m ≡ n) × GoesOn (shown state.now) n) }
@@ -126,7 +133,7 @@ fn put_if_accessing(state: &State, readers: &Readers, n: u32, work: &mut Pend)
 }
 
 /// Puts the first of each list of accessing sessions into the work.
-fn put_accessing(state: &State, readers: &Readers, work: &mut Pend)
+fn put_accessing(state: &State, readers: &Readers, work: &mut NumberSet)
     requires { length (shown state.now).tables.sessions < work.old.limit }
     ensures limit { work.new.limit ≡ work.old.limit }
     ensures members { GainsFirsts (first_of readers.now) work.old.members work.new.members (GoesOn (shown state.now)) }
@@ -137,7 +144,7 @@ fn put_accessing(state: &State, readers: &Readers, work: &mut Pend)
 }
 
 /// Puts into the work whom a command concerns else.
-fn put_commanded(state: &State, readers: &Readers, command: &Command, work: &mut Pend)
+fn put_commanded(state: &State, readers: &Readers, command: &Command, work: &mut NumberSet)
     requires below { AllBelow (readers_at readers.now) work.old.limit }
     requires few { length (shown state.now).tables.sessions < work.old.limit }
     ensures limit { work.new.limit ≡ work.old.limit }
@@ -167,7 +174,7 @@ pub fn put_own_work(
     readers: &Readers,
     command: &Command,
     head: &Head,
-    work: &mut Pend,
+    work: &mut NumberSet,
 )
     requires below { AllBelow (readers_at readers.now) work.old.limit }
     requires few { length (shown state.now).tables.sessions < work.old.limit }

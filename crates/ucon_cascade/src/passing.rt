@@ -24,7 +24,7 @@ use ucon_base::NoMemory;
 use ucon_model::{
     Command, Head, View, heads_tell_whose_usage_begins_or_ends, readings_that_agree_are_one,
 };
-use ucon_pend::Pend;
+use ucon_number_set::NumberSet;
 use ucon_readers::{Timers, first_limit, undoing_gives_what_is_kept};
 use ucon_readings::sessions;
 use ucon_state::{State, tables_keep_what_is_followed};
@@ -37,7 +37,7 @@ pub fn follow_time(
     timers: &mut Timers,
     command: &Command,
     head: &Head,
-    work: &mut Pend,
+    work: &mut NumberSet,
 ) -> Result<(), NoMemory>
     requires kept { IsKept timers.old }
     requires made { AreTimedBefore (shown state.now) (deadlines_in timers.old) command.now head.now }
@@ -95,7 +95,7 @@ fn put_session(state: &State, timers: &mut Timers, n: u32) -> Result<(), NoMemor
 
 /// Takes the deadlines below the tick away, the earliest first. Their sessions are put into the work, and get the next ones of what still
 /// holds of their rights.
-fn pass_deadlines(state: &State, timers: &mut Timers, work: &mut Pend) -> Result<(), NoMemory>
+fn pass_deadlines(state: &State, timers: &mut Timers, work: &mut NumberSet) -> Result<(), NoMemory>
     requires may { MayPass (shown state.now) (deadlines_in timers.old) work.old.members }
     requires few { length (shown state.now).tables.sessions < work.old.limit }
     ensures passed { OnOk result (PassesAll (shown state.now) (deadlines_in timers.old) (deadlines_in timers.new) work.old.members work.new.members) }

@@ -33,7 +33,7 @@ use ucon_model::{
     heads_tell_whose_usage_begins_or_ends, judgements_are_paid_for, one_judgement_serves_all_alike,
     readings_that_agree_are_one, turns_follow_each_other, updates_write_their_targets,
 };
-use ucon_pend::Pend;
+use ucon_number_set::NumberSet;
 use ucon_readers::{Readers, Timers};
 use ucon_readings::{accessing, session_state};
 use ucon_state::{
@@ -64,7 +64,7 @@ pub fn fails_at(state: &State, n: u32, steps: &mut Steps) -> Option<Name>
 }
 
 /// Takes sessions out of the work, least first, up to one that fails: the least of all. If there is none, the work is done.
-fn next_failing(state: &State, work: &mut Pend, steps: &mut Steps) -> Option<(u32, Name)>
+fn next_failing(state: &State, work: &mut NumberSet, steps: &mut Steps) -> Option<(u32, Name)>
     requires following { IsFollowing (shown state.now) }
     requires work { (first : ℕ → ℕ) × IsWork (shown state.now) first work.old.members }
     ensures least { AfterEach (shown state.now) (λ P T. least_failing P T ≡ result) }
@@ -91,7 +91,7 @@ fn next_failing(state: &State, work: &mut Pend, steps: &mut Steps) -> Option<(u3
 }
 
 /// Takes session n out of its list, and puts the next of the list into the work if it was the first.
-fn leave_list(readers: &mut Readers, n: u32, work: &mut Pend) -> Result<(), NoMemory>
+fn leave_list(readers: &mut Readers, n: u32, work: &mut NumberSet) -> Result<(), NoMemory>
     requires { AllBelow (readers_at readers.old) work.old.limit }
     ensures read { OnOk result ((m place : ℕ) → Contains (readers_at readers.new place) m ↔ ((m ≢ n) × Contains (readers_at readers.old place) m)) }
     ensures leaves { OnOk result (LeavesList (first_of readers.old) (first_of readers.new) n) }
@@ -114,7 +114,7 @@ fn revoke_next(
     state: &mut State,
     readers: &mut Readers,
     timers: &mut Timers,
-    work: &mut Pend,
+    work: &mut NumberSet,
     revoked: &mut Rows<Revoked>,
     n: u32,
     label: Name,
@@ -162,7 +162,7 @@ pub fn settle(
     state: &mut State,
     readers: &mut Readers,
     timers: &mut Timers,
-    work: &mut Pend,
+    work: &mut NumberSet,
     steps: &mut Steps,
 ) -> Result<Rows<Revoked>, NoMemory>
     requires following { IsFollowing (shown state.old) }

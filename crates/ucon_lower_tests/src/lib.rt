@@ -18,7 +18,7 @@ mod journal;
 #[cfg(test)]
 mod links;
 #[cfg(test)]
-mod pend;
+mod number_set;
 #[cfg(test)]
 mod tell;
 #[cfg(test)]

@@ -12,7 +12,7 @@ use indexmap::IndexMap;
 use std::alloc::Global;
 use std::mem;
 use ucon_base::NoMemory;
-use ucon_pend::Pend;
+use ucon_number_set::NumberSet;
 
 /// Forgets those who were replaced, if some were: most often none were, and to move none costs as much as to move some.
 #[inline(always)]
@@ -129,7 +129,7 @@ impl Readers {
     }
 
     /// Puts those into the work who are judged for whoever reads a place.
-    pub fn put(&self, place: u32, work: &mut Pend)
+    pub fn put(&self, place: u32, work: &mut NumberSet)
         requires { All (λ n. n < work.old.limit) (readers_at self.now place) }
         ensures limit { work.new.limit ≡ work.old.limit }
         ensures members { (n : ℕ) → Contains work.new.members n

@@ -14,7 +14,7 @@ use std::marker::Model;
 use ucon_base::NoMemory;
 use ucon_links::{Index, walks_meet_who_stands};
 use ucon_lists::Lists;
-use ucon_pend::Pend;
+use ucon_number_set::NumberSet;
 
 /// Sessions in lists, of which all members read the same, and at each place the leaders of the lists that read it. What a draft changes
 /// can be undone until it is kept.
@@ -142,7 +142,7 @@ impl Standing {
     }
 
     /// Puts the firsts of the lists that stand at a place into the work.
-    pub(crate) fn put(&self, place: u32, work: &mut Pend)
+    pub(crate) fn put(&self, place: u32, work: &mut NumberSet)
         requires { All (λ n. n < work.old.limit) (readers_in self.now place) }
         ensures limit { work.new.limit ≡ work.old.limit }
         ensures members { (n : ℕ) → Contains work.new.members n
@@ -261,7 +261,7 @@ fn take_out(index: &mut Index, added: Option<u32>)
 }
 
 /// Puts the firsts of the lists whose leaders stand at a place into the work.
-fn put_firsts(lists: &Lists, index: &Index, place: u32, work: &mut Pend)
+fn put_firsts(lists: &Lists, index: &Index, place: u32, work: &mut NumberSet)
     requires below { All (λ n. n < work.old.limit) (standing_by lists.now.members index.now place) }
     requires led { AreLed lists.now.members index.now }
     ensures limit { work.new.limit ≡ work.old.limit }
@@ -280,7 +280,7 @@ fn put_firsts(lists: &Lists, index: &Index, place: u32, work: &mut Pend)
 }
 
 /// Puts the first of a leader's list into the work.
-fn put_first(lists: &Lists, leader: u32, work: &mut Pend)
+fn put_first(lists: &Lists, leader: u32, work: &mut NumberSet)
     requires below { All (λ n. n < work.old.limit) (led_by lists.now.members leader) }
     requires alone { is_joined lists.now.members leader ≡ false → leader_in lists.now.members leader ≡ None }
     ensures limit { work.new.limit ≡ work.old.limit }

@@ -1,6 +1,6 @@
 use Rattle.std.proofs.Common.{◌≡◌, ◌∙◌, ◌+◌, ◌<◌, ℕ, ℤ, ap, arith, refl, subst, sym}
 use Rattle.std.specs.Prelude.{◌≤ℤ◌}
-use Rattle.ucon_pend.specs.NumberSet.{NumberSet}
+use Rattle.ucon_number_set.specs.NumberSet.{NumberSet}
 use Rattle.ucon_readers.specs.Timers.{deadlines_in}
 use Rattle.ucon_state.specs.Shown.{shown}
 use Rattle.ucon_deadlines.specs.Deadlines.{IsPassed, count_below, deadline_of}
