@@ -1,8 +1,8 @@
-//! What an explanation of a try says, which truth its facts tell, and whether it is right. The checker doesn't trust whoever explained it,
-//! and stands on no evaluator.
+//! What an explanation of a try says, which truth its facts tell, and whether it is right. The checker doesn't trust whoever explained it, and
+//! stands on no evaluator.
 //!
-//! Each fact is compared with the state. Each truth is worked out from the facts alone, by an arithmetic of its own that sees no state
-//! (`told.rt`, `worth.rt`), so that a wrong evaluator can't vouch for itself.
+//! Each fact is compared with the state. Each truth is worked out from the facts alone (`told.rt`, `worth.rt`), by an arithmetic of its own, so
+//! that a wrong evaluator can't vouch for itself.
 //!
 //! **Always.** No line before the one that is looked at is wrong.
 //!

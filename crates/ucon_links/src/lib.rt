@@ -1,16 +1,16 @@
-//! Lists linked by index, and the index over them: for each place the sessions that read it. A hidden node goes back to where it stood,
-//! without a search and without memory.
+//! Lists linked by index in one table of nodes, where a hidden node goes back to where it stood; and over two such tables the index: for each
+//! place the sessions that read it.
 //!
-//! `ucon_readers` walks with the index from a place that was written to the sessions that read it. A draft hides nodes, and undoing puts them
-//! back in reverse order. Two tables of lists hide in step: that of the places, and that of the sessions.
+//! `ucon_readers` walks with the index from a place that was written to the sessions that read it. A draft hides sessions, and undoing puts them
+//! back in reverse order, without a search and without memory.
 //!
-//! **Always.** A table holds what is seen of it (`specs/Layout.antt`), and a hidden node keeps its neighbours. The two tables of the index
-//! are paired, and a hidden session stands nowhere and was hidden once (`specs/Tables.antt`).
+//! **Always.** The table holds what is seen of it (`specs/Layout.antt`), and a hidden node keeps its neighbours. The two tables of the index are
+//! paired, and a hidden session stands nowhere and was hidden once (`specs/Tables.antt`).
 //!
-//! **Free.** How nodes lie in the table, and all below the clauses, which speak of lists, places and sessions.
+//! **Free.** How nodes lie in the tables. The clauses speak of lists, places and sessions.
 //!
-//! **Before a change.** The clauses speak of lists, hidden nodes and spare ones (`specs/Lists.antt`). Only the newest hidden node can go
-//! back, since its neighbours then stand next to each other. Begin at `links.rt`, then `specs/Dependents.antt` and `index.rt`.
+//! **Before a change.** Only the newest hidden node can go back, since its neighbours then stand next to each other. So sessions are put back in
+//! the reverse of the order in which they were hidden. Begin at `specs/Lists.antt` and `specs/Dependents.antt`, then `links.rt` and `index.rt`.
 #![tactic(auto)]
 
 mod index;

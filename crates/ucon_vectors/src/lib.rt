@@ -1,7 +1,7 @@
 //! Documents with what the program makes of them, as bytes for tests: alone, over journals, at each limit, and of clients that meet.
 //!
-//! The test crates run through these tables. Rows of policies and of time are worked out by hand from the rules. A row over a journal has its
-//! bytes before, the calls that fail, and the bytes that are left.
+//! The test crates run through these tables. Rows of policies and of time are worked out by hand from the rules. A row over a journal has the
+//! file's bytes before, the calls that fail, and the bytes that are left.
 //!
 //! **Before a change.** Add a row to the table of its topic, with a name for what it shows. The test over the table needs no change.
 #![tactic(auto)]
