@@ -1,6 +1,6 @@
 //! Decisions: the truth of a predicate, the verdict, and the first ongoing predicate that is false.
 
-ghost use Rattle.std.specs.Prelude.{◌≡◌, ◌+◌, ◌-◌, ◌^◌, ◌&&◌, not, min, map, option_map, option_copied, true, Some, IsSome};
+ghost use Rattle.std.specs.Prelude.{◌≡◌, ◌≤◌, ◌+◌, ◌-◌, ◌^◌, ◌&&◌, not, min, map, option_map, option_copied, true, Some, IsSome};
 ghost use Rattle.ucon_model.specs.Truth.{truth};
 ghost use Rattle.ucon_model.specs.Decision.{first_false, failing, no_right, verdict};
 ghost use Rattle.ucon_model.specs.Views.{predicate_of, test_of};
