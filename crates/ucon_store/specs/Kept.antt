@@ -61,7 +61,8 @@ RevokesFew P T = (H : History) (caller : Caller) (c : Command) → length (revoc
 -- journal is at rest. What its file is found as isn't said here, since a store that begins behind a checkpoint may be of no history: where there is
 -- one, the calls pass it on (`IsFounded`).
 pub record IsKept {E D : Type 0} (follows : E → PlainPolicy → Trace → Type 0) (seen : D → DiskSeen)
-    (engine : E) (journal : Journal D) (text : Bytes) (point : Option Beginning) (before : ℕ) (now : Bytes) (H : History) (mark : Option History) : Type 0 where
+    (engine : E) (journal : Journal D) (text : Bytes) (point : Option Beginning) (before : ℕ) (now : Bytes) (H : History)
+    (mark : Option History) : Type 0 where
   pub P : PlainPolicy
   pub accepts : accepted text ≡ Some P
   pub begun : Trace

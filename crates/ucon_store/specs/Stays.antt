@@ -133,7 +133,8 @@ module _ {D : Type 0} (seen : D → DiskSeen) where
     left_now_again P G f = ⊎_elim
         (λ (unmarked : y.mark ≡ None). q.left_now P G (p.founded P G f unmarked))
         (λ (marked : (es : History) × (y.mark ≡ Some es)).
-        stopped (λ (s : Kept D). IsSome (seen s.disk).contents → (c : Bytes) → (seen s.disk).images c → IsFoundMarked s.policy (G ++ s.entries) s.mark c)
+        stopped
+        (λ (s : Kept D). IsSome (seen s.disk).contents → (c : Bytes) → (seen s.disk).images c → IsFoundMarked s.policy (G ++ s.entries) s.mark c)
         marked.0 marked.1 (p.left_now P G f))
         (none_or_some y.mark)
 

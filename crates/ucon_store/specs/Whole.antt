@@ -29,8 +29,8 @@ pub record IsFront {D : Type 0} (P : PlainPolicy) (s : Kept D) (G : History) : T
 abbrev pub whole : {D : Type 0} → History → Kept D → Kept D
 whole G s = record { policy = s.policy; point = None; before = 0; opening = s.opening; entries = G ++ s.entries; mark = s.mark; disk = s.disk }
 
--- The store's policy is this one, this history leads to where the store begins, and no call has met a disk fault. Where the disk tells, its file holds
--- the policy and this history with the store's entries behind it, and a crash leaves nothing else. Where the file was found when the store was
+-- The store's policy is this one, this history leads to where the store begins, and no call has met a disk fault. Where the disk tells, its file
+-- holds the policy and this history with the store's entries behind it, and a crash leaves nothing else. Where the file was found when the store was
 -- opened there is one such history; where opening alone accepted it there is none.
 pub record IsFounded {D : Type 0} (seen : D → DiskSeen) (P : PlainPolicy) (s : Kept D) (G : History) : Type 0 where
   pub accepts : accepted s.policy ≡ Some P
