@@ -11,7 +11,7 @@ use ucon_flow::{MemSink, MemSource};
 use ucon_vectors::{CAPPED, document};
 
 /// What a form writes over a document and a file, and the file that it leaves. It has to end well.
-fn over<R: Threads + Wait + Sync>(
+pub fn over<R: Threads + Wait + Sync>(
     rt: &R,
     alloc: Global,
     form: &str,
