@@ -12,7 +12,7 @@ use ucon_vectors::{
 };
 
 /// What a form writes over a document and a file, and the file that it leaves. It has to end well.
-fn over<R: Threads + Wait + Sync>(
+pub fn over<R: Threads + Wait + Sync>(
     rt: &R,
     alloc: Global,
     form: &str,

@@ -8,7 +8,7 @@ use std::test::Fail;
 use std::thread::Threads;
 use ucon_flow::{MemSink, MemSource};
 use ucon_vectors::{
-    EXPLAINED_ROWS, HOSTILE_DOCUMENTS, HOSTILE_JOURNALS, Limit, Played, Row, WITH_A,
+    HOSTILE_DOCUMENTS, HOSTILE_JOURNALS, Limit, Played, Row, TELLING_ROWS, WITH_A,
     WITHOUT_ENTRIES, WORKED_ROWS, document,
 };
 
@@ -141,36 +141,58 @@ fn is_unwritten<R: Threads + Wait + Sync>(
     Ok(end.status == 5 && is_front && same(end.disk.contents(), left))
 }
 
-/// Whether a try is told up to this call of the sink, which fails, and the file stays. The sink takes a byte a call.
+/// How a row's form ends over its file, where these calls of the disk and of the sink fail. The sink takes a byte a call.
+fn telling<R: Threads + Wait + Sync>(
+    rt: &R,
+    alloc: Global,
+    row: &Played,
+    disk_faults: &[u64],
+    sink_faults: &[u64],
+) -> Result<End, Fail> {
+    let source = MemSource::new(Vec::from_slice(alloc, row.document)?, 4096, Vec::new(alloc));
+    let sink = MemSink::new(alloc, 1, Vec::from_slice(alloc, sink_faults)?);
+    let disk = disk_of(alloc, row.file, disk_faults)?;
+    ran(rt, alloc, row.words, source, sink, disk)
+}
+
+/// Whether the front of a row's output was told up to this call of the sink, which fails, and the file stays.
 fn is_told_in_part<R: Threads + Wait + Sync>(
     rt: &R,
     alloc: Global,
     row: &Played,
     call: usize,
 ) -> Result<bool, Fail> {
-    let source = MemSource::new(Vec::from_slice(alloc, row.document)?, 4096, Vec::new(alloc));
-    let sink = MemSink::new(alloc, 1, Vec::from_slice(alloc, &[call as u64])?);
-    let end = ran(
-        rt,
-        alloc,
-        row.words,
-        source,
-        sink,
-        disk_of(alloc, row.file, &[])?,
-    )?;
+    let end = telling(rt, alloc, row, &[], &[call as u64])?;
     let is_front = end.output.len() == call && row.output.starts_with(end.output.as_slice());
     Ok(end.status == 5 && is_front && same(end.disk.contents(), row.left))
 }
 
-/// If a write of an explanation fails the front of it went out.
+/// Whether nothing is told where this call of the disk fails, and the file stays.
+fn is_untold<R: Threads + Wait + Sync>(
+    rt: &R,
+    alloc: Global,
+    row: &Played,
+    call: u64,
+) -> Result<bool, Fail> {
+    let end = telling(rt, alloc, row, &[call], &[])?;
+    Ok(end.status == 6 && end.output.is_empty() && same(end.disk.contents(), row.left))
+}
+
+/// What a form tells of a journal may be cut short: where a write fails the front of it went out. Where any call of the disk fails nothing did.
 #[test]
-fn an_explanation_may_be_cut_short(rt: HostRuntime) -> Result<(), Fail> {
-    let row = EXPLAINED_ROWS.first().ok_or("a row")?;
-    for call in 0..row.output.len() {
-        assert!(rt;
-            is_told_in_part(&rt, rt.alloc(), row, call)?,
-            "write {call}"
-        );
+fn what_is_told_may_be_cut_short(rt: HostRuntime) -> Result<(), Fail> {
+    for row in TELLING_ROWS {
+        for call in 0..row.output.len() {
+            assert!(rt;
+                is_told_in_part(&rt, rt.alloc(), row, call)?,
+                "write {call}"
+            );
+        }
+        let calls = telling(&rt, rt.alloc(), row, &[], &[])?.disk.moment();
+        assert!(rt; calls > 0);
+        for call in 0..calls {
+            assert!(rt; is_untold(&rt, rt.alloc(), row, call)?, "call {call}");
+        }
     }
     Ok(())
 }

@@ -7,8 +7,8 @@ use std::test::Fail;
 use std::thread::Threads;
 use ucon_flow::{MemSink, MemSource};
 use ucon_vectors::{
-    AMENDED_ROWS, EXPLAINED_ROWS, PLAYED_ROWS, POINTED_ROWS, Played, Row, UNEXPLAINED_ROWS,
-    document,
+    AMENDED_REPORTS, AMENDED_ROWS, AUDITED_ROWS, EXPLAINED_ROWS, PLAYED_ROWS, POINTED_ROWS, Played,
+    REPORTED_ROWS, Row, UNEXPLAINED_ROWS, UNTOLD_ROWS, document,
 };
 
 /// How a row's form ends over its document and its file.
@@ -67,10 +67,17 @@ fn journals_hold_their_checkpoints(rt: HostRuntime) -> Result<(), Fail> {
     Ok(())
 }
 
-/// Tries that are explained or refused over a journal, which stays as it was, and tries over files that aren't opened.
+/// What is told of a journal, which stays as it was: tries that are explained, full checks, and states; and why nothing is told of other files.
 #[test]
-fn explanations_are_told(rt: HostRuntime) -> Result<(), Fail> {
-    for rows in [EXPLAINED_ROWS, UNEXPLAINED_ROWS] {
+fn journals_are_told_of(rt: HostRuntime) -> Result<(), Fail> {
+    for rows in [
+        EXPLAINED_ROWS,
+        UNEXPLAINED_ROWS,
+        AUDITED_ROWS,
+        REPORTED_ROWS,
+        AMENDED_REPORTS,
+        UNTOLD_ROWS,
+    ] {
         let wrong = first_wrong(&rt, rt.alloc(), rows)?;
         assert!(rt; wrong.is_none());
     }

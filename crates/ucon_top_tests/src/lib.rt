@@ -12,3 +12,5 @@ mod journals;
 mod rows;
 #[cfg(test)]
 mod runs;
+#[cfg(test)]
+mod uses;

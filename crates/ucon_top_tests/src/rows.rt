@@ -205,90 +205,177 @@ fn other_documents(rt: HostRuntime) -> Result<(), Fail> {
     Ok(())
 }
 
-/// Words, the calls of the source and of the sink that fail, and the status, the output and the line of the outcome then.
-type Case = (
-    &'static [&'static str],
-    &'static [u64],
-    &'static [u64],
-    u8,
-    &'static [u8],
-    &'static [u8],
-);
+/// Words, over one subject.
+#[derive(Clone, Copy)]
+struct Case {
+    words: &'static [&'static str],
+    /// The calls of the source and of the sink that fail.
+    source_faults: &'static [u64],
+    sink_faults: &'static [u64],
+    status: u8,
+    output: &'static [u8],
+    /// The line of the outcome.
+    told: &'static [u8],
+}
+
+/// Words that are no form: the source would fail if it were read.
+const NO_FORM: Case = Case {
+    words: &[],
+    source_faults: &[0],
+    sink_faults: &[],
+    status: 1,
+    output: b"",
+    told: b"ucon: usage\n",
+};
 
 /// A byte more than a name may have.
 const LONG: &str = "abcdefghijklmnopqrstuvwxyz0123456";
 
+/// 2 to the 64, which is too large for a number of records.
+const TOO_MANY_RECORDS: &str = "18446744073709551616";
+
+/// A head's text; with a digit less, with one more, and with a capital.
+const HEAD: &str = "663036308aa65cf86873b0e5df3e462335cc43ee6157575411030542e2ecfb52";
+
+const SHORT_HEAD: &str = "663036308aa65cf86873b0e5df3e462335cc43ee6157575411030542e2ecfb5";
+
+const LONG_HEAD: &str = "663036308aa65cf86873b0e5df3e462335cc43ee6157575411030542e2ecfb520";
+
+const CAPITAL_HEAD: &str = "663036308Aa65cf86873b0e5df3e462335cc43ee6157575411030542e2ecfb52";
+
 /// Faults outside the document, and words that are no form.
 const CASES: &[Case] = &[
-    (&["trial"], &[], &[], 0, b"0 1 ok\n", b""),
-    (&["trial"], &[1], &[], 4, b"", b"ucon: source fault\n"),
-    (&["trial"], &[], &[2], 5, b"0 ", b"ucon: sink fault\n"),
-    (&[], &[], &[], 1, b"", b"ucon: usage\n"),
-    (&["trial", "j"], &[], &[], 1, b"", b"ucon: usage\n"),
-    (
-        &["explain", "", "a", "r", "x"],
-        &[0],
-        &[],
-        1,
-        b"",
-        b"ucon: usage\n",
-    ),
-    (
-        &["explain", "j", "A", "r", "x"],
-        &[0],
-        &[],
-        1,
-        b"",
-        b"ucon: usage\n",
-    ),
-    (
-        &["explain", "j", "a", "", "x"],
-        &[0],
-        &[],
-        1,
-        b"",
-        b"ucon: usage\n",
-    ),
-    (
-        &["explain", "j", "a", "r", LONG],
-        &[0],
-        &[],
-        1,
-        b"",
-        b"ucon: usage\n",
-    ),
-    (
-        &["explain", "j", "a", "r"],
-        &[0],
-        &[],
-        1,
-        b"",
-        b"ucon: usage\n",
-    ),
-    (
-        &["explain", "j", "a", "r", "x", "y"],
-        &[0],
-        &[],
-        1,
-        b"",
-        b"ucon: usage\n",
-    ),
+    Case {
+        words: &["trial"],
+        source_faults: &[],
+        status: 0,
+        output: b"0 1 ok\n",
+        told: b"",
+        ..NO_FORM
+    },
+    Case {
+        words: &["trial"],
+        source_faults: &[1],
+        status: 4,
+        told: b"ucon: source fault\n",
+        ..NO_FORM
+    },
+    Case {
+        words: &["trial"],
+        source_faults: &[],
+        sink_faults: &[2],
+        status: 5,
+        output: b"0 ",
+        told: b"ucon: sink fault\n",
+    },
+    NO_FORM,
+    Case {
+        words: &["trial", "j"],
+        ..NO_FORM
+    },
+    Case {
+        words: &["audit"],
+        ..NO_FORM
+    },
+    Case {
+        words: &["report"],
+        ..NO_FORM
+    },
+    Case {
+        words: &["audit", ""],
+        ..NO_FORM
+    },
+    Case {
+        words: &["report", ""],
+        ..NO_FORM
+    },
+    Case {
+        words: &["report", "j", "1"],
+        ..NO_FORM
+    },
+    Case {
+        words: &["audit", "j", "0"],
+        ..NO_FORM
+    },
+    Case {
+        words: &["audit", "", "0", HEAD],
+        ..NO_FORM
+    },
+    Case {
+        words: &["audit", "j", TOO_MANY_RECORDS, HEAD],
+        ..NO_FORM
+    },
+    Case {
+        words: &["audit", "j", "00", HEAD],
+        ..NO_FORM
+    },
+    Case {
+        words: &["audit", "j", "-1", HEAD],
+        ..NO_FORM
+    },
+    Case {
+        words: &["audit", "j", "", HEAD],
+        ..NO_FORM
+    },
+    Case {
+        words: &["audit", "j", "0", SHORT_HEAD],
+        ..NO_FORM
+    },
+    Case {
+        words: &["audit", "j", "0", LONG_HEAD],
+        ..NO_FORM
+    },
+    Case {
+        words: &["audit", "j", "0", CAPITAL_HEAD],
+        ..NO_FORM
+    },
+    Case {
+        words: &["report", "j", "0", HEAD],
+        ..NO_FORM
+    },
+    Case {
+        words: &["audit", "j", "0", HEAD, "1"],
+        ..NO_FORM
+    },
+    Case {
+        words: &["explain", "", "a", "r", "x"],
+        ..NO_FORM
+    },
+    Case {
+        words: &["explain", "j", "A", "r", "x"],
+        ..NO_FORM
+    },
+    Case {
+        words: &["explain", "j", "a", "", "x"],
+        ..NO_FORM
+    },
+    Case {
+        words: &["explain", "j", "a", "r", LONG],
+        ..NO_FORM
+    },
+    Case {
+        words: &["explain", "j", "a", "r"],
+        ..NO_FORM
+    },
+    Case {
+        words: &["explain", "j", "a", "r", "x", "y"],
+        ..NO_FORM
+    },
 ];
 
 /// Whether one subject is answered so.
 fn ends_so<R: Threads + Wait + Sync>(rt: &R, alloc: Global, case: &Case) -> Result<bool, Fail> {
-    let (words, source_faults, sink_faults, status, output, told) = *case;
     let bytes = Vec::from_slice(alloc, b"%%\nclient 0\nsubject a\n")?;
-    let source = MemSource::new(bytes, 4, Vec::from_slice(alloc, source_faults)?);
-    let sink = MemSink::new(alloc, 1, Vec::from_slice(alloc, sink_faults)?);
-    let end = ran(rt, alloc, words, source, sink, no_disk(alloc))?;
-    Ok(end.status == status && same(&end.output, output) && same(&end.told, told))
+    let source = MemSource::new(bytes, 4, Vec::from_slice(alloc, case.source_faults)?);
+    let sink = MemSink::new(alloc, 1, Vec::from_slice(alloc, case.sink_faults)?);
+    let end = ran(rt, alloc, case.words, source, sink, no_disk(alloc))?;
+    Ok(end.status == case.status && same(&end.output, case.output) && same(&end.told, case.told))
 }
 
 #[test]
 fn other_ends(rt: HostRuntime) -> Result<(), Fail> {
     for case in CASES {
-        assert!(rt; ends_so(&rt, rt.alloc(), case)?, "{:?}", case.5);
+        assert!(rt; ends_so(&rt, rt.alloc(), case)?, "{:?}", case.words);
     }
     Ok(())
 }

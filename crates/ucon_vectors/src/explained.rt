@@ -29,7 +29,7 @@ verdict deny late
 ";
 
 /// A try of `a` over the journal with both, on a disk and to a sink that don't fail.
-const EXPLAIN: Played = Played {
+pub(crate) const EXPLAIN: Played = Played {
     words: &["explain", "j", "a", "buy", "x"],
     file: WITH_BOTH,
     document: SALE,

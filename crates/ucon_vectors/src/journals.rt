@@ -25,7 +25,7 @@ pub const WITH_A: &[u8] =
 pub const WITH_A_AND_POINT: &[u8] =
     b"UCONJR02\x01\x00\x00\x00\x0bright r {}\n\x01\x00\x00\x00\x0e0 subject a\nok\x01\x00\x00\x00\x2fpoint 1\npolicy 11\nright r {}\n\ntick 0\nsubject a\n\x00";
 /// With two checkpoints.
-const WITH_A_AND_TWO_POINTS: &[u8] =
+pub(crate) const WITH_A_AND_TWO_POINTS: &[u8] =
     b"UCONJR02\x01\x00\x00\x00\x0bright r {}\n\x01\x00\x00\x00\x0e0 subject a\nok\x01\x00\x00\x00\x2fpoint 1\npolicy 11\nright r {}\n\ntick 0\nsubject a\n\x01\x00\x00\x00\x2fpoint 1\npolicy 11\nright r {}\n\ntick 0\nsubject a\n\x00";
 /// With a step behind the checkpoint.
 const WITH_A_AND_POINT_AND_B: &[u8] =
@@ -34,16 +34,16 @@ const WITH_A_AND_POINT_AND_B: &[u8] =
 const WITH_A_THEN_POINT: &[u8] =
     b"UCONJR02\x01\x00\x00\x00\x0bright r {}\n\x01\x00\x00\x00\x0e0 subject a\nok\x00\x00\x00\x00\x2fpoint 1\npolicy 11\nright r {}\n\ntick 0\nsubject a\n\x00";
 /// The checkpoint has a subject of no name.
-const WRONG_SUBJECT: &[u8] =
+pub(crate) const WRONG_SUBJECT: &[u8] =
     b"UCONJR02\x01\x00\x00\x00\x0bright r {}\n\x01\x00\x00\x00\x0e0 subject a\nok\x01\x00\x00\x00\x2fpoint 1\npolicy 11\nright r {}\n\ntick 0\nsubject A\n\x00";
 /// The checkpoint tells another number of entries.
-const WRONG_NUMBER: &[u8] =
+pub(crate) const WRONG_NUMBER: &[u8] =
     b"UCONJR02\x01\x00\x00\x00\x0bright r {}\n\x01\x00\x00\x00\x0e0 subject a\nok\x01\x00\x00\x00\x2fpoint 2\npolicy 11\nright r {}\n\ntick 0\nsubject a\n\x00";
 /// The record before the checkpoint has the reply `oj`.
-const CHANGED_BEFORE_POINT: &[u8] =
+pub(crate) const CHANGED_BEFORE_POINT: &[u8] =
     b"UCONJR02\x01\x00\x00\x00\x0bright r {}\n\x01\x00\x00\x00\x0e0 subject a\noj\x01\x00\x00\x00/point 1\npolicy 11\nright r {}\n\ntick 0\nsubject a\n\x00";
 /// There is a wrong checkpoint before the last one.
-const WRONG_POINT_BEFORE_POINT: &[u8] =
+pub(crate) const WRONG_POINT_BEFORE_POINT: &[u8] =
     b"UCONJR02\x01\x00\x00\x00\x0bright r {}\n\x01\x00\x00\x00\x0e0 subject a\nok\x01\x00\x00\x00/point 1\npolicy 11\nright r {}\n\ntick 0\nsubject A\n\x01\x00\x00\x00/point 1\npolicy 11\nright r {}\n\ntick 0\nsubject a\n\x00";
 /// The record behind the checkpoint has the reply `oj`.
 const CHANGED_BEHIND_POINT: &[u8] =
@@ -76,7 +76,7 @@ const WITH_A_AND_B: &[u8] =
 const WITH_A_THEN_B: &[u8] =
     b"UCONJR02\x01\x00\x00\x00\x0bright r {}\n\x01\x00\x00\x00\x0e0 subject a\nok\x00\x00\x00\x00\x0e0 subject b\nok\x00";
 /// The same as the first by version 1.
-const OLD_WITH_A: &[u8] =
+pub(crate) const OLD_WITH_A: &[u8] =
     b"UCONJR01\x01\x00\x00\x00\x0bright r {}\n\x01\x00\x00\x00\x0e0 subject a\nok\x00";
 
 const OLD_WITH_A_AND_B: &[u8] =
@@ -87,7 +87,7 @@ pub(crate) const TORN: &[u8] = b"UCONJR02\x01\x00\x00\x00\x0bright r {}\n\x00\x0
 pub(crate) const WRONG_REPLY: &[u8] =
     b"UCONJR02\x01\x00\x00\x00\x0bright r {}\n\x01\x00\x00\x00\x0e0 subject a\noj\x00";
 /// The caller is client 1, who is no administrator.
-const WRONG_CALLER: &[u8] =
+pub(crate) const WRONG_CALLER: &[u8] =
     b"UCONJR02\x01\x00\x00\x00\x0bright r {}\n\x01\x00\x00\x00\x0e1 subject a\nok\x00";
 
 pub(crate) const MADE: &[u8] = b"UCONJR02\x01\x00\x00\x00\x0bright r {}\n\x00";
@@ -101,7 +101,7 @@ pub(crate) const FOREIGN: &[u8] = b"0123456789";
 /// A document that is a policy alone.
 pub const NO_LINES: &[u8] = b"right r {}\n";
 
-const SUBJECT_A: &[u8] = b"right r {}\n%%\nclient 0\nsubject a\n";
+pub(crate) const SUBJECT_A: &[u8] = b"right r {}\n%%\nclient 0\nsubject a\n";
 
 const SUBJECT_B: &[u8] = b"right r {}\n%%\nclient 0\nsubject b\n";
 

@@ -23,7 +23,7 @@ mod typing;
 mod worked;
 
 pub use amended::AMENDED_ROWS;
-pub use audits::{AUDIT_ROWS, Audit, REPORT_ROWS, Report, Told};
+pub use audits::{AMENDED_REPORTS, AUDITED_ROWS, REPORTED_ROWS, TELLING_ROWS, UNTOLD_ROWS};
 pub use checkpoints::{FILLED, Part, TICKS_AROUND_A_CHECKPOINT, WAITED, WAITED_OUTPUT, WAITING};
 pub use clients::{Meeting, two_clients};
 pub use explained::{EXPLAINED_ROWS, UNEXPLAINED_ROWS};
