@@ -8,8 +8,8 @@ use std::test::Fail;
 use std::thread::Threads;
 use ucon_flow::{MemSink, MemSource};
 use ucon_vectors::{
-    HOSTILE_DOCUMENTS, HOSTILE_JOURNALS, Limit, Played, Row, TELLING_ROWS, WITH_A,
-    WITHOUT_ENTRIES, WORKED_ROWS, document,
+    HOSTILE_DOCUMENTS, HOSTILE_JOURNALS, Limit, Played, Row, TELLING_ROWS, WITH_A, WITHOUT_ENTRIES,
+    WORKED_ROWS, document,
 };
 
 fn document_of(alloc: Global, row: &Limit) -> Result<Vec<u8>, Fail> {
