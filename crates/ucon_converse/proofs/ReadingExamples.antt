@@ -17,7 +17,7 @@ use Rattle.ucon_model.specs.History.{History}
 use Rattle.ucon_model.specs.Plain.{Bytes, PlainPolicy, lit, read, plus, compare, authorisation}
 use Rattle.ucon_converse.specs.declared.reading.Reading.{Reading}
 use Rattle.ucon_converse.specs.declared.reading.Reading.TheVariants.{Session, Using, UsingOf, Explain, Policy, Steps}
-use Rattle.ucon_converse.specs.Readings.{joined, line_told}
+use Rattle.ucon_converse.specs.Readings.{line_told}
 
 -- `attr o users : int 0..9 = 0; right sit { pre a free: o.users < 1; before o.users = o.users + 1; }`
 abbrev seat : PlainPolicy

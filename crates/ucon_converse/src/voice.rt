@@ -1,6 +1,6 @@
 //! A voice over a real sink: the edge of what is proved.
 
-ghost use Rattle.std.specs.Prelude.{⊤, IfOk};
+ghost use Rattle.std.specs.Prelude.{◌≡◌, ⊤, IfOk};
 ghost use Rattle.ucon_flow.specs.Causes.{HasCause};
 
 use ucon_flow::{Failed, Sink};
@@ -14,12 +14,16 @@ pub struct SinkVoice<W: Sink> {
 
 impl<W: Sink> SinkVoice<W> {
     /// Hands all bytes on to this sink.
-    pub fn new(sink: W) -> SinkVoice<W> {
+    pub fn new(sink: W) -> SinkVoice<W>
+        ensures { result.sink ≡ sink }
+    {
         SinkVoice { sink }
     }
 
     /// The sink.
-    pub fn into_sink(self) -> W {
+    pub fn into_sink(self) -> W
+        ensures { result ≡ self.sink }
+    {
         let SinkVoice { sink } = self;
         sink
     }
