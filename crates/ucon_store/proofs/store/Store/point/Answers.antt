@@ -10,7 +10,7 @@ use Rattle.ucon_store.specs.Pointing.{IsUnpointed}
 use Rattle.ucon_store.specs.Starts.{IsStart, checkpoint_behind}
 use Rattle.ucon_store.specs.Stays.{Stays, stays_same}
 use Rattle.ucon_store.proofs.Adding.{adds_nothing}
-use Rattle.ucon_store.proofs.Pointed.{IsPointReady, LeavesPoint, adds_point, founded_point, leaves_point, on_disk, places_point, point_ready, point_refused, points_nothing, points_ready, stays_point, stays_stopped}
+use Rattle.ucon_store.proofs.Pointed.{IsPointReady, LeavesPoint, adds_point, fits_ready, founded_point, leaves_point, on_disk, places_point, point_ready, point_refused, points_nothing, points_ready, stays_point, stays_stopped, written_point}
 use Rattle.ucon_store.proofs.Recorded.{IsAppended, OneByOne, with_mark}
 use Rattle.ucon_store.proofs.Stepped.{marked_parts, only_kept, parts}
 use Rattle.ucon_store.proofs.Stepping.{unmarked}
@@ -116,6 +116,14 @@ pub returns-clause-added : goal.returns-clause-added
 returns-clause-added g c =
     let before = (goal.at.returns-clause-added g c).After-append in
     places_point (ready g before) (one g before) (appended g (goal.at.returns-clause-added g c).In_default)
+
+pub returns-clause-written : goal.returns-clause-written
+returns-clause-written g c =
+    let before = (goal.at.returns-clause-written g c).After-append in
+    written_point (ready g before) (appended g (goal.at.returns-clause-written g c).In_default)
+
+pub returns-clause-fits : goal.returns-clause-fits
+returns-clause-fits g c = fits_ready (ready g (goal.at.returns-clause-fits g c).After-append)
 
 pub returns-clause-inside : goal.returns-clause-inside
 returns-clause-inside g c = leaves g (goal.at.returns-clause-inside g c).After-append
