@@ -38,6 +38,8 @@ FIRST_WAIT, LONGEST_WAIT = 0.05, 5.0
 COUNTED = 60.0
 # Replies behind which the store is stopped, and the journal has to be opened again.
 STOPPED = ("disk fault", "stopped")
+# What a reading or a request is told that can't be answered now.
+UNANSWERED = (*STOPPED, "no memory")
 
 
 class Unavailable(Exception):
@@ -130,7 +132,7 @@ class Monitor:
             waiting.is_abandoned = True
             raise
         self.figures.seconds.note(time.perf_counter() - begun)
-        if reply.is_bad_line and reply.text not in STOPPED:
+        if reply.is_bad_line and reply.text not in UNANSWERED:
             raise Unspeakable(f"the monitor takes this for no request: {reply.text}")
         if reply.place is None:
             raise Unavailable(reply.text)

@@ -129,9 +129,9 @@ class NoReply(ValueError):
 
 
 def reply_of(raw: bytes) -> Reply:
-    """The reply that a line is, given with its newline."""
+    """The reply that a line is, given with its newline. All of it is ASCII but what a policy's comments hold, which may be any bytes."""
     try:
-        client, place, text = raw.decode("ascii").removesuffix("\n").split(" ", 2)
+        client, place, text = raw.decode("utf-8", "replace").removesuffix("\n").split(" ", 2)
         return Reply(None if client == "-" else int(client), None if place == "-" else int(place), text)
     except ValueError:
         raise NoReply(f"not a line of the monitor: {raw[:80]!r}") from None
