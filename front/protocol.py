@@ -129,10 +129,12 @@ class NoReply(ValueError):
 
 
 def reply_of(raw: bytes) -> Reply:
-    """The reply that a line is, given with its newline. All of it is ASCII but what a policy's comments hold, which may be any bytes."""
+    """The reply that a line is, given with its newline. It is ASCII, but that a policy has comments, which may hold any bytes."""
     try:
-        client, place, text = raw.decode("utf-8", "replace").removesuffix("\n").split(" ", 2)
-        return Reply(None if client == "-" else int(client), None if place == "-" else int(place), text)
+        client, place, text = raw.removesuffix(b"\n").split(b" ", 2)
+        is_reading = client == b"-" and place != b"-"
+        said = text.decode("utf-8", "replace") if is_reading else text.decode("ascii")
+        return Reply(None if client == b"-" else int(client), None if place == b"-" else int(place), said)
     except ValueError:
         raise NoReply(f"not a line of the monitor: {raw[:80]!r}") from None
 
