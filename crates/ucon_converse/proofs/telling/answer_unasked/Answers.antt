@@ -34,7 +34,7 @@ returns-in-None g c =
     let s = c.args.store.now in
     let line = c.args.line.now in
     let fault = c.args.fault in
-    let stopped = c.is_some.result in
+    let stopped = c.is_stopped.result in
     let is : is_some s.mark ≡ stopped = search rules in
     let unread : IsNoReading line = λ reading asks. let no : None ≡ Some reading = sym c.in-None.is ∙ c.read_reading.ensures.asked reading asks in cc no in
     let Given : Bytes → Type 0 = λ reply. (P : PlainPolicy) (G : History) → accepted s.policy ≡ Some P → IsFront P s G

@@ -11,8 +11,8 @@ use Rattle.ucon_converse.proofs.OneLine.{all_lack, refusal_line_is}
 use Rattle.ucon_converse.proofs.Tellings.{no_memory_told, reading_line_is, replied, stopped_told, told_so, whole_count}
 use Rattle.ucon_converse.proofs.telling.tell_reading.Goals as goal
 
-pub returns-then-is_some : goal.returns-then-is_some
-returns-then-is_some g c =
+pub returns-then-is_stopped : goal.returns-then-is_stopped
+returns-then-is_stopped g c =
     let s = c.args.store.now in
     let failed : is_some s.mark ≡ true = search rules in
     let So : Bytes → Type 0 = λ reply. (P : PlainPolicy) (G : History) → accepted s.policy ≡ Some P → IsFront P s G
