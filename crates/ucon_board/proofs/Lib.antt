@@ -3,3 +3,5 @@ pub mod Boards
 pub mod Adding
 pub mod RowsKept
 pub mod Keeping
+pub mod Telling
+pub mod Showing

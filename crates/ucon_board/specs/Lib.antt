@@ -1,3 +1,4 @@
 pub mod Board
 pub mod Rule
 pub mod Told
+pub mod States

@@ -13,6 +13,7 @@
 #![tactic(auto)]
 
 mod history;
+mod laws;
 mod mark_fault;
 mod reader;
 mod rule;
@@ -20,6 +21,7 @@ mod seen;
 mod shown;
 mod writer;
 
+pub use laws::{boards_show_entries, replies_tell_states};
 pub use mark_fault::MarkFault;
 pub use reader::BoardReader;
 pub use seen::Seen;
