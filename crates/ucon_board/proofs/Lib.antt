@@ -5,3 +5,4 @@ pub mod RowsKept
 pub mod Keeping
 pub mod Telling
 pub mod Showing
+pub mod Named

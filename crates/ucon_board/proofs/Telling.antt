@@ -1,42 +1,36 @@
 -- What own actions and a cascade make of a session's state is what the reply says last of it.
-use Rattle.std.proofs.Common.{◌≡◌, ◌∙◌, ◌⊎◌, inl, inr, ℕ, zero, suc, ◌+◌, ◌==◌, Bool, true, false, cond, List, [], ◌∷◌, ◌++◌, map, length, take, ◌≤◌, refl, sym, ap, subst, arith, if◌then◌else◌}
+use Rattle.std.proofs.Common.{◌≡◌, ◌∙◌, ◌⊎◌, inl, inr, ℕ, zero, suc, ◌+◌, ◌==◌, Bool, true, false, cond, List, [], ◌∷◌, ◌++◌, map, refl, sym, ap, subst, if◌then◌else◌}
 use Rattle.std.specs.Prelude.{◌≢◌, ◌&&◌, not, nat_eq, nat_le, int_lt, pos, Option, Some, None, is_none, is_some, option_map}
 use Rattle.std.specs.Option.{option_map_or, option_or}
 use Rattle.std.proofs.lemmas.Bool.{eq-eqb, ne_eqb}
-use Rattle.std.proofs.lemmas.Bool.Decides.{eqb_tells, nat_tests}
+use Rattle.std.proofs.lemmas.Bool.Decides.{eqb_tells}
 use Rattle.ucon_base.specs.declared.value.Side.{Side}
 use Rattle.ucon_base.specs.declared.value.Side.TheVariants as sides
 use Rattle.ucon_base.specs.Admits.{admits}
 use Rattle.ucon_model.specs.declared.command.Caller.{Caller}
 use Rattle.ucon_model.specs.declared.command.Command.{Command}
-use Rattle.ucon_model.specs.declared.command.Entry.{Entry}
 use Rattle.ucon_model.specs.declared.command.Command.TheVariants.{Subject, Object, Set, Env, Tick, Act, Try, Again, Beat, End, Look, Value as Value', Amend}
 use Rattle.ucon_model.specs.declared.policy.When.{When}
 use Rattle.ucon_model.specs.declared.policy.When.TheVariants.{Before, During, AfterEnd, AfterRevoke}
-use Rattle.ucon_model.specs.declared.reply.Head.{Head}
 use Rattle.ucon_model.specs.declared.reply.Head.TheVariants as heads
 use Rattle.ucon_model.specs.declared.reply.Refusal.{Refusal}
 use Rattle.ucon_model.specs.declared.reply.Refusal.TheVariants.{NoSession}
-use Rattle.ucon_model.specs.declared.reply.Revoked.{Revoked}
 use Rattle.ucon_model.specs.declared.session.SessionRow.{SessionRow}
 use Rattle.ucon_model.specs.declared.session.SessionState.{SessionState}
 use Rattle.ucon_model.specs.declared.session.SessionState.TheVariants.{Requesting, Denied, Accessing, Revoked as RevokedState, Ended}
 use Rattle.ucon_model.specs.declared.session.Verdict.{Verdict}
 use Rattle.ucon_model.specs.declared.session.Verdict.TheVariants.{Permit, Deny, Wait}
-use Rattle.ucon_model.specs.Plain.{Bytes, PlainPolicy, PlainUpdate, PlainReply, refused, status, made}
+use Rattle.ucon_model.specs.Plain.{Bytes, PlainPolicy, PlainUpdate, status}
 use Rattle.ucon_model.specs.Action.{Action, Trace, write, env, tick, act, tries, wait, permit, deny, ends, revoke, amend, extended, followed_by}
-use Rattle.ucon_model.specs.Block.{after, block, reply, own_block, own_reply}
+use Rattle.ucon_model.specs.Block.{after, reply, own_block, own_reply}
 use Rattle.ucon_model.specs.History.{History, trace_from}
-use Rattle.ucon_model.specs.Readings.{in_force, session, sessions, has_entity, entities, attribute, declared_attr, declared_env, moment, acts, accessing, tick_of, is_accessing, is_accessing_state, changed_if}
-use Rattle.ucon_model.specs.Decision.{failing, right_named}
-use Rattle.ucon_model.specs.Truth.{readings}
+use Rattle.ucon_model.specs.Readings.{in_force, session, sessions, has_entity, entities, attribute, declared_attr, declared_env, moment, acts, accessing, tick_of, is_accessing, changed_if}
+use Rattle.ucon_model.specs.Decision.{right_named}
 use Rattle.ucon_model.specs.Updates.{session_writes, writes, write_of, same_when, updates_of}
 use Rattle.ucon_model.specs.OwnActions.{Own, refuse, tell, make, after_action, by_verdict, decide, is_admin, new_entity, add_entity, names_act, with_own, is_requesting, lacks_right, with_usage, end_usage, own}
 use Rattle.ucon_model.specs.Settle.{fails_at, least_from, least_failing, revocation, revoked_in, settle, settle_within}
 use Rattle.ucon_model.specs.MayFollow.{changed_kind}
-use mathlib.Core.List.{IsPrefix}
-use Rattle.ucon_board.proofs.Prefixes.{prefix_self, prefix_trans, prefix_whole}
-use Rattle.ucon_board.specs.Board.{Board, GoesOn, Naming, all_namings, last_state, named_by, namings, opening_state, posted, revocation as naming_of, sayings, state_in}
+use Rattle.ucon_board.specs.Board.{Naming, all_namings, last_state, named_by, namings, revocation as naming_of}
 use Rattle.ucon_board.specs.States.{look_reply, replies_behind, state_after}
 
 -- ---- what was said last

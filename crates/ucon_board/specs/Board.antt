@@ -80,9 +80,13 @@ opening_state sessions (suc n) = slice_get sessions n
 abbrev pub state_in : Board → ℕ → Option SessionState
 state_in b n = option_or (last_state (all_namings b.replies) n) (opening_state b.sessions n)
 
--- the reply names only sessions from 1 to 1,048,576
+-- a session's number: from 1 to 1,048,576
+abbrev pub IsSession : ℕ → Type 0
+IsSession n = (0 < n) × (n ≤ 1048576)
+
+-- the reply names only sessions
 abbrev pub NamesSessions : PlainReply → Type 0
-NamesSessions r = Each (λ (x : Naming). (0 < x.0) × (x.0 ≤ 1048576)) (namings r)
+NamesSessions r = Each (λ (x : Naming). IsSession x.0) (namings r)
 
 -- what a writer has published, and whether it is still: an earlier step found no memory
 pub record Written : Type 0 where

@@ -1,6 +1,5 @@
 -- The state of a session after a trace, what replies tell of it, and what a board shows of the entries behind a trace.
-use Rattle.std.specs.Prelude.{◌≡◌, ℕ, ◌≤◌, Bool, true, false, List, [], ◌∷◌, ◌++◌, length, take, Option, Some, None, option_map}
-use Rattle.ucon_model.specs.declared.command.Entry.{Entry}
+use Rattle.std.specs.Prelude.{◌≡◌, ℕ, ◌≤◌, Bool, true, false, List, [], ◌∷◌, length, take, Option, Some, None, option_map}
 use Rattle.ucon_model.specs.declared.reply.Refusal.TheVariants.{NoSession}
 use Rattle.ucon_model.specs.declared.session.SessionState.{SessionState}
 use Rattle.ucon_model.specs.Action.{Trace}

@@ -15,6 +15,7 @@
 mod history;
 mod laws;
 mod mark_fault;
+mod naming;
 mod reader;
 mod rule;
 mod seen;
@@ -23,6 +24,7 @@ mod writer;
 
 pub use laws::{boards_show_entries, replies_tell_states};
 pub use mark_fault::MarkFault;
+pub use naming::names_sessions;
 pub use reader::BoardReader;
 pub use seen::Seen;
 pub use writer::{BoardWriter, board};
