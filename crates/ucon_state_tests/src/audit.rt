@@ -10,19 +10,11 @@ use std::alloc::Global;
 use std::test::Fail;
 use std::thread::Threads;
 use ucon_asked::typed_tests_make_no_set;
-use ucon_audit::{
-    Changed, Kept, audit_text, changed_sessions, changed_usages, head_text, is_head_text,
-    report_text, usages,
-};
+use ucon_audit::{Changed, changed_sessions, changed_usages, head_text, is_head_text, usages};
 use ucon_base::Name;
-use ucon_cascade::Monitor;
-use ucon_command::read_accepted;
-use ucon_disk::MemDisk;
 use ucon_eval::verdict;
 use ucon_model::{Verdict, View};
 use ucon_state::{State, tables_keep_what_is_followed};
-use ucon_store::StoreFault;
-use ucon_vectors::{AUDIT_ROWS, Audit, REPORT_ROWS, Report, Told};
 
 /// The example of FIPS 180-4.
 #[test]
@@ -49,80 +41,6 @@ fn a_head_has_64_digits(rt: HostRuntime) -> Result<(), Fail> {
     assert!(rt; is_head_text(&[b'a'; 64]));
     for &bytes in NO_HEADS {
         assert!(rt; !is_head_text(bytes), "{bytes:?}");
-    }
-    Ok(())
-}
-
-/// The head that a row was kept, if one was.
-fn kept_of(row: &Audit) -> Option<Kept> {
-    let (records, digits) = row.kept?;
-    Some(Kept {
-        records,
-        digits: *digits,
-    })
-}
-
-fn is_fault(told: &Told, fault: &StoreFault) -> bool {
-    match (told, fault) {
-        (Told::NotJournal, StoreFault::NotJournal) => true,
-        (
-            Told::Damaged { number, place },
-            StoreFault::Damaged {
-                number: n,
-                place: p,
-            },
-        ) => *number == *n && *place == *p,
-        (Told::OtherPolicy(place), StoreFault::OtherPolicy(p)) => *place == *p,
-        _ => false,
-    }
-}
-
-fn is_text(told: &Told, text: &[u8]) -> bool {
-    match told {
-        Told::Text(wanted) => *wanted == text,
-        _ => false,
-    }
-}
-
-fn disk_of(alloc: Global, file: &[u8]) -> Result<MemDisk, Fail> {
-    Ok(MemDisk::new(alloc, Vec::from_slice(alloc, file)?, Vec::new(alloc), None))
-}
-
-/// Whether a full check of the row's file tells what the row says, and leaves the file that it says.
-fn is_told<R: Threads + Sync>(rt: &R, alloc: Global, row: &Audit) -> Result<bool, Fail> {
-    if read_accepted(alloc, row.policy)?.is_none() {
-        return Err("no policy".into());
-    }
-    let disk = disk_of(alloc, row.file)?;
-    match audit_text::<Monitor, MemDisk, R>(rt, alloc, row.policy, kept_of(row), disk) {
-        Ok((text, disk)) => Ok(is_text(&row.told, &text) && disk.contents() == row.left),
-        Err((disk, fault)) => Ok(is_fault(&row.told, &fault) && disk.contents() == row.left),
-    }
-}
-
-#[test]
-fn journals_are_checked_from_their_first_byte(rt: HostRuntime) -> Result<(), Fail> {
-    for row in AUDIT_ROWS {
-        assert!(rt; is_told(&rt, rt.alloc(), row)?, "{}", row.name);
-    }
-    Ok(())
-}
-
-/// Whether the state in the row's file is told as the row says.
-fn is_state(alloc: Global, row: &Report) -> Result<bool, Fail> {
-    if read_accepted(alloc, row.policy)?.is_none() {
-        return Err("no policy".into());
-    }
-    match report_text::<Monitor, MemDisk>(alloc, row.policy, disk_of(alloc, row.file)?) {
-        Ok((text, _)) => Ok(text.as_slice() == row.told),
-        Err(_) => Err("refused".into()),
-    }
-}
-
-#[test]
-fn states_of_journals_are_told(rt: HostRuntime) -> Result<(), Fail> {
-    for row in REPORT_ROWS {
-        assert!(rt; is_state(rt.alloc(), row)?, "{}", row.name);
     }
     Ok(())
 }
