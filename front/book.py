@@ -27,7 +27,7 @@ class Book:
             words, policy, config.journal, held, self.history, self._take, self._unheard,
             config.limits.waiting, config.restarts, config.accepts_loss,
         )
-        self.readings = Readings(lambda text: self.ask(None, text), self.sessions, config.journal, lambda: self.history.steps)
+        self.readings = Readings(lambda text: self.ask(None, text))
         # The attributes of subjects that the policy in force declares. None where it has to be asked.
         self._attributes: list[str] | None = None
 

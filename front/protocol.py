@@ -171,11 +171,10 @@ def numbers(text: str) -> tuple[int, ...]:
 
 
 def json_part(text: str) -> object:
-    """The JSON value of `state` and `policy`, which may stand behind the reading's own word."""
-    word, _, rest = text.partition(" ")
-    return json.loads(rest if word in ("state", "policy") else text)
+    """The JSON value of `state` and `policy`."""
+    return json.loads(text)
 
 
 def explained(text: str) -> list[str]:
     """The lines of `explain`."""
-    return text.removeprefix("explain ").split("; ")
+    return text.split("; ")
