@@ -21,6 +21,7 @@ LAST_CLIENT = 63
 ONE_LINE = re.compile(rb"[^\n]*")
 
 _REVOKED = re.compile(r"revoked (\d+) ([a-z][a-z0-9_]*)")
+_BORDER = re.compile(r'; (?=(?:[^"]*"[^"]*")*[^"]*$)')
 _NUMBERED = re.compile(r"(permitted|denied|waiting|ended) (\d+)(?: ([a-z][a-z0-9_]*))?")
 
 
@@ -176,5 +177,5 @@ def json_part(text: str) -> object:
 
 
 def explained(text: str) -> list[str]:
-    """The lines of `explain`."""
-    return text.split("; ")
+    """The lines of `explain`. A `; ` within a text, which stands in double quotes and has none, is no border."""
+    return _BORDER.split(text)

@@ -12,7 +12,7 @@ from front.events import of_own
 from front.history import History, Step
 from front.limits import Rates
 from front.monitor import Monitor, Waiting
-from front.protocol import Line, NoReply, Reply, Unspeakable, reply_of
+from front.protocol import Line, NoReply, Reply, Unspeakable, explained, reply_of
 from front.repeats import OtherRequest, Repeats
 from front.sessions import Sessions, State
 from front.telling import text_with_room
@@ -35,6 +35,10 @@ class Lines(unittest.TestCase):
             self.assertEqual((reply.client, reply.place, reply.text, reply.outcome), (client, place, text, outcome))
         for raw in (b"", b"\n", b"x 1 ok\n", b"1 ok\n", b"1 2 \xff\n"):
             self.assertRaises(NoReply, reply_of, raw)
+
+    def test_an_explanation_is_cut_between_its_lines_alone(self) -> None:
+        lines = ['pre note a false', '  read s.note "x; verdict permit; y"', "verdict deny note"]
+        self.assertEqual(explained("; ".join(lines)), lines)
 
     def test_a_value_that_names_a_revocation_is_none(self) -> None:
         self.assertEqual(reply_of(b'0 3 value "revoked 1 x"\n').revocations, ())
