@@ -78,8 +78,10 @@ pub record IsHeldBehindBy (reads : PolicyReading) (text : Bytes) (P : PlainPolic
 
 -- ---- under a policy
 
--- the journal wasn't opened for this reason, what was found in its file is still found there, and nothing was told
+-- The text is a policy's. The journal wasn't opened for this reason, and nothing was told; if the disk was at rest, what was found in its file is
+-- still found there.
 pub record IsNotOpenedBy (reads : PolicyReading) (text : Bytes) (outcome : Outcome) (old new : DiskSeen) (before now : VoiceSeen) : Type 0 where
+  pub accepts : IsSome (reads text)
   pub fault : StoreFault
   pub outcome_is : outcome ≡ by_opening fault
   pub reason : HasReasonBy reads fault text old.contents old.faults new.faults

@@ -25,10 +25,10 @@ use ucon_tell::{TalkFault, Voice, talk, tell_all};
 /// The most bytes of a line, with its newline: a client's number, a space and the longest command, an amendment.
 pub const MOST_LINE: usize = 65_546;
 
-/// Tells how many steps are there, and then answers the lines that come, each by one line, which is told before more of the input is read. A line
-/// is refused exactly if it is no request. The answers to requests are a legal run in text order, behind each history that leads to where the
-/// store begins. From the moment at which the voice's reader was told something, each image of the disk is found as a history that begins with all
-/// that was done then.
+/// Tells how many steps are there, and then answers the lines that come, each by one line. It tells each before it reads more of the input, which no
+/// clause says. A line is refused only if it is neither a request nor a reading. The answers to requests are a legal run in text order, behind each
+/// history that leads to where the store begins. From the moment at which the voice's reader was told something, each image of the disk is found as
+/// a history that begins with all that was done then.
 pub fn hold<E: Engine, S: Source, D: Disk, V: Voice<StoreKeeper<E, D>>>(
     alloc: Global,
     keeper: &mut StoreKeeper<E, D>,
@@ -42,6 +42,7 @@ pub fn hold<E: Engine, S: Source, D: Disk, V: Voice<StoreKeeper<E, D>>>(
         (D.seen keeper.new.disk) (IsFounded D.seen P keeper.old G × IsSome (D.seen keeper.old.disk).contents)
         (Hears result lines.old.held lines.new.held (S.seen input.old).left (S.seen input.new).left) }
     ensures stays { Stays D.seen keeper.old keeper.new }
+    ensures limit { lines.new.limit ≡ lines.old.limit }
 
     // The cause of each fault.
     ensures source_failed { IsErrOf result TalkFault.SourceFault → (S.seen input.new).faults ≡ raised (S.seen input.old).faults }
