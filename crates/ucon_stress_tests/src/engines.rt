@@ -30,6 +30,9 @@ impl<E: Engine> Engine for Redrafting<E> {
 
     ghost has_pending = { λ e. E.has_pending e.engine };
 
+    // Nothing is promised of what a draft costs.
+    ghost costs = { λ _ _ _ _ _ _. Unit {0} };
+
     fn begin(alloc: Global, checked: Checked) -> Result<Redrafting<E>, NoMemory> {
         let engine = E::begin(alloc, checked)?;
         Ok(Redrafting { engine })
@@ -216,6 +219,9 @@ impl<E: Engine> Engine for Sparing<E> {
     ghost follows = { λ e. E.follows e.engine };
 
     ghost has_pending = { λ e. E.has_pending e.engine };
+
+    // Nothing is promised of what a draft costs.
+    ghost costs = { λ _ _ _ _ _ _. Unit {0} };
 
     fn begin(alloc: Global, checked: Checked) -> Result<Sparing<E>, NoMemory> {
         let engine = E::begin(alloc, checked)?;
