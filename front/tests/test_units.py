@@ -1,6 +1,7 @@
 """The parts that need no monitor."""
 import asyncio
 import pathlib
+import signal
 import tempfile
 import unittest
 from typing import Any
@@ -11,7 +12,7 @@ from front.config import Limits, config_of
 from front.events import of_own
 from front.history import History, Step
 from front.limits import Rates
-from front.monitor import Monitor, Waiting
+from front.monitor import Failed, Monitor, Waiting, kill
 from front.protocol import Line, NoReply, Reply, Unspeakable, explained, reply_of
 from front.repeats import OtherRequest, Repeats
 from front.sessions import Sessions, State
@@ -145,6 +146,32 @@ class Recovery(unittest.IsolatedAsyncioTestCase):
         replies, again = await self._matched(lines, [step(1, 1, "end 1", "ended 1"), step(2, 0, "tick 5", "ok")])
         self.assertEqual(replies, ["", "ended 1", "ok"])
         self.assertEqual(again, ["0 tick 5"])
+
+
+class Ends(unittest.IsolatedAsyncioTestCase):
+    async def _ended(self, *words: str) -> int:
+        """With which status a monitor fails that doesn't begin."""
+        pipe = asyncio.subprocess.PIPE
+        monitor = object.__new__(Monitor)
+        monitor.policy = b"right a {}\n"
+        monitor._process = await asyncio.create_subprocess_exec(*words, stdin=pipe, stdout=pipe)
+        with self.assertRaises(Failed) as failed:
+            await monitor._ready(monitor._process)
+        return failed.exception.status
+
+    async def test_the_status_of_a_monitor_that_doesnt_begin_is_its_own(self) -> None:
+        """Its output ends before it does, or with it, and nothing takes its status from whoever waits."""
+        for words, status in ((("false",), 1), (("sh", "-c", "exit 10"), 10), (("sh", "-c", "exec >&-; sleep 0.05; exit 8"), 8), (("true",), 128)):
+            self.assertEqual([await self._ended(*words) for _ in range(15)], [status] * 15)
+        self.assertEqual(await self._ended("sh", "-c", "echo hello; exec sleep 60"), 128 + signal.SIGKILL)
+
+    async def test_a_monitor_that_has_ended_is_killed_without_harm(self) -> None:
+        for _ in range(15):
+            process = await asyncio.create_subprocess_exec("sh", "-c", "exit 8", stdout=asyncio.subprocess.PIPE)
+            assert process.stdout
+            await process.stdout.read()
+            kill(process)
+            self.assertIn(await process.wait(), (8, -signal.SIGKILL))
 
 
 class Repeated(unittest.IsolatedAsyncioTestCase):
