@@ -76,14 +76,30 @@ class AdminRoutes:
     # ---- policies
 
     async def amend(self, request: web.Request) -> web.StreamResponse:
-        """`{"policy", "drop"}`: puts a policy in force. What would lose its values has to be named in `drop`."""
+        """`{"policy", "drop"}`: puts a policy in force that the program takes. What would lose its values has to be named in `drop`."""
         members: Members = {"policy": str, "drop": list}
         said = await body_of(request, self.limits.policy_body, self.limits.receive, members, frozenset(("drop",)))
-        policy = policies.bytes_of(said["policy"])
+        policy, drop = policies.bytes_of(said["policy"]), said.get("drop", [])
+        text = f"amend {one_line(policy).decode()}"
+
+        async def call(seconds: float) -> Answer:
+            await self._hold_accepted(policy)
+            await self._hold_dropped(policy, drop)
+            return await self.book.administer(text, seconds)
+
+        return await self.asking.answered(request, text, call)
+
+    async def _hold_accepted(self, policy: bytes) -> None:
+        """The program takes the policy. Else refused, with the fault that a check says."""
+        async with self._processes:
+            said = (await policies.check(policy)).body
+        if not said["accepted"]:
+            raise Refused(400, "the policy has a fault", fault=said["fault"])
+
+    async def _hold_dropped(self, policy: bytes, drop: list[object]) -> None:
         gone = change_of(declared((await self.book.readings.policy()).encode()), declared(policy)).gone
-        if missing := [it for it in gone if it not in said.get("drop", [])]:
-            return json_response(Answer(409, {"error": "values would be lost", "drop": missing}))
-        return await self._administer(request, f"amend {one_line(policy).decode()}")
+        if missing := [it for it in gone if it not in drop]:
+            raise Refused(409, "values would be lost", drop=missing)
 
     async def check(self, request: web.Request) -> web.StreamResponse:
         """`{"policy"}`: whether the program takes it, and else its first fault with the place."""

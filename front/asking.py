@@ -25,11 +25,11 @@ HEADERS = {"Cache-Control": "no-store", "X-Content-Type-Options": "nosniff"}
 
 
 class Refused(Exception):
-    """A request that isn't taken: its answer."""
+    """A request that isn't taken: its answer, with the members that say more."""
 
-    def __init__(self, status: int, text: str) -> None:
+    def __init__(self, status: int, text: str, **more: object) -> None:
         super().__init__(text)
-        self.answer = refusal(text, status)
+        self.answer = Answer(status, {**refusal(text, status).body, **more})
 
 
 def json_response(answer: Answer, **headers: str) -> web.Response:

@@ -14,6 +14,13 @@ DEEP = b'{"right":' + b"[" * 2000 + b"]" * 2000 + b"}"
 ENTER = {"right": "enter", "object": "hall"}
 # All that the policy declares.
 ALL = ["s.cleared", "o.seats", "o.taken"]
+# A policy with a fault, and what is said of it.
+NO_LABEL = "right enter {\n  on a\n}\n"
+FAULT = {
+    "text": "ucon: policy: unexpected at 21\npolicy:3:1\n  }\n  ^\nhint: a label is missing behind `a`: `on a LABEL: ..;`:\npolicy:2:7\n    on a\n        ^",
+    "line": 3, "column": 1,
+}
+KEYED = {"Idempotency-Key": "amendment"}
 # What only a program with all readings answers.
 READINGS = ("/explain", "/admin/explain", "/admin/state", "/admin/point")
 WOULD_DO = [
@@ -157,13 +164,17 @@ TABLE = [
     Row("root", "GET", "/admin/users", None, 200),
     Row("root", "GET", "/admin/policy", None, 200),
     Row("root", "POST", "/admin/point", {}, 200),
-    Row("root", "POST", "/admin/amend", {"policy": "right enter {", "drop": ALL}, 400),
-    Row("root", "POST", "/admin/amend", {"policy": "right enter {}"}, 409, {"error": "values would be lost", "drop": ALL}),
+    # A fault is told as a check tells it, before what would be lost; and neither is kept under a key.
+    Row("root", "POST", "/admin/amend", {"policy": NO_LABEL, "drop": ALL}, 400, {"error": "the policy has a fault", "fault": FAULT}, KEYED),
+    Row("root", "POST", "/admin/amend", {"policy": NO_LABEL}, 400, {"error": "the policy has a fault", "fault": FAULT}),
+    Row("root", "POST", "/admin/amend", {"policy": "right enter {}"}, 409, {"error": "values would be lost", "drop": ALL}, KEYED),
+    Row("root", "POST", "/admin/policy/check", {"policy": NO_LABEL}, 200, {"accepted": False, "fault": FAULT}),
     Row("root", "POST", "/admin/policy/check", {"policy": "right enter {\n  on a\n}\n"}, 200, {"accepted": False}),
     Row("root", "POST", "/admin/policy/check", {"policy": "right enter {}"}, 200, {"accepted": True}),
     Row("root", "POST", "/admin/policy/dry-run", {"policy": "right sit {}"}, 200, {"would_do": WOULD_DO}),
     # Without its right each use is revoked: ann's and bob's.
-    Row("root", "POST", "/admin/amend", {"policy": "right sit {} # none may enter\n", "drop": ALL}, 200, {"outcome": "ok"}),
+    Row("root", "POST", "/admin/amend", {"policy": "right sit {} # none may enter\n", "drop": ALL}, 200, {"outcome": "ok"}, KEYED),
+    Row("root", "POST", "/admin/amend", {"policy": "right sit {} # none may enter\n", "drop": ALL}, 200, {"outcome": "ok"}, KEYED),
     Row("ann", "GET", "/using", None, 200, {"using": []}),
     Row("ann", "POST", "/try", {"right": "sit", "object": "bench"}, 200, {"accessing": True}),
 ]
