@@ -17,9 +17,9 @@ Trial = Callable[[bytes], Awaitable[Answer]]
 LONGEST = 180.0
 # How long it has to end once it is asked to, in seconds.
 ENDING = 5.0
-# The name that a policy has here, and where the launcher says that its fault is.
+# The name that a policy has here, and where the launcher says that its fault is: the first such line, which may go on behind the place.
 NAMED = "policy"
-PLACE = re.compile(rf"^{NAMED}:(\d+):(\d+)$", re.MULTILINE)
+PLACE = re.compile(rf"^{NAMED}:(\d+):(\d+)(?=:|$)", re.MULTILINE)
 NOTES = "ucon: as written, not proved", "ucon: compiling the program"
 LINES = ("revokes", "loses its values", "comes in", "can't change")
 

@@ -6,7 +6,7 @@ import tempfile
 import unittest
 from typing import Any
 
-from front import protocol
+from front import policies, protocol
 from front.answers import explanation, of_reply, own_row
 from front.config import Limits, config_of
 from front.events import of_own
@@ -87,6 +87,20 @@ class Answers(unittest.TestCase):
         self.assertEqual((seen["sessions"][0]["session"], seen["sessions"][0]["label"]), (1, "room"))
         self.assertNotIn("bob", str(seen))
         self.assertIsNone(of_own(step(3, 0, "tick 5", "ok"), sessions, "ann"))
+
+
+class Faults(unittest.IsolatedAsyncioTestCase):
+    async def test_a_faults_place_is_the_first_one_of_its_text(self) -> None:
+        """However the line goes on that has the place, and whatever place a hint names behind it."""
+        for text, line, column, said in (
+            ("right enter {", 1, 14, "policy:1:14: the policy ends here"), ("right enter {\n  on a\n}\n", 3, 1, "policy:3:1"),
+            ("right sit {\n}\nright enter { pre b y: s.bage = 1; }\n", 3, 24, "policy:3:24"),
+            ("attr s age : int 0..9 = 1;\nright sit {\n  pre a y: s.bage = 1;\n}\n", 3, 12, "policy:3:12: item 3"),
+            ("attr s a : int 0..1 = 5;\n", 1, 8, "policy:1:8: item 1"),
+        ):
+            body: Any = (await policies.check(policies.bytes_of(text))).body
+            fault = body["fault"]
+            self.assertEqual((fault.get("line"), fault.get("column"), fault["text"].split("\n")[1]), (line, column, said))
 
 
 class Owners(unittest.TestCase):
