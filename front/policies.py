@@ -10,6 +10,7 @@ from collections.abc import Awaitable, Callable
 
 from front.answers import Answer
 from launcher import program
+from launcher.fault import policy_end
 
 Trial = Callable[[bytes], Awaitable[Answer]]
 
@@ -68,7 +69,19 @@ def fault_of(said: str) -> dict[str, object]:
     return {"text": said.rstrip("\n"), **at}
 
 
+def divider_in(policy: bytes) -> dict[str, object] | None:
+    """The fault of a policy with a line `%%`: below it the words would read what is no policy, and an amendment has it nowhere."""
+    at = policy_end(policy)
+    if at == len(policy):
+        return None
+    line = policy.count(b"\n", 0, at) + 1
+    text = f"{NAMED}:{line}:1: the line `%%` is no part of a policy: it divides a document; leave it out, with all below it"
+    return {"text": text, "line": line, "column": 1}
+
+
 async def check(policy: bytes) -> Answer:
+    if fault := divider_in(policy):
+        return Answer(200, {"accepted": False, "fault": fault})
     status, out, said = await tried(["check"], policy)
     if status:
         return Answer(200, {"accepted": False, "fault": fault_of(said)})
@@ -77,6 +90,8 @@ async def check(policy: bytes) -> Answer:
 
 async def dry_run(policy: bytes, journal: str) -> Answer:
     """What the amendment does, a line each, by the launcher's words. `done` is false where it would be refused, with why."""
+    if fault := divider_in(policy):
+        return Answer(200, {"would_do": [], "refused": fault})
     status, out, said = await tried(["amend", os.path.abspath(journal), NAMED, "--dry-run"], policy)
     lines = [it for it in out.splitlines() if it.startswith(LINES)]
     return Answer(200, {"would_do": lines, "refused": fault_of(said) if status else None})

@@ -20,6 +20,11 @@ FAULT = {
     "text": "ucon: policy: unexpected at 21\npolicy:3:1\n  }\n  ^\nhint: a label is missing behind `a`: `on a LABEL: ..;`:\npolicy:2:7\n    on a\n        ^",
     "line": 3, "column": 1,
 }
+# A good policy with a line that ends it, and what is said of that.
+DIVIDED = "right enter {}\n%%\n"
+DIVIDER = {
+    "text": "policy:2:1: the line `%%` is no part of a policy: it divides a document; leave it out, with all below it", "line": 2, "column": 1,
+}
 KEYED = {"Idempotency-Key": "amendment"}
 # What only a program with all readings answers.
 READINGS = ("/explain", "/admin/explain", "/admin/state", "/admin/point")
@@ -172,6 +177,11 @@ TABLE = [
     Row("root", "POST", "/admin/policy/check", {"policy": "right enter {\n  on a\n}\n"}, 200, {"accepted": False}),
     Row("root", "POST", "/admin/policy/check", {"policy": "right enter {}"}, 200, {"accepted": True}),
     Row("root", "POST", "/admin/policy/dry-run", {"policy": "right sit {}"}, 200, {"would_do": WOULD_DO}),
+    # A line `%%` is refused alike by all three, with or without something below it.
+    Row("root", "POST", "/admin/policy/check", {"policy": DIVIDED}, 200, {"accepted": False, "fault": DIVIDER}),
+    Row("root", "POST", "/admin/policy/check", {"policy": DIVIDED + "client 0\ntick 5\n"}, 200, {"accepted": False, "fault": DIVIDER}),
+    Row("root", "POST", "/admin/policy/dry-run", {"policy": DIVIDED[:-1]}, 200, {"would_do": [], "refused": DIVIDER}),
+    Row("root", "POST", "/admin/amend", {"policy": DIVIDED, "drop": ALL}, 400, {"error": "the policy has a fault", "fault": DIVIDER}),
     # Without its right each use is revoked: ann's and bob's.
     Row("root", "POST", "/admin/amend", {"policy": "right sit {} # none may enter\n", "drop": ALL}, 200, {"outcome": "ok"}, KEYED),
     Row("root", "POST", "/admin/amend", {"policy": "right sit {} # none may enter\n", "drop": ALL}, 200, {"outcome": "ok"}, KEYED),
