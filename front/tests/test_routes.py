@@ -173,6 +173,11 @@ TABLE = [
     Row("root", "POST", "/admin/amend", {"policy": NO_LABEL, "drop": ALL}, 400, {"error": "the policy has a fault", "fault": FAULT}, KEYED),
     Row("root", "POST", "/admin/amend", {"policy": NO_LABEL}, 400, {"error": "the policy has a fault", "fault": FAULT}),
     Row("root", "POST", "/admin/amend", {"policy": "right enter {}"}, 409, {"error": "values would be lost", "drop": ALL}, KEYED),
+    # `drop` names what is declared, and nothing else.
+    Row("root", "POST", "/admin/amend", {"policy": "right sit {}", "drop": ALL + ["s.ghost", "cleared"]}, 400,
+        {"error": "drop names what the policy in force doesn't declare", "unknown": ["cleared", "s.ghost"]}),
+    Row("root", "POST", "/admin/amend", {"policy": "right sit {}", "drop": [*ALL, 5]}, 400, {"error": "drop is a list of texts, as `s.cleared`"}),
+    Row("root", "POST", "/admin/amend", {"policy": "right sit {}", "drop": "s.cleared"}, 400),
     Row("root", "POST", "/admin/policy/check", {"policy": NO_LABEL}, 200, {"accepted": False, "fault": FAULT}),
     Row("root", "POST", "/admin/policy/check", {"policy": "right enter {\n  on a\n}\n"}, 200, {"accepted": False}),
     Row("root", "POST", "/admin/policy/check", {"policy": "right enter {}"}, 200, {"accepted": True}),
@@ -185,6 +190,8 @@ TABLE = [
     # Without its right each use is revoked: ann's and bob's.
     Row("root", "POST", "/admin/amend", {"policy": "right sit {} # none may enter\n", "drop": ALL}, 200, {"outcome": "ok"}, KEYED),
     Row("root", "POST", "/admin/amend", {"policy": "right sit {} # none may enter\n", "drop": ALL}, 200, {"outcome": "ok"}, KEYED),
+    Row("root", "POST", "/admin/amend", {"policy": "right sit {} # none may enter\n"}, 422, {}, KEYED),
+    Row("root", "POST", "/admin/amend", {"policy": "right sit {}", "drop": ["s.cleared"]}, 400, {"unknown": ["s.cleared"]}),
     Row("ann", "GET", "/using", None, 200, {"using": []}),
     Row("ann", "POST", "/try", {"right": "sit", "object": "bench"}, 200, {"accessing": True}),
 ]
