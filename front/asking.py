@@ -123,10 +123,13 @@ class Asking:
 
     async def answered(self, request: web.Request, asked: str, make: Callable[[float], Awaitable[Answer]]) -> web.Response:
         """Answers by a call that is given how long it may wait. Under an Idempotency-Key only the first request calls."""
-        key = request.headers.get("Idempotency-Key")
-        if key is None:
+        keys = request.headers.getall("Idempotency-Key", [])
+        if not keys:
             answer = await make(self.limits.answer)
             return self._told(request, answer)
+        if len(keys) > 1:
+            raise Refused(400, "a request has one Idempotency-Key")
+        (key,) = keys
         if not KEY.fullmatch(key):
             raise Refused(400, "an Idempotency-Key has 1 to 200 printable characters, and no space")
 

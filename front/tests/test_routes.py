@@ -1,5 +1,6 @@
 """Every route: good, bad, foreign, oversized, malformed and repeated requests."""
 import asyncio
+import json
 import signal
 import time
 import unittest
@@ -202,6 +203,18 @@ def seen(told: Told) -> tuple[int, str, dict[str, str]]:
     return told.status, str(told.body), {name: value for name, value in told.headers.items() if name != "Date"}
 
 
+async def with_headers(running: Front, path: str, raw: bytes, headers: list[tuple[str, str]]) -> tuple[int, Any]:
+    """What ann is answered to a request with these headers, of which one may come again."""
+    host, port = running.url.removeprefix("http://").split(":")
+    reader, writer = await asyncio.open_connection(host, int(port))
+    own = [("Host", host), ("Authorization", f"Bearer {running.people['ann'].token}"), ("Content-Type", "application/json")]
+    lines = [f"{name}: {value}" for name, value in [*own, ("Content-Length", str(len(raw))), ("Connection", "close"), *headers]]
+    writer.write("\r\n".join([f"POST {path} HTTP/1.1", *lines, "", ""]).encode() + raw)
+    head, _, body = (await asyncio.wait_for(reader.read(), 10)).partition(b"\r\n\r\n")
+    writer.close()
+    return int(head.split()[1]), json.loads(body)
+
+
 class Routes(unittest.IsolatedAsyncioTestCase):
     async def test_each_row_is_answered_so(self) -> None:
         async with front("--rate", "1000") as running:
@@ -251,6 +264,13 @@ class Routes(unittest.IsolatedAsyncioTestCase):
             lines = [it for it in running.said if '"' in it]
             self.assertEqual([it.split(" ", 2)[2].split('"')[0] for it in lines[-3:]], ["127.0.0.1 ann ", "127.0.0.1 ann ", "127.0.0.1 - "])
             self.assertNotIn("secret", "\n".join(lines))
+
+    async def test_a_request_with_two_keys_is_refused(self) -> None:
+        async with front() as running:
+            for keys in (("a", "b"), ("a", "a"), ("a", "")):
+                said = await with_headers(running, "/try", b'{"right":"enter","object":"hall"}', [("Idempotency-Key", it) for it in keys])
+                self.assertEqual(said, (400, {"error": "a request has one Idempotency-Key"}))
+            self.assertEqual((await running.get("ann", "/using")).body["using"], [])
 
     async def test_wrong_tokens_are_all_answered_alike(self) -> None:
         async with front() as running:
