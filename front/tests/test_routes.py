@@ -122,7 +122,10 @@ TABLE = [
     Row("ann", "GET", "/sessions/99999999999999", None, 404),
     Row("ann", "GET", "/explain?right=enter", None, 400),
     Row("ann", "GET", "/explain?right=enter&object=hall%0a0%20tick%209", None, 400),
-    Row("ann", "GET", "/events", None, 400, {}, {"Last-Event-ID": "x"}),
+    Row("ann", "GET", "/events", None, 400, {"error": "Last-Event-ID is no place"}, {"Last-Event-ID": "x"}),
+    Row("ann", "GET", "/events?from=x", None, 400, {"error": "from is no place"}),
+    Row("ann", "GET", "/events?from=99999", None, 409, {"error": "from is beyond the journal's end", "behind": 99999}),
+    Row("root", "GET", "/events", None, 409, {"error": "Last-Event-ID is beyond the journal's end"}, {"Last-Event-ID": "9999999999999999999"}),
     Row("ann", "POST", "/try", ENTER, 400, {}, {"Idempotency-Key": "a b"}),
     Row("ann", "POST", "/try", b"right=enter&object=hall", 415, {}, {"Content-Type": "application/x-www-form-urlencoded"}),
     # ---- oversized ones
