@@ -21,6 +21,8 @@ Members = dict[str, type | tuple[type, ...]]
 
 # How long a request under an Idempotency-Key goes on, though nobody waits for it, in seconds.
 KEYED = 120.0
+# How many characters are shown of what a body has.
+SHOWN = 40
 HEADERS = {"Cache-Control": "no-store", "X-Content-Type-Options": "nosniff"}
 
 
@@ -48,15 +50,10 @@ async def body_of(request: web.Request, most: int, seconds: float, members: Memb
         raw = await asyncio.wait_for(whole(request, most), seconds)
     except asyncio.TimeoutError:
         raise Refused(408, "the body didn't come in time") from None
-    try:
-        said = json.loads(raw.decode("utf-8"), object_pairs_hook=each_once, parse_constant=no_number, parse_float=no_number)
-    except (ValueError, RecursionError):
-        raise Refused(400, "the body is no JSON object") from None
-    if not isinstance(said, dict):
-        raise Refused(400, "the body is no JSON object")
+    said = said_in(raw)
     for name in said:
         if name not in members:
-            raise Refused(400, f"unknown member; there may be {', '.join(members)}")
+            raise Refused(400, f"unknown member; there may be {', '.join(members) or 'none'}")
     for name, kind in members.items():
         if name not in said and name in also:
             continue
@@ -77,14 +74,38 @@ async def whole(request: web.Request, most: int) -> bytes:
     return b"".join(parts)
 
 
+def said_in(raw: bytes) -> Body:
+    """The JSON object that a body is, whose members stand once each and whose numbers are integers."""
+    try:
+        said = json.loads(raw.decode("utf-8"), object_pairs_hook=each_once, parse_constant=no_number, parse_float=no_number)
+    except json.JSONDecodeError as why:
+        raise Refused(400, f"the body is no JSON: fault in line {why.lineno}, column {why.colno}") from None
+    except UnicodeDecodeError as why:
+        raise Refused(400, f"the body is no UTF-8 at byte {why.start}") from None
+    except (ValueError, RecursionError):
+        raise Refused(400, "the body has too many brackets in each other, or too long a number") from None
+    if not isinstance(said, dict):
+        raise Refused(400, "the body is JSON, but no object")
+    return said
+
+
 def each_once(pairs: list[tuple[str, Any]]) -> Body:
-    if len({name for name, _ in pairs}) < len(pairs):
-        raise ValueError("a member stands twice")
-    return dict(pairs)
+    found: Body = {}
+    for name, value in pairs:
+        if name in found:
+            raise Refused(400, f"the body has the member {shown(name)} twice")
+        found[name] = value
+    return found
 
 
 def no_number(text: str) -> NoReturn:
-    raise ValueError(f"{text} is no integer")
+    raise Refused(400, f"the body has {shown(text)}, and numbers are integers here, without a point or an exponent")
+
+
+def shown(text: str) -> str:
+    """A text of a body, on one line, the longest ones cut."""
+    said = ascii(text[:SHOWN])[1:-1]
+    return f"`{said}{' ..' if len(text) > SHOWN else ''}`"
 
 
 # ---- the query

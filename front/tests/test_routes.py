@@ -13,12 +13,14 @@ DEEP = b'{"right":' + b"[" * 2000 + b"]" * 2000 + b"}"
 
 
 ENTER = {"right": "enter", "object": "hall"}
+NO_INTEGER = "and numbers are integers here, without a point or an exponent"
 # All that the policy declares.
 ALL = ["s.cleared", "o.seats", "o.taken"]
 # A policy with a fault, and what is said of it.
 NO_LABEL = "right enter {\n  on a\n}\n"
 FAULT = {
-    "text": "ucon: policy: unexpected at 21\npolicy:3:1\n  }\n  ^\nhint: a label is missing behind `a`: `on a LABEL: ..;`:\npolicy:2:7\n    on a\n        ^",
+    "text": "ucon: policy: unexpected at 21\npolicy:3:1\n  }\n  ^\n"
+    "hint: a label is missing behind `a`: `on a LABEL: ..;`:\npolicy:2:7\n    on a\n        ^",
     "line": 3, "column": 1,
 }
 # A good policy with a line that ends it, and what is said of that.
@@ -99,24 +101,26 @@ TABLE = [
     Row("bob", "GET", "/explain?right=enter&object=hall&subject=ann", None, 400),
     Row("bob", "GET", "/using", None, 200, {"using": []}, {"X-Subject": "ann", "X-Forwarded-User": "ann"}),
     # ---- malformed ones
-    Row("ann", "POST", "/try", b"", 400),
-    Row("ann", "POST", "/try", b"{", 400),
-    Row("ann", "POST", "/try", b"[]", 400),
-    Row("ann", "POST", "/try", b"\xff\xfe", 400),
+    Row("ann", "POST", "/try", b"", 400, {"error": "the body is no JSON: fault in line 1, column 1"}),
+    Row("ann", "POST", "/try", b"{", 400, {"error": "the body is no JSON: fault in line 1, column 2"}),
+    Row("ann", "POST", "/try", b"[]", 400, {"error": "the body is JSON, but no object"}),
+    Row("ann", "POST", "/try", b"\xff\xfe", 400, {"error": "the body is no UTF-8 at byte 0"}),
     Row("ann", "POST", "/try", DEEP[:4000], 400),
-    Row("ann", "POST", "/try", b'{"right":"enter","right":"enter","object":"hall"}', 400),
+    Row("ann", "POST", "/try", b'{"right":"enter","right":"enter","object":"hall"}', 400, {"error": "the body has the member `right` twice"}),
     Row("ann", "POST", "/try", {"right": "enter"}, 400),
     Row("ann", "POST", "/try", {"right": "enter", "object": 7}, 400),
     Row("ann", "POST", "/try", {"right": "Enter", "object": "hall"}, 400),
     Row("ann", "POST", "/try", {"right": "enter hall\n0 tick", "object": "hall"}, 400),
     Row("ann", "POST", "/try", {"right": "enter", "object": "a" * 33}, 400),
     Row("ann", "POST", "/end", {"session": "1"}, 400),
-    Row("ann", "POST", "/end", {"session": 1.0}, 400),
+    Row("ann", "POST", "/end", {"session": 1.0}, 400, {"error": f"the body has `1.0`, {NO_INTEGER}"}),
     Row("ann", "POST", "/end", {"session": True}, 400),
     Row("ann", "POST", "/end", {"session": -1}, 400),
     Row("ann", "POST", "/end", {"session": 2**32}, 400),
-    Row("ann", "POST", "/end", b'{"session":NaN}', 400),
-    Row("ann", "POST", "/end", b'{"session":1e400}', 400),
+    Row("ann", "POST", "/end", b'{"session":NaN}', 400, {"error": f"the body has `NaN`, {NO_INTEGER}"}),
+    Row("ann", "POST", "/end", b'{"session":1e400}', 400, {"error": f"the body has `1e400`, {NO_INTEGER}"}),
+    Row("ann", "POST", "/end", b'{"session":0.%s}' % (b"1" * 60), 400, {"error": f"the body has `0.{'1' * 38} ..`, {NO_INTEGER}"}),
+    Row("ann", "POST", "/end", b'{"session":%s}' % (b"1" * 4060), 400, {"error": "session is no number from 0 to 4294967295"}),
     Row("ann", "GET", "/sessions/one", None, 404),
     Row("ann", "GET", "/sessions/-1", None, 404),
     Row("ann", "GET", "/sessions/99999999999999", None, 404),
