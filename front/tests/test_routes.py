@@ -1,12 +1,14 @@
 """Every route: good, bad, foreign, oversized, malformed and repeated requests."""
 import asyncio
 import json
+import re
 import signal
 import time
 import unittest
 from typing import Any, NamedTuple
 
-from front.tests.support import Front, Person, Told, front, person, full
+from front.answers import REFUSED
+from front.tests.support import TOP, Front, Person, Told, front, person, full
 
 LONG = b'{"right":"enter","object":"' + b"a" * 5000 + b'"}'
 DEEP = b'{"right":' + b"[" * 2000 + b"]" * 2000 + b"}"
@@ -152,7 +154,15 @@ TABLE = [
     Row("meter", "GET", "/metrics", None, 200),
     Row("meter", "POST", "/try", ENTER, 403),
     Row("meter", "GET", "/events", None, 403),
-    Row("root", "POST", "/try", ENTER, 403),
+    # An administrator asks nothing that a user asks, but for these two, and no subject is made of it.
+    Row("root", "POST", "/try", ENTER, 403, {"error": "this is for users"}),
+    Row("root", "POST", "/end", {"session": 1}, 403, {"error": "this is for users"}),
+    Row("root", "GET", "/using", None, 403, {"error": "this is for users"}),
+    Row("root", "GET", "/sessions/1", None, 403, {"error": "this is for users"}),
+    Row("root", "GET", "/explain?right=enter&object=hall", None, 403, {"error": "this is for users"}),
+    Row("root", "GET", "/me", None, 200, {"user": "root", "role": "admin"}),
+    Row("root", "POST", "/admin/subject", {"name": "root"}, 200, {"outcome": "ok"}),
+    Row("root", "POST", "/admin/subject", {"name": "ann"}, 409, {"error": "already there"}),
     # ---- the administrator
     Row("root", "POST", "/admin/subject", {"name": "eve"}, 200, {"outcome": "ok"}),
     Row("root", "POST", "/admin/subject", {"name": "eve"}, 409, {"error": "already there"}),
@@ -233,6 +243,8 @@ class Routes(unittest.IsolatedAsyncioTestCase):
                         # The program has no such reading: nothing else may be answered so.
                         continue
                     self.assertEqual(told.status, row.status, str(told.body)[:300])
+                    if row.status == 405:
+                        self.assertEqual(told.headers["Allow"], "POST")
                     for name, value in row.says.items():
                         self.assertEqual(told.body.get(name), value, told.body)
 
@@ -271,6 +283,13 @@ class Routes(unittest.IsolatedAsyncioTestCase):
             lines = [it for it in running.said if '"' in it]
             self.assertEqual([it.split(" ", 2)[2].split('"')[0] for it in lines[-3:]], ["127.0.0.1 ann ", "127.0.0.1 ann ", "127.0.0.1 - "])
             self.assertNotIn("secret", "\n".join(lines))
+
+    def test_the_page_has_each_status(self) -> None:
+        """Of these requests, and of refusals of the monitor."""
+        page = (TOP / "docs" / "front.md").read_text()
+        rows = re.findall(r"^\| (\d{3}(?:, \d{3})*) \|", page, re.MULTILINE)
+        told = {int(it) for row in rows for it in row.split(", ")}
+        self.assertEqual(({row.status for row in TABLE} | set(REFUSED.values())) - told, set())
 
     async def test_a_request_with_two_keys_is_refused(self) -> None:
         async with front() as running:
