@@ -9,6 +9,7 @@ import tempfile
 from collections.abc import Awaitable, Callable
 
 from front.answers import Answer
+from front.asking import Refused
 from launcher import program
 from launcher.fault import policy_end
 
@@ -16,6 +17,8 @@ Trial = Callable[[bytes], Awaitable[Answer]]
 
 # How long one may take, in seconds. The first one may have to compile the program as it is written.
 LONGEST = 180.0
+# The status with which a policy is refused.
+POLICY_REFUSED = 2
 # How long it has to end once it is asked to, in seconds.
 ENDING = 5.0
 # The name that a policy has here, and where the launcher says that its fault is: the first such line, which may go on behind the place.
@@ -83,6 +86,9 @@ async def check(policy: bytes) -> Answer:
     if fault := divider_in(policy):
         return Answer(200, {"accepted": False, "fault": fault})
     status, out, said = await tried(["check"], policy)
+    if status not in (0, POLICY_REFUSED):
+        # There is no program, or it was ended: that tells nothing of the policy.
+        raise Refused(503, f"the policy can't be tried now: {said.strip() or f'status {status}'}")
     if status:
         return Answer(200, {"accepted": False, "fault": fault_of(said)})
     return Answer(200, {"accepted": True, "models": out.splitlines()})

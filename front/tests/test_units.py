@@ -4,10 +4,12 @@ import pathlib
 import signal
 import tempfile
 import unittest
+import unittest.mock
 from typing import Any
 
 from front import policies, protocol
 from front.answers import explanation, of_reply, own_row
+from front.asking import Refused
 from front.config import Limits, config_of
 from front.events import of_own
 from front.history import History, Step
@@ -101,6 +103,14 @@ class Faults(unittest.IsolatedAsyncioTestCase):
             body: Any = (await policies.check(policies.bytes_of(text))).body
             fault = body["fault"]
             self.assertEqual((fault.get("line"), fault.get("column"), fault["text"].split("\n")[1]), (line, column, said))
+
+
+    async def test_a_check_that_cant_be_made_tells_nothing_of_the_policy(self) -> None:
+        for ended, says in (((125, "", "ucon: no program\n"), "ucon: no program"), ((137, "", ""), "status 137")):
+            with unittest.mock.patch("front.policies.tried", return_value=ended), self.assertRaises(Refused) as refused:
+                await policies.check(b"right enter {}")
+            answer = refused.exception.answer
+            self.assertEqual((answer.status, answer.body["error"]), (503, f"the policy can't be tried now: {says}"))
 
 
 class Owners(unittest.TestCase):
