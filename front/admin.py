@@ -76,14 +76,36 @@ class AdminRoutes:
     # ---- policies
 
     async def amend(self, request: web.Request) -> web.StreamResponse:
-        """`{"policy", "drop"}`: puts a policy in force. What would lose its values has to be named in `drop`."""
+        """`{"policy", "drop"}`: puts a policy in force that the program takes. What would lose its values has to be named in `drop`."""
         members: Members = {"policy": str, "drop": list}
         said = await body_of(request, self.limits.policy_body, self.limits.receive, members, frozenset(("drop",)))
-        policy = policies.bytes_of(said["policy"])
-        gone = change_of(declared((await self.book.readings.policy()).encode()), declared(policy)).gone
-        if missing := [it for it in gone if it not in said.get("drop", [])]:
-            return json_response(Answer(409, {"error": "values would be lost", "drop": missing}))
-        return await self._administer(request, f"amend {one_line(policy).decode()}")
+        policy, drop = policies.bytes_of(said["policy"]), said.get("drop", [])
+        if not all(isinstance(it, str) for it in drop):
+            raise Refused(400, "drop is a list of texts, as `s.cleared`")
+        text = f"amend {one_line(policy).decode()}"
+
+        async def call(seconds: float) -> Answer:
+            await self._hold_accepted(policy)
+            await self._hold_dropped(policy, drop)
+            return await self.book.administer(text, seconds)
+
+        return await self.asking.answered(request, " ".join([text, *sorted(set(drop))]), call)
+
+    async def _hold_accepted(self, policy: bytes) -> None:
+        """The program takes the policy. Else refused, with the fault that a check says."""
+        async with self._processes:
+            said = (await policies.check(policy)).body
+        if not said["accepted"]:
+            raise Refused(400, "the policy has a fault", fault=said["fault"])
+
+    async def _hold_dropped(self, policy: bytes, drop: list[str]) -> None:
+        """What loses its values is named in `drop`, and nothing is named there that isn't declared."""
+        now = declared((await self.book.readings.policy()).encode())
+        if unknown := sorted({it for it in drop if it not in now}):
+            raise Refused(400, "drop names what the policy in force doesn't declare", unknown=unknown)
+        gone = change_of(now, declared(policy)).gone
+        if missing := [it for it in gone if it not in drop]:
+            raise Refused(409, "values would be lost", drop=missing)
 
     async def check(self, request: web.Request) -> web.StreamResponse:
         """`{"policy"}`: whether the program takes it, and else its first fault with the place."""

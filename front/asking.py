@@ -21,15 +21,17 @@ Members = dict[str, type | tuple[type, ...]]
 
 # How long a request under an Idempotency-Key goes on, though nobody waits for it, in seconds.
 KEYED = 120.0
+# How many characters are shown of what a body has.
+SHOWN = 40
 HEADERS = {"Cache-Control": "no-store", "X-Content-Type-Options": "nosniff"}
 
 
 class Refused(Exception):
-    """A request that isn't taken: its answer."""
+    """A request that isn't taken: its answer, with the members that say more."""
 
-    def __init__(self, status: int, text: str) -> None:
+    def __init__(self, status: int, text: str, **more: object) -> None:
         super().__init__(text)
-        self.answer = refusal(text, status)
+        self.answer = Answer(status, {**refusal(text, status).body, **more})
 
 
 def json_response(answer: Answer, **headers: str) -> web.Response:
@@ -48,15 +50,10 @@ async def body_of(request: web.Request, most: int, seconds: float, members: Memb
         raw = await asyncio.wait_for(whole(request, most), seconds)
     except asyncio.TimeoutError:
         raise Refused(408, "the body didn't come in time") from None
-    try:
-        said = json.loads(raw.decode("utf-8"), object_pairs_hook=each_once, parse_constant=no_number, parse_float=no_number)
-    except (ValueError, RecursionError):
-        raise Refused(400, "the body is no JSON object") from None
-    if not isinstance(said, dict):
-        raise Refused(400, "the body is no JSON object")
+    said = said_in(raw)
     for name in said:
         if name not in members:
-            raise Refused(400, f"unknown member; there may be {', '.join(members)}")
+            raise Refused(400, f"unknown member; there may be {', '.join(members) or 'none'}")
     for name, kind in members.items():
         if name not in said and name in also:
             continue
@@ -77,14 +74,38 @@ async def whole(request: web.Request, most: int) -> bytes:
     return b"".join(parts)
 
 
+def said_in(raw: bytes) -> Body:
+    """The JSON object that a body is, whose members stand once each and whose numbers are integers."""
+    try:
+        said = json.loads(raw.decode("utf-8"), object_pairs_hook=each_once, parse_constant=no_number, parse_float=no_number)
+    except json.JSONDecodeError as why:
+        raise Refused(400, f"the body is no JSON: fault in line {why.lineno}, column {why.colno}") from None
+    except UnicodeDecodeError as why:
+        raise Refused(400, f"the body is no UTF-8 at byte {why.start}") from None
+    except (ValueError, RecursionError):
+        raise Refused(400, "the body has too many brackets in each other, or too long a number") from None
+    if not isinstance(said, dict):
+        raise Refused(400, "the body is JSON, but no object")
+    return said
+
+
 def each_once(pairs: list[tuple[str, Any]]) -> Body:
-    if len({name for name, _ in pairs}) < len(pairs):
-        raise ValueError("a member stands twice")
-    return dict(pairs)
+    found: Body = {}
+    for name, value in pairs:
+        if name in found:
+            raise Refused(400, f"the body has the member {shown(name)} twice")
+        found[name] = value
+    return found
 
 
 def no_number(text: str) -> NoReturn:
-    raise ValueError(f"{text} is no integer")
+    raise Refused(400, f"the body has {shown(text)}, and numbers are integers here, without a point or an exponent")
+
+
+def shown(text: str) -> str:
+    """A text of a body, on one line, the longest ones cut."""
+    said = ascii(text[:SHOWN])[1:-1]
+    return f"`{said}{' ..' if len(text) > SHOWN else ''}`"
 
 
 # ---- the query
@@ -123,10 +144,13 @@ class Asking:
 
     async def answered(self, request: web.Request, asked: str, make: Callable[[float], Awaitable[Answer]]) -> web.Response:
         """Answers by a call that is given how long it may wait. Under an Idempotency-Key only the first request calls."""
-        key = request.headers.get("Idempotency-Key")
-        if key is None:
+        keys = request.headers.getall("Idempotency-Key", [])
+        if not keys:
             answer = await make(self.limits.answer)
             return self._told(request, answer)
+        if len(keys) > 1:
+            raise Refused(400, "a request has one Idempotency-Key")
+        (key,) = keys
         if not KEY.fullmatch(key):
             raise Refused(400, "an Idempotency-Key has 1 to 200 printable characters, and no space")
 

@@ -168,8 +168,7 @@ class Monitor:
             process.stdin.close()
             with contextlib.suppress(asyncio.TimeoutError):
                 await asyncio.wait_for(process.wait(), HANGING)
-            if process.returncode is None:
-                process.kill()
+            kill(process)
 
     async def tell_head(self) -> None:
         """Writes the head beside the journal, in a thread of its own, where steps were told since."""
@@ -252,9 +251,7 @@ class Monitor:
             self._process.stdin.close()
 
     def _kill(self) -> None:
-        if self._process and self._process.returncode is None:
-            with contextlib.suppress(ProcessLookupError):
-                self._process.send_signal(signal.SIGKILL)
+        kill(self._process)
 
     # ---- starts and ends
 
@@ -292,12 +289,15 @@ class Monitor:
         except (asyncio.TimeoutError, ValueError):
             self._kill()
             raw = b""
-        if raw.endswith(b"\n") and (ready := reply_of(raw)).text == "ready" and ready.place is not None:
-            return ready.place
-        self._kill()
-        ended = await process.wait()
+        if raw.endswith(b"\n"):
+            with contextlib.suppress(NoReply):
+                if (ready := reply_of(raw)).text == "ready" and ready.place is not None:
+                    return ready.place
+            self._kill()
+        # One whose output has ended is about to end, with a status that tells why.
+        status = await self._status(process)
         # One that ended well, but told nothing, failed all the same.
-        status = ended if ended > 0 else 128 - ended
+        status = status or 128
         raise Failed(status, f"the monitor didn't begin; it ended with status {status}")
 
     async def _recover(self, keeper: Keeper, steps: int) -> None:
@@ -374,18 +374,21 @@ class Monitor:
     async def _end(self) -> int:
         """Waits for the process, which has no more to say. Its status, as a shell gives it."""
         self._is_ready = False
-        process = self._process
-        assert process
-        try:
-            await asyncio.wait_for(process.wait(), HANGING)
-        except asyncio.TimeoutError:
-            self._kill()
-            await process.wait()
-        status = process.returncode or 0
-        status = status if status >= 0 else 128 - status
+        assert self._process
+        status = await self._status(self._process)
         if self._is_closing:
             self._tell_end(status)
         return status
+
+    async def _status(self, process: asyncio.subprocess.Process) -> int:
+        """The status of a process that is about to end, and is killed where it doesn't, as a shell gives it."""
+        try:
+            await asyncio.wait_for(process.wait(), HANGING)
+        except asyncio.TimeoutError:
+            kill(process)
+            await process.wait()
+        status = process.returncode or 0
+        return status if status >= 0 else 128 - status
 
     def _tell_end(self, status: int) -> None:
         if not self.telling:
@@ -396,6 +399,14 @@ class Monitor:
         keeper.tell(self._found, status)
         for line in keeper.said:
             log.warning("%s", line.rstrip("\n"))
+
+
+def kill(process: asyncio.subprocess.Process | None) -> None:
+    """Kills a process, where it runs still. Its own `kill` and `send_signal` look first whether it has ended, and then the status is theirs:
+    whoever waits for it, in a thread of asyncio's, finds none and says 255."""
+    if process and process.returncode is None:
+        with contextlib.suppress(ProcessLookupError):
+            os.kill(process.pid, signal.SIGKILL)
 
 
 def policy_of(path: pathlib.Path) -> bytes:

@@ -9,17 +9,21 @@ import tempfile
 from collections.abc import Awaitable, Callable
 
 from front.answers import Answer
+from front.asking import Refused
 from launcher import program
+from launcher.fault import policy_end
 
 Trial = Callable[[bytes], Awaitable[Answer]]
 
 # How long one may take, in seconds. The first one may have to compile the program as it is written.
 LONGEST = 180.0
+# The status with which a policy is refused.
+POLICY_REFUSED = 2
 # How long it has to end once it is asked to, in seconds.
 ENDING = 5.0
-# The name that a policy has here, and where the launcher says that its fault is.
+# The name that a policy has here, and where the launcher says that its fault is: the first such line, which may go on behind the place.
 NAMED = "policy"
-PLACE = re.compile(rf"^{NAMED}:(\d+):(\d+)$", re.MULTILINE)
+PLACE = re.compile(rf"^{NAMED}:(\d+):(\d+)(?=:|$)", re.MULTILINE)
 NOTES = "ucon: as written, not proved", "ucon: compiling the program"
 LINES = ("revokes", "loses its values", "comes in", "can't change")
 
@@ -68,8 +72,23 @@ def fault_of(said: str) -> dict[str, object]:
     return {"text": said.rstrip("\n"), **at}
 
 
+def divider_in(policy: bytes) -> dict[str, object] | None:
+    """The fault of a policy with a line `%%`: below it the words would read what is no policy, and an amendment has it nowhere."""
+    at = policy_end(policy)
+    if at == len(policy):
+        return None
+    line = policy.count(b"\n", 0, at) + 1
+    text = f"{NAMED}:{line}:1: the line `%%` is no part of a policy: it divides a document; leave it out, with all below it"
+    return {"text": text, "line": line, "column": 1}
+
+
 async def check(policy: bytes) -> Answer:
+    if fault := divider_in(policy):
+        return Answer(200, {"accepted": False, "fault": fault})
     status, out, said = await tried(["check"], policy)
+    if status not in (0, POLICY_REFUSED):
+        # There is no program, or it was ended: that tells nothing of the policy.
+        raise Refused(503, f"the policy can't be tried now: {said.strip() or f'status {status}'}")
     if status:
         return Answer(200, {"accepted": False, "fault": fault_of(said)})
     return Answer(200, {"accepted": True, "models": out.splitlines()})
@@ -77,6 +96,8 @@ async def check(policy: bytes) -> Answer:
 
 async def dry_run(policy: bytes, journal: str) -> Answer:
     """What the amendment does, a line each, by the launcher's words. `done` is false where it would be refused, with why."""
+    if fault := divider_in(policy):
+        return Answer(200, {"would_do": [], "refused": fault})
     status, out, said = await tried(["amend", os.path.abspath(journal), NAMED, "--dry-run"], policy)
     lines = [it for it in out.splitlines() if it.startswith(LINES)]
     return Answer(200, {"would_do": lines, "refused": fault_of(said) if status else None})

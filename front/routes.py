@@ -115,17 +115,23 @@ class UserRoutes:
             raise Refused(403, "this is for users and administrators")
         if not self.streams.has_room(user):
             raise Refused(429, "this user has too many streams")
+        behind = self._behind(request)
         response = web.StreamResponse()
         self.book.sessions.claim_all(user.subject if user.role == "user" else "")
-        await self.streams.serve(request, response, user, self._behind(request))
+        await self.streams.serve(request, response, user, behind)
         return response
 
     def _behind(self, request: web.Request) -> int:
-        """The last place that whoever asks has heard of. One that isn't there yet is the last one that is."""
-        given = request.headers.get("Last-Event-ID") or request.query.get("from")
+        """The last place that whoever asks has heard of. Where the journal has none such, it lacks steps that were told: refused, so that who
+        asks knows that what it heard of may not be."""
+        given, name = request.headers.get("Last-Event-ID"), "Last-Event-ID"
+        if not given:
+            given, name = request.query.get("from"), "from"
         steps = self.book.history.steps
         if given is None:
             return steps
         if not given.isascii() or not given.isdecimal() or len(given) > 19:
-            raise Refused(400, "Last-Event-ID is no place")
-        return min(int(given), steps)
+            raise Refused(400, f"{name} is no place")
+        if int(given) > steps:
+            raise Refused(409, f"{name} is beyond the journal's end", behind=int(given), place=steps)
+        return int(given)

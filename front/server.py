@@ -7,7 +7,7 @@ import signal
 import socket
 import struct
 import time
-from collections.abc import Awaitable, Callable, Coroutine
+from collections.abc import Awaitable, Callable, Coroutine, Iterator
 from typing import Any
 
 from aiohttp import web
@@ -193,17 +193,19 @@ class Front:
     # ---- its life
 
     async def run(self) -> None:
-        """Serves until it is ended, or the monitor can't go on. Fails by `Failed`."""
-        await self.book.begin()
-        running = asyncio.create_task(self.book.monitor.run())
+        """Serves until it is ended, or the monitor can't go on. Fails by `Failed`. Nothing is begun where it can't listen."""
         app = self.application()
         runner = web.AppRunner(app, access_log=None, handle_signals=False, keepalive_timeout=self.config.limits.idle)
         tasks: list[asyncio.Task[None]] = []
         servers: list[asyncio.Server] = []
+        running: asyncio.Task[None] | None = None
         try:
-            await self._settle()
             await runner.setup()
-            servers = await self._listen(runner)
+            await self._bind(runner, servers)
+            await self.book.begin()
+            running = asyncio.create_task(self.book.monitor.run())
+            await self._settle()
+            await self._listen(servers)
             tasks = [asyncio.create_task(it) for it in self._at_times()]
             self._hear_signals()
             ending = asyncio.create_task(self._ending.wait())
@@ -211,7 +213,8 @@ class Front:
             ending.cancel()
         finally:
             await self._take_down(runner, servers, tasks, running)
-        await running
+        if running:
+            await running
 
     async def _settle(self) -> None:
         try:
@@ -219,25 +222,30 @@ class Front:
         except (Unavailable, NoAnswer, Unspeakable) as why:
             raise Failed(1, f"the monitor began, and then: {why}") from None
 
-    async def _listen(self, runner: web.AppRunner) -> list[asyncio.Server]:
-        loop, servers = asyncio.get_running_loop(), []
+    async def _bind(self, runner: web.AppRunner, servers: list[asyncio.Server]) -> None:
+        """Takes the socket and the port, at which nobody is heard yet."""
+        loop = asyncio.get_running_loop()
         assert runner.server
         factory = self.connections.guard(runner.server)
-        try:
+        with listening():
             if self.config.socket:
                 remove_socket(self.config.socket)
-                servers.append(await loop.create_unix_server(factory, str(self.config.socket), backlog=512))
-                log.warning("listening on %s", self.config.socket)
+                servers.append(await loop.create_unix_server(factory, str(self.config.socket), backlog=512, start_serving=False))
             if self.config.has_port:
-                server = await loop.create_server(factory, self.config.host, self.config.port, backlog=512, reuse_address=True)
-                servers.append(server)
-                for it in server.sockets:
-                    host, port = it.getsockname()[:2]
-                    where = f"[{host}]" if ":" in host else host
-                    log.warning("listening on http://%s:%d, the journal has %d steps", where, port, self.book.history.steps)
-        except OSError as why:
-            raise Failed(1, f"can't listen: {why.strerror or why}") from None
-        return servers
+                host, port = self.config.host, self.config.port
+                servers.append(await loop.create_server(factory, host, port, backlog=512, reuse_address=True, start_serving=False))
+
+    async def _listen(self, servers: list[asyncio.Server]) -> None:
+        for server in servers:
+            with listening():
+                await server.start_serving()
+            for it in server.sockets:
+                if it.family == socket.AF_UNIX:
+                    log.warning("listening on %s", self.config.socket)
+                    continue
+                host, port = it.getsockname()[:2]
+                where = f"[{host}]" if ":" in host else host
+                log.warning("listening on http://%s:%d, the journal has %d steps", where, port, self.book.history.steps)
 
     def _hear_signals(self) -> None:
         loop = asyncio.get_running_loop()
@@ -252,7 +260,7 @@ class Front:
         return tasks
 
     async def _take_down(
-        self, runner: web.AppRunner, servers: list[asyncio.Server], tasks: list["asyncio.Task[None]"], running: "asyncio.Task[None]"
+        self, runner: web.AppRunner, servers: list[asyncio.Server], tasks: list["asyncio.Task[None]"], running: "asyncio.Task[None] | None"
     ) -> None:
         for server in servers:
             server.close()
@@ -262,8 +270,9 @@ class Front:
         with contextlib.suppress(asyncio.TimeoutError):
             await asyncio.wait_for(runner.cleanup(), ENDING)
         await self.book.monitor.close()
-        await asyncio.wait([running], timeout=ENDING)
-        if self.config.socket:
+        if running:
+            await asyncio.wait([running], timeout=ENDING)
+        if self.config.socket and servers:
             remove_socket(self.config.socket)
 
 
@@ -280,6 +289,14 @@ def page(file: pathlib.Path) -> Callable[[web.Request], Awaitable[web.StreamResp
         return web.Response(body=raw, content_type=kind, charset="utf-8", headers=PAGE)
 
     return handler
+
+
+@contextlib.contextmanager
+def listening() -> Iterator[None]:
+    try:
+        yield
+    except OSError as why:
+        raise Failed(1, f"can't listen: {why.strerror or why}") from None
 
 
 def remove_socket(path: pathlib.Path) -> None:

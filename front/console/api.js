@@ -33,7 +33,7 @@ export class Api {
   }
 
   // Calls `hear(kind, place, said)` for each message from a place on, and comes back where the stream ends, without missing one. `state`
-  // hears whether there is a stream. Ends once `signal` is aborted, or the token is refused.
+  // hears whether there is a stream. Ends once `signal` is aborted, the token is refused, or the journal has lost the place.
   async events(behind, hear, state, signal) {
     let place = behind;
     for (let wait = 250; !signal.aborted; wait = Math.min(2 * wait, 5000)) {
@@ -41,6 +41,7 @@ export class Api {
         const headers = { Authorization: `Bearer ${this.token}`, "Last-Event-ID": String(place) };
         const answer = await fetch("/events", { headers, signal });
         if (answer.status === 401 || answer.status === 403) return state("refused");
+        if (answer.status === 409) return state("lost");
         if (answer.ok) {
           state("live");
           wait = 250;

@@ -106,6 +106,8 @@ class Console {
   }
 
   linked(state) {
+    // What is shown may not have been: all is read again.
+    if (state === "lost") return location.reload();
     at("link").textContent = { live: "live", waiting: "no connection; trying again", refused: "no longer let in" }[state];
   }
 

@@ -3,6 +3,7 @@ import asyncio
 import json
 import os
 import pathlib
+import signal
 import time
 import unittest
 
@@ -86,6 +87,23 @@ class Console(unittest.IsolatedAsyncioTestCase):
                 await shown.value(f"document.getElementById('ask-{name}').value = '{value}'")
             await shown.value("document.querySelector('#ask button').click()")
             await shown.until("/verdict|no reading/.test(document.getElementById('because').textContent)", 5)
+
+    @full
+    async def test_steps_that_are_gone_arent_shown_any_more(self) -> None:
+        """Behind a loss that was accepted the page is behind the journal's end, and reads all again."""
+        async with front() as running, page(running.url) as shown:
+            kept = running.journal.read_bytes()
+            await sign_in(shown, running, "root")
+            for thing in ("hall", "bench"):
+                await running.post("ann", "/try", right="enter", object=thing)
+            await shown.until("document.getElementById('place').textContent === 'step 7'", LATE)
+            await running.stop(signal.SIGKILL)
+            await asyncio.sleep(0.5)
+            running.journal.write_bytes(kept)
+            await running.start("--accept-loss", "--listen", running.url.removeprefix("http://"))
+            await shown.until("document.getElementById('place').textContent === 'step 5'", LATE)
+            await shown.until("document.getElementById('link').textContent === 'live'", LATE)
+            self.assertTrue(await shown.value("document.querySelector('#uses tr') === null"))
 
     @full
     async def test_nothing_is_asked_of_anywhere_else_and_each_control_has_a_name(self) -> None:

@@ -106,6 +106,29 @@ class Crashes(unittest.IsolatedAsyncioTestCase):
                 await other.start()
             self.assertIn("is in use by process", str(refused.exception))
 
+    async def test_nothing_is_made_where_it_cant_listen(self) -> None:
+        """Neither a journal nor a companion, where the port is taken or the socket's path is another file's; and no socket stays behind."""
+        async with front(starts=False) as running:
+            socket = running.folder / "socket"
+            before = {it.name for it in running.folder.iterdir()}
+            taken = await asyncio.start_server(lambda *_: None, "127.0.0.1", 0)
+            port = taken.sockets[0].getsockname()[1]
+            file = running.folder / "policy"
+            for words in (
+                ("--listen", f"127.0.0.1:{port}"), ("--listen", f"127.0.0.1:{port}", "--socket", str(socket)), ("--socket", str(file)),
+            ):
+                with self.assertRaises(AssertionError) as refused:
+                    await running.start(*words)
+                self.assertIn("can't listen: ", str(refused.exception))
+                assert running.process
+                self.assertEqual(await running.process.wait(), 1)
+                self.assertEqual({it.name for it in running.folder.iterdir()}, before)
+            taken.close()
+            await running.start("--listen", f"127.0.0.1:{port}", "--socket", str(socket))
+            self.assertEqual((await running.get(None, "/healthz")).status, 200)
+            self.assertEqual(await running.stop(), 0)
+            self.assertFalse(socket.exists())
+
     @full
     async def test_it_ends_whole_and_writes_the_head(self) -> None:
         async with front() as running:

@@ -28,6 +28,16 @@ class Events(unittest.IsolatedAsyncioTestCase):
                 self.assertEqual([said[it] for it in names], [kept[it] for it in names])
             self.assertGreater(len(heard), 40)
 
+    async def test_a_place_beyond_the_journals_end_is_refused_with_both(self) -> None:
+        async with front() as running:
+            place = (await running.post("ann", "/try", right="enter", object="hall")).body["place"]
+            for who in ("ann", "root"):
+                told = await running.ask(who, "GET", "/events", **{"Last-Event-ID": str(place + 1)})
+                self.assertEqual(told.status, 409)
+                self.assertEqual((told.body["behind"], told.body["place"]), (place + 1, place))
+                # The end itself is a place to go on from.
+                self.assertEqual([it async for it in running.events(who, 1, place)], [("at", place, {"place": place})])
+
     async def test_a_user_hears_of_its_own_alone(self) -> None:
         async with front() as running:
             first = await running.get("root", "/admin/steps?behind=0")

@@ -1,19 +1,36 @@
 """Every route: good, bad, foreign, oversized, malformed and repeated requests."""
 import asyncio
+import json
+import re
 import signal
 import time
 import unittest
 from typing import Any, NamedTuple
 
-from front.tests.support import Front, Person, Told, front, person, full
+from front.answers import REFUSED
+from front.tests.support import TOP, Front, Person, Told, front, person, full
 
 LONG = b'{"right":"enter","object":"' + b"a" * 5000 + b'"}'
 DEEP = b'{"right":' + b"[" * 2000 + b"]" * 2000 + b"}"
 
 
 ENTER = {"right": "enter", "object": "hall"}
+NO_INTEGER = "and numbers are integers here, without a point or an exponent"
 # All that the policy declares.
 ALL = ["s.cleared", "o.seats", "o.taken"]
+# A policy with a fault, and what is said of it.
+NO_LABEL = "right enter {\n  on a\n}\n"
+FAULT = {
+    "text": "ucon: policy: unexpected at 21\npolicy:3:1\n  }\n  ^\n"
+    "hint: a label is missing behind `a`: `on a LABEL: ..;`:\npolicy:2:7\n    on a\n        ^",
+    "line": 3, "column": 1,
+}
+# A good policy with a line that ends it, and what is said of that.
+DIVIDED = "right enter {}\n%%\n"
+DIVIDER = {
+    "text": "policy:2:1: the line `%%` is no part of a policy: it divides a document; leave it out, with all below it", "line": 2, "column": 1,
+}
+KEYED = {"Idempotency-Key": "amendment"}
 # What only a program with all readings answers.
 READINGS = ("/explain", "/admin/explain", "/admin/state", "/admin/point")
 WOULD_DO = [
@@ -86,30 +103,35 @@ TABLE = [
     Row("bob", "GET", "/explain?right=enter&object=hall&subject=ann", None, 400),
     Row("bob", "GET", "/using", None, 200, {"using": []}, {"X-Subject": "ann", "X-Forwarded-User": "ann"}),
     # ---- malformed ones
-    Row("ann", "POST", "/try", b"", 400),
-    Row("ann", "POST", "/try", b"{", 400),
-    Row("ann", "POST", "/try", b"[]", 400),
-    Row("ann", "POST", "/try", b"\xff\xfe", 400),
+    Row("ann", "POST", "/try", b"", 400, {"error": "the body is no JSON: fault in line 1, column 1"}),
+    Row("ann", "POST", "/try", b"{", 400, {"error": "the body is no JSON: fault in line 1, column 2"}),
+    Row("ann", "POST", "/try", b"[]", 400, {"error": "the body is JSON, but no object"}),
+    Row("ann", "POST", "/try", b"\xff\xfe", 400, {"error": "the body is no UTF-8 at byte 0"}),
     Row("ann", "POST", "/try", DEEP[:4000], 400),
-    Row("ann", "POST", "/try", b'{"right":"enter","right":"enter","object":"hall"}', 400),
+    Row("ann", "POST", "/try", b'{"right":"enter","right":"enter","object":"hall"}', 400, {"error": "the body has the member `right` twice"}),
     Row("ann", "POST", "/try", {"right": "enter"}, 400),
     Row("ann", "POST", "/try", {"right": "enter", "object": 7}, 400),
     Row("ann", "POST", "/try", {"right": "Enter", "object": "hall"}, 400),
     Row("ann", "POST", "/try", {"right": "enter hall\n0 tick", "object": "hall"}, 400),
     Row("ann", "POST", "/try", {"right": "enter", "object": "a" * 33}, 400),
     Row("ann", "POST", "/end", {"session": "1"}, 400),
-    Row("ann", "POST", "/end", {"session": 1.0}, 400),
+    Row("ann", "POST", "/end", {"session": 1.0}, 400, {"error": f"the body has `1.0`, {NO_INTEGER}"}),
     Row("ann", "POST", "/end", {"session": True}, 400),
     Row("ann", "POST", "/end", {"session": -1}, 400),
     Row("ann", "POST", "/end", {"session": 2**32}, 400),
-    Row("ann", "POST", "/end", b'{"session":NaN}', 400),
-    Row("ann", "POST", "/end", b'{"session":1e400}', 400),
+    Row("ann", "POST", "/end", b'{"session":NaN}', 400, {"error": f"the body has `NaN`, {NO_INTEGER}"}),
+    Row("ann", "POST", "/end", b'{"session":1e400}', 400, {"error": f"the body has `1e400`, {NO_INTEGER}"}),
+    Row("ann", "POST", "/end", b'{"session":0.%s}' % (b"1" * 60), 400, {"error": f"the body has `0.{'1' * 38} ..`, {NO_INTEGER}"}),
+    Row("ann", "POST", "/end", b'{"session":%s}' % (b"1" * 4060), 400, {"error": "session is no number from 0 to 4294967295"}),
     Row("ann", "GET", "/sessions/one", None, 404),
     Row("ann", "GET", "/sessions/-1", None, 404),
     Row("ann", "GET", "/sessions/99999999999999", None, 404),
     Row("ann", "GET", "/explain?right=enter", None, 400),
     Row("ann", "GET", "/explain?right=enter&object=hall%0a0%20tick%209", None, 400),
-    Row("ann", "GET", "/events", None, 400, {}, {"Last-Event-ID": "x"}),
+    Row("ann", "GET", "/events", None, 400, {"error": "Last-Event-ID is no place"}, {"Last-Event-ID": "x"}),
+    Row("ann", "GET", "/events?from=x", None, 400, {"error": "from is no place"}),
+    Row("ann", "GET", "/events?from=99999", None, 409, {"error": "from is beyond the journal's end", "behind": 99999}),
+    Row("root", "GET", "/events", None, 409, {"error": "Last-Event-ID is beyond the journal's end"}, {"Last-Event-ID": "9999999999999999999"}),
     Row("ann", "POST", "/try", ENTER, 400, {}, {"Idempotency-Key": "a b"}),
     Row("ann", "POST", "/try", b"right=enter&object=hall", 415, {}, {"Content-Type": "application/x-www-form-urlencoded"}),
     # ---- oversized ones
@@ -132,7 +154,15 @@ TABLE = [
     Row("meter", "GET", "/metrics", None, 200),
     Row("meter", "POST", "/try", ENTER, 403),
     Row("meter", "GET", "/events", None, 403),
-    Row("root", "POST", "/try", ENTER, 403),
+    # An administrator asks nothing that a user asks, but for these two, and no subject is made of it.
+    Row("root", "POST", "/try", ENTER, 403, {"error": "this is for users"}),
+    Row("root", "POST", "/end", {"session": 1}, 403, {"error": "this is for users"}),
+    Row("root", "GET", "/using", None, 403, {"error": "this is for users"}),
+    Row("root", "GET", "/sessions/1", None, 403, {"error": "this is for users"}),
+    Row("root", "GET", "/explain?right=enter&object=hall", None, 403, {"error": "this is for users"}),
+    Row("root", "GET", "/me", None, 200, {"user": "root", "role": "admin"}),
+    Row("root", "POST", "/admin/subject", {"name": "root"}, 200, {"outcome": "ok"}),
+    Row("root", "POST", "/admin/subject", {"name": "ann"}, 409, {"error": "already there"}),
     # ---- the administrator
     Row("root", "POST", "/admin/subject", {"name": "eve"}, 200, {"outcome": "ok"}),
     Row("root", "POST", "/admin/subject", {"name": "eve"}, 409, {"error": "already there"}),
@@ -157,13 +187,29 @@ TABLE = [
     Row("root", "GET", "/admin/users", None, 200),
     Row("root", "GET", "/admin/policy", None, 200),
     Row("root", "POST", "/admin/point", {}, 200),
-    Row("root", "POST", "/admin/amend", {"policy": "right enter {", "drop": ALL}, 400),
-    Row("root", "POST", "/admin/amend", {"policy": "right enter {}"}, 409, {"error": "values would be lost", "drop": ALL}),
+    # A fault is told as a check tells it, before what would be lost; and neither is kept under a key.
+    Row("root", "POST", "/admin/amend", {"policy": NO_LABEL, "drop": ALL}, 400, {"error": "the policy has a fault", "fault": FAULT}, KEYED),
+    Row("root", "POST", "/admin/amend", {"policy": NO_LABEL}, 400, {"error": "the policy has a fault", "fault": FAULT}),
+    Row("root", "POST", "/admin/amend", {"policy": "right enter {}"}, 409, {"error": "values would be lost", "drop": ALL}, KEYED),
+    # `drop` names what is declared, and nothing else.
+    Row("root", "POST", "/admin/amend", {"policy": "right sit {}", "drop": ALL + ["s.ghost", "cleared"]}, 400,
+        {"error": "drop names what the policy in force doesn't declare", "unknown": ["cleared", "s.ghost"]}),
+    Row("root", "POST", "/admin/amend", {"policy": "right sit {}", "drop": [*ALL, 5]}, 400, {"error": "drop is a list of texts, as `s.cleared`"}),
+    Row("root", "POST", "/admin/amend", {"policy": "right sit {}", "drop": "s.cleared"}, 400),
+    Row("root", "POST", "/admin/policy/check", {"policy": NO_LABEL}, 200, {"accepted": False, "fault": FAULT}),
     Row("root", "POST", "/admin/policy/check", {"policy": "right enter {\n  on a\n}\n"}, 200, {"accepted": False}),
     Row("root", "POST", "/admin/policy/check", {"policy": "right enter {}"}, 200, {"accepted": True}),
     Row("root", "POST", "/admin/policy/dry-run", {"policy": "right sit {}"}, 200, {"would_do": WOULD_DO}),
+    # A line `%%` is refused alike by all three, with or without something below it.
+    Row("root", "POST", "/admin/policy/check", {"policy": DIVIDED}, 200, {"accepted": False, "fault": DIVIDER}),
+    Row("root", "POST", "/admin/policy/check", {"policy": DIVIDED + "client 0\ntick 5\n"}, 200, {"accepted": False, "fault": DIVIDER}),
+    Row("root", "POST", "/admin/policy/dry-run", {"policy": DIVIDED[:-1]}, 200, {"would_do": [], "refused": DIVIDER}),
+    Row("root", "POST", "/admin/amend", {"policy": DIVIDED, "drop": ALL}, 400, {"error": "the policy has a fault", "fault": DIVIDER}),
     # Without its right each use is revoked: ann's and bob's.
-    Row("root", "POST", "/admin/amend", {"policy": "right sit {} # none may enter\n", "drop": ALL}, 200, {"outcome": "ok"}),
+    Row("root", "POST", "/admin/amend", {"policy": "right sit {} # none may enter\n", "drop": ALL}, 200, {"outcome": "ok"}, KEYED),
+    Row("root", "POST", "/admin/amend", {"policy": "right sit {} # none may enter\n", "drop": ALL}, 200, {"outcome": "ok"}, KEYED),
+    Row("root", "POST", "/admin/amend", {"policy": "right sit {} # none may enter\n"}, 422, {}, KEYED),
+    Row("root", "POST", "/admin/amend", {"policy": "right sit {}", "drop": ["s.cleared"]}, 400, {"unknown": ["s.cleared"]}),
     Row("ann", "GET", "/using", None, 200, {"using": []}),
     Row("ann", "POST", "/try", {"right": "sit", "object": "bench"}, 200, {"accessing": True}),
 ]
@@ -172,6 +218,18 @@ TABLE = [
 def seen(told: Told) -> tuple[int, str, dict[str, str]]:
     """All that whoever asked can see but the date."""
     return told.status, str(told.body), {name: value for name, value in told.headers.items() if name != "Date"}
+
+
+async def with_headers(running: Front, path: str, raw: bytes, headers: list[tuple[str, str]]) -> tuple[int, Any]:
+    """What ann is answered to a request with these headers, of which one may come again."""
+    host, port = running.url.removeprefix("http://").split(":")
+    reader, writer = await asyncio.open_connection(host, int(port))
+    own = [("Host", host), ("Authorization", f"Bearer {running.people['ann'].token}"), ("Content-Type", "application/json")]
+    lines = [f"{name}: {value}" for name, value in [*own, ("Content-Length", str(len(raw))), ("Connection", "close"), *headers]]
+    writer.write("\r\n".join([f"POST {path} HTTP/1.1", *lines, "", ""]).encode() + raw)
+    head, _, body = (await asyncio.wait_for(reader.read(), 10)).partition(b"\r\n\r\n")
+    writer.close()
+    return int(head.split()[1]), json.loads(body)
 
 
 class Routes(unittest.IsolatedAsyncioTestCase):
@@ -185,6 +243,8 @@ class Routes(unittest.IsolatedAsyncioTestCase):
                         # The program has no such reading: nothing else may be answered so.
                         continue
                     self.assertEqual(told.status, row.status, str(told.body)[:300])
+                    if row.status == 405:
+                        self.assertEqual(told.headers["Allow"], "POST")
                     for name, value in row.says.items():
                         self.assertEqual(told.body.get(name), value, told.body)
 
@@ -223,6 +283,20 @@ class Routes(unittest.IsolatedAsyncioTestCase):
             lines = [it for it in running.said if '"' in it]
             self.assertEqual([it.split(" ", 2)[2].split('"')[0] for it in lines[-3:]], ["127.0.0.1 ann ", "127.0.0.1 ann ", "127.0.0.1 - "])
             self.assertNotIn("secret", "\n".join(lines))
+
+    def test_the_page_has_each_status(self) -> None:
+        """Of these requests, and of refusals of the monitor."""
+        page = (TOP / "docs" / "front.md").read_text()
+        rows = re.findall(r"^\| (\d{3}(?:, \d{3})*) \|", page, re.MULTILINE)
+        told = {int(it) for row in rows for it in row.split(", ")}
+        self.assertEqual(({row.status for row in TABLE} | set(REFUSED.values())) - told, set())
+
+    async def test_a_request_with_two_keys_is_refused(self) -> None:
+        async with front() as running:
+            for keys in (("a", "b"), ("a", "a"), ("a", "")):
+                said = await with_headers(running, "/try", b'{"right":"enter","object":"hall"}', [("Idempotency-Key", it) for it in keys])
+                self.assertEqual(said, (400, {"error": "a request has one Idempotency-Key"}))
+            self.assertEqual((await running.get("ann", "/using")).body["using"], [])
 
     async def test_wrong_tokens_are_all_answered_alike(self) -> None:
         async with front() as running:

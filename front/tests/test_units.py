@@ -1,17 +1,20 @@
 """The parts that need no monitor."""
 import asyncio
 import pathlib
+import signal
 import tempfile
 import unittest
+import unittest.mock
 from typing import Any
 
-from front import protocol
+from front import policies, protocol
 from front.answers import explanation, of_reply, own_row
+from front.asking import Refused
 from front.config import Limits, config_of
 from front.events import of_own
 from front.history import History, Step
 from front.limits import Rates
-from front.monitor import Monitor, Waiting
+from front.monitor import Failed, Monitor, Waiting, kill
 from front.protocol import Line, NoReply, Reply, Unspeakable, explained, reply_of
 from front.repeats import OtherRequest, Repeats
 from front.sessions import Sessions, State
@@ -88,6 +91,28 @@ class Answers(unittest.TestCase):
         self.assertIsNone(of_own(step(3, 0, "tick 5", "ok"), sessions, "ann"))
 
 
+class Faults(unittest.IsolatedAsyncioTestCase):
+    async def test_a_faults_place_is_the_first_one_of_its_text(self) -> None:
+        """However the line goes on that has the place, and whatever place a hint names behind it."""
+        for text, line, column, said in (
+            ("right enter {", 1, 14, "policy:1:14: the policy ends here"), ("right enter {\n  on a\n}\n", 3, 1, "policy:3:1"),
+            ("right sit {\n}\nright enter { pre b y: s.bage = 1; }\n", 3, 24, "policy:3:24"),
+            ("attr s age : int 0..9 = 1;\nright sit {\n  pre a y: s.bage = 1;\n}\n", 3, 12, "policy:3:12: item 3"),
+            ("attr s a : int 0..1 = 5;\n", 1, 8, "policy:1:8: item 1"),
+        ):
+            body: Any = (await policies.check(policies.bytes_of(text))).body
+            fault = body["fault"]
+            self.assertEqual((fault.get("line"), fault.get("column"), fault["text"].split("\n")[1]), (line, column, said))
+
+
+    async def test_a_check_that_cant_be_made_tells_nothing_of_the_policy(self) -> None:
+        for ended, says in (((125, "", "ucon: no program\n"), "ucon: no program"), ((137, "", ""), "status 137")):
+            with unittest.mock.patch("front.policies.tried", return_value=ended), self.assertRaises(Refused) as refused:
+                await policies.check(b"right enter {}")
+            answer = refused.exception.answer
+            self.assertEqual((answer.status, answer.body["error"]), (503, f"the policy can't be tried now: {says}"))
+
+
 class Owners(unittest.TestCase):
     def test_a_session_is_its_subjects(self) -> None:
         sessions = Sessions()
@@ -145,6 +170,32 @@ class Recovery(unittest.IsolatedAsyncioTestCase):
         replies, again = await self._matched(lines, [step(1, 1, "end 1", "ended 1"), step(2, 0, "tick 5", "ok")])
         self.assertEqual(replies, ["", "ended 1", "ok"])
         self.assertEqual(again, ["0 tick 5"])
+
+
+class Ends(unittest.IsolatedAsyncioTestCase):
+    async def _ended(self, *words: str) -> int:
+        """With which status a monitor fails that doesn't begin."""
+        pipe = asyncio.subprocess.PIPE
+        monitor = object.__new__(Monitor)
+        monitor.policy = b"right a {}\n"
+        monitor._process = await asyncio.create_subprocess_exec(*words, stdin=pipe, stdout=pipe)
+        with self.assertRaises(Failed) as failed:
+            await monitor._ready(monitor._process)
+        return failed.exception.status
+
+    async def test_the_status_of_a_monitor_that_doesnt_begin_is_its_own(self) -> None:
+        """Its output ends before it does, or with it, and nothing takes its status from whoever waits."""
+        for words, status in ((("false",), 1), (("sh", "-c", "exit 10"), 10), (("sh", "-c", "exec >&-; sleep 0.05; exit 8"), 8), (("true",), 128)):
+            self.assertEqual([await self._ended(*words) for _ in range(15)], [status] * 15)
+        self.assertEqual(await self._ended("sh", "-c", "echo hello; exec sleep 60"), 128 + signal.SIGKILL)
+
+    async def test_a_monitor_that_has_ended_is_killed_without_harm(self) -> None:
+        for _ in range(15):
+            process = await asyncio.create_subprocess_exec("sh", "-c", "exit 8", stdout=asyncio.subprocess.PIPE)
+            assert process.stdout
+            await process.stdout.read()
+            kill(process)
+            self.assertIn(await process.wait(), (8, -signal.SIGKILL))
 
 
 class Repeated(unittest.IsolatedAsyncioTestCase):
