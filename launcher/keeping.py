@@ -216,7 +216,9 @@ class Keeper:
                 os.replace(self.told_path, lost)
                 self.say(f"went on; what was told before is kept in {near(lost)}")
             now = self.told_now(found, status)
-            if now and not (found.told and now.says_the_same(found.told)):
+            # A conversation has written that others are told, whatever was found.
+            is_stale = self.tells_others or not (found.told and now and now.says_the_same(found.told))
+            if now and is_stale:
                 self.write_beside(self.told_path, now.text().encode())
         except (Refused, OSError) as why:
             self.say(f"{near(self.told_path)} doesn't say what this run told: {why}")
