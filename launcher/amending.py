@@ -9,10 +9,10 @@ import tempfile
 from typing import Dict, List, NamedTuple, Optional
 
 from launcher import hints, log
-from launcher.asking import answered
+from launcher.asking import POLICY_REFUSED, answered
 from launcher.fault import policy_end
 from launcher.in_force import in_force
-from launcher.journal import FILE_FAILED, NO_JOURNAL, Journal, Refused, Step, open_journal
+from launcher.journal import FILE_FAILED, NO_JOURNAL, Journal, Refused, Step, no_policy, open_journal
 from launcher.keeping import ACCEPT, Keeper
 from launcher.lock import Lock, take
 from launcher.policy import TOKEN, declared_in, items_of, tokens_of
@@ -109,6 +109,9 @@ def tried(path_of_program: pathlib.Path, journal: Journal, end: int, document: b
     """What the amendment is answered on a copy, which is then gone. The journal's records end at this place."""
     with room(end) as folder:
         ended = answered(path_of_program, ["play", str(copied(journal, folder, end, b"\0"))], document)
+    if ended.status in POLICY_REFUSED:
+        # The new policy is accepted, so that it is the one that the journal began with.
+        raise no_policy(journal.name)
     if ended.status:
         raise Refused(ended.status, f"{journal.name}: on a copy: {ended.line}", "the journal was left as it is")
     return ended.output.split(b" ", 2)[2].rstrip(b"\n")

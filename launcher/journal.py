@@ -47,6 +47,11 @@ class Damaged(Refused):
         self.at = at
 
 
+def no_policy(name: str) -> Damaged:
+    """Record 0 isn't a policy that the program accepts: whoever brings it with a document brings what the journal has."""
+    return Damaged(name, 0, FIRST_GATE, "it is no policy that is accepted")
+
+
 # ---- records
 
 
