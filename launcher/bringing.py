@@ -61,6 +61,15 @@ def put(brought: Brought) -> Tuple[List[str], Input]:
     return brought.words, Input(name, 0, len(front))
 
 
+def look(words: List[str]) -> None:
+    """A conversation under the journal's own policy makes no journal: refused where there is none, as other words over it are."""
+    from launcher.asking import first_policy
+
+    if words[0] == "converse" and words[-1] == POLICY_ALONE:
+        with open_journal(words[1]) as it:
+            first_policy(it)
+
+
 def judged(journal: str, ended: Ended) -> Ended:
     """How a run ended whose policy was the journal's: where that one is refused, the journal's record 0 is wrong."""
     if ended.status not in REFUSED:

@@ -49,6 +49,9 @@ def run(path_of_program: pathlib.Path, words: List[str], accepts_loss: bool, cat
     try:
         held = lock.take(words[1])
         if held is None:
+            if words[0] == "converse" and is_device(words[1]):
+                # To open it might take forever, and there is nobody who would write it.
+                return Ended(DISK_FAULT, b"ucon: disk fault\n")
             # The program says what is wrong with the path.
             return started([str(path_of_program), *asked(words)], None, catches)
         try:
@@ -57,6 +60,11 @@ def run(path_of_program: pathlib.Path, words: List[str], accepts_loss: bool, cat
             held.release()
     except Refused as why:
         return Ended(why.status, why.text().encode())
+
+
+def is_device(path: str) -> bool:
+    """Whether something is there that is neither a file nor a folder."""
+    return os.path.exists(path) and not os.path.isfile(path) and not os.path.isdir(path)
 
 
 class Found(NamedTuple):
