@@ -12,7 +12,7 @@ from launcher import hints, log
 from launcher.asking import POLICY_REFUSED, answered
 from launcher.fault import policy_end
 from launcher.in_force import in_force
-from launcher.journal import FILE_FAILED, NO_JOURNAL, Journal, Refused, Step, no_policy, open_journal
+from launcher.journal import FILE_FAILED, Journal, Refused, Step, no_policy, open_journal
 from launcher.keeping import ACCEPT, Keeper
 from launcher.lock import Lock, take
 from launcher.policy import TOKEN, declared_in, items_of, tokens_of
@@ -161,9 +161,6 @@ def run(path_of_program: pathlib.Path, asked: Asked) -> int:
 
 def document_and_report(path_of_program: pathlib.Path, journal: Journal, asked: Asked, policy: bytes) -> bytes:
     """Tries the amendment and says what it does. The document that makes it; refused where it can't be made, or drops what isn't named."""
-    if not journal.magic():
-        hint = f"`ucon play {journal.name} < DOCUMENT` begins it"
-        raise Refused(NO_JOURNAL, f"{journal.name} holds no record yet, and so no policy to amend", hint)
     before = in_force(journal)
     if before.first and not before.first.endswith(b"\n"):
         raise Refused(NOT_AMENDED, f"{journal.name} began with a policy whose last line has no newline, so no document brings it with commands")

@@ -6,7 +6,7 @@ from typing import List, NamedTuple
 
 from launcher import forms, program
 from launcher.fault import policy_end
-from launcher.journal import NO_JOURNAL, Journal, Refused, no_policy
+from launcher.journal import Journal, Refused, no_policy, no_record
 from launcher.room import writable
 
 # How long one answer may take, in seconds: of a journal that is as long as one gets it takes minutes.
@@ -42,7 +42,7 @@ def first_policy(journal: Journal) -> bytes:
     """The text of record 0. Refused where there is none yet."""
     first = next((payload for _, payload in journal.walk()), None) if journal.magic() else None
     if first is None:
-        raise Refused(NO_JOURNAL, f"{journal.name} holds no record yet", f"`ucon play {journal.name} < DOCUMENT` begins it")
+        raise no_record(journal)
     if policy_end(first) < len(first) or len(first) > LONGEST_POLICY:
         # No document brings it whole.
         raise no_policy(journal.name)
