@@ -13,7 +13,7 @@ from launcher.asking import POLICY_REFUSED, answered
 from launcher.fault import policy_end
 from launcher.in_force import in_force
 from launcher.journal import FILE_FAILED, Journal, Refused, Step, no_policy, open_journal
-from launcher.keeping import ACCEPT, Keeper
+from launcher.keeping import ACCEPT, BEHIND_FILE, Keeper
 from launcher.lock import Lock, take
 from launcher.policy import TOKEN, declared_in, items_of, tokens_of
 from launcher.program import Ended
@@ -195,7 +195,8 @@ def put_in_force(path_of_program: pathlib.Path, held: Lock, asked: Asked, docume
         source.write(document)
         source.flush()
         source.seek(0)
-        ended = Keeper(asked.path, held, asked.accepts_loss).run([str(path_of_program), "play", asked.path], True, source, output)
+        keeper = Keeper(asked.path, held, asked.accepts_loss, behind=BEHIND_FILE)
+        ended = keeper.run([str(path_of_program), "play", asked.path], True, source, output)
         output.seek(0)
         return say_made(asked, ended, output.read())
 
