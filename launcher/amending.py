@@ -58,13 +58,24 @@ def asked_of(words: List[str]) -> Optional[Asked]:
 # ---- policies
 
 
-def policy_in(file: str) -> bytes:
+class Brought(NamedTuple):
     """The policy of a file: all of it, or of a document what stands before its divider."""
+
+    policy: bytes
+    is_document: bool
+
+
+def policy_in(file: str) -> bytes:
+    return brought(file).policy
+
+
+def brought(file: str) -> Brought:
+    """What a file brings. Refused where it can't be read."""
     try:
         raw = pathlib.Path(file).read_bytes()
     except OSError as why:
         raise Refused(FILE_FAILED, f"{file} can't be read: {why.strerror}", "name a file with a policy, as one that `ucon check` takes") from None
-    return raw[: policy_end(raw)]
+    return Brought(raw[: policy_end(raw)], policy_end(raw) < len(raw))
 
 
 def one_line(policy: bytes) -> bytes:
@@ -138,11 +149,19 @@ def report(journal: Journal, change: Change, kinds: Dict[str, bytes], reply: byt
     return lines + [f"revokes: {use.session} [{sessions.of(use.session).decode()}] by {use.label}" for use in uses]
 
 
+def unchanged(old: bytes, new: bytes) -> List[str]:
+    """What is said of an amendment of which nothing else is."""
+    is_same = [token.raw for token in tokens_of(old)] == [token.raw for token in tokens_of(new)]
+    return ["changes nothing: it says what the policy in force says" if is_same else "changes no declaration, and ends no use"]
+
+
 # ---- the word
 
 
 def run(path_of_program: pathlib.Path, asked: Asked) -> int:
-    policy = policy_in(asked.file)
+    policy, is_document = brought(asked.file)
+    if is_document:
+        sys.stderr.write(f"ucon: {asked.file} is a document: the policy before its line %% is taken, and nothing behind it\n")
     hold_accepted(path_of_program, asked.file, policy)
     if asked.is_dry:
         with open_journal(asked.path) as journal:
@@ -171,7 +190,7 @@ def document_and_report(path_of_program: pathlib.Path, journal: Journal, asked: 
     reply = tried(path_of_program, journal, before.end, document)
     kinds = declared(policy)
     change = change_of(declared(before.text), kinds)
-    for line in report(journal, change, kinds, reply):
+    for line in report(journal, change, kinds, reply) or unchanged(before.text, policy) * asked.is_dry:
         print(line, flush=True)
     if not reply.startswith(b"ok"):
         hint = "keep each kind as it is, bounds included, or give the attribute another name"
