@@ -141,7 +141,8 @@ class Keeper:
                 self.say_of_others(told, 0)
             elif told:
                 says = "isn't there" if self.held.is_made else "holds no record"
-                hint = f"put a copy back that has them; to begin a new journal, take {near(self.told_path)} away, or say {ACCEPT} behind {self.behind}"
+                begins = f"to begin a new journal, take {near(self.told_path)} away, or say {ACCEPT} behind {self.behind}"
+                hint = f"put a copy back that has them; {begins}"
                 raise Refused(LOST, f"{journal.name} {says}, and {told.place} steps of it were told", hint)
             return Found(None, told)
         try:
