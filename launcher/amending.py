@@ -9,11 +9,11 @@ import tempfile
 from typing import Dict, List, NamedTuple, Optional
 
 from launcher import hints, log
-from launcher.asking import answered
+from launcher.asking import POLICY_REFUSED, answered
 from launcher.fault import policy_end
 from launcher.in_force import in_force
-from launcher.journal import FILE_FAILED, NO_JOURNAL, Journal, Refused, Step, open_journal
-from launcher.keeping import ACCEPT, Keeper
+from launcher.journal import FILE_FAILED, Journal, Refused, Step, no_policy, open_journal
+from launcher.keeping import ACCEPT, BEHIND_FILE, Keeper
 from launcher.lock import Lock, take
 from launcher.policy import TOKEN, declared_in, items_of, tokens_of
 from launcher.program import Ended
@@ -58,13 +58,24 @@ def asked_of(words: List[str]) -> Optional[Asked]:
 # ---- policies
 
 
-def policy_in(file: str) -> bytes:
+class Brought(NamedTuple):
     """The policy of a file: all of it, or of a document what stands before its divider."""
+
+    policy: bytes
+    is_document: bool
+
+
+def policy_in(file: str) -> bytes:
+    return brought(file).policy
+
+
+def brought(file: str) -> Brought:
+    """What a file brings. Refused where it can't be read."""
     try:
         raw = pathlib.Path(file).read_bytes()
     except OSError as why:
         raise Refused(FILE_FAILED, f"{file} can't be read: {why.strerror}", "name a file with a policy, as one that `ucon check` takes") from None
-    return raw[: policy_end(raw)]
+    return Brought(raw[: policy_end(raw)], policy_end(raw) < len(raw))
 
 
 def one_line(policy: bytes) -> bytes:
@@ -109,6 +120,9 @@ def tried(path_of_program: pathlib.Path, journal: Journal, end: int, document: b
     """What the amendment is answered on a copy, which is then gone. The journal's records end at this place."""
     with room(end) as folder:
         ended = answered(path_of_program, ["play", str(copied(journal, folder, end, b"\0"))], document)
+    if ended.status in POLICY_REFUSED:
+        # The new policy is accepted, so that it is the one that the journal began with.
+        raise no_policy(journal.name)
     if ended.status:
         raise Refused(ended.status, f"{journal.name}: on a copy: {ended.line}", "the journal was left as it is")
     return ended.output.split(b" ", 2)[2].rstrip(b"\n")
@@ -135,11 +149,19 @@ def report(journal: Journal, change: Change, kinds: Dict[str, bytes], reply: byt
     return lines + [f"revokes: {use.session} [{sessions.of(use.session).decode()}] by {use.label}" for use in uses]
 
 
+def unchanged(old: bytes, new: bytes) -> List[str]:
+    """What is said of an amendment of which nothing else is."""
+    is_same = [token.raw for token in tokens_of(old)] == [token.raw for token in tokens_of(new)]
+    return ["changes nothing: it says what the policy in force says" if is_same else "changes no declaration, and ends no use"]
+
+
 # ---- the word
 
 
 def run(path_of_program: pathlib.Path, asked: Asked) -> int:
-    policy = policy_in(asked.file)
+    policy, is_document = brought(asked.file)
+    if is_document:
+        sys.stderr.write(f"ucon: {asked.file} is a document: the policy before its line %% is taken, and nothing behind it\n")
     hold_accepted(path_of_program, asked.file, policy)
     if asked.is_dry:
         with open_journal(asked.path) as journal:
@@ -158,9 +180,6 @@ def run(path_of_program: pathlib.Path, asked: Asked) -> int:
 
 def document_and_report(path_of_program: pathlib.Path, journal: Journal, asked: Asked, policy: bytes) -> bytes:
     """Tries the amendment and says what it does. The document that makes it; refused where it can't be made, or drops what isn't named."""
-    if not journal.magic():
-        hint = f"`ucon play {journal.name} < DOCUMENT` begins it"
-        raise Refused(NO_JOURNAL, f"{journal.name} holds no record yet, and so no policy to amend", hint)
     before = in_force(journal)
     if before.first and not before.first.endswith(b"\n"):
         raise Refused(NOT_AMENDED, f"{journal.name} began with a policy whose last line has no newline, so no document brings it with commands")
@@ -171,7 +190,7 @@ def document_and_report(path_of_program: pathlib.Path, journal: Journal, asked: 
     reply = tried(path_of_program, journal, before.end, document)
     kinds = declared(policy)
     change = change_of(declared(before.text), kinds)
-    for line in report(journal, change, kinds, reply):
+    for line in report(journal, change, kinds, reply) or unchanged(before.text, policy) * asked.is_dry:
         print(line, flush=True)
     if not reply.startswith(b"ok"):
         hint = "keep each kind as it is, bounds included, or give the attribute another name"
@@ -195,7 +214,8 @@ def put_in_force(path_of_program: pathlib.Path, held: Lock, asked: Asked, docume
         source.write(document)
         source.flush()
         source.seek(0)
-        ended = Keeper(asked.path, held, asked.accepts_loss).run([str(path_of_program), "play", asked.path], True, source, output)
+        keeper = Keeper(asked.path, held, asked.accepts_loss, behind=BEHIND_FILE)
+        ended = keeper.run([str(path_of_program), "play", asked.path], True, source, output)
         output.seek(0)
         return say_made(asked, ended, output.read())
 

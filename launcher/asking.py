@@ -5,11 +5,14 @@ import subprocess
 from typing import List, NamedTuple
 
 from launcher import forms, program
-from launcher.journal import NO_JOURNAL, Journal, Refused
+from launcher.fault import policy_end
+from launcher.journal import Journal, Refused, no_policy, no_record
 from launcher.room import writable
 
 # How long one answer may take, in seconds: of a journal that is as long as one gets it takes minutes.
 LONGEST = 3600
+# What the program ends with where the policy that it is given is refused, or isn't the journal's. A policy has at most so many bytes.
+POLICY_REFUSED, LONGEST_POLICY = (2, 10), 65_536
 DAMAGED_HINT = "put a copy back that is right (`ucon copy` makes one, `ucon verify` tells of one); nothing was written"
 
 
@@ -39,7 +42,10 @@ def first_policy(journal: Journal) -> bytes:
     """The text of record 0. Refused where there is none yet."""
     first = next((payload for _, payload in journal.walk()), None) if journal.magic() else None
     if first is None:
-        raise Refused(NO_JOURNAL, f"{journal.name} holds no record yet", f"`ucon play {journal.name} < DOCUMENT` begins it")
+        raise no_record(journal)
+    if policy_end(first) < len(first) or len(first) > LONGEST_POLICY:
+        # No document brings it whole.
+        raise no_policy(journal.name)
     return first
 
 
@@ -51,6 +57,8 @@ def ask(path_of_program: pathlib.Path, journal: Journal, form: str, *more: str) 
     if said.status == forms.USAGE:
         hint = "`ucon --version` says which one it is; build it anew"
         raise Refused(forms.FAILED, f"the program that is run has no form `{form} JOURNAL`", hint)
+    if said.status in POLICY_REFUSED:
+        raise no_policy(journal.name)
     if said.status:
         hint = DAMAGED_HINT if said.status in (7, 8) else "docs/errors.md tells of each status; nothing was written"
         raise Refused(said.status, f"{journal.name}: {said.line}", hint)

@@ -3,11 +3,12 @@
 The policy is the one that the journal began with, which is its record 0: so nobody has to keep it. The whole document takes the place of
 standard input; places in it are told as those of the script's file."""
 import os
+import re
 import sys
 from typing import List, NamedTuple, Optional, Tuple
 
-from launcher.journal import FILE_FAILED, Refused, open_journal
-from launcher.program import Input, input_name
+from launcher.journal import FILE_FAILED, Refused, no_policy, open_journal
+from launcher.program import Ended, Input, input_name
 
 SCRIPT, POLICY_ALONE = "--script", "--journal-policy"
 # The forms that take the one or the other. What holds a conversation reads the journal's policy itself.
@@ -15,6 +16,9 @@ WITH_SCRIPT, WITHOUT_LINES = ("play", "serve"), ("point", "audit", "report", "ex
 DIVIDER = b"%%\n"
 # The document can't be brought.
 NOT_BROUGHT = 121
+# What the program says of a policy that it refuses, or that is another one, and what it ends with then.
+POLICY_REFUSED = re.compile(rb"^ucon: (?:policy: |other policy at ).*\n", re.M)
+REFUSED = (2, 10)
 # More than the program takes; it says so then.
 ENOUGH = 4_194_305
 
@@ -55,6 +59,23 @@ def put(brought: Brought) -> Tuple[List[str], Input]:
         os.dup2(document.fileno(), 0)
     os.lseek(0, 0, os.SEEK_SET)
     return brought.words, Input(name, 0, len(front))
+
+
+def look(words: List[str]) -> None:
+    """A conversation under the journal's own policy makes no journal: refused where there is none, as other words over it are."""
+    from launcher.asking import first_policy
+
+    if words[0] == "converse" and words[-1] == POLICY_ALONE:
+        with open_journal(words[1]) as it:
+            first_policy(it)
+
+
+def judged(journal: str, ended: Ended) -> Ended:
+    """How a run ended whose policy was the journal's: where that one is refused, the journal's record 0 is wrong."""
+    if ended.status not in REFUSED:
+        return ended
+    why = no_policy(journal)
+    return Ended(why.status, POLICY_REFUSED.sub(b"", ended.errors) + why.text().encode())
 
 
 def script_of(file: str) -> Tuple[str, bytes]:

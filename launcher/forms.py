@@ -91,7 +91,7 @@ OWN = [
         "./ucon copy door.journal backup.journal",
     ),
     Form(
-        "amend JOURNAL FILE [--dry-run] [--drop NAME ..]",
+        "amend JOURNAL FILE [--dry-run] [--drop NAME ..] [--accept-loss]",
         "puts the policy of a file in force, tried on a copy first, and says who is revoked; --drop names what loses its values",
         "./ucon amend door.journal new.policy --dry-run",
     ),
@@ -196,8 +196,8 @@ After a fault of a document that is a file, the place, the line and a hint follo
 With --script FILE no document comes on standard input: FILE has the script alone (- is standard input), and the policy is the one that
 the journal began with. With --journal-policy it is that policy, and no script.
 A journal has one writer at a time, and what was told of it stands beside it, in JOURNAL.told. Where it lacks some of that, play,
-serve, point, converse and explain are refused before anything is written; --accept-loss behind JOURNAL goes on with what is there. What an opening
-cuts off behind the last whole record is kept in JOURNAL.torn.
+serve, point, converse and explain are refused before anything is written; --accept-loss behind JOURNAL goes on with what is there, as does
+amend with it behind FILE. What an opening cuts off behind the last whole record is kept in JOURNAL.torn.
 UCON_PROGRAM=FILE runs that program in place of the proved one, and UCON_CONVERSE=FILE that one for converse.
 """
 

@@ -2,7 +2,7 @@
 and changed the policy, since a step that is refused has no record. With `--first` it is that of record 0, which documents begin with."""
 from typing import List, NamedTuple, Optional
 
-from launcher.journal import NO_JOURNAL, Damaged, Journal, Refused, open_journal, step_of
+from launcher.journal import Damaged, Journal, no_record, open_journal, step_of
 from launcher.log import write
 from launcher.reading import is_path
 
@@ -43,7 +43,7 @@ def in_force(journal: Journal) -> InForce:
                     found, place = amended(journal, n, at, payload), n
         number, end = number + len(window.gates) - 1, window.at + window.gates[-1]
     if first is None:
-        raise Refused(NO_JOURNAL, f"{journal.name} holds no record yet, and so no policy", f"`ucon play {journal.name} < DOCUMENT` begins it")
+        raise no_record(journal, ", and so no policy")
     return InForce(found, place, first, end)
 
 

@@ -20,6 +20,8 @@ POINT = b"point "
 # How much of the file is read at once: what fits a processor's cache is read in three quarters of the time.
 WINDOW = 1 << 16
 
+PUT_BACK = "put a copy back (`ucon copy` makes one)"
+
 # The statuses of the program that these ends have (docs/errors.md).
 FILE_FAILED, DAMAGED, NO_JOURNAL = 6, 7, 8
 
@@ -45,6 +47,11 @@ class Damaged(Refused):
         super().__init__(DAMAGED, f"{name}: damaged record {number} at {at}: {why}", hint)
         self.number = number
         self.at = at
+
+
+def no_policy(name: str) -> Damaged:
+    """Record 0 isn't a policy that the program accepts: whoever brings it with a document brings what the journal has."""
+    return Damaged(name, 0, FIRST_GATE, "it is no policy that is accepted")
 
 
 # ---- records
@@ -291,6 +298,21 @@ def open_journal(path: str) -> Journal:
     return Journal(path, file)
 
 
+def no_record(journal: Journal, behind: str = "") -> Refused:
+    """Why a word can't go on over a journal without records, and what to do."""
+    sentence = f"{journal.name} holds no record yet{behind}"
+    if journal.size > LONGEST_FRESH and journal.end(FIRST_GATE).strange:
+        return Refused(NO_JOURNAL, f"{sentence}: it ends within record 0", f"the file was cut: {PUT_BACK}")
+    return Refused(NO_JOURNAL, sentence, begins(journal.name, "begins it"))
+
+
+def begins(path: str, does: str) -> str:
+    """What to do where no journal is. Where others were told of one, a document is refused there."""
+    beside = f"{path}.told"
+    is_told = os.path.lexists(f"{os.path.realpath(path)}.told")
+    return f"{beside} tells of a journal that was there: {PUT_BACK}" if is_told else f"`ucon play {path} < DOCUMENT` {does}"
+
+
 def no_file(path: str) -> Tuple[str, str]:
     if os.path.isdir(path):
         return f"{path} is a folder", "name the journal's file in it"
@@ -303,7 +325,7 @@ def unopened(path: str, why: OSError) -> Refused:
     if isinstance(why, FileNotFoundError) and not os.path.isdir(folder):
         return Refused(FILE_FAILED, f"{path} isn't there: there is no folder {folder}", "look at the path")
     if isinstance(why, FileNotFoundError):
-        return Refused(FILE_FAILED, f"{path} isn't there", f"look at the path; `ucon play {path} < DOCUMENT` makes a journal")
+        return Refused(FILE_FAILED, f"{path} isn't there", f"look at the path; {begins(path, 'makes a journal')}")
     if isinstance(why, NotADirectoryError):
         return Refused(FILE_FAILED, f"{path} isn't there: a part of the path is a file", "look at the path")
     if isinstance(why, IsADirectoryError):

@@ -59,7 +59,7 @@ def not_a_journal(path: str) -> Iterator[str]:
     if is_document(raw):
         yield f"hint: {path} is a document, which comes on standard input; the word behind the form names the file that keeps the history,\n"
         yield "hint: and is made where it isn't there, as in play door.journal < door.ucon\n"
-    elif raw:
+    elif raw and not is_journal(raw):
         yield f"hint: {path} begins with `{shown(raw[:8])}`, and a journal with `UCONJR02`: name another file\n"
 
 

@@ -24,8 +24,8 @@ ACCEPT = "--accept-loss"
 # The statuses behind which nothing of the journal was written, and nobody was told a place (docs/errors.md).
 UNTOUCHED = (1, 2, 3, 4, 7, 8, 10, 11)
 DISK_FAULT = 6
-GOES_ON = f"{ACCEPT} behind the journal's name goes on with what is there"
-PUT_BACK = f"nothing was written: put a copy back that has them (`ucon copy` makes one); {GOES_ON}"
+# Behind which word that stands.
+BEHIND_JOURNAL, BEHIND_FILE = "the journal's name", "the policy's file"
 
 
 def without_accepting(words: List[str]) -> Tuple[List[str], bool]:
@@ -49,6 +49,9 @@ def run(path_of_program: pathlib.Path, words: List[str], accepts_loss: bool, cat
     try:
         held = lock.take(words[1])
         if held is None:
+            if words[0] == "converse" and is_device(words[1]):
+                # To open it might take forever, and there is nobody who would write it.
+                return Ended(DISK_FAULT, b"ucon: disk fault\n")
             # The program says what is wrong with the path.
             return started([str(path_of_program), *asked(words)], None, catches)
         try:
@@ -57,6 +60,11 @@ def run(path_of_program: pathlib.Path, words: List[str], accepts_loss: bool, cat
             held.release()
     except Refused as why:
         return Ended(why.status, why.text().encode())
+
+
+def is_device(path: str) -> bool:
+    """Whether something is there that is neither a file nor a folder."""
+    return os.path.exists(path) and not os.path.isfile(path) and not os.path.isdir(path)
 
 
 class Found(NamedTuple):
@@ -79,14 +87,17 @@ class Tail(NamedTuple):
 
 
 class Keeper:
-    """One run over a journal that is locked. `tells_others` says that its replies go to somebody else as they come."""
+    """One run over a journal that is locked. `tells_others` says that its replies go to somebody else as they come, and `behind` where a
+    loss is accepted."""
 
-    def __init__(self, name: str, held: Lock, accepts_loss: bool, tells_others: bool = False) -> None:
+    def __init__(self, name: str, held: Lock, accepts_loss: bool, tells_others: bool = False, behind: str = BEHIND_JOURNAL) -> None:
         self.journal = Journal(name, held.file)
         self.held = held
         self.told_path = path_of(held.path)
         self.accepts_loss = accepts_loss
         self.tells_others = tells_others
+        self.behind = behind
+        self.goes_on = f"{ACCEPT} behind {behind} goes on with what is there"
         self.said: List[str] = []
 
     def say(self, line: str) -> None:
@@ -108,6 +119,10 @@ class Keeper:
             self.put_back(found)
         return Ended(ended.status, ended.errors + "".join(self.said).encode())
 
+    @property
+    def put_back_hint(self) -> str:
+        return f"nothing was written: put a copy back that has them (`ucon copy` makes one); {self.goes_on}"
+
     # ---- before
 
     def looked_at(self) -> Found:
@@ -126,23 +141,24 @@ class Keeper:
                 self.say_of_others(told, 0)
             elif told:
                 says = "isn't there" if self.held.is_made else "holds no record"
-                hint = f"put a copy back that has them; to begin a new journal, take {near(self.told_path)} away, or say {ACCEPT} behind the name"
+                begins = f"to begin a new journal, take {near(self.told_path)} away, or say {ACCEPT} behind {self.behind}"
+                hint = f"put a copy back that has them; {begins}"
                 raise Refused(LOST, f"{journal.name} {says}, and {told.place} steps of it were told", hint)
             return Found(None, told)
         try:
             followed, _, loss, front = meet(journal)
         except Refused as why:
             if told:
-                raise Refused(LOST, f"{why.sentence}; {told.place} steps of it were told", PUT_BACK) from None
+                raise Refused(LOST, f"{why.sentence}; {told.place} steps of it were told", self.put_back_hint) from None
             # The program says what is wrong with it, and writes nothing.
             return Found()
         if loss:
-            raise Refused(LOST, loss.text(journal.name), PUT_BACK)
+            raise Refused(LOST, loss.text(journal.name), self.put_back_hint)
         end = journal.end(followed.at)
         strange = end.strange or changed_gate(end, followed, told)
         if strange:
             says = f"{journal.name}: behind {followed.steps} whole steps, at byte {end.at}, stands what no write of the program leaves: {strange}"
-            raise Refused(LOST, says, f"nothing was written: put a copy back, or see what wrote there; {GOES_ON}")
+            raise Refused(LOST, says, f"nothing was written: put a copy back, or see what wrote there; {self.goes_on}")
         if told:
             self.say_of_others(told, followed.steps)
         return Found(followed, told, end, front)
@@ -216,7 +232,9 @@ class Keeper:
                 os.replace(self.told_path, lost)
                 self.say(f"went on; what was told before is kept in {near(lost)}")
             now = self.told_now(found, status)
-            if now and not (found.told and now.says_the_same(found.told)):
+            # A conversation has written that others are told, whatever was found.
+            is_stale = self.tells_others or not (found.told and now and now.says_the_same(found.told))
+            if now and is_stale:
                 self.write_beside(self.told_path, now.text().encode())
         except (Refused, OSError) as why:
             self.say(f"{near(self.told_path)} doesn't say what this run told: {why}")
@@ -243,7 +261,7 @@ class Keeper:
             os.replace(fresh, path)
         except OSError as why:
             remove(fresh)
-            hint = f"make room in the journal's folder, or see who may write there; {GOES_ON}"
+            hint = f"make room in the journal's folder, or see who may write there; {self.goes_on}"
             raise Refused(DISK_FAULT, f"{near(path)} can't be written: {why.strerror}", hint) from None
 
 

@@ -83,7 +83,10 @@ def readable_input() -> Optional[Input]:
 
 
 def input_name() -> str:
+    """The name of the file that comes on standard input. A pipe and a terminal have none that a person would know."""
     try:
+        if not stat.S_ISREG(os.fstat(0).st_mode):
+            return "standard input"
         name = os.readlink("/proc/self/fd/0")
     except OSError:
         return "standard input"

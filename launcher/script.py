@@ -54,7 +54,7 @@ def words_of(line: bytes, at: int, most: Optional[int] = None) -> List[Word]:
 
 
 def is_integer(raw: bytes) -> bool:
-    return INTEGER.fullmatch(raw) is not None and abs(int(raw)) <= GREATEST
+    return INTEGER.fullmatch(raw) is not None and len(raw) < 18 and abs(int(raw)) <= GREATEST
 
 
 def is_set(raw: bytes) -> bool:
@@ -70,7 +70,7 @@ def fits(kind: str, raw: bytes) -> bool:
     if kind == "SIDE":
         return raw in (b"s", b"o")
     if kind == "n":
-        return SESSION.fullmatch(raw) is not None and int(raw) < 2**32
+        return SESSION.fullmatch(raw) is not None and len(raw) < 11 and int(raw) < 2**32
     if kind == "T":
         return is_integer(raw)
     if kind == "POLICY":

@@ -4,6 +4,8 @@ from typing import List, NamedTuple, Optional
 
 # How much of a long line is shown before and behind the mark.
 BEFORE, BEHIND = 60, 40
+# How much of a long line that stands beside that one.
+WIDTH = 120
 
 INVISIBLE = {
     b"\r": "a carriage return",
@@ -80,9 +82,9 @@ class Document:
     def under(self, mark: Span) -> str:
         start, end = self.line_start(mark.start), text_end(self.text, mark.start)
         left = max(start, mark.start - BEFORE)
-        right = min(end, max(mark.start + 1, min(mark.end, end)) + BEHIND)
+        right = min(end, max(mark.start + 1, min(mark.end, mark.start + BEHIND)) + BEHIND)
         before = shown(self.text[left : mark.start])
-        within = shown(self.text[mark.start : min(mark.end, end)])[:BEHIND] or " "
+        within = shown(self.text[mark.start : min(mark.end, mark.start + BEHIND, end)])[:BEHIND] or " "
         line = ".. " * (left > start) + shown(self.text[left:right]) + " .." * (right < end)
         blank = "".join("\t" if c == "\t" else " " for c in ".. " * (left > start) + before)
         return f"  {line}\n  {blank}{'^' * len(within)}\n"
@@ -94,6 +96,6 @@ class Document:
         while at < max(whole.end, whole.start + 1):
             end = self.line_end(at)
             has_mark = at <= mark.start <= end
-            out.append(self.under(mark) if has_mark else f"  {shown(self.raw[at:end])}\n")
+            out.append(self.under(mark) if has_mark else f"  {shown(self.raw[at : min(end, at + WIDTH)])}{' ..' * (end > at + WIDTH)}\n")
             at = end + 1
         return "".join(out)

@@ -68,16 +68,20 @@ def run(path_of_program: pathlib.Path, asked: Asked) -> int:
         sys.stderr.write(f"ucon: {sentence}\n")
     if wrong:
         sys.stderr.write("hint: the journal was changed, cut, or put back from an older copy: put a copy back that has what is missing\n")
-    return LOST if wrong else 0
+    if found.unread:
+        # As a word that writes says of the same file.
+        sys.stderr.write(found.unread.text())
+    return LOST if wrong or found.unread else 0
 
 
 class Found(NamedTuple):
-    """What the launcher sees of a journal beside the audit: how many bytes are behind its end, whether it has what was told, and
-    sentences on what is wrong."""
+    """What the launcher sees of a journal beside the audit: how many bytes are behind its end, whether it has what was told, sentences on
+    what is wrong, and why its companion can't be read."""
 
     behind: int
     told: str
     wrong: List[str]
+    unread: Optional[Refused] = None
 
 
 def wrong_in(journal: Journal) -> Found:
@@ -94,7 +98,7 @@ def wrong_in(journal: Journal) -> Found:
     except Refused as why:
         if why.status != LOST:
             raise
-        return Found(end.behind, "unread", [*wrong, why.sentence])
+        return Found(end.behind, "unread", wrong, why)
     if met is None or met.told is None:
         sys.stderr.write(f"ucon: {near(companion)} isn't there, so nobody knows what was told\n")
         return Found(end.behind, "none", wrong)
