@@ -1,8 +1,8 @@
 //! Command lines, the payloads of steps, and requests: the one text of each, both ways.
 //!
 //! A script's lines, a journal's records and a conversation's lines are read here. A `CommandLine` keeps only where the words of its line stand
-//! (`cuts.rt`), with the fact that they give the command. `payload.rt` does a journal's payloads both ways, and `request.rt` reads a line of a
-//! conversation.
+//! (`cuts.rt`), with the fact that they give the command. A journal's payloads are done both ways by `payload.rt`; a line of a conversation is read
+//! by `request.rt`.
 //!
 //! **Always.** Bytes are read as a command or a payload exactly if they are its one text.
 //!

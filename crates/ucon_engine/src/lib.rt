@@ -1,7 +1,7 @@
 //! What every engine does, whichever way it finds who is to be revoked.
 //!
-//! The store and the forms without a journal are proved over any engine, by this trait alone. `draft` answers and perhaps changes, then `keep` or
-//! `undo` follows. `restore` goes on from a state.
+//! The store and the forms without a journal are proved over any engine, by this trait alone. A call of `draft` answers and perhaps changes;
+//! `keep` or `undo` follows. To go on from a state, call `restore`.
 //!
 //! **Always.** Nothing pends and a trace is followed, or a change after such a trace pends (`IsIdle`, `IsPending`).
 //!

@@ -1,7 +1,7 @@
 //! The one spelling of a value, written. It also says what a spelling of any length is, and where bytes stop being the beginning of one.
 //!
 //! Replies, lines, checkpoints, printed policies and explanations write their values with it, so a value has one text in all of them.
-//! `bad_places_are_those_of_the_reader` ties the place of a bad spelling to the reader in `ucon_base`.
+//! A law ties the place of a bad spelling to the reader in `ucon_base` (`bad_places_are_those_of_the_reader`).
 //!
 //! **Always.** A call that writes a value also tells that the value is in form (`in_form`). Without memory it adds nothing.
 //!

@@ -58,7 +58,7 @@ RevokesFew P T = (H : History) (caller : Caller) (c : Command) → length (revoc
 
 -- Some trace leads to where the store begins, and behind each such trace the engine follows the store's entries, no accessing session fails, and
 -- no reply will have too many revocations. The text that is kept for it is that of the policy in force behind the entries. Without a mark the
--- journal is at rest. What its file is found as isn't said here, since a store that begins behind a checkpoint may be of no history: where there is
+-- journal is at rest. What its file is found as isn't said here, since a store that begins behind a checkpoint may be of no history. Where there is
 -- one, the calls pass it on (`IsFounded`).
 pub record IsKept {E D : Type 0} (follows : E → PlainPolicy → Trace → Type 0) (seen : D → DiskSeen)
     (engine : E) (journal : Journal D) (text : Bytes) (point : Option Beginning) (before : ℕ) (now : Bytes) (H : History)

@@ -1,7 +1,7 @@
 //! A store: the history of a policy's journal, kept in memory by an engine and on a disk by the journal.
 //!
 //! `play`, `serve`, `point` and a conversation answer their lines through one. A step is drafted, its payload is spelled, all memory is taken, the
-//! record is appended, and only then the change is kept. `Stays` is what lies between a store and what it becomes.
+//! record is appended, and only then the change is kept. What lies between a store and what it becomes is `Stays`.
 //!
 //! **Always.** Behind each trace that leads to the store's beginning the engine follows its entries, and nobody fails. Without a mark the journal
 //! is closed and at rest; with one nothing is written any more (`IsKept`).

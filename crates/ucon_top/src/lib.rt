@@ -8,8 +8,9 @@
 //!
 //! **Free.** How texts are put together; the engine, any that meets `Engine`.
 //!
-//! **Before a change.** A form is a row of `specs/Traits.antt` and a case of each record of the clause. `proofs/Stepwise.antt` carries the loop
-//! over a store. `Playing.antt`, `Pointing.antt` and `Told.antt` go from its opening to its closing. Begin at `specs/Ran.antt`, then `top.rt`.
+//! **Before a change.** A form is a row of `specs/Traits.antt` and a case of each record of the clause. The loop over a store is carried
+//! by `proofs/Stepwise.antt`. From its opening to its closing go `Playing.antt`, `Pointing.antt` and `Told.antt`. Begin at `specs/Ran.antt`, then
+//! `top.rt`.
 #![tactic(auto)]
 
 mod document;
