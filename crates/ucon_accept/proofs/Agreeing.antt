@@ -9,7 +9,7 @@ use Rattle.ucon_model.specs.declared.session.SessionRow.{SessionRow}
 use Rattle.ucon_model.specs.Places.{expr_places, formula_places, same_place}
 use Rattle.ucon_model.specs.Plain.{PlainExpr, lit, read, plus, minus, times, size, PlainFormula, both, either, negation, compare, lasts}
 use Rattle.ucon_model.specs.Truth.{Readings, holds, read_or_zero, value_of}
-use Rattle.ucon_asked.specs.Sums.{formula_makes_no_set, makes_no_set}
+use Rattle.ucon_model.specs.Sums.{formula_makes_no_set, makes_no_set}
 use Rattle.ucon_accept.specs.Facts.{asks_tick}
 use Rattle.ucon_accept.proofs.Same.{place_self}
 

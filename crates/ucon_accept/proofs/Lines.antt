@@ -10,7 +10,7 @@ use Rattle.ucon_model.specs.declared.session.SessionRow.{SessionRow}
 use Rattle.ucon_model.specs.Decision.{ongoing}
 use Rattle.ucon_model.specs.Plain.{PlainPredicate}
 use Rattle.ucon_model.specs.Truth.{Readings}
-use Rattle.ucon_asked.specs.Sums.{preds_make_no_set, test_makes_no_set}
+use Rattle.ucon_model.specs.Sums.{preds_make_no_set, test_makes_no_set}
 use Rattle.ucon_accept.specs.Checking.{IsFirstWrong}
 use Rattle.ucon_accept.specs.Explanation.{PlainWhy, line, lines_from}
 use Rattle.ucon_accept.proofs.Reading.{slice_get-seam, take-one_more}

@@ -2,8 +2,8 @@
 use Rattle.std.proofs.Common.{◌≡◌, ◌∙◌, ℕ, ◌+◌, ◌<◌, Bool, true, false, ◌∷◌, length, refl, sym, ap, subst, arith}
 use Rattle.std.specs.Prelude.{not, nat_le, Option, Some, None, is_none, is_some, IsSome, if◌then◌else◌}
 use Rattle.ucon_base.specs.declared.value.Side.TheVariants.{Subject, Object}
-use Rattle.ucon_asked.specs.Asked.{makes_no_set_at}
-use Rattle.ucon_asked.specs.Sums.{tests_make_no_set}
+use Rattle.ucon_model.specs.Asked.{makes_no_set_at}
+use Rattle.ucon_model.specs.Sums.{tests_make_no_set}
 use Rattle.ucon_model.specs.declared.reply.Refusal.{Refusal}
 use Rattle.ucon_model.specs.declared.reply.Refusal.TheVariants.{NoRight, NoSubject, NoObject, FullSessions, FullAccessing}
 use Rattle.ucon_model.specs.declared.session.SessionRow.{SessionRow}

@@ -3,7 +3,7 @@ use Rattle.std.proofs.Common.{◌≡◌, ◌∙◌, sym, ℕ, zero, suc, ◌+◌
 use Rattle.std.specs.List.{slice_get}
 use Rattle.std.specs.Str.{bytes_eq}
 use Rattle.ucon_base.specs.Arithmetic.{same_texts}
-use Rattle.ucon_asked.specs.Sums.{is_same_text}
+use Rattle.ucon_model.specs.Sums.{is_same_text}
 
 -- lists that are not as long are not the same
 pub same_texts-lengths : (s t : List (List ℕ)) → (length s ≡ length t → ⊥) → same_texts s t ≡ false

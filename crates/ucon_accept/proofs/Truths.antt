@@ -7,8 +7,8 @@ use Rattle.ucon_model.specs.declared.session.SessionRow.{SessionRow}
 use Rattle.ucon_model.specs.Places.{distinct, formula_places}
 use Rattle.ucon_model.specs.Plain.{PlainFormula, PlainTest, authorisation, duty, condition}
 use Rattle.ucon_model.specs.Truth.{Readings, holds, in_time, read_or_zero, truth}
-use Rattle.ucon_asked.specs.Asked.{no_session}
-use Rattle.ucon_asked.specs.Sums.{test_makes_no_set}
+use Rattle.ucon_model.specs.Asked.{no_session}
+use Rattle.ucon_model.specs.Sums.{test_makes_no_set}
 use Rattle.ucon_accept.specs.declared.explanation.Fact.{Fact}
 use Rattle.ucon_accept.specs.declared.explanation.Fact.TheVariants.{Moment}
 use Rattle.ucon_accept.specs.Facts.{asks_tick, formula_facts, is_timed, test_facts, tick_fact, value_fact}

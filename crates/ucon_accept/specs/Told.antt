@@ -5,7 +5,7 @@ use Rattle.ucon_model.specs.declared.formula.Ref.{Ref}
 use Rattle.ucon_model.specs.Places.{same_place}
 use Rattle.ucon_model.specs.Plain.{PlainTest}
 use Rattle.ucon_model.specs.Truth.{Readings, truth}
-use Rattle.ucon_asked.specs.Asked.{no_session}
+use Rattle.ucon_model.specs.Asked.{no_session}
 use Rattle.ucon_accept.specs.declared.explanation.Fact.{Fact}
 use Rattle.ucon_accept.specs.declared.explanation.Fact.TheVariants as facts
 

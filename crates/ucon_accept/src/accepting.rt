@@ -10,8 +10,7 @@ use crate::checker::{Wrong, check};
 use crate::explanation::Explanation;
 use crate::one_more::OneMore;
 use crate::trying::{refusal, tried};
-use ucon_asked::typed_tests_make_no_set;
-use ucon_model::readings_that_agree_are_one;
+use ucon_model::{readings_that_agree_are_one, typed_tests_make_no_set};
 use ucon_state::{State, each_action_is_followed, tables_keep_what_is_followed};
 
 /// Whether the explanation of a try that isn't refused is right.

@@ -7,7 +7,7 @@ ghost use Rattle.ucon_model.specs.Places.{expr_places, formula_places};
 ghost use Rattle.ucon_model.specs.Truth.{read_or_zero, truth};
 ghost use Rattle.ucon_model.specs.Views.{expr_of, formula_of, predicate_of, test_of};
 ghost use Rattle.ucon_base.specs.Arithmetic.{same_value};
-ghost use Rattle.ucon_asked.specs.Sums.{preds_make_no_set, test_makes_no_set};
+ghost use Rattle.ucon_model.specs.Sums.{preds_make_no_set, test_makes_no_set};
 ghost use Rattle.ucon_accept.specs.Checking.{IsCause, IsFirstWrong, all_read, first_untrue, is_of_place, is_on_duty, one_read, same_moment};
 ghost use Rattle.ucon_accept.specs.Checking.{tell_duty, tell_formula, tell_test, tell_tick, tells_act, tells_moment, tells_value, verdict_told};
 ghost use Rattle.ucon_accept.specs.Explanation.{explanation_of, factor_of, line, lines, lines_from, why_of};

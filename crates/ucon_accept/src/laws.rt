@@ -15,8 +15,7 @@ ghost use Rattle.ucon_accept.specs.Checking.{verdict_told};
 ghost use Rattle.ucon_accept.specs.Judged.{MayBeJudged};
 ghost use Rattle.ucon_accept.specs.Trying.{IsRight, admin, explained_with, explanation, refusal_shown};
 
-use ucon_asked::typed_tests_make_no_set;
-use ucon_model::readings_that_agree_are_one;
+use ucon_model::{readings_that_agree_are_one, typed_tests_make_no_set};
 use ucon_state::{each_action_is_followed, tables_keep_what_is_followed};
 
 /// A try that a state's tables don't refuse is explained by them as after each trace that they follow. So the explanation is right. Its session,

@@ -4,8 +4,8 @@ ghost use Rattle.std.specs.Prelude.{◌≡◌, ◌+ℤ◌, int_le, option_copied
 ghost use Rattle.std.specs.Int.{int_max};
 ghost use Rattle.ucon_model.specs.Truth.{holds, in_time, is_done, value_of};
 ghost use Rattle.ucon_model.specs.Views.{expr_of, formula_of, test_of};
-ghost use Rattle.ucon_asked.specs.Asked.{no_session};
-ghost use Rattle.ucon_asked.specs.Sums.{formula_makes_no_set, makes_no_set, test_makes_no_set};
+ghost use Rattle.ucon_model.specs.Asked.{no_session};
+ghost use Rattle.ucon_model.specs.Sums.{formula_makes_no_set, makes_no_set, test_makes_no_set};
 ghost use Rattle.ucon_accept.specs.Told.{moment_told, tick_told, told, truth_told, value_in, value_told};
 ghost use Rattle.ucon_accept.specs.Worth.{worth_value};
 

@@ -1,6 +1,6 @@
 -- Under a policy that is well typed.
 use Rattle.std.proofs.Common.{◌≡◌, ℕ, true, sym, subst}
-use Rattle.ucon_asked.specs.Sums.{tests_make_no_set}
+use Rattle.ucon_model.specs.Sums.{tests_make_no_set}
 use Rattle.ucon_model.specs.Plain.{PlainPolicy}
 use Rattle.ucon_model.specs.Action.{Trace}
 use Rattle.ucon_model.specs.Fitting.{ValuesFit}
@@ -11,7 +11,7 @@ use Rattle.ucon_model.specs.Typing.{IsTyped}
 use Rattle.ucon_state.specs.Following.{Follows}
 use Rattle.ucon_state.specs.Shown.{Shown}
 use Rattle.ucon_state.specs.Tables.{readings_in}
-use Rattle.ucon_readings.specs.ReadOff.{TablesKeep}
+use Rattle.ucon_state.specs.ReadOff.{TablesKeep}
 
 -- over readings that agree with those of a trace, where all values fit, no test of a well typed policy makes a set
 abbrev pub TestsMakeNoSet : Type 0

@@ -22,12 +22,12 @@ use Rattle.ucon_base.specs.Elements.{Each}
 use Rattle.ucon_model.specs.Typing.{IsTyped}
 use Rattle.ucon_model.specs.Views.{update_of}
 use Rattle.ucon_model.specs.Sound.{IsGrounded}
-use Rattle.ucon_asked.specs.Asked as asked
+use Rattle.ucon_model.specs.Asked as asked
 use Rattle.ucon_state.specs.Tables.{session_in, readings_in}
 use Rattle.ucon_state.specs.Shown.{Shown}
 use Rattle.ucon_state.specs.Following.{Follows}
 use Rattle.ucon_actions.specs.Updating.{written_out, first_written_out, update_at, updates_in}
-use Rattle.ucon_readings.specs.ReadOff.{TablesKeep, readings_same, session_same}
+use Rattle.ucon_state.specs.ReadOff.{TablesKeep, readings_same, session_same}
 
 -- ---- the update at a place
 

@@ -9,8 +9,8 @@ use Rattle.ucon_model.specs.Plain.{Bytes}
 use Rattle.ucon_store.specs.declared.fault.StoreFault.{StoreFault}
 use Rattle.ucon_store.specs.Faults.{of_record}
 use Rattle.ucon_store.specs.Found.{found}
-use Rattle.ucon_walk.specs.Faults.{of_take}
-use Rattle.ucon_walk.specs.declared.fault.RecordFault.{RecordFault}
+use Rattle.ucon_store.specs.RecordFaults.{of_take}
+use Rattle.ucon_store.specs.declared.record_fault.RecordFault.{RecordFault}
 use Rattle.ucon_audit.specs.Refusing.{IsRefused}
 
 by_take : (fault : TakeFault) (text : Bytes) (o : Option Bytes) (number gate before now : ℕ)

@@ -11,9 +11,8 @@ ghost use Rattle.ucon_state.specs.Tables.{session_in};
 use crate::parallel::{Changed, recheck};
 use std::alloc::Global;
 use std::thread::Threads;
-use ucon_asked::{typed_tests_make_no_set, views_that_agree_decide_alike};
 use ucon_base::{NoMemory, Rows};
-use ucon_model::SessionState;
+use ucon_model::{SessionState, typed_tests_make_no_set, views_that_agree_decide_alike};
 use ucon_state::{State, tables_keep_what_is_followed};
 
 /// Of these sessions those whose verdict now isn't to permit, in the slice's order, after each trace that the state follows, under the policy

@@ -25,9 +25,8 @@ use ucon_base::NoMemory;
 use ucon_disk::Disk;
 use ucon_engine::Engine;
 use ucon_journal::{Journal, MAX_PAYLOAD};
-use ucon_runs::payloads_are_found_one_by_one;
-use ucon_store::StoreFault;
-use ucon_walk::{at_record, has_points};
+use ucon_model::payloads_are_found_one_by_one;
+use ucon_store::{StoreFault, at_record, has_points};
 
 /// The place of record 0's gate.
 const FIRST_GATE: u64 = 8;

@@ -1,7 +1,7 @@
 //! A recheck of sessions by several threads, whose answer is that of a plain loop.
 
 ghost use Rattle.std.specs.Prelude.{◌≡◌, true, All, IfOk, IsSome};
-ghost use Rattle.ucon_asked.specs.Sums.{tests_make_no_set};
+ghost use Rattle.ucon_model.specs.Sums.{tests_make_no_set};
 ghost use Rattle.ucon_audit.specs.Recheck.{changed, unless_permitted, verdict_now};
 
 use rayon::prelude::*;

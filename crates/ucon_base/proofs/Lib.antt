@@ -14,3 +14,12 @@ pub mod SetsSpelled
 pub mod TextFront
 pub mod Values
 pub mod WordBytes
+pub mod Digits
+pub mod Falls
+pub mod Fronts
+pub mod OfAKind
+pub mod ReadFalls
+pub mod RisingSets
+pub mod Sets
+pub mod Texts
+pub mod Whole

@@ -1,7 +1,7 @@
 -- Who fails is told by the tables: it is the same after each trace that a state follows.
 use Rattle.std.proofs.Common.{◌≡◌, ◌∙◌, ℕ, Bool, true, ap, refl, subst, sym}
 use Rattle.std.specs.Prelude.{Option, Some, None, cond, option_map}
-use Rattle.ucon_asked.specs.Sums.{tests_make_no_set}
+use Rattle.ucon_model.specs.Sums.{tests_make_no_set}
 use Rattle.ucon_model.specs.declared.session.SessionRow.{SessionRow}
 use Rattle.ucon_model.specs.declared.session.SessionState.{SessionState}
 use Rattle.ucon_model.specs.Fitting.{ValuesFit}

@@ -11,7 +11,7 @@ use Rattle.ucon_model.specs.Sound.{IsNumbered}
 use Rattle.ucon_model.specs.Truth.{readings}
 use Rattle.ucon_model.specs.Usages.{going_on}
 use Rattle.ucon_readers.specs.Limits.{IsFirstLimit}
-use Rattle.ucon_deadlines.specs.Deadlines.{Gives, deadline_of}
+use Rattle.ucon_collections.specs.Deadlines.{Gives, deadline_of}
 use Rattle.ucon_cascade.specs.Timely.{AreTimedBelow, AreTimely}
 use Rattle.ucon_cascade.proofs.Anew.{last_or_before}
 use Rattle.ucon_cascade.proofs.Giving.{ahead_given, as_before, given_or_before, held_given, theirs_given}

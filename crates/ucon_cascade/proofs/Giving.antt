@@ -16,7 +16,7 @@ use Rattle.ucon_readers.specs.Limits.{IsFirstLimit, IsLimit}
 use Rattle.ucon_state.specs.Following.{Follows}
 use Rattle.ucon_state.specs.Shown.{Shown}
 use Rattle.ucon_state.specs.Tables.{readings_in, session_in}
-use Rattle.ucon_deadlines.specs.Deadlines.{Gives, deadline_of, is_passed, passed}
+use Rattle.ucon_collections.specs.Deadlines.{Gives, deadline_of, is_passed, passed}
 use Rattle.ucon_cascade.specs.Timely.{HasDeadline, HasDeadlineUpTo, IsDeadlineOf, IsFirstLimitOf}
 use Rattle.ucon_cascade.proofs.Alike.{AreOne, KeepsAll}
 use Rattle.ucon_cascade.proofs.Lasting.{limits_are_among}

@@ -14,7 +14,7 @@ use Rattle.ucon_model.specs.Plain.{Bytes, PlainPolicy}
 use Rattle.ucon_model.specs.Readings.{is_accessing_state, session}
 use Rattle.ucon_model.specs.Usages.{IsUsageTold, going_on}
 use Rattle.ucon_state.specs.Shown.{Shown}
-use Rattle.ucon_deadlines.specs.Deadlines.{Gives}
+use Rattle.ucon_collections.specs.Deadlines.{Gives}
 use Rattle.ucon_cascade.specs.Passing.{WereMade, is_tick}
 use Rattle.ucon_cascade.specs.Timely.{AreTimely, GivesFirst}
 use Rattle.ucon_cascade.proofs.Alike.{AreOne, KeepsAll}

@@ -26,7 +26,7 @@ use Rattle.ucon_cascade.specs.Monitor.{IsSettled, Stands}
 use Rattle.ucon_cascade.specs.Grouping.{AreAlike, AreGrouped}
 use Rattle.ucon_cascade.specs.Numbering.{IsExact}
 use Rattle.ucon_cascade.specs.Putting.{GoesOn}
-use Rattle.ucon_deadlines.specs.Deadlines.{AreAlike as AlikeDeadlines}
+use Rattle.ucon_collections.specs.Deadlines.{AreAlike as AlikeDeadlines}
 use Rattle.ucon_cascade.proofs.Timing.{no_time, timely_still}
 pub use Rattle.ucon_cascade.proofs.Outcomes.{ok_both, ok_then, on_err, on_ok}
 

@@ -12,7 +12,7 @@ use Rattle.ucon_model.specs.Usages.{going_on}
 use Rattle.ucon_state.specs.Following.{Follows}
 use Rattle.ucon_state.specs.Shown.{Shown}
 use Rattle.ucon_readers.specs.Limits.{IsFirstLimit}
-use Rattle.ucon_deadlines.specs.Deadlines.{Gives, IsPassed, deadline_of}
+use Rattle.ucon_collections.specs.Deadlines.{Gives, IsPassed, deadline_of}
 use Rattle.ucon_cascade.specs.Passing.{IsPassing}
 use Rattle.ucon_cascade.specs.Timely.{AreTimed, GivesFirst, IsDeadlineOf}
 use Rattle.ucon_cascade.proofs.Alike.{AreOne, KeepsAll}

@@ -14,7 +14,7 @@ use Rattle.ucon_model.specs.Readings.{in_force, is_accessing, is_accessing_state
 use Rattle.ucon_model.specs.Touches.{touches, touches_row}
 use Rattle.ucon_model.specs.Truth.{readings}
 use Rattle.ucon_model.specs.Usages.{going_on}
-use Rattle.ucon_deadlines.specs.Deadlines.{AreAlike, deadline_of}
+use Rattle.ucon_collections.specs.Deadlines.{AreAlike, deadline_of}
 use Rattle.ucon_cascade.proofs.Covering.{or_left, or_right}
 use Rattle.ucon_cascade.specs.Passing.{HasPassed, IsPassing}
 use Rattle.ucon_cascade.specs.Timely.{AreTimed, AreTimely, HasDeadline}

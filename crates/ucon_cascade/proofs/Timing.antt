@@ -21,7 +21,7 @@ use Rattle.ucon_model.specs.Truth.{readings}
 use Rattle.ucon_model.specs.Updates.{same_when, session_writes, updates_of, write_of, writes}
 use Rattle.ucon_model.specs.Usages.{going_on}
 use Rattle.ucon_readers.specs.Limits.{IsFirstLimit}
-use Rattle.ucon_deadlines.specs.Deadlines.{AreAlike, Gives, deadline_of}
+use Rattle.ucon_collections.specs.Deadlines.{AreAlike, Gives, deadline_of}
 use Rattle.ucon_cascade.specs.Timely.{AreTimed, AreTimely, HasDeadline, HasDeadlineUpTo, IsDeadlineOf}
 use Rattle.ucon_cascade.proofs.Giving.{ahead_given, as_before, given_or_before, held_given, theirs_given}
 use Rattle.ucon_cascade.proofs.Lasting.{acts_make_limits_later, deadlines_stay, holds_to_limit}

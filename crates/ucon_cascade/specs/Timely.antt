@@ -12,7 +12,7 @@ use Rattle.ucon_model.specs.Usages.{going_on}
 use Rattle.ucon_readers.specs.Limits.{IsFirstLimit}
 use Rattle.ucon_state.specs.Shown.{Shown}
 use Rattle.ucon_state.specs.Tables.{readings_in, session_in}
-use Rattle.ucon_deadlines.specs.Deadlines.{Gives, deadline_of}
+use Rattle.ucon_collections.specs.Deadlines.{Gives, deadline_of}
 
 -- session n has this deadline
 abbrev pub HasDeadline : List (Option ℤ) → ℕ → ℤ → Type 0

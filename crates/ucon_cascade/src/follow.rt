@@ -27,8 +27,7 @@ use ucon_base::NoMemory;
 use ucon_check::places_read;
 use ucon_model::{Command, Head, Right, SessionRow, View};
 use ucon_readers::{Kind, Readers, undoing_gives_what_is_kept};
-use ucon_readings::{session, session_state, sessions};
-use ucon_state::State;
+use ucon_state::{State, session, session_state, sessions};
 
 /// All is read anew if the command replaced the policy. Else a permitted session begins to read, and an ended one reads nothing any more.
 pub fn follow_actions(

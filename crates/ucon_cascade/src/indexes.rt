@@ -12,7 +12,7 @@ use crate::follow::all_readers;
 use crate::passing::all_timers;
 use std::alloc::Global;
 use ucon_base::NoMemory;
-use ucon_number_set::NumberSet;
+use ucon_collections::NumberSet;
 use ucon_readers::{Readers, Timers};
 use ucon_state::State;
 

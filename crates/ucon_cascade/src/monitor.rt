@@ -30,6 +30,7 @@ use crate::settle::settle;
 use std::alloc::Global;
 use ucon_actions::{ActionFault, Outcome, own_actions};
 use ucon_base::{NoMemory, Rows, Steps};
+use ucon_collections::NumberSet;
 use ucon_engine::{Drafted, Engine, RestoreFault};
 use ucon_model::{
     Caller, Checked, Command, Head, Reply, Revoked, SessionState, View, actions_are_done_in_order,
@@ -38,7 +39,6 @@ use ucon_model::{
     own_work_is_read_off, readings_that_agree_are_one, the_least_failing_is_found,
     updates_write_their_targets, work_is_read_off_afterwards,
 };
-use ucon_number_set::NumberSet;
 use ucon_readers::{Readers, Timers, undoing_gives_what_is_kept};
 use ucon_state::{
     State, cells_are_of_one_attribute, each_action_is_followed, sessions_are_few,

@@ -14,11 +14,10 @@ ghost use Rattle.ucon_readers.specs.Readers.{first_of, readers_at};
 use crate::places::{attribute_place, place_of_session, variable_place};
 use ucon_actions::{is_accessing, is_of};
 use ucon_base::{Name, Side};
+use ucon_collections::NumberSet;
 use ucon_model::{Command, Head, Update, View, When};
-use ucon_number_set::NumberSet;
 use ucon_readers::Readers;
-use ucon_readings::{session_state, sessions};
-use ucon_state::State;
+use ucon_state::{State, session_state, sessions};
 
 /// Puts into the work who reads an attribute of an entity; of each list its first, as everywhere here.
 fn put_attribute(

@@ -13,7 +13,7 @@ ghost use Rattle.ucon_model.specs.Readings.{is_accessing, session};
 ghost use Rattle.ucon_model.specs.Touches.{touches_by};
 ghost use Rattle.ucon_model.specs.Plain.{PlainPolicy};
 ghost use Rattle.ucon_state.specs.Shown.{shown};
-ghost use Rattle.ucon_deadlines.specs.Deadlines.{count_below};
+ghost use Rattle.ucon_collections.specs.Deadlines.{count_below};
 ghost use Rattle.ucon_cascade.specs.Passing.{AreTimedBefore, MayPass, PassesAll, WereMade, is_tick};
 ghost use Rattle.ucon_cascade.specs.Timely.{AreTimedBelow, AreTimely, GivesFirst};
 ghost use Rattle.ucon_readers.specs.Timers.{IsKept, UndoGives, deadlines_in};
@@ -21,13 +21,12 @@ ghost use Rattle.ucon_readers.specs.Timers.{IsKept, UndoGives, deadlines_in};
 use crate::follow::going_on;
 use std::alloc::Global;
 use ucon_base::NoMemory;
+use ucon_collections::NumberSet;
 use ucon_model::{
     Command, Head, View, heads_tell_whose_usage_begins_or_ends, readings_that_agree_are_one,
 };
-use ucon_number_set::NumberSet;
 use ucon_readers::{Timers, first_limit, undoing_gives_what_is_kept};
-use ucon_readings::sessions;
-use ucon_state::{State, tables_keep_what_is_followed};
+use ucon_state::{State, sessions, tables_keep_what_is_followed};
 
 /// All deadlines are set anew if the command replaced the policy. A tick passes those below it, and puts their sessions into the work.
 /// Else a permitted session gets its deadlines, and an ended one loses them; an act gives none.

@@ -7,8 +7,7 @@ ghost use Rattle.ucon_state.specs.Shown.{shown};
 
 use crate::settle::fails_at;
 use ucon_base::{Name, Steps};
-use ucon_readings::sessions;
-use ucon_state::State;
+use ucon_state::{State, sessions};
 
 /// The least accessing session that fails, with its label.
 pub fn least_failing(state: &State) -> Option<(u32, Name)>

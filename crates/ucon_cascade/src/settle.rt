@@ -25,19 +25,19 @@ ghost use Rattle.ucon_state.specs.Tables.{session_in};
 use crate::own_work::put_targets;
 use std::alloc::Global;
 use ucon_actions::{is_accessing, revoke};
-use ucon_asked::typed_tests_make_no_set;
 use ucon_base::{Name, NoMemory, Rows, Steps};
+use ucon_collections::NumberSet;
 use ucon_eval::failing;
 use ucon_model::{
     Revoked, When, actions_are_done_in_order, firsts_go_on_covering, firsts_have_the_least,
     heads_tell_whose_usage_begins_or_ends, judgements_are_paid_for, one_judgement_serves_all_alike,
-    readings_that_agree_are_one, turns_follow_each_other, updates_write_their_targets,
+    readings_that_agree_are_one, turns_follow_each_other, typed_tests_make_no_set,
+    updates_write_their_targets,
 };
-use ucon_number_set::NumberSet;
 use ucon_readers::{Readers, Timers};
-use ucon_readings::{accessing, session_state};
 use ucon_state::{
-    State, cells_are_of_one_attribute, sessions_are_few, tables_keep_what_is_followed,
+    State, accessing, cells_are_of_one_attribute, session_state, sessions_are_few,
+    tables_keep_what_is_followed,
 };
 
 /// The label by which session n fails, if it is accessing. Only then it is judged, and that is counted once.

@@ -1,4 +1,4 @@
-//! Whether a policy is well typed and may follow another, and the places that its rights read.
+//! Whether a policy is well typed and may follow another, the places that its rights read, and the core models of its rights.
 //!
 //! `Checked` carries that its policy is well typed. Outside tests only `check` makes one, so nobody above looks again.
 //!
@@ -7,9 +7,10 @@
 //! **Free.** How names are looked up. Which fault is first is defined.
 //!
 //! **Before a change.** `check` asks that each side has few attributes, and has no fault for more, since no text could have that fault. Begin at
-//! `typing.rt`.
+//! `typing.rt`. The order of the core models (`core_models.rt`) is part of the output of the form `check`.
 #![tactic(auto)]
 
+mod core_models;
 mod cores;
 mod counted;
 mod fault;
@@ -20,6 +21,7 @@ mod sorts;
 mod sought;
 mod typing;
 
+pub use core_models::{core_models, core_models_of, core_name};
 pub use cores::{has_update, is_condition};
 pub use fault::CheckFault;
 pub use follow::{AmendFault, may_follow};

@@ -11,3 +11,4 @@ pub mod Parts
 pub mod Ending
 pub mod Divided
 pub mod Crossing
+pub mod Moves

@@ -4,3 +4,5 @@ pub mod Dividing
 pub mod Events
 pub mod Laws
 pub mod Shared
+pub mod Inbox
+pub mod Rule

@@ -3,6 +3,8 @@
 //! `serve` opens the turn, splits a seat for each client, lets all run, takes the seats back and closes the turn. In the end the records of all,
 //! put by their places, are the entries behind the opening history (`proofs/Together.antt`).
 //!
+//! Through an inbox a client's lines come while it runs (`ends.rt`).
+//!
 //! **Always.** In the store that clients share nothing but steps is made (`Shared`). A client's answers are right for what its seat has seen
 //! (`AreRight`, `Serves`).
 //!
@@ -15,9 +17,12 @@
 mod answer;
 mod client;
 mod dividing;
+mod ends;
 mod gate;
+mod item;
 mod laws;
 mod part;
+mod rule;
 mod serving;
 mod shared;
 mod step;
@@ -25,7 +30,9 @@ mod step;
 pub use answer::Answer;
 pub use client::Client;
 pub use dividing::divide;
+pub use ends::{Feeder, Taker, inbox, rejoin};
 pub use gate::{Gate, OpenGate};
+pub use item::Item;
 pub use laws::{a_seen_mark_stops, faults_are_marked};
 pub use part::Part;
 pub use serving::{serve, serve_all};

@@ -14,9 +14,10 @@ ghost use Rattle.ucon_model.specs.Plain.{Bytes, PlainPolicy};
 ghost use Rattle.ucon_syntax.specs.Policies.{accepted};
 ghost use Rattle.ucon_command.specs.Payloads.{AreOfClients, AreSteps, IsStep, most_told};
 
-use ucon_model::{changing_replies_can_be_spelled, revocations_are_few, texts_lack_bytes};
+use ucon_model::{
+    changing_replies_can_be_spelled, revocations_are_few, texts_lack_bytes, texts_tell_changes,
+};
 use ucon_reply::{replies_are_read_back, values_fit_lines, words_are_read_back};
-use ucon_runs::texts_tell_changes;
 use ucon_syntax::accepted_texts_spell_typed_policies;
 
 /// Each command's text is read as the command, and a line that is read is the text of the command read. No text of a command has a

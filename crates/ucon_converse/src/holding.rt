@@ -19,7 +19,7 @@ use std::alloc::Global;
 use ucon_disk::Disk;
 use ucon_engine::Engine;
 use ucon_flow::{LineReader, SinkFault, Source};
-use ucon_runs::runs_over_a_store_are_legal;
+use ucon_model::runs_over_a_store_are_legal;
 use ucon_tell::{TalkFault, Voice, talk, tell_all};
 
 /// The most bytes of a line, with its newline: a client's number, a space and the longest command, an amendment.

@@ -7,8 +7,8 @@ ghost use Rattle.ucon_converse.specs.Readings.{IsReadingOf};
 
 use crate::laws::readings_are_read_back;
 use ucon_base::{Name, Side};
+use ucon_point::cut_at;
 use ucon_reply::{name_in, number_in, side_in};
-use ucon_row::cut_at;
 
 /// What a conversation can be asked without a client's number. It makes no step.
 #[derive(Clone, Copy)]

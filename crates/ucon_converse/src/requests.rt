@@ -19,7 +19,7 @@ use std::alloc::Global;
 use ucon_command::Request;
 use ucon_disk::Disk;
 use ucon_engine::Engine;
-use ucon_runs::texts_tell_changes;
+use ucon_model::texts_tell_changes;
 use ucon_store::{Placed, StepFault, Store};
 
 /// Takes a request. Behind a disk fault each one is stopped, whatever memory there is.

@@ -5,7 +5,7 @@ use Rattle.ucon_model.specs.Plain.{PlainPolicy}
 use Rattle.ucon_model.specs.Decision.{right_named}
 use Rattle.ucon_model.specs.Lookup.{right_read}
 use Rattle.ucon_model.specs.Truth.{Readings}
-use Rattle.ucon_asked.specs.Asked.{no_session, row_at}
+use Rattle.ucon_model.specs.Asked.{no_session, row_at}
 
 there_is : (o : Option SessionRow) → IsSome o → o ≡ Some (unwrap_or o no_session)
 there_is None there = absurd cc

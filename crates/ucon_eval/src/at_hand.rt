@@ -4,7 +4,7 @@ ghost use Rattle.std.specs.Prelude.{◌≡◌, IfSome, IsSome, option_copied};
 ghost use Rattle.ucon_base.specs.declared.value.Value.TheVariants.{Int as IntValue};
 ghost use Rattle.ucon_model.specs.Truth.{value_of};
 ghost use Rattle.ucon_model.specs.Views.{expr_of};
-ghost use Rattle.ucon_asked.specs.Asked.{row_at};
+ghost use Rattle.ucon_model.specs.Asked.{row_at};
 
 use ucon_base::{Int, Value};
 use ucon_model::{Expr, View};

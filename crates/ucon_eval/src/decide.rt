@@ -4,8 +4,8 @@ ghost use Rattle.std.specs.Prelude.{◌≡◌, ◌≤◌, ◌+◌, ◌-◌, ◌^
 ghost use Rattle.ucon_model.specs.Truth.{truth};
 ghost use Rattle.ucon_model.specs.Decision.{first_false, failing, no_right, verdict};
 ghost use Rattle.ucon_model.specs.Views.{predicate_of, test_of};
-ghost use Rattle.ucon_asked.specs.Sums.{preds_make_no_set, tests_make_no_set};
-ghost use Rattle.ucon_asked.specs.Asked.{row_at, predicate_at, truth_at, makes_no_set_at};
+ghost use Rattle.ucon_model.specs.Sums.{preds_make_no_set, tests_make_no_set};
+ghost use Rattle.ucon_model.specs.Asked.{row_at, predicate_at, truth_at, makes_no_set_at};
 ghost use Rattle.ucon_eval.specs.Sort.{sort_of};
 
 use crate::test::is_true;

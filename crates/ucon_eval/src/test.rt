@@ -4,9 +4,9 @@ ghost use Rattle.std.specs.Prelude.{◌≡◌, ◌+ℤ◌, int_le, IsSome, true}
 ghost use Rattle.ucon_model.specs.Truth.{value_of, read_or_zero, holds, in_time, is_done, truth};
 ghost use Rattle.ucon_model.specs.Comparison.{compares};
 ghost use Rattle.ucon_model.specs.Views.{expr_of, formula_of, test_of};
-ghost use Rattle.ucon_asked.specs.Asked.{row_at};
+ghost use Rattle.ucon_model.specs.Asked.{row_at};
 ghost use Rattle.ucon_eval.specs.Worth.{worth_value};
-ghost use Rattle.ucon_asked.specs.Sums.{makes_no_set, formula_makes_no_set, test_makes_no_set};
+ghost use Rattle.ucon_model.specs.Sums.{makes_no_set, formula_makes_no_set, test_makes_no_set};
 
 use crate::arithmetic::later;
 use crate::at_hand::value_at_hand;

@@ -4,7 +4,7 @@ ghost use Rattle.std.specs.Prelude.{◌≡◌, map, option_map, option_copied, I
 ghost use Rattle.ucon_model.specs.Truth.{read_or_zero, value_of};
 ghost use Rattle.ucon_model.specs.Updates.{fitted_to};
 ghost use Rattle.ucon_model.specs.Views.{expr_of, update_of};
-ghost use Rattle.ucon_asked.specs.Asked.{row_at, result_read, update_at, result_at};
+ghost use Rattle.ucon_model.specs.Asked.{row_at, result_read, update_at, result_at};
 ghost use Rattle.ucon_eval.specs.Operation.{combined};
 
 use crate::arithmetic::{difference, fitted, fitted_integer, product, size, sum};

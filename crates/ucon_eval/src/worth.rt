@@ -5,7 +5,7 @@ ghost use Rattle.ucon_base.specs.declared.value.Value.TheVariants.{Int as IntVal
 ghost use Rattle.ucon_base.specs.Arithmetic.{sum_of, difference_of, product_of, size_of, same_value, same_texts};
 ghost use Rattle.ucon_model.specs.Comparison.{compares};
 ghost use Rattle.ucon_eval.specs.Worth.{worth_value};
-ghost use Rattle.ucon_asked.specs.Sums.{is_set_and_text, is_same_text};
+ghost use Rattle.ucon_model.specs.Sums.{is_set_and_text, is_same_text};
 
 use ucon_base::{Int, Text, TextSet, Value};
 use ucon_model::Op;

@@ -3,7 +3,7 @@
 ghost use Rattle.std.specs.Prelude.{◌≡◌, IfOk, Some, map};
 ghost use Rattle.ucon_model.specs.Decision.{right_named};
 ghost use Rattle.ucon_model.specs.Views.{predicate_of, right_of};
-ghost use Rattle.ucon_asked.specs.Asked.{predicate_at};
+ghost use Rattle.ucon_model.specs.Asked.{predicate_at};
 ghost use Rattle.ucon_accept.specs.Explanation.{explained, explanation_of, line, lines, lines_from, why_of};
 ghost use Rattle.ucon_accept.specs.Judged.{MayBeJudged};
 

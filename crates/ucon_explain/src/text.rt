@@ -8,9 +8,8 @@ ghost use Rattle.ucon_explain.specs.Text.{truth_word, verdict_spelling, why_spel
 
 use std::alloc::Global;
 use ucon_accept::{Explanation, Fact, Factor, Why};
-use ucon_base::{Int, Name, NoMemory, Value, put, put_integer};
+use ucon_base::{Int, Name, NoMemory, Value, put, put_integer, put_spelling};
 use ucon_model::{Ref, Verdict};
-use ucon_spelling::put_spelling;
 
 /// The letter of what a predicate decides by.
 fn factor_word(factor: Factor) -> &'static [u8]

@@ -2,7 +2,7 @@
 
 use std::test::Fail;
 use ucon_base::Int;
-use ucon_deadlines::Deadlines;
+use ucon_collections::Deadlines;
 
 /// Gives sessions their deadlines, if there is memory for all.
 fn set_all(deadlines: &mut Deadlines, given: &[(u32, i64)]) -> bool {

@@ -4,7 +4,7 @@ ghost use Rattle.std.specs.Prelude.{◌≡◌, false};
 use std::sync::Wait;
 use std::test::Fail;
 use std::thread::join;
-use ucon_feed::{Feeder, Item, Taker, inbox, rejoin};
+use ucon_client::{Feeder, Item, Taker, inbox, rejoin};
 
 #[test]
 fn an_inbox_gives_what_was_fed_and_then_the_end_word(rt: HostRuntime) -> Result<(), Fail> {

@@ -1,7 +1,7 @@
 //! The least first, and borders of the levels.
 
 use std::test::Fail;
-use ucon_number_set::NumberSet;
+use ucon_collections::NumberSet;
 
 // The greatest first, so that each is a new least member.
 fn put_all(set: &mut NumberSet, numbers: &[u32]) {

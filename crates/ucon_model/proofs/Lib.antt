@@ -65,3 +65,12 @@ mod WithinTurns
 mod Agreeing
 mod OwnUsages
 mod Afterwards
+pub mod AgreeingViews
+pub mod NoSets
+mod SerialRuns
+mod StoredRuns
+mod GoingOn
+mod ReadBack
+mod TellsChange
+mod FoundOn
+mod Batched

@@ -45,3 +45,6 @@ pub mod Deadlines
 pub mod Work
 pub mod Groups
 pub mod Touches
+pub mod Sums
+pub mod Asked
+pub mod Batches

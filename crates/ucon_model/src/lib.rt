@@ -1,32 +1,42 @@
 //! The types that every layer shares, what they mean, and the laws of these definitions.
 //!
 //! The clause of `run` is said in these definitions, from actions and traces to legal runs; `docs/definitions.md` goes through them in order. The
-//! laws tell that they fit together: after every history no use goes on with a false predicate.
+//! laws tell that they fit together: after every history no use goes on with a false predicate, and every run is a legal one.
+//!
+//! What is asked of a session over a view stands in `specs/Asked.antt`. The evaluator and the checker of explanations each stand on it, so that
+//! neither trusts the other.
 //!
 //! **Always.** The policy of a `Checked` is well typed.
 //!
 //! **Free.** How the types lie in memory.
 //!
-//! **Before a change.** A definition here says what all crates promise, so changing one changes all. The checker computes worked examples from the
-//! definitions. Begin at `specs/Action.antt`, then in the order of `docs/definitions.md`.
+//! **Before a change.** A test takes no memory because it makes no set (`typed_tests_make_no_set`). A definition here says what all crates promise,
+//! so changing one changes all. The checker computes worked examples from the definitions. Begin at `specs/Action.antt`, then in the order of
+//! `docs/definitions.md`.
 #![tactic(auto)]
 
 mod amend;
+mod asked_laws;
 mod cascade;
 mod checked;
 mod command;
 mod copy;
 mod core_model;
+mod finding;
 mod formula;
 mod laws;
 mod policy;
 mod reply;
+mod run_laws;
 mod session;
 mod traces;
 mod usages;
 mod view;
 
 pub use amend::Amend;
+pub use asked_laws::{
+    results_are_those_of_the_trace, typed_tests_make_no_set, views_that_agree_decide_alike,
+};
 pub use cascade::{
     actions_leave_the_rest, acts_make_nobody_fail, covering_work_has_the_least,
     decisions_read_their_places, drafts_are_blocks, firsts_go_on_covering, firsts_have_the_least,
@@ -39,6 +49,10 @@ pub use cascade::{
 pub use checked::Checked;
 pub use command::{Caller, Command, Entry};
 pub use core_model::{Core, CoreKind};
+pub use finding::{
+    payloads_are_found_one_by_one, payloads_are_found_together, runs_are_serial_line_by_line,
+    texts_tell_changes,
+};
 pub use formula::{Expr, Form, Formula, Obligation, Op, Ref, Sort};
 pub use laws::{
     blocks_are_legal, changing_replies_can_be_spelled, faults_name_items, grown_histories_go_on,
@@ -50,6 +64,9 @@ pub use laws::{
 };
 pub use policy::{AttrDecl, EnvDecl, Phase, Policy, Predicate, Right, Test, Update, When};
 pub use reply::{Head, Refusal, Reply, Revoked};
+pub use run_laws::{
+    legal_runs_go_on, outputs_are_read_back, runs_over_a_store_are_legal, serial_runs_are_legal,
+};
 pub use session::{SessionRow, SessionState, Verdict};
 pub use traces::{
     actions_are_done_in_order, readings_that_agree_are_one, turns_follow_each_other,

@@ -11,7 +11,7 @@ use Rattle.ucon_model.specs.Fitting.{ValuesFit}
 use Rattle.ucon_model.specs.History.{Agree}
 use Rattle.ucon_model.specs.Settle.{fails_at}
 use Rattle.ucon_model.specs.Typing.{IsTyped}
-use Rattle.ucon_asked.specs.Sums.{tests_make_no_set}
+use Rattle.ucon_model.specs.Sums.{tests_make_no_set}
 use Rattle.ucon_state.specs.Following.{Follows, Keeps}
 use Rattle.ucon_state.specs.Shown.{Shown}
 use Rattle.ucon_state.specs.Tables.{session_in, readings_in}

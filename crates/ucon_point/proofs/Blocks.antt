@@ -11,12 +11,12 @@ use Rattle.ucon_model.specs.declared.policy.AttrDecl.{AttrDecl}
 use Rattle.ucon_model.specs.Plain.{Bytes}
 use Rattle.ucon_model.specs.Readings.{same_side, attrs_of}
 use Rattle.ucon_state.specs.Held.{Held}
-use Rattle.ucon_row.specs.declared.order.Stage.{Stage}
-use Rattle.ucon_row.specs.declared.order.Stage.TheVariants.{Variables, Subjects, Objects, Acts, Sessions}
-use Rattle.ucon_row.specs.declared.row.Row.{Row}
-use Rattle.ucon_row.specs.declared.row.Row.TheVariants.{Entity, Attribute}
+use Rattle.ucon_point.specs.declared.order.Stage.{Stage}
+use Rattle.ucon_point.specs.declared.order.Stage.TheVariants.{Variables, Subjects, Objects, Acts, Sessions}
+use Rattle.ucon_point.specs.declared.row.Row.{Row}
+use Rattle.ucon_point.specs.declared.row.Row.TheVariants.{Entity, Attribute}
 use Rattle.ucon_point.specs.HeldRows.{given, variable_rows, attribute_rows, entity_rows, act_row, session_rows_to, rows_held}
-use Rattle.ucon_row.specs.Order.{attribute_place, awaited, rank, variable_place}
+use Rattle.ucon_point.specs.Order.{attribute_place, awaited, rank, variable_place}
 use Rattle.ucon_point.proofs.Coming.{reaching}
 use Rattle.ucon_point.proofs.Results.{nothing}
 

@@ -18,12 +18,12 @@ use Rattle.ucon_model.specs.Readings.{attrs_of, declared_attr, declared_env}
 use Rattle.ucon_model.specs.Typing.{IsTyped}
 use Rattle.ucon_state.specs.Applied.{with_cell}
 use Rattle.ucon_state.specs.Tables.{Tables}
-use Rattle.ucon_row.specs.declared.order.Reached.{Reached}
-use Rattle.ucon_row.specs.declared.order.Stage.{Stage}
-use Rattle.ucon_row.specs.declared.order.Stage.TheVariants.{Variables, Subjects, Objects, Acts, Sessions}
-use Rattle.ucon_row.specs.declared.row.Row.{Row}
-use Rattle.ucon_row.specs.declared.row.Row.TheVariants.{Variable, Entity, Attribute, Act, Session}
-use Rattle.ucon_row.specs.Order.{after, attribute_place, awaited, rank, stage_of, variable_place, with_row, with_value}
+use Rattle.ucon_point.specs.declared.order.Reached.{Reached}
+use Rattle.ucon_point.specs.declared.order.Stage.{Stage}
+use Rattle.ucon_point.specs.declared.order.Stage.TheVariants.{Variables, Subjects, Objects, Acts, Sessions}
+use Rattle.ucon_point.specs.declared.row.Row.{Row}
+use Rattle.ucon_point.specs.declared.row.Row.TheVariants.{Variable, Entity, Attribute, Act, Session}
+use Rattle.ucon_point.specs.Order.{after, attribute_place, awaited, rank, stage_of, variable_place, with_row, with_value}
 use Rattle.ucon_point.specs.Standing.{Fits, HasLast, last_cell, with_put}
 use Rattle.ucon_point.proofs.Declared.{env_declared, attr_once}
 use Rattle.std.proofs.lemmas.Bool.{and_parts}

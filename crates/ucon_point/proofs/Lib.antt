@@ -22,3 +22,11 @@ pub mod RowsHeld
 pub mod RowsRefused
 pub mod Steps
 pub mod Told
+pub mod Cuts
+pub mod Digits
+pub mod RowLowerLaws
+pub mod OneLine
+pub mod RowResults
+pub mod RowLines
+pub mod RowsRead
+pub mod RowsSpelled

@@ -6,9 +6,9 @@ use Rattle.ucon_model.specs.Payload.{◌>>=◌}
 use Rattle.ucon_model.specs.Plain.{Bytes, PlainPolicy}
 use Rattle.ucon_point.specs.declared.fault.PointFault.{PointFault}
 use Rattle.ucon_point.specs.declared.fault.PointFault.TheVariants.{BadPlace, NoMemory}
-use Rattle.ucon_row.specs.declared.row.Row.{Row}
+use Rattle.ucon_point.specs.declared.row.Row.{Row}
 use Rattle.ucon_point.specs.Faults.{IsBadAt}
-use Rattle.ucon_row.specs.Order.{awaited}
+use Rattle.ucon_point.specs.Order.{awaited}
 use Rattle.ucon_point.specs.Standing.{Standing}
 use Rattle.ucon_point.specs.PointRead.{before, lines_of, row_at, rows_at, rows_from, with_byte}
 

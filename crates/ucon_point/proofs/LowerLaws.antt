@@ -6,9 +6,9 @@ use Rattle.ucon_base.specs.declared.value.Value.TheVariants.{Int}
 use Rattle.ucon_model.specs.CommandLine.{integer_in}
 use Rattle.ucon_model.specs.Output.{Lacks}
 use Rattle.ucon_model.specs.Plain.{Bytes}
-use Rattle.ucon_row.specs.declared.row.Row.{Row}
-use Rattle.ucon_row.specs.Numbers.{count_read}
-use Rattle.ucon_row.specs.RowText.{row_read, row_spelling, IsRow, IsSpelled}
+use Rattle.ucon_point.specs.declared.row.Row.{Row}
+use Rattle.ucon_point.specs.Numbers.{count_read}
+use Rattle.ucon_point.specs.RowText.{row_read, row_spelling, IsRow, IsSpelled}
 
 -- each row and each number is read back from its text, which has no newline
 pub record RowsAreRead : Type 0 where

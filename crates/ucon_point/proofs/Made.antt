@@ -25,13 +25,13 @@ use Rattle.ucon_state.specs.Held.{Held, held_after, held_in}
 use Rattle.ucon_state.specs.Putting.{MayPutAct, MayPutSession, with_act_row}
 use Rattle.ucon_state.specs.Shown.{Shown, changed_by, changed_to}
 use Rattle.ucon_state.specs.Tables.{Tables, cell_at, entities_of, entity_number}
-use Rattle.ucon_row.specs.declared.order.Reached.{Reached}
-use Rattle.ucon_row.specs.declared.order.Stage.{Stage}
-use Rattle.ucon_row.specs.declared.order.Stage.TheVariants.{Variables, Subjects, Objects, Acts, Sessions}
-use Rattle.ucon_row.specs.declared.row.Row.{Row}
-use Rattle.ucon_row.specs.declared.row.Row.TheVariants.{Variable, Entity, Attribute, Act, Session}
+use Rattle.ucon_point.specs.declared.order.Reached.{Reached}
+use Rattle.ucon_point.specs.declared.order.Stage.{Stage}
+use Rattle.ucon_point.specs.declared.order.Stage.TheVariants.{Variables, Subjects, Objects, Acts, Sessions}
+use Rattle.ucon_point.specs.declared.row.Row.{Row}
+use Rattle.ucon_point.specs.declared.row.Row.TheVariants.{Variable, Entity, Attribute, Act, Session}
 use Rattle.ucon_point.specs.HeldRows.{rows_held}
-use Rattle.ucon_row.specs.Order.{after, attribute_place, awaited, stage_of, variable_place}
+use Rattle.ucon_point.specs.Order.{after, attribute_place, awaited, stage_of, variable_place}
 use Rattle.ucon_point.specs.Standing.{Standing, act_of, last_cell, may_put, may_put_entity, put, put_all, start, with_next, with_put}
 use Rattle.ucon_point.proofs.Blocks.{AtValues, Full, Told, closed, to_subjects, to_objects, to_acts, to_sessions}
 use Rattle.ucon_point.proofs.Coming.{ValueCame, RowCame, attr_there, attribute_fits, env_there, reaching, row_came, value_came, variable_fits}

@@ -27,10 +27,10 @@ use Rattle.ucon_state.specs.Following.{Follows, Keeps, row_of}
 use Rattle.ucon_state.specs.Held.{Held, held_after, held_in}
 use Rattle.ucon_state.specs.Putting.{HasRoomIn, MayPutAct, MayPutSession, StartsAtZero, act_in, with_act_row}
 use Rattle.ucon_state.specs.Tables.{Tables, entities_of, same_act, session_in}
-use Rattle.ucon_row.specs.declared.order.Stage.{Stage}
-use Rattle.ucon_row.specs.declared.row.Row.{Row}
-use Rattle.ucon_row.specs.declared.row.Row.TheVariants.{Variable, Entity, Attribute, Act, Session}
-use Rattle.ucon_row.specs.Order.{after}
+use Rattle.ucon_point.specs.declared.order.Stage.{Stage}
+use Rattle.ucon_point.specs.declared.row.Row.{Row}
+use Rattle.ucon_point.specs.declared.row.Row.TheVariants.{Variable, Entity, Attribute, Act, Session}
+use Rattle.ucon_point.specs.Order.{after}
 use Rattle.ucon_point.specs.Orderly.{AreBothThere, HasRoomBehind, IsActInOrder, IsBy, IsOrderly, IsSessionInOrder, one_session, sessions_to}
 use Rattle.ucon_point.specs.PointRead.{IsPoint, Said}
 use Rattle.ucon_point.specs.Standing.{Standing, act_of, last_cell, may_put, put, put_all, side_of, start, with_next, with_put}

@@ -9,9 +9,9 @@ use Rattle.ucon_state.specs.Following.{IsFollowing}
 use Rattle.ucon_state.specs.Held.{held_in}
 use Rattle.ucon_state.specs.Shown.{Shown}
 use Rattle.ucon_syntax.specs.Policies.{accepted, if_typed, reading_of}
-use Rattle.ucon_row.specs.declared.row.Row.{Row}
+use Rattle.ucon_point.specs.declared.row.Row.{Row}
 use Rattle.ucon_point.specs.HeldRows.{point_held}
-use Rattle.ucon_row.specs.Order.{awaited}
+use Rattle.ucon_point.specs.Order.{awaited}
 use Rattle.ucon_point.specs.PointRead.{Said, IsPoint, is_whole}
 use Rattle.ucon_point.specs.Standing.{Standing, put_all, start}
 use Rattle.ucon_point.proofs.Made.{StateLaws, made_after, moved_so, seen, whole_rows}

@@ -12,13 +12,13 @@ use Rattle.ucon_base.specs.Elements.{Each}
 use Rattle.ucon_model.specs.Output.{Lacks}
 use Rattle.ucon_model.specs.Plain.{Bytes, PlainPolicy}
 use Rattle.ucon_syntax.specs.Policies.{accepted, reading_of}
-use Rattle.ucon_row.specs.declared.row.Row.{Row}
-use Rattle.ucon_row.specs.Cutting.{cut_at-append}
-use Rattle.ucon_row.specs.Order.{awaited}
+use Rattle.ucon_point.specs.declared.row.Row.{Row}
+use Rattle.ucon_point.specs.Cutting.{cut_at-append}
+use Rattle.ucon_point.specs.Order.{awaited}
 use Rattle.ucon_point.specs.Standing.{Standing, start, put, put_all}
 use Rattle.ucon_point.specs.PointRead.{Said, IsPoint, point_spelling, row_line, counted, tick_read, is_whole, line_at, policy_told, text_at, policy_at, lines_of, row_at, rows_at, rows_from, point_behind, point_read}
 use Rattle.ucon_point.specs.PointText.{entries_line, policy_lines, tick_line}
-use Rattle.ucon_row.specs.RowText.{row_spelling, IsRow, IsSpelled}
+use Rattle.ucon_point.specs.RowText.{row_spelling, IsRow, IsSpelled}
 use Rattle.ucon_point.proofs.LineWalk.{lines_of-some}
 use Rattle.ucon_point.proofs.LowerLaws.{RowsAreRead, TextsLack}
 use Rattle.ucon_point.proofs.Results.{and_then_is, nothing, same}

@@ -15,15 +15,15 @@ use Rattle.ucon_model.specs.Output.{cut_at}
 use Rattle.ucon_model.specs.Payload.{◌>>=◌}
 use Rattle.ucon_model.specs.Plain.{Bytes, PlainPolicy}
 use Rattle.ucon_syntax.specs.Policies.{accepted}
-use Rattle.ucon_row.specs.declared.row.Row.{Row}
-use Rattle.ucon_row.specs.Cutting.{cut_is}
-use Rattle.ucon_row.specs.Lines.{line}
-use Rattle.ucon_row.specs.Numbers.{count_read}
-use Rattle.ucon_row.specs.Order.{awaited}
+use Rattle.ucon_point.specs.declared.row.Row.{Row}
+use Rattle.ucon_point.specs.Cutting.{cut_is}
+use Rattle.ucon_point.specs.Lines.{line}
+use Rattle.ucon_point.specs.Numbers.{count_read}
+use Rattle.ucon_point.specs.Order.{awaited}
 use Rattle.ucon_point.specs.Standing.{Standing, start, put, put_all}
 use Rattle.ucon_point.specs.PointRead.{Said, IsPoint, point_spelling, row_line, behind_if, behind, counted, from_zero, is_whole, tick_read, line_at, behind_newline, policy_told, text_at, policy_at, with_byte, lines_of, before, row_at, rows_at, rows_from, point_behind, point_read}
 use Rattle.ucon_point.specs.PointText.{entries_line, policy_lines, tick_line}
-use Rattle.ucon_row.specs.RowText.{row_spelling, row_read, IsRow, IsSpelled}
+use Rattle.ucon_point.specs.RowText.{row_spelling, row_read, IsRow, IsSpelled}
 use Rattle.ucon_point.proofs.LowerLaws.{RowsAreSpelled}
 use Rattle.ucon_point.proofs.PointsRead.{line_first}
 use Rattle.ucon_point.proofs.Results.{and_then_is, kept, nothing}

@@ -28,13 +28,13 @@ use Rattle.ucon_state.specs.Following.{row_of}
 use Rattle.ucon_state.specs.Held.{Held}
 use Rattle.ucon_state.specs.Putting.{StartsAtZero, with_act_row}
 use Rattle.ucon_state.specs.Tables.{Tables, accessing_among, entities_of, entity_number, same_act}
-use Rattle.ucon_row.specs.declared.order.Reached.{Reached}
-use Rattle.ucon_row.specs.declared.order.Stage.{Stage}
-use Rattle.ucon_row.specs.declared.order.Stage.TheVariants.{Variables, Subjects, Objects, Acts, Sessions}
-use Rattle.ucon_row.specs.declared.row.Row.{Row}
-use Rattle.ucon_row.specs.declared.row.Row.TheVariants.{Variable, Entity, Attribute, Act, Session}
+use Rattle.ucon_point.specs.declared.order.Reached.{Reached}
+use Rattle.ucon_point.specs.declared.order.Stage.{Stage}
+use Rattle.ucon_point.specs.declared.order.Stage.TheVariants.{Variables, Subjects, Objects, Acts, Sessions}
+use Rattle.ucon_point.specs.declared.row.Row.{Row}
+use Rattle.ucon_point.specs.declared.row.Row.TheVariants.{Variable, Entity, Attribute, Act, Session}
 use Rattle.ucon_point.specs.HeldRows.{given, variable_rows, attribute_rows, entity_rows, act_row, session_rows, session_rows_to, rows_held}
-use Rattle.ucon_row.specs.Order.{after, attribute_place, awaited, declared_in, rank, stage_of, variable_place, with_row, with_value}
+use Rattle.ucon_point.specs.Order.{after, attribute_place, awaited, declared_in, rank, stage_of, variable_place, with_row, with_value}
 use Rattle.ucon_point.specs.Orderly.{AreBothThere, HasRoomBehind, IsBy, IsOrderly, IsSessionInOrder, one_session, same_names, sessions_to}
 use Rattle.ucon_point.specs.Standing.{AreWhole, Standing, has_room_in, is_past, is_zero, last_cell, may_put, put, put_all, side_of, start, starts_right, with_next, with_put}
 use Rattle.ucon_point.proofs.Blocks.{of_side}

@@ -3,9 +3,9 @@ use Rattle.std.proofs.Common.{◌≡◌, ◌∙◌, ℕ, ◌+◌, ◌-◌, ◌�
 use Rattle.std.specs.Prelude.{Option, Result, ok_or, option_and_then}
 use Rattle.ucon_model.specs.Output.{cut_at}
 use Rattle.ucon_model.specs.Plain.{Bytes, PlainPolicy}
-use Rattle.ucon_row.specs.declared.row.Row.{Row}
+use Rattle.ucon_point.specs.declared.row.Row.{Row}
 use Rattle.ucon_point.specs.PointRead.{row_at}
-use Rattle.ucon_row.specs.RowText.{row_read}
+use Rattle.ucon_point.specs.RowText.{row_read}
 use Rattle.ucon_point.specs.Standing.{Standing, put, put_all}
 use Rattle.ucon_point.proofs.LineWalk.{IsSoFar, so_far_next}
 use Rattle.ucon_point.proofs.PointsSpelled.{bind_is, done, said_is}

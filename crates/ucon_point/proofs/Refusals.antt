@@ -8,7 +8,7 @@ use Rattle.ucon_model.specs.Payload.{◌>>=◌}
 use Rattle.ucon_model.specs.Plain.{Bytes}
 use Rattle.ucon_point.specs.Faults.{IsPlainLine, IsPolicyLine}
 use Rattle.ucon_point.specs.PointRead.{line_at}
-use Rattle.ucon_row.specs.Cutting.{cut_at-append, cut_is, cut_lacks}
+use Rattle.ucon_point.specs.Cutting.{cut_at-append, cut_is, cut_lacks}
 use Rattle.ucon_point.proofs.PointsRead.{line_back, line_first}
 use Rattle.ucon_point.proofs.PointsSpelled.{bind_is, said_is, done}
 

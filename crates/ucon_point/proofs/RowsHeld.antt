@@ -11,11 +11,11 @@ use Rattle.ucon_model.specs.declared.session.SessionRow.{SessionRow}
 use Rattle.ucon_model.specs.Plain.{Bytes}
 use Rattle.ucon_model.specs.Readings.{same_side}
 use Rattle.ucon_state.specs.Held.{Held}
-use Rattle.ucon_row.specs.declared.row.Row.{Row}
-use Rattle.ucon_row.specs.declared.row.Row.TheVariants.{Variable, Entity, Attribute, Session}
+use Rattle.ucon_point.specs.declared.row.Row.{Row}
+use Rattle.ucon_point.specs.declared.row.Row.TheVariants.{Variable, Entity, Attribute, Session}
 use Rattle.ucon_point.specs.HeldRows.{given, variable_rows, attribute_rows, entity_rows, act_row, session_rows, session_rows_to, rows_held, point_held}
 use Rattle.ucon_point.specs.PointRead.{point_spelling, row_line}
-use Rattle.ucon_row.specs.Lines.{value_line}
+use Rattle.ucon_point.specs.Lines.{value_line}
 use Rattle.ucon_point.specs.PointText.{entries_line, policy_lines, tick_line, act_line, session_lines_of, sessions_to, variable_line, attribute_line, entity_lines, point_text}
 
 abbrev lines : List Row → Bytes

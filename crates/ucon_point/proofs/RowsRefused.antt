@@ -7,12 +7,12 @@ use Rattle.ucon_base.specs.Elements.{Each, each_parts}
 use Rattle.ucon_model.specs.Output.{Lacks}
 use Rattle.ucon_model.specs.Payload.{◌>>=◌}
 use Rattle.ucon_model.specs.Plain.{Bytes, PlainPolicy}
-use Rattle.ucon_row.specs.declared.row.Row.{Row}
-use Rattle.ucon_row.specs.Order.{awaited}
+use Rattle.ucon_point.specs.declared.row.Row.{Row}
+use Rattle.ucon_point.specs.Order.{awaited}
 use Rattle.ucon_point.specs.Standing.{Standing, put}
 use Rattle.ucon_point.specs.PointRead.{before, lines_of, row_at, rows_at, rows_from, with_byte}
-use Rattle.ucon_row.specs.RowText.{row_read}
-use Rattle.ucon_row.specs.Cutting.{cut_at-append}
+use Rattle.ucon_point.specs.RowText.{row_read}
+use Rattle.ucon_point.specs.Cutting.{cut_at-append}
 use Rattle.ucon_point.proofs.LineWalk.{lines_of-some}
 use Rattle.ucon_point.proofs.PointsRead.{line_first}
 use Rattle.ucon_point.proofs.PointsSpelled.{joined, joined_lines}

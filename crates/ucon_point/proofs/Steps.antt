@@ -25,9 +25,9 @@ use Rattle.ucon_state.specs.Following.{row_of}
 use Rattle.ucon_state.specs.Held.{Held, held_after, held_in}
 use Rattle.ucon_state.specs.Putting.{act_in, with_act_row}
 use Rattle.ucon_state.specs.Tables.{Tables, moment_in, same_act, session_in}
-use Rattle.ucon_row.specs.declared.order.Stage.TheVariants.{Variables, Subjects, Objects, Acts, Sessions}
-use Rattle.ucon_row.specs.declared.row.Row.{Row}
-use Rattle.ucon_row.specs.declared.row.Row.TheVariants.{Variable, Entity, Attribute, Act, Session}
+use Rattle.ucon_point.specs.declared.order.Stage.TheVariants.{Variables, Subjects, Objects, Acts, Sessions}
+use Rattle.ucon_point.specs.declared.row.Row.{Row}
+use Rattle.ucon_point.specs.declared.row.Row.TheVariants.{Variable, Entity, Attribute, Act, Session}
 use Rattle.ucon_point.specs.HeldRows.{given, variable_rows, attribute_rows, entity_rows, act_row, session_rows, session_rows_to, rows_held}
 use Rattle.ucon_point.proofs.Blocks.{AtValues, Full, Told, all_acts, all_entities, all_variables, each_same, own_rows, take_more}
 use Rattle.ucon_point.proofs.Declared.{attr_once, env_declared, env_once}

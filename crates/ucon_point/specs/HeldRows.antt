@@ -10,8 +10,8 @@ use Rattle.ucon_model.specs.declared.session.SessionRow.{SessionRow}
 use Rattle.ucon_model.specs.Plain.{Bytes}
 use Rattle.ucon_model.specs.Readings.{same_side}
 use Rattle.ucon_state.specs.Held.{Held}
-use Rattle.ucon_row.specs.declared.row.Row.{Row}
-use Rattle.ucon_row.specs.declared.row.Row.TheVariants.{Variable, Entity, Attribute, Act, Session}
+use Rattle.ucon_point.specs.declared.row.Row.{Row}
+use Rattle.ucon_point.specs.declared.row.Row.TheVariants.{Variable, Entity, Attribute, Act, Session}
 use Rattle.ucon_point.specs.PointRead.{Said}
 
 -- a row of a value that is there

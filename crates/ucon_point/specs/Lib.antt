@@ -5,3 +5,8 @@ pub mod Orderly
 pub mod PointRead
 pub mod PointText
 pub mod Standing
+pub mod Cutting
+pub mod Lines
+pub mod Numbers
+pub mod Order
+pub mod RowText

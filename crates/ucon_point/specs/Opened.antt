@@ -5,7 +5,7 @@ use Rattle.ucon_state.specs.declared.state.State.{State}
 use Rattle.ucon_state.specs.TakingUp.{HasNothingToUndo}
 use Rattle.ucon_state.specs.Shown.{shown}
 use Rattle.ucon_point.specs.declared.point.Point.{Point}
-use Rattle.ucon_row.specs.declared.row.Row.{Row}
+use Rattle.ucon_point.specs.declared.row.Row.{Row}
 use Rattle.ucon_point.specs.PointRead.{Said}
 use Rattle.ucon_point.specs.Standing.{Standing, start, put_all}
 

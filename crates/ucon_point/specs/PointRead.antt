@@ -10,11 +10,11 @@ use Rattle.ucon_model.specs.Output.{cut_at}
 use Rattle.ucon_model.specs.Payload.{◌>>=◌}
 use Rattle.ucon_model.specs.Plain.{Bytes, PlainPolicy}
 use Rattle.ucon_syntax.specs.Policies.{accepted}
-use Rattle.ucon_row.specs.declared.row.Row.{Row}
-use Rattle.ucon_row.specs.Lines.{line}
-use Rattle.ucon_row.specs.Numbers.{count_read}
-use Rattle.ucon_row.specs.Order.{awaited}
-use Rattle.ucon_row.specs.RowText.{row_words, row_read, IsRow, IsSpelled}
+use Rattle.ucon_point.specs.declared.row.Row.{Row}
+use Rattle.ucon_point.specs.Lines.{line}
+use Rattle.ucon_point.specs.Numbers.{count_read}
+use Rattle.ucon_point.specs.Order.{awaited}
+use Rattle.ucon_point.specs.RowText.{row_words, row_read, IsRow, IsSpelled}
 use Rattle.ucon_point.specs.PointText.{entries_line, policy_lines, tick_line}
 use Rattle.ucon_point.specs.Standing.{Standing, start, put, AreWhole}
 

@@ -10,7 +10,7 @@ use Rattle.ucon_model.specs.declared.session.SessionRow.{SessionRow}
 use Rattle.ucon_model.specs.Plain.{Bytes, PlainPolicy}
 use Rattle.ucon_model.specs.Readings.{same_side}
 use Rattle.ucon_model.specs.History.{History, trace}
-use Rattle.ucon_row.specs.Lines.{line, value_line, entity_line, act_words, session_words}
+use Rattle.ucon_point.specs.Lines.{line, value_line, entity_line, act_words, session_words}
 use Rattle.ucon_state.specs.Held.{Held, held_after}
 
 -- ---- the lines before the rows

@@ -16,12 +16,12 @@ use Rattle.ucon_state.specs.Applied.{applied, opening_tables, with_cell, with_en
 use Rattle.ucon_state.specs.Putting.{with_act_row}
 use Rattle.ucon_state.specs.Shown.{shown}
 use Rattle.ucon_state.specs.Tables.{Tables, accessing_among, cell_at, entities_of, entity_number, moment_in}
-use Rattle.ucon_row.specs.declared.order.Reached.{Reached}
-use Rattle.ucon_row.specs.declared.order.Stage.{Stage}
-use Rattle.ucon_row.specs.declared.order.Stage.TheVariants.{Subjects, Objects}
-use Rattle.ucon_row.specs.declared.row.Row.{Row}
-use Rattle.ucon_row.specs.declared.row.Row.TheVariants.{Variable, Entity, Attribute, Act, Session}
-use Rattle.ucon_row.specs.Order.{after, awaited, beginning}
+use Rattle.ucon_point.specs.declared.order.Reached.{Reached}
+use Rattle.ucon_point.specs.declared.order.Stage.{Stage}
+use Rattle.ucon_point.specs.declared.order.Stage.TheVariants.{Subjects, Objects}
+use Rattle.ucon_point.specs.declared.row.Row.{Row}
+use Rattle.ucon_point.specs.declared.row.Row.TheVariants.{Variable, Entity, Attribute, Act, Session}
+use Rattle.ucon_point.specs.Order.{after, awaited, beginning}
 
 -- how far the rows have come, and the tables that they made
 pub record Standing : Type 0 where

@@ -9,11 +9,11 @@ ghost use Rattle.ucon_point.specs.Faults.{IsBadAt};
 ghost use Rattle.ucon_point.specs.PointRead.{behind, behind_newline, counted, from_zero, line_at, policy_at, policy_told, text_at, tick_read};
 
 use crate::fault::PointFault;
+use crate::{count_in, cut_at};
 use std::alloc::Global;
 use ucon_base::{Int, NoMemory, Rows};
 use ucon_check::check;
 use ucon_model::Checked;
-use ucon_row::{count_in, cut_at};
 use ucon_syntax::{SyntaxFault, read_policy};
 
 /// No text of a policy has more.

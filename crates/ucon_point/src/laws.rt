@@ -10,7 +10,7 @@ ghost use Rattle.ucon_base.specs.Elements.{Each};
 ghost use Rattle.ucon_base.specs.declared.value.Value.TheVariants.{Int};
 ghost use Rattle.ucon_syntax.specs.Policies.{accepted};
 ghost use Rattle.ucon_point.specs.Orderly.{IsOrderly};
-ghost use Rattle.ucon_row.specs.RowText.{IsRow, IsSpelled};
+ghost use Rattle.ucon_point.specs.RowText.{IsRow, IsSpelled};
 ghost use Rattle.ucon_point.specs.PointText.{point_text};
 ghost use Rattle.ucon_point.specs.Standing.{Standing, put_all, start};
 ghost use Rattle.ucon_state.specs.Following.{IsFollowing};
@@ -18,8 +18,8 @@ ghost use Rattle.ucon_state.specs.Held.{Held, held_after, held_in};
 ghost use Rattle.ucon_state.specs.Shown.{Shown};
 ghost use Rattle.ucon_point.specs.PointRead.{IsPoint, Said, is_whole, point_read, point_spelling};
 
+use crate::{numbers_are_read_back, rows_are_read_back};
 use ucon_model::{texts_lack_bytes, usages_are_few};
-use ucon_row::{numbers_are_read_back, rows_are_read_back};
 use ucon_state::{
     each_action_is_followed, states_hold_what_they_follow, tables_keep_the_trace,
     tables_keep_what_is_followed, traces_of_histories_are_legal, what_is_put_is_followed,

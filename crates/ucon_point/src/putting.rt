@@ -10,9 +10,9 @@ ghost use Rattle.ucon_state.specs.Putting.{with_act_row};
 ghost use Rattle.ucon_state.specs.Shown.{changed_to, shown};
 ghost use Rattle.ucon_state.specs.Tables.{entities_of};
 
+use crate::{Row, Stage};
 use ucon_base::{Name, NoMemory, Side, Value};
 use ucon_model::SessionRow;
-use ucon_row::{Row, Stage};
 use ucon_state::{ActRow, State};
 
 /// The most entities of a side.

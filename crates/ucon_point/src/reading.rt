@@ -5,7 +5,7 @@ ghost use Rattle.ucon_model.specs.Checked.{checked_policy};
 ghost use Rattle.ucon_model.specs.Views.{policy_of};
 ghost use Rattle.ucon_point.specs.Faults.{IsBadAt, IsNoText, IsRefusedAt, IsTextOfNothing};
 ghost use Rattle.ucon_point.specs.Opened.{ArePut, IsPut, IsRead};
-ghost use Rattle.ucon_row.specs.Order.{awaited, beginning};
+ghost use Rattle.ucon_point.specs.Order.{awaited, beginning};
 ghost use Rattle.ucon_point.specs.PointRead.{point_behind, point_read, row_at, rows_from};
 ghost use Rattle.ucon_point.specs.PointText.{point_text};
 ghost use Rattle.ucon_point.specs.Standing.{HasLast, standing, start};
@@ -20,10 +20,10 @@ use crate::header::{PolicyText, count_at, policy_at, tick_at};
 use crate::laws::{points_are_read_back, rows_make_what_they_say, texts_are_of_rows};
 use crate::point::Point;
 use crate::putting::put_row;
+use crate::{Reached, after, awaited, beginning, cut_at, row_in};
 use std::alloc::Global;
 use ucon_base::Int;
 use ucon_model::{Checked, Policy, View};
-use ucon_row::{Reached, after, awaited, beginning, cut_at, row_in};
 use ucon_state::State;
 
 /// What the bytes hold as the text of a checkpoint, as a state that an engine can take up: they are the text of what is there in it.

@@ -11,10 +11,10 @@ ghost use Rattle.ucon_state.specs.Following.{Follows};
 ghost use Rattle.ucon_state.specs.Held.{held, held_after};
 ghost use Rattle.ucon_state.specs.Shown.{shown};
 
+use crate::{put_act, put_entity, put_session, put_value};
 use std::alloc::Global;
 use ucon_base::{Int, Name, NoMemory, Side, put, put_integer, put_number};
 use ucon_model::{AttrDecl, View};
-use ucon_row::{put_act, put_entity, put_session, put_value};
 use ucon_state::{State, states_hold_what_they_follow};
 
 /// The text of the checkpoint after so many entries, if `policy` is the text of the policy in force. It is that after each trace that the state

@@ -9,9 +9,8 @@ ghost use Rattle.ucon_model.specs.Printing.{update_printing};
 use crate::expr::put_expr;
 use crate::formula::put_formula;
 use crate::words::put_literal;
-use ucon_base::{Kind, Name, NoMemory, Value, put, put_integer};
+use ucon_base::{Kind, Name, NoMemory, Value, put, put_integer, put_quoted};
 use ucon_model::{AttrDecl, EnvDecl, Form, Obligation, Phase, Predicate, Test, Update, When};
-use ucon_spelling::put_quoted;
 
 fn put_kind(out: &mut Vec<u8>, kind: &Kind) -> Result<(), NoMemory>
     ensures { OnOk result (out.new.items ≡ out.old.items ++ kind_printing kind.now) }

@@ -4,9 +4,8 @@ ghost use Rattle.std.specs.Prelude.{◌≡◌, ◌++◌, OnOk};
 ghost use Rattle.std.specs.List.{flat_map};
 ghost use Rattle.ucon_model.specs.Printing.{only_if, further_text, set_printing, literal_printing, place_printing};
 
-use ucon_base::{NoMemory, Text, Value, put, put_integer};
+use ucon_base::{NoMemory, Text, Value, put, put_integer, put_quoted};
 use ucon_model::Ref;
-use ucon_spelling::put_quoted;
 
 /// Adds the bytes if the test is true, and else nothing. `Err` if there is no memory.
 pub fn put_if(out: &mut Vec<u8>, test: bool, bytes: &[u8]) -> Result<(), NoMemory>

@@ -3,7 +3,7 @@ use Rattle.std.proofs.Common.{◌≡◌, ◌≢◌, ◌∙◌, ◌⊎◌, inl, i
 use Rattle.std.specs.Prelude.{Some, None}
 use Rattle.std.specs.List.{Contains}
 use Rattle.std.proofs.lemmas.Bool.Decides.{eqb_tells}
-use Rattle.ucon_lists.specs.Lists.{IsLed, Joins, Leaves, Members, is_joined, leader_in}
+use Rattle.ucon_collections.specs.Lists.{IsLed, Joins, Leaves, Members, is_joined, leader_in}
 use Rattle.ucon_readers.specs.Lists.{led_by, members_in}
 use Rattle.ucon_readers.proofs.Leading.{HasCome, HasLeft, alone_led, is_or_not, joined_led, led_member, led_only}
 use Rattle.ucon_readers.proofs.Listed.{leader_some, of_one, some_of}

@@ -6,8 +6,8 @@ use Rattle.std.proofs.lemmas.Bool.Decides.{eqb_tells}
 use Rattle.std.proofs.lemmas.List.Elements.{All-contains}
 use Rattle.ucon_links.specs.Dependents.{Dependents, Place, has_session, is_there, others, place_at, stands_in}
 use Rattle.ucon_links.specs.Lists.{IsAbsent}
-use Rattle.ucon_lists.specs.Lists.{IsLed, IsNext, JoinsAtMost, Members, is_joined, leader_in}
-use Rattle.ucon_lists.specs.Undoing.{Who, who_in}
+use Rattle.ucon_collections.specs.Lists.{IsLed, IsNext, JoinsAtMost, Members, is_joined, leader_in}
+use Rattle.ucon_collections.specs.Undoing.{Who, who_in}
 use Rattle.ucon_readers.specs.Joining.{Joins}
 use Rattle.ucon_readers.specs.Listing.{AreLed, ComesTo, StandsNowhere, StandsSomewhere, standing_by}
 use Rattle.ucon_readers.specs.Lists.{first_in, led_by, members_in}

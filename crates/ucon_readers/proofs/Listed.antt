@@ -5,9 +5,9 @@ use Rattle.std.specs.List.{Contains, flat_map}
 use Rattle.std.specs.Option.{option_map_or}
 use Rattle.std.proofs.lemmas.Bool.Decides.{eqb_tells}
 use Rattle.std.proofs.lemmas.List.Elements.{Contains-append_left, Contains-append_right, Contains-append_cases}
-use Rattle.ucon_lists.specs.Lists.{IsLed, IsNext, Members, leader_in, member_at}
-use Rattle.ucon_lists.specs.Undoing.{Who, who_in}
-use Rattle.ucon_lists.specs.declared.table.Member.{Member}
+use Rattle.ucon_collections.specs.Lists.{IsLed, IsNext, Members, leader_in, member_at}
+use Rattle.ucon_collections.specs.Undoing.{Who, who_in}
+use Rattle.ucon_collections.specs.declared.table.Member.{Member}
 use Rattle.ucon_readers.specs.Lists.{first_in, is_of, least_of, members_from, members_in}
 
 -- ---- elements

@@ -3,9 +3,9 @@ use Rattle.std.proofs.Common.{◌≡◌, ℕ, zero, suc, List, [], ◌∷◌, �
 use Rattle.std.specs.Prelude.{Option, None, Some}
 use Rattle.std.specs.List.{flat_map}
 use Rattle.ucon_links.specs.Dependents.{Place, Dependents, UnhideGives, empty_place, hide, place_at, stands_in, has_session, is_there}
-use Rattle.ucon_lists.specs.Lists.{Members}
-use Rattle.ucon_lists.specs.Undoing.{CanUndoAll, IsKept as AreKept, Listed, UndoGives as ListsGive, Who, all_undone, who_in}
-use Rattle.ucon_lists.specs.declared.lists.Change.{Change}
+use Rattle.ucon_collections.specs.Lists.{Members}
+use Rattle.ucon_collections.specs.Undoing.{CanUndoAll, IsKept as AreKept, Listed, UndoGives as ListsGive, Who, all_undone, who_in}
+use Rattle.ucon_collections.specs.declared.lists.Change.{Change}
 use Rattle.ucon_readers.specs.Listing.{AreLed, ChangesGive, IsKept, Listing, TakingOutGives, readers_in}
 use Rattle.ucon_readers.specs.Lists.{first_in, led_by}
 use Rattle.ucon_readers.specs.Readers.{IsKept as IsKeptSo, UndoGives, by_changes, by_replaced, first_of, readers_at}

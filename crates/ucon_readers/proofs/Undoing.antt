@@ -1,7 +1,7 @@
 -- What undoing gives, after one change more and where nothing was changed.
 use Rattle.std.proofs.Common.{◌≡◌, ◌∙◌, ℤ, List, ap}
 use Rattle.std.specs.Prelude.{Option}
-use Rattle.ucon_deadlines.specs.Deadlines.{AreAlike, deadline_of}
+use Rattle.ucon_collections.specs.Deadlines.{AreAlike, deadline_of}
 use Rattle.ucon_readers.specs.Timers.{IsKept, UndoGives, by_changes, by_replaced, deadlines_in}
 use Rattle.ucon_readers.specs.declared.timers.Timers.{Timers}
 

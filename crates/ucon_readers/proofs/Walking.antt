@@ -4,7 +4,7 @@ use Rattle.std.specs.List.{All, Contains, flat_map}
 use Rattle.std.proofs.lemmas.List.Elements.{All-contains, All-contains_itself, All-weaker, Contains-append_left, Contains-append_right, Contains-append_cases}
 use Rattle.ucon_links.specs.Dependents.{Dependents, stands_in}
 use Rattle.ucon_links.specs.Walk.{IsWalked}
-use Rattle.ucon_lists.specs.Lists.{Members}
+use Rattle.ucon_collections.specs.Lists.{Members}
 use Rattle.ucon_readers.specs.Listing.{standing_by}
 use Rattle.ucon_readers.specs.Lists.{first_in, led_by}
 use Rattle.ucon_readers.proofs.Listed.{flat_map_has, in_flat_map, only_in}

@@ -2,8 +2,8 @@
 use Rattle.std.specs.Prelude.{◌≡◌, ◌↔◌, ◌⊎◌, ℕ, false, true, List, [], length, Option, Some, None}
 use Rattle.std.specs.List.{Contains, flat_map}
 use Rattle.ucon_links.specs.Dependents.{Dependents, UnhideGives, is_there, remove, stands_in}
-use Rattle.ucon_lists.specs.Lists.{Members, is_joined, leader_in}
-use Rattle.ucon_lists.specs.Undoing.{IsKept as AreKept, Listed, UndoGives as ListsGive, who_in}
+use Rattle.ucon_collections.specs.Lists.{Members, is_joined, leader_in}
+use Rattle.ucon_collections.specs.Undoing.{IsKept as AreKept, Listed, UndoGives as ListsGive, who_in}
 use Rattle.ucon_readers.specs.Lists.{first_in, led_by, members_in}
 
 -- the lists, the leaders of which stand at the places, and the leader that was added

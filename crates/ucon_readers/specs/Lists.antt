@@ -1,8 +1,8 @@
 -- Lists of sessions under their leaders: who is in which, and who is its first.
 use Rattle.std.specs.Prelude.{ℕ, zero, suc, min, Bool, false, nat_eq, List, [], ◌∷◌, Option, if◌then◌else◌}
 use Rattle.std.specs.Option.{option_map_or}
-use Rattle.ucon_lists.specs.Lists.{Members, is_joined, leader_in}
-use Rattle.ucon_lists.specs.declared.table.Member.{Member}
+use Rattle.ucon_collections.specs.Lists.{Members, is_joined, leader_in}
+use Rattle.ucon_collections.specs.declared.table.Member.{Member}
 
 -- whether the leader that is told is this one
 abbrev pub is_of : ℕ → Option ℕ → Bool

@@ -1,6 +1,6 @@
 -- Which deadlines there are, and what undoing gives.
 use Rattle.std.specs.Prelude.{◌≡◌, ℤ, List, Option, Some, None}
-use Rattle.ucon_deadlines.specs.Deadlines.{AreAlike, Deadlines}
+use Rattle.ucon_collections.specs.Deadlines.{AreAlike, Deadlines}
 use Rattle.ucon_readers.specs.declared.timers.Timers.{Timers}
 
 -- the deadline of each session, at the place that is its number

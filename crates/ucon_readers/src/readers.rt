@@ -12,7 +12,7 @@ use indexmap::IndexMap;
 use std::alloc::Global;
 use std::mem;
 use ucon_base::NoMemory;
-use ucon_number_set::NumberSet;
+use ucon_collections::NumberSet;
 
 /// Forgets those who were replaced, if some were: most often none were, and to move none costs as much as to move some.
 #[inline(always)]

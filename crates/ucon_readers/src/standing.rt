@@ -4,7 +4,7 @@ ghost use Rattle.std.specs.Prelude.{◌≡◌, ◌≢◌, ◌↔◌, ◌⊎◌, 
 ghost use Rattle.std.specs.List.{All, Contains};
 ghost use Rattle.ucon_links.specs.Lists.{IsDistinct};
 ghost use Rattle.ucon_links.specs.Dependents.{Dependents, UnhideGives, hide, is_there, others, stands_in};
-ghost use Rattle.ucon_lists.specs.Lists.{is_joined, leader_in};
+ghost use Rattle.ucon_collections.specs.Lists.{is_joined, leader_in};
 ghost use Rattle.ucon_readers.specs.Listing.{AreLed, TakingOutGives, standing_by};
 ghost use Rattle.ucon_readers.specs.Joining.{Joins, StandsAlone};
 ghost use Rattle.ucon_readers.specs.Lists.{first_in, led_by};
@@ -12,9 +12,8 @@ ghost use Rattle.ucon_readers.specs.Lists.{first_in, led_by};
 use std::alloc::{AllocError, Global};
 use std::marker::Model;
 use ucon_base::NoMemory;
+use ucon_collections::{Lists, NumberSet};
 use ucon_links::{Index, walks_meet_who_stands};
-use ucon_lists::Lists;
-use ucon_number_set::NumberSet;
 
 /// Sessions in lists, of which all members read the same, and at each place the leaders of the lists that read it. What a draft changes
 /// can be undone until it is kept.

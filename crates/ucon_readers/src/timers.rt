@@ -1,12 +1,12 @@
 //! The deadlines of usages that go on, and what a draft has changed of them.
 
 ghost use Rattle.std.specs.Prelude.{◌≡◌, ◌+◌, ◌≤ℤ◌, ℕ, ℤ, List, Option, IfNone, IfOk, IfSome, None, OnErr, OnOk, Some};
-ghost use Rattle.ucon_deadlines.specs.Deadlines.{AreAlike, Gives, IsPassed, count_below, deadline_of, passed};
+ghost use Rattle.ucon_collections.specs.Deadlines.{AreAlike, Gives, IsPassed, count_below, deadline_of, passed};
 
 use std::alloc::Global;
 use std::mem;
 use ucon_base::{Int, NoMemory};
-use ucon_deadlines::Deadlines;
+use ucon_collections::Deadlines;
 
 /// Forgets the deadlines that was replaced, if one was: most often none was, and to move none costs as much as to move one.
 #[inline(always)]

@@ -6,8 +6,7 @@ ghost use Rattle.ucon_base.specs.NameBytes.{is_name};
 ghost use Rattle.ucon_base.specs.Spelling.{IsValue, value_spelling};
 
 use std::alloc::Global;
-use ucon_base::{Name, NoMemory, Value, put, put_number};
-use ucon_spelling::put_spelling;
+use ucon_base::{Name, NoMemory, Value, put, put_number, put_spelling};
 
 /// Adds a space and a name, and tells that its bytes are a name's.
 #[inline(always)]

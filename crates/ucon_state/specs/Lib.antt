@@ -11,3 +11,4 @@ pub mod Following
 pub mod TakingUp
 pub mod Held
 pub mod Putting
+pub mod ReadOff

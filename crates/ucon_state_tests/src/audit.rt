@@ -9,11 +9,10 @@ use sha2::{Digest, Sha256};
 use std::alloc::Global;
 use std::test::Fail;
 use std::thread::Threads;
-use ucon_asked::typed_tests_make_no_set;
 use ucon_audit::{Changed, changed_sessions, changed_usages, head_text, is_head_text, usages};
 use ucon_base::Name;
 use ucon_eval::verdict;
-use ucon_model::{Verdict, View};
+use ucon_model::{Verdict, View, typed_tests_make_no_set};
 use ucon_state::{State, tables_keep_what_is_followed};
 
 /// The example of FIPS 180-4.

@@ -6,8 +6,7 @@ ghost use Rattle.ucon_model.specs.Checked.{checked_policy};
 use std::alloc::Global;
 use std::test::Fail;
 use ucon_base::{Name, NameFault};
-use ucon_check::{AmendFault, CheckFault, check, may_follow, reads};
-use ucon_cores::{core_models, core_name};
+use ucon_check::{AmendFault, CheckFault, check, core_models, core_name, may_follow, reads};
 use ucon_model::{Checked, Core, Ref};
 use ucon_syntax::read_policy;
 

@@ -13,11 +13,11 @@ use Rattle.ucon_model.specs.Plain.{Bytes, PlainPolicy}
 use Rattle.ucon_model.specs.Readings.{env_position, is_accessing_state}
 use Rattle.ucon_state.specs.Applied.{with_cell, with_entity, with_new_session, with_variable}
 use Rattle.ucon_state.specs.Tables.{Tables, accessing_among}
-use Rattle.ucon_row.specs.declared.order.Reached.{Reached}
-use Rattle.ucon_row.specs.declared.order.Stage.{Stage}
-use Rattle.ucon_row.specs.declared.row.Row.{Row}
-use Rattle.ucon_row.specs.declared.row.Row.TheVariants.{Variable, Entity, Attribute, Act, Session}
-use Rattle.ucon_row.specs.Order.{after}
+use Rattle.ucon_point.specs.declared.order.Reached.{Reached}
+use Rattle.ucon_point.specs.declared.order.Stage.{Stage}
+use Rattle.ucon_point.specs.declared.row.Row.{Row}
+use Rattle.ucon_point.specs.declared.row.Row.TheVariants.{Variable, Entity, Attribute, Act, Session}
+use Rattle.ucon_point.specs.Order.{after}
 use Rattle.ucon_point.specs.Standing.{Standing, start, side_of, last_cell, with_put, has_room_in, may_put, may_put_session, with_next, put, put_all}
 
 abbrev AreFew : Tables → Type 0

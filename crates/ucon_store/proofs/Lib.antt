@@ -24,3 +24,7 @@ pub mod Stepped
 pub mod Stepping
 pub mod Taking
 pub mod Versions
+pub mod Reached
+pub mod Told
+pub mod WalkedVersions
+pub mod Walked

@@ -20,8 +20,8 @@ use Rattle.ucon_store.specs.Opened.{Seen, Sees, first_long}
 use Rattle.ucon_store.specs.Opening.{HasOtherPolicy, IsForeign, KeepsFound, first_difference}
 use Rattle.ucon_store.specs.Points.{SameKind, SamePlaces, has_points, points_of, takes_with}
 use Rattle.ucon_store.specs.Starts.{IsBeforeAll, IsStart}
-use Rattle.ucon_walk.specs.declared.walking.LastPoint.{LastPoint}
-use Rattle.ucon_walk.specs.Walking.{IsWalked}
+use Rattle.ucon_store.specs.declared.walking.LastPoint.{LastPoint}
+use Rattle.ucon_store.specs.Walking.{IsWalked}
 use Rattle.ucon_store.proofs.Fronts.{held_as}
 use Rattle.ucon_store.proofs.Openings.{found_counted, found_fresh}
 use Rattle.ucon_store.proofs.Reading.{sees_read, some_counted}

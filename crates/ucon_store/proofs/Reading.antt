@@ -11,9 +11,9 @@ use Rattle.ucon_model.specs.History.{History}
 use Rattle.ucon_model.specs.Payload.{most_payload}
 use Rattle.ucon_model.specs.Plain.{Bytes, PlainPolicy}
 use Rattle.ucon_syntax.specs.Policies.{accepted}
-use Rattle.ucon_walk.specs.declared.walking.LastPoint.{LastPoint}
-use Rattle.ucon_walk.specs.Reaching.{IsTaken, IsUpTo}
-use Rattle.ucon_walk.specs.Walking.{IsAtParted, IsWalked}
+use Rattle.ucon_store.specs.declared.walking.LastPoint.{LastPoint}
+use Rattle.ucon_store.specs.Reaching.{IsTaken, IsUpTo}
+use Rattle.ucon_store.specs.Walking.{IsAtParted, IsWalked}
 use Rattle.ucon_store.specs.Found.{found}
 use Rattle.ucon_store.specs.Loading.{IsOfNone, IsReadAs, IsReadTo, IsReadWhole, found_from}
 use Rattle.ucon_store.specs.Opened as opened

@@ -18,10 +18,10 @@ use Rattle.ucon_model.specs.ReplyText.{tells_change}
 use Rattle.ucon_model.specs.Spelling.{reply_spelling}
 use Rattle.ucon_syntax.specs.Policies.{accepted}
 use Rattle.ucon_store.specs.declared.fault.StoreFault.{StoreFault}
-use Rattle.ucon_walk.specs.declared.fault.RecordFault.{RecordFault}
-use Rattle.ucon_walk.specs.declared.fault.RecordFault.TheVariants as records
-use Rattle.ucon_walk.specs.Reaching.{IsUnpassed}
-use Rattle.ucon_walk.specs.Walking.{HasLong}
+use Rattle.ucon_store.specs.declared.record_fault.RecordFault.{RecordFault}
+use Rattle.ucon_store.specs.declared.record_fault.RecordFault.TheVariants as records
+use Rattle.ucon_store.specs.Reaching.{IsUnpassed}
+use Rattle.ucon_store.specs.Walking.{HasLong}
 use Rattle.ucon_store.specs.Faults.{of_record, of_take}
 use Rattle.ucon_store.specs.Found.{found}
 use Rattle.ucon_store.specs.Opened.{Sees, SeesIn, SeesPast, damaged, first_long, parted_with, steps_after}

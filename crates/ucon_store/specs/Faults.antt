@@ -3,9 +3,9 @@ use Rattle.std.specs.Prelude.{ℕ}
 use Rattle.ucon_journal.specs.declared.fault.OpenFault.{OpenFault}
 use Rattle.ucon_journal.specs.declared.fault.OpenFault.TheVariants as opening
 use Rattle.ucon_journal.specs.declared.fault.TakeFault.{TakeFault}
-use Rattle.ucon_walk.specs.declared.fault.RecordFault.{RecordFault}
-use Rattle.ucon_walk.specs.declared.fault.RecordFault.TheVariants as records
-use Rattle.ucon_walk.specs.Faults as walk
+use Rattle.ucon_store.specs.declared.record_fault.RecordFault.{RecordFault}
+use Rattle.ucon_store.specs.declared.record_fault.RecordFault.TheVariants as records
+use Rattle.ucon_store.specs.RecordFaults as walk
 use Rattle.ucon_store.specs.declared.fault.StoreFault.{StoreFault}
 use Rattle.ucon_store.specs.declared.fault.StoreFault.TheVariants.{NotJournal, Damaged, DiskFault, NoMemory}
 

@@ -14,3 +14,8 @@ pub mod Starts
 pub mod Stays
 pub mod Steps
 pub mod Whole
+pub mod RecordFaults
+pub mod Parted
+pub mod PointRecords
+pub mod Reaching
+pub mod Walking

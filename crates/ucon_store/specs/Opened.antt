@@ -20,13 +20,13 @@ use Rattle.ucon_point.specs.HeldRows.{rows_held}
 use Rattle.ucon_point.specs.Orderly.{IsOrderly}
 use Rattle.ucon_point.specs.PointRead.{Said, point_read}
 use Rattle.ucon_point.specs.PointText.{point_text}
-use Rattle.ucon_row.specs.RowText.{IsRow, IsSpelled}
+use Rattle.ucon_point.specs.RowText.{IsRow, IsSpelled}
 use Rattle.ucon_state.specs.Held.{Held, held_after}
 use Rattle.ucon_syntax.specs.Policies.{accepted}
 use Rattle.ucon_store.specs.Found.{found_by}
 use Rattle.ucon_store.specs.Points.{checkpoint, has_points, text_in_force, PolicyReading}
 use Rattle.ucon_journal.specs.Found.{counted}
-pub use Rattle.ucon_walk.specs.Parted.{Parted, first_long, parted, parted_here, parted_with, preceded_by, steps_among}
+pub use Rattle.ucon_store.specs.Parted.{Parted, first_long, parted, parted_here, parted_with, preceded_by, steps_among}
 
 -- What opening sees: no record yet; no journal; a record that is wrong, by its number and the place of its gate; or the policy's text, how many
 -- entries there are, all that is there after them, and the place of the gate behind the last record.

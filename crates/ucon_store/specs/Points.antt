@@ -9,7 +9,7 @@ use Rattle.ucon_model.specs.Payload.{most_payload}
 use Rattle.ucon_model.specs.Plain.{Bytes, PlainPolicy}
 use Rattle.ucon_journal.specs.Found.{counted}
 use Rattle.ucon_point.specs.PointText.{point_after}
-pub use Rattle.ucon_walk.specs.Points.{has_points, is_point, points_of}
+pub use Rattle.ucon_store.specs.PointRecords.{has_points, is_point, points_of}
 use Rattle.ucon_syntax.specs.Policies.{accepted}
 
 -- ---- one checkpoint

@@ -6,9 +6,9 @@ ghost use Rattle.ucon_store.specs.declared.fault.StepFault.TheVariants as step_f
 ghost use Rattle.ucon_store.specs.declared.fault.StoreFault.TheVariants as store_faults;
 ghost use Rattle.ucon_store.specs.Faults.{of_open, of_record, of_take};
 
+use crate::RecordFault;
 use ucon_base::NoMemory;
 use ucon_journal::{DiskFault, OpenFault, TakeFault};
-use ucon_walk::RecordFault;
 
 /// Why a store could not be opened.
 #[derive(Clone, Copy)]
@@ -66,7 +66,7 @@ impl From<RecordFault> for StoreFault {
 pub(crate) fn at_record(number: u64, fault: TakeFault) -> StoreFault
     ensures { result ≡ of_take number fault }
 {
-    ucon_walk::at_record(number, fault).into()
+    crate::at_record(number, fault).into()
 }
 
 /// Why no checkpoint was written. But for a disk fault nothing else was, either.

@@ -14,7 +14,7 @@ ghost use Rattle.ucon_model.specs.History.{History, IsProper, trace, trace_from}
 ghost use Rattle.ucon_model.specs.Plain.{Bytes, PlainPolicy};
 ghost use Rattle.ucon_point.specs.HeldRows.{rows_held};
 ghost use Rattle.ucon_point.specs.PointRead.{point_read};
-ghost use Rattle.ucon_row.specs.RowText.{IsRow};
+ghost use Rattle.ucon_point.specs.RowText.{IsRow};
 ghost use Rattle.ucon_state.specs.Following.{Follows};
 ghost use Rattle.ucon_state.specs.Held.{held_after};
 ghost use Rattle.ucon_state.specs.Shown.{Shown};
@@ -31,12 +31,13 @@ use ucon_command::{
     payloads_are_read_back, proper_histories_are_found, steps_are_taken_as_spelled,
 };
 use ucon_journal::{MAX_PAYLOAD, reads_back};
-use ucon_model::{no_usage_goes_on_failing, the_least_failing_is_found};
+use ucon_model::{
+    no_usage_goes_on_failing, payloads_are_found_one_by_one, the_least_failing_is_found,
+};
 use ucon_point::{
     histories_are_in_order, points_are_read_back, rows_make_what_they_say, texts_are_of_rows,
     what_is_in_order_can_be_put,
 };
-use ucon_runs::payloads_are_found_one_by_one;
 use ucon_state::{
     each_action_is_followed, states_follow_what_reads_alike, tables_keep_what_is_followed,
     traces_of_histories_are_legal,

@@ -3,13 +3,18 @@
 //! `play`, `serve`, `point` and a conversation answer their lines through one. A step is drafted, its payload is spelled, all memory is taken, the
 //! record is appended, and only then the change is kept. What lies between a store and what it becomes is `Stays`.
 //!
+//! An opening begins with a first pass over the records, of which none is interpreted: it finds the last checkpoint, and gets there (`walking.rt`,
+//! `reaching.rt`).
+//!
 //! **Always.** Behind each trace that leads to the store's beginning the engine follows its entries, and nobody fails. Without a mark the journal
-//! is closed and at rest; with one nothing is written any more (`IsKept`).
+//! is closed and at rest; with one nothing is written any more (`IsKept`). In the first pass the last record so far that begins as a checkpoint is
+//! known, with its gate and the number of steps before it (`IsWalking`).
 //!
 //! **Free.** How the checkpoint is found, and how lines are cut. That a record is on the disk before its step counts isn't free.
 //!
 //! **Before a change.** Of the entries, and of those of the mark, the store keeps the number: which they are stands in proofs alone (`entries.rt`).
-//! Each clause takes the history before the store's checkpoint as an argument, since a history that wasn't run can't be kept. Begin at `store.rt`.
+//! Each clause takes the history before the store's checkpoint as an argument, since a history that wasn't run can't be kept. On a disk
+//! that tells nothing, the checkpoint may be gone at the second reading; that is told as damage. Begin at `store.rt`.
 #![tactic(auto)]
 
 mod accepting;
@@ -22,11 +27,15 @@ mod laws;
 mod loading;
 mod opening;
 mod placed;
+mod point_records;
 mod points;
+mod reaching;
+mod record_fault;
 mod recording;
 mod restoring;
 mod starting;
 mod store;
+mod walking;
 
 pub use event::{Base, Event};
 pub use fault::{PointFault, StepFault, StoreFault};
@@ -37,4 +46,7 @@ pub use laws::{
     traces_of_a_state_go_on_alike,
 };
 pub use placed::Placed;
+pub use point_records::has_points;
+pub use record_fault::{RecordFault, at_record};
 pub use store::Store;
+pub use walking::LastPoint;

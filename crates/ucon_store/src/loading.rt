@@ -23,8 +23,7 @@ use ucon_command::{PayloadFault, payloads_are_read_back, put_payload, read_entry
 use ucon_disk::Disk;
 use ucon_engine::Engine;
 use ucon_journal::{Journal, MAX_PAYLOAD};
-use ucon_model::Entry;
-use ucon_runs::texts_tell_changes;
+use ucon_model::{Entry, texts_tell_changes};
 
 /// The text of a journal's policy, an engine under it, and the entries so far, for which the engine stands, from the last checkpoint on.
 #[derive(Drop)]

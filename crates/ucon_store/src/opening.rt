@@ -12,18 +12,18 @@ ghost use Rattle.ucon_store.specs.Kept.{payload_in};
 ghost use Rattle.ucon_store.specs.Loading.{IsRead, IsStanding};
 ghost use Rattle.ucon_store.specs.Opening.{HasReason, KeepsFound, Opens};
 ghost use Rattle.ucon_store.specs.Points.{SameKind, SamePlaces, has_points};
-ghost use Rattle.ucon_walk.specs.Walking.{IsPlacedBelow, IsWalked};
+ghost use Rattle.ucon_store.specs.Walking.{IsPlacedBelow, IsWalked};
 
 use crate::accepting::first_difference;
 use crate::fault::{StoreFault, at_record};
 use crate::laws::opening_sees_one_thing;
 use crate::loading::Loaded;
 use crate::starting::{start, start_first};
+use crate::{LastPoint, last_point};
 use std::alloc::Global;
 use ucon_disk::Disk;
 use ucon_engine::Engine;
 use ucon_journal::{Journal, MAX_PAYLOAD};
-use ucon_walk::{LastPoint, last_point};
 
 /// Reads the journal to its end, and mends it. A journal without a record gets this policy as record 0. Nothing is written before all that is
 /// there was read and found right.

@@ -10,12 +10,12 @@ ghost use Rattle.ucon_state.specs.Held.{held_after};
 ghost use Rattle.ucon_store.specs.Points.{points_of};
 
 use crate::fault::PointFault;
+use crate::has_points;
 use std::alloc::Global;
 use ucon_disk::Disk;
 use ucon_engine::Engine;
 use ucon_journal::{Journal, MAX_PAYLOAD};
 use ucon_point::point_text;
-use ucon_walk::has_points;
 
 /// The checkpoint of an engine, which is after so many entries, where this is the text of the policy in force, and room for it in the journal. All
 /// memory that writing it needs is taken here.

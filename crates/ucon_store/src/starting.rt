@@ -12,7 +12,7 @@ ghost use Rattle.ucon_store.specs.Loading.{IsLoading, IsStanding};
 ghost use Rattle.ucon_store.specs.Opening.{HasReason};
 ghost use Rattle.ucon_store.specs.Points.{has_points};
 ghost use Rattle.ucon_store.specs.Starts.{IsBeforeAll};
-ghost use Rattle.ucon_walk.specs.Walking.{IsPlacedBelow, IsWalked};
+ghost use Rattle.ucon_store.specs.Walking.{IsPlacedBelow, IsWalked};
 
 use crate::accepting::read_accepted;
 use crate::entries::Entries;
@@ -20,13 +20,13 @@ use crate::fault::StoreFault;
 use crate::in_force::InForce;
 use crate::loading::Loaded;
 use crate::restoring::take_up;
+use crate::{LastPoint, take_point};
 use std::alloc::Global;
 use ucon_base::NoMemory;
 use ucon_disk::Disk;
 use ucon_engine::Engine;
 use ucon_journal::{Journal, MAX_PAYLOAD};
 use ucon_model::{no_usage_goes_on_failing, revocations_are_few};
-use ucon_walk::{LastPoint, take_point};
 
 /// The place of record 0's gate.
 const FIRST_GATE: u64 = 8;

@@ -46,8 +46,7 @@ use ucon_base::Steps;
 use ucon_disk::Disk;
 use ucon_engine::Engine;
 use ucon_journal::{DiskFault, Journal, MAX_PAYLOAD};
-use ucon_model::{Caller, Command, SessionState};
-use ucon_runs::payloads_are_found_one_by_one;
+use ucon_model::{Caller, Command, SessionState, payloads_are_found_one_by_one};
 use ucon_state::State;
 
 /// The history of a journal under its policy: in memory by the engine, on the disk by the journal.

@@ -4,8 +4,8 @@ use std::alloc::Global;
 use std::test::Fail;
 use ucon_base::{
     Int, Kind, Name, NameFault, Rows, Steps, Text, TextFault, TextSet, Value, ValueFault,
+    put_spelling,
 };
-use ucon_spelling::put_spelling;
 
 /// Names, and what is wrong with each.
 const NAMES: &[(&[u8], Option<NameFault>)] = &[

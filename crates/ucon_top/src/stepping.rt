@@ -17,7 +17,7 @@ use ucon_base::{NoMemory, Rows};
 use ucon_client::Answer;
 use ucon_disk::Disk;
 use ucon_engine::Engine;
-use ucon_runs::{outputs_are_read_back, runs_over_a_store_are_legal};
+use ucon_model::{outputs_are_read_back, runs_over_a_store_are_legal};
 use ucon_script::LineText;
 use ucon_store::Store;
 

@@ -7,7 +7,7 @@ ghost use Rattle.ucon_trial.specs.Models.{models_spelling, right_spelling, right
 
 use std::alloc::Global;
 use ucon_base::NoMemory;
-use ucon_cores::{core_models_of, core_name};
+use ucon_check::{core_models_of, core_name};
 use ucon_model::{Checked, Core, Right};
 
 /// One line for each right of the policy: its name and its core models.

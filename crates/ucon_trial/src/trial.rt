@@ -12,8 +12,7 @@ use crate::transcript::Transcript;
 use std::alloc::Global;
 use ucon_base::NoMemory;
 use ucon_engine::Engine;
-use ucon_model::Checked;
-use ucon_runs::{outputs_are_read_back, serial_runs_are_legal};
+use ucon_model::{Checked, outputs_are_read_back, serial_runs_are_legal};
 use ucon_script::Script;
 
 /// One line for each answer.

@@ -15,7 +15,7 @@ use Rattle.ucon_model.specs.Work.{NobodyFails}
 use Rattle.ucon_state.specs.Following.{Follows, IsFollowing, Keeps}
 use Rattle.ucon_state.specs.Held.{ReadsAlike}
 use Rattle.ucon_state.specs.Shown.{Shown}
-use Rattle.ucon_row.specs.Order.{awaited}
+use Rattle.ucon_point.specs.Order.{awaited}
 use Rattle.ucon_point.specs.PointRead.{IsPoint, Said, point_read, point_spelling}
 use Rattle.ucon_point.specs.Standing.{Standing, put_all, start}
 use Rattle.ucon_journal.specs.Found as journal

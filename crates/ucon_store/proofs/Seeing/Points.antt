@@ -25,7 +25,7 @@ use Rattle.ucon_point.specs.HeldRows.{point_held, rows_held}
 use Rattle.ucon_point.specs.Orderly.{IsOrderly}
 use Rattle.ucon_point.specs.PointRead.{IsPoint, Said, is_whole, point_read}
 use Rattle.ucon_point.specs.PointText.{point_text}
-use Rattle.ucon_row.specs.RowText.{IsRow, IsSpelled}
+use Rattle.ucon_point.specs.RowText.{IsRow, IsSpelled}
 use Rattle.ucon_point.specs.Standing.{Standing}
 use Rattle.ucon_syntax.specs.Policies.{accepted}
 use Rattle.ucon_store.specs.Opened.{IsPointOf, text_said}

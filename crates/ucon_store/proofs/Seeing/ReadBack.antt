@@ -10,8 +10,8 @@ use Rattle.ucon_model.specs.Readings.{in_force, tick_of}
 use Rattle.ucon_state.specs.Following.{Follows, IsFollowing, Keeps}
 use Rattle.ucon_state.specs.Held.{Held, ReadsAlike, held_after, held_in}
 use Rattle.ucon_state.specs.Shown.{Shown}
-use Rattle.ucon_row.specs.Order.{awaited}
-use Rattle.ucon_row.specs.RowText.{IsRow, IsSpelled}
+use Rattle.ucon_point.specs.Order.{awaited}
+use Rattle.ucon_point.specs.RowText.{IsRow, IsSpelled}
 use Rattle.ucon_point.specs.HeldRows.{point_held, rows_held}
 use Rattle.ucon_point.specs.Orderly.{IsOrderly}
 use Rattle.ucon_point.specs.PointRead.{IsPoint, Said, is_whole, point_read, point_spelling}

@@ -16,7 +16,7 @@ use Rattle.ucon_model.specs.Action.{Trace}
 use Rattle.ucon_model.specs.Plain.{Bytes, PlainPolicy}
 use Rattle.ucon_model.specs.Readings.{in_force, has_entity, entity_names, same_side, declared_attr, declared_env, given_attr, given_env, attribute, variable, moment, act_rows, session, sessions, tick_of}
 use Rattle.ucon_state.specs.Held.{Held, held_after}
-use Rattle.ucon_row.specs.declared.row.Row.{Row}
+use Rattle.ucon_point.specs.declared.row.Row.{Row}
 use Rattle.ucon_point.specs.HeldRows.{act_row, session_rows_to, rows_held}
 use Rattle.ucon_point.specs.Orderly.{same_names}
 use Rattle.ucon_store.proofs.Seeing.SameRows.{HasAttribute, IsListed, SameAttribute, SameMoment, SameTo, acts_aligned, begins, begins_acts, begins_append, begins_objects, begins_sessions, entities_aligned, entity_by, is_act, is_entity, nothing, rows_by, sessions_aligned, variables_aligned}

@@ -15,8 +15,8 @@ use Rattle.ucon_model.specs.Plain.{Bytes, PlainPolicy}
 use Rattle.ucon_model.specs.Readings.{in_force, has_entity, entity_names, same_side, declared_attr, declared_env, attribute, variable, moment, act_rows, session, sessions}
 use Rattle.ucon_state.specs.declared.held.ActRow.{ActRow}
 use Rattle.ucon_state.specs.Held.{Held}
-use Rattle.ucon_row.specs.declared.row.Row.{Row}
-use Rattle.ucon_row.specs.declared.row.Row.TheVariants.{Variable, Entity, Attribute, Act, Session}
+use Rattle.ucon_point.specs.declared.row.Row.{Row}
+use Rattle.ucon_point.specs.declared.row.Row.TheVariants.{Variable, Entity, Attribute, Act, Session}
 use Rattle.ucon_point.specs.HeldRows.{given, variable_rows, attribute_rows, act_row, session_rows, session_rows_to}
 use Rattle.ucon_point.specs.Orderly.{same_names}
 

@@ -19,10 +19,10 @@ use Rattle.ucon_model.specs.Action.{Trace}
 use Rattle.ucon_model.specs.Plain.{Bytes, PlainPolicy}
 use Rattle.ucon_model.specs.Readings.{in_force, same_side, entity_names, attribute, variable, moment, act_rows, session, sessions}
 use Rattle.ucon_state.specs.Held.{held_after}
-use Rattle.ucon_row.specs.declared.row.Row.{Row}
-use Rattle.ucon_row.specs.declared.row.Row.TheVariants.{Variable, Attribute}
+use Rattle.ucon_point.specs.declared.row.Row.{Row}
+use Rattle.ucon_point.specs.declared.row.Row.TheVariants.{Variable, Attribute}
 use Rattle.ucon_point.specs.HeldRows.{given, variable_rows, attribute_rows, entity_rows, act_row, session_rows, session_rows_to, rows_held}
-use Rattle.ucon_row.specs.RowText.{IsRow, IsSpelled}
+use Rattle.ucon_point.specs.RowText.{IsRow, IsSpelled}
 use Rattle.ucon_store.proofs.Spelled.Policies.{IsAttr, IsEnv, IsOfNames}
 use Rattle.ucon_store.proofs.Spelled.Traces.{AreSpelled, IsActSpelled, IsRowSpelled, acts_spelled, attribute_spelled, force_spelled, moment_spelled, names_spelled, session_spelled, variable_spelled}
 

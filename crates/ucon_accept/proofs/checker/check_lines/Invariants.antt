@@ -1,6 +1,6 @@
 use Rattle.std.proofs.Common.{◌≡◌, ◌≤◌, ◌++◌, true, drop, length, map, take}
 use Rattle.ucon_model.specs.Views.{predicate_of}
-use Rattle.ucon_asked.specs.Sums.{preds_make_no_set}
+use Rattle.ucon_model.specs.Sums.{preds_make_no_set}
 use Rattle.ucon_accept.specs.Explanation.{lines_from, why_of}
 use Rattle.ucon_accept.proofs.checker.check_lines.Given as goal
 

@@ -1,9 +1,9 @@
 use Rattle.std.proofs.Common.{◌≡◌, ◌∙◌, ◌+◌, ◌<◌, ℕ, ℤ, ap, arith, refl, subst, sym}
 use Rattle.std.specs.Prelude.{◌≤ℤ◌}
-use Rattle.ucon_number_set.specs.NumberSet.{NumberSet}
+use Rattle.ucon_collections.specs.NumberSet.{NumberSet}
 use Rattle.ucon_readers.specs.Timers.{deadlines_in}
 use Rattle.ucon_state.specs.Shown.{shown}
-use Rattle.ucon_deadlines.specs.Deadlines.{IsPassed, count_below, deadline_of}
+use Rattle.ucon_collections.specs.Deadlines.{IsPassed, count_below, deadline_of}
 use Rattle.ucon_cascade.proofs.Moving.{passed_below, passes_on}
 use Rattle.ucon_cascade.proofs.Ticking.{passing_like}
 use Rattle.ucon_cascade.proofs.passing.pass_deadlines.Goals as goal

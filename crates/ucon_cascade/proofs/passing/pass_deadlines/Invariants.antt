@@ -4,7 +4,7 @@ use Rattle.ucon_model.specs.Action.{Trace, tick}
 use Rattle.ucon_model.specs.Plain.{PlainPolicy}
 use Rattle.ucon_state.specs.Following.{Follows}
 use Rattle.ucon_state.specs.Shown.{shown}
-use Rattle.ucon_deadlines.specs.Deadlines.{count_below}
+use Rattle.ucon_collections.specs.Deadlines.{count_below}
 use Rattle.ucon_readers.specs.Timers.{UndoGives, deadlines_in}
 use Rattle.ucon_cascade.specs.Passing.{IsPassing}
 use Rattle.ucon_cascade.proofs.passing.pass_deadlines.Given as goal

@@ -1,5 +1,5 @@
 use Rattle.ucon_state.specs.Shown.{shown}
-use Rattle.ucon_deadlines.specs.Deadlines.{count_below, deadline_of, passed}
+use Rattle.ucon_collections.specs.Deadlines.{count_below, deadline_of, passed}
 use Rattle.ucon_readers.specs.Timers.{deadlines_in}
 use Rattle.ucon_cascade.specs.Timely.{IsFirstLimitOf}
 use Rattle.ucon_cascade.proofs.Giving.{no_more_below, none_passed}

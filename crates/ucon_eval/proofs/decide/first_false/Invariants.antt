@@ -1,8 +1,8 @@
 use Rattle.std.proofs.Common.{◌≡◌, true, map, drop}
 use Rattle.ucon_model.specs.Decision.{first_false}
 use Rattle.ucon_model.specs.Views.{predicate_of}
-use Rattle.ucon_asked.specs.Asked.{row_at}
-use Rattle.ucon_asked.specs.Sums.{preds_make_no_set}
+use Rattle.ucon_model.specs.Asked.{row_at}
+use Rattle.ucon_model.specs.Sums.{preds_make_no_set}
 use Rattle.ucon_eval.specs.Sort.{sort_of}
 use Rattle.ucon_eval.proofs.decide.first_false.Given as goal
 

@@ -1,6 +1,6 @@
 use Rattle.std.proofs.Common.{◌≡◌, ◌<◌, true, false, length, sym, ◌∙◌, arith}
 use Rattle.std.specs.List.{slice_get}
-use Rattle.ucon_asked.specs.Sums.{is_same_text}
+use Rattle.ucon_model.specs.Sums.{is_same_text}
 use Rattle.ucon_eval.proofs.SameTexts.{same_texts-lengths, same_texts-on, same_texts-off}
 use Rattle.ucon_eval.proofs.worth.are_same_texts.Goals as goal
 

@@ -4,7 +4,7 @@ use Rattle.ucon_model.specs.Plain.{PlainPolicy}
 use Rattle.ucon_model.specs.Views.{policy_of}
 use Rattle.ucon_state.specs.Shown.{shown}
 use Rattle.ucon_point.specs.Faults.{IsBadAt}
-use Rattle.ucon_row.specs.Order.{awaited, beginning}
+use Rattle.ucon_point.specs.Order.{awaited, beginning}
 use Rattle.ucon_point.specs.PointRead.{row_at, rows_from}
 use Rattle.ucon_point.specs.Standing.{standing}
 use Rattle.ucon_point.proofs.LineWalk.{so_far_bad, so_far_end, so_far_short}

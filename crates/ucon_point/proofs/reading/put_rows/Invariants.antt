@@ -1,6 +1,6 @@
 use Rattle.std.proofs.Common.{◌≡◌, ◌≤◌, length}
 use Rattle.ucon_state.specs.Shown.{shown}
-use Rattle.ucon_row.specs.Order.{beginning}
+use Rattle.ucon_point.specs.Order.{beginning}
 use Rattle.ucon_point.specs.PointRead.{rows_from}
 use Rattle.ucon_point.specs.Standing.{HasLast, standing}
 use Rattle.ucon_point.proofs.PutSoFar.{ArePutSoFar}

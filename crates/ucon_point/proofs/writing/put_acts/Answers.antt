@@ -1,7 +1,7 @@
 use Rattle.std.proofs.Common.{◌∙◌, ◌+◌, ◌++◌, sym, ap, drop, pos, unwrap_or}
 use Rattle.std.specs.List.{flat_map}
 use Rattle.ucon_state.specs.Held.{held, names_of}
-use Rattle.ucon_row.specs.Lines.{act_words, line}
+use Rattle.ucon_point.specs.Lines.{act_words, line}
 use Rattle.ucon_point.specs.PointText.{act_line}
 use Rattle.ucon_point.proofs.Listed.{one_more}
 use Rattle.ucon_point.proofs.writing.put_acts.Goals as goal

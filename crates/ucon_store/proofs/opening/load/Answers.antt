@@ -10,7 +10,7 @@ use Rattle.ucon_store.specs.Faults.{of_take}
 use Rattle.ucon_store.specs.Opened.{Sees, damaged}
 use Rattle.ucon_store.specs.Opening.{HasReason, Opens}
 use Rattle.ucon_store.specs.Points.{has_points}
-use Rattle.ucon_walk.specs.Walking.{IsWalked}
+use Rattle.ucon_store.specs.Walking.{IsWalked}
 use Rattle.ucon_store.proofs.Loadings.{all_told, long_first, walked_told}
 use Rattle.ucon_store.proofs.Openings.{more_told}
 use Rattle.ucon_store.proofs.Runs.{then_opens, read_opens}

@@ -7,8 +7,8 @@ use Rattle.ucon_journal.specs.Journal.{disk_of, gate_of, payload_of}
 use Rattle.ucon_model.specs.declared.command.Entry.{Entry}
 use Rattle.ucon_model.specs.Action.{Trace}
 use Rattle.ucon_model.specs.Plain.{Bytes, PlainPolicy}
-use Rattle.ucon_walk.specs.declared.walking.LastPoint.{LastPoint}
-use Rattle.ucon_walk.specs.Walking.{IsWalked}
+use Rattle.ucon_store.specs.declared.walking.LastPoint.{LastPoint}
+use Rattle.ucon_store.specs.Walking.{IsWalked}
 use Rattle.ucon_store.specs.declared.fault.StoreFault.{StoreFault}
 use Rattle.ucon_store.specs.declared.loading.Loaded.{Loaded}
 use Rattle.ucon_store.specs.Kept.{payload_in}

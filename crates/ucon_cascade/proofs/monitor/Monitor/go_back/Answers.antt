@@ -1,5 +1,5 @@
 use Rattle.std.proofs.Common.{◌≡◌, ◌∙◌, ap, subst, sym}
-use Rattle.ucon_number_set.specs.NumberSet.{NumberSet}
+use Rattle.ucon_collections.specs.NumberSet.{NumberSet}
 use Rattle.ucon_state.specs.Shown.{Shown, given_back, shown}
 use Rattle.ucon_readers.specs.Timers.{deadlines_in}
 use Rattle.ucon_cascade.specs.Monitor.{Stands}

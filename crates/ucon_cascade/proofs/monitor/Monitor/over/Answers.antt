@@ -1,5 +1,5 @@
 use Rattle.std.proofs.Common.{ap}
-use Rattle.ucon_number_set.specs.NumberSet.{NumberSet}
+use Rattle.ucon_collections.specs.NumberSet.{NumberSet}
 use Rattle.ucon_cascade.proofs.monitor.Monitor.over.Goals as goal
 
 pub returns : goal.returns

@@ -3,7 +3,7 @@ use Rattle.std.specs.Prelude.{Option}
 use Rattle.ucon_model.specs.Block.{after}
 use Rattle.ucon_state.specs.Shown.{Shown, kept, shown}
 use Rattle.ucon_readers.specs.Timers.{deadlines_in}
-use Rattle.ucon_deadlines.specs.Deadlines.{deadline_of}
+use Rattle.ucon_collections.specs.Deadlines.{deadline_of}
 use Rattle.ucon_cascade.specs.Monitor.{Stands}
 use Rattle.ucon_readers.specs.Readers.{first_of, readers_at}
 use Rattle.ucon_cascade.proofs.Monitored.{stands_kept, stands_like}

@@ -2,7 +2,7 @@ use Rattle.std.proofs.Common.{◌≡◌, ◌∙◌, ◌≤◌, ℕ, false, None,
 use Rattle.std.specs.Prelude.{IfSome}
 use Rattle.std.specs.List.{Contains}
 use Rattle.ucon_readers.specs.Listing.{Listing, StandsSomewhere, readers_in, standing_by}
-use Rattle.ucon_lists.specs.Lists.{is_joined, leader_in}
+use Rattle.ucon_collections.specs.Lists.{is_joined, leader_in}
 use Rattle.ucon_readers.specs.Lists.{first_in, led_by}
 use Rattle.ucon_readers.proofs.Leading.{if_told, own_first, stands_by, stands_if_there, told_if}
 use Rattle.ucon_readers.proofs.standing.Standing.first_led.Goals as goal

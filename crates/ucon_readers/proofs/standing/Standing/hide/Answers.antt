@@ -2,9 +2,9 @@ use Rattle.std.proofs.Common.{◌≡◌, ◌≢◌, ◌↔◌, inl, inr, ℕ, Li
 use Rattle.std.specs.Prelude.{Option, IfNone, IfSome, is_some}
 use Rattle.std.specs.List.{Contains}
 use Rattle.ucon_links.specs.Dependents.{Dependents, stands_in}
-use Rattle.ucon_lists.specs.Lists.{Members}
+use Rattle.ucon_collections.specs.Lists.{Members}
 use Rattle.ucon_readers.specs.Listing.{AreLed, ChangesGive, Listing, readers_in, standing_by}
-use Rattle.ucon_lists.specs.Lists.{is_joined}
+use Rattle.ucon_collections.specs.Lists.{is_joined}
 use Rattle.ucon_readers.specs.Lists.{first_in, led_by, members_in}
 use Rattle.ucon_readers.proofs.Founding.{has_left}
 use Rattle.ucon_readers.proofs.Leading.{HasLeft, first_told, joined_led, led_like, led_member, left_alone, left_alone_led, left_first, left_next, left_same, left_stands, left_where, now_least, now_none, now_there, of_others, stands_if_there, there_if_stands, there_like, without_stands}

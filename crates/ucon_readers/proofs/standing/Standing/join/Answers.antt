@@ -2,11 +2,11 @@ use Rattle.std.proofs.Common.{◌≡◌, ◌↔◌, ◌<◌, ◌∙◌, ◌⊎�
 use Rattle.std.specs.Prelude.{Option, unwrap_or}
 use Rattle.std.specs.List.{Contains}
 use Rattle.ucon_links.specs.Dependents.{Dependents, is_there}
-use Rattle.ucon_lists.specs.Lists.{Members}
+use Rattle.ucon_collections.specs.Lists.{Members}
 use Rattle.ucon_readers.specs.Joining.{Joins}
 use Rattle.ucon_readers.specs.Listing.{AreLed, ChangesGive, IsKept, Listing, StandsNowhere, StandsSomewhere, readers_in, standing_by}
-use Rattle.ucon_lists.specs.Lists.{Joins as Moves, leader_in}
-use Rattle.ucon_lists.specs.Undoing.{who_in}
+use Rattle.ucon_collections.specs.Lists.{Joins as Moves, leader_in}
+use Rattle.ucon_collections.specs.Undoing.{who_in}
 use Rattle.ucon_readers.specs.Lists.{first_in, led_by}
 use Rattle.ucon_readers.proofs.Founding.{has_come}
 use Rattle.ucon_readers.proofs.Leading.{HasCome, joined_like, joined_stands, joins_led, led_leader, nowhere_listed, stands_itself, there_if_stands, whose_list}

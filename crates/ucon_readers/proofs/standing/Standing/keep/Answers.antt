@@ -1,7 +1,7 @@
 use Rattle.std.proofs.Common.{◌↔◌, ℕ, List, None, ap, sym, refl, subst}
 use Rattle.std.specs.List.{Contains}
 use Rattle.ucon_links.specs.Dependents.{Dependents, stands_in}
-use Rattle.ucon_lists.specs.Lists.{Members, is_joined}
+use Rattle.ucon_collections.specs.Lists.{Members, is_joined}
 use Rattle.ucon_readers.specs.Listing.{Listing, readers_in}
 use Rattle.ucon_readers.specs.Lists.{led_by, members_in}
 use Rattle.ucon_readers.proofs.Leading.{led_like, stands_by, there_like, whose_list}

@@ -3,7 +3,7 @@ use Rattle.std.specs.List.{Contains, flat_map}
 use Rattle.ucon_links.specs.Dependents.{Dependents, stands_in}
 use Rattle.ucon_readers.specs.Joining.{StandsAlone}
 use Rattle.ucon_readers.specs.Listing.{ChangesGive, ComesTo, IsKept, Listing, StandsNowhere, readers_in, standing_by}
-use Rattle.ucon_lists.specs.Lists.{is_joined, leader_in}
+use Rattle.ucon_collections.specs.Lists.{is_joined, leader_in}
 use Rattle.ucon_readers.specs.Lists.{first_in, led_by}
 use Rattle.ucon_readers.proofs.Leading.{come_led, led_stands, nowhere_listed, put_first}
 use Rattle.ucon_readers.proofs.Listed.{first_alone}

@@ -1,6 +1,6 @@
 use Rattle.std.proofs.Common.{◌≡◌, ◌∙◌, ℕ, List, [], sym, refl, subst}
 use Rattle.ucon_links.specs.Dependents.{Dependents}
-use Rattle.ucon_lists.specs.Undoing.{who_in}
+use Rattle.ucon_collections.specs.Undoing.{who_in}
 use Rattle.ucon_readers.specs.Listing.{AreLed, ChangesGive, Listing, TakingOutGives, standing_by}
 use Rattle.ucon_readers.proofs.Leading.{are_led_alike, standing_alike}
 use Rattle.ucon_readers.proofs.Listed.{first_alike}

@@ -1,6 +1,6 @@
 use Rattle.std.proofs.Common.{◌≡◌, ◌∙◌, ℤ, List, ap, refl}
 use Rattle.std.specs.Prelude.{Option}
-use Rattle.ucon_deadlines.specs.Deadlines.{Deadlines, deadline_of}
+use Rattle.ucon_collections.specs.Deadlines.{Deadlines, deadline_of}
 use Rattle.ucon_readers.specs.Timers.{by_replaced}
 use Rattle.ucon_readers.proofs.timers.Timers.replace.Goals as goal
 

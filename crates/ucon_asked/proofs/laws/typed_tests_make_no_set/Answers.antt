@@ -1,8 +1,0 @@
-use Rattle.ucon_asked.proofs.NoSets.{tests_make_none, test_makes_none}
-use Rattle.ucon_asked.proofs.laws.typed_tests_make_no_set.Goals as goal
-
-pub returns : goal.returns
-returns c = record {
-  all = tests_make_none c.places_hold_their_sorts.ensures c.tests_are_typed.ensures;
-  one = test_makes_none c.places_hold_their_sorts.ensures c.tests_are_typed.ensures;
-}

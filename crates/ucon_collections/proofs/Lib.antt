@@ -1,0 +1,16 @@
+pub mod Changing
+pub mod Counting
+pub mod Taking
+pub mod BitLemmas
+pub mod MembersLemmas
+pub mod SetLemmas
+pub mod SummaryLemmas
+pub mod WithMemberLemmas
+pub mod Ordered
+pub mod Cells
+pub mod Woven
+pub mod Standing
+pub mod Searching
+pub mod Undoing
+pub mod Leaving
+pub mod Founding

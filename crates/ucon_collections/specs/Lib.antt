@@ -1,0 +1,12 @@
+pub mod Deadlines
+pub mod Entries
+pub mod Owned
+pub mod Queue
+pub mod Sound
+pub mod Bits
+pub mod Levels
+pub mod NumberSet
+pub mod Members
+pub mod Lists
+pub mod Table
+pub mod Undoing

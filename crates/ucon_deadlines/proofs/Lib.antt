@@ -1,3 +1,0 @@
-pub mod Changing
-pub mod Counting
-pub mod Taking

@@ -1,5 +1,0 @@
-pub mod Deadlines
-pub mod Entries
-pub mod Owned
-pub mod Queue
-pub mod Sound

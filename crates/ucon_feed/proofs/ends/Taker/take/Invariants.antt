@@ -1,8 +1,0 @@
-use Rattle.std.proofs.Common.{◌≡◌}
-use Rattle.crossbeam_channel.specs.Claims.{view, IsSeatAt}
-use Rattle.crossbeam_channel.specs.Ends.{receives_on}
-use Rattle.ucon_feed.proofs.ends.Taker.take.Given as goal
-
-abbrev pub invariant-loop : goal.invariant-loop
-invariant-loop g l =
-    IsSeatAt (receives_on l.self-inside.receiver) l.self-inside.pass × (l.self-inside.receiver ≡ l.initial.self-inside.receiver) × (view l.self-inside.pass ≡ view l.initial.self-inside.pass)

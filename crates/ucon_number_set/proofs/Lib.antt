@@ -1,5 +1,0 @@
-pub mod BitLemmas
-pub mod MembersLemmas
-pub mod SetLemmas
-pub mod SummaryLemmas
-pub mod WithMemberLemmas

@@ -1,5 +1,0 @@
-use Rattle.ucon_number_set.proofs.BitLemmas.{SetsBit-and_not}
-use Rattle.ucon_number_set.proofs.level.Level.clear.Goals as goal
-
-pub returns : goal.returns
-returns c = rw (← c.self.view_is) (SetsBit-and_not _ _ _ c.index_mut.ensures.value (rw (← c.self.view_is) at c.requires))

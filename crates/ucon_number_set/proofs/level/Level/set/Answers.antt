@@ -1,5 +1,0 @@
-use Rattle.ucon_number_set.proofs.BitLemmas.{SetsBit-or}
-use Rattle.ucon_number_set.proofs.level.Level.set.Goals as goal
-
-pub returns : goal.returns
-returns c = rw (← c.self.view_is) (SetsBit-or _ _ _ c.index_mut.ensures.value (rw (← c.self.view_is) at c.requires))

@@ -1,4 +1,0 @@
-pub mod Bits
-pub mod Levels
-pub mod NumberSet
-pub mod Members

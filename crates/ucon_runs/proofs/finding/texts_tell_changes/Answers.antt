@@ -1,5 +1,0 @@
-use Rattle.ucon_runs.proofs.TellsChange.{tells_change-reply_spelling}
-use Rattle.ucon_runs.proofs.finding.texts_tell_changes.Goals as goal
-
-pub returns : goal.returns
-returns c = tells_change-reply_spelling

@@ -1,9 +1,0 @@
-pub mod Digits
-pub mod Falls
-pub mod Fronts
-pub mod OfAKind
-pub mod ReadFalls
-pub mod Rising
-pub mod Sets
-pub mod Texts
-pub mod Whole

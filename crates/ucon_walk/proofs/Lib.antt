@@ -1,4 +1,0 @@
-pub mod Reached
-pub mod Told
-pub mod Versions
-pub mod Walked

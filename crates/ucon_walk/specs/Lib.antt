@@ -1,5 +1,0 @@
-pub mod Faults
-pub mod Parted
-pub mod Points
-pub mod Reaching
-pub mod Walking
