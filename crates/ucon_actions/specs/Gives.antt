@@ -1,5 +1,5 @@
 -- What the code tells of a command's own actions.
-use Rattle.std.specs.Prelude.{◌≡◌, Bool, true, false}
+use Rattle.std.specs.Prelude.{◌≡◌, Bool, true, false, ⊤}
 use Rattle.ucon_model.specs.declared.command.Command.{Command}
 use Rattle.ucon_model.specs.declared.command.Command.TheVariants.{Amend}
 use Rattle.ucon_model.specs.declared.reply.Head.{Head}
@@ -32,12 +32,12 @@ Gives o s s' own = (P : PlainPolicy) (T : Trace) → Follows s P T → IsGiven o
 -- if the command is refused, the definition refuses it so after each trace that the state followed
 abbrev pub Refuses : ActionFault → Shown → (PlainPolicy → Trace → Own) → Type 0
 Refuses (Refused r) s own = (P : PlainPolicy) (T : Trace) → Follows s P T → own P T ≡ refuse r
-Refuses (NoMemory e) s own = Unit {0}
+Refuses (NoMemory e) s own = ⊤
 
 -- if the command is refused, nothing changed
 abbrev pub Unchanged : ActionFault → Shown → Shown → Type 0
 Unchanged (Refused r) s s' = s' ≡ s
-Unchanged (NoMemory e) s s' = Unit {0}
+Unchanged (NoMemory e) s s' = ⊤
 
 -- whether a command replaces the policy
 abbrev pub is_amendment : Command → Bool

@@ -1,6 +1,6 @@
 -- A report has no floats.
 use Rattle.std.proofs.Common.{◌≡◌, ℕ, zero, suc, ℤ, pos, negsuc, Bool, true, false, List, [], ◌∷◌, ◌++◌, map, Option, Some, None, option_map, unwrap_or, refl, Ordering, Less, Equal, Greater, nat_cmp}
-use Rattle.std.specs.Prelude.{◌||◌, filter}
+use Rattle.std.specs.Prelude.{◌||◌, filter, ⊤}
 use Rattle.std.specs.Cmp.Lexicographic.{slice_cmp}
 use Rattle.std.specs.Ordering.{match_ordering}
 use Rattle.serde_json.specs.Data.{Data, string, Members, no_members, member, put}
@@ -72,7 +72,7 @@ put_whole k d (member l e ms) p q =
 
 -- what is there has no float
 abbrev has_none : Option Data → Type 0
-has_none None = Unit {0}
+has_none None = ⊤
 has_none (Some d) = has_float d ≡ false
 
 with_member_whole : (name : Bytes) (o : Option Data) (ms : Members) → has_none o → members_have_float ms ≡ false → members_have_float (with_member name o ms) ≡ false

@@ -1,4 +1,5 @@
 -- The exchange that adds a reply keeps the rule of the history.
+use Rattle.std.specs.Prelude.{⊤}
 use Rattle.std.proofs.Common.{◌≡◌, ℕ, ◌+◌, ◌<◌, ◌==◌, Bool, true, false, List, [], ◌∷◌, ◌++◌, length, refl, ap, sym, subst, arith, inl, length-append, None}
 use Rattle.std.proofs.lemmas.List.{append-nil}
 use Rattle.std.proofs.lemmas.Bool.Decides.{nat_tests}
@@ -16,7 +17,7 @@ abbrev pub shown : List Event → List Event
 shown log = []
 
 abbrev pub moved : List Event → List Event → ℕ → Type 0
-moved xs ys n = Unit {0}
+moved xs ys n = ⊤
 
 pub adds_goes : (log v : List Event) (p : Published) (old count : ℕ) → old + 1 ≡ length v → count + 1 ≡ length log → IsOpened log → IsPrefix v log
     → (b : Bool) → (count == old) ≡ b

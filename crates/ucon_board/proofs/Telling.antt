@@ -1,6 +1,6 @@
 -- What own actions and a cascade make of a session's state is what the reply says last of it.
 use Rattle.std.proofs.Common.{◌≡◌, ◌∙◌, ◌⊎◌, inl, inr, ℕ, zero, suc, ◌+◌, ◌==◌, Bool, true, false, cond, List, [], ◌∷◌, ◌++◌, map, refl, sym, ap, subst, if◌then◌else◌}
-use Rattle.std.specs.Prelude.{◌≢◌, ◌&&◌, not, nat_eq, nat_le, int_lt, pos, Option, Some, None, is_none, is_some, option_map}
+use Rattle.std.specs.Prelude.{◌≢◌, ◌&&◌, not, nat_eq, nat_le, int_lt, pos, Option, Some, None, is_none, is_some, option_map, ⊤}
 use Rattle.std.specs.Option.{option_map_or, option_or}
 use Rattle.std.proofs.lemmas.Bool.{eq-eqb, ne_eqb}
 use Rattle.std.proofs.lemmas.Bool.Decides.{eqb_tells}
@@ -145,7 +145,7 @@ module _ (extended-append : (T : Trace) (xs ys : List Action) → extended T (xs
   -- ---- all own actions: what was before, as a list of states, may differ from the trace's where the head tells anyway
 
   Told : (ℕ → Option SessionState) → Trace → Own → Type 0
-  Told X T (refuse r) = Unit {0}
+  Told X T (refuse r) = ⊤
   Told X T (tell reply) = namings reply ≡ []
   Told X T (make head actions) = (n : ℕ) → told_else (named_by head) n (X n) ≡ state_after (extended T actions) n
 

@@ -1,5 +1,5 @@
 -- The rule of the two copies: what is shown is what its history makes, and each end's history begins it.
-use Rattle.std.specs.Prelude.{◌≡◌, ℕ, zero, suc, ◌-◌, List, [], ◌∷◌, ◌++◌, map, replicate, length, fold, slice_get, slice_set, Option, Some, None}
+use Rattle.std.specs.Prelude.{◌≡◌, ℕ, zero, suc, ◌-◌, List, [], ◌∷◌, ◌++◌, map, replicate, length, fold, slice_get, slice_set, Option, Some, None, ⊤}
 use Rattle.std.specs.Option.{option_flatten}
 use mathlib.Core.List.{IsPrefix}
 use mathlib.Core.Option.{some}
@@ -51,7 +51,7 @@ pub record Tied (x : Shown) : Type 0 where
 
 -- an end knows nothing, or a history of the same book that begins the one that is shown
 abbrev pub Fits : Shown → Option Told → Type 0
-Fits x None = Unit {0}
+Fits x None = ⊤
 Fits x (Some s) = (s.book ≡ x.seen.book) × IsPrefix s.log x.seen.log
 
 abbrev pub Keeps : Shown → List (Option Told) → Type 0

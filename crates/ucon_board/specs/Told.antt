@@ -1,5 +1,5 @@
 -- The history of a board as the book keeps it, its rule, and what its step tells.
-use Rattle.std.specs.Prelude.{◌≡◌, ℕ, ◌+◌, ◌==◌, true, List, [], ◌∷◌, ◌++◌, map, length, MatchBool}
+use Rattle.std.specs.Prelude.{◌≡◌, ℕ, ◌+◌, ◌==◌, true, List, [], ◌∷◌, ◌++◌, map, length, MatchBool, ⊤}
 use Rattle.logbook.specs.Pages.{Cell, Step, View, Book, Named}
 use Rattle.ucon_model.specs.declared.session.SessionState.{SessionState}
 use Rattle.ucon_model.specs.Plain.{PlainReply, made}
@@ -46,7 +46,7 @@ word_of b = record { tracked = true; key = 0; book = b }
 
 -- the event was added to all that had been seen, if the word was as expected
 abbrev pub Adds : Step Event → View Event ℕ → ℕ → View Event ℕ → Type 0
-Adds s v found w = MatchBool (found == s.old) (w.0 ≡ v.0 ++ s.ask ∷ []) (Unit {0})
+Adds s v found w = MatchBool (found == s.old) (w.0 ≡ v.0 ++ s.ask ∷ []) ⊤
 
 -- what a mark adds
 abbrev pub replied : Mark → Event

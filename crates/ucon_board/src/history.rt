@@ -1,5 +1,5 @@
 //! The history of a board, as proofs know it. It has no bytes but a word with the number of its replies.
-ghost use Rattle.std.specs.Prelude.{◌≡◌, ◌+◌, ◌<◌, ◌≤◌, ◌^◌, [], ◌∷◌, ◌++◌, length, IfOk};
+ghost use Rattle.std.specs.Prelude.{◌≡◌, ◌+◌, ◌<◌, ◌≤◌, ◌^◌, [], ◌∷◌, ◌++◌, length, IfOk, ⊤};
 ghost use Rattle.ucon_board.specs.Told.{word_of, events, replied};
 
 use crate::shown::Mark;
@@ -35,13 +35,13 @@ impl Rule<Event, u64> for Counted {
 
     ghost first = { [] };
 
-    ghost hinted = { λ n log. Unit {0} };
+    ghost hinted = { λ n log. ⊤ };
 
     ghost shows = { λ log. [] };
 
     ghost keeps = { λ names log. ftrue };
 
-    ghost moves = { λ ask before after answer. Unit {0} };
+    ghost moves = { λ ask before after answer. ⊤ };
 }
 
 /// A beginning of a board's history.

@@ -1,5 +1,5 @@
 //! What readers are shown.
-ghost use Rattle.std.specs.Prelude.{◌≡◌, ◌+◌, ◌-◌, ◌≤◌, [], ◌++◌, length, fold, take, map, replicate, IfOk, Some, None};
+ghost use Rattle.std.specs.Prelude.{◌≡◌, ◌+◌, ◌-◌, ◌≤◌, [], ◌++◌, length, fold, take, map, replicate, IfOk, Some, None, ⊤};
 ghost use Rattle.ucon_board.specs.Board.{named_by, revocation};
 ghost use Rattle.ucon_board.specs.Rule.{after, opened_rows, row_at, set_row};
 
@@ -45,7 +45,7 @@ impl Absorb<Post> for Shown {
 
     ghost applied = { λ s p. (p.mark.place, after s.1 (sayings p.mark.head p.mark.revoked.items), p.seen) };
 
-    ghost never_fails = { Unit {0} };
+    ghost never_fails = { ⊤ };
 
     fn absorb_first(&mut self, post: &Post, _other: &Shown) -> Result<(), AllocError> {
         self.place = post.mark.place;

@@ -1,6 +1,6 @@
 -- The readers are exact, and the sessions grouped, after a head is followed.
 use Rattle.std.proofs.Common.{◌≡◌, ◌≢◌, ◌↔◌, ◌∙◌, ◌≤◌, ℕ, List, sym, ap, subst, refl}
-use Rattle.std.specs.Prelude.{Option, None, Some, IfSome, IsSome}
+use Rattle.std.specs.Prelude.{Option, None, Some, IfSome, IsSome, ⊤}
 use Rattle.std.specs.List.{Contains}
 use Rattle.ucon_model.specs.declared.reply.Head.{Head}
 use Rattle.ucon_model.specs.declared.reply.Head.TheVariants as heads
@@ -31,7 +31,7 @@ exact_like s standing standing' same exact = record {
 -- the same firsts
 pub grouped_like : (s : Shown) (first first' : ℕ → ℕ) → ((n : ℕ) → first' n ≡ first n) → AreGrouped s first → AreGrouped s first'
 grouped_like s first first' same grouped =
-    grouped_all s (λ n. Unit {0}) first' (among_like s (λ n. Unit {0}) first first' same (among_all s first grouped)) (λ n goes. tt)
+    grouped_all s (λ n. ⊤) first' (among_like s (λ n. ⊤) first first' same (among_all s first grouped)) (λ n goes. tt)
 
 -- ---- a head that permits and ends nobody
 

@@ -1,6 +1,6 @@
 -- Sessions stay grouped, and sessions that are judged alike read the same.
 use Rattle.std.proofs.Common.{◌≡◌, ◌≢◌, ◌∙◌, ◌≤◌, ◌⊎◌, ◌||◌, inl, inr, ℕ, Bool, true, false, List, [], ◌∷◌, ◌++◌, refl, sym, ap, subst, arith}
-use Rattle.std.specs.Prelude.{Option, IsSome}
+use Rattle.std.specs.Prelude.{Option, IsSome, ⊤}
 use Rattle.std.specs.List.{flat_map, list_any}
 use Rattle.std.specs.Option.{option_to_list}
 use Rattle.ucon_actions.specs.Leads.{KeepsBase}
@@ -93,7 +93,7 @@ among_still s s' Among first base grouped same firsts = record {
 pub grouped_still : (s s' : Shown) (first : ℕ → ℕ) → KeepsBase s s' → AreGrouped s first
     → ((n : ℕ) → going_on (session_in s'.tables n) ≡ going_on (session_in s.tables n)) → AreGrouped s' first
 grouped_still s s' first base grouped same =
-    let all = among_still s s' (λ n. Unit {0}) first base grouped (λ n among. same n) (λ n among goes. same (first n)) in
+    let all = among_still s s' (λ n. ⊤) first base grouped (λ n among. same n) (λ n among goes. same (first n)) in
     record { low = λ n. all.low n tt; on = λ n. all.on n tt; itself = λ n. all.itself n tt; like = λ n. all.like n tt }
 
 -- ---- session n comes
@@ -155,7 +155,7 @@ module _ (s : Shown) (Among : ℕ → Type 0) (old new : ℕ → ℕ) (n : ℕ) 
     ];
   }
 
-pub among_all : (s : Shown) (first : ℕ → ℕ) → AreGrouped s first → AreGroupedAmong s (λ n. Unit {0}) first
+pub among_all : (s : Shown) (first : ℕ → ℕ) → AreGrouped s first → AreGroupedAmong s (λ n. ⊤) first
 among_all s first grouped = record {
   low = λ n among. grouped.low n;
   on = λ n among. grouped.on n;

@@ -1,6 +1,6 @@
 -- Own actions take no time: the policy in force, the tick and the acts are those before, but after an amendment, a tick or an act.
 use Rattle.std.proofs.Common.{◌≡◌, ◌⊎◌, inl, inr, ℕ, Bool, true, false, cond, List, [], ◌∷◌, ◌++◌, refl, subst}
-use Rattle.std.specs.Prelude.{not, nat_eq, nat_le, ◌+◌, ◌&&◌, Option, Some, None, is_none}
+use Rattle.std.specs.Prelude.{not, nat_eq, nat_le, ◌+◌, ◌&&◌, Option, Some, None, is_none, ⊤}
 use Rattle.std.specs.Option.{option_map_or}
 use Rattle.ucon_base.specs.declared.value.Side.TheVariants as sides
 use Rattle.ucon_base.specs.Admits.{admits}
@@ -28,8 +28,8 @@ use Rattle.ucon_cascade.proofs.Timing.{SameTime, time_on, updates_take_no_time}
 
 -- this holds of the actions, where some are made
 abbrev pub Makes : (Head → List Action → Type 0) → Own → Type 0
-Makes Q (refuse r) = Unit {0}
-Makes Q (tell reply) = Unit {0}
+Makes Q (refuse r) = ⊤
+Makes Q (tell reply) = ⊤
 Makes Q (make head actions) = Q head actions
 
 pub unless : (Q : Head → List Action → Type 0) (b : Bool) (r : Refusal) (o : Own) → Makes Q o → Makes Q (cond b (refuse r) o)

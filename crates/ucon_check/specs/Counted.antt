@@ -1,5 +1,5 @@
 -- Whether each name is declared once.
-use Rattle.std.specs.Prelude.{◌≡◌, Bool, false, List, [], ◌∷◌, ◌++◌, is_some}
+use Rattle.std.specs.Prelude.{◌≡◌, Bool, false, List, [], ◌∷◌, ◌++◌, is_some, ⊤}
 use Rattle.ucon_model.specs.declared.policy.AttrDecl.{AttrDecl}
 use Rattle.ucon_model.specs.declared.policy.EnvDecl.{EnvDecl}
 use Rattle.ucon_model.specs.Plain.{PlainPolicy}
@@ -7,7 +7,7 @@ use Rattle.ucon_model.specs.Readings.{declared_attr, declared_env}
 
 -- none of these stands among those before it
 abbrev pub IsOnce : {T : Type 0} → (List T → T → Bool) → List T → List T → Type 0
-IsOnce stands before [] = Unit {0}
+IsOnce stands before [] = ⊤
 IsOnce stands before (x ∷ xs) = (stands before x ≡ false) × IsOnce stands (before ++ x ∷ []) xs
 
 -- whether an attribute of this side and name is declared among these

@@ -1,6 +1,6 @@
 -- Parts of a list under rising places, put by their places, are the whole list.
 use Rattle.std.proofs.Common.{◌≡◌, ℕ, ◌+◌, ◌<◌, ◌≤◌, Bool, true, false, true≢false, List, [], ◌∷◌, ◌++◌, map, length, refl, ap, ◌∙◌, arith}
-use Rattle.std.specs.Prelude.{◌||◌, if◌then◌else◌}
+use Rattle.std.specs.Prelude.{◌||◌, if◌then◌else◌, ⊤}
 use Rattle.std.specs.List.{filter}
 use Rattle.std.proofs.lemmas.Bool.{le-leb, lt-leb}
 use Rattle.ucon_model.specs.declared.command.Entry.{Entry}
@@ -14,7 +14,7 @@ abbrev IsBelow : ℕ → List (ℕ × Entry) → Type 0
 IsBelow n = Each (λ x. n < x.0)
 
 abbrev AreRising : List (ℕ × Entry) → Type 0
-AreRising [] = Unit {0}
+AreRising [] = ⊤
 AreRising (x ∷ xs) = IsBelow x.0 xs × AreRising xs
 
 -- ---- put by their places

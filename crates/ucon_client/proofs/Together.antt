@@ -1,6 +1,6 @@
 -- The answers of all clients, over the list of the closed store.
 use Rattle.std.proofs.Common.{◌≡◌, ◌≢◌, ℕ, ◌+◌, ◌<◌, ◌≤◌, Bool, true, false, true≢false, List, [], ◌∷◌, ◌++◌, Option, None, map, length, drop, refl, sym, ap, ◌∙◌, subst, ⊎_elim, arith}
-use Rattle.std.specs.Prelude.{◌||◌, IsTrue, nat_eq, count_by, if◌then◌else◌}
+use Rattle.std.specs.Prelude.{◌||◌, IsTrue, nat_eq, count_by, if◌then◌else◌, ⊤}
 use Rattle.std.specs.List.{filter, list_any}
 use Rattle.std.proofs.lemmas.Bool.{eq-eqb, eqb-true, ne_eqb, or_cases, or_from, or_left, or_right}
 use Rattle.std.proofs.lemmas.List.{length-map}
@@ -72,7 +72,7 @@ module _ (clients : List Served) (taken : List ℕ) (ours : Each (Has (map (λ c
 
 -- no two clients have one number
 abbrev AreApart : List Served → Type 0
-AreApart [] = Unit {0}
+AreApart [] = ⊤
 AreApart (c ∷ clients) = Each (λ d. c.number ≢ d.number) clients × AreApart clients
 
 above_apart : (n : ℕ) (clients : List Served) → Each (λ m. n < m) (map number clients) → Each (λ d. n ≢ d.number) clients

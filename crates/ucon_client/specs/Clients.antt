@@ -1,5 +1,5 @@
 -- What one client's answers say of the list that its seat has seen, and what all clients were told.
-use Rattle.std.specs.Prelude.{◌≡◌, ◌≢◌, ℕ, ◌+◌, ◌<◌, ◌≤◌, IsTrue, IsSome, Option, Some, None, nat_eq, List, [], ◌∷◌, ◌++◌, length, drop, map}
+use Rattle.std.specs.Prelude.{◌≡◌, ◌≢◌, ℕ, ◌+◌, ◌<◌, ◌≤◌, IsTrue, IsSome, Option, Some, None, nat_eq, List, [], ◌∷◌, ◌++◌, length, drop, map, ⊤}
 use Rattle.std.specs.List.{filter}
 use Rattle.ucon_base.specs.Elements.{Each}
 use Rattle.ucon_turn.specs.Lists.{Has}
@@ -59,7 +59,7 @@ faulted told = map (λ t. t.line) (filter (λ t. is_disk_fault t.answer) told)
 -- the list has all that an answer tells
 abbrev pub Shows : List Event → Answer → Type 0
 Shows log (placed place reply) = place ≤ length (entries_in log)
-Shows log no_memory = Unit {0}
+Shows log no_memory = ⊤
 Shows log disk_fault = marks_in log ≢ []
 Shows log stopped = marks_in log ≢ []
 
@@ -99,7 +99,7 @@ told_by (c ∷ clients) = c.told ++ told_by clients
 
 -- numbers that rise
 abbrev pub AreRising : List ℕ → Type 0
-AreRising [] = Unit {0}
+AreRising [] = ⊤
 AreRising (n ∷ numbers) = Each (λ m. n < m) numbers × AreRising numbers
 
 -- The first seat has taken back the seats of these clients, which have these numbers. The answers of each are right for the list that the first

@@ -1,5 +1,5 @@
 -- The list of a store behind a turn, part by part: the entries of its history and, after a disk fault, one mark with the entry that failed.
-use Rattle.std.specs.Prelude.{◌≡◌, List, [], ◌∷◌, if◌then◌else◌}
+use Rattle.std.specs.Prelude.{◌≡◌, List, [], ◌∷◌, if◌then◌else◌, ⊤}
 use Rattle.ucon_model.specs.declared.command.Entry.{Entry}
 use Rattle.ucon_model.specs.History.{History, changes}
 use Rattle.ucon_model.specs.LegalRun.{Answer, no_memory, disk_fault, stopped, placed}
@@ -20,7 +20,7 @@ marks_in (Failed e ∷ log) = e ∷ marks_in log
 
 -- nothing follows a mark
 abbrev pub EndsAtMark : List Event → Type 0
-EndsAtMark [] = Unit {0}
+EndsAtMark [] = ⊤
 EndsAtMark (Done e ∷ log) = EndsAtMark log
 EndsAtMark (Failed e ∷ log) = log ≡ []
 

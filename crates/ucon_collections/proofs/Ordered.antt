@@ -1,6 +1,6 @@
 -- Who comes first behind whom in an order, once one comes or goes.
 use Rattle.std.proofs.Common.{◌≡◌, ◌≢◌, ◌⊎◌, inl, inr, ◌↔◌, ◌<◌, ℕ, refl, sym, ap, subst, arith}
-use Rattle.std.specs.Prelude.{Option, Some, None}
+use Rattle.std.specs.Prelude.{Option, Some, None, ⊤}
 use Rattle.std.proofs.lemmas.Bool.Decides.{eqb_tells, leb_tells}
 use Rattle.ucon_collections.specs.Lists.{Above, Below, IsFirstPast, IsPast}
 
@@ -32,7 +32,7 @@ turned Before a b = Before b a
 
 -- the number, where there is one, is one of those
 abbrev pub IsOneOf : (ℕ → Type 0) → Option ℕ → Type 0
-IsOneOf Those None = Unit {0}
+IsOneOf Those None = ⊤
 IsOneOf Those (Some n) = Those n
 
 -- those are the same

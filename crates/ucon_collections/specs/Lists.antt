@@ -1,5 +1,5 @@
 -- Lists of sessions: who is in which, which were joined, and who stands next to whom.
-use Rattle.std.specs.Prelude.{◌≡◌, ◌≢◌, ◌⊎◌, ◌<◌, ℕ, Bool, false, true, List, Option, Some, None, slice_get}
+use Rattle.std.specs.Prelude.{◌≡◌, ◌≢◌, ◌⊎◌, ◌<◌, ℕ, Bool, false, true, List, Option, Some, None, slice_get, ⊤}
 use Rattle.std.specs.Option.{option_map_or}
 use Rattle.ucon_collections.specs.declared.table.Member.{Member}
 use Rattle.ucon_collections.specs.declared.table.Ends.{Ends}
@@ -39,7 +39,7 @@ IsLed v leader n = leader_in v n ≡ Some leader
 
 -- session n comes behind this one in an order, or, if there is none, it comes anywhere
 abbrev pub IsPast : (ℕ → ℕ → Type 0) → Option ℕ → ℕ → Type 0
-IsPast Before None n = Unit {0}
+IsPast Before None n = ⊤
 IsPast Before (Some m) n = Before m n
 
 -- of those that come behind this one in an order it is the first; none if there is none

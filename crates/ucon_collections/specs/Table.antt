@@ -1,5 +1,5 @@
 -- How the rows and the ends hold the lists in order, and what the table's own functions write. No public clause cites this module.
-use Rattle.std.specs.Prelude.{◌≡◌, ℕ, Bool, true, List, Option, Some, None, option_map, slice_get, slice_set}
+use Rattle.std.specs.Prelude.{◌≡◌, ℕ, Bool, true, List, Option, Some, None, option_map, slice_get, slice_set, ⊤}
 use Rattle.ucon_collections.specs.declared.table.Member.{Member}
 use Rattle.ucon_collections.specs.declared.table.Ends.{Ends}
 use Rattle.ucon_collections.specs.declared.table.Gap.{Gap}
@@ -24,7 +24,7 @@ before v leader (Some n) = (member_at v.rows n).previous
 
 -- the session, if there is one, is in the list of a leader
 abbrev pub IsIn : Members → ℕ → Option ℕ → Type 0
-IsIn v leader None = Unit {0}
+IsIn v leader None = ⊤
 IsIn v leader (Some n) = IsLed v leader n
 
 -- each list that has a member was joined, and what is kept as next and as previous is so

@@ -1,5 +1,5 @@
 -- What a draft has changed of the lists, and what undoing gives.
-use Rattle.std.specs.Prelude.{◌≡◌, ℕ, ◌<◌, Bool, false, true, List, [], ◌∷◌, length, Option, Some, None, ◌==◌, if◌then◌else◌}
+use Rattle.std.specs.Prelude.{◌≡◌, ℕ, ◌<◌, Bool, false, true, List, [], ◌∷◌, length, Option, Some, None, ◌==◌, if◌then◌else◌, ⊤}
 use Rattle.ucon_collections.specs.Lists.{IsNext, IsPrevious, Members, is_joined, leader_in}
 use Rattle.ucon_collections.specs.declared.lists.Change.{Change}
 use Rattle.ucon_collections.specs.declared.lists.Change.TheVariants.{Founded, Joined, Left}
@@ -47,7 +47,7 @@ CanUndo (Left leader session gap) w count =
 
 -- each can be undone when its turn comes
 abbrev pub CanUndoAll : List Change → Who → ℕ → Type 0
-CanUndoAll [] w count = Unit {0}
+CanUndoAll [] w count = ⊤
 CanUndoAll (change ∷ changes) w count = CanUndoAll changes w count × CanUndo change (all_undone changes w) count
 
 -- undoing gives these: who was in which list, and which lists were joined

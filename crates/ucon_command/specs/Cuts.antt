@@ -1,5 +1,5 @@
 -- Where the words of a line stand, and the command that they give.
-use Rattle.std.specs.Prelude.{◌≡◌, ℕ, ◌≤◌, ◌<◌, Bool, ◌&&◌, nat_lt, nat_le, IsTrue, IsOk, ◌∷◌, drop, length, Option, Some, option_map, IfSome}
+use Rattle.std.specs.Prelude.{◌≡◌, ℕ, ◌≤◌, ◌<◌, Bool, ◌&&◌, nat_lt, nat_le, IsTrue, IsOk, ◌∷◌, drop, length, Option, Some, option_map, IfSome, ⊤}
 use Rattle.std.specs.Prelude.{MatchResult, Result}
 use Rattle.std.specs.Coded.{Coded-set, coded_option}
 use Rattle.std.specs.Result.{result_ok}
@@ -66,10 +66,10 @@ HasWords (cuts.Act subject action object) line =
     IsTrue (has_name subject action line) × IsTrue (has_name action object line) × IsTrue (ends_in_name object line)
 HasWords (cuts.Try subject right object) line =
     IsTrue (has_name subject right line) × IsTrue (has_name right object line) × IsTrue (ends_in_name object line)
-HasWords (cuts.Again session) line = Unit {0}
-HasWords (cuts.Beat session) line = Unit {0}
-HasWords (cuts.End session) line = Unit {0}
-HasWords (cuts.Look session) line = Unit {0}
+HasWords (cuts.Again session) line = ⊤
+HasWords (cuts.Beat session) line = ⊤
+HasWords (cuts.End session) line = ⊤
+HasWords (cuts.Look session) line = ⊤
 HasWords (cuts.Value side name attr) line = IsTrue (has_name name attr line) × IsTrue (ends_in_name attr line)
 HasWords (cuts.Amend policy) line = policy ≤ length line
 

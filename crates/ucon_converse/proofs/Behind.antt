@@ -1,6 +1,6 @@
 -- From the opening of a journal to its closing: a conversation behind the history as which the file was found.
 use Rattle.std.proofs.Common.{⊎_elim, ◌≡◌, ◌⊎◌, true, false, ◌++◌, refl, sym, ap, subst, ◌∙◌, inl}
-use Rattle.std.specs.Prelude.{Option, Some, None, is_some, IsSome, Result}
+use Rattle.std.specs.Prelude.{Option, Some, None, is_some, IsSome, Result, ⊤}
 use Rattle.ucon_disk.specs.Causes.{raised}
 use Rattle.ucon_disk.specs.Run.{IsAtRest, LeavesAfter, LeavesOnly, joined, weaker}
 use Rattle.ucon_disk.specs.Seen.{DiskSeen}
@@ -26,7 +26,7 @@ use Rattle.ucon_converse.proofs.Conversing.{begins_behind}
 
 -- what is premised of the disk is met
 met_so : (P : PlainPolicy) (text : Bytes) (result : Result (Unit {0}) TalkFault) (opening last : Standing) (before now : VoiceSeen) (disk : DiskSeen) (tells : Type 0) (hears : Bytes → Type 0)
-    → tells → HasConversedBy accepted P text 65546 result opening last before now disk tells hears → HasConversedBy accepted P text 65546 result opening last before now disk (Unit {0}) hears
+    → tells → HasConversedBy accepted P text 65546 result opening last before now disk tells hears → HasConversedBy accepted P text 65546 result opening last before now disk ⊤ hears
 met_so P text result opening last before now disk tells hears met h = record {
   exchanges = h.exchanges;
   heard = h.heard;
@@ -91,7 +91,7 @@ module _ {D : Type 0} (seen : D → DiskSeen) (text : Bytes) (P : PlainPolicy) (
           last = standing G over.closed;
           outcome_is = over.outcome_is;
           conversed = subst (λ (z : Bytes × Option History × D). HasConversedBy accepted P z.0 65546 over.result (record { history = G ++ store.entries; failed = z.1 })
-              (standing G over.closed) before after (seen z.2) (Unit {0}) (hears over.result))
+              (standing G over.closed) before after (seen z.2) ⊤ (hears over.result))
               (λ i. (policy i, unmarked i, sym over.disk_is i)) met;
           unfailed = λ none. ap (λ (d : D). (seen d).faults) over.disk_is ∙ (over.stays.unfailed (ap is_some (none ∙ sym unmarked)) ∙ unfailed);
           failed = λ es is. ap (λ (d : D). (seen d).faults) over.disk_is ∙ (over.stays.failed unmarked es is ∙ ap raised unfailed);

@@ -70,7 +70,7 @@ pub record IsHeldBehindBy (reads : PolicyReading) (text : Bytes) (P : PlainPolic
   pub result : Result (Unit {0}) TalkFault
   pub last : Standing
   pub outcome_is : outcome ≡ ended_so result (is_some last.failed)
-  pub conversed : HasConversedBy reads P text 65546 result (record { history = opening; failed = None }) last before now new (Unit {0}) (hears result)
+  pub conversed : HasConversedBy reads P text 65546 result (record { history = opening; failed = None }) last before now new ⊤ (hears result)
   pub unfailed : last.failed ≡ None → new.faults ≡ old.faults
   pub failed : (es : History) → last.failed ≡ Some es → new.faults ≡ raised old.faults
   pub since : IsAtRest old file → LeavesOnly old new (IsFoundSinceBy reads text opening last.history last.failed)

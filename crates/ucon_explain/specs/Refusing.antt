@@ -1,5 +1,5 @@
 -- What it means that there is no explanation.
-use Rattle.std.specs.Prelude.{◌≡◌, Some}
+use Rattle.std.specs.Prelude.{◌≡◌, Some, ⊤}
 use Rattle.ucon_model.specs.Plain.{Bytes}
 use Rattle.ucon_state.specs.Following.{AfterEach}
 use Rattle.ucon_state.specs.Shown.{Shown}
@@ -10,4 +10,4 @@ use Rattle.ucon_explain.specs.declared.trying.ExplainFault.TheVariants.{Refused,
 -- if a refusal is answered, the try would meet it
 abbrev pub IsRefused : ExplainFault → Shown → Bytes → Bytes → Bytes → Type 0
 IsRefused (Refused x) s u r o = AfterEach s (λ P T. try_refusal P T u r o ≡ Some x)
-IsRefused (NoMemory e) s u r o = Unit {0}
+IsRefused (NoMemory e) s u r o = ⊤

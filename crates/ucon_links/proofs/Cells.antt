@@ -1,4 +1,5 @@
 -- Reads of the node table after a write.
+use Rattle.std.specs.Prelude.{⊤}
 use Rattle.std.proofs.Common.{◌≡◌, ◌≢◌, ℕ, zero, suc, List, [], ◌∷◌, length, set, Some, None, Option, option_map, slice_get, refl, sym, ap, ◌∙◌, subst, arith, length-set}
 use Rattle.ucon_links.specs.declared.table.Node.{Node}
 use Rattle.ucon_links.specs.declared.table.State.{State}
@@ -45,7 +46,7 @@ keeps_then first second = record { kept = λ at node there other. second.kept at
 
 -- the node there, if there is one, has this tag
 abbrev pub HasTag : ℕ → List Node → Option ℕ → Type 0
-HasTag tag nodes None = Unit {0}
+HasTag tag nodes None = ⊤
 HasTag tag nodes (Some at) = (node : Node) × (slice_get nodes at ≡ Some node) × (tag_of node ≡ tag)
 
 pub keeps_write : (tag : ℕ) (nodes : List Node) (at : ℕ) (new : Node) → HasTag tag nodes (Some at) → KeepsOthers tag nodes (set nodes at new)
@@ -57,7 +58,7 @@ keeps_write tag nodes at new tagged =
 
 -- the node there, if there is one, is another
 abbrev pub IsOther : ℕ → Option ℕ → Type 0
-IsOther node None = Unit {0}
+IsOther node None = ⊤
 IsOther node (Some other) = node ≢ other
 
 pub changed_at : (change : Node → Node) (nodes : List Node) (at : ℕ) (node : Node) → slice_get nodes at ≡ Some node → changed change nodes (Some at) ≡ set nodes at (change node)

@@ -1,4 +1,5 @@
 -- Linked nodes of one list: parts, reads and writes.
+use Rattle.std.specs.Prelude.{⊤}
 use Rattle.std.proofs.Common.{◌≡◌, ◌≢◌, ℕ, suc, List, [], ◌∷◌, ◌++◌, set, Some, None, Option, slice_get, refl, sym, ap, ◌∙◌}
 use Rattle.ucon_links.specs.declared.table.Node.{Node}
 use Rattle.ucon_links.specs.Lists.{first_or, last_or, IsAbsent, IsDistinct}
@@ -9,12 +10,12 @@ use Rattle.ucon_links.proofs.Cells.{slice_get-set_other, some_same, tag_of, Keep
 
 -- no node of the first part stands in the second
 abbrev pub IsApart : List (ℕ × ℕ) → List (ℕ × ℕ) → Type 0
-IsApart [] ys = Unit {0}
+IsApart [] ys = ⊤
 IsApart (x ∷ xs) ys = IsAbsent x.0 (ids ys) × IsApart xs ys
 
 -- the node there, if there is one, stands in no place of the list
 abbrev pub IsOutside : Option ℕ → List (ℕ × ℕ) → Type 0
-IsOutside None xs = Unit {0}
+IsOutside None xs = ⊤
 IsOutside (Some node) xs = IsAbsent node (ids xs)
 
 pub absent_parts : (node : ℕ) (xs ys : List (ℕ × ℕ)) → IsAbsent node (ids (xs ++ ys)) → IsAbsent node (ids xs) × IsAbsent node (ids ys)

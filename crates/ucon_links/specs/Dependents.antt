@@ -1,5 +1,5 @@
 -- The dependency index: for each place the sessions that were added with it, and sessions hidden and put back.
-use Rattle.std.specs.Prelude.{◌≡◌, ℕ, zero, suc, ◌+◌, ◌-◌, ◌==◌, ◌||◌, not, Bool, true, false, List, [], ◌∷◌, map, filter, length, sum_by, slice_get}
+use Rattle.std.specs.Prelude.{◌≡◌, ℕ, zero, suc, ◌+◌, ◌-◌, ◌==◌, ◌||◌, not, Bool, true, false, List, [], ◌∷◌, map, filter, length, sum_by, slice_get, ⊤}
 use Rattle.std.specs.Prelude.{slice_set, slice_index_or, Option, Some, None, option_map, if◌then◌else◌}
 use Rattle.ucon_base.specs.Elements.{Each}
 use Rattle.ucon_links.specs.Lists.{Lists, first_or, place_of, with_behind, IsGap}
@@ -137,7 +137,7 @@ abbrev pub unhide : Dependents → Dependents
 unhide v = unhide_first v v.hidden
 
 abbrev pub FitsAt : ℕ → Place → List Stood → Type 0
-FitsAt session place [] = Unit {0}
+FitsAt session place [] = ⊤
 FitsAt session place (stood ∷ rest) = stood.session ≡ session → IsGap stood.before stood.after place.listed
 
 -- if the place hid this session last, the nodes that stood before and after it stand next to each other
@@ -163,7 +163,7 @@ hide_all v (session ∷ rest) = hide_all (hide v session) rest
 
 -- each is there when its turn comes
 abbrev pub AllThere : Dependents → List ℕ → Type 0
-AllThere v [] = Unit {0}
+AllThere v [] = ⊤
 AllThere v (session ∷ rest) = (is_there session v.places ≡ true) × AllThere (hide v session) rest
 
 abbrev pub forget_at : Place → Place

@@ -1,5 +1,5 @@
 -- How the table of nodes holds the lists and the two stacks. No public clause cites this module.
-use Rattle.std.specs.Prelude.{◌≡◌, ℕ, zero, suc, ◌+◌, ◌-◌, ◌^◌, ◌<◌, List, [], ◌∷◌, map, length, slice_get, unwrap_or, Option, Some, None}
+use Rattle.std.specs.Prelude.{◌≡◌, ℕ, zero, suc, ◌+◌, ◌-◌, ◌^◌, ◌<◌, List, [], ◌∷◌, map, length, slice_get, unwrap_or, Option, Some, None, ⊤}
 use Rattle.ucon_base.specs.Elements.{Each}
 use Rattle.ucon_links.specs.declared.table.Node.{Node}
 use Rattle.ucon_links.specs.declared.table.State.{State}
@@ -20,7 +20,7 @@ spare_node below = record { owner = 0; list = 0; previous = None; next = None; s
 
 -- these nodes stand linked in a list, between `before` and `after`
 abbrev pub IsLinked : List Node → ℕ → Option ℕ → List (ℕ × ℕ) → Option ℕ → Type 0
-IsLinked nodes list before [] after = Unit {0}
+IsLinked nodes list before [] after = ⊤
 IsLinked nodes list before (x ∷ xs) after =
     (slice_get nodes x.0 ≡ Some (listed_node list before x (first_or after xs))) × IsLinked nodes list (Some x.0) xs after
 
@@ -32,7 +32,7 @@ pub record IsList (nodes : List Node) (list : ℕ) (xs : List (ℕ × ℕ)) : Ty
 module _ {X : Type 0} (id : X → ℕ) (stored : Option ℕ → X → Node) where
   -- these stand on a stack from its top on, each naming the one below; what the last one names isn't followed
   abbrev pub IsStack : List Node → Option ℕ → List X → Type 0
-  IsStack nodes top [] = Unit {0}
+  IsStack nodes top [] = ⊤
   IsStack nodes top (x ∷ xs) =
       (below : Option ℕ) × (top ≡ Some (id x)) × (slice_get nodes (id x) ≡ Some (stored below x)) × IsStack nodes below xs
 

@@ -1,5 +1,5 @@
 -- Lists linked by index: the lists, the stack of hidden nodes, and the room that is left.
-use Rattle.std.specs.Prelude.{◌≡◌, ◌≢◌, ℕ, suc, ◌+◌, ◌-◌, ◌==◌, List, [], ◌∷◌, ◌++◌, map, length, take, drop, sum_by, slice_set, slice_index_or}
+use Rattle.std.specs.Prelude.{◌≡◌, ◌≢◌, ℕ, suc, ◌+◌, ◌-◌, ◌==◌, List, [], ◌∷◌, ◌++◌, map, length, take, drop, sum_by, slice_set, slice_index_or, ⊤}
 use Rattle.std.specs.Prelude.{Option, Some, None, IsSome, unwrap_or, option_map, if◌then◌else◌}
 use Rattle.ucon_base.specs.Elements.{Each}
 
@@ -83,7 +83,7 @@ IsAbsent node others = Each (λ (other : ℕ). other ≢ node) others
 
 -- none is there twice
 abbrev pub IsDistinct : List ℕ → Type 0
-IsDistinct [] = Unit {0}
+IsDistinct [] = ⊤
 IsDistinct (node ∷ rest) = IsAbsent node rest × IsDistinct rest
 
 -- a list without the node
@@ -171,7 +171,7 @@ hide_all v (node ∷ rest) = hide_all (hide v node) rest
 
 -- each is listed when its turn comes
 abbrev pub AllListed : Lists → List ℕ → Type 0
-AllListed v [] = Unit {0}
+AllListed v [] = ⊤
 AllListed v (node ∷ rest) = IsListed v node × AllListed (hide v node) rest
 
 -- the second is the first with these nodes hidden in this order

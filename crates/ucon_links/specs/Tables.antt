@@ -1,5 +1,5 @@
 -- How two tables of lists hold the index. No public clause cites this module.
-use Rattle.std.specs.Prelude.{◌≡◌, ℕ, suc, ◌+◌, ◌<◌, ◌==◌, min, List, [], ◌∷◌, ◌++◌, map, length, slice_set, Option, Some, None, if◌then◌else◌}
+use Rattle.std.specs.Prelude.{◌≡◌, ℕ, suc, ◌+◌, ◌<◌, ◌==◌, min, List, [], ◌∷◌, ◌++◌, map, length, slice_set, Option, Some, None, if◌then◌else◌, ⊤}
 use Rattle.ucon_base.specs.Elements.{Each}
 use Rattle.ucon_links.specs.Layout.{InLists}
 use Rattle.ucon_links.specs.Lists.{Item, Lists, first_or, list_at, IsAbsent, IsDistinct, IsGap}
@@ -57,7 +57,7 @@ by_session weight sessions = weight_from (λ session xs. weight_of (λ x. weight
 
 -- hidden items can go back one after another, each to the front of its list
 abbrev pub CanReturn : List (List (ℕ × ℕ)) → List Item → Type 0
-CanReturn lists [] = Unit {0}
+CanReturn lists [] = ⊤
 CanReturn lists (item ∷ rest) =
     (item.list < length lists) × (item.before ≡ None) × (item.after ≡ first_or None (list_at lists item.list))
     × CanReturn (slice_set lists item.list ((item.node, item.owner) ∷ list_at lists item.list)) rest
@@ -70,7 +70,7 @@ abbrev pub IsGone : ℕ → List Place → Type 0
 IsGone session places = Each (λ place. IsAbsent session (map (λ x. x.1) place.listed)) places
 
 abbrev pub AreGone : List ℕ → List Place → Type 0
-AreGone [] places = Unit {0}
+AreGone [] places = ⊤
 AreGone (session ∷ rest) places = IsGone session places × AreGone rest places
 
 -- the items of the sessions name the nodes of the places

@@ -1,6 +1,6 @@
 -- What every trace of a history is, and what the next action may be.
 use Rattle.std.proofs.Common.{◌≡◌, ℕ, Bool, true, false, cond, List, [], ◌∷◌, ◌++◌, refl, ap, subst, arith}
-use Rattle.std.specs.Prelude.{Option, Some, None, option_map, nat_eq, IsTrue}
+use Rattle.std.specs.Prelude.{Option, Some, None, option_map, nat_eq, IsTrue, ⊤}
 use Rattle.std.specs.Str.{bytes_eq}
 use Rattle.std.proofs.lemmas.Bool.{or_right, ne_eqb}
 use Rattle.ucon_base.specs.declared.value.Side.{Side}
@@ -27,7 +27,7 @@ IsAllowed S P T (amend text Q) = S → IsLegal P T (amend text Q)
 IsAllowed S P T a = IsLegal P T a
 
 abbrev pub AreAllowed : Type 0 → PlainPolicy → Trace → List Action → Type 0
-AreAllowed S P T [] = Unit {0}
+AreAllowed S P T [] = ⊤
 AreAllowed S P T (a ∷ actions) = IsAllowed S P T a × AreAllowed S P (a ∷ T) actions
 
 pub allowed-append : (S : Type 0) (P : PlainPolicy) (T : Trace) (xs ys : List Action) → AreAllowed S P T xs → AreAllowed S P (extended T xs) ys → AreAllowed S P T (xs ++ ys)
@@ -158,13 +158,13 @@ allowed_if_legal S P T a h = h
 -- ---- under a well typed policy
 
 pub sound_before : (P : PlainPolicy) → IsTyped P → IsSound P []
-sound_before P typed = let h = sound-empty (Unit {0}) P (λ (sure : Unit {0}). typed) in record { numbered = h.numbered; grounded = h.grounded; timely = h.timely; fit = h.fit tt }
+sound_before P typed = let h = sound-empty ⊤ P (λ (sure : ⊤). typed) in record { numbered = h.numbered; grounded = h.grounded; timely = h.timely; fit = h.fit tt }
 
 pub sound_after_action : (P : PlainPolicy) (T : Trace) (a : Action) → IsTyped (in_force P T) → IsSound P T → IsLegal P T a → IsSound P (a ∷ T)
 sound_after_action P T a typed h legal =
-    let before : IsSoundIf (Unit {0}) P T = record { numbered = h.numbered; grounded = h.grounded; timely = h.timely; typed = λ sure. typed; fit = λ sure. h.fit } in
-    let next = sound-step (Unit {0}) P T a before (allowed_if_legal (Unit {0}) P T a legal) in
+    let before : IsSoundIf ⊤ P T = record { numbered = h.numbered; grounded = h.grounded; timely = h.timely; typed = λ sure. typed; fit = λ sure. h.fit } in
+    let next = sound-step ⊤ P T a before (allowed_if_legal ⊤ P T a legal) in
     record { numbered = next.numbered; grounded = next.grounded; timely = next.timely; fit = next.fit tt }
 
 pub typed_after_action : (P : PlainPolicy) (T : Trace) (a : Action) → IsTyped (in_force P T) → IsLegal P T a → IsTyped (in_force P (a ∷ T))
-typed_after_action P T a typed legal = typed_step (Unit {0}) P T a tt (allowed_if_legal (Unit {0}) P T a legal) typed
+typed_after_action P T a typed legal = typed_step ⊤ P T a tt (allowed_if_legal ⊤ P T a legal) typed

@@ -1,6 +1,6 @@
 -- A legal run that met no disk fault, and a legal run behind the history that it made, are one legal run.
 use Rattle.std.proofs.Common.{◌≡◌, ℕ, ◌+◌, ◌-◌, ◌≤◌, ◌<◌, Bool, true, false, cond, List, [], ◌∷◌, ◌++◌, map, length, refl, sym, ap, subst, ◌∙◌, arith, append_assoc}
-use Rattle.std.specs.Prelude.{IsTrue, Some, None, ◌||◌, count_by, nat_le, if◌then◌else◌}
+use Rattle.std.specs.Prelude.{IsTrue, Some, None, ◌||◌, count_by, nat_le, if◌then◌else◌, ⊤}
 use Rattle.std.specs.List.{list_any}
 use Rattle.std.proofs.lemmas.Bool.{le-leb}
 use Rattle.std.proofs.lemmas.List.{length-append, length-map, map-append, take-append-le}
@@ -20,7 +20,7 @@ abbrev UpTo : ℕ → ℕ × Entry → Type 0
 UpTo m x = x.0 ≤ m
 
 abbrev Behind : ℕ → List (ℕ × Entry) → Type 0
-Behind m [] = Unit {0}
+Behind m [] = ⊤
 Behind m (y ∷ ys) = m < y.0
 
 recorded_by : (line : Entry) (a : Answer) (xs ys : List (ℕ × Entry)) → with_record line a (xs ++ ys) ≡ with_record line a xs ++ ys
@@ -81,9 +81,9 @@ numbered_both n m (x ∷ xs) ys h k e = (h.0, numbered_both (n + 1) m xs ys h.1 
 
 -- at most this place was told
 abbrev Told : ℕ → Answer → Type 0
-Told m no_memory = Unit {0}
-Told m disk_fault = Unit {0}
-Told m stopped = Unit {0}
+Told m no_memory = ⊤
+Told m disk_fault = ⊤
+Told m stopped = ⊤
 Told m (placed place reply) = place ≤ m
 
 told_by : (P : PlainPolicy) (opening m : ℕ) (H : History) (line : Entry) (a : Answer) (others : List (ℕ × Entry)) → length H ≤ m → IsSaid P opening H line a

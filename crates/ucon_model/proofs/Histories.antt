@@ -1,6 +1,6 @@
 -- What holds after every history: each action of a block is allowed, and no accessing session fails.
 use Rattle.std.proofs.Common.{◌≡◌, ℕ, zero, suc, [], ◌∷◌, refl, sym, subst}
-use Rattle.std.specs.Prelude.{Option, Some, None}
+use Rattle.std.specs.Prelude.{Option, Some, None, ⊤}
 use Rattle.std.specs.Option.{option_map_or}
 use Rattle.ucon_model.specs.declared.command.Caller.{Caller}
 use Rattle.ucon_model.specs.declared.command.Command.{Command}
@@ -105,11 +105,11 @@ legal_revocations_after P H caller c =
 pub legal_actions_after : (P : PlainPolicy) → IsTyped P → (H : History) → AreCommands H → (caller : Caller) (c : Command) → IsCommand c
     → AreLegal P (trace P H) (block P (trace P H) caller c)
 legal_actions_after P typed H commands caller c command =
-    legal-allowed (Unit {0}) P (trace P H) (block P (trace P H) caller c) tt
-    (allowed-block (Unit {0}) P (trace P H) caller c (λ sure. command) (sound_after (Unit {0}) P H (λ sure. typed) (λ sure. commands)))
+    legal-allowed ⊤ P (trace P H) (block P (trace P H) caller c) tt
+    (allowed-block ⊤ P (trace P H) caller c (λ sure. command) (sound_after ⊤ P H (λ sure. typed) (λ sure. commands)))
 
 pub typed_after : (P : PlainPolicy) → IsTyped P → (H : History) → AreCommands H → IsTyped (in_force P (trace P H))
-typed_after P typed H commands = (sound_after (Unit {0}) P H (λ sure. typed) (λ sure. commands)).typed tt
+typed_after P typed H commands = (sound_after ⊤ P H (λ sure. typed) (λ sure. commands)).typed tt
 
 pub values_fit_after : (P : PlainPolicy) → IsTyped P → (H : History) → AreCommands H → ValuesFit P (trace P H)
-values_fit_after P typed H commands = (sound_after (Unit {0}) P H (λ sure. typed) (λ sure. commands)).fit tt
+values_fit_after P typed H commands = (sound_after ⊤ P H (λ sure. typed) (λ sure. commands)).fit tt

@@ -1,6 +1,6 @@
 -- Under a well typed policy each predicate and each update of a session's right has a meaning.
 use Rattle.std.proofs.Common.{◌≡◌, refl, inl, inr, ℕ, Bool, true, false}
-use Rattle.std.specs.Prelude.{◌⊎◌, ◌&&◌, Option, Some, None, is_some, IsTrue}
+use Rattle.std.specs.Prelude.{◌⊎◌, ◌&&◌, Option, Some, None, is_some, IsTrue, ⊤}
 use Rattle.ucon_base.specs.declared.value.Side.TheVariants as sides
 use Rattle.ucon_base.specs.declared.value.Value.{Value}
 use Rattle.ucon_base.specs.declared.value.Value.TheVariants as values
@@ -199,7 +199,7 @@ reads_of : (P : PlainPolicy) → IsTyped P → (H : History) → AreCommands H �
     → Reads (in_force P (trace P H)) (place_of P (trace P H) row)
 reads_of P typed H commands n row is =
     let T = trace P H in
-    let there = entities_of T (session T n) row ((sound_after (Unit {0}) P H (λ sure. typed) (λ sure. commands)).grounded n) is in
+    let there = entities_of T (session T n) row ((sound_after ⊤ P H (λ sure. typed) (λ sure. commands)).grounded n) is in
     record {
       there = places_there P T row there.0 there.1;
       sorted = λ place s declared. read_sort (place_of P T row place) s (places_there P T row there.0 there.1 place s declared)

@@ -1,6 +1,6 @@
 -- What holds of the head and the actions that a command makes, case by case.
 use Rattle.std.proofs.Common.{◌≡◌, Bool, true, false, cond, List, ◌∷◌, refl}
-use Rattle.std.specs.Prelude.{ℕ, not, nat_eq, Option, Some, None}
+use Rattle.std.specs.Prelude.{ℕ, not, nat_eq, Option, Some, None, ⊤}
 use Rattle.std.specs.Option.{option_map_or}
 use Rattle.ucon_model.specs.declared.command.Caller.{Caller}
 use Rattle.ucon_model.specs.declared.reply.Head.{Head}
@@ -11,8 +11,8 @@ use Rattle.ucon_model.specs.OwnActions.{Own, refuse, tell, make, after_action, w
 
 -- this holds of head and actions, where some are made
 abbrev pub Makes : (Head → List Action → Type 0) → Own → Type 0
-Makes Q (refuse r) = Unit {0}
-Makes Q (tell reply) = Unit {0}
+Makes Q (refuse r) = ⊤
+Makes Q (tell reply) = ⊤
 Makes Q (make head actions) = Q head actions
 
 pub unless : (Q : Head → List Action → Type 0) (b : Bool) (r : Refusal) (o : Own) → (b ≡ false → Makes Q o) → Makes Q (cond b (refuse r) o)

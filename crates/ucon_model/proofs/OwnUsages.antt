@@ -1,6 +1,6 @@
 -- Whose usage a command's own actions begin or end.
 use Rattle.std.proofs.Common.{◌≡◌, ◌∙◌, ◌⊎◌, inl, inr, ℕ, ◌+◌, Bool, true, false, cond, List, [], ◌∷◌, refl, sym, ap, subst, arith}
-use Rattle.std.specs.Prelude.{◌≢◌, ◌&&◌, not, nat_eq, nat_le, int_lt, pos, Option, Some, None, is_none, is_some, IsSome}
+use Rattle.std.specs.Prelude.{◌≢◌, ◌&&◌, not, nat_eq, nat_le, int_lt, pos, Option, Some, None, is_none, is_some, IsSome, ⊤}
 use Rattle.std.specs.Option.{option_map_or}
 use Rattle.std.proofs.lemmas.Bool.{eq-eqb}
 use Rattle.std.proofs.lemmas.Bool.Decides.{eqb_tells}
@@ -122,8 +122,8 @@ denied T n m label w (inr other) = ap going_on (left (nat_eq m n) _ (session T m
 -- ---- all own actions
 
 Told : Trace → Own → Type 0
-Told T (refuse r) = Unit {0}
-Told T (tell reply) = Unit {0}
+Told T (refuse r) = ⊤
+Told T (tell reply) = ⊤
 Told T (make head actions) = (n : ℕ) → IsUsageTold head n (session T n) (session (extended T actions) n)
 
 unless : (T : Trace) (b : Bool) (r : Refusal) (o : Own) → (b ≡ false → Told T o) → Told T (cond b (refuse r) o)

@@ -1,6 +1,6 @@
 -- A serial run is a legal run.
 use Rattle.std.proofs.Common.{◌≡◌, ℕ, ◌+◌, ◌-◌, ◌≤◌, Bool, true, false, cond, List, [], ◌∷◌, ◌++◌, map, length, take, refl, sym, ap, subst, ◌∙◌, arith, append_assoc}
-use Rattle.std.specs.Prelude.{IsTrue, count_by}
+use Rattle.std.specs.Prelude.{IsTrue, count_by, ⊤}
 use Rattle.std.specs.List.{list_any}
 use Rattle.std.proofs.lemmas.Bool.{le-leb}
 use Rattle.std.proofs.lemmas.List.{length_push, length-append, take_at}
@@ -92,7 +92,7 @@ all_said P opening whole H (t ∷ told) run le e = (
 
 -- the history has all that an answer tells
 abbrev pub Has : History → Answer → Type 0
-Has H no_memory = Unit {0}
+Has H no_memory = ⊤
 Has H disk_fault = ⊥
 Has H stopped = ⊥
 Has H (placed place reply) = place ≤ length H

@@ -1,6 +1,6 @@
 -- The labels of a policy that a text spells are names.
 use Rattle.std.proofs.Common.{◌≡◌, ℕ, zero, suc, ◌+◌, ◌<◌, ◌≤◌, inl, inr, Bool, true, false, cond, not, ◌==◌, List, [], ◌∷◌, length, take, drop, Option, Some, None, refl, sym, ap, subst, arith, nat_lt, option_map}
-use Rattle.std.specs.Prelude.{position, nat_le, ◌&&◌, ◌||◌, is_none, IsTrue}
+use Rattle.std.specs.Prelude.{position, nat_le, ◌&&◌, ◌||◌, is_none, IsTrue, ⊤}
 use Rattle.std.specs.List.{prefix_len, position_or_len}
 use Rattle.std.proofs.lemmas.Bool.Decides.{nat_tests}
 use Rattle.std.proofs.lemmas.List.Folds.{length-prefix_len}
@@ -72,7 +72,7 @@ name_run bs begins short =
 -- a word is a name
 abbrev IsNamed : Token → Type 0
 IsNamed (a_word name) = is_name name ≡ true
-IsNamed t = Unit {0}
+IsNamed t = ⊤
 
 either : (b : Bool) (x y : Lexed) → (b ≡ true → IsNamed x.0) → (b ≡ false → IsNamed y.0) → IsNamed (cond b x y).0
 either true x y p q = p refl

@@ -1,6 +1,6 @@
 -- A reply that changes something, under a well typed policy that a text spells, is of numbers of sessions and names.
 use Rattle.std.proofs.Common.{◌≡◌, ℕ, ◌+◌, ◌<◌, ◌≤◌, Bool, true, false, cond, List, [], ◌∷◌, refl, sym, subst, ◌∙◌, arith}
-use Rattle.std.specs.Prelude.{Option, Some, None, IfSome, IsTrue, IsSomeAnd, find, nat_lt, nat_le, nat_eq, int_lt, ◌^◌, ◌&&◌, not, is_none, is_some}
+use Rattle.std.specs.Prelude.{Option, Some, None, IfSome, IsTrue, IsSomeAnd, find, nat_lt, nat_le, nat_eq, int_lt, ◌^◌, ◌&&◌, not, is_none, is_some, ⊤}
 use Rattle.std.specs.Option.{option_and_then, option_map_or}
 use Rattle.std.proofs.lemmas.Bool.Decides.{nat_tests}
 use Rattle.ucon_base.specs.Elements.{Each}
@@ -82,7 +82,7 @@ failing_labelled P R n labels = then_has IsLabel (failing_of P R) (R.row n) (λ 
     or_has IsLabel _ (right_named P.rights row.right) (Some no_right) (λ r is. false_labelled R row ongoing r.preds (its_labels P labels row.right r is)) refl)
 
 abbrev IsVerdict : Verdict → Type 0
-IsVerdict Permit = Unit {0}
+IsVerdict Permit = ⊤
 IsVerdict (Deny label) = IsLabel label
 IsVerdict (Wait label) = IsLabel label
 
@@ -111,20 +111,20 @@ told_step P T (tries n caller s r o) legal h = record { few = omega (arith, lega
 told_step P T (amend text Q) legal h = record { few = h.few; labels = spelled_labels text Q legal.0 }
 told_step P T a legal h = record { few = h.few; labels = h.labels }
 
-told_extended : (P : PlainPolicy) (T : Trace) (actions : List Action) → AreAllowed (Unit {0}) P T actions → IsTold P T → IsTold P (extended T actions)
+told_extended : (P : PlainPolicy) (T : Trace) (actions : List Action) → AreAllowed ⊤ P T actions → IsTold P T → IsTold P (extended T actions)
 told_extended P T [] allowed h = h
-told_extended P T (a ∷ actions) allowed h = told_extended P (a ∷ T) actions allowed.1 (told_step P T a (legal_action (Unit {0}) P T a tt allowed.0) h)
+told_extended P T (a ∷ actions) allowed h = told_extended P (a ∷ T) actions allowed.1 (told_step P T a (legal_action ⊤ P T a tt allowed.0) h)
 
-told_from : (P : PlainPolicy) (T : Trace) (H : History) → AreCommands H → IsSoundIf (Unit {0}) P T → IsTold P T → IsTold P (trace_from P T H)
+told_from : (P : PlainPolicy) (T : Trace) (H : History) → AreCommands H → IsSoundIf ⊤ P T → IsTold P T → IsTold P (trace_from P T H)
 told_from P T [] commands sound h = h
 told_from P T (e ∷ H) commands sound h =
     let actions : List Action = block P T e.caller e.command in
-    let allowed : AreAllowed (Unit {0}) P T actions = allowed-block (Unit {0}) P T e.caller e.command (λ sure. commands.0) sound in
-    told_from P (after P T e.caller e.command) H commands.1 (sound-extended (Unit {0}) P T actions sound allowed) (told_extended P T actions allowed h)
+    let allowed : AreAllowed ⊤ P T actions = allowed-block ⊤ P T e.caller e.command (λ sure. commands.0) sound in
+    told_from P (after P T e.caller e.command) H commands.1 (sound-extended ⊤ P T actions sound allowed) (told_extended P T actions allowed h)
 
 told_after : (text : Bytes) (P : PlainPolicy) → Spells text P → IsTyped P → (H : History) → AreCommands H → IsTold P (trace P H)
 told_after text P spells typed H commands =
-    told_from P [] H commands (sound-empty (Unit {0}) P (λ sure. typed)) (record { few = omega arith; labels = spelled_labels text P spells })
+    told_from P [] H commands (sound-empty ⊤ P (λ sure. typed)) (record { few = omega arith; labels = spelled_labels text P spells })
 
 -- ---- who is revoked
 
@@ -140,13 +140,13 @@ there_below T n numbered there = by_order (nat_lt (sessions T) n) refl
 labelled_by : (o : Option Bytes) (label : Bytes) → o ≡ Some label → IfSome o IsLabel → IsLabel label
 labelled_by o label is h = subst (λ (o : Option Bytes). IfSome o IsLabel) is h
 
-revoked_labelled : (P : PlainPolicy) (T : Trace) (actions : List Action) → IsSoundIf (Unit {0}) P T → AreAllowed (Unit {0}) P T actions → IsTold P T
+revoked_labelled : (P : PlainPolicy) (T : Trace) (actions : List Action) → IsSoundIf ⊤ P T → AreAllowed ⊤ P T actions → IsTold P T
     → Each (λ r. IsLabelled r.session r.label) (revoked_in actions)
 revoked_labelled P T [] sound allowed h = tt
 revoked_labelled P T (a ∷ actions) sound allowed h =
-    first a allowed.0 (revoked_labelled P (a ∷ T) actions (sound-step (Unit {0}) P T a sound allowed.0) allowed.1 (told_step P T a (legal_action (Unit {0}) P T a tt allowed.0) h))
+    first a allowed.0 (revoked_labelled P (a ∷ T) actions (sound-step ⊤ P T a sound allowed.0) allowed.1 (told_step P T a (legal_action ⊤ P T a tt allowed.0) h))
   where
-    first : (a : Action) → IsAllowed (Unit {0}) P T a → Each (λ r. IsLabelled r.session r.label) (revoked_in actions) → Each (λ r. IsLabelled r.session r.label) (revoked_in (a ∷ actions))
+    first : (a : Action) → IsAllowed ⊤ P T a → Each (λ r. IsLabelled r.session r.label) (revoked_in actions) → Each (λ r. IsLabelled r.session r.label) (revoked_in (a ∷ actions))
     first (revoke n label) legal rest =
         let below : n ≤ sessions T = there_below T n sound.numbered legal.0 in
         ((omega (arith, below, h.few), labelled_by (failing (in_force P T) (readings P T) n) label legal.1 (failing_labelled (in_force P T) (readings P T) n h.labels)), rest)
@@ -224,19 +224,19 @@ own_head P T caller (Amend a) command h =
 
 -- ---- the law
 
-reply_of_own : (P : PlainPolicy) (T : Trace) (o : Own) → IsSoundIf (Unit {0}) P T → OwnHas (AreAllowed (Unit {0}) P T) o → HasHead o → IsTold P T
+reply_of_own : (P : PlainPolicy) (T : Trace) (o : Own) → IsSoundIf ⊤ P T → OwnHas (AreAllowed ⊤ P T) o → HasHead o → IsTold P T
     → IsTrue (changes (own_reply P T o)) → IsReply (own_reply P T o)
 reply_of_own P T (refuse r) sound allowed head h changing = tt
 reply_of_own P T (tell reply) sound allowed (tells none) h changing = absurd (let no : false ≡ true = sym none ∙ changing in (cc no))
 reply_of_own P T (make head actions) sound (makes allowed) (heads_it spelled) h changing =
     let U : Trace = extended T actions in
-    let after : IsSoundIf (Unit {0}) P U = sound-extended (Unit {0}) P T actions sound allowed in
-    (spelled, revoked_labelled P U (settle P U) after (allowed-settle (Unit {0}) P U after) (told_extended P T actions allowed h))
+    let after : IsSoundIf ⊤ P U = sound-extended ⊤ P T actions sound allowed in
+    (spelled, revoked_labelled P U (settle P U) after (allowed-settle ⊤ P U after) (told_extended P T actions allowed h))
 
 pub spelled_reply : (text : Bytes) (P : PlainPolicy) → Spells text P → IsTyped P → (H : History) → AreCommands H → (caller : Caller) (c : Command) → IsCommand c
     → IsTrue (changes (said P H caller c)) → IsReply (said P H caller c)
 spelled_reply text P spells typed H commands caller c command changing =
     let T : Trace = trace P H in
-    let sound : IsSoundIf (Unit {0}) P T = sound_after (Unit {0}) P H (λ sure. typed) (λ sure. commands) in
+    let sound : IsSoundIf ⊤ P T = sound_after ⊤ P H (λ sure. typed) (λ sure. commands) in
     let told = told_after text P spells typed H commands in
-    reply_of_own P T (own P T caller c) sound (allowed-own (Unit {0}) P T caller c (λ sure. command) sound) (own_head P T caller c command told) told changing
+    reply_of_own P T (own P T caller c) sound (allowed-own ⊤ P T caller c (λ sure. command) sound) (own_head P T caller c command told) told changing

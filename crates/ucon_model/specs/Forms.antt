@@ -1,5 +1,5 @@
 -- Forms of a grammar: what may be written, its tokens, and what it stands for.
-use Rattle.std.specs.Prelude.{ℕ, zero, suc, ℤ, nat_lt, if◌then◌else◌, List, [], ◌∷◌, ◌++◌, Option, Some, None}
+use Rattle.std.specs.Prelude.{ℕ, zero, suc, ℤ, nat_lt, if◌then◌else◌, List, [], ◌∷◌, ◌++◌, Option, Some, None, ⊤}
 use Rattle.std.proofs.Common.{◌⊎◌, inl, inr}
 use Rattle.ucon_model.specs.Plain.{Bytes}
 use Rattle.ucon_base.specs.Elements.{Each}
@@ -47,7 +47,7 @@ pub record Form (A : Type 0) : Type 1 where
 
 -- no token
 abbrev pub nothing : {A : Type 0} → A → Form A
-nothing x = record { Written = Unit {0}; tokens = λ s. []; tree = λ s. x; IsProper = λ s. Unit {0} }
+nothing x = record { Written = ⊤; tokens = λ s. []; tree = λ s. x; IsProper = λ s. ⊤ }
 
 -- what nobody can write
 abbrev pub no_form : {A : Type 0} → Form A
@@ -122,7 +122,7 @@ chain token join X = and_then X (λ x. further token join X 1 x)
 
 -- so many items, one after the other, each of a form that may depend on what was counted before
 abbrev pub Items : {N A : Type 0} → (N → Form A) → (N → A → N) → ℕ → N → Type 0
-Items each count zero n = Unit {0}
+Items each count zero n = ⊤
 Items each count (suc k) n = (s : (each n).Written) × Items each count k (count n ((each n).tree s))
 
 abbrev pub items_tokens : {N A : Type 0} → (each : N → Form A) → (count : N → A → N) → (k : ℕ) → (n : N) → Items each count k n → List Marked
@@ -134,7 +134,7 @@ items_tree each count zero n s = []
 items_tree each count (suc k) n s = (each n).tree s.0 ∷ items_tree each count k (count n ((each n).tree s.0)) s.1
 
 abbrev pub AreProperItems : {N A : Type 0} → (each : N → Form A) → (count : N → A → N) → (k : ℕ) → (n : N) → Items each count k n → Type 0
-AreProperItems each count zero n s = Unit {0}
+AreProperItems each count zero n s = ⊤
 AreProperItems each count (suc k) n s = (each n).IsProper s.0 × AreProperItems each count k (count n ((each n).tree s.0)) s.1
 
 abbrev pub listed : {N A : Type 0} → (N → Form A) → (N → A → N) → N → Form (List A)
@@ -164,6 +164,6 @@ bare (m ∷ ms) = as_token m.0 ∷ bare ms
 
 -- no token passes a limit
 abbrev pub IsClean : List Marked → Type 0
-IsClean [] = Unit {0}
+IsClean [] = ⊤
 IsClean ((t, None) ∷ ms) = IsClean ms
 IsClean ((t, Some limit) ∷ ms) = ⊥

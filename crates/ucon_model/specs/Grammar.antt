@@ -1,5 +1,5 @@
 -- The grammar of policies.
-use Rattle.std.specs.Prelude.{◌≡◌, ℕ, zero, suc, ◌+◌, ℤ, neg_ℤ, true, List, [], ◌∷◌, ◌++◌, take, Option, Some, None, codes}
+use Rattle.std.specs.Prelude.{◌≡◌, ℕ, zero, suc, ◌+◌, ℤ, neg_ℤ, true, List, [], ◌∷◌, ◌++◌, take, Option, Some, None, codes, ⊤}
 use Rattle.ucon_base.specs.NameBytes.{is_name}
 use Rattle.ucon_base.specs.Value.{is_rising}
 use Rattle.ucon_base.specs.declared.value.Side.{Side}
@@ -37,13 +37,13 @@ sign s = clear (symbol s)
 
 -- NAME, NUMBER, TEXT
 abbrev pub a_name : Form Bytes
-a_name = one_of word (λ n. None) (λ n. Unit {0})
+a_name = one_of word (λ n. None) (λ n. ⊤)
 
 abbrev pub a_number : Form ℤ
-a_number = one_of number (λ n. None) (λ n. Unit {0})
+a_number = one_of number (λ n. None) (λ n. ⊤)
 
 abbrev pub a_text : Form Bytes
-a_text = one_of text (λ t. None) (λ t. Unit {0})
+a_text = one_of text (λ t. None) (λ t. ⊤)
 
 -- a text that is a name
 abbrev pub a_named_text : Form Bytes
@@ -110,7 +110,7 @@ sum_tree subtracting a b = minus a b
 
 -- term = factor { "*" factor }
 abbrev pub term_with : Form PlainExpr → Form PlainExpr
-term_with factor = chain (λ (o : Unit {0}). symbol star) (λ o a b. times a b) factor
+term_with factor = chain (λ (o : ⊤). symbol star) (λ o a b. times a b) factor
 
 -- expr = term { ("+" | "-") term }
 abbrev pub expr_with : Form PlainExpr → Form PlainExpr
@@ -141,7 +141,7 @@ op_token ops.Ge = symbol at_least_sign
 op_token ops.Member = word (codes "in")
 
 abbrev pub an_op : Form Op
-an_op = one_of op_token (λ op. None) (λ op. Unit {0})
+an_op = one_of op_token (λ op. None) (λ op. ⊤)
 
 -- expr op expr
 abbrev pub comparison_of : Form PlainExpr → Form PlainFormula
@@ -149,11 +149,11 @@ comparison_of expr = and_then expr (λ a. and_then an_op (λ op. mapped (λ b. c
 
 -- conj = unit { "and" unit }
 abbrev pub conj_with : Form PlainFormula → Form PlainFormula
-conj_with unit = chain (λ (o : Unit {0}). word (codes "and")) (λ o f g. both f g) unit
+conj_with unit = chain (λ (o : ⊤). word (codes "and")) (λ o f g. both f g) unit
 
 -- formula = conj { "or" conj }
 abbrev pub formula_with : Form PlainFormula → Form PlainFormula
-formula_with unit = chain (λ (o : Unit {0}). word (codes "or")) (λ o f g. either f g) (conj_with unit)
+formula_with unit = chain (λ (o : ⊤). word (codes "or")) (λ o f g. either f g) (conj_with unit)
 
 -- unit = "not" unit | "[" formula "]" | "lasts" NUMBER | expr op expr, where so many levels are left, and inner is a unit one
 -- level below
@@ -186,7 +186,7 @@ side_token sides.Subject = word (codes "s")
 side_token sides.Object = word (codes "o")
 
 abbrev pub a_side : Form Side
-a_side = one_of side_token (λ side. None) (λ side. Unit {0})
+a_side = one_of side_token (λ side. None) (λ side. ⊤)
 
 -- how many stand before, of each side
 pub record SideCount : Type 0 where
@@ -204,7 +204,7 @@ count_side n sides.Object = record { subject = n.subject; object = n.object + 1 
 -- attr = "attr" side NAME ":" kind "=" literal ";", the 17th of its side marked at its side word
 abbrev pub an_attr : SideCount → Form AttrDecl
 an_attr n =
-    before (keyword (codes "attr")) (and_then (one_of side_token (λ side. beyond item 16 (of_side n side)) (λ side. Unit {0})) (λ side.
+    before (keyword (codes "attr")) (and_then (one_of side_token (λ side. beyond item 16 (of_side n side)) (λ side. ⊤)) (λ side.
     and_then a_name (λ name. before (sign colon) (and_then a_kind (λ kind. before (sign equal_sign) (and_then a_literal (λ start.
     before (sign semicolon) (nothing (record { side = side; name = name; kind = kind; start = start })))))))))
 
@@ -266,7 +266,7 @@ labelled phase a_test =
 -- pred = ("pre" | "on") ( ("a" | "c") NAME ":" formula | "b" NAME ":" duty ) ";", the 17th of its phase marked at its first word
 abbrev pub a_pred : PhaseCount → Form PlainPredicate
 a_pred n =
-    and_then (one_of phase_token (λ phase. beyond item 16 (of_phase n phase)) (λ phase. Unit {0})) (λ phase.
+    and_then (one_of phase_token (λ phase. beyond item 16 (of_phase n phase)) (λ phase. ⊤)) (λ phase.
     either_of (before (keyword (codes "a")) (labelled phase (mapped (λ f. authorisation f) a_formula)))
     (either_of (before (keyword (codes "b")) (labelled phase (mapped (λ o. duty o) a_duty)))
     (before (keyword (codes "c")) (labelled phase (mapped (λ f. condition f) a_formula)))))
@@ -305,7 +305,7 @@ count_when n whens.AfterRevoke = record n { after_revoke = n.after_revoke + 1 }
 -- first word
 abbrev pub an_update : WhenCount → Form PlainUpdate
 an_update n =
-    and_then (one_of when_token (λ when. beyond item 16 (of_when n when)) (λ when. Unit {0})) (λ when.
+    and_then (one_of when_token (λ when. beyond item 16 (of_when n when)) (λ when. ⊤)) (λ when.
     and_then a_side (λ side. before (sign dot) (and_then a_name (λ attr. before (sign equal_sign) (and_then an_expr (λ value.
     before (sign semicolon) (nothing (record { when = when; side = side; attr = attr; value = value }))))))))
 

@@ -1,5 +1,5 @@
 -- Histories: what was done, by whom, and what it led to.
-use Rattle.std.specs.Prelude.{◌≡◌, ℕ, Bool, true, false, IsTrue, ◌++◌, List, [], ◌∷◌, length, if◌then◌else◌}
+use Rattle.std.specs.Prelude.{◌≡◌, ℕ, Bool, true, false, IsTrue, ◌++◌, List, [], ◌∷◌, length, if◌then◌else◌, ⊤}
 use Rattle.ucon_model.specs.declared.command.Caller.{Caller}
 use Rattle.ucon_model.specs.declared.command.Command.{Command}
 use Rattle.ucon_model.specs.declared.command.Entry.{Entry}
@@ -51,7 +51,7 @@ serial P H (e ∷ lines) = (length (grown P H e), said P H e.caller e.command) �
 
 -- from a history on, each entry's reply changes something
 abbrev pub IsProperFrom : PlainPolicy → History → History → Type 0
-IsProperFrom P H [] = Unit {0}
+IsProperFrom P H [] = ⊤
 IsProperFrom P H (e ∷ rest) = IsTrue (changes (said P H e.caller e.command)) × IsProperFrom P (H ++ e ∷ []) rest
 
 -- each entry's reply, after the entries before it, changes something

@@ -1,6 +1,6 @@
 -- Which action may follow a trace. The transitions of a session are those of the formal model (Zhang, Parisi-Presicce, Sandhu and Park,
 -- ACM TISSEC 8(4), 2005); numbers, labels, limits and the order of revocations are this project's own.
-use Rattle.std.specs.Prelude.{◌≡◌, ◌⊎◌, ℕ, ◌+◌, ◌<◌, ◌≤◌, ◌≤ℤ◌, IsTrue, IsFalse, IsSome, IsSomeAnd, None, Some, List, [], ◌∷◌, ◌++◌}
+use Rattle.std.specs.Prelude.{◌≡◌, ◌⊎◌, ℕ, ◌+◌, ◌<◌, ◌≤◌, ◌≤ℤ◌, IsTrue, IsFalse, IsSome, IsSomeAnd, None, Some, List, [], ◌∷◌, ◌++◌, ⊤}
 use Rattle.ucon_base.specs.declared.value.Side.TheVariants as sides
 use Rattle.ucon_base.specs.Admits.{admits}
 use Rattle.ucon_model.specs.declared.session.SessionState.TheVariants.{Requesting, Accessing}
@@ -48,12 +48,12 @@ IsLegal P T (amend text Q) = Spells text Q × IsTyped Q × MayFollow (in_force P
 
 -- each of these actions is legal after the trace and those before it
 abbrev pub AreLegal : PlainPolicy → Trace → List Action → Type 0
-AreLegal P T [] = Unit {0}
+AreLegal P T [] = ⊤
 AreLegal P T (a ∷ actions) = IsLegal P T a × AreLegal P (a ∷ T) actions
 
 -- each revocation among these actions is legal after the trace and the actions before it
 abbrev pub RevocationsAreLegal : PlainPolicy → Trace → List Action → Type 0
-RevocationsAreLegal P T [] = Unit {0}
+RevocationsAreLegal P T [] = ⊤
 RevocationsAreLegal P T (revoke n label ∷ actions) = IsLegal P T (revoke n label) × RevocationsAreLegal P (revoke n label ∷ T) actions
 RevocationsAreLegal P T (a ∷ actions) = RevocationsAreLegal P (a ∷ T) actions
 

@@ -1,5 +1,5 @@
 -- Legal runs: which answers the lines of a run may have.
-use Rattle.std.specs.Prelude.{◌≡◌, ℕ, ◌+◌, ◌-◌, ◌≤◌, Bool, true, false, IsTrue, nat_eq, nat_le, List, [], ◌∷◌, ◌++◌, length, take, map, count_by}
+use Rattle.std.specs.Prelude.{◌≡◌, ℕ, ◌+◌, ◌-◌, ◌≤◌, Bool, true, false, IsTrue, nat_eq, nat_le, List, [], ◌∷◌, ◌++◌, length, take, map, count_by, ⊤}
 use Rattle.std.specs.Prelude.{if◌then◌else◌}
 use Rattle.std.specs.List.{list_any}
 use Rattle.ucon_base.specs.Elements.{Each}
@@ -52,7 +52,7 @@ history_made G told = G ++ map (λ x. x.1) (by_place (recorded told))
 
 -- the places are those after this one, each once
 abbrev pub AreNumberedFrom : ℕ → List (ℕ × Entry) → Type 0
-AreNumberedFrom n [] = Unit {0}
+AreNumberedFrom n [] = ⊤
 AreNumberedFrom n (x ∷ xs) = (x.0 ≡ n + 1) × AreNumberedFrom (n + 1) xs
 
 -- how many entries a reply stands on: those before its place if it changes something, and those up to it if it doesn't
@@ -64,24 +64,24 @@ abbrev pub IsSaid : PlainPolicy → ℕ → History → Entry → Answer → Typ
 IsSaid P opening H line (placed place reply) =
     (opening ≤ stands_on place reply) × (stands_on place reply ≤ length H)
     × (reply ≡ said P (take (stands_on place reply) H) line.caller line.command)
-IsSaid P opening H line no_memory = Unit {0}
-IsSaid P opening H line disk_fault = Unit {0}
-IsSaid P opening H line stopped = Unit {0}
+IsSaid P opening H line no_memory = ⊤
+IsSaid P opening H line disk_fault = ⊤
+IsSaid P opening H line stopped = ⊤
 
 -- a later reply stands on all that an earlier one told
 abbrev pub Saw : Answer → Answer → Type 0
 Saw (placed place reply) (placed later more) = place ≤ stands_on later more
-Saw earlier later = Unit {0}
+Saw earlier later = ⊤
 
 -- after a disk fault, and after being stopped, a line is stopped
 abbrev pub StaysStopped : Answer → Answer → Type 0
 StaysStopped disk_fault later = later ≡ stopped
 StaysStopped stopped later = later ≡ stopped
-StaysStopped earlier later = Unit {0}
+StaysStopped earlier later = ⊤
 
 -- each answer follows the earlier ones that its caller saw
 abbrev pub AreInOrder : (Caller → Caller → Bool) → List Answered → Type 0
-AreInOrder sees [] = Unit {0}
+AreInOrder sees [] = ⊤
 AreInOrder sees (t ∷ told) =
     Each (λ later. IsTrue (sees t.line.caller later.line.caller) → Saw t.answer later.answer × StaysStopped t.answer later.answer) told
     × AreInOrder sees told
@@ -128,7 +128,7 @@ history_after H line a = H
 
 -- out of memory, or the serial run's reply at its place
 abbrev pub IsNext : PlainPolicy → History → Entry → Answer → Type 0
-IsNext P H line no_memory = Unit {0}
+IsNext P H line no_memory = ⊤
 IsNext P H line (placed place reply) =
     (reply ≡ said P H line.caller line.command) × (place ≡ length (history_after H line (placed place reply)))
 IsNext P H line disk_fault = ⊥
@@ -136,5 +136,5 @@ IsNext P H line stopped = ⊥
 
 -- each answer is the next after those before it
 abbrev pub IsSerialRun : PlainPolicy → History → List Answered → Type 0
-IsSerialRun P H [] = Unit {0}
+IsSerialRun P H [] = ⊤
 IsSerialRun P H (t ∷ told) = IsNext P H t.line t.answer × IsSerialRun P (history_after H t.line t.answer) told

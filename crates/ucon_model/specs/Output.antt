@@ -1,5 +1,5 @@
 -- The output of a run, and how its answers are read from it.
-use Rattle.std.specs.Prelude.{◌≡◌, ◌<◌, ◌^◌, false, ℕ, ◌==◌, List, [], ◌∷◌, ◌++◌, Option, Some, None, option_map, option_and_then, codes}
+use Rattle.std.specs.Prelude.{◌≡◌, ◌<◌, ◌^◌, false, ℕ, ◌==◌, List, [], ◌∷◌, ◌++◌, Option, Some, None, option_map, option_and_then, codes, ⊤}
 use Rattle.std.specs.Prelude.{if◌then◌else◌}
 use Rattle.std.specs.Fmt.{decimal}
 use Rattle.std.specs.Str.{bytes_eq}
@@ -36,7 +36,7 @@ Lacks byte text = Each (λ b. (b == byte) ≡ false) text
 -- what fits its line: a place below 2^64, and a reply whose text has no newline and is read back as it
 abbrev pub FitsLine : Answer → Type 0
 FitsLine (placed place reply) = (place < 2 ^ 64) × Lacks 10 (reply_spelling reply) × (reply_read (reply_spelling reply) ≡ Some reply)
-FitsLine a = Unit {0}
+FitsLine a = ⊤
 
 -- ---- what is read
 

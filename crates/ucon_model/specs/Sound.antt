@@ -1,5 +1,5 @@
 -- What holds of the traces of histories under a well typed policy, as far as it can be read off a trace.
-use Rattle.std.specs.Prelude.{◌≡◌, ℕ, ℤ, ◌<◌, ◌≤ℤ◌, Option, Some, None, IsTrue}
+use Rattle.std.specs.Prelude.{◌≡◌, ℕ, ℤ, ◌<◌, ◌≤ℤ◌, Option, Some, None, IsTrue, ⊤}
 use Rattle.ucon_base.specs.declared.value.Side.TheVariants.{Subject, Object}
 use Rattle.ucon_model.specs.declared.session.SessionRow.{SessionRow}
 use Rattle.ucon_model.specs.Plain.{Bytes, PlainPolicy}
@@ -14,7 +14,7 @@ pub record IsNumbered (T : Trace) : Type 0 where
 
 -- the session's subject and object are there, if it is there itself
 abbrev pub IsGrounded : Trace → Option SessionRow → Type 0
-IsGrounded T None = Unit {0}
+IsGrounded T None = ⊤
 IsGrounded T (Some row) = IsTrue (has_entity Subject row.subject T) × IsTrue (has_entity Object row.object T)
 
 -- no act was done after the tick

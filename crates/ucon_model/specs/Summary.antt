@@ -1,5 +1,5 @@
 -- The replies of a run in the order of its text, and their summary.
-use Rattle.std.specs.Prelude.{◌≡◌, ℕ, ◌+◌, List, [], ◌∷◌, ◌++◌, length, Option, Some, None, codes}
+use Rattle.std.specs.Prelude.{◌≡◌, ℕ, ◌+◌, List, [], ◌∷◌, ◌++◌, length, Option, Some, None, codes, ⊤}
 use Rattle.std.specs.Fmt.{decimal}
 use Rattle.ucon_model.specs.declared.command.Entry.{Entry}
 use Rattle.ucon_model.specs.declared.reply.Head.{Head}
@@ -30,12 +30,12 @@ history_behind P H e (Some r) = grown P H e
 
 -- a reply is what is said after the history, at its place
 abbrev pub IsReplyNext : PlainPolicy → History → Entry → Option (ℕ × PlainReply) → Type 0
-IsReplyNext P H e None = Unit {0}
+IsReplyNext P H e None = ⊤
 IsReplyNext P H e (Some r) = (r.0 ≡ length (grown P H e)) × (r.1 ≡ said P H e.caller e.command)
 
 -- each reply is what is said after those before it
 abbrev pub IsReplyRun : PlainPolicy → History → List LineReply → Type 0
-IsReplyRun P H [] = Unit {0}
+IsReplyRun P H [] = ⊤
 IsReplyRun P H (t ∷ told) = IsReplyNext P H t.line t.reply × IsReplyRun P (history_behind P H t.line t.reply) told
 
 -- the one run in which there is memory for each line

@@ -1,5 +1,5 @@
 -- When a policy is well typed, and its first fault if it isn't.
-use Rattle.std.specs.Prelude.{ℕ, ◌+◌, ◌<◌, ◌≤◌, int_le, nat_lt, Bool, true, false, ◌&&◌, ◌||◌, not, List, [], ◌∷◌, ◌++◌, length, find, codes, Option}
+use Rattle.std.specs.Prelude.{ℕ, ◌+◌, ◌<◌, ◌≤◌, int_le, nat_lt, Bool, true, false, ◌&&◌, ◌||◌, not, List, [], ◌∷◌, ◌++◌, length, find, codes, Option, ⊤}
 use Rattle.std.specs.Prelude.{Some, None, is_some, is_none, option_map, IsTrue, if◌then◌else◌}
 use Rattle.std.specs.Option.{option_or}
 use Rattle.std.specs.List.{list_any}
@@ -280,5 +280,5 @@ NamesItem first end (twice name n) = (first ≤ n) × (n < end)
 NamesItem first end (no_name name n) = (first ≤ n) × (n < end)
 NamesItem first end (wrong_reader n) = (first ≤ n) × (n < end)
 NamesItem first end (wrong_kind n) = (first ≤ n) × (n < end)
-NamesItem first end (not_core right) = Unit {0}
-NamesItem first end (too_many_cells right count) = Unit {0}
+NamesItem first end (not_core right) = ⊤
+NamesItem first end (too_many_cells right count) = ⊤

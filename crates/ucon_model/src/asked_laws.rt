@@ -14,7 +14,7 @@ ghost use Rattle.ucon_model.specs.Updates.{result as trace_result};
 ghost use Rattle.ucon_model.specs.Asked.{truth_at, result_at, result_read, makes_no_set_at};
 ghost use Rattle.ucon_model.specs.Sums.{tests_make_no_set};
 
-use crate::{places_hold_their_sorts, tests_are_typed};
+use crate::laws::{places_hold_their_sorts, tests_are_typed};
 
 /// Over the readings of a trace, an update's result is the trace's.
 pub fn results_are_those_of_the_trace()

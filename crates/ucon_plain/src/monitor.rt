@@ -1,6 +1,6 @@
 //! The plain monitor.
 
-ghost use Rattle.std.specs.Prelude.{◌≡◌, ◌↔◌, List, IfOk, OnOk, OnErr};
+ghost use Rattle.std.specs.Prelude.{◌≡◌, ◌↔◌, List, IfOk, OnOk, OnErr, ⊤};
 ghost use Rattle.ucon_model.specs.Action.{Action, Trace};
 ghost use Rattle.ucon_model.specs.Block.{after, block, reply as reply_to};
 ghost use Rattle.ucon_model.specs.CommandLine.{IsCommand};
@@ -38,7 +38,7 @@ impl Engine for PlainMonitor {
     ghost has_pending = { HasPending };
 
     // It may judge as often as it likes.
-    ghost costs = { λ _ _ _ _ _ _. Unit {0} };
+    ghost costs = { λ _ _ _ _ _ _. ⊤ };
 
     fn begin(alloc: Global, checked: Checked) -> Result<PlainMonitor, NoMemory> {
         each_action_is_followed();

@@ -1,5 +1,5 @@
 -- When the rows of what is there can be put, one after the other.
-use Rattle.std.specs.Prelude.{◌≡◌, ℕ, zero, suc, ◌<◌, ◌≤◌, ◌≤ℤ◌, ℤ, pos, Bool, ◌&&◌, List, [], ◌∷◌, ◌++◌, length, take, find, position, Option, Some}
+use Rattle.std.specs.Prelude.{◌≡◌, ℕ, zero, suc, ◌<◌, ◌≤◌, ◌≤ℤ◌, ℤ, pos, Bool, ◌&&◌, List, [], ◌∷◌, ◌++◌, length, take, find, position, Option, Some, ⊤}
 use Rattle.std.specs.Prelude.{None, IsSome, IsSomeAnd, IsTrue, slice_get, unwrap_or}
 use Rattle.std.specs.Str.{bytes_eq}
 use Rattle.ucon_base.specs.declared.value.Side.{Side}
@@ -48,7 +48,7 @@ sessions_to session (suc n) = sessions_to session n ++ one_session (session (suc
 -- where it is accessing, fewer than 65,536 of those before it are
 abbrev pub HasRoomBehind : List SessionRow → SessionState → Type 0
 HasRoomBehind before Accessing = accessing_among before < 65536
-HasRoomBehind before state = Unit {0}
+HasRoomBehind before state = ⊤
 
 -- a session's entities are there, it started by now, and it has no start if it was never permitted
 pub record IsSessionInOrder (h : Held) (n : ℕ) (row : SessionRow) : Type 0 where

@@ -1,5 +1,5 @@
 -- What the rows of a checkpoint make, one after the other: which row may come, and what the tables are with it.
-use Rattle.std.specs.Prelude.{◌≡◌, ℕ, zero, ◌-◌, ◌<◌, ℤ, pos, int_le, nat_lt, Bool, true, false, ◌&&◌, is_some, is_none, List, [], ◌∷◌, length}
+use Rattle.std.specs.Prelude.{◌≡◌, ℕ, zero, ◌-◌, ◌<◌, ℤ, pos, int_le, nat_lt, Bool, true, false, ◌&&◌, is_some, is_none, List, [], ◌∷◌, length, ⊤}
 use Rattle.std.specs.Prelude.{Option, Some, None, IsSomeAnd, option_and_then, if◌then◌else◌}
 use Rattle.std.specs.Option.{option_map_or}
 use Rattle.ucon_base.specs.declared.value.Side.{Side}
@@ -129,10 +129,10 @@ standing r s = record { reached = r; tables = (shown s).tables }
 abbrev pub HasLast : Stage → Tables → Type 0
 HasLast Subjects t = 0 < length t.subjects
 HasLast Objects t = 0 < length t.objects
-HasLast stage t = Unit {0}
+HasLast stage t = ⊤
 
 -- a value is what its declaration admits, and the entity of an attribute is there
 abbrev pub Fits : PlainPolicy → Stage → Tables → Row → Type 0
 Fits Q stage t (Variable name v) = VariableAdmits Q name v
 Fits Q stage t (Attribute attr v) = AttributeAdmits Q (side_of stage) attr v × (0 < length (entities_of (side_of stage) t))
-Fits Q stage t row = Unit {0}
+Fits Q stage t row = ⊤

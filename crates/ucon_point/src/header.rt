@@ -9,7 +9,7 @@ ghost use Rattle.ucon_point.specs.Faults.{IsBadAt};
 ghost use Rattle.ucon_point.specs.PointRead.{behind, behind_newline, counted, from_zero, line_at, policy_at, policy_told, text_at, tick_read};
 
 use crate::fault::PointFault;
-use crate::{count_in, cut_at};
+use crate::words::{count_in, cut_at};
 use std::alloc::Global;
 use ucon_base::{Int, NoMemory, Rows};
 use ucon_check::check;

@@ -18,7 +18,7 @@ ghost use Rattle.ucon_state.specs.Held.{Held, held_after, held_in};
 ghost use Rattle.ucon_state.specs.Shown.{Shown};
 ghost use Rattle.ucon_point.specs.PointRead.{IsPoint, Said, is_whole, point_read, point_spelling};
 
-use crate::{numbers_are_read_back, rows_are_read_back};
+use crate::row_laws::{numbers_are_read_back, rows_are_read_back};
 use ucon_model::{texts_lack_bytes, usages_are_few};
 use ucon_state::{
     each_action_is_followed, states_hold_what_they_follow, tables_keep_the_trace,

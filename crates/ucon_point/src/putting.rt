@@ -10,7 +10,8 @@ ghost use Rattle.ucon_state.specs.Putting.{with_act_row};
 ghost use Rattle.ucon_state.specs.Shown.{changed_to, shown};
 ghost use Rattle.ucon_state.specs.Tables.{entities_of};
 
-use crate::{Row, Stage};
+use crate::order::Stage;
+use crate::row::Row;
 use ucon_base::{Name, NoMemory, Side, Value};
 use ucon_model::SessionRow;
 use ucon_state::{ActRow, State};

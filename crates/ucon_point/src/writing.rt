@@ -11,7 +11,7 @@ ghost use Rattle.ucon_state.specs.Following.{Follows};
 ghost use Rattle.ucon_state.specs.Held.{held, held_after};
 ghost use Rattle.ucon_state.specs.Shown.{shown};
 
-use crate::{put_act, put_entity, put_session, put_value};
+use crate::lines::{put_act, put_entity, put_session, put_value};
 use std::alloc::Global;
 use ucon_base::{Int, Name, NoMemory, Side, put, put_integer, put_number};
 use ucon_model::{AttrDecl, View};

@@ -1,6 +1,6 @@
 -- Declarations are read as they are printed.
 use Rattle.std.proofs.Common.{ℕ, ◌<◌, [], ◌∷◌, ◌++◌, None, refl, subst, arith, append_assoc}
-use Rattle.std.specs.Prelude.{codes}
+use Rattle.std.specs.Prelude.{codes, ⊤}
 use Rattle.std.specs.Fmt.{signed_decimal}
 use Rattle.std.proofs.lemmas.List.{append-nil}
 use Rattle.ucon_base.specs.Spelling.{IsValue, side_word}
@@ -179,7 +179,7 @@ side_puts sides.Object = word_puts (codes "o") o_word
 
 module _ (n : SideCount) where
   abbrev sided : Form Side
-  sided = one_of side_token (λ side. beyond item 16 (of_side n side)) (λ side. Unit {0})
+  sided = one_of side_token (λ side. beyond item 16 (of_side n side)) (λ side. ⊤)
 
   abbrev named_attr : Side → Bytes → Form AttrDecl
   named_attr side name = declared (λ kind start. record { side = side; name = name; kind = kind; start = start })
@@ -190,7 +190,7 @@ module _ (n : SideCount) where
       same_printed Any (grammar.an_attr n) a (codes "attr " ++ (side_word a.side ++ (32 ∷ (a.name ++ bs)))) (attr_printing a) (in_row_5 (codes "attr ") (side_word a.side) (codes " ") a.name bs)
       (before_printed Any Any (word (codes "attr")) None (and_then sided (λ side. and_then grammar.a_name (named_attr side))) a (codes "attr ") (side_word a.side ++ (32 ∷ (a.name ++ bs))) refl (word_blank (codes "attr") attr_word)
       (and_then_printed Any Ends sided (λ side. and_then grammar.a_name (named_attr side)) a.side a (side_word a.side) (32 ∷ (a.name ++ bs))
-      (one_printed Ends side_token (λ side. beyond item 16 (of_side n side)) (λ side. Unit {0}) a.side (side_word a.side) (side_puts a.side) (not_beyond item 16 (of_side n a.side) less) tt)
+      (one_printed Ends side_token (λ side. beyond item 16 (of_side n side)) (λ side. ⊤) a.side (side_word a.side) (side_puts a.side) (not_beyond item 16 (of_side n a.side) less) tt)
       (blank_printed Any (and_then grammar.a_name (named_attr a.side)) a (a.name ++ bs) (32 ∷ []) blank_puts
       (and_then_printed Any Ends grammar.a_name (named_attr a.side) a.name a a.name bs (name_printed a.name is.name)
       (declared_printed (λ kind start. record { side = a.side; name = a.name; kind = kind; start = start }) a.kind a.start is.kind is.start)

@@ -1,6 +1,6 @@
 -- Duties, predicates, updates and rights are read as they are printed.
 use Rattle.std.proofs.Common.{◌≡◌, ℕ, pos, negsuc, ◌<◌, ◌≤◌, Bool, true, false, ◌||◌, ◌&&◌, eqb, [], ◌∷◌, ◌++◌, Option, Some, None, decimal, refl, sym, subst, arith, append_assoc, ◌⊎◌, inl, inr}
-use Rattle.std.specs.Prelude.{codes, nat_le}
+use Rattle.std.specs.Prelude.{codes, nat_le, ⊤}
 use Rattle.std.specs.List.{list_all}
 use Rattle.std.proofs.lemmas.Bool.{and_parts, and_from, le-leb, leb-true, eqb-true, ne_eqb}
 use Rattle.ucon_base.specs.NameBytes.{is_name, is_letter, is_word_byte}
@@ -228,8 +228,8 @@ pub predicate_printed : (n : PhaseCount) (p : PlainPredicate) → of_phase n p.p
 predicate_printed n p less is =
     let bs = letter_printing p.test ++ label_printing p.label (test_printing p.test) in
     same_printed Any (grammar.a_pred n) p (phase_printing p.phase ++ bs) (predicate_printing p) (in_row_7 (phase_printing p.phase) (letter_printing p.test) p.label (codes ": ") (test_printing p.test) (codes ";") (10 ∷ []))
-    (and_then_printed Any Any (one_of phase_token (λ phase. beyond item 16 (of_phase n phase)) (λ phase. Unit {0})) behind_phase p.phase p (phase_printing p.phase) bs
-    (one_printed Any phase_token (λ phase. beyond item 16 (of_phase n phase)) (λ phase. Unit {0}) p.phase (phase_printing p.phase) (phase_puts p.phase) (not_beyond item 16 (of_phase n p.phase) less) tt)
+    (and_then_printed Any Any (one_of phase_token (λ phase. beyond item 16 (of_phase n phase)) (λ phase. ⊤)) behind_phase p.phase p (phase_printing p.phase) bs
+    (one_printed Any phase_token (λ phase. beyond item 16 (of_phase n phase)) (λ phase. ⊤) p.phase (phase_printing p.phase) (phase_puts p.phase) (not_beyond item 16 (of_phase n p.phase) less) tt)
     (test_printed p.phase p.label p.test is.label is.test)
     (λ rest e. tt))
 
@@ -262,10 +262,10 @@ update_printed n u less is =
     let behind_name = codes " = " ++ (value ++ (59 ∷ 10 ∷ [])) in
     let behind = codes "." ++ (u.attr ++ behind_name) in
     same_printed Any (grammar.an_update n) u (when_printing u.when ++ (side_word u.side ++ behind)) (update_printing u) (in_row_8 (when_printing u.when) (side_word u.side) (codes ".") u.attr (codes " = ") value (codes ";") (10 ∷ []))
-    (and_then_printed Any Any (one_of when_token (λ when. beyond item 16 (of_when n when)) (λ when. Unit {0})) behind_when u.when u (when_printing u.when) (side_word u.side ++ behind)
-    (one_printed Any when_token (λ when. beyond item 16 (of_when n when)) (λ when. Unit {0}) u.when (when_printing u.when) (when_puts u.when) (not_beyond item 16 (of_when n u.when) less) tt)
+    (and_then_printed Any Any (one_of when_token (λ when. beyond item 16 (of_when n when)) (λ when. ⊤)) behind_when u.when u (when_printing u.when) (side_word u.side ++ behind)
+    (one_printed Any when_token (λ when. beyond item 16 (of_when n when)) (λ when. ⊤) u.when (when_printing u.when) (when_puts u.when) (not_beyond item 16 (of_when n u.when) less) tt)
     (and_then_printed Any Ends grammar.a_side (behind_side u.when) u.side u (side_word u.side) behind
-    (one_printed Ends side_token (λ side. None) (λ side. Unit {0}) u.side (side_word u.side) (side_puts u.side) refl tt)
+    (one_printed Ends side_token (λ side. None) (λ side. ⊤) u.side (side_word u.side) (side_puts u.side) refl tt)
     (before_printed Any AtWord (symbol dot) None (and_then grammar.a_name (behind_attr u.when u.side)) u (codes ".") (u.attr ++ behind_name) refl dot_puts
     (and_then_printed Any Ends grammar.a_name (behind_attr u.when u.side) u.attr u u.attr behind_name (name_printed u.attr is.attr)
     (before_printed Any Any (symbol equal_sign) None (and_then grammar.an_expr (behind_value u.when u.side u.attr)) u (codes " = ") (value ++ (59 ∷ 10 ∷ [])) refl framed_equal

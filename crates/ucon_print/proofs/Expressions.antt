@@ -1,6 +1,6 @@
 -- Expressions are read as they are printed.
 use Rattle.std.proofs.Common.{◌≡◌, ℕ, zero, suc, ◌+◌, ◌<◌, ◌≤◌, [], ◌∷◌, ◌++◌, None, refl, arith, append_assoc}
-use Rattle.std.specs.Prelude.{codes, max}
+use Rattle.std.specs.Prelude.{codes, max, ⊤}
 use Rattle.std.proofs.lemmas.List.{append-nil}
 use Rattle.ucon_base.specs.Spelling.{IsValue}
 use Rattle.ucon_base.specs.declared.value.Value.{Value}
@@ -30,10 +30,10 @@ factor depth room = factor_with room (inner depth room)
 abbrev term : ℕ → ℕ → Form PlainExpr
 term depth room = term_with (factor depth room)
 
-abbrev star_token : Unit {0} → Terminal
+abbrev star_token : ⊤ → Terminal
 star_token o = symbol star
 
-abbrev product_tree : Unit {0} → PlainExpr → PlainExpr → PlainExpr
+abbrev product_tree : ⊤ → PlainExpr → PlainExpr → PlainExpr
 product_tree o a b = times a b
 
 abbrev SumOf : ℕ → ℕ → PlainExpr → ℕ → Bytes → Type 0

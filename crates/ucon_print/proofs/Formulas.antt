@@ -1,6 +1,6 @@
 -- Formulas are read as they are printed.
 use Rattle.std.proofs.Common.{◌≡◌, ℕ, pos, negsuc, zero, suc, ◌+◌, ◌<◌, ◌≤◌, [], ◌∷◌, ◌++◌, None, decimal, refl, arith, append_assoc}
-use Rattle.std.specs.Prelude.{codes, max}
+use Rattle.std.specs.Prelude.{codes, max, ⊤}
 use Rattle.std.proofs.lemmas.List.{append-nil}
 use Rattle.ucon_model.specs.declared.formula.Op.{Op}
 use Rattle.ucon_model.specs.declared.formula.Op.TheVariants as ops
@@ -68,16 +68,16 @@ inner (suc depth) room = unit_of_depth depth (one_less room)
 abbrev comparisons : ℕ → ℕ → Form PlainFormula
 comparisons depth room = comparison_of (expr_of_depth depth room)
 
-abbrev and_token : Unit {0} → Terminal
+abbrev and_token : ⊤ → Terminal
 and_token o = word (codes "and")
 
-abbrev or_token : Unit {0} → Terminal
+abbrev or_token : ⊤ → Terminal
 or_token o = word (codes "or")
 
-abbrev and_tree : Unit {0} → PlainFormula → PlainFormula → PlainFormula
+abbrev and_tree : ⊤ → PlainFormula → PlainFormula → PlainFormula
 and_tree o f g = both f g
 
-abbrev or_tree : Unit {0} → PlainFormula → PlainFormula → PlainFormula
+abbrev or_tree : ⊤ → PlainFormula → PlainFormula → PlainFormula
 or_tree o f g = either f g
 
 abbrev UnitOf : ℕ → ℕ → PlainFormula → Bytes → Type 0
@@ -169,7 +169,7 @@ compare_unit op a b is-a is-b depth room d r =
     (right_printed Ends durations (comparisons depth room) f all
     (and_then_printed Ends Ends expr (λ a. and_then an_op (λ op. mapped (λ b. compare op a b) expr)) a f (expr_printing 0 a) (op_printing op ++ expr_printing 0 b) left
     (and_then_printed Ends Any an_op (λ op. mapped (λ b. compare op a b) expr) op f (op_printing op) (expr_printing 0 b)
-    (one_printed Any op_token (λ op. None) (λ op. Unit {0}) op (op_printing op) (op_puts op) refl tt)
+    (one_printed Any op_token (λ op. None) (λ op. ⊤) op (op_printing op) (op_puts op) refl tt)
     (mapped_printed Ends (λ b. compare op a b) expr b (expr_printing 0 b) right)
     (λ rest e. tt))
     (λ rest e. op_begins op (expr_printing 0 b) rest)))))

@@ -1,6 +1,6 @@
 -- Words, numbers, texts, symbols and literals as they are printed.
 use Rattle.std.proofs.Common.{◌≡◌, ℕ, ℤ, pos, negsuc, suc, ◌+◌, ◌<◌, ◌≤◌, Bool, true, false, cond, not, ◌&&◌, List, [], ◌∷◌, ◌++◌, length, get_or, Option, Some, None, option_map, is_none, decimal, refl, sym, ap, ◌∙◌, subst, arith, length-append, append_assoc}
-use Rattle.std.specs.Prelude.{neg_ℤ, nat_le, nat_lt, position, codes}
+use Rattle.std.specs.Prelude.{neg_ℤ, nat_le, nat_lt, position, codes, ⊤}
 use Rattle.std.specs.List.{list_all, flat_map, position_or_len}
 use Rattle.std.specs.Fmt.{signed_decimal}
 use Rattle.std.proofs.lemmas.Grind.{common_steps}
@@ -68,7 +68,7 @@ pub name_puts : (name : Bytes) → is_name name ≡ true → Puts Ends name (a_w
 name_puts name is = word_puts name (word_of_name name is)
 
 pub name_printed : (name : Bytes) → is_name name ≡ true → Printed Ends grammar.a_name name name
-name_printed name is = one_printed Ends word (λ n. None) (λ n. Unit {0}) name name (name_puts name is) refl tt
+name_printed name is = one_printed Ends word (λ n. None) (λ n. ⊤) name name (name_puts name is) refl tt
 
 -- ---- texts and numbers
 
@@ -82,7 +82,7 @@ pub number_puts : (n : ℕ) → n ≤ 1000000000000000 → Puts Ends (decimal n)
 number_puts n small = record { lexes = λ rest more e l. lexing.number n rest more small (number_ends rest e) (no_word rest e) l }
 
 pub number_printed : (n : ℕ) → n ≤ 1000000000000000 → Printed Ends grammar.a_number (pos n) (decimal n)
-number_printed n small = one_printed Ends number (λ n. None) (λ n. Unit {0}) (pos n) (decimal n) (number_puts n small) refl tt
+number_printed n small = one_printed Ends number (λ n. None) (λ n. ⊤) (pos n) (decimal n) (number_puts n small) refl tt
 
 -- ---- blanks and symbols
 
@@ -241,7 +241,7 @@ literal_printed (values.Text t) is =
     right_printed Ends ints_form (either_of texts_form sets_form) (values.Text t) (quoted t)
     (left_printed Ends texts_form sets_form (values.Text t) (quoted t)
     (mapped_printed Ends (λ t. values.Text t) grammar.a_text t (quoted t)
-    (weaker Any Ends grammar.a_text t (quoted t) (one_printed Any text (λ t. None) (λ t. Unit {0}) t (quoted t) (text_puts t is) refl tt) (λ rest e. tt))))
+    (weaker Any Ends grammar.a_text t (quoted t) (one_printed Any text (λ t. None) (λ t. ⊤) t (quoted t) (text_puts t is) refl tt) (λ rest e. tt))))
 literal_printed (values.Set ts) is =
     right_printed Ends ints_form (either_of texts_form sets_form) (values.Set ts) (set_printing ts)
     (right_printed Ends texts_form sets_form (values.Set ts) (set_printing ts)

@@ -1,4 +1,5 @@
 -- Pieces of printed text against the forms of the grammar: what a piece is read as, whatever follows it.
+use Rattle.std.specs.Prelude.{⊤}
 use Rattle.std.proofs.Common.{◌≡◌, ℕ, zero, suc, ◌<◌, Bool, true, false, ◌||◌, eqb, ltb, List, [], ◌∷◌, ◌++◌, Option, Some, None, refl, sym, ap, ◌∙◌, subst, append_assoc, inl, inr}
 use Rattle.std.proofs.lemmas.Bool.{lt-ltb}
 use Rattle.std.specs.List.{prefix_len, flat_map}
@@ -11,12 +12,12 @@ use Rattle.ucon_print.proofs.Lexing.{Lexes}
 
 -- what may follow a word or a number
 abbrev pub Ends : Bytes → Type 0
-Ends [] = Unit {0}
+Ends [] = ⊤
 Ends (b ∷ bs) = is_word_byte b ≡ false
 
 -- what may follow a symbol or a text
 abbrev pub Any : Bytes → Type 0
-Any bs = Unit {0}
+Any bs = ⊤
 
 ends_word : (rest : Bytes) → Ends rest → prefix_len is_word_byte rest ≡ 0
 ends_word [] e = refl

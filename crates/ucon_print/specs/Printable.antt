@@ -1,5 +1,5 @@
 -- Which policies are read back from their printing.
-use Rattle.std.specs.Prelude.{◌≡◌, ◌≤◌, ℕ, ◌+◌, max, ℤ, pos, negsuc, Bool, true, false, nat_lt, length, Option, Some, None}
+use Rattle.std.specs.Prelude.{◌≡◌, ◌≤◌, ℕ, ◌+◌, max, ℤ, pos, negsuc, Bool, true, false, nat_lt, length, Option, Some, None, ⊤}
 use Rattle.ucon_base.specs.Elements.{Each}
 use Rattle.ucon_base.specs.NameBytes.{is_name}
 use Rattle.ucon_base.specs.Numbers.{InRange}
@@ -100,8 +100,8 @@ IsFormula (lasts n) = IsCount n
 
 abbrev pub IsKind : Kind → Type 0
 IsKind (kinds.Int low high) = InRange low × InRange high
-IsKind kinds.Text = Unit {0}
-IsKind kinds.Set = Unit {0}
+IsKind kinds.Text = ⊤
+IsKind kinds.Set = ⊤
 
 pub record IsAttr (a : AttrDecl) : Type 0 where
   pub name : IsName a.name
@@ -114,12 +114,12 @@ pub record IsEnv (v : EnvDecl) : Type 0 where
   pub start : IsValue v.start
 
 abbrev pub IsDutyForm : Form → Type 0
-IsDutyForm forms.Done = Unit {0}
+IsDutyForm forms.Done = ⊤
 IsDutyForm (forms.Within n) = IsCount n
 IsDutyForm (forms.Every n) = IsCount n
 
 abbrev pub IsParty : Option Bytes → Type 0
-IsParty None = Unit {0}
+IsParty None = ⊤
 IsParty (Some name) = IsName name
 
 pub record IsDuty (o : Obligation) : Type 0 where

@@ -1,6 +1,6 @@
 -- What a generated document says.
 use Rattle.std.proofs.Common.{⊎_elim, ◌≡◌, ℕ, zero, suc, ◌+◌, ◌*◌, ◌<◌, ◌≤◌, ◌^◌, Bool, true, false, cond, List, [], ◌∷◌, ◌++◌, length, map, refl, sym, ap, subst, ◌∙◌, arith, append_assoc, length-append}
-use Rattle.std.specs.Prelude.{Option, Some, None, option_map, unwrap_or, IsOkAnd, not, Result, Ok, Err, codes, nat_lt, ◌==◌}
+use Rattle.std.specs.Prelude.{Option, Some, None, option_map, unwrap_or, IsOkAnd, not, Result, Ok, Err, codes, nat_lt, ◌==◌, ⊤}
 use Rattle.std.specs.List.{list_all}
 use Rattle.std.specs.Fmt.{decimal, digits}
 use Rattle.std.proofs.lemmas.Bool.{and_parts, cases_lt, lt-ltb}
@@ -68,7 +68,7 @@ heading k = codes "client " ++ decimal k
 
 -- of each number below n
 abbrev AllBelow : (ℕ → Type 0) → ℕ → Type 0
-AllBelow P zero = Unit {0}
+AllBelow P zero = ⊤
 AllBelow P (suc n) = AllBelow P n × P n
 
 pick : (P : ℕ → Type 0) (n k : ℕ) → AllBelow P n → k < n → P k

@@ -1,5 +1,5 @@
 -- Traces that could have happened, and what tables keep of one.
-use Rattle.std.specs.Prelude.{◌≡◌, ◌↔◌, ◌⊎◌, ℕ, ℤ, ◌+◌, ◌≤◌, ◌&&◌, List, [], ◌∷◌, length, map, position, Some, is_some, option_and_then, slice_get}
+use Rattle.std.specs.Prelude.{◌≡◌, ◌↔◌, ◌⊎◌, ℕ, ℤ, ◌+◌, ◌≤◌, ◌&&◌, List, [], ◌∷◌, length, map, position, Some, is_some, option_and_then, slice_get, ⊤}
 use Rattle.std.specs.Map.{lookup}
 use Rattle.std.specs.Str.{bytes_eq}
 use Rattle.ucon_base.specs.declared.value.Side.{Side}
@@ -23,7 +23,7 @@ use Rattle.ucon_state.specs.Shown.{Shown}
 
 -- each action of the trace is legal after those before it
 abbrev pub IsLegalTrace : PlainPolicy → Trace → Type 0
-IsLegalTrace P [] = Unit {0}
+IsLegalTrace P [] = ⊤
 IsLegalTrace P (a ∷ T) = IsLegalTrace P T × IsLegal P T a
 
 -- the tables after these actions behind a trace, the first one first

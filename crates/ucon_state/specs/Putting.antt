@@ -1,5 +1,5 @@
 -- What can be put into tables as it stood: acts with their moments, and sessions with their states and starts.
-use Rattle.std.specs.Prelude.{◌≡◌, ℤ, pos, ◌≤ℤ◌, ◌<◌, length, None, IsSome}
+use Rattle.std.specs.Prelude.{◌≡◌, ℤ, pos, ◌≤ℤ◌, ◌<◌, length, None, IsSome, ⊤}
 use Rattle.ucon_base.specs.declared.value.Side.TheVariants as sides
 use Rattle.ucon_model.specs.declared.session.SessionRow.{SessionRow}
 use Rattle.ucon_model.specs.declared.session.SessionState.{SessionState}
@@ -39,12 +39,12 @@ pub record MayPutAct (t : Tables) (row : ActRow) : Type 0 where
 abbrev pub StartsAtZero : SessionState → ℤ → Type 0
 StartsAtZero Requesting start = start ≡ pos 0
 StartsAtZero Denied start = start ≡ pos 0
-StartsAtZero state start = Unit {0}
+StartsAtZero state start = ⊤
 
 -- if a session in this state is accessing, there is room for one more that is
 abbrev pub HasRoomIn : Tables → SessionState → Type 0
 HasRoomIn t Accessing = accessing_among t.sessions < 65536
-HasRoomIn t state = Unit {0}
+HasRoomIn t state = ⊤
 
 -- The session can be put behind the others: there is room for one more, its entities are there, and it started by now. Nothing is asked
 -- of its right: a session keeps its right when an amendment drops it.

@@ -1,6 +1,6 @@
 //! A list of entries, as proofs know it. In memory it is a number.
 
-ghost use Rattle.std.specs.Prelude.{◌≡◌, ◌+◌, ◌<◌, ◌^◌, ◌∷◌, [], ◌++◌, length};
+ghost use Rattle.std.specs.Prelude.{◌≡◌, ◌+◌, ◌<◌, ◌^◌, ◌∷◌, [], ◌++◌, length, ⊤};
 
 use logbook::{Opening, Rule, Seen, Start};
 use std::marker::Model;
@@ -13,17 +13,17 @@ impl Rule<Entry, u64> for Unruled {
     ghost use Rattle.std.specs.Prelude.{[]};
     ghost use base.Fml.{ftrue};
 
-    ghost holds = { λ cells log. Unit {0} };
+    ghost holds = { λ cells log. ⊤ };
 
     ghost first = { [] };
 
-    ghost hinted = { λ n log. Unit {0} };
+    ghost hinted = { λ n log. ⊤ };
 
     ghost shows = { λ log. [] };
 
     ghost keeps = { λ names log. ftrue };
 
-    ghost moves = { λ ask before after answer. Unit {0} };
+    ghost moves = { λ ask before after answer. ⊤ };
 }
 
 /// A book's list of entries, which has no bytes.

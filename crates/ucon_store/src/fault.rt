@@ -6,7 +6,7 @@ ghost use Rattle.ucon_store.specs.declared.fault.StepFault.TheVariants as step_f
 ghost use Rattle.ucon_store.specs.declared.fault.StoreFault.TheVariants as store_faults;
 ghost use Rattle.ucon_store.specs.Faults.{of_open, of_record, of_take};
 
-use crate::RecordFault;
+use crate::record_fault::{self, RecordFault};
 use ucon_base::NoMemory;
 use ucon_journal::{DiskFault, OpenFault, TakeFault};
 
@@ -66,7 +66,7 @@ impl From<RecordFault> for StoreFault {
 pub(crate) fn at_record(number: u64, fault: TakeFault) -> StoreFault
     ensures { result ≡ of_take number fault }
 {
-    crate::at_record(number, fault).into()
+    record_fault::at_record(number, fault).into()
 }
 
 /// Why no checkpoint was written. But for a disk fault nothing else was, either.

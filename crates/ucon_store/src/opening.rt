@@ -19,7 +19,7 @@ use crate::fault::{StoreFault, at_record};
 use crate::laws::opening_sees_one_thing;
 use crate::loading::Loaded;
 use crate::starting::{start, start_first};
-use crate::{LastPoint, last_point};
+use crate::walking::{LastPoint, last_point};
 use std::alloc::Global;
 use ucon_disk::Disk;
 use ucon_engine::Engine;

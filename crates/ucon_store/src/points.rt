@@ -10,7 +10,7 @@ ghost use Rattle.ucon_state.specs.Held.{held_after};
 ghost use Rattle.ucon_store.specs.Points.{points_of};
 
 use crate::fault::PointFault;
-use crate::has_points;
+use crate::point_records::has_points;
 use std::alloc::Global;
 use ucon_disk::Disk;
 use ucon_engine::Engine;

@@ -1,5 +1,7 @@
 //! The indexed monitor beside the plain one, a step that is undone and drafted again, and runs in which few are touched or nobody.
 
+ghost use Rattle.std.specs.Prelude.{⊤};
+
 use crate::runs::{over, stopping};
 use std::alloc::{AllocError, Global};
 use std::sync::Wait;
@@ -31,7 +33,7 @@ impl<E: Engine> Engine for Redrafting<E> {
     ghost has_pending = { λ e. E.has_pending e.engine };
 
     // Nothing is promised of what a draft costs.
-    ghost costs = { λ _ _ _ _ _ _. Unit {0} };
+    ghost costs = { λ _ _ _ _ _ _. ⊤ };
 
     fn begin(alloc: Global, checked: Checked) -> Result<Redrafting<E>, NoMemory> {
         let engine = E::begin(alloc, checked)?;
@@ -221,7 +223,7 @@ impl<E: Engine> Engine for Sparing<E> {
     ghost has_pending = { λ e. E.has_pending e.engine };
 
     // Nothing is promised of what a draft costs.
-    ghost costs = { λ _ _ _ _ _ _. Unit {0} };
+    ghost costs = { λ _ _ _ _ _ _. ⊤ };
 
     fn begin(alloc: Global, checked: Checked) -> Result<Sparing<E>, NoMemory> {
         let engine = E::begin(alloc, checked)?;

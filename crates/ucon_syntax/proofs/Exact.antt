@@ -1,4 +1,5 @@
 -- Reading gives the policy that the tokens spell, or else the first fault.
+use Rattle.std.specs.Prelude.{⊤}
 use Rattle.std.proofs.Common.{◌≡◌, ◌⊎◌, inl, inr, List, [], ◌∷◌, ◌++◌, length, length-append, Option, Some, None, Result, Ok, Err, refl, sym, ap, ◌∙◌, append_assoc, subst, arith}
 use Rattle.std.proofs.lemmas.List.{append-nil}
 use Rattle.ucon_model.specs.Plain.{PlainPolicy}
@@ -19,7 +20,7 @@ use Rattle.ucon_syntax.proofs.Wholes.{policy_ends, sound_policy}
 use Rattle.ucon_syntax.proofs.Firsts.{same_mark, mark_behind, length-bare, Inside, Behind, apart}
 
 pub policy_finds : Finds a_policy policy_at
-policy_finds = (sound_policy {P = Unit {0}}).finds tt
+policy_finds = (sound_policy {P = ⊤}).finds tt
 
 abbrev pub Read : Type 0
 Read = Result (PlainPolicy × List Token) Halt
@@ -35,7 +36,7 @@ record Whole (s : a_policy.Written) : Type 0 where
   pub gives : policy_at (bare (a_policy.tokens s)) ≡ Ok (a_policy.tree s, [])
 
 whole_again : (s : a_policy.Written) → a_policy.IsProper s → Whole s ⊎ Breaks (a_policy.tokens s) policy_at
-whole_again s proper = go ((sound_policy {P = Unit {0}}).again.again s proper)
+whole_again s proper = go ((sound_policy {P = ⊤}).again.again s proper)
   where
     go : Outcome (a_policy.tokens s) (a_policy.tree s) policy_ends policy_at → Whole s ⊎ Breaks (a_policy.tokens s) policy_at
     go (inl r) = inl (record { clean = r.clean; gives = ap policy_at (sym (append-nil (bare (a_policy.tokens s)))) ∙ r.on [] at_end })
@@ -53,7 +54,7 @@ never_clean s front t l behind e c = absurd (not_clean front t l behind (subst I
 -- no whole policy gives one of these
 abbrev Dead : Read → Type 0
 Dead (Ok (p, [])) = ⊥
-Dead (Ok (p, t ∷ r)) = Unit {0}
+Dead (Ok (p, t ∷ r)) = ⊤
 Dead (Err h) = h.0 ≡ Unexpected
 
 no_cause : (l : Limit) → cause_of l ≡ Unexpected → ⊥
@@ -107,7 +108,7 @@ reads_mark limit used t r p = elim (whole_again p.written p.proper) [
 alive_goes_on : (used : List Token) (t : Token) (r : List Token) (x : Read) → policy_at (used ++ t ∷ r) ≡ x → left x ≡ t ∷ r → ((after : List Token) → Dead (moved x (t ∷ after))) → IsAlive (used ++ t ∷ []) → ⊥
 alive_goes_on used t r x e l dead a =
     let text : bare (a_policy.tokens a.written) ≡ used ++ t ∷ bare a.behind = ap bare a.whole ∙ bare_append a.front a.behind ∙ ap (λ z. z ++ bare a.behind) a.tokens ∙ append_assoc used (t ∷ []) (bare a.behind) in
-    let goes : policy_at (used ++ t ∷ bare a.behind) ≡ moved x (t ∷ bare a.behind) = is_local policy_at (sound_policy {P = Unit {0}}).runs used t r (bare a.behind) (ap left e ∙ l) ∙ ap (λ z. moved z (t ∷ bare a.behind)) e in
+    let goes : policy_at (used ++ t ∷ bare a.behind) ≡ moved x (t ∷ bare a.behind) = is_local policy_at (sound_policy {P = ⊤}).runs used t r (bare a.behind) (ap left e ∙ l) ∙ ap (λ z. moved z (t ∷ bare a.behind)) e in
     dead_end a.written a.proper (moved x (t ∷ bare a.behind)) (ap policy_at text ∙ goes) (dead (bare a.behind))
 
 -- ---- the first fault
@@ -232,7 +233,7 @@ moved_left (Err h) ts = refl
 -- reading goes past what begins a policy
 pub goes_past : (used rest : List Token) → IsAliveWithin used → Behind rest (left (policy_at (used ++ rest)))
 goes_past used rest a =
-    let tail = leaves_tail policy_at (sound_policy {P = Unit {0}}).runs (used ++ rest) in
+    let tail = leaves_tail policy_at (sound_policy {P = ⊤}).runs (used ++ rest) in
     elim (apart used rest tail.used (left (policy_at (used ++ rest))) tail.same) [
       | inr b ↦ b
       | inl i ↦ absurd (stuck i)
@@ -243,7 +244,7 @@ goes_past used rest a =
         let after = i.more ++ bare a.behind in
         let here : used ++ rest ≡ pre ++ i.token ∷ (i.more ++ rest) = ap (λ z. z ++ rest) i.within ∙ append_assoc pre (i.token ∷ i.more) rest in
         let lefts : left (policy_at (pre ++ i.token ∷ (i.more ++ rest))) ≡ i.token ∷ (i.more ++ rest) = ap (λ z. left (policy_at z)) (sym here) ∙ i.left_is in
-        let goes : policy_at (pre ++ i.token ∷ after) ≡ moved (policy_at (pre ++ i.token ∷ (i.more ++ rest))) (i.token ∷ after) = is_local policy_at (sound_policy {P = Unit {0}}).runs pre i.token (i.more ++ rest) after lefts in
+        let goes : policy_at (pre ++ i.token ∷ after) ≡ moved (policy_at (pre ++ i.token ∷ (i.more ++ rest))) (i.token ∷ after) = is_local policy_at (sound_policy {P = ⊤}).runs pre i.token (i.more ++ rest) after lefts in
         let text : bare (a_policy.tokens a.written) ≡ pre ++ i.token ∷ after = ap bare a.whole ∙ bare_append a.front a.behind ∙ ap (λ z. z ++ bare a.behind) (a.tokens ∙ i.within) ∙ append_assoc pre (i.token ∷ i.more) (bare a.behind) in
         let stops : left (policy_at (bare (a_policy.tokens a.written))) ≡ i.token ∷ after = ap (λ z. left (policy_at z)) text ∙ ap left goes ∙ moved_left (policy_at (pre ++ i.token ∷ (i.more ++ rest))) (i.token ∷ after) in
         elim (whole_again a.written a.proper) [

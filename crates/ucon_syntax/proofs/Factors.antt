@@ -1,4 +1,5 @@
 -- Expressions keep to their form.
+use Rattle.std.specs.Prelude.{⊤}
 use Rattle.std.proofs.Common.{◌≡◌, ℕ, zero, suc, ◌<◌, Bool, true, false, cond, inl, inr, List, [], ◌∷◌, drop, Option, Some, None, Result, Ok, Err, pos, codes, refl, sym, ap, ◌∙◌, subst, arith}
 use Rattle.std.specs.Str.{bytes_eq}
 use Rattle.std.proofs.lemmas.Slice.Eq.{bytes_eq-Decides}
@@ -37,7 +38,7 @@ start_terminal factors.Round = symbol open_round
 start_terminal factors.Literal = symbol minus_sign
 
 Starts : FactorStart → List Token → Type 0
-Starts factors.Literal ts = Unit {0}
+Starts factors.Literal ts = ⊤
 Starts k ts = ts ≡ as_token (start_terminal k) ∷ drop 1 ts
 
 word_is : (n : Bytes) (k : FactorStart) (ts : List Token) → word_factor n ≡ Some k → Starts k (a_word n ∷ ts)

@@ -1,4 +1,5 @@
 -- What holds of a reader and of a form of the grammar.
+use Rattle.std.specs.Prelude.{⊤}
 use Rattle.std.proofs.Common.{◌≡◌, ◌⊎◌, List, [], ◌∷◌, ◌++◌, Some, None, Ok, Err, subst}
 use Rattle.ucon_base.specs.Tokens.{Token}
 use Rattle.ucon_model.specs.Forms.{Terminal, as_token, Limit, operand, item, level, Marked, Form, bare, IsClean}
@@ -96,7 +97,7 @@ pub meets_stop : (E F : Token → Type 0) (ms front : List Marked) (last : Termi
 meets_stop E F ms front last limit behind whole c m t r s = meets_at E F front last limit behind c (let P : List Marked → Type 0 = λ l. Meets E l F in subst P whole m) t r s
 
 -- where anything may follow
-pub meets_any : (ms : List Marked) (F : Token → Type 0) → Meets (λ t. Unit {0}) ms F
+pub meets_any : (ms : List Marked) (F : Token → Type 0) → Meets (λ t. ⊤) ms F
 meets_any [] F = λ t f. tt
 meets_any ((t, None) ∷ ms) F = tt
 meets_any ((t, Some l) ∷ ms) F = λ u s. tt

@@ -1,4 +1,5 @@
 -- The operators of chains.
+use Rattle.std.specs.Prelude.{⊤}
 use Rattle.std.proofs.Common.{◌≡◌, Bool, true, false, ◌||◌, ◌⊎◌, inl, inr, List, [], ◌∷◌, drop, Option, Some, None, is_some, codes, refl, sym, ap, ◌∙◌, subst}
 use Rattle.std.proofs.lemmas.Slice.Eq.{bytes_eq-Decides}
 use Rattle.ucon_model.specs.Plain.{Bytes, PlainExpr, times, both, either}
@@ -26,7 +27,7 @@ star_again : (u : Token) → u ≡ a_symbol star → is_symbol u star ≡ true
 unfolding is_symbol
 star_again u e = rw e refl
 
-pub products_chain : Chaining (λ (o : Unit {0}). symbol star) (λ o a b. times a b) products Anything
+pub products_chain : Chaining (λ (o : ⊤). symbol star) (λ o a b. times a b) products Anything
 unfolding is_symbol
 products_chain = record {
   goes_is = λ ts e. (tt, is_symbol_is ts star e);
@@ -113,7 +114,7 @@ is_joined_is (flawed f ∷ ts) w e = absurd cc
 is_joined_is (the_end ∷ ts) w e = absurd cc
 is_joined_is [] w e = absurd cc
 
-late_at : (w : Bytes) (ts : List Token) → is_late w (first ts) ≡ true → (o : Unit {0}) × (u : Token) × (ts ≡ u ∷ drop 1 ts) × Stands operand (word w) u
+late_at : (w : Bytes) (ts : List Token) → is_late w (first ts) ≡ true → (o : ⊤) × (u : Token) × (ts ≡ u ∷ drop 1 ts) × Stands operand (word w) u
 late_at w ts e = elim (either_true (is_word (first ts) w) (is_joined (first ts) w) e) [
   | inl h ↦ (tt, a_word w, is_word_is ts w h, inl refl)
   | inr h ↦ (tt, joined_word w, is_joined_is ts w h, inr refl)
@@ -166,7 +167,7 @@ or_follows : (u : Token) → Stands operand (word (codes "or")) u → conj_ends 
 or_follows u (inl e) = let P : Token → Type 0 = λ t. conj_ends t in subst P (sym e) or_word
 or_follows u (inr e) = let P : Token → Type 0 = λ t. conj_ends t in subst P (sym e) or_joined
 
-pub conjunctions_chain : Chaining (λ (o : Unit {0}). word (codes "and")) (λ o f g. both f g) conjunctions expr_ends
+pub conjunctions_chain : Chaining (λ (o : ⊤). word (codes "and")) (λ o f g. both f g) conjunctions expr_ends
 conjunctions_chain = record {
   goes_is = λ ts e. (tt, is_word_is ts (codes "and") e);
   goes_again = λ o. (word_tests (codes "and")).again;
@@ -176,7 +177,7 @@ conjunctions_chain = record {
   between = λ o u s. and_follows u s;
 }
 
-pub disjunctions_chain : Chaining (λ (o : Unit {0}). word (codes "or")) (λ o f g. either f g) disjunctions conj_ends
+pub disjunctions_chain : Chaining (λ (o : ⊤). word (codes "or")) (λ o f g. either f g) disjunctions conj_ends
 disjunctions_chain = record {
   goes_is = λ ts e. (tt, is_word_is ts (codes "or") e);
   goes_again = λ o. (word_tests (codes "or")).again;

@@ -1,4 +1,5 @@
 -- Attributes, variables, predicates and updates keep to their forms.
+use Rattle.std.specs.Prelude.{⊤}
 use Rattle.std.proofs.Common.{◌≡◌, Bool, true, false, cond, inl, inr, List, [], drop, Some, None, Result, Ok, Err, codes, refl}
 use Rattle.ucon_base.specs.declared.value.Side.{Side}
 use Rattle.ucon_base.specs.declared.value.Kind.TheVariants as kinds
@@ -79,7 +80,7 @@ attr_tail side =
     before (sign semicolon) (nothing (record { side = side; name = name; kind = kind; start = start })))))))
 
 abbrev attr_form : SideCount → Form (AttrDecl × Room)
-attr_form n = before (keyword (codes "attr")) (and_then {A = Side × Room} (mapped (λ side. (side, side_room (count_side n side))) (one_of side_token (λ side. beyond item 16 (of_side n side)) (λ side. Unit {0}))) attr_rest)
+attr_form n = before (keyword (codes "attr")) (and_then {A = Side × Room} (mapped (λ side. (side, side_room (count_side n side))) (one_of side_token (λ side. beyond item 16 (of_side n side)) (λ side. ⊤))) attr_rest)
 
 attr_read : {P : Type 0} (n : SideCount) → Sound P (attr_form n) Anything (attr_at (side_room n))
 unfolding attr_at
@@ -87,7 +88,7 @@ attr_read n = sound_before (word_tests (codes "attr")) (sound_then (sound_counte
 
 pub attr_runs : (room : Room) → Runs (attr_at room)
 unfolding attr_at
-attr_runs room = takes (λ t. is_word t (codes "attr")) (andthen (counted_runs (λ side. take (side_number side)) room side_of) (λ side. (attr_behind {P = Unit {0}} side).runs))
+attr_runs room = takes (λ t. is_word t (codes "attr")) (andthen (counted_runs (λ side. take (side_number side)) room side_of) (λ side. (attr_behind {P = ⊤} side).runs))
 
 pub sound_attr : {P : Type 0} (n : SideCount) → Sound P (mapped (λ a. (a, side_room (count_side n a.side))) (an_attr n)) Anything (attr_at (side_room n))
 sound_attr n = attr_read n
@@ -191,7 +192,7 @@ sound_sorted phase =
     (sound_before (word_tests (codes "c")) (sound_labelled phase semicolon_ends (sound_mapped (λ f. condition f) sound_formula)))))
 
 abbrev pred_form : PhaseCount → Form (PlainPredicate × Room)
-pred_form n = and_then {A = Phase × Room} (mapped (λ phase. (phase, phase_room (count_phase n phase))) (one_of phase_token (λ phase. beyond item 16 (of_phase n phase)) (λ phase. Unit {0}))) sorted
+pred_form n = and_then {A = Phase × Room} (mapped (λ phase. (phase, phase_room (count_phase n phase))) (one_of phase_token (λ phase. beyond item 16 (of_phase n phase)) (λ phase. ⊤))) sorted
 
 pred_read : {P : Type 0} (n : PhaseCount) → Sound P (pred_form n) Anything (pred_at (phase_room n))
 unfolding pred_at
@@ -213,7 +214,7 @@ sound_pred n = sound_retree {X = pred_form n} (λ s. ((a_pred n).tree s, phase_r
 
 pub pred_runs : (room : Room) → Runs (pred_at room)
 unfolding pred_at
-pred_runs room = andthen (counted_runs (λ phase. take (phase_number phase)) room phase_of) (λ phase. (sound_sorted {P = Unit {0}} phase).runs)
+pred_runs room = andthen (counted_runs (λ phase. take (phase_number phase)) room phase_of) (λ phase. (sound_sorted {P = ⊤} phase).runs)
 
 -- what stands behind the word for its phase
 abbrev pub pred_rest : Phase → Form PlainPredicate
@@ -223,7 +224,7 @@ pred_rest phase =
     (before (keyword (codes "c")) (labelled phase (mapped (λ f. condition f) a_formula))))
 
 pub pred_example : (phase : Phase) → Example (pred_rest phase)
-pred_example phase = let e = (sound_sorted {P = Unit {0}} (phase, record { left = [] })).example tt in record { written = e.written; proper = e.proper }
+pred_example phase = let e = (sound_sorted {P = ⊤} (phase, record { left = [] })).example tt in record { written = e.written; proper = e.proper }
 
 -- ---- updates
 
@@ -238,7 +239,7 @@ update_behind when =
     (sound_meeting sound_expr (λ value. sound_before (symbol_tests semicolon) (sound_nothing (record { when = when.0; side = side; attr = attr; value = value }, when.1))) (λ value s proper. semicolon_ends.0.0)))))
 
 abbrev update_form : WhenCount → Form (PlainUpdate × Room)
-update_form n = and_then {A = When × Room} (mapped (λ when. (when, when_room (count_when n when))) (one_of when_token (λ when. beyond item 16 (of_when n when)) (λ when. Unit {0}))) update_rest
+update_form n = and_then {A = When × Room} (mapped (λ when. (when, when_room (count_when n when))) (one_of when_token (λ when. beyond item 16 (of_when n when)) (λ when. ⊤))) update_rest
 
 update_read : {P : Type 0} (n : WhenCount) → Sound P (update_form n) Anything (update_at (when_room n))
 unfolding update_at
@@ -249,7 +250,7 @@ sound_update n = update_read n
 
 pub update_runs : (room : Room) → Runs (update_at room)
 unfolding update_at
-update_runs room = andthen (counted_runs (λ when. take (when_number when)) room when_of) (λ when. (update_behind {P = Unit {0}} when).runs)
+update_runs room = andthen (counted_runs (λ when. take (when_number when)) room when_of) (λ when. (update_behind {P = ⊤} when).runs)
 
 -- what stands behind the word for its phase
 abbrev pub plain_rest : When → Form PlainUpdate
@@ -258,4 +259,4 @@ plain_rest when =
     before (sign semicolon) (nothing (record { when = when; side = side; attr = attr; value = value })))))))
 
 pub update_example : (when : When) → Example (plain_rest when)
-update_example when = let e = (update_behind {P = Unit {0}} (when, record { left = [] })).example tt in record { written = e.written; proper = e.proper }
+update_example when = let e = (update_behind {P = ⊤} (when, record { left = [] })).example tt in record { written = e.written; proper = e.proper }

@@ -1,4 +1,5 @@
 -- Rooms that are left, beside what was counted.
+use Rattle.std.specs.Prelude.{⊤}
 use Rattle.std.proofs.Common.{◌≡◌, ℕ, suc, ◌+◌, ◌-◌, ◌<◌, ◌≤◌, ◌==◌, Bool, true, false, cond, ◌⊎◌, inl, inr, List, [], ◌∷◌, drop, Option, Some, None, option_map, Ok, codes, refl, sym, ap, ◌∙◌, arith, nat_lt, subst}
 use Rattle.std.proofs.lemmas.Bool.Decides.{nat_tests}
 use Rattle.ucon_base.specs.declared.value.Side.{Side}
@@ -117,10 +118,10 @@ unfolding side_of is_word
 side_again sides.Subject = refl
 side_again sides.Object = refl
 
-pub sound_side : {P : Type 0} → Sound P (one_of side_token (λ side. None) (λ side. Unit {0})) Anything (λ ts. taken (side_of (first ts)) ts)
+pub sound_side : {P : Type 0} → Sound P (one_of side_token (λ side. None) (λ side. ⊤)) Anything (λ ts. taken (side_of (first ts)) ts)
 sound_side = sound_taken {pick = side_of} (record { is = side_is; allowed = λ t b e. tt; again = λ b a. side_again b; alone = λ b l e u s. no_mark l e; one = sides.Subject; one_allowed = tt })
 
-pub sound_counted_side : {P : Type 0} (n : SideCount) → Sound P (mapped (λ side. (side, side_room (count_side n side))) (one_of side_token (λ side. beyond item 16 (of_side n side)) (λ side. Unit {0}))) Anything (λ ts. counted (λ side. take (side_number side)) (side_room n) (side_of (first ts)) ts)
+pub sound_counted_side : {P : Type 0} (n : SideCount) → Sound P (mapped (λ side. (side, side_room (count_side n side))) (one_of side_token (λ side. beyond item 16 (of_side n side)) (λ side. ⊤))) Anything (λ ts. counted (λ side. take (side_number side)) (side_room n) (side_of (first ts)) ts)
 sound_counted_side n =
     sound_same (λ ts. counted (λ side. take (side_number side)) (side_room n) (side_of (first ts)) ts) (λ ts. counted_is (λ side. take (side_number side)) (side_room n) (λ side. beyond item 16 (of_side n side)) (λ side. side_room (count_side n side)) (side_rooms n) (side_of (first ts)) ts)
     (sound_mapped (λ side. (side, side_room (count_side n side))) (sound_picked {pick = side_of} (record { is = side_is; allowed = λ t b e. tt; again = λ b a. side_again b; alone = λ b l e u s. item_alone 16 (of_side n b) (side_token b) l e u s; one = sides.Subject; one_allowed = tt })))
@@ -150,7 +151,7 @@ unfolding phase_of is_word
 phase_again phases.Pre = refl
 phase_again phases.Ongoing = refl
 
-pub sound_counted_phase : {P : Type 0} (n : PhaseCount) → Sound P (mapped (λ phase. (phase, phase_room (count_phase n phase))) (one_of phase_token (λ phase. beyond item 16 (of_phase n phase)) (λ phase. Unit {0}))) Anything (λ ts. counted (λ phase. take (phase_number phase)) (phase_room n) (phase_of (first ts)) ts)
+pub sound_counted_phase : {P : Type 0} (n : PhaseCount) → Sound P (mapped (λ phase. (phase, phase_room (count_phase n phase))) (one_of phase_token (λ phase. beyond item 16 (of_phase n phase)) (λ phase. ⊤))) Anything (λ ts. counted (λ phase. take (phase_number phase)) (phase_room n) (phase_of (first ts)) ts)
 sound_counted_phase n =
     sound_same (λ ts. counted (λ phase. take (phase_number phase)) (phase_room n) (phase_of (first ts)) ts) (λ ts. counted_is (λ phase. take (phase_number phase)) (phase_room n) (λ phase. beyond item 16 (of_phase n phase)) (λ phase. phase_room (count_phase n phase)) (phase_rooms n) (phase_of (first ts)) ts)
     (sound_mapped (λ phase. (phase, phase_room (count_phase n phase))) (sound_picked {pick = phase_of} (record { is = phase_is; allowed = λ t b e. tt; again = λ b a. phase_again b; alone = λ b l e u s. item_alone 16 (of_phase n b) (phase_token b) l e u s; one = phases.Pre; one_allowed = tt })))
@@ -190,7 +191,7 @@ when_again whens.During = refl
 when_again whens.AfterEnd = refl
 when_again whens.AfterRevoke = refl
 
-pub sound_counted_when : {P : Type 0} (n : WhenCount) → Sound P (mapped (λ when. (when, when_room (count_when n when))) (one_of when_token (λ when. beyond item 16 (of_when n when)) (λ when. Unit {0}))) Anything (λ ts. counted (λ when. take (when_number when)) (when_room n) (when_of (first ts)) ts)
+pub sound_counted_when : {P : Type 0} (n : WhenCount) → Sound P (mapped (λ when. (when, when_room (count_when n when))) (one_of when_token (λ when. beyond item 16 (of_when n when)) (λ when. ⊤))) Anything (λ ts. counted (λ when. take (when_number when)) (when_room n) (when_of (first ts)) ts)
 sound_counted_when n =
     sound_same (λ ts. counted (λ when. take (when_number when)) (when_room n) (when_of (first ts)) ts) (λ ts. counted_is (λ when. take (when_number when)) (when_room n) (λ when. beyond item 16 (of_when n when)) (λ when. when_room (count_when n when)) (when_rooms n) (when_of (first ts)) ts)
     (sound_mapped (λ when. (when, when_room (count_when n when))) (sound_picked {pick = when_of} (record { is = when_is; allowed = λ t b e. tt; again = λ b a. when_again b; alone = λ b l e u s. item_alone 16 (of_when n b) (when_token b) l e u s; one = whens.Before; one_allowed = tt })))

@@ -1,4 +1,5 @@
 -- A reader keeps to a form of the grammar, and how that passes from parts to the whole.
+use Rattle.std.specs.Prelude.{⊤}
 use Rattle.std.proofs.Common.{◌≡◌, ℕ, Bool, true, false, cond, inl, inr, List, [], ◌∷◌, ◌++◌, drop, Option, Some, None, Result, Ok, Err, refl, sym, ap, ◌∙◌, append_assoc, subst}
 use Rattle.ucon_base.specs.Tokens.{Token}
 use Rattle.ucon_model.specs.Forms.{Terminal, as_token, Limit, Marked, clear, Form, nothing, no_form, one_of, before, and_then, mapped, either_of, at_any_depth, bare}
@@ -20,7 +21,7 @@ pub record Sound {A : Type 0} (P : Type 0) (X : Form A) (E : Token → Type 0) (
   pub example : P → Example X
 
 abbrev pub Anything : Token → Type 0
-Anything t = Unit {0}
+Anything t = ⊤
 
 pub at_halt : {A : Type 0} (X : Form A) (ts : List Token) (h k : Halt) → h ≡ k → Stopped X ts h → Stopped X ts k
 at_halt X ts h k e s = let P : Halt → Type 0 = λ z. Stopped X ts z in subst P e s

@@ -1,4 +1,5 @@
 -- Lists of items, rights and policies keep to their forms.
+use Rattle.std.specs.Prelude.{⊤}
 use Rattle.std.proofs.Common.{◌≡◌, ℕ, zero, suc, ◌+◌, ◌<◌, ◌≤◌, Bool, true, false, List, ◌∷◌, drop, Option, Some, None, is_some, Result, codes, refl, sym, ap, ◌∙◌, subst, arith}
 use Rattle.ucon_base.specs.declared.value.Side.{Side}
 use Rattle.ucon_base.specs.declared.value.Side.TheVariants as sides
@@ -79,11 +80,11 @@ envs_listing : {P : Type 0} → Listing P an_env (λ n v. suc n) (λ n. tt) (λ 
 unfolding is_word
 envs_listing {P} = record {
   sound = λ f n fits. below_limit 32 n (codes "env") env_rest env_at (omega (arith, fits)) sound_env;
-  runs = λ r. andthen (sound_env {P = Unit {0}}).runs (λ a. gives (a, tt));
+  runs = λ r. andthen (sound_env {P = ⊤}).runs (λ a. gives (a, tt));
   led = λ n s proper. marked_led (λ t. is_word t (codes "env")) 32 n (codes "env") (env_rest.tokens s) refl;
   next = λ f n s fits clean. omega (arith, fits);
   full = λ n s fits. full_over (an_env n) s 32 n (word (codes "env")) (env_rest.tokens s) (omega (arith, fits)) refl;
-  full_at = λ n ts fits b. let e = (sound_env {P = Unit {0}}).example tt in full_at (an_env n) e.written e.proper ts 32 n (word (codes "env")) (env_rest.tokens e.written) (omega (arith, fits)) refl (is_word_is ts (codes "env") b);
+  full_at = λ n ts fits b. let e = (sound_env {P = ⊤}).example tt in full_at (an_env n) e.written e.proper ts 32 n (word (codes "env")) (env_rest.tokens e.written) (omega (arith, fits)) refl (is_word_is ts (codes "env") b);
 }
 
 sound_envs : {P : Type 0} → Sound P envs (λ t. is_word t (codes "env") ≡ false) envs_at
@@ -197,11 +198,11 @@ rights_listing : {P : Type 0} → Listing P a_right (λ n r. suc n) (λ n. tt) (
 unfolding is_word
 rights_listing {P} = record {
   sound = λ f n fits. below_limit 64 n (codes "right") right_rest right_at (omega (arith, fits)) sound_right;
-  runs = λ r. andthen (sound_right {P = Unit {0}}).runs (λ a. gives (a, tt));
+  runs = λ r. andthen (sound_right {P = ⊤}).runs (λ a. gives (a, tt));
   led = λ n s proper. marked_led (λ t. is_word t (codes "right")) 64 n (codes "right") (right_rest.tokens s) refl;
   next = λ f n s fits clean. omega (arith, fits);
   full = λ n s fits. full_over (a_right n) s 64 n (word (codes "right")) (right_rest.tokens s) (omega (arith, fits)) refl;
-  full_at = λ n ts fits b. let e = (sound_right {P = Unit {0}}).example tt in full_at (a_right n) e.written e.proper ts 64 n (word (codes "right")) (right_rest.tokens e.written) (omega (arith, fits)) refl (is_word_is ts (codes "right") b);
+  full_at = λ n ts fits b. let e = (sound_right {P = ⊤}).example tt in full_at (a_right n) e.written e.proper ts 64 n (word (codes "right")) (right_rest.tokens e.written) (omega (arith, fits)) refl (is_word_is ts (codes "right") b);
 }
 
 sound_rights : {P : Type 0} → Sound P rights (λ t. is_word t (codes "right") ≡ false) rights_at

@@ -1,5 +1,5 @@
 -- Reading items one after the other.
-use Rattle.std.specs.Prelude.{ℕ, zero, suc, Bool, List, [], ◌∷◌, Ok, Err, if◌then◌else◌}
+use Rattle.std.specs.Prelude.{ℕ, zero, suc, Bool, List, [], ◌∷◌, Ok, Err, if◌then◌else◌, ⊤}
 use Rattle.ucon_base.specs.Tokens.{Token}
 use Rattle.ucon_token.specs.declared.stop.Cause.TheVariants.{TooMany}
 use Rattle.ucon_token.specs.Tokens.{first}
@@ -13,5 +13,5 @@ items_at begins item (suc n) room ts = if begins (first ts)
     else Ok ([], ts)
 
 -- an item that counts for itself
-abbrev pub alone : {A : Type 0} → Reads A → Unit {0} → Reads (A × Unit {0})
+abbrev pub alone : {A : Type 0} → Reads A → ⊤ → Reads (A × ⊤)
 alone item room ts = item ts >>= λ x. Ok ((x.0, tt), x.1)

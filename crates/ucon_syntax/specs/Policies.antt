@@ -1,5 +1,5 @@
 -- Reading rights and whole policies.
-use Rattle.std.specs.Prelude.{◌≡◌, ℕ, nat_lt, if◌then◌else◌, List, [], ◌∷◌, length, Option, Some, None, option_and_then, Result, Ok, Err, codes}
+use Rattle.std.specs.Prelude.{◌≡◌, ℕ, nat_lt, if◌then◌else◌, List, [], ◌∷◌, length, Option, Some, None, option_and_then, Result, Ok, Err, codes, ⊤}
 use Rattle.std.specs.Result.{result_ok}
 use Rattle.ucon_model.specs.declared.policy.AttrDecl.{AttrDecl}
 use Rattle.ucon_model.specs.declared.policy.EnvDecl.{EnvDecl}
@@ -87,5 +87,5 @@ accepted text = option_and_then if_typed (result_ok (reading_of text))
 -- a text is read as its reading says, unless memory ran out
 abbrev pub Reading : Result Policy SyntaxFault → Bytes → Type 0
 Reading (Ok p) text = reading_of text ≡ Ok (policy_of p)
-Reading (Err (faults.NoMemory e)) text = Unit {0}
+Reading (Err (faults.NoMemory e)) text = ⊤
 Reading (Err f) text = reading_of text ≡ Err f

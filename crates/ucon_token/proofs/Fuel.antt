@@ -1,4 +1,5 @@
 -- The tokens of a text, one after the other.
+use Rattle.std.specs.Prelude.{⊤}
 use Rattle.std.proofs.Common.{◌≡◌, ℕ, zero, suc, ◌+◌, ◌-◌, ◌<◌, ◌≤◌, ℤ, Bool, true, false, cond, not, ◌==◌, ◌&&◌, List, [], ◌∷◌, length, take, drop, Option, Some, None, refl, sym, ap, ◌∙◌, arith, length-drop, nat_lt}
 use Rattle.std.specs.List.{prefix_len}
 use Rattle.ucon_base.specs.NameBytes.{is_letter, is_word_byte}
@@ -14,9 +15,9 @@ lexed t rest = (t, rest)
 
 -- a token that others may follow leaves less than it was read from
 abbrev Shortens : ℕ → Lexed → Type 0
-Shortens n (the_end, rest) = Unit {0}
-Shortens n (flawed f, rest) = Unit {0}
-Shortens n (joined_word w, rest) = Unit {0}
+Shortens n (the_end, rest) = ⊤
+Shortens n (flawed f, rest) = ⊤
+Shortens n (joined_word w, rest) = ⊤
 Shortens n (a_word w, rest) = length rest < n
 Shortens n (a_text w, rest) = length rest < n
 Shortens n (a_symbol s, rest) = length rest < n

@@ -1,5 +1,5 @@
 -- Reading tokens from left to right, up to the first that does not fit.
-use Rattle.std.specs.Prelude.{◌≡◌, ℤ, List, drop, Option, Some, None, Result, Ok, Err, if◌then◌else◌}
+use Rattle.std.specs.Prelude.{◌≡◌, ℤ, List, drop, Option, Some, None, Result, Ok, Err, if◌then◌else◌, ⊤}
 use Rattle.std.proofs.Common.{sym, ap, ◌∙◌}
 use Rattle.ucon_base.specs.Bytes.{Bytes}
 use Rattle.ucon_base.specs.Tokens.{Token, Symbol}
@@ -24,7 +24,7 @@ abbrev pub ◌>>=◌ : {A B : Type 0} → Result A Halt → (A → Result B Halt
 
 -- What a function returned, seen by view, and the tokens that it left are what reading gives, unless memory ran out.
 abbrev pub Fails : {Y : Type 0} → Stop → List Token → Result Y Halt → Type 0
-Fails (stops.Memory e) left reading = Unit {0}
+Fails (stops.Memory e) left reading = ⊤
 Fails (stops.At c) left reading = reading ≡ Err (c, left)
 
 abbrev pub Gives : {X Y : Type 0} → (X → Y) → Result X Stop → List Token → Result Y Halt → Type 0

@@ -1,6 +1,6 @@
 -- Lines that were answered over a store by a legal run, and the output of their answers.
 use Rattle.std.proofs.Common.{◌≡◌, Bool, true, false, List, [], ◌∷◌, map, refl, sym, ap, ◌∙◌, inl}
-use Rattle.std.specs.Prelude.{◌<◌, ◌||◌, IsTrue, Option, Some, None, if◌then◌else◌}
+use Rattle.std.specs.Prelude.{◌<◌, ◌||◌, IsTrue, Option, Some, None, if◌then◌else◌, ⊤}
 use Rattle.std.specs.Option.{option_to_list}
 use Rattle.std.specs.List.{filter, list_any}
 use Rattle.std.proofs.lemmas.Bool.{false_from_ne_true, or_parts}
@@ -55,7 +55,7 @@ module _ {D : Type 0} (laws : AreLegal) (P : PlainPolicy) where
   }
 
   -- where there is no room for the answers, there was no memory for any line
-  pub unanswered : (sees : Caller → Caller → Bool) (store : Kept D) (lines : List Entry) → store.mark ≡ None → AreAnswered sees P store store lines (λ told. Unit {0})
+  pub unanswered : (sees : Caller → Caller → Bool) (store : Kept D) (lines : List Entry) → store.mark ≡ None → AreAnswered sees P store store lines (λ told. ⊤)
   unanswered sees store lines none =
       let run = leads_nowhere P store.entries lines in
       let legal = laws.legal P store.entries (map wants_memory lines) store.entries None run in record {
@@ -115,7 +115,7 @@ module _ {D : Type 0} (sees : Caller → Caller → Bool) (P : PlainPolicy) (old
   }
 
   -- answers that are not written
-  pub untold : AreAnswered sees P old new lines (λ told. Unit {0})
+  pub untold : AreAnswered sees P old new lines (λ told. ⊤)
   untold = record { told = told; lines_are = lines_are; run = run; is_so = tt }
 
 -- ---- the line that failed

@@ -1,6 +1,6 @@
 -- A run that nothing hinders is complete: the causes of all other ends are excluded.
 use Rattle.std.proofs.Common.{◌≡◌, false, true, ℕ, ◌+◌, ◌<◌, ◌≤◌, [], ◌∷◌, refl, sym, ap, subst, ◌∙◌, arith}
-use Rattle.std.specs.Prelude.{Option, Some, None, IfSome, length, option_map, if◌then◌else◌}
+use Rattle.std.specs.Prelude.{Option, Some, None, IfSome, length, option_map, if◌then◌else◌, ⊤}
 use Rattle.std.proofs.lemmas.Bool.{eq-eqb}
 use Rattle.ucon_flow.specs.Causes.{Rose}
 use Rattle.ucon_disk.specs.Causes.{raised}
@@ -159,7 +159,7 @@ abbrev IsOffJournal : StoreFault → Type 0
 IsOffJournal stores.NotJournal = ⊥
 IsOffJournal (stores.Damaged number place) = ⊥
 IsOffJournal (stores.OtherPolicy place) = ⊥
-IsOffJournal fault = Unit {0}
+IsOffJournal fault = ⊤
 
 module _ (before after : AllSeen) (bytes : Bytes) (sees_one : SeesOneThing) where
   reason_off : (fault : StoreFault) → HasReason fault (policy_part bytes) before.disk.contents before.disk.faults after.disk.faults

@@ -1,6 +1,6 @@
 -- From the opening of a journal to its closing: what was played over it.
 use Rattle.std.proofs.Common.{Bool, ⊎_elim, ◌≡◌, ◌⊎◌, ℕ, ◌+◌, true, false, List, [], ◌∷◌, ◌++◌, length, refl, sym, ap, subst, ◌∙◌, inl, inr, arith}
-use Rattle.std.specs.Prelude.{Option, Some, None, Ok, is_some, IsSome, IfSome}
+use Rattle.std.specs.Prelude.{Option, Some, None, Ok, is_some, IsSome, IfSome, ⊤}
 use Rattle.std.specs.Io.KnownBytes.{Appends}
 use Rattle.ucon_flow.specs.Writing.{AppendsPrefix}
 use Rattle.ucon_disk.specs.Causes.{raised}
@@ -192,7 +192,7 @@ module _ {D : Type 0} (seen : D → DiskSeen) where
           (HaveOutput (Appends was.contents written.contents) Entries) e (λ G told run output. (sym (is_marked (failed_line told)) ∙ (ap is_some (sym run.failed) ∙ by), output))
           )
       ends (outcomes.NoMemory m) of by e =
-          inr (inr (over (λ (es : List Entry) (told : List Answered). Unit {0}) (λ (told : List Answered). Unit {0}) e (λ G told run nothing. tt)))
+          inr (inr (over (λ (es : List Entry) (told : List Answered). ⊤) (λ (told : List Answered). ⊤) e (λ G told run nothing. tt)))
       ends outcome of by e = absurd (cc (of.0, of.1))
 
     pub ends_run : (outcome : Outcome) → IsOfRun outcome

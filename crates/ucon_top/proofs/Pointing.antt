@@ -1,6 +1,6 @@
 -- From the opening of a journal to its closing: the checkpoint that was written over it.
 use Rattle.std.proofs.Common.{◌≡◌, ◌≢◌, ◌⊎◌, ◌↔◌, ⊎_elim, ℕ, ◌+◌, ◌<◌, ◌≤◌, false, true, List, [], ◌∷◌, ◌++◌, length, length-append, refl, sym, ap, subst, ◌∙◌, inl, inr}
-use Rattle.std.specs.Prelude.{Option, Some, None, IsSome, IfSome, Result, Ok, IfOk}
+use Rattle.std.specs.Prelude.{Option, Some, None, IsSome, IfSome, Result, Ok, IfOk, ⊤}
 use Rattle.std.specs.Io.KnownBytes.{Appends}
 use Rattle.ucon_flow.specs.Writing.{AppendsPrefix}
 use Rattle.ucon_disk.specs.Causes.{raised}
@@ -189,7 +189,7 @@ module _ {D : Type 0} (seen : D → DiskSeen)
   failed : (now : D) → BehindEach seen P store (λ s. LeavesPointed seen s now)
       → (seen now).faults ≡ raised (seen store.disk).faults → MayHavePoint bytes (seen disk) (seen now)
   failed now inside fails = point_over now (λ entries. (seen now).faults ≡ raised (seen disk).faults)
-      (λ entries file c. (point_places c ≡ point_places file) ⊎ IsPointedAt entries file c) (λ Q H. Unit {0})
+      (λ entries file c. (point_places c ≡ point_places file) ⊎ IsPointedAt entries file c) (λ Q H. ⊤)
       (fails ∙ ap raised opened.unfailed)
       (λ before is G f found. (
         still_pointed before is G f found now (inside G f) (λ file c. (point_places c ≡ point_places file) ⊎ IsPointedAt count file c)
@@ -213,10 +213,10 @@ module _ {D : Type 0} (seen : D → DiskSeen)
     pointed outcomes.Done silent e = written now e.0 (Appends was.contents got.contents) e.1
     pointed outcomes.SinkFault silent e = written now e.0 (AppendsPrefix was.contents got.contents) e.1
     pointed outcomes.DiskFault silent e = (inl (failed now e.0 e.1), silent refl)
-    pointed (outcomes.NoMemory m) silent e = inr (inr (unpointed now e (Unit {0}) tt (λ Q H. Unit {0}) (λ G f. tt)))
+    pointed (outcomes.NoMemory m) silent e = inr (inr (unpointed now e ⊤ tt (λ Q H. ⊤) (λ G f. tt)))
     pointed (outcomes.FullPoint size) silent e =
         unpointed now e.0 (IfSome (seen disk).contents IsNotOld × (16777215 < size)) (not_old e.1, e.2) (λ Q H. IsCheckpointSize text Q H size) (λ G f. size_so G size (e.3 G f))
-    pointed outcomes.OldJournal silent e = unpointed now e.0 (IfSome (seen disk).contents IsOld) (old_file e.1) (λ Q H. Unit {0}) (λ G f. tt)
+    pointed outcomes.OldJournal silent e = unpointed now e.0 (IfSome (seen disk).contents IsOld) (old_file e.1) (λ Q H. ⊤) (λ G f. tt)
     pointed outcomes.Usage silent e = absurd e
     pointed (outcomes.Policy f) silent e = absurd e
     pointed (outcomes.Script f) silent e = absurd e

@@ -1,6 +1,6 @@
 -- A run of clients that were served at once, from the opened store to the closed one.
 use Rattle.std.proofs.Common.{◌≡◌, ℕ, Bool, List, map, refl}
-use Rattle.std.specs.Prelude.{◌<◌, Option, None, is_some}
+use Rattle.std.specs.Prelude.{◌<◌, Option, None, is_some, ⊤}
 use Rattle.ucon_base.specs.Elements.{Each}
 use Rattle.ucon_model.specs.declared.command.Caller.{Caller}
 use Rattle.ucon_model.specs.declared.command.Entry.{Entry}
@@ -23,7 +23,7 @@ module _ {D : Type 0} (seen : D → DiskSeen)
   -- the store was closed without a line
   pub closed_at_once : ((d : D) (c : List ℕ) → (seen d).images_since (seen d).moment c → (seen d).images c) → AreLegal → (store : Kept D) (lines : List Entry) (disk : D) (outcome : Outcome)
       → store.mark ≡ None → disk ≡ store.disk → IsMarkedBy outcome store.mark
-      → ((s : Kept D) → AreAnswered sees P s s lines (λ told. Unit {0}) → EndsRun sees P s s lines before now outcome)
+      → ((s : Kept D) → AreAnswered sees P s s lines (λ told. ⊤) → EndsRun sees P s s lines before now outcome)
       → IsClosedRun seen sees P store lines outcome disk before now
   closed_at_once only laws store lines disk outcome unmarked disk_is marked ends = record {
     closed = store;
@@ -53,7 +53,7 @@ module _ {D : Type 0} (seen : D → DiskSeen)
         (text_read sees P (whole G opened) (whole G closed) Lines told refl (run G front) back text is fits clients) is_stopped outcome written)
 
     pub closed_untold : (outcome : Outcome) → IsMarkedBy outcome closed.mark
-        → ((s t : Kept D) → AreAnswered sees P s t Lines (λ told. Unit {0}) → EndsRun sees P s t Lines before now outcome)
+        → ((s t : Kept D) → AreAnswered sees P s t Lines (λ told. ⊤) → EndsRun sees P s t Lines before now outcome)
         → IsClosedRun seen sees P opened Lines outcome disk before now
     closed_untold outcome marked ends = closed_behind outcome marked
         (λ G front. ends (whole G opened) (whole G closed) (untold sees P (whole G opened) (whole G closed) Lines told refl (run G front)))

@@ -1,5 +1,5 @@
 -- Which documents are accepted, and why others are refused.
-use Rattle.std.specs.Prelude.{◌≡◌, ◌≤◌, List, length, Some, option_map, Ok}
+use Rattle.std.specs.Prelude.{◌≡◌, ◌≤◌, List, length, Some, option_map, Ok, ⊤}
 use Rattle.ucon_model.specs.Plain.{Bytes, PlainPolicy}
 use Rattle.ucon_model.specs.Document.{ScriptLine, policy_part, document_read}
 use Rattle.ucon_model.specs.Typing.{IsTyped, type_fault}
@@ -59,4 +59,4 @@ IsScriptFaultBy reads f bytes = HasScriptFaultBy reads bytes f
 abbrev pub IsRefusedSo : PolicyReading → Outcome → Bytes → Type 0
 IsRefusedSo reads (outcomes.Policy f) bytes = (length bytes ≤ 4194304) × IsPolicyFault f bytes
 IsRefusedSo reads (outcomes.Script f) bytes = (length bytes ≤ 4194304) × IsScriptFaultBy reads f bytes
-IsRefusedSo reads outcome bytes = Unit {0}
+IsRefusedSo reads outcome bytes = ⊤

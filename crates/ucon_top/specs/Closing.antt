@@ -1,5 +1,5 @@
 -- How a run over a store ends, between the opening and the closing of its journal.
-use Rattle.std.specs.Prelude.{◌≡◌, ℕ, Bool, true, false, IsTrue, IsFalse, List, Option, None, IsSome}
+use Rattle.std.specs.Prelude.{◌≡◌, ℕ, Bool, true, false, IsTrue, IsFalse, List, Option, None, IsSome, ⊤}
 use Rattle.std.specs.Io.KnownBytes.{Appends}
 use Rattle.ucon_flow.specs.Causes.{raised}
 use Rattle.ucon_flow.specs.Writing.{AppendsPrefix}
@@ -31,7 +31,7 @@ IsWritten outcome text stopped before now failed fails = ⊥
 abbrev pub IsMarkedBy : Outcome → Option History → Type 0
 IsMarkedBy Done mark = mark ≡ None
 IsMarkedBy DiskFault mark = IsSome mark
-IsMarkedBy outcome mark = Unit {0}
+IsMarkedBy outcome mark = ⊤
 
 -- how the run ended: the lines were answered, and where there was memory for it their output was written
 module _ {D : Type 0} (sees : Caller → Caller → Bool) (P : PlainPolicy) (store closed : Kept D) (lines : List Entry) (before now : Option Bytes) where
@@ -39,7 +39,7 @@ module _ {D : Type 0} (sees : Caller → Caller → Bool) (P : PlainPolicy) (sto
   EndsRun Done = AreAnswered sees P store closed lines (HaveOutput (Appends before now) lines)
   EndsRun DiskFault = AreAnswered sees P store closed lines (HaveOutput (Appends before now) lines)
   EndsRun SinkFault = AreAnswered sees P store closed lines (HaveOutput (AppendsPrefix before now) lines)
-  EndsRun (NoMemory e) = AreAnswered sees P store closed lines (λ told. Unit {0})
+  EndsRun (NoMemory e) = AreAnswered sees P store closed lines (λ told. ⊤)
   EndsRun outcome = ⊥
 
 module _ {D : Type 0} (seen : D → DiskSeen) where

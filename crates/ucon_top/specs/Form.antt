@@ -1,5 +1,5 @@
 -- The forms of words.
-use Rattle.std.specs.Prelude.{Bool, false, IsTrue, IsFalse, ℕ, ◌^◌, ◌≤◌, nat_lt, nat_le, ◌&&◌, List, [], ◌∷◌, Option, Some, None, option_and_then, codes, map, String, string_bytes, if◌then◌else◌}
+use Rattle.std.specs.Prelude.{Bool, false, IsTrue, IsFalse, ℕ, ◌^◌, ◌≤◌, nat_lt, nat_le, ◌&&◌, List, [], ◌∷◌, Option, Some, None, option_and_then, codes, map, String, string_bytes, if◌then◌else◌, ⊤}
 use Rattle.std.specs.Str.{bytes_eq}
 use Rattle.ucon_audit.specs.declared.head.Kept.{Kept}
 use Rattle.ucon_audit.specs.Head.{is_head_text}
@@ -77,7 +77,7 @@ asked words = form_of (map (λ w. string_bytes w) words)
 -- a size that words can ask for
 abbrev pub HasSize : Form → Type 0
 HasSize (Gen seed size) = size ≤ 100000
-HasSize form = Unit {0}
+HasSize form = ⊤
 
 -- the form runs its document over a journal
 abbrev pub HasJournal : Form → Type 0

@@ -1,5 +1,5 @@
 -- What a run did by the program's own reading of policies' texts: what the functions below `run` say.
-use Rattle.std.specs.Prelude.{Bool, List, Option, ℕ}
+use Rattle.std.specs.Prelude.{Bool, List, Option, ℕ, ⊤}
 use Rattle.ucon_disk.specs.Seen.{DiskSeen}
 use Rattle.ucon_flow.specs.Seen.{SinkSeen}
 use Rattle.ucon_model.specs.History.{History}
@@ -125,4 +125,4 @@ IsCutOutputOf = IsCutOutputOfBy accepted
 abbrev pub IsRefused : Refused → Bytes → Type 0
 IsRefused (refusals.Policy f) bytes = IsPolicyFault f bytes
 IsRefused (refusals.Script f) bytes = IsScriptFault f bytes
-IsRefused (refusals.NoMemory e) bytes = Unit {0}
+IsRefused (refusals.NoMemory e) bytes = ⊤

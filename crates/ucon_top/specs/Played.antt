@@ -1,5 +1,5 @@
 -- What running a document over the disk of a journal leaves, and how it ends: in the order of the text, or each client in a thread of its own.
-use Rattle.std.specs.Prelude.{◌≡◌, ◌⊎◌, ℕ, Bool, List, [], ◌∷◌, ◌++◌, map, Option, Some, None, Ok, IsSome, IfSome}
+use Rattle.std.specs.Prelude.{◌≡◌, ◌⊎◌, ℕ, Bool, List, [], ◌∷◌, ◌++◌, map, Option, Some, None, Ok, IsSome, IfSome, ⊤}
 use Rattle.std.specs.Io.KnownBytes.{Appends}
 use Rattle.ucon_flow.specs.Writing.{AppendsPrefix}
 use Rattle.ucon_disk.specs.Causes.{raised}
@@ -91,7 +91,7 @@ HasPlayedBy reads form (Damaged number place) bytes old new before now = IsUnope
 HasPlayedBy reads form (OtherPolicy place) bytes old new before now = IsUnopenedBy reads (stores.OtherPolicy place) (policy_part bytes) old new
 HasPlayedBy reads form (NoMemory e) bytes old new before now =
     IsAsBefore old new ⊎ IsUnopenedBy reads (stores.NoMemory e) (policy_part bytes) old new
-    ⊎ IsRunOverBy reads form bytes old new (λ lines told. Unit {0})
+    ⊎ IsRunOverBy reads form bytes old new (λ lines told. ⊤)
 HasPlayedBy reads form outcome bytes old new before now = IsAsBefore old new
 
 -- so it was played over some bytes, which are those of the input if the source tells them

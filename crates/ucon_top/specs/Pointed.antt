@@ -1,5 +1,5 @@
 -- What writing a checkpoint over the disk of a journal leaves, and how it ends.
-use Rattle.std.specs.Prelude.{◌≡◌, ◌⊎◌, ◌<◌, ◌≤◌, ℕ, [], ◌∷◌, ◌++◌, length, Option, Some, IfSome}
+use Rattle.std.specs.Prelude.{◌≡◌, ◌⊎◌, ◌<◌, ◌≤◌, ℕ, [], ◌∷◌, ◌++◌, length, Option, Some, IfSome, ⊤}
 use Rattle.std.specs.Io.KnownBytes.{Appends}
 use Rattle.ucon_disk.specs.Causes.{raised}
 use Rattle.ucon_disk.specs.Run.{IsAtRest, LeavesOnly}
@@ -71,7 +71,7 @@ HasNoPointBy reads bytes old new why so =
 abbrev pub MayHavePointBy : PolicyReading → Bytes → DiskSeen → DiskSeen → Type 0
 MayHavePointBy reads bytes old new =
     IsPointOverBy reads bytes old new (λ entries. new.faults ≡ raised old.faults)
-    (λ entries file c. (point_places c ≡ point_places file) ⊎ IsPointedAt entries file c) (λ P H. Unit {0})
+    (λ entries file c. (point_places c ≡ point_places file) ⊎ IsPointedAt entries file c) (λ P H. ⊤)
 
 -- What holds of the disk, and of the sink, by how the writing of a checkpoint ended. Otherwise than by the causes named here it made no
 -- call of the disk.
@@ -80,7 +80,7 @@ HasPointedBy reads Done bytes old new before now = HasPointBy reads bytes old ne
 HasPointedBy reads SinkFault bytes old new before now = HasPointBy reads bytes old new (AppendsPrefix before.contents now.contents)
 HasPointedBy reads (FullPoint size) bytes old new before now =
     HasNoPointBy reads bytes old new (IfSome old.contents IsNotOld × (16777215 < size)) (λ P H. IsCheckpointSize (policy_part bytes) P H size)
-HasPointedBy reads OldJournal bytes old new before now = HasNoPointBy reads bytes old new (IfSome old.contents IsOld) (λ P H. Unit {0})
+HasPointedBy reads OldJournal bytes old new before now = HasNoPointBy reads bytes old new (IfSome old.contents IsOld) (λ P H. ⊤)
 HasPointedBy reads DiskFault bytes old new before now =
     (MayHavePointBy reads bytes old new ⊎ IsUnopenedBy reads stores.DiskFault (policy_part bytes) old new)
     × (now ≡ before)
@@ -91,7 +91,7 @@ HasPointedBy reads (OtherPolicy place) bytes old new before now =
     IsUnopenedBy reads (stores.OtherPolicy place) (policy_part bytes) old new
 HasPointedBy reads (NoMemory e) bytes old new before now =
     IsAsBefore old new ⊎ IsUnopenedBy reads (stores.NoMemory e) (policy_part bytes) old new
-    ⊎ HasNoPointBy reads bytes old new (Unit {0}) (λ P H. Unit {0})
+    ⊎ HasNoPointBy reads bytes old new ⊤ (λ P H. ⊤)
 HasPointedBy reads outcome bytes old new before now = IsAsBefore old new
 
 -- so it was done over some bytes, which are those of the input if the source tells them

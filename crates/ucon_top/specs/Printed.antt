@@ -1,5 +1,5 @@
 -- What a run prints.
-use Rattle.std.specs.Prelude.{◌≡◌, IsTrue, List, ◌++◌, length, take, drop, Option, Some, None, Ok}
+use Rattle.std.specs.Prelude.{◌≡◌, IsTrue, List, ◌++◌, length, take, drop, Option, Some, None, Ok, ⊤}
 use Rattle.ucon_model.specs.declared.command.Entry.{Entry}
 use Rattle.ucon_model.specs.Plain.{Bytes, PlainPolicy}
 use Rattle.ucon_model.specs.Document.{ScriptLine, entries_of, document_read}
@@ -50,5 +50,5 @@ added before now = drop (length before) now
 abbrev pub Adds : (Bytes → Bytes → Type 0) → Option Bytes → Option Bytes → Option Bytes → Type 0
 Adds R (Some bytes) (Some before) (Some now) = (now ≡ before ++ added before now) × R bytes (added before now)
 Adds R (Some bytes) (Some before) None = ⊥
-Adds R (Some bytes) None now = Unit {0}
-Adds R None before now = Unit {0}
+Adds R (Some bytes) None now = ⊤
+Adds R None before now = ⊤

@@ -1,6 +1,6 @@
 -- What a run did, by what could be said of source, sink and disk before it and can be said after it. That is the causes of its end, what it made,
 -- what it left, and when it is complete. Words that are no form are a case of their own, so all else speaks of one form.
-use Rattle.std.specs.Prelude.{◌≡◌, ◌≢◌, ◌⊎◌, ◌<◌, ◌≤◌, ◌+◌, length, Option, None, Some, IfSome}
+use Rattle.std.specs.Prelude.{◌≡◌, ◌≢◌, ◌⊎◌, ◌<◌, ◌≤◌, ◌+◌, length, Option, None, Some, IfSome, ⊤}
 use Rattle.std.specs.Io.KnownBytes.{IsAtEnd}
 use Rattle.ucon_disk.specs.Causes.{raised}
 use Rattle.ucon_outcome.specs.declared.outcome.Outcome.{Outcome}
@@ -78,5 +78,5 @@ Leaves (Some form) ended before after = ByReading (λ reads. HasLeft reads form 
 
 -- nothing is owed, or a whole run
 abbrev pub Completes : Option Form → Outcome → Seen → Seen → Type 0
-Completes None ended before after = Unit {0}
+Completes None ended before after = ⊤
 Completes (Some form) ended before after = ByReading (λ reads. IsWhole reads form ended before after)

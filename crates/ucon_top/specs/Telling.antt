@@ -1,5 +1,5 @@
 -- What a form that runs no line tells of a journal, and what it leaves on the disk.
-use Rattle.std.specs.Prelude.{◌≡◌, ◌≢◌, ◌⊎◌, ℕ, length, Option, Some, IfSome, option_map}
+use Rattle.std.specs.Prelude.{◌≡◌, ◌≢◌, ◌⊎◌, ℕ, length, Option, Some, IfSome, option_map, ⊤}
 use Rattle.std.specs.Io.KnownBytes.{Appends}
 use Rattle.ucon_audit.specs.Audited.{IsPrintedBy, audit_spelling}
 use Rattle.ucon_audit.specs.Refusing.{IsRefusedBy}
@@ -104,7 +104,7 @@ HasToldBy reads form (Damaged number place) bytes old new before now = TellsNoth
 HasToldBy reads form (OtherPolicy place) bytes old new before now = TellsNothingBy reads form (stores.OtherPolicy place) bytes old new
 HasToldBy reads form (NoMemory e) bytes old new before now =
     IsAsBefore old new ⊎ TellsNothingBy reads form (stores.NoMemory e) bytes old new
-    ⊎ (TellsBy reads form bytes old new (λ text. Unit {0}) × (new.faults ≡ old.faults))
+    ⊎ (TellsBy reads form bytes old new (λ text. ⊤) × (new.faults ≡ old.faults))
 HasToldBy reads form outcome bytes old new before now = IsAsBefore old new
 
 -- so it was told of some bytes, which are those of the input where the source tells them

@@ -1,6 +1,6 @@
 //! Answers lines over a store, one after the other.
 
-ghost use Rattle.std.specs.Prelude.{◌≡◌, map, Some, None, IfOk, OnErr};
+ghost use Rattle.std.specs.Prelude.{◌≡◌, map, Some, None, IfOk, OnErr, ⊤};
 ghost use Rattle.ucon_model.specs.History.{History};
 ghost use Rattle.ucon_model.specs.LegalRun.{in_text_order};
 ghost use Rattle.ucon_model.specs.Plain.{PlainPolicy};
@@ -33,7 +33,7 @@ pub fn steps_text<E: Engine, D: Disk>(
         → AreAnswered in_text_order P (whole G store.old) (whole G store.new) (map entry_of lines.now)
         (HaveOutput (λ out. out ≡ text.items) (map entry_of lines.now))) }
     ensures no_memory { OnErr result ((P : PlainPolicy) (G : History) → accepted store.old.policy ≡ Some P → IsFront P store.old G
-        → AreAnswered in_text_order P (whole G store.old) (whole G store.new) (map entry_of lines.now) (λ told. Unit {0})) }
+        → AreAnswered in_text_order P (whole G store.old) (whole G store.new) (map entry_of lines.now) (λ told. ⊤)) }
     ensures stays { Stays D.seen store.old store.new }
 {
     outputs_are_read_back();

@@ -1,6 +1,6 @@
 //! Tells of a journal, over which no line is run.
 
-ghost use Rattle.std.specs.Prelude.{◌≡◌, ◌⊎◌, ◌≤◌, length, IfOk, IfErr, OnErr};
+ghost use Rattle.std.specs.Prelude.{◌≡◌, ◌⊎◌, ◌≤◌, length, IfOk, IfErr, OnErr, ⊤};
 ghost use Rattle.ucon_disk.specs.Causes.{raised};
 ghost use Rattle.ucon_audit.specs.Audited.{audit_spelling};
 ghost use Rattle.ucon_audit.specs.Report.{line_of, tree};
@@ -77,7 +77,7 @@ fn told_text<E: Engine, D: Disk, R: Threads + Sync>(
     requires policy { HasSomePolicy bytes.now }
     requires tells { TellsText form }
     ensures text { IfOk result (λ r. IfOk r.0 (λ text. Tells form bytes.now (D.seen disk) (D.seen r.1) (λ told. told ≡ text.items))) }
-    ensures no_memory { IfOk result (λ r. OnErr r.0 (Tells form bytes.now (D.seen disk) (D.seen r.1) (λ told. Unit {0}))) }
+    ensures no_memory { IfOk result (λ r. OnErr r.0 (Tells form bytes.now (D.seen disk) (D.seen r.1) (λ told. ⊤))) }
     ensures unfailed { IfOk result (λ r. (D.seen r.1).faults ≡ (D.seen disk).faults) }
     ensures nothing { IfErr result (λ e. TellsNothing form e.1 bytes.now (D.seen disk) (D.seen e.0)) }
     ensures failed { IfErr result (λ e. e.1 ≡ StoreFault.DiskFault → (D.seen e.0).faults ≡ raised (D.seen disk).faults) }
@@ -148,7 +148,7 @@ fn explained_try<E: Engine, D: Disk>(
     requires { HasSomePolicy bytes.now }
     ensures text { IfOk result (λ r. IfOk r.0 (λ text. IsOpenedState bytes.now (D.seen disk) (D.seen r.1)
         (λ P T. try_spelling P T subject.now right.now object.now ≡ text.items))) }
-    ensures no_memory { IfOk result (λ r. OnErr r.0 (IsOpenedState bytes.now (D.seen disk) (D.seen r.1) (λ P T. Unit {0}))) }
+    ensures no_memory { IfOk result (λ r. OnErr r.0 (IsOpenedState bytes.now (D.seen disk) (D.seen r.1) (λ P T. ⊤))) }
     ensures unfailed { IfOk result (λ r. (D.seen r.1).faults ≡ (D.seen disk).faults) }
     ensures unopened { IfErr result (λ e. IsUnopened e.1 (policy_part bytes.now) (D.seen disk) (D.seen e.0)) }
 {

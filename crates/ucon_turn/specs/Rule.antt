@@ -1,5 +1,5 @@
 -- The rule that the table of a turn keeps, and what each step tells the seat that makes it.
-use Rattle.std.specs.Prelude.{◌≡◌, ◌≢◌, ◌⊎◌, ℕ, ◌+◌, ◌%◌, ◌<◌, ◌≤◌, max, List, [], ◌∷◌, length, Option, Some}
+use Rattle.std.specs.Prelude.{◌≡◌, ◌≢◌, ◌⊎◌, ℕ, ◌+◌, ◌%◌, ◌<◌, ◌≤◌, max, List, [], ◌∷◌, length, Option, Some, ⊤}
 use mathlib.Core.Option.{none, some}
 use lib.ListN.{get_elem?}
 use Rattle.atomic_table.specs.Table.{State, Me, Step}
@@ -45,7 +45,7 @@ weight Booked = 1
 
 -- what a seat that took in another knows of the three lists: its own, the other's and the longer of them
 abbrev pub MeetsBoth : {N : Type 0} → (N → ℕ) → ℕ → List ℕ → List N → List N → List N → Type 0
-MeetsBoth caller number [] ours theirs seen = Unit {0}
+MeetsBoth caller number [] ours theirs seen = ⊤
 MeetsBoth caller number (k ∷ taken) ours theirs seen = Continues (ByOthers caller number taken) ours seen × Continues (ByOthers caller k []) theirs seen
 
 module _ {E N : Type 0} where

@@ -1,6 +1,6 @@
 -- The tables keep the entities of the trace, with their attributes.
 use Rattle.std.proofs.Common.{◌≡◌, ◌⊎◌, ◌∙◌, sym, ap, subst, ℕ, ℤ, ◌+◌, ◌≤◌, Bool, true, false, cond, ◌&&◌, List, [], ◌∷◌, length, refl, arith}
-use Rattle.std.specs.Prelude.{Option, Some, None, is_some, option_map, option_and_then, slice_set, IsTrue, IsSomeAnd}
+use Rattle.std.specs.Prelude.{Option, Some, None, is_some, option_map, option_and_then, slice_set, IsTrue, IsSomeAnd, ⊤}
 use Rattle.std.specs.Option.{option_map_or}
 use Rattle.std.specs.Str.{bytes_eq}
 use Rattle.std.proofs.lemmas.Bool.{and_from, and_parts}
@@ -33,7 +33,7 @@ LeavesEntities (subject name) = ⊥
 LeavesEntities (object name) = ⊥
 LeavesEntities (write side name attr v) = ⊥
 LeavesEntities (amend text Q) = ⊥
-LeavesEntities a = Unit {0}
+LeavesEntities a = ⊤
 
 -- what reads the entities and the cells alone
 abbrev ReadsEntities : {A : Type 0} → (Tables → A) → Type 0

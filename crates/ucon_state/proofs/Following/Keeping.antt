@@ -1,6 +1,6 @@
 -- The tables after a legal trace keep it.
 use Rattle.std.proofs.Common.{◌≡◌, ◌∙◌, sym, ap, subst, ℕ, ℤ, ◌-◌, true, false, List, [], ◌∷◌, map, refl}
-use Rattle.std.specs.Prelude.{◌↔◌, Option, Some, None, is_some, option_and_then, slice_get, slice_set, IsTrue, IsSomeAnd}
+use Rattle.std.specs.Prelude.{◌↔◌, Option, Some, None, is_some, option_and_then, slice_get, slice_set, IsTrue, IsSomeAnd, ⊤}
 use Rattle.std.specs.Option.{option_map_or}
 use Rattle.std.specs.Str.{bytes_eq}
 use Rattle.ucon_base.specs.declared.value.Side.{Side}
@@ -48,7 +48,7 @@ moved_leaves read t n state each =
 abbrev pub LeavesVariables : Action → Type 0
 LeavesVariables (env name v) = ⊥
 LeavesVariables (amend text Q) = ⊥
-LeavesVariables a = Unit {0}
+LeavesVariables a = ⊤
 
 same_variables : (P : PlainPolicy) (t : Tables) (a : Action) → LeavesVariables a → (applied P a t).variables ≡ t.variables
 same_variables P t (subject name) leaves = refl
@@ -113,7 +113,7 @@ keeps_tick_after P t T (revoke n label) h = moved_leaves (λ u. u.tick) t n Revo
 
 abbrev pub LeavesActs : Action → Type 0
 LeavesActs (act s a o) = ⊥
-LeavesActs a = Unit {0}
+LeavesActs a = ⊤
 
 same_acts : (P : PlainPolicy) (t : Tables) (a : Action) → LeavesActs a → (applied P a t).acts ≡ t.acts
 same_acts P t (subject name) leaves = refl

@@ -1,7 +1,7 @@
 -- A state that follows a trace follows one still once an act or a session was put into it: time goes back to its moment, it is done or
 -- permitted there, and time goes on where it stood.
 use Rattle.std.proofs.Common.{◌≡◌, ◌∙◌, sym, ap, subst, ℕ, ℤ, pos, ◌+◌, Bool, true, false, cond, ◌&&◌, List, [], ◌∷◌, ◌++◌, refl, arith}
-use Rattle.std.specs.Prelude.{Option, Some, None, ◌≤ℤ◌, is_some, nat_eq, IsTrue, IsSome}
+use Rattle.std.specs.Prelude.{Option, Some, None, ◌≤ℤ◌, is_some, nat_eq, IsTrue, IsSome, ⊤}
 use Rattle.std.specs.Str.{bytes_eq}
 use Rattle.std.proofs.lemmas.Bool.{ne_eqb}
 use Rattle.std.proofs.lemmas.List.{length_push}
@@ -40,7 +40,7 @@ LeavesValues a = LeavesEntities a × LeavesVariables a
 
 -- each of these, the newest first
 abbrev LeaveValues : List Action → Type 0
-LeaveValues [] = Unit {0}
+LeaveValues [] = ⊤
 LeaveValues (a ∷ actions) = LeavesValues a × LeaveValues actions
 
 same_entity : (T : Trace) (a : Action) → LeavesEntities a → (side : Side) (e : Bytes) → has_entity side e (a ∷ T) ≡ has_entity side e T

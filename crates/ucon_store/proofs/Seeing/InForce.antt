@@ -1,6 +1,6 @@
 -- Which policy is in force after a history: that of the last amendment.
 use Rattle.std.proofs.Common.{◌≡◌, ◌∙◌, ℕ, zero, suc, ◌+◌, Bool, true, false, cond, not, List, [], ◌∷◌, ◌++◌, refl, sym}
-use Rattle.std.specs.Prelude.{int_lt, ◌&&◌, nat_le, nat_eq, is_none, is_some, Option, Some, None}
+use Rattle.std.specs.Prelude.{int_lt, ◌&&◌, nat_le, nat_eq, is_none, is_some, Option, Some, None, ⊤}
 use Rattle.std.specs.Option.{option_map_or}
 use Rattle.std.proofs.lemmas.Bool.{false≢true}
 use Rattle.ucon_base.specs.Admits.{admits}
@@ -72,8 +72,8 @@ settle_leaves (suc turns) P T = by (least_failing P T) (settle_leaves turns P)
 -- ---- own actions
 
 abbrev Leaves : Own → Type 0
-Leaves (refuse r) = Unit {0}
-Leaves (tell reply) = Unit {0}
+Leaves (refuse r) = ⊤
+Leaves (tell reply) = ⊤
 Leaves (make head actions) = Leave actions
 
 either : (b : Bool) (x y : Own) → Leaves x → Leaves y → Leaves (cond b x y)

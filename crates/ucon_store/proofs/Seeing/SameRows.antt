@@ -1,6 +1,6 @@
 -- What is there after traces that states follow is told by its rows.
 use Rattle.std.proofs.Common.{◌≡◌, ◌∙◌, ℕ, zero, suc, ◌<◌, Bool, true, false, cond, List, [], ◌∷◌, ◌++◌, map, Option, Some, None, is_some, refl, sym, ap, subst, append_assoc}
-use Rattle.std.specs.Prelude.{pos, find, slice_get, unwrap_or}
+use Rattle.std.specs.Prelude.{pos, find, slice_get, unwrap_or, ⊤}
 use Rattle.std.specs.List.{flat_map}
 use Rattle.std.proofs.lemmas.Bool.{false≢true}
 use Rattle.ucon_base.specs.Elements.{Each}
@@ -200,11 +200,11 @@ push_same {A} (z ∷ xs) (w ∷ ys) x y h =
 
 -- the sessions 1 to n are the same
 abbrev pub SameTo : (f g : ℕ → Option SessionRow) → ℕ → Type 0
-SameTo f g zero = Unit {0}
+SameTo f g zero = ⊤
 SameTo f g (suc n) = SameTo f g n × (f (suc n) ≡ g (suc n))
 
 abbrev pub HasTo : (ℕ → Option SessionRow) → ℕ → Type 0
-HasTo f zero = Unit {0}
+HasTo f zero = ⊤
 HasTo f (suc n) = HasTo f n × (is_some (f (suc n)) ≡ true)
 
 same_one : (o p : Option SessionRow) (xs ys : List Row) → is_some o ≡ true → is_some p ≡ true → xs ++ session_rows o ≡ ys ++ session_rows p → (xs ≡ ys) × (o ≡ p)

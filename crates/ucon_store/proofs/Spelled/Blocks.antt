@@ -1,6 +1,6 @@
 -- The block of a command of names and values, after a trace of such, is of such.
 use Rattle.std.proofs.Common.{ℕ, zero, suc, ◌+◌, ◌<◌, Bool, true, false, cond, not, List, [], ◌∷◌, ◌++◌}
-use Rattle.std.specs.Prelude.{int_lt, ◌&&◌, nat_le, nat_eq, is_none, is_some, Option, Some, None, IfSome, IsTrue}
+use Rattle.std.specs.Prelude.{int_lt, ◌&&◌, nat_le, nat_eq, is_none, is_some, Option, Some, None, IfSome, IsTrue, ⊤}
 use Rattle.std.specs.Option.{option_map_or}
 use Rattle.std.specs.Str.{bytes_eq}
 use Rattle.ucon_base.specs.Admits.{admits}
@@ -86,8 +86,8 @@ module _ (P : PlainPolicy) (policy : IsOfNames P) where
   -- ---- own actions
 
   abbrev IsOwnSpelled : Own → Type 0
-  IsOwnSpelled (refuse r) = Unit {0}
-  IsOwnSpelled (tell reply) = Unit {0}
+  IsOwnSpelled (refuse r) = ⊤
+  IsOwnSpelled (tell reply) = ⊤
   IsOwnSpelled (make head actions) = AreSpelled actions
 
   own_by : (b : Bool) (x y : Own) → IsOwnSpelled x → IsOwnSpelled y → IsOwnSpelled (cond b x y)

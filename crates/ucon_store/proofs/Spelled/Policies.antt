@@ -1,6 +1,6 @@
 -- A policy that a text spells is of names and values.
 use Rattle.std.proofs.Common.{◌≡◌, ℕ, zero, suc, ◌+◌, ◌<◌, ◌≤◌, inl, inr, Bool, true, false, List, [], ◌∷◌, ◌++◌, length, take, Some, None, refl, sym, ap, subst, arith, nat_lt, le-leb, cond}
-use Rattle.std.specs.Prelude.{ℤ, pos, negsuc, neg_ℤ, nat_le, IsTrue}
+use Rattle.std.specs.Prelude.{ℤ, pos, negsuc, neg_ℤ, nat_le, IsTrue, ⊤}
 use Rattle.std.specs.List.{list_all}
 use Rattle.std.proofs.lemmas.Bool.{and_from}
 use Rattle.std.proofs.lemmas.Bool.Decides.{nat_tests}
@@ -27,7 +27,7 @@ use Rattle.ucon_store.proofs.Spelled.Tokens.{IsNumber, IsProper, tokens_proper}
 
 abbrev pub IsKind : Kind → Type 0
 IsKind (kinds.Int low high) = InRange low × InRange high
-IsKind k = Unit {0}
+IsKind k = ⊤
 
 pub record IsAttr (d : AttrDecl) : Type 0 where
   pub name : IsTrue (is_name d.name)
@@ -41,7 +41,7 @@ pub record IsEnv (d : EnvDecl) : Type 0 where
 -- each literal is a value
 abbrev pub IsOfValues : PlainExpr → Type 0
 IsOfValues (lit v) = IsValue v
-IsOfValues (read place) = Unit {0}
+IsOfValues (read place) = ⊤
 IsOfValues (plus a b) = IsOfValues a × IsOfValues b
 IsOfValues (minus a b) = IsOfValues a × IsOfValues b
 IsOfValues (times a b) = IsOfValues a × IsOfValues b
@@ -161,7 +161,7 @@ factor_stands room inner one (inr (inr (inr (inr (inr s))))) h proper = one s.0 
 expr_stands_with : (X : Form PlainExpr) → Stands X IsOfValues → Stands (expr_with X) IsOfValues
 expr_stands_with X one =
     chain_stands sum_token sum_tree (term_with X) sums_join
-    (chain_stands (λ (o : Unit {0}). symbol star) (λ o a b. times a b) X (λ o a b p q. (p, q)) one)
+    (chain_stands (λ (o : ⊤). symbol star) (λ o a b. times a b) X (λ o a b p q. (p, q)) one)
 
 depth_stands : (depth room : ℕ) → Stands (expr_of_depth depth room) IsOfValues
 depth_stands zero room = expr_stands_with _ (factor_stands room _ (λ s. absurd s))

@@ -1,6 +1,6 @@
 -- What is read as a command is one that a line may give.
 use Rattle.std.proofs.Common.{◌≡◌, ℕ, ◌+◌, ◌<◌, ◌^◌, Bool, true, false, cond, List, [], ◌∷◌, length, Option, Some, None, Ok, Err, is_ok, is_some, refl, ap, subst, arith}
-use Rattle.std.specs.Prelude.{Result, ℤ, pos, negsuc, ◌==◌, nat_lt, option_and_then, option_map, ok_or, unwrap_or, codes, IsTrue}
+use Rattle.std.specs.Prelude.{Result, ℤ, pos, negsuc, ◌==◌, nat_lt, option_and_then, option_map, ok_or, unwrap_or, codes, IsTrue, ⊤}
 use Rattle.std.specs.Result.{result_ok, result_unwrap_or}
 use Rattle.std.specs.Str.{bytes_eq}
 use Rattle.std.proofs.lemmas.Bool.{false≢true}
@@ -55,7 +55,7 @@ gives_name bs name h = by (is_name bs) refl h
     by true is k = subst (λ (n : Bytes). IsTrue (is_name n)) (same_some bs name k) is
     by false is k = absurd (nothing k)
 
-gives_side : Gives side_in (λ side. Unit {0})
+gives_side : Gives side_in (λ side. ⊤)
 gives_side bs side h = tt
 
 gives_value : Gives value_in IsValue

@@ -1,6 +1,6 @@
 -- What is read as a value is one.
 use Rattle.std.proofs.Common.{◌≡◌, ℕ, ◌+◌, ◌≤◌, Bool, true, false, cond, not, List, [], ◌∷◌, ◌++◌, length, map, take, drop, Option, Some, None, Ok, Err, is_ok, is_some, refl, sym, ap, subst, arith}
-use Rattle.std.specs.Prelude.{Result, ℤ, pos, neg_ℤ, ◌&&◌, ◌==◌, nat_le, nat_lt, position}
+use Rattle.std.specs.Prelude.{Result, ℤ, pos, neg_ℤ, ◌&&◌, ◌==◌, nat_le, nat_lt, position, ⊤}
 use Rattle.std.specs.List.{list_all, prefix_len}
 use Rattle.std.specs.Cmp.Lexicographic.{slice_cmp}
 use Rattle.std.specs.Ordering.{nat_cmp, is_lt}
@@ -98,7 +98,7 @@ before_good last m (Err f) ms h plain up good = absurd (refused h)
 -- inside a text its bytes so far may stand there
 abbrev IsPlain : Stage → Type 0
 IsPlain (inside q t) = texty t ≡ true
-IsPlain stage = Unit {0}
+IsPlain stage = ⊤
 
 members_good : (bs : Bytes) (last : Option Bytes) (stage : Stage) (at : ℕ) (ms : List Member) → IsPlain stage → members last stage at bs ≡ Ok ms → IsGood last ms
 members_good [] last closed at ms plain h = subst (IsGood last) (same [] ms h) (refl, refl)

@@ -1,6 +1,6 @@
 -- The tokens of a policy's text: words are names, numbers are in range, and texts are texts.
 use Rattle.std.proofs.Common.{◌≡◌, ℕ, zero, suc, ◌+◌, ◌*◌, ◌-◌, ◌<◌, ◌≤◌, Bool, true, false, cond, not, ◌==◌, List, [], ◌∷◌, length, take, drop, Option, Some, None, refl, ap, arith, nat_lt, option_map}
-use Rattle.std.specs.Prelude.{ℤ, pos, negsuc, position, nat_le, ◌&&◌}
+use Rattle.std.specs.Prelude.{ℤ, pos, negsuc, position, nat_le, ◌&&◌, ⊤}
 use Rattle.std.specs.List.{prefix_len, position_or_len}
 use Rattle.std.proofs.lemmas.Bool.Decides.{nat_tests}
 use Rattle.std.proofs.lemmas.List.Folds.{length-prefix_len}
@@ -70,7 +70,7 @@ abbrev pub IsProper : Token → Type 0
 IsProper (a_word name) = is_name name ≡ true
 IsProper (a_number n) = IsNumber n
 IsProper (a_text t) = is_text t ≡ true
-IsProper t = Unit {0}
+IsProper t = ⊤
 
 either : (b : Bool) (x y : Lexed) → (b ≡ true → IsProper x.0) → (b ≡ false → IsProper y.0) → IsProper (cond b x y).0
 either true x y p q = p refl
@@ -85,7 +85,7 @@ unfolding joined_token
 joined_named bs = either (nat_lt 32 (word_len bs)) _ _ (λ long. tt) (λ short. tt)
 
 abbrev IsNumberIf : Option ℤ → Type 0
-IsNumberIf None = Unit {0}
+IsNumberIf None = ⊤
 IsNumberIf (Some n) = IsNumber n
 
 at_most_if : (n : ℕ) → nat_lt 1000000000000000 n ≡ false → n ≤ 1000000000000000

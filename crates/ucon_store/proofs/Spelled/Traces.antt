@@ -1,6 +1,6 @@
 -- What can be read off a trace of names and values is of names and values.
 use Rattle.std.proofs.Common.{ℕ, ◌<◌, Bool, true, false, cond, List, [], ◌∷◌, ◌++◌, arith}
-use Rattle.std.specs.Prelude.{◌&&◌, nat_eq, find, Option, Some, None, option_map, is_none, is_some, IfSome, IsTrue}
+use Rattle.std.specs.Prelude.{◌&&◌, nat_eq, find, Option, Some, None, option_map, is_none, is_some, IfSome, IsTrue, ⊤}
 use Rattle.std.specs.Str.{bytes_eq}
 use Rattle.std.proofs.lemmas.Int.{ints}
 use Rattle.ucon_base.specs.Elements.{Each, each_append}
@@ -34,7 +34,7 @@ IsSpelled (tick t) = InRange t
 IsSpelled (act s a o) = AreNames s a o
 IsSpelled (tries n caller s r o) = (caller.0 < 64) × AreNames r s o
 IsSpelled (amend text Q) = IsOfNames Q
-IsSpelled a = Unit {0}
+IsSpelled a = ⊤
 
 abbrev pub AreSpelled : List Action → Type 0
 AreSpelled actions = Each IsSpelled actions

@@ -1,5 +1,5 @@
 use Rattle.std.proofs.Common.{map, sym, subst}
-use Rattle.std.specs.Prelude.{Result, Ok, Err, OnErr}
+use Rattle.std.specs.Prelude.{Result, Ok, Err, OnErr, ⊤}
 use Rattle.ucon_model.specs.LegalRun.{in_text_order}
 use Rattle.ucon_store.specs.Kept.{Kept}
 use Rattle.ucon_store.specs.Whole.{whole}
@@ -31,7 +31,7 @@ returns-in_err-answered-clause-no_memory g c =
     let lines = map entry_of c.args.lines.now in
     let old = c.args.store.now in
     on_err c.from_residual.result _ (λ P G accepts front.
-    subst (λ (new : Kept g.row.D.Denot). AreAnswered in_text_order P (whole G old) (whole G new) lines (λ told. Unit {0})) (sym c.in_err-answered.ensures.err)
+    subst (λ (new : Kept g.row.D.Denot). AreAnswered in_text_order P (whole G old) (whole G new) lines (λ told. ⊤)) (sym c.in_err-answered.ensures.err)
     (unanswered laws P in_text_order (whole G old) lines c.requires))
 
 pub returns-in_err-text-clause-no_memory : goal.returns-in_err-text-clause-no_memory

@@ -1,5 +1,5 @@
 use Rattle.std.proofs.Common.{◌≡◌, refl, ap, sym, ◌∙◌, subst}
-use Rattle.std.specs.Prelude.{Some}
+use Rattle.std.specs.Prelude.{Some, ⊤}
 use Rattle.ucon_model.specs.Action.{Trace}
 use Rattle.ucon_model.specs.Document.{policy_part}
 use Rattle.ucon_model.specs.History.{trace_from}
@@ -62,4 +62,4 @@ returns-clause-text g c =
     c.try_text-text.ensures
 
 pub returns-clause-no_memory : goal.returns-clause-no_memory
-returns-clause-no_memory g c = on_err c.try_text-text.result _ (over g c (λ Q U. Unit {0}) (λ T starts. tt))
+returns-clause-no_memory g c = on_err c.try_text-text.result _ (over g c (λ Q U. ⊤) (λ T starts. tt))

@@ -9,7 +9,7 @@ ghost use Rattle.ucon_model.specs.Views.{test_of, predicate_of, update_of, right
 ghost use Rattle.ucon_model.specs.Cores.{is_authorisation, is_of_kind, may_update, updates_at, indices_by, indices, cores_of_kind, core_models_of};
 ghost use Rattle.ucon_model.specs.Cores.{kind_name, core_name};
 
-use crate::{has_update, is_condition};
+use crate::cores::{has_update, is_condition};
 use std::alloc::Global;
 use ucon_base::{NoMemory, Rows};
 use ucon_model::{Checked, Core, CoreKind, Predicate, Right, Test, Update, When};
