@@ -11,7 +11,7 @@ use Rattle.ucon_state.specs.Shown.{Shown}
 use Rattle.ucon_state.specs.Following.{Follows}
 use Rattle.ucon_actions.specs.Sessions.{IsIn}
 use Rattle.ucon_actions.proofs.Deciding.{in_tables}
-use Rattle.ucon_state.specs.ReadOff.{TablesKeep}
+use Rattle.ucon_engine.specs.ReadOff.{TablesKeep}
 
 -- the least session that fails may be revoked
 abbrev pub LeastIsLegal : Type 0

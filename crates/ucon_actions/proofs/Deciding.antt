@@ -27,7 +27,7 @@ use Rattle.ucon_state.specs.Shown.{Shown}
 use Rattle.ucon_state.specs.Following.{Follows}
 use Rattle.ucon_actions.specs.Gives.{Makes}
 use Rattle.ucon_actions.specs.Sessions.{IsIn, requested}
-use Rattle.ucon_state.specs.ReadOff.{TablesKeep, entity_there, readings_same, session_same, sessions_same, accessing_same}
+use Rattle.ucon_engine.specs.ReadOff.{TablesKeep, entity_there, readings_same, session_same, sessions_same, accessing_same}
 use Rattle.ucon_actions.proofs.Stepping.{ActionsAreFollowed}
 
 -- ---- the state of a session

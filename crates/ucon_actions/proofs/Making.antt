@@ -12,7 +12,7 @@ use Rattle.ucon_state.specs.Following.{Follows}
 use Rattle.ucon_state.specs.Shown.{Shown}
 use Rattle.ucon_state.specs.Tables.{entities_of, entity_number, moment_in}
 use Rattle.ucon_state.specs.Applied.{applied, with_entity}
-use Rattle.ucon_state.specs.ReadOff.{TablesKeep, entity_there, entities_same, moment_same, acts_same}
+use Rattle.ucon_engine.specs.ReadOff.{TablesKeep, entity_there, entities_same, moment_same, acts_same}
 use Rattle.ucon_actions.proofs.Stepping.{LeavesPolicy}
 
 pub new_entity_applied : (s : Shown) (side : Side) (name : Bytes) → with_entity s.policy s.tables side name ≡ applied s.policy (new_entity side name) s.tables

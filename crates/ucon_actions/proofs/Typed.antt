@@ -11,7 +11,7 @@ use Rattle.ucon_model.specs.Typing.{IsTyped}
 use Rattle.ucon_state.specs.Following.{Follows}
 use Rattle.ucon_state.specs.Shown.{Shown}
 use Rattle.ucon_state.specs.Tables.{readings_in}
-use Rattle.ucon_state.specs.ReadOff.{TablesKeep}
+use Rattle.ucon_engine.specs.ReadOff.{TablesKeep}
 
 -- over readings that agree with those of a trace, where all values fit, no test of a well typed policy makes a set
 abbrev pub TestsMakeNoSet : Type 0

@@ -27,7 +27,7 @@ use Rattle.ucon_state.specs.Tables.{session_in, readings_in}
 use Rattle.ucon_state.specs.Shown.{Shown}
 use Rattle.ucon_state.specs.Following.{Follows}
 use Rattle.ucon_actions.specs.Updating.{written_out, first_written_out, update_at, updates_in}
-use Rattle.ucon_state.specs.ReadOff.{TablesKeep, readings_same, session_same}
+use Rattle.ucon_engine.specs.ReadOff.{TablesKeep, readings_same, session_same}
 
 -- ---- the update at a place
 

@@ -11,11 +11,9 @@ ghost use Rattle.ucon_state.specs.Tables.{entity_number, moment_in};
 
 use crate::outcome::{ActionFault, Outcome, require};
 use ucon_base::{Name, NoMemory, Side};
+use ucon_engine::{acts, has_entity, moment, names_act};
 use ucon_model::{Head, Refusal};
-use ucon_state::{
-    State, acts, each_action_is_followed, has_entity, moment, names_act,
-    tables_keep_what_is_followed,
-};
+use ucon_state::{State, each_action_is_followed, tables_keep_what_is_followed};
 
 /// An act is done now.
 fn perform(state: &mut State, subject: &Name, action: &Name, object: &Name) -> Result<(), NoMemory>

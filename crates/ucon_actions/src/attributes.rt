@@ -15,11 +15,9 @@ use crate::entities::{is_admin, no_entity};
 use crate::outcome::{ActionFault, Outcome, require};
 use std::alloc::Global;
 use ucon_base::{Name, NoMemory, Side, Value};
+use ucon_engine::{attr_admits, attribute, find_entity, has_entity};
 use ucon_model::{Caller, Head, Refusal};
-use ucon_state::{
-    State, attr_admits, attribute, each_action_is_followed, find_entity, has_entity,
-    tables_keep_what_is_followed,
-};
+use ucon_state::{State, each_action_is_followed, tables_keep_what_is_followed};
 
 /// Writes a value to an attribute of the entity with this number, which has this name.
 #[inline(always)]

@@ -9,10 +9,10 @@ ghost use Rattle.ucon_state.specs.Tables.{entities_of, entity_number};
 
 use crate::outcome::{ActionFault, Outcome, require};
 use ucon_base::{Name, NoMemory, Side};
+use ucon_engine::{entities, has_entity};
 use ucon_model::{Caller, Head, Refusal};
 use ucon_state::{
-    State, cells_are_of_one_attribute, each_action_is_followed, entities, has_entity,
-    tables_keep_what_is_followed,
+    State, cells_are_of_one_attribute, each_action_is_followed, tables_keep_what_is_followed,
 };
 
 /// Client 0 alone sets the scene.

@@ -12,8 +12,9 @@ use crate::entities::is_admin;
 use crate::outcome::{ActionFault, Outcome, require};
 use std::alloc::Global;
 use ucon_base::{Int, Name, NoMemory, Value};
+use ucon_engine::{env_admits, tick};
 use ucon_model::{Caller, Head, Refusal};
-use ucon_state::{State, each_action_is_followed, env_admits, tables_keep_what_is_followed, tick};
+use ucon_state::{State, each_action_is_followed, tables_keep_what_is_followed};
 
 /// A variable gets a value.
 fn assign(state: &mut State, name: &Name, value: Value) -> Result<(), NoMemory>

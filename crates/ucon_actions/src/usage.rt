@@ -22,16 +22,14 @@ use crate::outcome::{ActionFault, Outcome, require};
 use crate::update::run_updates;
 use std::alloc::Global;
 use ucon_base::{Name, NoMemory, Side};
+use ucon_engine::{accessing, find_entity, find_right, session, sessions};
 use ucon_eval::verdict;
 use ucon_model::{
     Caller, Head, Refusal, SessionRow, SessionState, Verdict, View, When,
     actions_are_done_in_order, the_least_failing_is_found, typed_tests_make_no_set,
     updates_write_their_targets, writes_leave_sessions,
 };
-use ucon_state::{
-    State, accessing, each_action_is_followed, find_entity, find_right, session, sessions,
-    tables_keep_what_is_followed,
-};
+use ucon_state::{State, each_action_is_followed, tables_keep_what_is_followed};
 
 /// The session, if it is there and the caller's own.
 fn own_session(state: &State, caller: Caller, n: u32) -> Result<SessionRow, Refusal>

@@ -25,9 +25,10 @@ use std::alloc::Global;
 use ucon_actions::is_accessing;
 use ucon_base::NoMemory;
 use ucon_check::places_read;
+use ucon_engine::{session, session_state, sessions};
 use ucon_model::{Command, Head, Right, SessionRow, View};
 use ucon_readers::{Kind, Readers, undoing_gives_what_is_kept};
-use ucon_state::{State, session, session_state, sessions};
+use ucon_state::State;
 
 /// All is read anew if the command replaced the policy. Else a permitted session begins to read, and an ended one reads nothing any more.
 pub fn follow_actions(

@@ -15,9 +15,10 @@ use crate::places::{attribute_place, place_of_session, variable_place};
 use ucon_actions::{is_accessing, is_of};
 use ucon_base::{Name, Side};
 use ucon_collections::NumberSet;
+use ucon_engine::{session_state, sessions};
 use ucon_model::{Command, Head, Update, View, When};
 use ucon_readers::Readers;
-use ucon_state::{State, session_state, sessions};
+use ucon_state::State;
 
 /// Puts into the work who reads an attribute of an entity; of each list its first, as everywhere here.
 fn put_attribute(

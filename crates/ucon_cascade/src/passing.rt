@@ -22,11 +22,12 @@ use crate::follow::going_on;
 use std::alloc::Global;
 use ucon_base::NoMemory;
 use ucon_collections::NumberSet;
+use ucon_engine::sessions;
 use ucon_model::{
     Command, Head, View, heads_tell_whose_usage_begins_or_ends, readings_that_agree_are_one,
 };
 use ucon_readers::{Timers, first_limit, undoing_gives_what_is_kept};
-use ucon_state::{State, sessions, tables_keep_what_is_followed};
+use ucon_state::{State, tables_keep_what_is_followed};
 
 /// All deadlines are set anew if the command replaced the policy. A tick passes those below it, and puts their sessions into the work.
 /// Else a permitted session gets its deadlines, and an ended one loses them; an act gives none.

@@ -7,7 +7,8 @@ ghost use Rattle.ucon_state.specs.Shown.{shown};
 
 use crate::settle::fails_at;
 use ucon_base::{Name, Steps};
-use ucon_state::{State, sessions};
+use ucon_engine::sessions;
+use ucon_state::State;
 
 /// The least accessing session that fails, with its label.
 pub fn least_failing(state: &State) -> Option<(u32, Name)>

@@ -27,6 +27,7 @@ use std::alloc::Global;
 use ucon_actions::{is_accessing, revoke};
 use ucon_base::{Name, NoMemory, Rows, Steps};
 use ucon_collections::NumberSet;
+use ucon_engine::{accessing, session_state};
 use ucon_eval::failing;
 use ucon_model::{
     Revoked, When, actions_are_done_in_order, firsts_go_on_covering, firsts_have_the_least,
@@ -36,8 +37,7 @@ use ucon_model::{
 };
 use ucon_readers::{Readers, Timers};
 use ucon_state::{
-    State, accessing, cells_are_of_one_attribute, session_state, sessions_are_few,
-    tables_keep_what_is_followed,
+    State, cells_are_of_one_attribute, sessions_are_few, tables_keep_what_is_followed,
 };
 
 /// The label by which session n fails, if it is accessing. Only then it is judged, and that is counted once.

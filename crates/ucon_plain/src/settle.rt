@@ -9,11 +9,12 @@ ghost use Rattle.ucon_state.specs.Shown.{shown};
 use std::alloc::Global;
 use ucon_actions::{is_accessing, revoke};
 use ucon_base::{Name, NoMemory, Rows, Steps};
+use ucon_engine::{accessing, session_state, sessions};
 use ucon_eval::failing;
 use ucon_model::{
     Revoked, turns_follow_each_other, typed_tests_make_no_set, views_that_agree_decide_alike,
 };
-use ucon_state::{State, accessing, session_state, sessions, tables_keep_what_is_followed};
+use ucon_state::{State, tables_keep_what_is_followed};
 
 /// The label by which session n fails, if it is accessing.
 fn fails_at(state: &State, n: u32, steps: &mut Steps) -> Option<Name>

@@ -11,4 +11,3 @@ pub mod Following
 pub mod TakingUp
 pub mod Held
 pub mod Putting
-pub mod ReadOff

@@ -4,9 +4,6 @@
 //! maps, cells and sessions by number. A session keeps numbers, 24 bytes. A state follows a trace if it gives to read what the trace gives
 //! (`Follows`).
 //!
-//! What is read off a state is said twice, of the tables and of each trace that the state follows (`specs/ReadOff.antt`). Own actions and both
-//! engines read through it (`reading.rt`), so that their proofs speak of traces and of no table.
-//!
 //! **Always.** The limits hold, each variable has its place and each entity its cells, at every stage of undoing (`AllSound`). A session's numbers
 //! are those of a right and of entities that are there (`HasRights`). If the checks of a right are met, none of its ongoing predicates is false
 //! (`ArePlans`).
@@ -27,7 +24,6 @@ mod layout;
 mod numbers;
 mod planned;
 mod putting;
-mod reading;
 mod session;
 mod state;
 mod tables;
@@ -41,8 +37,4 @@ pub use laws::{
     tables_keep_what_is_followed, traces_of_histories_are_legal, what_is_put_is_followed,
 };
 pub use numbers::Numbers;
-pub use reading::{
-    accessing, acts, attr_admits, attribute, entities, env_admits, find_entity, find_right,
-    has_entity, moment, names_act, session, session_state, sessions, tick,
-};
 pub use state::{CellId, State};

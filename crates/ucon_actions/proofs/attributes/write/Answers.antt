@@ -4,7 +4,7 @@ use Rattle.ucon_model.specs.Fitting.{AttributeAdmits}
 use Rattle.ucon_model.specs.Action.{write}
 use Rattle.ucon_state.specs.Shown.{shown}
 use Rattle.ucon_actions.proofs.AttributeCells.{write_applied}
-use Rattle.ucon_state.specs.ReadOff.{entity_there}
+use Rattle.ucon_engine.specs.ReadOff.{entity_there}
 use Rattle.ucon_actions.proofs.Stepping.{leads_on}
 use Rattle.ucon_actions.proofs.Keeping.{base_by}
 use Rattle.ucon_actions.proofs.attributes.write.Goals as goal

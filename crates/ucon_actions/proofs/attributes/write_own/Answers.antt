@@ -7,7 +7,7 @@ use Rattle.ucon_model.specs.Updates.{entity_of}
 use Rattle.ucon_state.specs.Shown.{shown}
 use Rattle.ucon_state.specs.Tables.{cell_of, session_in}
 use Rattle.ucon_actions.proofs.AttributeCells.{own_admits, there_by_cell, write_into}
-use Rattle.ucon_state.specs.ReadOff.{entity_there}
+use Rattle.ucon_engine.specs.ReadOff.{entity_there}
 use Rattle.ucon_actions.proofs.Stepping.{leads_on}
 use Rattle.ucon_actions.proofs.Keeping.{base_by}
 use Rattle.ucon_actions.proofs.attributes.write_own.Goals as goal

@@ -2,7 +2,7 @@ use Rattle.std.proofs.Common.{refl, subst, sym}
 use Rattle.std.specs.Prelude.{ℤ, ◌≤ℤ◌}
 use Rattle.ucon_model.specs.Action.{tick}
 use Rattle.ucon_state.specs.Shown.{shown}
-use Rattle.ucon_state.specs.ReadOff.{tick_same}
+use Rattle.ucon_engine.specs.ReadOff.{tick_same}
 use Rattle.ucon_actions.proofs.Stepping.{leads_on}
 use Rattle.ucon_actions.proofs.Keeping.{base_by}
 use Rattle.ucon_actions.proofs.environment.advance.Goals as goal

@@ -9,7 +9,7 @@ use Rattle.ucon_state.specs.Following.{Follows}
 use Rattle.ucon_state.specs.Shown.{shown}
 use Rattle.ucon_state.specs.Tables.{session_in}
 use Rattle.ucon_actions.specs.Updating.{first_written_out, update_at, updates_in, written_out}
-use Rattle.ucon_state.specs.ReadOff.{session_same}
+use Rattle.ucon_engine.specs.ReadOff.{session_same}
 use Rattle.ucon_actions.proofs.Writes.{written_out-more}
 use Rattle.ucon_actions.proofs.Updated.{all_written, in_trace, none_written, row_stays_by, row_written, updates_stay, with_row}
 use Rattle.ucon_actions.proofs.Keeping.{base_on, same_base}

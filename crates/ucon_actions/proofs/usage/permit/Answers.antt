@@ -6,7 +6,7 @@ use Rattle.ucon_model.specs.Updates.{session_writes}
 use Rattle.ucon_state.specs.Following.{Follows}
 use Rattle.ucon_state.specs.Shown.{shown}
 use Rattle.ucon_state.specs.Tables.{accessing_among}
-use Rattle.ucon_state.specs.ReadOff.{accessing_same}
+use Rattle.ucon_engine.specs.ReadOff.{accessing_same}
 use Rattle.ucon_actions.proofs.Stepping.{leads_on}
 use Rattle.ucon_actions.proofs.Updated.{on_ok}
 use Rattle.ucon_actions.proofs.Deciding.{in_after, in_after_writes, accessing_after_writes, may_move}

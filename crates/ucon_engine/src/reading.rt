@@ -11,9 +11,9 @@ ghost use Rattle.ucon_state.specs.Tables.{entity_number, entities_of, session_in
 ghost use Rattle.ucon_state.specs.Shown.{right_name, right_names, shown};
 ghost use Rattle.ucon_state.specs.Stored.{name_at};
 
-use crate::{State, tables_keep_what_is_followed};
 use ucon_base::{Int, Name, Side, Value};
 use ucon_model::{SessionRow, SessionState, View};
+use ucon_state::{State, tables_keep_what_is_followed};
 
 /// Tells whether the side has an entity of this name.
 pub fn has_entity(state: &State, side: Side, name: &Name) -> bool
