@@ -124,7 +124,7 @@ impl<E: Engine> Keeping<E> {
         steps_are_taken_as_spelled();
         let mut steps = Steps::new();
         let drafted = self.engine.draft(entry.caller, &entry.command, &mut steps)?;
-        if !drafted.changes {
+        if !drafted.changes() {
             return Ok(false);
         }
         self.payload.clear();
@@ -133,7 +133,7 @@ impl<E: Engine> Keeping<E> {
             &mut self.payload,
             entry.caller,
             &entry.command,
-            &drafted.reply,
+            &drafted,
         )?;
         Ok(self.payload.as_slice() == payload)
     }

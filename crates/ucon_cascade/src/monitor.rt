@@ -31,7 +31,7 @@ use std::alloc::Global;
 use ucon_actions::{ActionFault, Outcome, own_actions};
 use ucon_base::{NoMemory, Rows, Steps};
 use ucon_collections::NumberSet;
-use ucon_engine::{Drafted, Engine, RestoreFault};
+use ucon_engine::{Engine, RestoreFault};
 use ucon_model::{
     Caller, Checked, Command, Head, Reply, Revoked, SessionState, View, actions_are_done_in_order,
     drafts_are_blocks, firsts_go_on_covering, heads_tell_whose_usage_begins_or_ends,
@@ -77,7 +77,7 @@ impl Engine for Monitor {
         caller: Caller,
         command: &Command,
         steps: &mut Steps,
-    ) -> Result<Drafted, NoMemory> {
+    ) -> Result<Reply, NoMemory> {
         self.draft_at_cost(caller, command, steps)
     }
 
@@ -123,22 +123,18 @@ impl Monitor {
         caller: Caller,
         command: &Command,
         steps: &mut Steps,
-    ) -> Result<Drafted, NoMemory>
+    ) -> Result<Reply, NoMemory>
         requires { IsIdle IsReady self.old }
-        ensures reply { IfOk result (λ d. (P : PlainPolicy) (T : Trace) → IsReady self.old P T → reply_of d.reply ≡ reply_to P T caller command.now) }
-        ensures changes { IfOk result (λ d. d.changes ≡ changes (reply_of d.reply)) }
-        ensures pending { IfOk result (λ d. IsTrue d.changes
+        ensures reply { IfOk result (λ r. (P : PlainPolicy) (T : Trace) → IsReady self.old P T → reply_of r ≡ reply_to P T caller command.now) }
+        ensures pending { IfOk result (λ r. IsTrue (changes (reply_of r))
             → (P : PlainPolicy) (T : Trace) → IsReady self.old P T → HasPending self.new P T (record { caller = caller; command = command.now })) }
-        ensures unchanged { IfOk result (λ d. IsFalse d.changes → FollowsLike IsReady self.old self.new) }
+        ensures unchanged { IfOk result (λ r. IsFalse (changes (reply_of r)) → FollowsLike IsReady self.old self.new) }
         ensures err { OnErr result (FollowsLike IsReady self.old self.new) }
         ensures cost { (P : PlainPolicy) (T : Trace) → IsReady self.old P T → steps.new ≤ steps.old + touched P T caller command.now }
         ensures later { steps.old ≤ steps.new }
     {
         match self.make_step(caller, command, steps) {
-            Ok(reply) => {
-                let changes = reply.changes();
-                Ok(Drafted { reply, changes })
-            }
+            Ok(reply) => Ok(reply),
             Err(refused) => {
                 self.go_back();
                 Err(refused)

@@ -20,13 +20,6 @@ use ucon_base::{NoMemory, Steps};
 use ucon_model::{Caller, Checked, Command, Reply, SessionState};
 use ucon_state::State;
 
-/// The reply to a command, and whether a change is now pending.
-#[derive(Drop)]
-pub struct Drafted {
-    pub reply: Reply,
-    pub changes: bool,
-}
-
 /// A monitor under a policy. A command is drafted first; a change is then pending, and is kept or undone whole. `keep`, `undo` and
 /// `status` take no memory.
 pub trait Engine: Drop {
@@ -43,19 +36,19 @@ pub trait Engine: Drop {
     fn begin(alloc: Global, checked: Checked) -> Result<Self, NoMemory>
         ensures { IfOk result (λ e. follows e (checked_policy checked) []) };
 
-    /// Each recheck of a session counts a step. What that comes to is bounded on both endings.
+    /// The reply. Where it changes something, that change is now pending. Each recheck of a session counts a step. What that comes to is
+    /// bounded on both endings.
     fn draft(
         &mut self,
         caller: Caller,
         command: &Command,
         steps: &mut Steps,
-    ) -> Result<Drafted, NoMemory>
+    ) -> Result<Reply, NoMemory>
         requires { IsIdle follows self.old }
-        ensures reply { IfOk result (λ d. (P : PlainPolicy) (T : Trace) → follows self.old P T → reply_of d.reply ≡ reply_to P T caller command.now) }
-        ensures changes { IfOk result (λ d. d.changes ≡ changes (reply_of d.reply)) }
-        ensures pending { IfOk result (λ d. IsTrue d.changes
+        ensures reply { IfOk result (λ r. (P : PlainPolicy) (T : Trace) → follows self.old P T → reply_of r ≡ reply_to P T caller command.now) }
+        ensures pending { IfOk result (λ r. IsTrue (changes (reply_of r))
             → (P : PlainPolicy) (T : Trace) → follows self.old P T → has_pending self.new P T (record { caller = caller; command = command.now })) }
-        ensures unchanged { IfOk result (λ d. IsFalse d.changes → FollowsLike follows self.old self.new) }
+        ensures unchanged { IfOk result (λ r. IsFalse (changes (reply_of r)) → FollowsLike follows self.old self.new) }
         ensures err { OnErr result (FollowsLike follows self.old self.new) }
         ensures cost { (P : PlainPolicy) (T : Trace) → follows self.old P T
             → costs self.old P T (record { caller = caller; command = command.now }) steps.old steps.new }

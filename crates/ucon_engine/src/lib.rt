@@ -1,6 +1,6 @@
 //! What every engine does, whichever way it finds who is to be revoked, and what it reads off its state.
 //!
-//! The store and the forms without a journal are proved over any engine, by this trait alone. A call of `draft` answers and perhaps changes;
+//! The store and the forms without a journal are proved over any engine, by this trait alone. A call of `draft` answers, and its reply says whether a change pends;
 //! `keep` or `undo` follows. To go on from a state, call `restore`.
 //!
 //! What is read off a state is said twice, of the tables and of each trace that the state follows (`specs/ReadOff.antt`). Own actions and both
@@ -18,7 +18,7 @@ mod engine;
 mod reading;
 mod restore_fault;
 
-pub use engine::{Drafted, Engine};
+pub use engine::Engine;
 pub use reading::{
     accessing, acts, attr_admits, attribute, entities, env_admits, find_entity, find_right,
     has_entity, moment, names_act, session, session_state, sessions, tick,

@@ -16,7 +16,7 @@ use crate::settle::least_failing;
 use crate::step::take_step;
 use std::alloc::Global;
 use ucon_base::{NoMemory, Steps};
-use ucon_engine::{Drafted, Engine, RestoreFault};
+use ucon_engine::{Engine, RestoreFault};
 use ucon_model::{
     Caller, Checked, Command, Reply, SessionState, blocks_are_legal, settling_is_the_only_cascade,
     the_least_failing_is_found,
@@ -51,10 +51,8 @@ impl Engine for PlainMonitor {
         caller: Caller,
         command: &Command,
         steps: &mut Steps,
-    ) -> Result<Drafted, NoMemory> {
-        let reply = take_step(self.alloc, &mut self.state, caller, command, steps)?;
-        let changes = reply.changes();
-        Ok(Drafted { reply, changes })
+    ) -> Result<Reply, NoMemory> {
+        take_step(self.alloc, &mut self.state, caller, command, steps)
     }
 
     fn keep(&mut self) {
@@ -108,9 +106,9 @@ impl PlainMonitor {
         settling_is_the_only_cascade();
         let mut steps = Steps::new();
         let drafted = self.draft(caller, command, &mut steps)?;
-        if drafted.changes {
+        if drafted.changes() {
             self.keep();
         }
-        Ok(drafted.reply)
+        Ok(drafted)
     }
 }

@@ -93,7 +93,7 @@ impl<E: Engine> Loaded<E> {
         self.in_force.prepare(&entry.command)?;
         let mut steps = Steps::new();
         let drafted = self.engine.draft(entry.caller, &entry.command, &mut steps)?;
-        if !drafted.changes {
+        if !drafted.changes() {
             return Ok(false);
         }
         self.payload.clear();
@@ -102,7 +102,7 @@ impl<E: Engine> Loaded<E> {
             &mut self.payload,
             entry.caller,
             &entry.command,
-            &drafted.reply,
+            &drafted,
         )?;
         if self.payload.as_slice() != payload {
             return Ok(false);

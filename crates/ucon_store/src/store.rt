@@ -200,11 +200,11 @@ impl<E: Engine, D: Disk> Store<E, D> {
             return Err(StepFault::Stopped);
         }
         let mut steps = Steps::new();
-        let drafted = self.engine.draft(caller, command, &mut steps)?;
-        if !drafted.changes {
+        let reply = self.engine.draft(caller, command, &mut steps)?;
+        if !reply.changes() {
             return Ok(Placed {
                 place: self.before + self.entries.len(),
-                reply: drafted.reply,
+                reply,
             });
         }
         if let Err(refused) = prepare(
@@ -214,7 +214,7 @@ impl<E: Engine, D: Disk> Store<E, D> {
             &mut self.payload,
             caller,
             command,
-            &drafted.reply,
+            &reply,
         ) {
             self.engine.undo();
             return Err(StepFault::NoMemory(refused));
@@ -233,7 +233,7 @@ impl<E: Engine, D: Disk> Store<E, D> {
         }
         Ok(Placed {
             place: self.before + self.entries.len(),
-            reply: drafted.reply,
+            reply,
         })
     }
 

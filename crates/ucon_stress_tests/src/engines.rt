@@ -11,8 +11,8 @@ use ucon_base::{NoMemory, Steps};
 use ucon_cascade::Monitor;
 use ucon_check::check;
 use ucon_client::OpenGate;
-use ucon_engine::{Drafted, Engine, RestoreFault};
-use ucon_model::{Caller, Checked, Command, SessionState};
+use ucon_engine::{Engine, RestoreFault};
+use ucon_model::{Caller, Checked, Command, Reply, SessionState};
 use ucon_plain::PlainMonitor;
 use ucon_script::{generate, policy_part, read_script};
 use ucon_state::State;
@@ -45,9 +45,9 @@ impl<E: Engine> Engine for Redrafting<E> {
         caller: Caller,
         command: &Command,
         steps: &mut Steps,
-    ) -> Result<Drafted, NoMemory> {
+    ) -> Result<Reply, NoMemory> {
         let first = self.engine.draft(caller, command, steps)?;
-        if first.changes {
+        if first.changes() {
             self.engine.undo();
         }
         self.engine.draft(caller, command, steps)
@@ -235,13 +235,13 @@ impl<E: Engine> Engine for Sparing<E> {
         caller: Caller,
         command: &Command,
         _steps: &mut Steps,
-    ) -> Result<Drafted, NoMemory> {
+    ) -> Result<Reply, NoMemory> {
         let mut asked = Steps::new();
         let drafted = self.engine.draft(caller, command, &mut asked)?;
         if asked.count() <= 1 {
             return Ok(drafted);
         }
-        if drafted.changes {
+        if drafted.changes() {
             self.engine.undo();
         }
         Err(NoMemory::from(AllocError))

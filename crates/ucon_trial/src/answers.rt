@@ -119,10 +119,11 @@ fn answer<E: Engine, R: Hearer>(
             hearer.no_memory(line)?;
             Ok(place)
         }
-        Ok(drafted) => {
-            keep_change(engine, drafted.changes);
-            let next = place_after(place, drafted.changes);
-            hearer.reply(alloc, line, next, &drafted.reply)?;
+        Ok(reply) => {
+            let changes = reply.changes();
+            keep_change(engine, changes);
+            let next = place_after(place, changes);
+            hearer.reply(alloc, line, next, &reply)?;
             Ok(next)
         }
     }
