@@ -1,8 +1,11 @@
 """Pages that a script makes: written, or held against what the script would write."""
 import argparse
+import importlib.machinery
+import importlib.util
 import pathlib
 import re
 import sys
+from types import ModuleType
 from typing import Iterator, List
 
 TOP = pathlib.Path(__file__).resolve().parent.parent
@@ -26,6 +29,17 @@ def first_sentence(text: str) -> str:
 
 def in_table(text: str) -> str:
     return text.replace("|", "\\|")
+
+
+def script(name: str) -> ModuleType:
+    """Another script of this folder, as a module."""
+    loader = importlib.machinery.SourceFileLoader(name, str(TOP / "checks" / name))
+    spec = importlib.util.spec_from_loader(name, loader)
+    assert spec is not None
+    module = importlib.util.module_from_spec(spec)
+    sys.modules[name] = module
+    loader.exec_module(module)
+    return module
 
 
 def settle(script: str, about: str, page: pathlib.Path, text: str, words: List[str]) -> int:
