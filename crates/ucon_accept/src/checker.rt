@@ -239,8 +239,8 @@ fn tell_test<V: View>(view: &V, session: u32, row: &SessionRow, facts: &[Fact], 
     ensures { result ≡ tell_test (V.readings view.now) row.now facts.now (test_of test.now) }
 {
     match test {
-        Test::A(f) | Test::C(f) => tell_formula(view, session, row, facts, f),
-        Test::B(duty) => tell_duty(view, row, facts, duty),
+        Test::Authorisation(f) | Test::Condition(f) => tell_formula(view, session, row, facts, f),
+        Test::Obligation(duty) => tell_duty(view, row, facts, duty),
     }
 }
 

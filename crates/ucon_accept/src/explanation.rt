@@ -61,8 +61,8 @@ pub fn factor_of(test: &Test) -> Factor
     ensures { result ≡ factor_of (test_of test.now) }
 {
     match test {
-        Test::A(_) => Factor::Authorisation,
-        Test::B(_) => Factor::Obligation,
-        Test::C(_) => Factor::Condition,
+        Test::Authorisation(_) => Factor::Authorisation,
+        Test::Obligation(_) => Factor::Obligation,
+        Test::Condition(_) => Factor::Condition,
     }
 }

@@ -147,7 +147,7 @@ pub fn truth_told(facts: &[Fact], test: &Test) -> bool
     ensures { result ≡ truth_told facts.now (test_of test.now) }
 {
     match test {
-        Test::A(f) | Test::C(f) => holds_told(facts, f),
-        Test::B(o) => is_done_told(facts, o),
+        Test::Authorisation(f) | Test::Condition(f) => holds_told(facts, f),
+        Test::Obligation(o) => is_done_told(facts, o),
     }
 }

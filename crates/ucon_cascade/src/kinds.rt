@@ -102,9 +102,9 @@ fn test_reads(side: Side, test: &Test) -> bool
     ensures { result ≡ list_any (is_of_side side) (test_places (test_of test.now)) }
 {
     match test {
-        Test::A(f) => formula_reads(side, f),
-        Test::B(_) => false,
-        Test::C(f) => formula_reads(side, f),
+        Test::Authorisation(f) => formula_reads(side, f),
+        Test::Obligation(_) => false,
+        Test::Condition(f) => formula_reads(side, f),
     }
 }
 
@@ -192,9 +192,9 @@ fn is_test_timed(test: &Test) -> bool
     ensures { IsFalse result → test_timed (test_of test.now) ≡ [] }
 {
     match test {
-        Test::A(f) => is_formula_timed(f),
-        Test::B(_) => true,
-        Test::C(f) => is_formula_timed(f),
+        Test::Authorisation(f) => is_formula_timed(f),
+        Test::Obligation(_) => true,
+        Test::Condition(f) => is_formula_timed(f),
     }
 }
 

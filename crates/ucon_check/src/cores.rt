@@ -12,7 +12,7 @@ use ucon_model::{Predicate, Right, Test, Update, When};
 pub fn is_condition(test: &Test) -> bool
     ensures { result ≡ is_condition (test_of test.now) }
 {
-    matches!(test, Test::C(_))
+    matches!(test, Test::Condition(_))
 }
 
 /// Whether there are updates of this time.

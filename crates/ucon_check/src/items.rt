@@ -41,9 +41,9 @@ fn counts_from_start(test: &Test) -> bool
     ensures { result ≡ counts_from_start (test_of test.now) }
 {
     match test {
-        Test::A(f) => has_lasts(f),
-        Test::B(o) => is_recurring(o.form),
-        Test::C(f) => has_lasts(f),
+        Test::Authorisation(f) => has_lasts(f),
+        Test::Obligation(o) => is_recurring(o.form),
+        Test::Condition(f) => has_lasts(f),
     }
 }
 
@@ -52,9 +52,9 @@ fn reads_wrongly(test: &Test) -> bool
     ensures { result ≡ reads_wrongly (test_of test.now) }
 {
     match test {
-        Test::A(f) => formula_reads(&Sought::Variable, f) || has_lasts(f),
-        Test::B(_) => false,
-        Test::C(f) => formula_reads(&Sought::Attribute, f),
+        Test::Authorisation(f) => formula_reads(&Sought::Variable, f) || has_lasts(f),
+        Test::Obligation(_) => false,
+        Test::Condition(f) => formula_reads(&Sought::Attribute, f),
     }
 }
 

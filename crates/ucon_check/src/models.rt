@@ -17,13 +17,13 @@ use ucon_model::{Checked, Core, CoreKind, Predicate, Right, Test, Update, When};
 fn is_authorisation(test: &Test) -> bool
     ensures { result ≡ is_authorisation (test_of test.now) }
 {
-    matches!(test, Test::A(_))
+    matches!(test, Test::Authorisation(_))
 }
 
 fn is_duty(test: &Test) -> bool
     ensures { result ≡ is_duty (test_of test.now) }
 {
-    matches!(test, Test::B(_))
+    matches!(test, Test::Obligation(_))
 }
 
 fn is_of_kind(kind: CoreKind, p: &Predicate) -> bool

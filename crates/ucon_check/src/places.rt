@@ -65,9 +65,9 @@ fn put_test(test: &Test, places: &mut Vec<Ref>) -> Result<(), NoMemory>
     ensures { OnOk result (places.new.items ≡ fold with_place places.old.items (test_places (test_of test.now))) }
 {
     match test {
-        Test::A(f) => put_formula(f, places),
-        Test::B(_) => Ok(()),
-        Test::C(f) => put_formula(f, places),
+        Test::Authorisation(f) => put_formula(f, places),
+        Test::Obligation(_) => Ok(()),
+        Test::Condition(f) => put_formula(f, places),
     }
 }
 

@@ -176,9 +176,9 @@ pub fn is_typed_test(policy: &Policy, test: &Test) -> bool
     ensures { result ≡ is_typed_test (policy_of policy.now) (test_of test.now) }
 {
     match test {
-        Test::A(f) => is_typed_formula(policy, f),
-        Test::B(_) => true,
-        Test::C(f) => is_typed_formula(policy, f),
+        Test::Authorisation(f) => is_typed_formula(policy, f),
+        Test::Obligation(_) => true,
+        Test::Condition(f) => is_typed_formula(policy, f),
     }
 }
 

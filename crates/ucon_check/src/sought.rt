@@ -86,9 +86,9 @@ fn test_reads(sought: &Sought, test: &Test) -> bool
     ensures { result ≡ list_any (fits sought.now) (test_places (test_of test.now)) }
 {
     match test {
-        Test::A(f) => formula_reads(sought, f),
-        Test::B(_) => false,
-        Test::C(f) => formula_reads(sought, f),
+        Test::Authorisation(f) => formula_reads(sought, f),
+        Test::Obligation(_) => false,
+        Test::Condition(f) => formula_reads(sought, f),
     }
 }
 
@@ -148,9 +148,9 @@ pub fn undeclared_in_test(policy: &Policy, test: &Test) -> Option<Name>
     ensures { result ≡ undeclared (policy_of policy.now) (test_places (test_of test.now)) }
 {
     match test {
-        Test::A(f) => undeclared_in_formula(policy, f),
-        Test::B(_) => None,
-        Test::C(f) => undeclared_in_formula(policy, f),
+        Test::Authorisation(f) => undeclared_in_formula(policy, f),
+        Test::Obligation(_) => None,
+        Test::Condition(f) => undeclared_in_formula(policy, f),
     }
 }
 

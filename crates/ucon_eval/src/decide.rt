@@ -27,9 +27,9 @@ fn is_of(sort: Sort, p: &Predicate) -> bool
 {
     match (sort, p.phase, &p.test) {
         (Sort::Ongoing, Phase::Ongoing, _) => true,
-        (Sort::PreDuty, Phase::Pre, Test::B(_)) => true,
-        (Sort::PreCheck, Phase::Pre, Test::A(_)) => true,
-        (Sort::PreCheck, Phase::Pre, Test::C(_)) => true,
+        (Sort::PreDuty, Phase::Pre, Test::Obligation(_)) => true,
+        (Sort::PreCheck, Phase::Pre, Test::Authorisation(_)) => true,
+        (Sort::PreCheck, Phase::Pre, Test::Condition(_)) => true,
         _ => false,
     }
 }

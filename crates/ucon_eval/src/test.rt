@@ -181,7 +181,7 @@ pub fn is_true<V: View>(view: &V, session: u32, test: &Test) -> bool
     ensures { result ≡ truth (V.readings view.now) (row_at (V.readings view.now) session) (test_of test.now) }
 {
     match test {
-        Test::A(f) | Test::C(f) => holds(view, session, f),
-        Test::B(o) => is_done(view, session, o),
+        Test::Authorisation(f) | Test::Condition(f) => holds(view, session, f),
+        Test::Obligation(o) => is_done(view, session, o),
     }
 }

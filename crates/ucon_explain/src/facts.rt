@@ -124,8 +124,8 @@ pub fn test_facts<V: View>(
     ensures { IfOk result (λ facts. facts.items ≡ test_facts (V.readings view.now) row.now (test_of test.now)) }
 {
     let facts = match test {
-        Test::A(f) | Test::C(f) => formula_facts(alloc, view, session, row, f)?,
-        Test::B(o) => duty_facts(alloc, view, row, o)?,
+        Test::Authorisation(f) | Test::Condition(f) => formula_facts(alloc, view, session, row, f)?,
+        Test::Obligation(o) => duty_facts(alloc, view, row, o)?,
     };
     Ok(Rows::from(facts))
 }

@@ -79,9 +79,9 @@ impl Test {
         ensures { IfOk result (λ t. test_of t ≡ test_of self.now) }
     {
         Ok(match self {
-            Test::A(f) => Test::A(f.copy(alloc)?),
-            Test::B(o) => Test::B(*o),
-            Test::C(f) => Test::C(f.copy(alloc)?),
+            Test::Authorisation(f) => Test::Authorisation(f.copy(alloc)?),
+            Test::Obligation(o) => Test::Obligation(*o),
+            Test::Condition(f) => Test::Condition(f.copy(alloc)?),
         })
     }
 }

@@ -102,9 +102,9 @@ fn letter(test: &Test) -> &'static [u8]
     ensures { result.now ≡ letter_printing (test_of test.now) }
 {
     match test {
-        Test::A(_) => b"a ",
-        Test::B(_) => b"b ",
-        Test::C(_) => b"c ",
+        Test::Authorisation(_) => b"a ",
+        Test::Obligation(_) => b"b ",
+        Test::Condition(_) => b"c ",
     }
 }
 
@@ -112,9 +112,9 @@ fn put_test(out: &mut Vec<u8>, test: &Test) -> Result<(), NoMemory>
     ensures { OnOk result (out.new.items ≡ out.old.items ++ test_printing (test_of test.now)) }
 {
     match test {
-        Test::A(f) => put_formula(out, f, 0),
-        Test::B(duty) => put_duty(out, duty),
-        Test::C(f) => put_formula(out, f, 0),
+        Test::Authorisation(f) => put_formula(out, f, 0),
+        Test::Obligation(duty) => put_duty(out, duty),
+        Test::Condition(f) => put_formula(out, f, 0),
     }
 }
 

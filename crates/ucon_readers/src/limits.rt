@@ -65,12 +65,12 @@ fn first_of_test(state: &State, n: u32, start: Int, first: Option<i64>, test: &T
         → GivesWay (readings_in (shown state.now).policy (shown state.now).tables) row (test_timed (test_of test.now)) first result }
 {
     match test {
-        Test::A(f) => first_of_formula(state.tick(), start, first, f),
-        Test::B(o) => match form_limit(start, o.form, state.done_at(n, o)) {
+        Test::Authorisation(f) => first_of_formula(state.tick(), start, first, f),
+        Test::Obligation(o) => match form_limit(start, o.form, state.done_at(n, o)) {
             Some(limit) => earlier(state.tick(), first, limit),
             None => first,
         },
-        Test::C(f) => first_of_formula(state.tick(), start, first, f),
+        Test::Condition(f) => first_of_formula(state.tick(), start, first, f),
     }
 }
 

@@ -114,8 +114,8 @@ fn check_of(policy: &Policy, test: &Test) -> Option<Check>
     ensures { IfSome result (λ check. IsEnough (policy_of policy.now) check (λ R row. truth R row (test_of test.now))) }
 {
     match test {
-        Test::A(f) | Test::C(f) => formula_check(policy, f),
-        Test::B(_) => None,
+        Test::Authorisation(f) | Test::Condition(f) => formula_check(policy, f),
+        Test::Obligation(_) => None,
     }
 }
 

@@ -211,15 +211,15 @@ fn test(reader: &mut Reader, sort: TestSort) -> Result<Test, Stop>
     match sort {
         TestSort::A => {
             let f = read_formula(reader, MOST_LEVELS)?;
-            Ok(Test::A(f))
+            Ok(Test::Authorisation(f))
         }
         TestSort::B => {
             let o = duty(reader)?;
-            Ok(Test::B(o))
+            Ok(Test::Obligation(o))
         }
         TestSort::C => {
             let f = read_formula(reader, MOST_LEVELS)?;
-            Ok(Test::C(f))
+            Ok(Test::Condition(f))
         }
     }
 }

@@ -11,35 +11,35 @@ use Rattle.ucon_readers.specs.Limits.{GivesWay}
 use Rattle.ucon_readers.proofs.First.{limit_of_duty, without_limit}
 use Rattle.ucon_readers.proofs.limits.first_of_test.Goals as goal
 
-pub returns-in-A : goal.returns-in-A
-returns-in-A c = λ row there starts.
+pub returns-in-Authorisation : goal.returns-in-Authorisation
+returns-in-Authorisation c = λ row there starts.
     let s = shown c.args.state.now in
     let R = readings_in s.policy s.tables in
-    subst (λ (t : Test). GivesWay R row (test_timed (test_of t)) c.args.first c.first_of_formula.result) (sym c.in-A.is)
+    subst (λ (t : Test). GivesWay R row (test_timed (test_of t)) c.args.first c.first_of_formula.result) (sym c.in-Authorisation.is)
     (c.first_of_formula.ensures R row (sym c.tick.ensures) starts)
 
 pub returns-in-Some : goal.returns-in-Some
 returns-in-Some c = λ row there starts.
     let s = shown c.args.state.now in
     let R = readings_in s.policy s.tables in
-    let o : Obligation = c.in-B.o in
+    let o : Obligation = c.in-Obligation.o in
     let fits : SFits w64 c.in-Some.limit = search rules in
     let is = limit_of_duty R c.args.n row o c.args.start c.done_at.result c.form_limit.result there starts c.done_at.ensures c.form_limit.ensures in
-    subst (λ (t : Test). GivesWay R row (test_timed (test_of t)) c.args.first c.earlier.result) (sym c.in-B.is)
+    subst (λ (t : Test). GivesWay R row (test_timed (test_of t)) c.args.first c.earlier.result) (sym c.in-Obligation.is)
     (c.earlier.ensures R row (owed o) (sym c.tick-in-Some.ensures) (is ∙ c.in-Some.is ∙ ap Some (sym (to_z-of_z w64 c.in-Some.limit fits))))
 
 pub returns-in-None : goal.returns-in-None
 returns-in-None c = λ row there starts.
     let s = shown c.args.state.now in
     let R = readings_in s.policy s.tables in
-    let o : Obligation = c.in-B.o in
+    let o : Obligation = c.in-Obligation.o in
     let is = limit_of_duty R c.args.n row o c.args.start c.done_at.result c.form_limit.result there starts c.done_at.ensures c.form_limit.ensures in
-    subst (λ (t : Test). GivesWay R row (test_timed (test_of t)) c.args.first c.args.first) (sym c.in-B.is)
+    subst (λ (t : Test). GivesWay R row (test_timed (test_of t)) c.args.first c.args.first) (sym c.in-Obligation.is)
     (without_limit R row (owed o) c.args.first (is ∙ c.in-None.is))
 
-pub returns-in-C : goal.returns-in-C
-returns-in-C c = λ row there starts.
+pub returns-in-Condition : goal.returns-in-Condition
+returns-in-Condition c = λ row there starts.
     let s = shown c.args.state.now in
     let R = readings_in s.policy s.tables in
-    subst (λ (t : Test). GivesWay R row (test_timed (test_of t)) c.args.first c.first_of_formula-in-C.result) (sym c.in-C.is)
-    (c.first_of_formula-in-C.ensures R row (sym c.tick-in-C.ensures) starts)
+    subst (λ (t : Test). GivesWay R row (test_timed (test_of t)) c.args.first c.first_of_formula-in-Condition.result) (sym c.in-Condition.is)
+    (c.first_of_formula-in-Condition.ensures R row (sym c.tick-in-Condition.ensures) starts)
