@@ -8,7 +8,7 @@ use ucon_disk::Disk;
 use ucon_journal::Journal;
 
 /// Whether there may be checkpoints in the journal's file.
-#[tactic(auto, using(crate::proofs::Versions::of_version))]
+#[tactic(auto, using(crate::proofs::WalkedVersions::of_version))]
 pub fn has_points<D: Disk>(journal: &Journal<D>) -> bool
     ensures { result ≡ points_of (version_of journal.now) }
 {

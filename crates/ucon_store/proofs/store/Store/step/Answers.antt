@@ -28,7 +28,7 @@ pub prepare-requires-clause-few : goal.prepare-requires-clause-few
 prepare-requires-clause-few g c =
     let inv = c.self.invariant in
     let H = c.self.inside.entries in
-    let said_is = c.in_ok-drafted.ensures.reply inv.P (trace_from inv.P inv.begun H) (inv.stands inv.begun inv.starts) in
+    let said_is = c.in_ok-reply.ensures.reply inv.P (trace_from inv.P inv.begun H) (inv.stands inv.begun inv.starts) in
     subst (λ (r : PlainReply). length (revocations_in r) ≤ 65536) (sym said_is) (inv.revokes inv.begun inv.starts H c.args.caller c.args.command.now)
 
 pub record-requires-clause-closed : goal.record-requires-clause-closed
@@ -43,9 +43,9 @@ module _ (g : Over) (c : After-record g) where
   ready : IsReady g.D.Disk.seen c.args.self.now c.prepare.new.journal (entry c.args.caller c.args.command.now) c.deref.result.now
   ready =
       let none : c.self.inside.mark ≡ None = unmarked c.self.inside.mark (search rules) in
-      let changed : c.in_ok-drafted.drafted.changes ≡ true = search rules in
+      let changed : c.changes.result ≡ true = search rules in
       ready_for c.self.invariant c.self.view_is none c.prepare.ensures.closed c.prepare.ensures.disk (entry c.args.caller c.args.command.now)
-      (reply_of c.in_ok-drafted.drafted.reply) (sym c.in_ok-drafted.ensures.changes ∙ changed) c.in_ok-drafted.ensures.reply
+      (reply_of c.in_ok-reply.reply) (sym c.changes.ensures ∙ changed) c.in_ok-reply.ensures.reply
       c.deref.ensures.value c.in_default.ensures.spelled c.in_default.ensures.taken
 
   one : OneByOne
@@ -108,9 +108,9 @@ module _ (g : Over) (c : In_default-record g) where
 pub invariant_of-self-2 : goal.invariant_of-self-2
 invariant_of-self-2 g c =
     let there = (goal.at.invariant_of-self-2 g c).In_default-record in
-    let changed : c.in_ok-drafted.drafted.changes ≡ true = search rules in
+    let changed : c.changes.result ≡ true = search rules in
     kept_more c.self.invariant (g.E.Engine.has_pending c.draft.new.self) (entry c.args.caller c.args.command.now)
-    (c.in_ok-drafted.ensures.pending changed) c.record.new.engine c.record.new.journal (unmarked c.self.inside.mark (search rules))
+    (c.in_ok-reply.ensures.pending (sym c.changes.ensures ∙ changed)) c.record.new.engine c.record.new.journal (unmarked c.self.inside.mark (search rules))
     c.prepare.ensures.gate (appended g there) c.record.ensures.small c.in_default-record.ensures.kept c.in_default-record.ensures.settled
     (c.in_default-record.ensures.in_force ∙ ap (λ (t : Bytes). text_behind t c.args.command.now) c.prepare.ensures.in_force) (grown g there)
 
@@ -152,12 +152,12 @@ returns-in-Err-clause-stays g c =
 
 -- ---- behind a history, from what is said behind its trace
 
-pub returns-then-not-drafted-clause-placed_behind : goal.returns-then-not-drafted-clause-placed_behind
-returns-then-not-drafted-clause-placed_behind g c = search rules
+pub returns-then-not-changes-clause-placed_behind : goal.returns-then-not-changes-clause-placed_behind
+returns-then-not-changes-clause-placed_behind g c = search rules
 
-pub returns-then-not-drafted-clause-placed : goal.returns-then-not-drafted-clause-placed
-returns-then-not-drafted-clause-placed g c =
-    placed_whole (ap (λ (s : Kept g.row.D.Denot). s.before) c.self.view_is) (returns-then-not-drafted-clause-placed_behind g c)
+pub returns-then-not-changes-clause-placed : goal.returns-then-not-changes-clause-placed
+returns-then-not-changes-clause-placed g c =
+    placed_whole (ap (λ (s : Kept g.row.D.Denot). s.before) c.self.view_is) (returns-then-not-changes-clause-placed_behind g c)
 
 pub returns-clause-placed_behind : goal.returns-clause-placed_behind
 returns-clause-placed_behind g c = search rules
@@ -199,9 +199,9 @@ pub returns-in-Err-clause-adds : goal.returns-in-Err-clause-adds
 returns-in-Err-clause-adds g c =
     nothing g (goal.at.returns-in-Err-clause-adds g c).Else-is_some (disk_of c.prepare.new.journal) c.prepare.ensures.disk
 
-pub returns-then-not-drafted-clause-adds : goal.returns-then-not-drafted-clause-adds
-returns-then-not-drafted-clause-adds g c =
-    nothing g (goal.at.returns-then-not-drafted-clause-adds g c).Else-is_some (disk_of c.self.inside.journal) refl
+pub returns-then-not-changes-clause-adds : goal.returns-then-not-changes-clause-adds
+returns-then-not-changes-clause-adds g c =
+    nothing g (goal.at.returns-then-not-changes-clause-adds g c).Else-is_some (disk_of c.self.inside.journal) refl
 
-pub returns-in_err-drafted-clause-adds : goal.returns-in_err-drafted-clause-adds
-returns-in_err-drafted-clause-adds g c = nothing g (goal.at.returns-in_err-drafted-clause-adds g c).Else-is_some (disk_of c.self.inside.journal) refl
+pub returns-in_err-reply-clause-adds : goal.returns-in_err-reply-clause-adds
+returns-in_err-reply-clause-adds g c = nothing g (goal.at.returns-in_err-reply-clause-adds g c).Else-is_some (disk_of c.self.inside.journal) refl
