@@ -7,17 +7,104 @@ use std::thread::Threads;
 use ucon_client::OpenGate;
 use ucon_disk::MemDisk;
 use ucon_flow::{MemSink, MemSource};
-use ucon_top::{Outcome, report, run};
+use ucon_top::{report, run};
+use ucon_vectors::Played;
+
+/// What a run is given.
+#[derive(Clone, Copy)]
+pub struct Given<'a> {
+    pub words: &'a [&'a str],
+    pub document: &'a [u8],
+    /// The file in parts.
+    pub file: &'a [&'a [u8]],
+    /// How many bytes a call of the source gives, and one of the sink takes, at the most.
+    pub piece: usize,
+    /// The numbers of the calls that fail, from 0.
+    pub source_faults: &'a [u64],
+    pub sink_faults: &'a [u64],
+    pub disk_faults: &'a [u64],
+    /// After how many calls the disk stops.
+    pub disk_calls: Option<u64>,
+}
+
+/// No document, and a disk that isn't called.
+pub const ALONE: Given<'static> = Given {
+    words: &[],
+    document: b"",
+    file: &[],
+    piece: 3,
+    source_faults: &[],
+    sink_faults: &[],
+    disk_faults: &[],
+    disk_calls: Some(0),
+};
+
+/// No document, and an empty file.
+pub const OVER: Given<'static> = Given {
+    disk_calls: None,
+    piece: 4096,
+    ..ALONE
+};
+
+impl Given<'_> {
+    /// What a row is run on. The sink takes a byte a call.
+    pub fn of(row: &Played) -> Given<'static> {
+        Given {
+            words: row.words,
+            document: row.document,
+            file: row.file,
+            piece: 1,
+            sink_faults: row.sink_faults,
+            disk_faults: row.disk_faults,
+            ..OVER
+        }
+    }
+}
 
 /// How a run ended.
 #[derive(Drop)]
 pub struct End {
     pub status: u8,
-    /// What went out.
-    pub output: Vec<u8>,
-    /// The line that is printed of the outcome.
-    pub told: Vec<u8>,
+    /// Where the output went.
+    pub sink: MemSink,
+    /// Where the line of the outcome went.
+    pub told: MemSink,
     pub disk: MemDisk,
+}
+
+impl End {
+    /// What of an end isn't so. The file is told in parts.
+    pub fn wrong(
+        &self,
+        status: u8,
+        output: &[u8],
+        told: &[u8],
+        left: &[&[u8]],
+    ) -> Option<&'static str> {
+        if self.status != status {
+            Some("status")
+        } else if self.sink.bytes() != output {
+            Some("output")
+        } else if self.told.bytes() != told {
+            Some("told")
+        } else if !has_parts(self.disk.contents(), left) {
+            Some("left")
+        } else {
+            None
+        }
+    }
+}
+
+/// Whether these parts stand one behind the other, and nothing else.
+fn has_parts(bytes: &[u8], parts: &[&[u8]]) -> bool {
+    let mut rest = bytes;
+    for part in parts {
+        match rest.strip_prefix(*part) {
+            Some(behind) => rest = behind,
+            None => return false,
+        }
+    }
+    rest.is_empty()
 }
 
 fn words(alloc: Global, all: &[&str]) -> Result<Vec<String>, Fail> {
@@ -28,60 +115,57 @@ fn words(alloc: Global, all: &[&str]) -> Result<Vec<String>, Fail> {
     Ok(words)
 }
 
-fn fault_text(alloc: Global, outcome: &Outcome) -> Result<Vec<u8>, Fail> {
-    let mut err = MemSink::new(alloc, 3, Vec::new(alloc));
-    let _ = report(outcome, &mut err);
-    Ok(Vec::from_slice(alloc, err.bytes())?)
+fn disk_of(alloc: Global, given: &Given<'_>) -> Result<MemDisk, Fail> {
+    let file = given.file.concat(alloc)?;
+    let faults = Vec::from_slice(alloc, given.disk_faults)?;
+    Ok(MemDisk::new(alloc, file, faults, given.disk_calls))
 }
 
-/// What went out, and the line that is printed of the outcome.
-fn texts(alloc: Global, output: &[u8], outcome: &Outcome) -> Result<(Vec<u8>, Vec<u8>), Fail> {
-    Ok((Vec::from_slice(alloc, output)?, fault_text(alloc, outcome)?))
-}
-
-/// How a run of these words ends.
+/// How a run ends.
 pub fn ran<R: Threads + Wait + Sync>(
     rt: &R,
     alloc: Global,
-    all: &[&str],
-    mut source: MemSource,
-    mut sink: MemSink,
-    disk: MemDisk,
+    given: &Given<'_>,
 ) -> Result<End, Fail> {
-    let words = words(alloc, all)?;
+    let words = words(alloc, given.words)?;
+    let disk = disk_of(alloc, given)?;
+    let document = Vec::from_slice(alloc, given.document)?;
+    let faults = Vec::from_slice(alloc, given.source_faults)?;
+    let sink_faults = Vec::from_slice(alloc, given.sink_faults)?;
+    let piece = given.piece.max(1);
+    let mut source = MemSource::new(document, piece, faults);
+    let mut sink = MemSink::new(alloc, piece, sink_faults);
+    let mut told = MemSink::new(alloc, piece, Vec::new(alloc));
     let ended = run(rt, alloc, &words, &mut source, &mut sink, disk, &OpenGate);
-    let (output, told) = texts(alloc, sink.bytes(), &ended.outcome)?;
+    let _ = report(&ended.outcome, &mut told);
     Ok(End {
         status: ended.status,
-        output,
+        sink,
         told,
         disk: ended.disk,
     })
 }
 
-/// For the forms that make no call of it.
-pub fn no_disk(alloc: Global) -> MemDisk {
-    MemDisk::new(alloc, Vec::new(alloc), Vec::new(alloc), Some(0))
-}
-
-/// A disk that holds this file, whose calls of these numbers fail.
-pub fn disk_of(alloc: Global, file: &[u8], faults: &[u64]) -> Result<MemDisk, Fail> {
-    let file = Vec::from_slice(alloc, file)?;
-    Ok(MemDisk::new(alloc, file, Vec::from_slice(alloc, faults)?, None))
-}
-
-/// How a form without a journal ends over a document.
-pub fn alone<R: Threads + Wait + Sync>(
+/// How words over a document and a file end, which has to be well.
+pub fn done<R: Threads + Wait + Sync>(
     rt: &R,
     alloc: Global,
-    form: &str,
+    words: &[&str],
     document: &[u8],
+    file: &[u8],
 ) -> Result<End, Fail> {
-    let source = MemSource::new(Vec::from_slice(alloc, document)?, 7, Vec::new(alloc));
-    let sink = MemSink::new(alloc, 3, Vec::new(alloc));
-    ran(rt, alloc, &[form], source, sink, no_disk(alloc))
-}
-
-pub fn same(one: &[u8], other: &[u8]) -> bool {
-    one == other
+    let end = ran(
+        rt,
+        alloc,
+        &Given {
+            words,
+            document,
+            file: &[file],
+            ..OVER
+        },
+    )?;
+    if end.status != 0 {
+        return Err("status".into());
+    }
+    Ok(end)
 }
