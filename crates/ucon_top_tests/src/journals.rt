@@ -1,6 +1,6 @@
 //! Documents over journals, and what the files hold behind them.
 
-use crate::runs::{Given, OVER, ran};
+use crate::runs::{End, disk_of, done, ran, sink_of, source_of};
 use std::alloc::Global;
 use std::sync::Wait;
 use std::test::Fail;
@@ -10,6 +10,14 @@ use ucon_vectors::{
     POINTED_ROWS, Played, REPORTED_ROWS, UNEXPLAINED_ROWS, UNTOLD_ROWS, document,
 };
 
+/// How a row's form ends over its document and its file.
+fn played<R: Threads + Wait + Sync>(rt: &R, alloc: Global, row: &Played) -> Result<End, Fail> {
+    let source = source_of(alloc, row.document, 7, &[])?;
+    let sink = sink_of(alloc, row.sink_faults)?;
+    let disk = disk_of(alloc, row.file, row.disk_faults)?;
+    ran(rt, alloc, row.words, source, sink, disk)
+}
+
 /// The first row that is wrong, and what of it.
 fn first_wrong<R: Threads + Wait + Sync>(
     rt: &R,
@@ -17,7 +25,7 @@ fn first_wrong<R: Threads + Wait + Sync>(
     rows: &[Played],
 ) -> Result<Option<(&'static str, &'static str)>, Fail> {
     for row in rows {
-        let end = ran(rt, alloc, &Given::of(row))?;
+        let end = played(rt, alloc, row)?;
         if let Some(part) = end.wrong(row.status, row.output, row.told, row.left) {
             return Ok(Some((row.name, part)));
         }
@@ -56,34 +64,14 @@ fn journals_are_told_of(rt: HostRuntime) -> Result<(), Fail> {
 #[test]
 fn amended_rows_are_found_again(rt: HostRuntime) -> Result<(), Fail> {
     let alloc = rt.alloc();
-    let play = Given {
-        words: &["play", "j"],
-        ..OVER
-    };
     for row in AMENDED_ROWS {
-        let document_of = document(alloc, row.policy, row.script)?;
-        let first = ran(
-            &rt,
-            alloc,
-            &Given {
-                document: &document_of,
-                ..play
-            },
-        )?;
-        let left = [first.disk.contents()];
-        let wrong = first.wrong(0, row.output, b"", &left);
-        assert!(rt; wrong.is_none(), "{}: {wrong:?}", row.name);
+        let whole = document(alloc, row.policy, row.script)?;
+        let first = done(&rt, alloc, &["play", "j"], &whole, b"")?;
+        let file = first.disk.contents();
+        assert!(rt; first.sink.bytes() == row.output, "{}", row.name);
         let silent = document(alloc, row.policy, b"")?;
-        let again = ran(
-            &rt,
-            alloc,
-            &Given {
-                document: &silent,
-                file: &left,
-                ..play
-            },
-        )?;
-        let wrong = again.wrong(0, b"", b"", &left);
+        let again = done(&rt, alloc, &["play", "j"], &silent, file)?;
+        let wrong = again.wrong(0, b"", b"", &[file]);
         assert!(rt; wrong.is_none(), "{} again: {wrong:?}", row.name);
     }
     Ok(())

@@ -1,10 +1,11 @@
 //! What the forms without a journal print.
 
-use crate::runs::{ALONE, Given, ran};
+use crate::runs::{End, no_disk, ran, sink_of, source_of};
 use std::alloc::Global;
 use std::sync::Wait;
 use std::test::Fail;
 use std::thread::Threads;
+use ucon_flow::MemSink;
 use ucon_script::{generate, read_script};
 use ucon_vectors::{
     AMENDED_ROWS, CAPPED, Example, GENERATED_ROWS, GUIDE_EXAMPLES, LANGUAGE_EXAMPLES, TIMED_ROWS,
@@ -20,12 +21,9 @@ fn wrong_print<R: Threads + Wait + Sync>(
     status: u8,
     text: &[u8],
 ) -> Result<Option<&'static str>, Fail> {
-    let given = Given {
-        words: &[form],
-        document,
-        ..ALONE
-    };
-    let end = ran(rt, alloc, &given)?;
+    let source = source_of(alloc, document, 7, &[])?;
+    let sink = MemSink::new(alloc, 3, Vec::new(alloc));
+    let end = ran(rt, alloc, &[form], source, sink, no_disk(alloc))?;
     Ok(if status == 0 {
         end.wrong(0, text, b"", &[])
     } else {
@@ -315,35 +313,28 @@ const CASES: &[Case] = &[
 
 #[test]
 fn other_ends(rt: HostRuntime) -> Result<(), Fail> {
+    let alloc = rt.alloc();
     for case in CASES {
-        let given = Given {
-            words: case.words,
-            document: b"%%\nclient 0\nsubject a\n",
-            piece: 1,
-            source_faults: case.source_faults,
-            sink_faults: case.sink_faults,
-            ..ALONE
-        };
-        let end = ran(&rt, rt.alloc(), &given)?;
+        let source = source_of(alloc, b"%%\nclient 0\nsubject a\n", 4, case.source_faults)?;
+        let sink = sink_of(alloc, case.sink_faults)?;
+        let end = ran(&rt, alloc, case.words, source, sink, no_disk(alloc))?;
         let wrong = end.wrong(case.status, case.output, case.told, &[]);
         assert!(rt; wrong.is_none(), "{:?}: {wrong:?}", case.words);
     }
     Ok(())
 }
 
-/// `gen` over these words. The source would fail if it were read.
-fn generating<'a>(words: &'a [&'a str]) -> Given<'a> {
-    Given {
-        words,
-        source_faults: &[0],
-        ..ALONE
-    }
+/// How a run of `gen` over these words ends. The source would fail if it were read.
+fn generated<R: Threads + Wait + Sync>(rt: &R, alloc: Global, words: &[&str]) -> Result<End, Fail> {
+    let source = source_of(alloc, b"", 7, &[0])?;
+    let sink = MemSink::new(alloc, 3, Vec::new(alloc));
+    ran(rt, alloc, words, source, sink, no_disk(alloc))
 }
 
 #[test]
 fn generated_documents_are_summed(rt: HostRuntime) -> Result<(), Fail> {
     for &(words, status, text) in GENERATED_ROWS {
-        let end = ran(&rt, rt.alloc(), &generating(words))?;
+        let end = generated(&rt, rt.alloc(), words)?;
         assert!(rt;
             end.status == status && end.sink.bytes() == text,
             "{words:?}"
@@ -355,9 +346,8 @@ fn generated_documents_are_summed(rt: HostRuntime) -> Result<(), Fail> {
 /// The same words make the same document and the same run.
 #[test]
 fn generated_twice(rt: HostRuntime) -> Result<(), Fail> {
-    let given = generating(&["gen", "7", "20000"]);
-    let first = ran(&rt, rt.alloc(), &given)?;
-    let again = ran(&rt, rt.alloc(), &given)?;
+    let first = generated(&rt, rt.alloc(), &["gen", "7", "20000"])?;
+    let again = generated(&rt, rt.alloc(), &["gen", "7", "20000"])?;
     let output = first.sink.bytes();
     assert!(rt; first.status == 0 && output.starts_with(b"lines 20025\n".as_slice()));
     assert!(rt; output == again.sink.bytes());

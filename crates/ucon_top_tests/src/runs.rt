@@ -1,4 +1,5 @@
 //! Runs of the top call.
+ghost use Rattle.std.specs.Prelude.{◌≤◌};
 
 use std::alloc::Global;
 use std::sync::Wait;
@@ -8,57 +9,34 @@ use ucon_client::OpenGate;
 use ucon_disk::MemDisk;
 use ucon_flow::{MemSink, MemSource};
 use ucon_top::{report, run};
-use ucon_vectors::Played;
 
-/// What a run is given.
-#[derive(Clone, Copy)]
-pub struct Given<'a> {
-    pub words: &'a [&'a str],
-    pub document: &'a [u8],
-    /// The file in parts.
-    pub file: &'a [&'a [u8]],
-    /// How many bytes a call of the source gives, and one of the sink takes, at the most.
-    pub piece: usize,
-    /// The numbers of the calls that fail, from 0.
-    pub source_faults: &'a [u64],
-    pub sink_faults: &'a [u64],
-    pub disk_faults: &'a [u64],
-    /// After how many calls the disk stops.
-    pub disk_calls: Option<u64>,
+/// A source of a document. It gives at most so many bytes a call, and its calls of these numbers fail.
+pub fn source_of(
+    alloc: Global,
+    document: &[u8],
+    piece: usize,
+    faults: &[u64],
+) -> Result<MemSource, Fail>
+    requires { 1 ≤ piece }
+{
+    let bytes = Vec::from_slice(alloc, document)?;
+    Ok(MemSource::new(bytes, piece, Vec::from_slice(alloc, faults)?))
 }
 
-/// No document, and a disk that isn't called.
-pub const ALONE: Given<'static> = Given {
-    words: &[],
-    document: b"",
-    file: &[],
-    piece: 3,
-    source_faults: &[],
-    sink_faults: &[],
-    disk_faults: &[],
-    disk_calls: Some(0),
-};
+/// A sink that takes a byte a call, of which those of these numbers fail.
+pub fn sink_of(alloc: Global, faults: &[u64]) -> Result<MemSink, Fail> {
+    Ok(MemSink::new(alloc, 1, Vec::from_slice(alloc, faults)?))
+}
 
-/// No document, and an empty file.
-pub const OVER: Given<'static> = Given {
-    disk_calls: None,
-    piece: 4096,
-    ..ALONE
-};
+/// A disk that holds these parts of a file, whose calls of these numbers fail.
+pub fn disk_of(alloc: Global, file: &[&[u8]], faults: &[u64]) -> Result<MemDisk, Fail> {
+    let bytes = file.concat(alloc)?;
+    Ok(MemDisk::new(alloc, bytes, Vec::from_slice(alloc, faults)?, None))
+}
 
-impl Given<'_> {
-    /// What a row is run on. The sink takes a byte a call.
-    pub fn of(row: &Played) -> Given<'static> {
-        Given {
-            words: row.words,
-            document: row.document,
-            file: row.file,
-            piece: 1,
-            sink_faults: row.sink_faults,
-            disk_faults: row.disk_faults,
-            ..OVER
-        }
-    }
+/// For the forms that make no call of it: each would fail.
+pub fn no_disk(alloc: Global) -> MemDisk {
+    MemDisk::new(alloc, Vec::new(alloc), Vec::new(alloc), Some(0))
 }
 
 /// How a run ended.
@@ -115,27 +93,17 @@ fn words(alloc: Global, all: &[&str]) -> Result<Vec<String>, Fail> {
     Ok(words)
 }
 
-fn disk_of(alloc: Global, given: &Given<'_>) -> Result<MemDisk, Fail> {
-    let file = given.file.concat(alloc)?;
-    let faults = Vec::from_slice(alloc, given.disk_faults)?;
-    Ok(MemDisk::new(alloc, file, faults, given.disk_calls))
-}
-
-/// How a run ends.
+/// How a run of these words ends.
 pub fn ran<R: Threads + Wait + Sync>(
     rt: &R,
     alloc: Global,
-    given: &Given<'_>,
+    all: &[&str],
+    mut source: MemSource,
+    mut sink: MemSink,
+    disk: MemDisk,
 ) -> Result<End, Fail> {
-    let words = words(alloc, given.words)?;
-    let disk = disk_of(alloc, given)?;
-    let document = Vec::from_slice(alloc, given.document)?;
-    let faults = Vec::from_slice(alloc, given.source_faults)?;
-    let sink_faults = Vec::from_slice(alloc, given.sink_faults)?;
-    let piece = given.piece.max(1);
-    let mut source = MemSource::new(document, piece, faults);
-    let mut sink = MemSink::new(alloc, piece, sink_faults);
-    let mut told = MemSink::new(alloc, piece, Vec::new(alloc));
+    let words = words(alloc, all)?;
+    let mut told = MemSink::new(alloc, 4096, Vec::new(alloc));
     let ended = run(rt, alloc, &words, &mut source, &mut sink, disk, &OpenGate);
     let _ = report(&ended.outcome, &mut told);
     Ok(End {
@@ -150,20 +118,13 @@ pub fn ran<R: Threads + Wait + Sync>(
 pub fn done<R: Threads + Wait + Sync>(
     rt: &R,
     alloc: Global,
-    words: &[&str],
+    all: &[&str],
     document: &[u8],
     file: &[u8],
 ) -> Result<End, Fail> {
-    let end = ran(
-        rt,
-        alloc,
-        &Given {
-            words,
-            document,
-            file: &[file],
-            ..OVER
-        },
-    )?;
+    let source = source_of(alloc, document, 4096, &[])?;
+    let sink = MemSink::new(alloc, 4096, Vec::new(alloc));
+    let end = ran(rt, alloc, all, source, sink, disk_of(alloc, &[file], &[])?)?;
     if end.status != 0 {
         return Err("status".into());
     }
