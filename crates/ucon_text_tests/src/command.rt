@@ -48,36 +48,39 @@ fn is_line_back(alloc: Global, line: &[u8]) -> bool {
     matches!(command_text(alloc, &copy), Ok(text) if text.as_slice() == line)
 }
 
-/// Whether a line is an act of these words, or sets an object's attribute to a text by them.
-fn has_words(alloc: Global, line: &[u8], words: &[&[u8]; 4]) -> bool {
+/// Whether these are the words of an act, or of a command that sets an object's attribute to a text.
+fn are_words(command: &Command, words: &[&[u8]; 4]) -> bool {
     let [word, first, second, third] = *words;
-    match read_command(alloc, line) {
-        Ok(
-            Command::Act {
-                subject,
-                action,
-                object,
-            },
-        ) => {
+    match command {
+        Command::Act {
+            subject,
+            action,
+            object,
+        } => {
             word == b"act".as_slice()
                 && subject.bytes() == first
                 && action.bytes() == second
                 && object.bytes() == third
         }
-        Ok(
-            Command::Set {
-                side: Side::Object,
-                name,
-                attr,
-                value: Value::Text(text),
-            },
-        ) => {
+        Command::Set {
+            side: Side::Object,
+            name,
+            attr,
+            value: Value::Text(text),
+        } => {
             word == b"set o".as_slice()
                 && name.bytes() == first
                 && attr.bytes() == second
                 && text.bytes() == third
         }
         _ => false,
+    }
+}
+
+fn has_words(alloc: Global, line: &[u8], words: &[&[u8]; 4]) -> bool {
+    match read_command(alloc, line) {
+        Ok(command) => are_words(&command, words),
+        Err(_) => false,
     }
 }
 
