@@ -53,25 +53,37 @@ fn coming(alloc: Global, text: &[u8]) -> Result<(ComingDocument, MemSource), Fai
     Ok((document, source))
 }
 
-/// What is seen of a document's lines as they come, and what stops it.
-fn seen_coming(
-    alloc: Global,
-    text: &[u8],
-) -> Result<(Vec<(u32, u8, u32)>, Option<ScriptStop>), Fail> {
+/// Whether a document's lines are seen so as they come, and nothing stops them.
+fn are_seen_coming(alloc: Global, text: &[u8], wanted: &[(u32, u8, u32)]) -> Result<bool, Fail> {
     let (document, mut source) = coming(alloc, text)?;
     let mut script = document.script;
-    let mut lines = Vec::new(alloc);
+    let mut rest = wanted.iter();
     for _ in 0..u64::MAX {
         if script.is_over() {
             break;
         }
         match script.next(alloc, &mut source) {
-            Ok(Some(line)) => lines.push(seen(&line))?,
+            Ok(Some(line)) if rest.next() == Some(&seen(&line)) => {}
             Ok(None) => {}
-            Err(stop) => return Ok((lines, Some(stop))),
+            _ => return Ok(false),
         }
     }
-    Ok((lines, None))
+    Ok(rest.next().is_none())
+}
+
+/// What stops a document's lines as they come.
+fn stop_of(alloc: Global, text: &[u8]) -> Result<Option<ScriptStop>, Fail> {
+    let (document, mut source) = coming(alloc, text)?;
+    let mut script = document.script;
+    for _ in 0..u64::MAX {
+        if script.is_over() {
+            break;
+        }
+        if let Err(stop) = script.next(alloc, &mut source) {
+            return Ok(Some(stop));
+        }
+    }
+    Ok(None)
 }
 
 /// A line's number, its client, and the session that it looks at; 0 for another command.
@@ -160,9 +172,8 @@ fn lines_have_their_numbers_and_clients(rt: HostRuntime) -> Result<(), Fail> {
             "{} in place",
             text.escape_ascii()
         );
-        let (coming, stop) = seen_coming(rt.alloc(), text)?;
         assert!(rt;
-            coming.as_slice() == lines && stop.is_none(),
+            are_seen_coming(alloc, text, lines)?,
             "{} coming",
             text.escape_ascii()
         );
@@ -251,9 +262,8 @@ fn the_first_refusal_decides(rt: HostRuntime) -> Result<(), Fail> {
             "{}",
             text.escape_ascii()
         );
-        let (_, stop) = seen_coming(rt.alloc(), text)?;
         assert!(rt;
-            stop == Some(ScriptStop::Refused(first)),
+            stop_of(rt.alloc(), text)? == Some(ScriptStop::Refused(first)),
             "{} coming",
             text.escape_ascii()
         );
