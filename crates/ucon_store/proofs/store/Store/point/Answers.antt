@@ -1,4 +1,4 @@
-use Rattle.std.proofs.Common.{rules, ◌≡◌, ◌+◌, ◌∙◌, [], ℕ, None, Some, Err, ap, subst, sym, arith}
+use Rattle.std.proofs.Common.{rules, ◌≡◌, ◌+◌, ◌∙◌, ◌∷◌, [], ℕ, None, Some, Err, ap, subst, sym, arith}
 use Rattle.std.specs.Prelude.{Result, IfErr}
 use Rattle.ucon_journal.specs.Journal.{disk_of}
 use Rattle.ucon_model.specs.Action.{Trace}
