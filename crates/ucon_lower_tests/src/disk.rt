@@ -1,48 +1,44 @@
 //! What no clause says: the tables of images, and a real file.
 
-use std::alloc::{AllocError, Global};
+use std::alloc::Global;
 use std::process::Abort;
 use std::test::Fail;
 use std::{env, fs, process};
 use ucon_base::NoMemory;
 use ucon_disk::{Disk, FileDisk, MemDisk};
 
+/// A call of a disk, and what it gives if it succeeds.
 #[derive(Clone, Copy)]
-enum Op {
+enum Call {
     Write(u64, &'static str),
     Cut(u64),
     Sync,
+    Len(u64),
+    /// What is read from a place on into room for three bytes.
+    Read(u64, &'static str),
 }
 
-use Op::{Cut, Sync, Write};
+use Call::{Cut, Len, Read, Sync, Write};
 
-fn apply(rt: &impl Abort, disk: &mut MemDisk, op: Op) {
+/// Makes a call, and tells whether it succeeds and gives this.
+fn succeeds(rt: &impl Abort, disk: &mut MemDisk, call: Call) -> bool {
     let len = disk.contents().len() as u64;
-    let _ = match op {
+    match call {
         Write(at, text) => {
             assert!(rt; at <= len && text.len() <= 9);
-            disk.write_at(at, text.as_bytes())
+            disk.write_at(at, text.as_bytes()).is_ok()
         }
         Cut(to) => {
             assert!(rt; to <= len);
-            disk.cut(to)
+            disk.cut(to).is_ok()
         }
-        Sync => disk.sync(),
-    };
-}
-
-/// A disk of `abc` after these calls, some of which fail.
-fn after(
-    alloc: Global,
-    rt: &impl Abort,
-    ops: &[Op],
-    failing: &[u64],
-) -> Result<MemDisk, AllocError> {
-    let mut disk = MemDisk::new(alloc, b"abc".to_vec(alloc)?, failing.to_vec(alloc)?, None);
-    for op in ops {
-        apply(rt, &mut disk, *op);
+        Sync => disk.sync().is_ok(),
+        Len(wanted) => disk.len().ok() == Some(wanted),
+        Read(at, wanted) => {
+            let mut buf = [0; 3];
+            matches!(disk.read_at(at, &mut buf), Ok(n) if &buf[..n] == wanted.as_bytes())
+        }
     }
-    Ok(disk)
 }
 
 /// All images of a disk, by length, with `?` in each open place.
@@ -57,86 +53,73 @@ fn images(alloc: Global, disk: &MemDisk) -> Result<Vec<u8>, NoMemory> {
     Ok(all)
 }
 
-/// Whether these are all images of a disk, and no call fell short.
-fn has_images(alloc: Global, disk: &MemDisk, want: &[u8]) -> bool {
-    matches!(images(alloc, disk), Ok(all) if all.as_slice() == want) && disk.short() == 0
-}
+/// What a disk holds, calls, the numbers of those that fail, and the images after them.
+type Row = (
+    &'static [u8],
+    &'static [Call],
+    &'static [u64],
+    &'static [u8],
+);
 
-/// Calls, those that fail, and the images after them.
-const IMAGES: &[(&[Op], &[u64], &[u8])] = &[
-    (&[], &[], b"|abc"),
-    (&[Write(3, "de")], &[], b"|abc|abc?|abc??"),
-    (&[Write(1, "X")], &[], b"|a?c"),
-    (&[Write(0, "")], &[], b"|abc"),
-    (&[Cut(1)], &[], b"|a|ab|abc"),
-    (&[Cut(1), Write(1, "XYZ")], &[], b"|a|a?|a??|a???"),
-    (&[Cut(1), Sync], &[], b"|a"),
-    (&[Cut(1), Sync, Write(1, "XY")], &[], b"|a|a?|a??"),
-    (&[Write(3, "de"), Sync], &[], b"|abcde"),
+const IMAGES: &[Row] = &[
+    (b"abc", &[], &[], b"|abc"),
+    (b"abc", &[Write(3, "de")], &[], b"|abc|abc?|abc??"),
+    (b"abc", &[Write(1, "X")], &[], b"|a?c"),
+    (b"abc", &[Write(0, "")], &[], b"|abc"),
+    (b"abc", &[Cut(1)], &[], b"|a|ab|abc"),
+    (b"abc", &[Cut(1), Write(1, "XYZ")], &[], b"|a|a?|a??|a???"),
+    (b"abc", &[Cut(1), Sync], &[], b"|a"),
+    (b"abc", &[Cut(1), Sync, Write(1, "XY")], &[], b"|a|a?|a??"),
+    (b"abc", &[Write(3, "de"), Sync], &[], b"|abcde"),
     (
+        b"abc",
         &[Write(3, "de"), Sync, Write(4, "fg")],
         &[],
         b"|abcd?|abcd??",
     ),
-    (&[Write(1, "X")], &[0], b"|a?c"),
-    (&[Write(2, "XYZ")], &[0], b"|ab?|ab??|ab???"),
-    (&[Cut(1)], &[0], b"|a|ab|abc"),
-    (&[Write(3, "de"), Sync], &[1], b"|abc|abc?|abc??"),
+    (b"abc", &[Write(1, "X")], &[0], b"|a?c"),
+    (b"abc", &[Write(2, "XYZ")], &[0], b"|ab?|ab??|ab???"),
+    (b"abc", &[Cut(1)], &[0], b"|a|ab|abc"),
+    (b"abc", &[Write(3, "de"), Sync], &[1], b"|abc|abc?|abc??"),
+    (b"", &[Write(0, "x")], &[], b"||?"),
 ];
 
 #[test]
 fn images_after_short_sequences(rt: HostRuntime) -> Result<(), Fail> {
-    for &(ops, failing, want) in IMAGES {
-        let disk = after(rt.alloc(), &rt, ops, failing)?;
-        assert!(rt; has_images(rt.alloc(), &disk, want), "{want:?}");
+    let alloc = rt.alloc();
+    for &(held, calls, failing, wanted) in IMAGES {
+        let mut disk = MemDisk::new(alloc, held.to_vec(alloc)?, failing.to_vec(alloc)?, None);
+        for &call in calls {
+            let _ = succeeds(&rt, &mut disk, call);
+        }
+        let found = images(alloc, &disk)?;
+        assert!(rt;
+            found.as_slice() == wanted && disk.short() == 0,
+            "{} failing {failing:?}",
+            wanted.escape_ascii()
+        );
     }
     Ok(())
 }
 
-/// Whether the image of a length has these bytes, where they are in its open places.
-fn is_filled(disk: &MemDisk, len: u64, bytes: &[u8]) -> bool {
-    match disk.image(len, bytes) {
-        Ok(Some(image)) => image.as_slice() == bytes,
-        _ => false,
-    }
-}
-
-/// Whether a byte that is written to an empty disk is open, and none stands behind it.
-fn is_one_byte_open(alloc: Global) -> bool {
-    let mut disk = MemDisk::new(alloc, Vec::new(alloc), Vec::new(alloc), None);
-    disk.write_at(0, b"x").is_ok()
-        && is_filled(&disk, 1, &[7])
-        && matches!(disk.image(2, &[]), Ok(None))
-}
-
-#[test]
-fn an_image_of_one_unsynced_byte(rt: HostRuntime) {
-    assert!(rt; is_one_byte_open(rt.alloc()));
-}
-
-/// Whether two reads are answered so behind one that fails.
-fn is_read(disk: &mut MemDisk) -> bool {
-    let mut buf = [0; 3];
-    disk.read_at(0, &mut buf).ok().is_none()
-        && disk.read_at(1, &mut buf).ok() == Some(1)
-        && buf[0] == b'b'
-        && disk.read_at(9, &mut buf).ok() == Some(0)
-}
-
-/// Whether a disk answers its length and two reads, and then nothing.
-fn is_stopped_behind_reads(disk: &mut MemDisk) -> bool {
-    disk.len().ok() == Some(2)
-        && is_read(disk)
-        && disk.sync().is_err()
-        && disk.len().is_err()
-        && disk.short() == 0
-}
+/// Calls of a disk of two bytes, of which the second fails and which stops after four, and whether each succeeds.
+const ANSWERED: &[(Call, bool)] = &[
+    (Len(2), true),
+    (Read(0, "ab"), false),
+    (Read(1, "b"), true),
+    (Read(9, ""), true),
+    (Sync, false),
+    (Len(2), false),
+];
 
 #[test]
 fn calls_fail_as_planned(rt: HostRuntime) -> Result<(), Fail> {
     let alloc = rt.alloc();
     let mut disk = MemDisk::new(alloc, b"ab".to_vec(alloc)?, [1].to_vec(alloc)?, Some(4));
-    assert!(rt; is_stopped_behind_reads(&mut disk));
+    for (at, &(call, wanted)) in ANSWERED.iter().enumerate() {
+        assert!(rt; succeeds(&rt, &mut disk, call) == wanted, "call {at}");
+    }
+    assert!(rt; disk.short() == 0);
     Ok(())
 }
 
@@ -147,12 +130,8 @@ fn own_path(rt: &HostRuntime, behind: &str) -> Result<String, Fail> {
     Ok(format!(in rt.alloc(); "{}/ucon_disk_{number}{behind}", folder.as_str())?)
 }
 
-fn file_at(rt: HostRuntime, path: &str) -> Result<FileDisk<HostRuntime>, AllocError> {
-    Ok(FileDisk::new(rt, String::from_str(rt.alloc(), path)?))
-}
-
-/// Whether the calls succeed that leave four bytes.
-fn leave_four(disk: &mut FileDisk<HostRuntime>) -> bool {
+/// Whether the calls succeed that leave four bytes in a file.
+fn leaves_four(mut disk: FileDisk<HostRuntime>) -> bool {
     disk.write_at(0, b"abcdef").is_ok()
         && disk.sync().is_ok()
         && disk.cut(4).is_ok()
@@ -160,7 +139,7 @@ fn leave_four(disk: &mut FileDisk<HostRuntime>) -> bool {
 }
 
 /// Whether the four bytes are there, and a place that is too far is refused.
-fn has_four(disk: &mut FileDisk<HostRuntime>) -> bool {
+fn has_four(mut disk: FileDisk<HostRuntime>) -> bool {
     let mut buf = [0; 9];
     disk.len().ok() == Some(4)
         && disk.read_at(1, &mut buf).ok() == Some(3)
@@ -168,35 +147,15 @@ fn has_four(disk: &mut FileDisk<HostRuntime>) -> bool {
         && disk.write_at(1 << 63, b"x").is_err()
 }
 
-fn are_left(rt: HostRuntime, path: &str) -> bool {
-    match file_at(rt, path) {
-        Ok(mut disk) => leave_four(&mut disk),
-        Err(_) => false,
-    }
-}
-
-fn are_there(rt: HostRuntime, path: &str) -> bool {
-    match file_at(rt, path) {
-        Ok(mut disk) => has_four(&mut disk),
-        Err(_) => false,
-    }
-}
-
-/// Whether four bytes are left in a file and there when it is opened again, and it is removed then.
-fn is_kept(rt: HostRuntime, path: &str) -> bool {
-    are_left(rt, path) && are_there(rt, path) && fs::remove_file(&rt, path).is_ok()
-}
-
+/// The file is opened again between the calls, and removed behind them. One in no folder has no length.
 #[test]
 fn a_real_file_is_kept(rt: HostRuntime) -> Result<(), Fail> {
-    let path = own_path(&rt, "")?;
-    assert!(rt; is_kept(rt, path.as_str()));
-    Ok(())
-}
-
-#[test]
-fn a_file_in_no_folder_has_no_length(rt: HostRuntime) -> Result<(), Fail> {
-    let nowhere = own_path(&rt, "/none/none")?;
+    let (path, nowhere) = (own_path(&rt, "")?, own_path(&rt, "/none/none")?);
+    let opened = String::from_str(rt.alloc(), path.as_str())?;
+    let again = String::from_str(rt.alloc(), path.as_str())?;
+    assert!(rt; leaves_four(FileDisk::new(rt, opened)));
+    assert!(rt; has_four(FileDisk::new(rt, again)));
+    assert!(rt; fs::remove_file(&rt, path.as_str()).is_ok());
     assert!(rt; FileDisk::new(rt, nowhere).len().is_err());
     Ok(())
 }

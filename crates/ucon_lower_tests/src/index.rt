@@ -1,4 +1,4 @@
-//! Tests of the index of `ucon_links`: a session is added, walked to, hidden and put back.
+//! Tests of the index of `ucon_links`: sessions are added, walked to, hidden and put back.
 
 ghost use Rattle.std.specs.Prelude.{◌≡◌, ◌-◌, ◌<◌, ◌≤◌, ◌^◌, true, [], ◌∷◌, length, map, IfOk};
 ghost use Rattle.ucon_links.specs.Dependents.{empty_place, is_there, place_at};
@@ -23,49 +23,34 @@ fn walk(alloc: Global, index: &Index, place: u32) -> Result<Vec<u32>, NoMemory>
     Ok(sessions)
 }
 
-/// Whether these are the sessions of a place.
-fn has(alloc: Global, index: &Index, place: u32, sessions: &[u32]) -> bool
-    requires { place < length index.now.places }
-{
-    matches!(walk(alloc, index, place), Ok(met) if met.as_slice() == sessions)
-}
-
 /// Whether these are the sessions of the two places.
 fn have(alloc: Global, index: &Index, first: &[u32], second: &[u32]) -> bool
     requires { length index.now.places ≡ 2 }
 {
-    has(alloc, index, 0, first) && has(alloc, index, 1, second)
+    matches!(walk(alloc, index, 0), Ok(met) if met.as_slice() == first)
+        && matches!(walk(alloc, index, 1), Ok(met) if met.as_slice() == second)
 }
 
-/// Two places without sessions, and room for so many nodes.
-fn two_places(alloc: Global, nodes: u32) -> Result<Index, NoMemory>
-    requires { nodes < 2 ^ 32 - 1 }
+/// Two places without sessions, and room for three nodes.
+fn two_places(alloc: Global) -> Result<Index, NoMemory>
     ensures places { IfOk result (λ index. index.places ≡ empty_place ∷ empty_place ∷ []) }
     ensures hidden { IfOk result (λ index. index.hidden ≡ []) }
-    ensures room { IfOk result (λ index. (nodes ≤ index.spare) × (nodes ≤ index.sessions)) }
+    ensures room { IfOk result (λ index. (3 ≤ index.spare) × (3 ≤ index.sessions)) }
 {
     let mut index = Index::new(alloc)?;
     index.grow(2)?;
-    index.reserve(nodes)?;
+    index.reserve(3)?;
     Ok(index)
 }
 
-/// How many places, sessions and nodes there are, and for how many more nodes there is room.
+/// How many places and nodes there are, below which number sessions may be added, and for how many more nodes there is room.
 fn counts(index: &Index) -> [u32; 4] {
     [
         index.place_count(),
-        index.session_count(),
         index.node_count(),
+        index.session_count(),
         index.spare(),
     ]
-}
-
-#[test]
-fn one_growth_and_one_reserve_let_a_session_be_added(rt: HostRuntime) -> Result<(), Fail> {
-    let mut index = two_places(rt.alloc(), 2)?;
-    index.add(1, &[0, 1]);
-    assert!(rt; has(rt.alloc(), &index, 1, &[1]) && counts(&index) == [2, 2, 2, 0]);
-    Ok(())
 }
 
 /// Adds session 1 to both places, and then session 2 to the second. False if session 1 isn't alone before.
@@ -77,7 +62,7 @@ fn add_both(alloc: Global, index: &mut Index) -> bool
     ensures there { is_there 1 index.new.places ≡ true }
 {
     index.add(1, &[0, 1]);
-    let is_alone = has(alloc, index, 1, &[1]);
+    let is_alone = have(alloc, index, &[1], &[1]) && counts(index) == [2, 2, 3, 1];
     index.add(2, &[1]);
     is_alone
 }
@@ -95,8 +80,9 @@ fn is_put_back(alloc: Global, index: &mut Index) -> bool
 
 #[test]
 fn a_place_has_the_sessions_that_are_added_and_not_hidden(rt: HostRuntime) -> Result<(), Fail> {
-    let mut index = two_places(rt.alloc(), 3)?;
+    let mut index = two_places(rt.alloc())?;
     assert!(rt; add_both(rt.alloc(), &mut index));
     assert!(rt; is_put_back(rt.alloc(), &mut index));
+    assert!(rt; counts(&index) == [2, 3, 3, 0]);
     Ok(())
 }

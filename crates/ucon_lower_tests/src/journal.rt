@@ -8,10 +8,24 @@ use ucon_base::NoMemory;
 use ucon_disk::{Disk, MemDisk};
 use ucon_journal::{DiskFault, Journal, OpenFault, TakeFault};
 
-/// Two payloads.
-const BOTH: &[&[u8]] = &[b"right r {}\n", b"0 subject a\nok"];
+const POLICY: &[u8] = b"right r {}\n";
 
+const STEP: &[u8] = b"0 subject a\nok";
+
+/// A journal of these two payloads.
 const BYTES: &[u8] = b"UCONJR02\x01\0\0\0\x0bright r {}\n\x01\0\0\0\x0e0 subject a\nok\0";
+
+/// What is added to a journal.
+#[derive(Clone, Copy)]
+enum Added {
+    /// These payloads, one after the other.
+    Each(&'static [&'static [u8]]),
+    /// The two payloads, as one batch.
+    Together,
+}
+
+/// The two payloads, one after the other.
+const BOTH: Added = Added::Each(&[POLICY, STEP]);
 
 fn at_rest(alloc: Global, bytes: &[u8], stop_after: Option<u64>) -> Result<MemDisk, AllocError> {
     Ok(MemDisk::new(alloc, bytes.to_vec(alloc)?, Vec::new(alloc), stop_after))
@@ -59,61 +73,39 @@ fn add<D: Disk>(journal: &mut Journal<D>, payload: &[u8]) -> Result<(), DiskFaul
     journal.append(payload)
 }
 
-// Adds both payloads together.
+// Adds the two payloads as one batch.
 fn add_together<D: Disk>(journal: &mut Journal<D>) -> Result<(), DiskFault>
     requires { IsClosed D.seen journal.old }
     ensures { OnOk result (IsClosed D.seen journal.new) }
 {
     journal.begin_batch();
-    if journal.put(b"right r {}\n").is_err() || journal.put(b"0 subject a\nok").is_err() {
+    if journal.put(POLICY).is_err() || journal.put(STEP).is_err() {
         return Err(DiskFault);
     }
     journal.append_all()
 }
 
-fn mend_and_add_together<D: Disk>(alloc: Global, journal: &mut Journal<D>) -> Result<(), DiskFault>
+fn add_all<D: Disk>(alloc: Global, journal: &mut Journal<D>, added: Added) -> Result<(), DiskFault>
     requires { IsReading D.seen journal.old }
 {
     if read_all(alloc, journal).is_err() {
         return Err(DiskFault);
     }
     journal.mend()?;
-    add_together(journal)
-}
-
-fn add_all<D: Disk>(
-    alloc: Global,
-    journal: &mut Journal<D>,
-    payloads: &[&[u8]],
-) -> Result<(), DiskFault>
-    requires { IsReading D.seen journal.old }
-{
-    if read_all(alloc, journal).is_err() {
-        return Err(DiskFault);
-    }
-    journal.mend()?;
+    let Added::Each(payloads) = added else {
+        return add_together(journal);
+    };
     'payloads: for payload in payloads {
         add(journal, *payload)?;
     }
     Ok(())
 }
 
-// Opens a journal, adds payloads, and tells whether it came to the end.
-fn run(alloc: Global, disk: MemDisk, payloads: &[&[u8]]) -> (MemDisk, bool) {
+// Opens a journal, adds to it, and tells whether it came to the end.
+fn run(alloc: Global, disk: MemDisk, added: Added) -> (MemDisk, bool) {
     match Journal::open(alloc, disk) {
         Ok(mut journal) => {
-            let done = add_all(alloc, &mut journal, payloads).is_ok();
-            (journal.close(), done)
-        }
-        Err((disk, _fault)) => (disk, false),
-    }
-}
-
-// The same with both payloads together.
-fn run_together(alloc: Global, disk: MemDisk) -> (MemDisk, bool) {
-    match Journal::open(alloc, disk) {
-        Ok(mut journal) => {
-            let done = mend_and_add_together(alloc, &mut journal).is_ok();
+            let done = add_all(alloc, &mut journal, added).is_ok();
             (journal.close(), done)
         }
         Err((disk, _fault)) => (disk, false),
@@ -140,45 +132,56 @@ fn found(alloc: Global, bytes: &[u8]) -> Option<Vec<u8>> {
     }
 }
 
-fn is_found(alloc: Global, bytes: &[u8], want: &[u8]) -> bool {
-    matches!(found(alloc, bytes), Some(all) if all.as_slice() == want)
-}
-
-/// Whether these bytes are in a file that was empty, once the payloads are added.
-fn is_written(alloc: Global, payloads: &[&[u8]], bytes: &[u8]) -> bool {
-    let Ok(empty) = at_rest(alloc, b"", None) else {
+// Whether one of these is found in a file, each payload ended by a bar.
+fn is_found(alloc: Global, bytes: &[u8], wants: &[&[u8]]) -> bool {
+    let Some(all) = found(alloc, bytes) else {
         return false;
     };
-    let (disk, done) = run(alloc, empty, payloads);
-    done && disk.contents() == bytes
+    for want in wants {
+        if all.as_slice() == *want {
+            return true;
+        }
+    }
+    false
 }
 
-/// Files, and what is found in each: both payloads, and nothing if the first record's length is too large.
+/// What is added to an empty file, and its bytes then. A batch is written as its payloads are.
+const WRITTEN: &[(Added, &[u8])] = &[
+    (BOTH, BYTES),
+    (Added::Together, BYTES),
+    (Added::Each(&[b"abc"]), b"UCONJR02\x01\0\0\0\x03abc\0"),
+];
+
+/// Files, and what is found in each: both payloads, and nothing if the first record's length is too large, or in a short file.
 const FOUND: &[(&[u8], &[u8])] = &[
     (BYTES, b"right r {}\n|0 subject a\nok|"),
     (
         b"UCONJR02\x01\xff\xff\xff\xffright r {}\n\x01\0\0\0\x0e0 subject a\nok\0",
         b"",
     ),
+    (b"", b""),
+    (b"foreigner", b""),
 ];
 
 #[test]
-fn worked_bytes_are_written_and_read(rt: HostRuntime) {
-    assert!(rt; is_written(rt.alloc(), BOTH, BYTES));
+fn worked_bytes_are_written_and_read(rt: HostRuntime) -> Result<(), Fail> {
+    let alloc = rt.alloc();
+    for &(added, bytes) in WRITTEN {
+        let (disk, done) = run(alloc, at_rest(alloc, b"", None)?, added);
+        assert!(rt;
+            done && disk.contents() == bytes,
+            "{}",
+            bytes.escape_ascii()
+        );
+    }
     for &(bytes, want) in FOUND {
-        assert!(rt; is_found(rt.alloc(), bytes, want), "{bytes:?}");
+        assert!(rt; is_found(alloc, bytes, &[want]), "{}", bytes.escape_ascii());
     }
     for len in 10..44 {
         let want: &[u8] = if len < 25 { b"" } else { b"right r {}\n|" };
-        assert!(rt; is_found(rt.alloc(), &BYTES[..len], want), "at {len}");
+        assert!(rt; is_found(alloc, &BYTES[..len], &[want]), "at {len}");
     }
-}
-
-#[test]
-fn an_empty_file_gets_one_record(rt: HostRuntime) {
-    let wanted = b"UCONJR02\x01\0\0\0\x03abc\0".as_slice();
-    assert!(rt; is_found(rt.alloc(), b"", b""));
-    assert!(rt; is_written(rt.alloc(), &[b"abc"], wanted));
+    Ok(())
 }
 
 /// Whether a file has these bytes once it is opened, and this version.
@@ -207,7 +210,11 @@ const OPENED: &[(&[u8], &[u8], u8)] = &[
 #[test]
 fn nine_bytes_become_version_2_and_ten_stay(rt: HostRuntime) {
     for &(bytes, want, version) in OPENED {
-        assert!(rt; is_opened(rt.alloc(), bytes, want, version), "{bytes:?}");
+        assert!(rt;
+            is_opened(rt.alloc(), bytes, want, version),
+            "{}",
+            bytes.escape_ascii()
+        );
     }
 }
 
@@ -227,92 +234,75 @@ fn refused_record(alloc: Global, bytes: &[u8]) -> Option<TakeFault> {
     }
 }
 
-/// A file of one whole record that is a byte too long.
-fn long_record(alloc: Global) -> Result<Vec<u8>, AllocError> {
-    let mut long = b"UCONJR02\x01\x01\0\0\0".to_vec(alloc)?;
-    long.resize(16_777_216 + 14, 0)?;
-    Ok(long)
-}
-
+/// Another's file, a disk that stops at once, and a whole record that is a byte too long.
 #[test]
 fn refusals(rt: HostRuntime) -> Result<(), Fail> {
-    let other = refusal(rt.alloc(), b"foreigners", None);
-    let stopped = refusal(rt.alloc(), b"", Some(0));
-    assert!(rt; is_found(rt.alloc(), b"foreigner", b""));
+    let alloc = rt.alloc();
+    let other = refusal(alloc, b"foreigners", None);
     assert!(rt; matches!(other, Some(OpenFault::NotJournal)));
+    let stopped = refusal(alloc, b"", Some(0));
     assert!(rt; matches!(stopped, Some(OpenFault::DiskFault)));
-    let long = refused_record(rt.alloc(), &long_record(rt.alloc())?);
+    let mut long = b"UCONJR02\x01\x01\0\0\0".to_vec(alloc)?;
+    long.resize(16_777_216 + 14, 0)?;
+    let long = refused_record(alloc, &long);
     assert!(rt; matches!(long, Some(TakeFault::TooLong(8))));
     Ok(())
 }
 
-fn is_one_found(alloc: Global, bytes: &[u8], wants: &[&[u8]]) -> bool {
-    let Some(all) = found(alloc, bytes) else {
-        return false;
-    };
-    for want in wants {
-        if all.as_slice() == *want {
-            return true;
-        }
-    }
-    false
-}
+/// What a file's open places are filled with.
+const FILLS: &[u8] = &[0, 1, 255];
 
-/// The length of the first image with this in its open places in which none of these is found.
+/// The length and the filling of the first image in which none of these is found.
 fn first_other(
     alloc: Global,
     disk: &MemDisk,
-    fill: u8,
     wants: &[&[u8]],
-) -> Result<Option<u64>, NoMemory> {
-    for len in 0..90u64 {
-        if let Some(image) = disk.image(len, &[fill; 90])? {
-            if !is_one_found(alloc, &image, wants) {
-                return Ok(Some(len));
+) -> Result<Option<(u64, u8)>, NoMemory> {
+    for &fill in FILLS {
+        for len in 0..90u64 {
+            if let Some(image) = disk.image(len, &[fill; 90])?
+                && !is_found(alloc, &image, wants)
+            {
+                return Ok(Some((len, fill)));
             }
         }
     }
     Ok(None)
 }
 
-/// What a file's open places are filled with.
-const FILLS: &[u8] = &[0, 1, 255];
+/// What is added to a file, and what may be found in it after a stop.
+#[derive(Clone, Copy)]
+struct Stopped {
+    added: Added,
+    file: &'static [u8],
+    found: &'static [&'static [u8]],
+}
 
-/// The same with each filling.
-fn first_other_filled(
-    alloc: Global,
-    disk: &MemDisk,
-    wants: &[&[u8]],
-) -> Result<Option<u64>, NoMemory> {
-    for &fill in FILLS {
-        let other = first_other(alloc, disk, fill, wants)?;
-        if other.is_some() {
-            return Ok(other);
+/// The same of a disk that stops after each of its calls in turn, and the stop. All is to be found once all was added, and before that perhaps
+/// less. It takes fewer than 40 calls.
+fn first_other_stopped(alloc: Global, row: &Stopped) -> Result<Option<(u64, (u64, u8))>, NoMemory> {
+    for stop in 0..40u64 {
+        let (disk, done) = run(alloc, at_rest(alloc, row.file, Some(stop))?, row.added);
+        let least = if done {
+            row.found.len().saturating_sub(1)
+        } else {
+            0
+        };
+        if let Some(other) = first_other(alloc, &disk, &row.found[least..])? {
+            return Ok(Some((stop, other)));
+        }
+        if done {
+            return Ok(None);
         }
     }
-    Ok(None)
+    Ok(Some((40, (0, 0))))
 }
 
-/// The same if the disk stops at this call. All is to be found if all was added, and else perhaps a front part.
-fn first_other_stopped(
-    alloc: Global,
-    bytes: &[u8],
-    wants: &[&[u8]],
-    stop: u64,
-) -> Result<Option<u64>, NoMemory> {
-    let (disk, done) = run(alloc, at_rest(alloc, bytes, Some(stop))?, BOTH);
-    let least = if done {
-        wants.len().saturating_sub(1)
-    } else {
-        0
-    };
-    first_other_filled(alloc, &disk, &wants[least..])
-}
-
-/// A file, and what may be found in it after a stop.
-type Stopped = (&'static [u8], &'static [&'static [u8]]);
-
+/// A front part, if the payloads are added one by one.
 const MADE: &[&[u8]] = &[b"", b"right r {}\n|", b"right r {}\n|0 subject a\nok|"];
+
+/// All or nothing, if they are added together.
+const MADE_TOGETHER: &[&[u8]] = &[b"", b"right r {}\n|0 subject a\nok|"];
 
 const TORN: &[&[u8]] = &[
     b"abc|",
@@ -320,66 +310,49 @@ const TORN: &[&[u8]] = &[
     b"abc|right r {}\n|0 subject a\nok|",
 ];
 
+const TORN_TOGETHER: &[&[u8]] = &[b"abc|", b"abc|right r {}\n|0 subject a\nok|"];
+
+/// A journal of one record, with a torn end.
+const TORN_FILE: &[u8] = b"UCONJR02\x01\0\0\0\x03abc\x01\0\0\0\x09xy\x01";
+
 const STOPPED: &[Stopped] = &[
-    (b"", MADE),
-    (b"UCON", MADE),
-    (b"UCONJR01\x01\0\0\0\x03abc\0\0\0\0\x02xy\0", TORN),
-    (b"UCONJR02\x01\0\0\0\x03abc\x01\0\0\0\x09xy\x01", TORN),
+    Stopped {
+        added: BOTH,
+        file: b"",
+        found: MADE,
+    },
+    Stopped {
+        added: BOTH,
+        file: b"UCON",
+        found: MADE,
+    },
+    Stopped {
+        added: BOTH,
+        file: b"UCONJR01\x01\0\0\0\x03abc\0\0\0\0\x02xy\0",
+        found: TORN,
+    },
+    Stopped {
+        added: BOTH,
+        file: TORN_FILE,
+        found: TORN,
+    },
+    Stopped {
+        added: Added::Together,
+        file: b"",
+        found: MADE_TOGETHER,
+    },
+    Stopped {
+        added: Added::Together,
+        file: TORN_FILE,
+        found: TORN_TOGETHER,
+    },
 ];
 
 #[test]
 fn images_after_a_stop(rt: HostRuntime) -> Result<(), Fail> {
-    for &(bytes, wants) in STOPPED {
-        for stop in 0..40u64 {
-            let other = first_other_stopped(rt.alloc(), bytes, wants, stop)?;
-            assert!(rt; other.is_none(), "stop {stop}, {other:?} bytes");
-        }
+    for (at, row) in STOPPED.iter().enumerate() {
+        let other = first_other_stopped(rt.alloc(), row)?;
+        assert!(rt; other.is_none(), "row {at}, {other:?}");
     }
-    Ok(())
-}
-
-/// The same if the payloads are added together: all is to be found, or nothing new.
-fn first_other_together(
-    alloc: Global,
-    bytes: &[u8],
-    wants: &[&[u8]],
-    stop: u64,
-) -> Result<Option<u64>, NoMemory> {
-    let (disk, done) = run_together(alloc, at_rest(alloc, bytes, Some(stop))?);
-    let least = if done {
-        wants.len().saturating_sub(1)
-    } else {
-        0
-    };
-    first_other_filled(alloc, &disk, &wants[least..])
-}
-
-const MADE_TOGETHER: &[&[u8]] = &[b"", b"right r {}\n|0 subject a\nok|"];
-
-const TORN_TOGETHER: &[&[u8]] = &[b"abc|", b"abc|right r {}\n|0 subject a\nok|"];
-
-const STOPPED_TOGETHER: &[Stopped] = &[
-    (b"", MADE_TOGETHER),
-    (
-        b"UCONJR02\x01\0\0\0\x03abc\x01\0\0\0\x09xy\x01",
-        TORN_TOGETHER,
-    ),
-];
-
-#[test]
-fn images_after_a_stop_of_a_batch(rt: HostRuntime) -> Result<(), Fail> {
-    for &(bytes, wants) in STOPPED_TOGETHER {
-        for stop in 0..20u64 {
-            let other = first_other_together(rt.alloc(), bytes, wants, stop)?;
-            assert!(rt; other.is_none(), "stop {stop}, {other:?} bytes");
-        }
-    }
-    Ok(())
-}
-
-#[test]
-fn a_batch_is_written_as_its_payloads_are(rt: HostRuntime) -> Result<(), Fail> {
-    let (disk, done) = run_together(rt.alloc(), at_rest(rt.alloc(), b"", None)?);
-    assert!(rt; done && disk.contents() == BYTES);
     Ok(())
 }

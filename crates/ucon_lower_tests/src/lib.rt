@@ -1,4 +1,5 @@
-//! Tests of the lower crates, a module for each. They stand here since a crate with tests of its own is proved twice, with and without them.
+//! Tests of single parts, a module for each: disks and journals, collections, and what threads share. They stand here since a crate with tests
+//! of its own is proved twice, with and without them.
 #![tactic(auto)]
 
 #[cfg(test)]

@@ -1,4 +1,4 @@
-//! Tests of `ucon_links`: six hidden nodes go back where they stood, and new lists are empty.
+//! Tests of `ucon_links`: a new node is first, a new list is empty, and six hidden nodes go back where they stood.
 
 ghost use Rattle.std.specs.Prelude.{◌≡◌, ◌<◌, ◌≤◌, length, IfSome};
 ghost use Rattle.ucon_links.specs.Lists.{IsListed};
@@ -21,13 +21,6 @@ fn owners(alloc: Global, links: &Links, list: u32) -> Result<Vec<u32>, NoMemory>
     Ok(owners)
 }
 
-// Whether these are the owners along a list.
-fn has(alloc: Global, links: &Links, list: u32, expected: &[u32]) -> bool
-    requires { list < length links.now.lists }
-{
-    matches!(owners(alloc, links, list), Ok(found) if found.as_slice() == expected)
-}
-
 // The first node of an owner in a list.
 fn find(links: &Links, list: u32, owner: u32) -> Option<NodeId>
     requires { list < length links.now.lists }
@@ -44,11 +37,13 @@ fn find(links: &Links, list: u32, owner: u32) -> Option<NodeId>
     None
 }
 
-// Whether these are the owners along the two lists.
+// Whether these are the owners along the first two lists.
 fn have(alloc: Global, links: &Links, expected: &[&[u32]; 2]) -> bool
     requires { 2 ≤ length links.now.lists }
 {
-    has(alloc, links, 0, expected[0]) && has(alloc, links, 1, expected[1])
+    let [first, second] = *expected;
+    matches!(owners(alloc, links, 0), Ok(found) if found.as_slice() == first)
+        && matches!(owners(alloc, links, 1), Ok(found) if found.as_slice() == second)
 }
 
 // A node to hide, and what stands in the lists once it is hidden.
@@ -114,10 +109,10 @@ fn hide_and_restore(alloc: Global, links: &mut Links, steps: &[Step], before: &[
     were & restored & have(alloc, links, before)
 }
 
-/// Puts the owners 5 to 1 in front of each of two lists. False if there is no room for them.
+/// Puts the owners 5 to 1 in front of each of the first two lists. False if there is no room for them.
 fn link_five(links: &mut Links) -> bool
-    requires { length links.old.lists ≡ 2 }
-    ensures { length links.new.lists ≡ 2 }
+    requires { length links.old.lists ≡ 3 }
+    ensures { length links.new.lists ≡ 3 }
 {
     for i in 0..5 {
         if links.spare() < 2 {
@@ -132,30 +127,14 @@ fn link_five(links: &mut Links) -> bool
 /// The owners that `link_five` puts in.
 const FIVE: [&[u32]; 2] = [&[1, 2, 3, 4, 5], &[1, 2, 3, 4, 5]];
 
+/// A list that is added stays empty.
 #[test]
 fn six_hidden_nodes_go_back_in_reverse_order(rt: HostRuntime) -> Result<(), Fail> {
     let mut links = Links::new(rt.alloc(), 2)?;
+    links.grow(3)?;
     links.reserve(10)?;
     assert!(rt; link_five(&mut links));
     assert!(rt; hide_and_restore(rt.alloc(), &mut links, STEPS, &FIVE));
-    Ok(())
-}
-
-/// Whether two nodes stand in the first of three lists as they come to its front, and the others are empty.
-fn are_first(alloc: Global, links: &mut Links) -> bool
-    requires lists { length links.old.lists ≡ 3 }
-    requires room { 2 ≤ links.old.spare }
-{
-    links.link(0, 9);
-    links.link(0, 8);
-    has(alloc, links, 0, &[8, 9]) && links.first(1).is_none() && links.first(2).is_none()
-}
-
-#[test]
-fn new_lists_are_empty_and_a_new_node_is_first(rt: HostRuntime) -> Result<(), Fail> {
-    let mut links = Links::new(rt.alloc(), 2)?;
-    links.grow(3)?;
-    links.reserve(2)?;
-    assert!(rt; are_first(rt.alloc(), &mut links));
+    assert!(rt; links.first(2).is_none());
     Ok(())
 }

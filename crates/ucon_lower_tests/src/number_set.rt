@@ -3,7 +3,7 @@
 use std::test::Fail;
 use ucon_collections::NumberSet;
 
-// The greatest first, so that each is a new least member.
+/// The greatest first, so that each is a new least member.
 fn put_all(set: &mut NumberSet, numbers: &[u32]) {
     for n in numbers.iter().rev() {
         if *n < set.limit() {
@@ -22,30 +22,26 @@ fn are_popped(set: &mut NumberSet, numbers: &[u32]) -> bool {
     set.pop_least().is_none()
 }
 
+/// A limit, and numbers below it in rising order.
+const ROWS: &[(u32, &[u32])] = &[
+    (100, &[3, 70]),
+    (
+        NumberSet::MAX_LIMIT,
+        &[0, 63, 64, 4095, 4096, 262143, 262144, 16777215],
+    ),
+];
+
+/// A set that is cleared gives only what is put in then.
 #[test]
-fn least_first(rt: HostRuntime) -> Result<(), Fail> {
-    let mut set = NumberSet::new(rt.alloc(), 100)?;
-    set.put(70);
-    set.put(3);
-    assert!(rt; are_popped(&mut set, &[3, 70]));
-    Ok(())
-}
-
-const BORDERS: &[u32] = &[0, 63, 64, 4095, 4096, 262143, 262144, 16777215];
-
-/// Whether a set that is cleared of the borders gives only what is put in then.
-fn is_cleared(set: &mut NumberSet) -> bool {
-    put_all(set, BORDERS);
-    set.clear();
-    put_all(set, &[4096]);
-    are_popped(set, &[4096])
-}
-
-#[test]
-fn borders_of_the_levels(rt: HostRuntime) -> Result<(), Fail> {
-    let mut set = NumberSet::new(rt.alloc(), NumberSet::MAX_LIMIT)?;
-    put_all(&mut set, BORDERS);
-    assert!(rt; are_popped(&mut set, BORDERS));
-    assert!(rt; is_cleared(&mut set));
+fn the_least_is_given_first(rt: HostRuntime) -> Result<(), Fail> {
+    for &(limit, numbers) in ROWS {
+        let mut set = NumberSet::new(rt.alloc(), limit.min(NumberSet::MAX_LIMIT))?;
+        put_all(&mut set, numbers);
+        assert!(rt; are_popped(&mut set, numbers), "{limit}");
+        put_all(&mut set, numbers);
+        set.clear();
+        put_all(&mut set, &[64]);
+        assert!(rt; are_popped(&mut set, &[64]), "cleared of {limit}");
+    }
     Ok(())
 }

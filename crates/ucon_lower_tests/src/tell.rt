@@ -199,7 +199,10 @@ fn what_was_told_is_found_behind_a_crash_at_any_call(rt: HostRuntime) -> Result<
                 assert!(rt; is_found(&keeper.disk, &then)?, "{calls}");
             }
         }
-        assert!(rt; calls < CALLS || keeper.disk.contents() == all.as_slice());
+        assert!(rt;
+            calls < CALLS || keeper.disk.contents() == all.as_slice(),
+            "{calls}"
+        );
     }
     Ok(())
 }

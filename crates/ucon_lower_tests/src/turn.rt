@@ -4,38 +4,30 @@ mod adders;
 mod counter;
 
 use adders::{many_adders, two_adders};
-use counter::{Addition, Counter, Told};
-use std::alloc::Global;
+use counter::{Addition, Counter};
 use std::test::Fail;
 use ucon_turn::Turn;
 
-/// Whether what is handed in comes back, and the first seat has the number 0.
-fn comes_back(alloc: Global, counter: Counter, additions: &[Addition]) -> bool {
-    let Ok((turn, seat)) = Turn::open(alloc, counter) else {
-        return false;
-    };
-    let number = seat.number();
-    let counter = turn.close(seat);
-    number == 0 && counter.additions.as_slice() == additions
-}
-
+/// The first seat has the number 0.
 #[test]
-fn the_value_that_was_handed_in_comes_back(rt: HostRuntime) {
+fn the_value_that_was_handed_in_comes_back(rt: HostRuntime) -> Result<(), Fail> {
     let mut counter = Counter::new(rt.alloc());
     assert!(rt; counter.add(7, 5) == Some((1, 5)));
-    assert!(rt; comes_back(rt.alloc(), counter, &[(7, 5)]));
+    let Ok((turn, seat)) = Turn::open(rt.alloc(), counter) else {
+        return Err("memory".into());
+    };
+    assert!(rt; seat.number() == 0);
+    let counter = turn.close(seat);
+    assert!(rt; counter.additions.as_slice() == [(7, 5)].as_slice());
+    Ok(())
 }
 
-/// Whether there are so many additions and answers, and the last answer is the one of all.
-fn are_answered(additions: &[Addition], one: &[Told], two: &[Told]) -> bool {
-    (additions.len(), one.len(), two.len()) == (300, 100, 200)
-        && one.last().max(two.last()) == Some(&(300, 4950 + 19900))
-}
-
+/// The last of all answers is the one of all additions.
 #[test]
 fn two_threads_are_answered_as_one_would_be(rt: HostRuntime) -> Result<(), Fail> {
     let (counter, one, two) = two_adders(&rt, rt.alloc(), 100, 200).ok_or("memory")?;
-    assert!(rt; are_answered(&counter.additions, &one, &two));
+    assert!(rt; (counter.additions.len(), one.len(), two.len()) == (300, 100, 200));
+    assert!(rt; one.last().max(two.last()) == Some(&(300, 4950 + 19900)));
     Ok(())
 }
 

@@ -39,7 +39,7 @@ const NO_HEADS: &[&[u8]] = &[
 fn a_head_has_64_digits(rt: HostRuntime) -> Result<(), Fail> {
     assert!(rt; is_head_text(&[b'a'; 64]));
     for &bytes in NO_HEADS {
-        assert!(rt; !is_head_text(bytes), "{bytes:?}");
+        assert!(rt; !is_head_text(bytes), "{}", bytes.escape_ascii());
     }
     Ok(())
 }
@@ -141,28 +141,29 @@ fn found_in_turn(alloc: Global, state: &State, sessions: &[u32]) -> Result<Vec<C
     Ok(found)
 }
 
-/// How many sessions are rechecked, how many of them changed, and the first and the last of these.
+/// How many of these sessions are rechecked, how many of them changed, and the first and the last of those.
 #[derive(Clone, Copy)]
 struct Found {
+    name: &'static str,
     sessions: usize,
     changed: usize,
     first: Changed,
     last: Changed,
 }
 
-/// Whether the threads found this, where the plain loop found the same.
+/// An error with the name of what is wanted, unless the threads found this and the plain loop the same.
 fn is_found(
     wanted: &Found,
     sessions: usize,
     changed: &[Changed],
     plain: &[Changed],
-) -> Result<bool, Fail> {
-    if changed != plain {
-        return Err("a plain loop finds others".into());
-    }
+) -> Result<(), Fail> {
     let is_counted = sessions == wanted.sessions && changed.len() == wanted.changed;
     let is_first = changed.first() == Some(&wanted.first);
-    Ok(is_counted && is_first && changed.last() == Some(&wanted.last))
+    if is_counted && is_first && changed.last() == Some(&wanted.last) && changed == plain {
+        return Ok(());
+    }
+    Err(wanted.name.into())
 }
 
 /// Whether this is found of all sessions.
@@ -171,7 +172,7 @@ fn is_found_of_all<R: Threads + Sync>(
     alloc: Global,
     state: &State,
     wanted: &Found,
-) -> Result<bool, Fail>
+) -> Result<(), Fail>
     requires { IsFollowing (shown state.now) }
 {
     let sessions = sessions_there(alloc, state, 10_000)?;
@@ -186,36 +187,13 @@ fn is_found_of_usages<R: Threads + Sync>(
     alloc: Global,
     state: &State,
     wanted: &Found,
-) -> Result<bool, Fail>
+) -> Result<(), Fail>
     requires { IsFollowing (shown state.now) }
 {
     let sessions = usages(alloc, state)?;
     let changed = changed_usages(rt, alloc, state)?;
     let plain = found_in_turn(alloc, state, sessions.slice())?;
     is_found(wanted, sessions.len(), changed.slice(), plain.as_slice())
-}
-
-/// Whether those of all sessions, and those of the usages that go on, are found in the state.
-fn are_found_in<R: Threads + Sync>(
-    rt: &R,
-    alloc: Global,
-    state: &State,
-    all: &Found,
-    going_on: &Found,
-) -> Result<bool, Fail>
-    requires { IsFollowing (shown state.now) }
-{
-    Ok(is_found_of_all(rt, alloc, state, all)? && is_found_of_usages(rt, alloc, state, going_on)?)
-}
-
-fn are_found<R: Threads + Sync>(
-    rt: &R,
-    alloc: Global,
-    all: &Found,
-    going_on: &Found,
-) -> Result<bool, Fail> {
-    let state = played(alloc, 1_000)?;
-    are_found_in(rt, alloc, &state, all, going_on)
 }
 
 /// Of each ten sessions the first and the sixth are denied, four of the others wait, and four are permitted. Who waits has no use that goes on.
@@ -225,17 +203,20 @@ fn ten_thousand_sessions_are_rechecked_as_in_a_plain_loop(rt: HostRuntime) -> Re
     let wait = Verdict::Wait(Name::read(b"terms")?);
     let at = |session: u32, verdict: Verdict| Changed { session, verdict };
     let all = Found {
+        name: "all sessions",
         sessions: 10_000,
         changed: 6_000,
         first: at(1, deny),
         last: at(10_000, wait),
     };
     let going_on = Found {
+        name: "the uses that go on",
         sessions: 5_000,
         changed: 1_000,
         first: at(1, deny),
         last: at(9_991, deny),
     };
-    assert!(rt; are_found(&rt, rt.alloc(), &all, &going_on)?);
-    Ok(())
+    let state = played(rt.alloc(), 1_000)?;
+    is_found_of_all(&rt, rt.alloc(), &state, &all)?;
+    is_found_of_usages(&rt, rt.alloc(), &state, &going_on)
 }

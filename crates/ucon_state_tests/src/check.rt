@@ -10,14 +10,6 @@ use ucon_check::{AmendFault, CheckFault, check, core_models, core_name, may_foll
 use ucon_model::{Checked, Core, Ref};
 use ucon_syntax::read_policy;
 
-/// Whether this is why a policy is refused.
-fn is_fault(alloc: Global, text: &[u8], fault: CheckFault) -> bool {
-    match read_policy(alloc, text) {
-        Ok(policy) => check(policy).err() == Some(fault),
-        Err(_) => false,
-    }
-}
-
 /// Policies, the name in the first fault of each, whether it stands twice or isn't declared, and its place.
 const FAULTS: &[(&[u8], &[u8], Named, u32)] = &[
     (
@@ -62,7 +54,8 @@ fn fault_of(name: &[u8], named: Named, item: u32) -> Result<CheckFault, NameFaul
 fn first_faults_are_told(rt: HostRuntime) -> Result<(), Fail> {
     for &(text, name, named, item) in FAULTS {
         let expected = fault_of(name, named, item)?;
-        assert!(rt; is_fault(rt.alloc(), text, expected));
+        let found = check(read_policy(rt.alloc(), text)?).err();
+        assert!(rt; found == Some(expected), "{}", text.escape_ascii());
     }
     Ok(())
 }
@@ -147,22 +140,14 @@ fn kind_changed(name: Option<&[u8]>) -> Result<Option<AmendFault>, NameFault> {
     }
 }
 
-/// Whether this is why a policy may not follow the one with these kinds.
-fn is_refused(alloc: Global, new: &[u8], refusal: Option<AmendFault>) -> bool {
-    let Some(old) = accepted(alloc, KINDS) else {
-        return false;
-    };
-    match accepted(alloc, new) {
-        Some(new) => may_follow(&old, &new).err() == refusal,
-        None => false,
-    }
-}
-
 #[test]
 fn kinds_are_kept(rt: HostRuntime) -> Result<(), Fail> {
     for &(new, name) in CHANGED {
         let expected = kind_changed(name)?;
-        assert!(rt; is_refused(rt.alloc(), new, expected));
+        let (old, changed) = (accepted(rt.alloc(), KINDS), accepted(rt.alloc(), new));
+        let (old, changed) = (old.ok_or("the old policy")?, changed.ok_or("a new policy")?);
+        let found = may_follow(&old, &changed).err();
+        assert!(rt; found == expected, "{}", new.escape_ascii());
     }
     Ok(())
 }

@@ -147,7 +147,7 @@ fn behind_a_disk_fault_no_reading_is_told(rt: HostRuntime) -> Result<(), Fail> {
             None,
         );
         let end = held(alloc, PolicyFrom::Input, STEP, disk)?;
-        assert!(rt; is_told(&end.told));
+        assert!(rt; is_told(&end.told), "call {call}");
     }
     Ok(())
 }

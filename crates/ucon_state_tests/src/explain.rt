@@ -29,8 +29,8 @@ fn told(alloc: Global, state: &State, right: &[u8]) -> Result<Vec<u8>, Fail>
     Ok(explanation_text(alloc, &e)?)
 }
 
-/// Lines, and the text of the explanation after them.
-type Row = (&'static [&'static [u8]], &'static [u8]);
+/// What a row shows, lines, and the text of the explanation after them.
+type Row = (&'static str, &'static [&'static [u8]], &'static [u8]);
 
 /// Each row's text is told after its lines, which follow those of the rows before.
 fn tell_each(alloc: Global, state: &mut State, right: &[u8], rows: &[Row]) -> Result<(), Fail>
@@ -38,10 +38,10 @@ fn tell_each(alloc: Global, state: &mut State, right: &[u8], rows: &[Row]) -> Re
     ensures { OnOk result (IsFollowing (shown state.new)) }
 {
     for row in rows {
-        let (lines, text) = *row;
+        let (name, lines, text) = *row;
         steps(alloc, state, lines)?;
         if told(alloc, state, right)?.as_slice() != text {
-            return Err("another explanation is told".into());
+            return Err(name.into());
         }
     }
     Ok(())
@@ -53,6 +53,7 @@ right buy { pre b sign: done sign_up; pre c late: env.hour >= 10; pre a adult: s
 ";
 
 const DENIED_BY_THE_HOUR: &[Row] = &[(
+    "a try at nine",
     &[b"subject a", b"object x"],
     b"pre sign b false
   act a sign_up x never
@@ -140,9 +141,9 @@ right lend {
 }
 ";
 
-/// An act by and on others, and one that was never done, in time, and too late.
 const LENDING: &[Row] = &[
     (
+        "an act by and on others, and one that was never done",
         &[
             b"subject a",
             b"subject boss",
@@ -169,6 +170,7 @@ verdict deny funds
 ",
     ),
     (
+        "an act in time",
         &[b"set s a credit 10", b"act a agree x", b"tick 15"],
         b"pre funds a true
   read s.credit 10
@@ -188,6 +190,7 @@ verdict permit
 ",
     ),
     (
+        "an act too late",
         &[b"tick 16"],
         b"pre funds a true
   read s.credit 10

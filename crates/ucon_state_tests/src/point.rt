@@ -117,7 +117,11 @@ const PLACES: &[(&[u8], Option<usize>)] = &[
 #[test]
 fn what_is_no_point_is_refused_at_its_place(rt: HostRuntime) {
     for &(bytes, wanted) in PLACES {
-        assert!(rt; is_judged(rt.alloc(), bytes, wanted), "{bytes:?}");
+        assert!(rt;
+            is_judged(rt.alloc(), bytes, wanted),
+            "{}",
+            bytes.escape_ascii()
+        );
     }
 }
 

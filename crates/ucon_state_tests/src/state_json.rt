@@ -18,16 +18,18 @@ env area : text = \"eu\";
 right play { pre b terms: done accept; on a left: s.credit > 0; after_end s.credit = 0 - 1; }
 ";
 
-/// Lines, how many entries there were, and the state after them.
-type Row = (&'static [&'static [u8]], u64, &'static [u8]);
+/// What a row shows, lines, how many entries there were, and the state after them.
+type Row = (&'static str, &'static [&'static [u8]], u64, &'static [u8]);
 
 const ROWS: &[Row] = &[
     (
+        "no steps",
         &[],
         0,
         b"{\"acts\":[],\"entries\":0,\"env\":{\"area\":\"eu\",\"hour\":9},\"objects\":{},\"sessions\":[],\"subjects\":{},\"tick\":0}\n",
     ),
     (
+        "two uses, of which one waits",
         &[
             b"subject b",
             b"subject a",
@@ -46,6 +48,7 @@ const ROWS: &[Row] = &[
 \"subjects\":{\"a\":{\"credit\":7,\"tags\":[\"a\",\"b\"]},\"b\":{\"credit\":7,\"tags\":[\"b\",\"c\"]}},\"tick\":5}\n",
     ),
     (
+        "acts, an end and a variable",
         &[
             b"act b accept song",
             b"act a accept song",
@@ -60,6 +63,7 @@ const ROWS: &[Row] = &[
 \"subjects\":{\"a\":{\"credit\":-1,\"tags\":[\"a\",\"b\"]},\"b\":{\"credit\":7,\"tags\":[\"b\",\"c\"]}},\"tick\":5}\n",
     ),
     (
+        "an amendment",
         &[
             b"amend attr s tags : set = {}; env day : int 0..6 = 1; env area : text = \"us\"; right see {}",
         ],
@@ -78,10 +82,10 @@ fn tell_each(alloc: Global, state: &mut State, rows: &[Row]) -> Result<(), Fail>
     ensures { OnOk result (IsFollowing (shown state.new)) }
 {
     for row in rows {
-        let (lines, entries, text) = *row;
+        let (name, lines, entries, text) = *row;
         steps(alloc, state, lines)?;
         if report(alloc, entries, state)?.as_slice() != text {
-            return Err("another state is told".into());
+            return Err(name.into());
         }
     }
     Ok(())

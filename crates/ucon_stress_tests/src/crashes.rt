@@ -11,7 +11,8 @@ use ucon_client::OpenGate;
 use ucon_disk::MemDisk;
 use ucon_top::Outcome;
 use ucon_vectors::{
-    CAPPED, LOOKING, PLAYED_ROWS, SUBJECTS_B_AND_C, WITH_A, WITH_A_AND_POINT, document,
+    Bytes, CAPPED, LOOKING, PLAYED_ROWS, SUBJECTS_B_AND_C, WITH_A, WITH_A_AND_POINT, document,
+    repeated,
 };
 
 /// The number of entries that are found in a file: the place of a reply that changes nothing.
@@ -76,13 +77,15 @@ fn opened_images<R: Threads + Wait + Sync>(
 fn hold_images<R: Abort + Threads + Wait + Sync>(
     rt: &R,
     alloc: Global,
+    name: &str,
     form: &str,
-    file: &[u8],
+    file: Bytes,
     document: &[u8],
     calls: u64,
 ) -> Result<(), Fail> {
-    let before = entries_found(rt, alloc, file)?;
-    let disk = stopping(alloc, file, Some(calls))?;
+    let file = file.concat(alloc)?;
+    let before = entries_found(rt, alloc, &file)?;
+    let disk = stopping(alloc, &file, Some(calls))?;
     let end = over(rt, alloc, form, document, disk, &OpenGate)?;
     let may_be = may_be_found(before, &end.output)?;
     let is_longer = end.disk.image(LONGEST + 1, b"")?.is_some();
@@ -90,7 +93,7 @@ fn hold_images<R: Abort + Threads + Wait + Sync>(
         let (opened, other) = opened_images(rt, alloc, &end.disk, fill, may_be)?;
         assert!(rt;
             opened > 0 && other.is_none() && !is_longer,
-            "stopped after {calls} calls, {opened} images, {other:?} bytes, filled with {fill}"
+            "{name}: stopped after {calls} calls, {opened} images, {other:?} bytes, filled with {fill}"
         );
     }
     Ok(())
@@ -100,26 +103,45 @@ fn hold_images<R: Abort + Threads + Wait + Sync>(
 #[test]
 fn crashes_leave_what_was_answered(rt: HostRuntime) -> Result<(), Fail> {
     for calls in 0..32u64 {
-        hold_images(&rt, rt.alloc(), "play", WITH_A, SUBJECTS_B_AND_C, calls)?;
+        hold_images(
+            &rt,
+            rt.alloc(),
+            "two steps",
+            "play",
+            WITH_A,
+            SUBJECTS_B_AND_C,
+            calls,
+        )?;
         for row in PLAYED_ROWS {
             if let [form, ..] = row.words
                 && row.status == 0
             {
-                hold_images(&rt, rt.alloc(), *form, row.file, row.document, calls)?;
+                hold_images(
+                    &rt,
+                    rt.alloc(),
+                    row.name,
+                    *form,
+                    row.file,
+                    row.document,
+                    calls,
+                )?;
             }
         }
     }
     Ok(())
 }
 
-const FILES: &[&[u8]] = &[WITH_A, WITH_A_AND_POINT];
+const FILES: &[(&str, Bytes)] = &[
+    ("without a checkpoint", WITH_A),
+    ("with one", WITH_A_AND_POINT),
+];
 
 /// A checkpoint under way changes nothing of what is found.
 #[test]
 fn crashes_of_a_checkpoint_leave_the_history(rt: HostRuntime) -> Result<(), Fail> {
     for calls in 0..32u64 {
-        for &file in FILES {
-            hold_images(&rt, rt.alloc(), "point", file, LOOKING, calls)?;
+        for &(name, file) in FILES {
+            hold_images(&rt, rt.alloc(), name, "point", file, LOOKING, calls)?;
         }
     }
     Ok(())
@@ -127,11 +149,9 @@ fn crashes_of_a_checkpoint_leave_the_history(rt: HostRuntime) -> Result<(), Fail
 
 /// A journal in which 1,000 uses of one object go on.
 fn thousand_uses<R: Threads + Wait + Sync>(rt: &R, alloc: Global) -> Result<Vec<u8>, Fail> {
-    let mut script = String::from_str(alloc, "client 0\nsubject a\nobject x\nset o x most 1000\n")?;
-    for _ in 0..1000u32 {
-        script.push_str("try a use x\n")?;
-    }
-    let uses = document(alloc, CAPPED, script.as_bytes())?;
+    let made = b"client 0\nsubject a\nobject x\nset o x most 1000\n";
+    let script = repeated(alloc, made, b"try a use x\n", 1000, b"")?;
+    let uses = document(alloc, CAPPED, &script)?;
     let end = played(rt, alloc, &uses, b"", None)?;
     Ok(Vec::from_slice(alloc, end.disk.contents())?)
 }

@@ -1,14 +1,15 @@
 //! Lines, replies and payloads: each as it is read and written back, and what is none.
 
-use std::alloc::{AllocError, Global};
+use std::alloc::Global;
 use std::test::Fail;
 use ucon_base::{Name, Rows, Side, Value};
 use ucon_command::{
     LineFault, PayloadFault, RequestFault, command_text, put_payload, read_command, read_entry,
     read_payload, read_request,
 };
-use ucon_model::{Caller, Command, Head, Refusal, Reply, Revoked, SessionState};
+use ucon_model::{Caller, Command, Entry, Head, Refusal, Reply, Revoked, SessionState};
 use ucon_reply::{ReplyFault, read_reply, reply_text};
+use ucon_vectors::repeated;
 
 const LINES: &[&[u8]] = &[
     b"subject ann",
@@ -36,31 +37,15 @@ const LINES: &[&[u8]] = &[
     b"amend attr s a : int 0..9 = 0;  # as it was",
 ];
 
-fn has_text(alloc: Global, command: &Command, text: &[u8]) -> bool {
-    matches!(command_text(alloc, command), Ok(written) if written.as_slice() == text)
-}
-
-/// Whether a copy of a command has this text.
-fn is_copied(alloc: Global, command: &Command, text: &[u8]) -> bool {
-    match command.copy(alloc) {
-        Ok(copy) => has_text(alloc, &copy, text),
-        Err(_) => false,
-    }
-}
-
 /// Whether a copy of what is read of a line has the line's text.
 fn is_line_back(alloc: Global, line: &[u8]) -> bool {
-    match read_command(alloc, line) {
-        Ok(command) => is_copied(alloc, &command, line),
-        Err(_) => false,
-    }
-}
-
-#[test]
-fn each_line_is_read_and_written_back(rt: HostRuntime) {
-    for &line in LINES {
-        assert!(rt; is_line_back(rt.alloc(), line), "{}", line.escape_ascii());
-    }
+    let Ok(command) = read_command(alloc, line) else {
+        return false;
+    };
+    let Ok(copy) = command.copy(alloc) else {
+        return false;
+    };
+    matches!(command_text(alloc, &copy), Ok(text) if text.as_slice() == line)
 }
 
 /// Whether these are the words of an act, or of a command that sets an object's attribute to a text.
@@ -111,8 +96,12 @@ const WORDS: &[(&[u8], [&[u8]; 4])] = &[
     ),
 ];
 
+/// Words stand where the form says.
 #[test]
-fn words_stand_where_the_form_says(rt: HostRuntime) {
+fn each_line_is_read_and_written_back(rt: HostRuntime) {
+    for &line in LINES {
+        assert!(rt; is_line_back(rt.alloc(), line), "{}", line.escape_ascii());
+    }
     for (line, words) in WORDS {
         assert!(rt;
             has_words(rt.alloc(), *line, words),
@@ -176,46 +165,24 @@ const REFUSED: &[(&[u8], LineFault)] = &[
     (b"value o doc1 tags!", LineFault::BadWord(13)),
 ];
 
-/// Whether this is what is wrong with a line.
-fn is_judged(alloc: Global, line: &[u8], fault: Option<LineFault>) -> bool {
-    read_command(alloc, line).err() == fault
-}
-
-#[test]
-fn each_refusal_has_its_place(rt: HostRuntime) {
-    for &(line, fault) in REFUSED {
-        assert!(rt;
-            is_judged(rt.alloc(), line, Some(fault)),
-            "{}",
-            line.escape_ascii()
-        );
-    }
-}
-
-/// A word with so many of a byte behind it.
-fn long_line(alloc: Global, word: &[u8], byte: u8, more: usize) -> Result<Vec<u8>, AllocError> {
-    let mut line = Vec::from_slice(alloc, word)?;
-    line.resize(word.len().saturating_add(more), byte)?;
-    Ok(line)
-}
-
-/// A word, the byte behind it, how often it stands there, and what is wrong with the line.
-const LONG: &[(&[u8], u8, usize, Option<LineFault>)] = &[
-    (b"amend ", b' ', 65536, None),
-    (b"amend ", b' ', 65537, Some(LineFault::TooLong(65543))),
-    (b"amend", b'x', 8188, Some(LineFault::TooLong(8193))),
+/// An amendment's line may have 65,542 bytes, and no other line that begins so: a word, the byte that follows it, how often, and what is wrong.
+const LONG: &[(&[u8], &[u8], u32, Option<LineFault>)] = &[
+    (b"amend ", b" ", 65536, None),
+    (b"amend ", b" ", 65537, Some(LineFault::TooLong(65543))),
+    (b"amend", b"x", 8188, Some(LineFault::TooLong(8193))),
 ];
 
-/// An amendment's line may have 65,542 bytes, and no other line that begins so.
 #[test]
-fn amendments_may_be_long(rt: HostRuntime) -> Result<(), Fail> {
+fn each_refusal_has_its_place(rt: HostRuntime) -> Result<(), Fail> {
+    let alloc = rt.alloc();
+    for &(line, fault) in REFUSED {
+        let found = read_command(alloc, line).err();
+        assert!(rt; found == Some(fault), "{}", line.escape_ascii());
+    }
     for &(word, byte, more, fault) in LONG {
-        let line = long_line(rt.alloc(), word, byte, more)?;
-        assert!(rt;
-            is_judged(rt.alloc(), &line, fault),
-            "{} {more}",
-            word.escape_ascii()
-        );
+        let line = repeated(alloc, word, byte, more, b"")?;
+        let found = read_command(alloc, &line).err();
+        assert!(rt; found == fault, "{} {more}", word.escape_ascii());
     }
     Ok(())
 }
@@ -252,13 +219,6 @@ fn is_reply_back(alloc: Global, text: &[u8]) -> bool {
     }
 }
 
-#[test]
-fn each_reply_is_read_and_written_back(rt: HostRuntime) {
-    for &text in REPLIES {
-        assert!(rt; is_reply_back(rt.alloc(), text), "{}", text.escape_ascii());
-    }
-}
-
 const REFUSALS: &[(Refusal, &[u8])] = &[
     (Refusal::NotAdmin, b"not admin"),
     (Refusal::NoRight, b"no right"),
@@ -282,33 +242,28 @@ const REFUSALS: &[(Refusal, &[u8])] = &[
     (Refusal::FullAccessing, b"full accessing"),
 ];
 
-/// Whether a refusal has this text, and the text is read and written back.
-fn is_refusal(alloc: Global, refusal: Refusal, text: &[u8]) -> bool {
-    is_written(alloc, &Reply::Refused(refusal), text) && is_reply_back(alloc, text)
-}
-
 #[test]
-fn each_refusal_has_its_text(rt: HostRuntime) {
+fn each_reply_is_read_and_written_back(rt: HostRuntime) {
+    for &text in REPLIES {
+        assert!(rt; is_reply_back(rt.alloc(), text), "{}", text.escape_ascii());
+    }
     for &(refusal, text) in REFUSALS {
+        let refused = Reply::Refused(refusal);
         assert!(rt;
-            is_refusal(rt.alloc(), refusal, text),
+            is_written(rt.alloc(), &refused, text),
             "{}",
             text.escape_ascii()
         );
+        assert!(rt; is_reply_back(rt.alloc(), text), "{}", text.escape_ascii());
     }
-}
-
-/// A reply that denies a session and tells that another one was revoked.
-fn denied_and_revoked(alloc: Global) -> Result<Reply, Fail> {
-    let label = Name::read(b"lb")?;
-    let revoked = Rows::from(Vec::from_slice(alloc, &[Revoked { session: 2, label }])?);
-    let head = Head::Denied(1, Name::read(b"cap")?);
-    Ok(Reply::Made { head, revoked })
 }
 
 #[test]
 fn replies_that_were_made_are_written(rt: HostRuntime) -> Result<(), Fail> {
-    let denied = denied_and_revoked(rt.alloc())?;
+    let label = Name::read(b"lb")?;
+    let head = Head::Denied(1, Name::read(b"cap")?);
+    let revoked = Rows::from(Vec::from_slice(rt.alloc(), &[Revoked { session: 2, label }])?);
+    let denied = Reply::Made { head, revoked };
     assert!(rt; is_written(rt.alloc(), &denied, b"denied 1 cap revoked 2 lb"));
     let ended = Reply::Status(9, SessionState::Ended);
     assert!(rt; is_written(rt.alloc(), &ended, b"status 9 ended"));
@@ -335,14 +290,15 @@ const NO_REPLIES: &[&[u8]] = &[
     b"not  admin",
 ];
 
-fn is_no_reply(alloc: Global, text: &[u8]) -> bool {
-    read_reply(alloc, text).err() == Some(ReplyFault::BadReply)
-}
-
 #[test]
 fn other_bytes_are_no_reply(rt: HostRuntime) {
     for &text in NO_REPLIES {
-        assert!(rt; is_no_reply(rt.alloc(), text), "{}", text.escape_ascii());
+        let fault = read_reply(rt.alloc(), text).err();
+        assert!(rt;
+            fault == Some(ReplyFault::BadReply),
+            "{}",
+            text.escape_ascii()
+        );
     }
 }
 
@@ -358,18 +314,13 @@ fn is_payload(
     put_payload(alloc, &mut text, caller, command, reply).is_ok() && text.as_slice() == payload
 }
 
-/// Whether this is the payload of client 0's command and what is read of its reply.
-fn is_payload_with(alloc: Global, payload: &[u8], command: &Command, reply: &[u8]) -> bool {
-    match read_reply(alloc, reply) {
-        Ok(reply) => is_payload(alloc, payload, Caller(0), command, &reply),
-        Err(_) => false,
-    }
-}
-
 /// Whether this is the payload of what is read of client 0's line and its reply.
 fn is_payload_of(alloc: Global, payload: &[u8], line: &[u8], reply: &[u8]) -> bool {
-    match read_command(alloc, line) {
-        Ok(command) => is_payload_with(alloc, payload, &command, reply),
+    let Ok(command) = read_command(alloc, line) else {
+        return false;
+    };
+    match read_reply(alloc, reply) {
+        Ok(reply) => is_payload(alloc, payload, Caller(0), &command, &reply),
         Err(_) => false,
     }
 }
@@ -383,8 +334,12 @@ fn is_payload_back(alloc: Global, payload: &[u8]) -> bool {
 }
 
 fn is_entry_of(alloc: Global, payload: &[u8], caller: Caller) -> bool {
-    match read_entry(alloc, payload) {
-        Ok(entry) => entry.caller == caller,
+    let mut entry = Entry {
+        caller: Caller(7),
+        command: Command::Look(0),
+    };
+    match read_entry(alloc, payload, &mut entry) {
+        Ok(rest) => entry.caller == caller && rest == b"ok".as_slice(),
         Err(_) => false,
     }
 }
@@ -409,15 +364,12 @@ const NO_PAYLOADS: &[(&[u8], usize)] = &[
     (b"0 end 7\n", 8),
 ];
 
-fn is_bad_at(alloc: Global, payload: &[u8], place: usize) -> bool {
-    read_payload(alloc, payload).err() == Some(PayloadFault::BadPlace(place))
-}
-
 #[test]
 fn the_first_part_that_is_none_is_told(rt: HostRuntime) {
     for &(payload, place) in NO_PAYLOADS {
+        let fault = read_payload(rt.alloc(), payload).err();
         assert!(rt;
-            is_bad_at(rt.alloc(), payload, place),
+            fault == Some(PayloadFault::BadPlace(place)),
             "{}",
             payload.escape_ascii()
         );

@@ -27,7 +27,10 @@ fn lines_are_given_one_by_one(rt: HostRuntime) -> Result<(), Fail> {
             let line = reader.next(alloc, &mut source)?.ok_or("a line")?;
             assert!(rt; line.as_slice() == wanted, "{wanted:?} of {piece}");
         }
-        assert!(rt; reader.next(alloc, &mut source)?.is_none());
+        assert!(rt;
+            reader.next(alloc, &mut source)?.is_none(),
+            "the end of {piece}"
+        );
     }
     Ok(())
 }
@@ -38,14 +41,23 @@ fn a_line_that_is_too_long_is_skipped(rt: HostRuntime) -> Result<(), Fail> {
     for &piece in PIECES {
         let mut source = source(alloc, b"abcde\nf\nghijk", piece.max(1), &[])?;
         let mut reader = LineReader::new(alloc, 3);
-        assert!(rt; reader.next(alloc, &mut source) == Err(ReadFault::TooLong));
-        assert!(rt; reader.next(alloc, &mut source) == Err(ReadFault::TooLong));
-        assert!(rt; reader.skip(&mut source)?);
+        assert!(rt;
+            reader.next(alloc, &mut source) == Err(ReadFault::TooLong),
+            "{piece}"
+        );
+        assert!(rt;
+            reader.next(alloc, &mut source) == Err(ReadFault::TooLong),
+            "{piece}"
+        );
+        assert!(rt; reader.skip(&mut source)?, "{piece}");
         let line = reader.next(alloc, &mut source)?.ok_or("a line")?;
-        assert!(rt; line.as_slice() == b"f\n".as_slice());
-        assert!(rt; reader.next(alloc, &mut source) == Err(ReadFault::TooLong));
-        assert!(rt; !reader.skip(&mut source)?);
-        assert!(rt; reader.next(alloc, &mut source)?.is_none());
+        assert!(rt; line.as_slice() == b"f\n".as_slice(), "{piece}");
+        assert!(rt;
+            reader.next(alloc, &mut source) == Err(ReadFault::TooLong),
+            "{piece}"
+        );
+        assert!(rt; !reader.skip(&mut source)?, "{piece}");
+        assert!(rt; reader.next(alloc, &mut source)?.is_none(), "{piece}");
     }
     Ok(())
 }

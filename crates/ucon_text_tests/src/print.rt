@@ -5,12 +5,13 @@ use std::test::Fail;
 use ucon_print::policy_text;
 use ucon_syntax::read_policy;
 
-fn printed(alloc: Global, written: &[u8]) -> Option<Vec<u8>> {
-    policy_text(alloc, &read_policy(alloc, written).ok()?).ok()
-}
-
 fn is_printed(alloc: Global, written: &[u8], wanted: &[u8]) -> bool {
-    matches!(printed(alloc, written), Some(text) if text.as_slice() == wanted)
+    match read_policy(alloc, written) {
+        Ok(policy) => {
+            matches!(policy_text(alloc, &policy), Ok(text) if text.as_slice() == wanted)
+        }
+        Err(_) => false,
+    }
 }
 
 /// A right without items has two lines, and a difference on the right has brackets.
@@ -63,19 +64,17 @@ fn right_with(alloc: Global, condition: &str) -> Result<Vec<u8>, AllocError> {
     Ok(text)
 }
 
-/// Whether a condition is printed so, and what is printed is printed again as it is.
-fn is_condition_printed(alloc: Global, written: &str, wanted: &str) -> Result<bool, AllocError> {
-    let (written, wanted) = (right_with(alloc, written)?, right_with(alloc, wanted)?);
-    Ok(is_printed(alloc, &written, &wanted) && is_printed(alloc, &wanted, &wanted))
-}
-
+/// What is printed is printed again as it is.
 #[test]
 fn printings_are_read_and_printed_again(rt: HostRuntime) -> Result<(), Fail> {
+    let alloc = rt.alloc();
     for &(written, wanted) in CONDITIONS {
+        let text = right_with(alloc, wanted)?;
         assert!(rt;
-            is_condition_printed(rt.alloc(), written, wanted)?,
+            is_printed(alloc, &right_with(alloc, written)?, &text),
             "{written}"
         );
+        assert!(rt; is_printed(alloc, &text, &text), "{wanted}");
     }
     Ok(())
 }

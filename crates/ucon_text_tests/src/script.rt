@@ -1,12 +1,16 @@
-ghost use Rattle.std.specs.Prelude.{◌≤◌, length};
+//! Documents: their parts, the numbers and clients of their lines, and the first refusal.
 
-use crate::syntax::repeated;
 use std::alloc::Global;
 use std::process::Abort;
 use std::test::Fail;
 use ucon_command::LineFault;
+use ucon_flow::MemSource;
 use ucon_model::{Caller, Command};
-use ucon_script::{DocFault, Line, LineText, Script, policy_part, read_document, read_script};
+use ucon_script::{
+    ComingDocument, DocFault, Line, LineText, Script, ScriptStop, policy_part, read_coming,
+    read_document, read_script,
+};
+use ucon_vectors::repeated;
 
 /// What a document may have.
 const MOST_BYTES: usize = 4_194_304;
@@ -29,10 +33,45 @@ const PARTS: &[(&[u8], &[u8])] = &[
 ];
 
 #[test]
-fn policy_parts(rt: HostRuntime) {
+fn policy_parts(rt: HostRuntime) -> Result<(), Fail> {
     for &(text, part) in PARTS {
         assert!(rt; policy_part(text) == part, "{}", text.escape_ascii());
+        let (document, _) = coming(rt.alloc(), text)?;
+        assert!(rt;
+            document.policy.as_slice() == part,
+            "{} coming",
+            text.escape_ascii()
+        );
     }
+    Ok(())
+}
+
+/// A document that comes in pieces of three bytes, and what is left of its source.
+fn coming(alloc: Global, text: &[u8]) -> Result<(ComingDocument, MemSource), Fail> {
+    let mut source = MemSource::new(Vec::from_slice(alloc, text)?, 3, Vec::new(alloc));
+    let document = read_coming(alloc, &mut source)?;
+    Ok((document, source))
+}
+
+/// What is seen of a document's lines as they come, and what stops it.
+fn seen_coming(
+    alloc: Global,
+    text: &[u8],
+) -> Result<(Vec<(u32, u8, u32)>, Option<ScriptStop>), Fail> {
+    let (document, mut source) = coming(alloc, text)?;
+    let mut script = document.script;
+    let mut lines = Vec::new(alloc);
+    for _ in 0..u64::MAX {
+        if script.is_over() {
+            break;
+        }
+        match script.next(alloc, &mut source) {
+            Ok(Some(line)) => lines.push(seen(&line))?,
+            Ok(None) => {}
+            Err(stop) => return Ok((lines, Some(stop))),
+        }
+    }
+    Ok((lines, None))
 }
 
 /// A line's number, its client, and the session that it looks at; 0 for another command.
@@ -54,64 +93,29 @@ fn are_seen(lines: &[Line], wanted: &[(u32, u8, u32)]) -> bool {
     rest.next().is_none()
 }
 
-/// Whether the lines of a document that is read whole are seen so.
-fn are_seen_whole(alloc: Global, text: &[u8], wanted: &[(u32, u8, u32)]) -> bool
-    requires { length text.now ≤ 4194304 }
-{
-    match read_document(alloc, text) {
-        Ok(document) => are_seen(document.lines.slice(), wanted),
-        Err(_) => false,
-    }
-}
-
-/// What is seen of a line that stands where it is.
-fn seen_there(alloc: Global, text: &LineText<'_>) -> Option<(u32, u8, u32)> {
-    match text.line(alloc) {
-        Ok(line) => Some(seen(&line)),
-        Err(_) => None,
-    }
-}
-
 /// Whether these lines are seen so where they stand.
 fn are_seen_there(alloc: Global, lines: &[LineText<'_>], wanted: &[(u32, u8, u32)]) -> bool {
     let mut rest = wanted.iter();
     for text in lines {
-        match seen_there(alloc, text) {
-            Some(one) if rest.next() == Some(&one) => {}
+        match text.line(alloc) {
+            Ok(line) if rest.next() == Some(&seen(&line)) => {}
             _ => return false,
         }
     }
     rest.next().is_none()
 }
 
-/// Whether the lines of a document are seen so where they stand.
-fn are_seen_in_place(alloc: Global, text: &[u8], wanted: &[(u32, u8, u32)]) -> bool
-    requires { length text.now ≤ 4194304 }
-{
-    match read_script(alloc, text) {
-        Ok(script) => are_seen_there(alloc, script.lines.slice(), wanted),
-        Err(_) => false,
-    }
-}
-
-/// Whether a script has client 3's look at line 5 and its end at line 7.
-fn are_look_and_end(script: &Script<'_>) -> bool {
-    match script.lines.slice() {
-        [look, end] => {
-            look.command.text == b"look 7".as_slice()
-                && end.command.text == b"end 1".as_slice()
-                && (look.number, end.number) == (5, 7)
-                && look.caller == Caller(3)
-                && end.caller == Caller(3)
-        }
-        _ => false,
-    }
-}
-
 #[test]
 fn lines_stand_where_they_are(rt: HostRuntime) -> Result<(), Fail> {
     let text = b"right r {}\n%%\n\nclient 3\nlook 7\n# look 8\nend 1".as_slice();
-    assert!(rt; are_look_and_end(&read_script(rt.alloc(), text)?));
+    let script = read_script(rt.alloc(), text)?;
+    let [look, end] = script.lines.slice() else {
+        return Err("other lines".into());
+    };
+    assert!(rt; look.command.text == b"look 7".as_slice());
+    assert!(rt; end.command.text == b"end 1".as_slice());
+    assert!(rt; (look.number, end.number) == (5, 7));
+    assert!(rt; look.caller == Caller(3) && end.caller == Caller(3));
     Ok(())
 }
 
@@ -138,21 +142,32 @@ const SEEN: &[(&[u8], &[(u32, u8, u32)])] = &[
     (b"%%\nclient 0\nsubject ann\n", &[(3, 0, 0)]),
 ];
 
+/// As they are read whole, and where they stand.
 #[test]
-fn lines_have_their_numbers_and_clients(rt: HostRuntime) {
+fn lines_have_their_numbers_and_clients(rt: HostRuntime) -> Result<(), Fail> {
+    let alloc = rt.alloc();
     for &(text, lines) in SEEN {
         assert!(rt; text.len() <= MOST_BYTES, "{}", text.escape_ascii());
+        let document = read_document(alloc, text)?;
         assert!(rt;
-            are_seen_whole(rt.alloc(), text, lines),
+            are_seen(document.lines.slice(), lines),
             "{} whole",
             text.escape_ascii()
         );
+        let script = read_script(alloc, text)?;
         assert!(rt;
-            are_seen_in_place(rt.alloc(), text, lines),
+            are_seen_there(alloc, script.lines.slice(), lines),
             "{} in place",
             text.escape_ascii()
         );
+        let (coming, stop) = seen_coming(rt.alloc(), text)?;
+        assert!(rt;
+            coming.as_slice() == lines && stop.is_none(),
+            "{} coming",
+            text.escape_ascii()
+        );
     }
+    Ok(())
 }
 
 fn fault(alloc: Global, rt: &impl Abort, text: &[u8]) -> Option<DocFault> {
@@ -229,14 +244,21 @@ const REFUSED: &[(&[u8], DocFault)] = &[
 ];
 
 #[test]
-fn the_first_refusal_decides(rt: HostRuntime) {
+fn the_first_refusal_decides(rt: HostRuntime) -> Result<(), Fail> {
     for &(text, first) in REFUSED {
         assert!(rt;
             fault(rt.alloc(), &rt, text) == Some(first),
             "{}",
             text.escape_ascii()
         );
+        let (_, stop) = seen_coming(rt.alloc(), text)?;
+        assert!(rt;
+            stop == Some(ScriptStop::Refused(first)),
+            "{} coming",
+            text.escape_ascii()
+        );
     }
+    Ok(())
 }
 
 /// A document's front, the part that it repeats, how often, and its back; its length, and what is wrong with it first.

@@ -1,11 +1,10 @@
+//! Policies, what is wrong with them first, and their limits.
+
 use std::alloc::{AllocError, Global};
 use std::test::Fail;
 use ucon_syntax::SyntaxFault::{TooDeep, TooLong, TooMany, Unexpected, UnknownByte};
 use ucon_syntax::{SyntaxFault, read_policy};
-
-fn fault(alloc: Global, text: &[u8]) -> Option<SyntaxFault> {
-    read_policy(alloc, text).err()
-}
+use ucon_vectors::repeated;
 
 /// Policies, and what is wrong with them first.
 const FAULTS: &[(&[u8], Option<SyntaxFault>)] = &[
@@ -110,24 +109,12 @@ const FAULTS: &[(&[u8], Option<SyntaxFault>)] = &[
 #[test]
 fn faults_stand_at_their_places(rt: HostRuntime) {
     for &(text, want) in FAULTS {
-        assert!(rt; fault(rt.alloc(), text) == want, "{}", text.escape_ascii());
+        assert!(rt;
+            read_policy(rt.alloc(), text).err() == want,
+            "{}",
+            text.escape_ascii()
+        );
     }
-}
-
-/// A text that repeats a part.
-pub fn repeated(
-    alloc: Global,
-    front: &[u8],
-    part: &[u8],
-    times: u32,
-    back: &[u8],
-) -> Result<Vec<u8>, AllocError> {
-    let mut text = Vec::from_slice(alloc, front)?;
-    for _ in 0..times {
-        text.extend_from_slice(part)?;
-    }
-    text.extend_from_slice(back)?;
-    Ok(text)
 }
 
 /// A text's front, the part that it repeats, how often, its back, and what is wrong with it first.
@@ -301,7 +288,7 @@ fn limits_are_met_exactly(rt: HostRuntime) -> Result<(), Fail> {
     for &(front, part, times, back, want) in LIMITS {
         let text = repeated(rt.alloc(), front, part, times, back)?;
         assert!(rt;
-            fault(rt.alloc(), &text) == want,
+            read_policy(rt.alloc(), &text).err() == want,
             "{} {} {times}",
             front.escape_ascii(),
             part.escape_ascii()
@@ -336,7 +323,7 @@ fn a_set_has_at_most_64_texts(rt: HostRuntime) -> Result<(), Fail> {
     for &(texts, back, want) in SETS {
         let text = set_of(rt.alloc(), texts, back)?;
         assert!(rt;
-            fault(rt.alloc(), &text) == want,
+            read_policy(rt.alloc(), &text).err() == want,
             "{texts} {}",
             back.escape_ascii()
         );

@@ -1,138 +1,112 @@
 //! What the forms without a journal print.
 
-use crate::runs::{alone, no_disk, ran, same};
+use crate::runs::{End, no_disk, ran, sink_of, source_of};
 use std::alloc::Global;
 use std::sync::Wait;
 use std::test::Fail;
 use std::thread::Threads;
-use ucon_flow::{MemSink, MemSource};
+use ucon_flow::MemSink;
 use ucon_script::{generate, read_script};
 use ucon_vectors::{
-    AMENDED_ROWS, CAPPED, Example, GENERATED_ROWS, GUIDE_EXAMPLES, LANGUAGE_EXAMPLES, Row,
-    TIMED_ROWS, TYPING_FAULTS, WELL_TYPED_POLICIES, WORKED_ROWS, document,
+    AMENDED_ROWS, CAPPED, Example, GENERATED_ROWS, GUIDE_EXAMPLES, LANGUAGE_EXAMPLES, TIMED_ROWS,
+    TYPING_FAULTS, WELL_TYPED_POLICIES, WORKED_ROWS, document,
 };
 
-/// Whether a form ends with this status over a document and prints this: the output, or with another status than 0 the line of the fault.
-fn prints<R: Threads + Wait + Sync>(
+/// What of a form over a document isn't so: its status, or what it prints. That is the output, or with another status than 0 the line of the fault.
+fn wrong_print<R: Threads + Wait + Sync>(
     rt: &R,
     alloc: Global,
     form: &str,
     document: &[u8],
     status: u8,
     text: &[u8],
-) -> Result<bool, Fail> {
-    let end = alone(rt, alloc, form, document)?;
-    let is_printed = if status == 0 {
-        same(&end.output, text)
+) -> Result<Option<&'static str>, Fail> {
+    let source = source_of(alloc, document, 7, &[])?;
+    let sink = MemSink::new(alloc, 3, Vec::new(alloc));
+    let end = ran(rt, alloc, &[form], source, sink, no_disk(alloc))?;
+    Ok(if status == 0 {
+        end.wrong(0, text, b"", &[])
     } else {
-        same(&end.told, text)
-    };
-    Ok(end.status == status && is_printed)
+        end.wrong(status, b"", text, &[])
+    })
 }
 
-/// The first row of which `trial` prints something else.
-fn first_wrong_row<R: Threads + Wait + Sync>(
-    rt: &R,
-    alloc: Global,
-    rows: &[Row],
-) -> Result<Option<&'static str>, Fail> {
-    for row in rows {
-        let document = document(alloc, row.policy, row.script)?;
-        if !prints(rt, alloc, "trial", &document, 0, row.output)? {
-            return Ok(Some(row.name));
+/// With ample memory. The first run is what refuses a program that answers `no memory` to every line: no clause can. Behind the worked rows are
+/// uses that time ends, and policies that are replaced while uses go on.
+#[test]
+fn rows_print_what_they_say(rt: HostRuntime) -> Result<(), Fail> {
+    let alloc = rt.alloc();
+    for rows in [WORKED_ROWS, TIMED_ROWS, AMENDED_ROWS] {
+        for row in rows {
+            let whole = document(alloc, row.policy, row.script)?;
+            let wrong = wrong_print(&rt, alloc, "trial", &whole, 0, row.output)?;
+            assert!(rt; wrong.is_none(), "{}: {wrong:?}", row.name);
         }
     }
-    Ok(None)
-}
-
-/// With ample memory. The first run is what refuses a program that answers `no memory` to every line: no clause can.
-#[test]
-fn worked_rows_print_what_they_say(rt: HostRuntime) -> Result<(), Fail> {
-    let wrong = first_wrong_row(&rt, rt.alloc(), WORKED_ROWS)?;
-    assert!(rt; wrong.is_none());
     Ok(())
 }
 
-/// Uses that time ends.
-#[test]
-fn timed_rows_print_what_they_say(rt: HostRuntime) -> Result<(), Fail> {
-    let wrong = first_wrong_row(&rt, rt.alloc(), TIMED_ROWS)?;
-    assert!(rt; wrong.is_none());
-    Ok(())
-}
+/// No bytes at all, core models, and a second refusal of each sort.
+const JUDGED: &[Example] = &[
+    Example {
+        name: "no bytes",
+        form: "trial",
+        document: b"",
+        status: 0,
+        text: b"",
+    },
+    Example {
+        name: "core models",
+        form: "check",
+        document: CAPPED,
+        status: 0,
+        text: b"right use onA1 onA3\n",
+    },
+    Example {
+        name: "a policy that ends early",
+        form: "check",
+        document: b"right r {",
+        status: 2,
+        text: b"ucon: policy: unexpected at 9\n",
+    },
+    Example {
+        name: "a line with a word too few",
+        form: "check",
+        document: b"%%\nclient 1\nlook\n",
+        status: 3,
+        text: b"ucon: script: wrong count at line 3\n",
+    },
+];
 
-/// Policies that are replaced while uses go on.
+/// The user's pages of the policy language, commands and errors tell the truth, and so do the examples to begin with.
 #[test]
-fn amended_rows_print_what_they_say(rt: HostRuntime) -> Result<(), Fail> {
-    let wrong = first_wrong_row(&rt, rt.alloc(), AMENDED_ROWS)?;
-    assert!(rt; wrong.is_none());
-    Ok(())
-}
-
-/// The first example of which its form prints something else.
-fn first_wrong_example<R: Threads + Wait + Sync>(
-    rt: &R,
-    alloc: Global,
-    examples: &[Example],
-) -> Result<Option<&'static str>, Fail> {
-    for one in examples {
-        if !prints(rt, alloc, one.form, one.document, one.status, one.text)? {
-            return Ok(Some(one.name));
+fn the_pages_tell_what_is_printed(rt: HostRuntime) -> Result<(), Fail> {
+    for examples in [LANGUAGE_EXAMPLES, GUIDE_EXAMPLES, JUDGED] {
+        for one in examples {
+            let wrong = wrong_print(
+                &rt,
+                rt.alloc(),
+                one.form,
+                one.document,
+                one.status,
+                one.text,
+            )?;
+            assert!(rt; wrong.is_none(), "{}: {wrong:?}", one.name);
         }
     }
-    Ok(None)
-}
-
-/// The user's page of the policy language tells the truth.
-#[test]
-fn the_language_page_tells_what_is_printed(rt: HostRuntime) -> Result<(), Fail> {
-    let wrong = first_wrong_example(&rt, rt.alloc(), LANGUAGE_EXAMPLES)?;
-    assert!(rt; wrong.is_none());
     Ok(())
 }
 
-/// So do the pages of commands and errors, and the examples to begin with.
+/// Typing faults come in order, and core models are told.
 #[test]
-fn the_other_pages_tell_what_is_printed(rt: HostRuntime) -> Result<(), Fail> {
-    let wrong = first_wrong_example(&rt, rt.alloc(), GUIDE_EXAMPLES)?;
-    assert!(rt; wrong.is_none());
-    Ok(())
-}
-
-/// The first policy of which `check` prints something else than the text beside it, or ends with another status.
-fn first_misjudged<R: Threads + Wait + Sync>(
-    rt: &R,
-    alloc: Global,
-    status: u8,
-    policies: &[(&'static str, &'static str)],
-) -> Result<Option<&'static str>, Fail> {
-    for row in policies {
-        let (policy, text) = *row;
-        if !prints(
-            rt,
-            alloc,
-            "check",
-            policy.as_bytes(),
-            status,
-            text.as_bytes(),
-        )? {
-            return Ok(Some(policy));
+fn policies_are_judged(rt: HostRuntime) -> Result<(), Fail> {
+    for (status, rows) in [(2, TYPING_FAULTS), (0, WELL_TYPED_POLICIES)] {
+        for (policy, text) in rows {
+            let (document, text) = (policy.as_bytes(), text.as_bytes());
+            let wrong = wrong_print(&rt, rt.alloc(), "check", document, status, text)?;
+            assert!(rt; wrong.is_none(), "{policy}: {wrong:?}");
         }
     }
-    Ok(None)
-}
-
-#[test]
-fn typing_faults_come_in_order(rt: HostRuntime) -> Result<(), Fail> {
-    let wrong = first_misjudged(&rt, rt.alloc(), 2, TYPING_FAULTS)?;
-    assert!(rt; wrong.is_none());
-    Ok(())
-}
-
-#[test]
-fn core_models_are_told(rt: HostRuntime) -> Result<(), Fail> {
-    let wrong = first_misjudged(&rt, rt.alloc(), 0, WELL_TYPED_POLICIES)?;
-    assert!(rt; wrong.is_none());
     Ok(())
 }
 
@@ -173,34 +147,8 @@ const PLACES: &[(&str, u8, &[u8])] = &[
 fn places_are_counted(rt: HostRuntime) -> Result<(), Fail> {
     for &(more, status, line) in PLACES {
         let policy = reading_all(rt.alloc(), more)?;
-        assert!(rt;
-            prints(&rt, rt.alloc(), "check", &policy, status, line)?,
-            "{more}"
-        );
-    }
-    Ok(())
-}
-
-/// No bytes at all, core models, and a second refusal of each sort.
-const JUDGED: &[(&str, &[u8], u8, &[u8])] = &[
-    ("trial", b"", 0, b""),
-    ("check", CAPPED, 0, b"right use onA1 onA3\n"),
-    ("check", b"right r {", 2, b"ucon: policy: unexpected at 9\n"),
-    (
-        "check",
-        b"%%\nclient 1\nlook\n",
-        3,
-        b"ucon: script: wrong count at line 3\n",
-    ),
-];
-
-#[test]
-fn other_documents(rt: HostRuntime) -> Result<(), Fail> {
-    for &(form, document, status, text) in JUDGED {
-        assert!(rt;
-            prints(&rt, rt.alloc(), form, document, status, text)?,
-            "{text:?}"
-        );
+        let wrong = wrong_print(&rt, rt.alloc(), "check", &policy, status, line)?;
+        assert!(rt; wrong.is_none(), "{more}: {wrong:?}");
     }
     Ok(())
 }
@@ -363,53 +311,34 @@ const CASES: &[Case] = &[
     },
 ];
 
-/// Whether one subject is answered so.
-fn ends_so<R: Threads + Wait + Sync>(rt: &R, alloc: Global, case: &Case) -> Result<bool, Fail> {
-    let bytes = Vec::from_slice(alloc, b"%%\nclient 0\nsubject a\n")?;
-    let source = MemSource::new(bytes, 4, Vec::from_slice(alloc, case.source_faults)?);
-    let sink = MemSink::new(alloc, 1, Vec::from_slice(alloc, case.sink_faults)?);
-    let end = ran(rt, alloc, case.words, source, sink, no_disk(alloc))?;
-    Ok(end.status == case.status && same(&end.output, case.output) && same(&end.told, case.told))
-}
-
 #[test]
 fn other_ends(rt: HostRuntime) -> Result<(), Fail> {
+    let alloc = rt.alloc();
     for case in CASES {
-        assert!(rt; ends_so(&rt, rt.alloc(), case)?, "{:?}", case.words);
+        let source = source_of(alloc, b"%%\nclient 0\nsubject a\n", 4, case.source_faults)?;
+        let sink = sink_of(alloc, case.sink_faults)?;
+        let end = ran(&rt, alloc, case.words, source, sink, no_disk(alloc))?;
+        let wrong = end.wrong(case.status, case.output, case.told, &[]);
+        assert!(rt; wrong.is_none(), "{:?}: {wrong:?}", case.words);
     }
     Ok(())
 }
 
-/// An input of one byte too many.
-#[test]
-fn long_input(rt: HostRuntime) -> Result<(), Fail> {
-    let alloc = rt.alloc();
-    let mut bytes = Vec::new(alloc);
-    bytes.resize(4_194_305, b'\n')?;
-    let source = MemSource::new(bytes, 4096, Vec::new(alloc));
-    let sink = MemSink::new(alloc, 1, Vec::new(alloc));
-    let end = ran(&rt, alloc, &["trial"], source, sink, no_disk(alloc))?;
-    assert!(rt; end.status == 11 && end.output.is_empty());
-    Ok(())
-}
-
-/// The status of `gen` over these words, and what it writes. The source would fail if it were read.
-fn generated<R: Threads + Wait + Sync>(
-    rt: &R,
-    alloc: Global,
-    words: &[&str],
-) -> Result<(u8, Vec<u8>), Fail> {
-    let source = MemSource::new(Vec::new(alloc), 7, Vec::from_slice(alloc, &[0])?);
+/// How a run of `gen` over these words ends. The source would fail if it were read.
+fn generated<R: Threads + Wait + Sync>(rt: &R, alloc: Global, words: &[&str]) -> Result<End, Fail> {
+    let source = source_of(alloc, b"", 7, &[0])?;
     let sink = MemSink::new(alloc, 3, Vec::new(alloc));
-    let end = ran(rt, alloc, words, source, sink, no_disk(alloc))?;
-    Ok((end.status, end.output))
+    ran(rt, alloc, words, source, sink, no_disk(alloc))
 }
 
 #[test]
 fn generated_documents_are_summed(rt: HostRuntime) -> Result<(), Fail> {
     for &(words, status, text) in GENERATED_ROWS {
-        let (ended, output) = generated(&rt, rt.alloc(), words)?;
-        assert!(rt; ended == status && same(&output, text), "{words:?}");
+        let end = generated(&rt, rt.alloc(), words)?;
+        assert!(rt;
+            end.status == status && end.sink.bytes() == text,
+            "{words:?}"
+        );
     }
     Ok(())
 }
@@ -417,10 +346,11 @@ fn generated_documents_are_summed(rt: HostRuntime) -> Result<(), Fail> {
 /// The same words make the same document and the same run.
 #[test]
 fn generated_twice(rt: HostRuntime) -> Result<(), Fail> {
-    let (status, first) = generated(&rt, rt.alloc(), &["gen", "7", "20000"])?;
-    let (_, second) = generated(&rt, rt.alloc(), &["gen", "7", "20000"])?;
-    assert!(rt; status == 0 && first.starts_with(b"lines 20025\n".as_slice()));
-    assert!(rt; first == second);
+    let first = generated(&rt, rt.alloc(), &["gen", "7", "20000"])?;
+    let again = generated(&rt, rt.alloc(), &["gen", "7", "20000"])?;
+    let output = first.sink.bytes();
+    assert!(rt; first.status == 0 && output.starts_with(b"lines 20025\n".as_slice()));
+    assert!(rt; output == again.sink.bytes());
     Ok(())
 }
 

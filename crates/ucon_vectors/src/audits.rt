@@ -2,55 +2,148 @@
 
 use crate::explained::EXPLAIN;
 use crate::journals::{
-    CHANGED_BEFORE_POINT, FOREIGN, OLD_WITH_A, OTHER_POLICY, PLAY, Played, SUBJECT_A,
-    SUBJECTS_B_AND_C, WITH_A_AND_POINT, WITH_A_AND_TWO_POINTS, WRONG_CALLER, WRONG_NUMBER,
-    WRONG_POINT_BEFORE_POINT, WRONG_REPLY, WRONG_SUBJECT,
+    ADDS_A, ADDS_B, Bytes, CHANGED_BEFORE_POINT, CLOSED, FOREIGN, MAGIC, OLD_MAGIC, OLD_WITH_A,
+    OTHER_POLICY, PLAY, POINT_WITH_A, POLICY_R, Played, SUBJECT_A, SUBJECTS_B_AND_C,
+    WITH_A_AND_POINT, WITH_A_AND_TWO_POINTS, WRONG_CALLER, WRONG_NUMBER, WRONG_POINT_BEFORE_POINT,
+    WRONG_REPLY, WRONG_SUBJECT,
 };
 use crate::worked::PAY_PER_USE;
 
 /// A journal without a record.
-const FRESH: &[u8] = b"UCONJR02\x00";
+const FRESH: Bytes = &[MAGIC, CLOSED];
 /// Of the uses that go on one wouldn't be permitted now. Client 0's `try` left a credit of 4, below the price.
-const WANTING: &[u8] =
-    b"UCONJR02\x01\x00\x00\x00\xb5attr s credit : int 0..100 = 0;\nattr o price : int 0..100 = 5;\nright play {\n  pre a funds: s.credit >= o.price;\n  on a left: s.credit > 0;\n  before s.credit = s.credit - o.price;\n}\n\x01\x00\x00\x00\x100 subject ann\nok\x01\x00\x00\x00\x100 object song\nok\x01\x00\x00\x00\x170 set s ann credit 9\nok\x01\x00\x00\x00\x1f0 try ann play song\npermitted 1\x00";
+const WANTING: Bytes = &[
+    MAGIC,
+    b"\x01\x00\x00\x00\xb5",
+    PAY_PER_USE,
+    b"\x01\x00\x00\x00\x100 subject ann\nok",
+    b"\x01\x00\x00\x00\x100 object song\nok",
+    b"\x01\x00\x00\x00\x170 set s ann credit 9\nok",
+    b"\x01\x00\x00\x00\x1f0 try ann play song\npermitted 1",
+    CLOSED,
+];
 /// Of four uses that go on two would wait and one be denied now; one more has ended.
-const LATE: &[u8] =
-    b"UCONJR02\x01\x00\x00\x00zenv open : int 0..1 = 1;\nright see { pre c day: env.open = 1; }\nright use { pre b fresh: within 5 accept; }\nright free {}\n\x01\x00\x00\x00\x0e0 subject a\nok\x01\x00\x00\x00\x0d0 object x\nok\x01\x00\x00\x00\x131 act a accept x\nok\x01\x00\x00\x00\x191 try a use x\npermitted 1\x01\x00\x00\x00\x192 try a see x\npermitted 2\x01\x00\x00\x00\x1a1 try a free x\npermitted 3\x01\x00\x00\x00\x192 try a use x\npermitted 4\x01\x00\x00\x00\x192 try a use x\npermitted 5\x01\x00\x00\x00\x0f2 end 4\nended 4\x01\x00\x00\x00\x0f0 env open 0\nok\x01\x00\x00\x00\x0b0 tick 9\nok\x00";
+const LATE: Bytes = &[
+    MAGIC,
+    b"\x01\x00\x00\x00z",
+    LATE_POLICY,
+    ADDS_A,
+    b"\x01\x00\x00\x00\x0d0 object x\nok",
+    b"\x01\x00\x00\x00\x131 act a accept x\nok",
+    b"\x01\x00\x00\x00\x191 try a use x\npermitted 1",
+    b"\x01\x00\x00\x00\x192 try a see x\npermitted 2",
+    b"\x01\x00\x00\x00\x1a1 try a free x\npermitted 3",
+    b"\x01\x00\x00\x00\x192 try a use x\npermitted 4",
+    b"\x01\x00\x00\x00\x192 try a use x\npermitted 5",
+    b"\x01\x00\x00\x00\x0f2 end 4\nended 4",
+    b"\x01\x00\x00\x00\x0f0 env open 0\nok",
+    b"\x01\x00\x00\x00\x0b0 tick 9\nok",
+    CLOSED,
+];
 /// The policy of these uses.
 const LATE_POLICY: &[u8] =
     b"env open : int 0..1 = 1;\nright see { pre c day: env.open = 1; }\nright use { pre b fresh: within 5 accept; }\nright free {}\n";
 /// The policy was replaced, and a checkpoint stands behind that.
-const AMENDED_AND_POINT: &[u8] =
-    b"UCONJR02\x01\x00\x00\x00\x0bright r {}\n\x01\x00\x00\x00\x0e0 subject a\nok\x01\x00\x00\x00#0 amend attr s k : int 0..9 = 3;\nok\x01\x00\x00\x00Fpoint 2\npolicy 24\nattr s k : int 0..9 = 3;\ntick 0\nsubject a\nvalue k 3\n\x00";
+const AMENDED_AND_POINT: Bytes = &[
+    MAGIC,
+    POLICY_R,
+    ADDS_A,
+    b"\x01\x00\x00\x00#0 amend attr s k : int 0..9 = 3;\nok",
+    b"\x01\x00\x00\x00Fpoint 2\npolicy 24\nattr s k : int 0..9 = 3;\ntick 0\nsubject a\nvalue k 3\n",
+    CLOSED,
+];
 /// The same, but the checkpoint has the first policy's text.
-const FIRST_POLICY_IN_POINT: &[u8] =
-    b"UCONJR02\x01\x00\x00\x00\x0bright r {}\n\x01\x00\x00\x00\x0e0 subject a\nok\x01\x00\x00\x00#0 amend attr s k : int 0..9 = 3;\nok\x01\x00\x00\x00/point 2\npolicy 11\nright r {}\n\ntick 0\nsubject a\n\x00";
+const FIRST_POLICY_IN_POINT: Bytes = &[
+    MAGIC,
+    POLICY_R,
+    ADDS_A,
+    b"\x01\x00\x00\x00#0 amend attr s k : int 0..9 = 3;\nok",
+    b"\x01\x00\x00\x00/point 2\npolicy 11\nright r {}\n\ntick 0\nsubject a\n",
+    CLOSED,
+];
 /// Of version 1, and its first gate is closed.
-const OLD_WITHOUT_RECORD: &[u8] = b"UCONJR01\x00x";
+const OLD_WITHOUT_RECORD: Bytes = &[OLD_MAGIC, b"\x00x"];
 /// A checkpoint in a file of version 1, which may have none.
-const OLD_WITH_POINT: &[u8] =
-    b"UCONJR01\x01\x00\x00\x00\x0bright r {}\n\x01\x00\x00\x00\x0e0 subject a\nok\x01\x00\x00\x00/point 1\npolicy 11\nright r {}\n\ntick 0\nsubject a\n\x00";
+const OLD_WITH_POINT: Bytes = &[OLD_MAGIC, POLICY_R, ADDS_A, POINT_WITH_A, CLOSED];
 /// A checkpoint whose gate is closed, and which is cut off.
-const TORN_POINT: &[u8] =
-    b"UCONJR02\x01\x00\x00\x00\x0bright r {}\n\x01\x00\x00\x00\x0e0 subject a\nok\x00\x00\x00\x00/point 1\npol";
+const TORN_POINT: Bytes = &[MAGIC, POLICY_R, ADDS_A, b"\x00\x00\x00\x00/point 1\npol"];
 /// The length of the last record reaches beyond the file, so it doesn't count.
-const CUT_OFF: &[u8] =
-    b"UCONJR02\x01\x00\x00\x00\x0bright r {}\n\x01\xff\xff\xff\xff0 subject a\nok\x00";
+const CUT_OFF: Bytes = &[MAGIC, POLICY_R, b"\x01\xff\xff\xff\xff0 subject a\nok\x00"];
 /// Record 0 is no policy.
-const NO_POLICY: &[u8] =
-    b"UCONJR02\x01\x00\x00\x00\x0bRight r {}\n\x01\x00\x00\x00\x0e0 subject a\nok\x00";
+const NO_POLICY: Bytes = &[MAGIC, b"\x01\x00\x00\x00\x0bRight r {}\n", ADDS_A, CLOSED];
 /// A use that its own `try` revoked, since no credit was left.
-const REVOKED: &[u8] =
-    b"UCONJR02\x01\x00\x00\x00\xb5attr s credit : int 0..100 = 0;\nattr o price : int 0..100 = 5;\nright play {\n  pre a funds: s.credit >= o.price;\n  on a left: s.credit > 0;\n  before s.credit = s.credit - o.price;\n}\n\x01\x00\x00\x00\x100 subject ann\nok\x01\x00\x00\x00\x100 object song\nok\x01\x00\x00\x00\x170 set s ann credit 5\nok\x01\x00\x00\x00.0 try ann play song\npermitted 1 revoked 1 left\x00";
+const REVOKED: Bytes = &[
+    MAGIC,
+    b"\x01\x00\x00\x00\xb5",
+    PAY_PER_USE,
+    b"\x01\x00\x00\x00\x100 subject ann\nok",
+    b"\x01\x00\x00\x00\x100 object song\nok",
+    b"\x01\x00\x00\x00\x170 set s ann credit 5\nok",
+    b"\x01\x00\x00\x00.0 try ann play song\npermitted 1 revoked 1 left",
+    CLOSED,
+];
 /// Attributes, variables and sessions of all kinds, and acts.
 const ALL_KINDS: &[u8] =
     b"attr s credit : int -9..100 = 7;\nattr s tags : set = {\"a\", \"b\"};\nattr o price : int 0..100 = 5;\nattr o label : text = \"x\\y\";\nenv hour : int 0..23 = 9;\nenv area : text = \"eu\";\nright play { pre b terms: done accept; on a left: s.credit > 0; after_end s.credit = 0 - 1; }\nright no { pre c never: 1 = 2; }\n";
 /// Steps under that policy, and a checkpoint in their midst.
-const WITH_ALL_KINDS: &[u8] =
-    b"UCONJR02\x01\x00\x00\x01.attr s credit : int -9..100 = 7;\nattr s tags : set = {\"a\", \"b\"};\nattr o price : int 0..100 = 5;\nattr o label : text = \"x\\y\";\nenv hour : int 0..23 = 9;\nenv area : text = \"eu\";\nright play { pre b terms: done accept; on a left: s.credit > 0; after_end s.credit = 0 - 1; }\nright no { pre c never: 1 = 2; }\n\x01\x00\x00\x00\x0e0 subject b\nok\x01\x00\x00\x00\x0e0 subject a\nok\x01\x00\x00\x00\x100 object song\nok\x01\x00\x00\x00\x1b0 set s b tags {\"b\",\"c\"}\nok\x01\x00\x00\x00\x160 act a accept song\nok\x01\x00\x00\x00\x0b0 tick 5\nok\x01\x00\x00\x00\x1d1 try a play song\npermitted 1\x01\x00\x00\x00!2 try b play song\nwaiting 2 terms\x01\x00\x00\x02Cpoint 8\npolicy 302\nattr s credit : int -9..100 = 7;\nattr s tags : set = {\"a\", \"b\"};\nattr o price : int 0..100 = 5;\nattr o label : text = \"x\\y\";\nenv hour : int 0..23 = 9;\nenv area : text = \"eu\";\nright play { pre b terms: done accept; on a left: s.credit > 0; after_end s.credit = 0 - 1; }\nright no { pre c never: 1 = 2; }\n\ntick 5\nenv hour 9\nenv area \"eu\"\nsubject b\nvalue credit 7\nvalue tags {\"b\",\"c\"}\nsubject a\nvalue credit 7\nvalue tags {\"a\",\"b\"}\nobject song\nvalue price 5\nvalue label \"x\\y\"\nact a accept song 0\nsession 1 play a song accessing 5\nsession 2 play b song requesting 0\n\x01\x00\x00\x00\x162 act b accept song\nok\x01\x00\x00\x00\x161 act a accept song\nok\x01\x00\x00\x00\x0f1 end 1\nended 1\x01\x00\x00\x00\x100 env area \"\"\nok\x01\x00\x00\x00\x1f63 try b no song\ndenied 3 never\x00";
+const WITH_ALL_KINDS: Bytes = &[
+    MAGIC,
+    b"\x01\x00\x00\x01.",
+    ALL_KINDS,
+    ADDS_B,
+    ADDS_A,
+    b"\x01\x00\x00\x00\x100 object song\nok",
+    b"\x01\x00\x00\x00\x1b0 set s b tags {\"b\",\"c\"}\nok",
+    b"\x01\x00\x00\x00\x160 act a accept song\nok",
+    b"\x01\x00\x00\x00\x0b0 tick 5\nok",
+    b"\x01\x00\x00\x00\x1d1 try a play song\npermitted 1",
+    b"\x01\x00\x00\x00!2 try b play song\nwaiting 2 terms",
+    b"\x01\x00\x00\x02Cpoint 8\npolicy 302\nattr s credit : int -9..100 = 7;\n\
+attr s tags : set = {\"a\", \"b\"};\nattr o price : int 0..100 = 5;\n\
+attr o label : text = \"x\\y\";\nenv hour : int 0..23 = 9;\nenv area : text = \"eu\";\n\
+right play { pre b terms: done accept; on a left: s.credit > 0; after_end s.credit = 0 - 1; }\n\
+right no { pre c never: 1 = 2; }\n\ntick 5\nenv hour 9\nenv area \"eu\"\n\
+subject b\nvalue credit 7\nvalue tags {\"b\",\"c\"}\nsubject a\n\
+value credit 7\nvalue tags {\"a\",\"b\"}\nobject song\nvalue price 5\n\
+value label \"x\\y\"\nact a accept song 0\nsession 1 play a song accessing 5\n\
+session 2 play b song requesting 0\n",
+    b"\x01\x00\x00\x00\x162 act b accept song\nok",
+    b"\x01\x00\x00\x00\x161 act a accept song\nok",
+    b"\x01\x00\x00\x00\x0f1 end 1\nended 1",
+    b"\x01\x00\x00\x00\x100 env area \"\"\nok",
+    b"\x01\x00\x00\x00\x1f63 try b no song\ndenied 3 never",
+    CLOSED,
+];
 /// The same, and then another policy, which has some of the attributes and variables still.
-const WITH_ALL_KINDS_AMENDED: &[u8] =
-    b"UCONJR02\x01\x00\x00\x01.attr s credit : int -9..100 = 7;\nattr s tags : set = {\"a\", \"b\"};\nattr o price : int 0..100 = 5;\nattr o label : text = \"x\\y\";\nenv hour : int 0..23 = 9;\nenv area : text = \"eu\";\nright play { pre b terms: done accept; on a left: s.credit > 0; after_end s.credit = 0 - 1; }\nright no { pre c never: 1 = 2; }\n\x01\x00\x00\x00\x0e0 subject b\nok\x01\x00\x00\x00\x0e0 subject a\nok\x01\x00\x00\x00\x100 object song\nok\x01\x00\x00\x00\x1b0 set s b tags {\"b\",\"c\"}\nok\x01\x00\x00\x00\x160 act a accept song\nok\x01\x00\x00\x00\x0b0 tick 5\nok\x01\x00\x00\x00\x1d1 try a play song\npermitted 1\x01\x00\x00\x00!2 try b play song\nwaiting 2 terms\x01\x00\x00\x02Cpoint 8\npolicy 302\nattr s credit : int -9..100 = 7;\nattr s tags : set = {\"a\", \"b\"};\nattr o price : int 0..100 = 5;\nattr o label : text = \"x\\y\";\nenv hour : int 0..23 = 9;\nenv area : text = \"eu\";\nright play { pre b terms: done accept; on a left: s.credit > 0; after_end s.credit = 0 - 1; }\nright no { pre c never: 1 = 2; }\n\ntick 5\nenv hour 9\nenv area \"eu\"\nsubject b\nvalue credit 7\nvalue tags {\"b\",\"c\"}\nsubject a\nvalue credit 7\nvalue tags {\"a\",\"b\"}\nobject song\nvalue price 5\nvalue label \"x\\y\"\nact a accept song 0\nsession 1 play a song accessing 5\nsession 2 play b song requesting 0\n\x01\x00\x00\x00\x162 act b accept song\nok\x01\x00\x00\x00\x161 act a accept song\nok\x01\x00\x00\x00\x0f1 end 1\nended 1\x01\x00\x00\x00\x100 env area \"\"\nok\x01\x00\x00\x00\x1f63 try b no song\ndenied 3 never\x01\x00\x00\x00_0 amend attr s tags : set = {}; env day : int 0..6 = 1; env area : text = \"us\"; right see {}\nok\x00";
+const WITH_ALL_KINDS_AMENDED: Bytes = &[
+    MAGIC,
+    b"\x01\x00\x00\x01.",
+    ALL_KINDS,
+    ADDS_B,
+    ADDS_A,
+    b"\x01\x00\x00\x00\x100 object song\nok",
+    b"\x01\x00\x00\x00\x1b0 set s b tags {\"b\",\"c\"}\nok",
+    b"\x01\x00\x00\x00\x160 act a accept song\nok",
+    b"\x01\x00\x00\x00\x0b0 tick 5\nok",
+    b"\x01\x00\x00\x00\x1d1 try a play song\npermitted 1",
+    b"\x01\x00\x00\x00!2 try b play song\nwaiting 2 terms",
+    b"\x01\x00\x00\x02Cpoint 8\npolicy 302\nattr s credit : int -9..100 = 7;\n\
+attr s tags : set = {\"a\", \"b\"};\nattr o price : int 0..100 = 5;\n\
+attr o label : text = \"x\\y\";\nenv hour : int 0..23 = 9;\nenv area : text = \"eu\";\n\
+right play { pre b terms: done accept; on a left: s.credit > 0; after_end s.credit = 0 - 1; }\n\
+right no { pre c never: 1 = 2; }\n\ntick 5\nenv hour 9\nenv area \"eu\"\n\
+subject b\nvalue credit 7\nvalue tags {\"b\",\"c\"}\nsubject a\n\
+value credit 7\nvalue tags {\"a\",\"b\"}\nobject song\nvalue price 5\n\
+value label \"x\\y\"\nact a accept song 0\nsession 1 play a song accessing 5\n\
+session 2 play b song requesting 0\n",
+    b"\x01\x00\x00\x00\x162 act b accept song\nok",
+    b"\x01\x00\x00\x00\x161 act a accept song\nok",
+    b"\x01\x00\x00\x00\x0f1 end 1\nended 1",
+    b"\x01\x00\x00\x00\x100 env area \"\"\nok",
+    b"\x01\x00\x00\x00\x1f63 try b no song\ndenied 3 never",
+    b"\x01\x00\x00\x00_0 amend attr s tags : set = {}; env day : int 0..6 = 1; env area : text = \"us\"; right see {}\nok",
+    CLOSED,
+];
 
 /// A full check of a journal of one record and a checkpoint, over a disk and to a sink that don't fail.
 const AUDIT: Played = Played {
@@ -72,14 +165,14 @@ const PLAY_A: Played = Played {
 pub const AUDITED_ROWS: &[Played] = &[
     Played {
         name: "no file",
-        file: b"",
+        file: &[],
         output: b"records 0\nentries 0\nhead 663036308aa65cf86873b0e5df3e462335cc43ee6157575411030542e2ecfb52\naccessing 0\n",
         left: FRESH,
         ..AUDIT
     },
     Played {
         name: "nine bytes of another file",
-        file: b"012345678",
+        file: &[b"012345678"],
         output: b"records 0\nentries 0\nhead 663036308aa65cf86873b0e5df3e462335cc43ee6157575411030542e2ecfb52\naccessing 0\n",
         left: FRESH,
         ..AUDIT
@@ -242,14 +335,14 @@ const REPORT: Played = Played {
 pub const REPORTED_ROWS: &[Played] = &[
     Played {
         name: "no file",
-        file: b"",
+        file: &[],
         output: b"{\"acts\":[],\"entries\":0,\"env\":{},\"objects\":{},\"sessions\":[],\"subjects\":{},\"tick\":0}\n",
         left: FRESH,
         ..REPORT
     },
     Played {
         name: "no file under a policy with variables",
-        file: b"",
+        file: &[],
         document: ALL_KINDS,
         output: b"{\"acts\":[],\"entries\":0,\"env\":{\"area\":\"eu\",\"hour\":9},\"objects\":{},\"sessions\":[],\"subjects\":{},\"tick\":0}\n",
         left: FRESH,

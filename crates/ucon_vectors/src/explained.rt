@@ -1,6 +1,9 @@
 //! What is told of tries over a journal, and what its file holds then.
 
-use crate::journals::{FOREIGN, MADE, OTHER_POLICY, PLAY, Played, TORN, WITH_A, WRONG_REPLY};
+use crate::journals::{
+    ADDS_A, Bytes, CLOSED, FOREIGN, MADE, MAGIC, OTHER_POLICY, PLAY, Played, TORN, WITH_A,
+    WRONG_REPLY,
+};
 
 /// The policy of a sale: an authorisation, an obligation and a condition before a usage.
 const SALE: &[u8] = b"attr s age : int 0..150 = 0;
@@ -9,14 +12,38 @@ right buy { pre b sign: done sign_up; pre c late: env.hour >= 10; pre a adult: s
 ";
 
 /// Behind the policy the subject `a` and the object `x`.
-const WITH_BOTH: &[u8] =
-    b"UCONJR02\x01\x00\x00\x00\x95attr s age : int 0..150 = 0;\nenv hour : int 0..23 = 9;\nright buy { pre b sign: done sign_up; pre c late: env.hour >= 10; pre a adult: s.age >= 18; }\n\x01\x00\x00\x00\x0e0 subject a\nok\x01\x00\x00\x00\x0d0 object x\nok\x00";
+const WITH_BOTH: Bytes = &[
+    MAGIC,
+    b"\x01\x00\x00\x00\x95",
+    SALE,
+    ADDS_A,
+    b"\x01\x00\x00\x00\x0d0 object x\nok",
+    CLOSED,
+];
 /// The same with a checkpoint behind them.
-const POINTED: &[u8] =
-    b"UCONJR02\x01\x00\x00\x00\x95attr s age : int 0..150 = 0;\nenv hour : int 0..23 = 9;\nright buy { pre b sign: done sign_up; pre c late: env.hour >= 10; pre a adult: s.age >= 18; }\n\x01\x00\x00\x00\x0e0 subject a\nok\x01\x00\x00\x00\x0d0 object x\nok\x01\x00\x00\x00\xdapoint 2\npolicy 149\nattr s age : int 0..150 = 0;\nenv hour : int 0..23 = 9;\nright buy { pre b sign: done sign_up; pre c late: env.hour >= 10; pre a adult: s.age >= 18; }\n\ntick 0\nenv hour 9\nsubject a\nvalue age 0\nobject x\n\x00";
+const POINTED: Bytes = &[
+    MAGIC,
+    b"\x01\x00\x00\x00\x95",
+    SALE,
+    ADDS_A,
+    b"\x01\x00\x00\x00\x0d0 object x\nok",
+    b"\x01\x00\x00\x00\xdapoint 2\npolicy 149\nattr s age : int 0..150 = 0;\n\
+env hour : int 0..23 = 9;\nright buy { pre b sign: done sign_up; pre c late: env.hour >= 10; pre a adult: s.age >= 18; }\n\n\
+tick 0\nenv hour 9\nsubject a\nvalue age 0\nobject x\n",
+    CLOSED,
+];
 /// The record before the checkpoint has the reply `oj`: opening accepts the file, and it is found as no history.
-const ACCEPTED: &[u8] =
-    b"UCONJR02\x01\x00\x00\x00\x95attr s age : int 0..150 = 0;\nenv hour : int 0..23 = 9;\nright buy { pre b sign: done sign_up; pre c late: env.hour >= 10; pre a adult: s.age >= 18; }\n\x01\x00\x00\x00\x0e0 subject a\nok\x01\x00\x00\x00\x0d0 object x\noj\x01\x00\x00\x00\xdapoint 2\npolicy 149\nattr s age : int 0..150 = 0;\nenv hour : int 0..23 = 9;\nright buy { pre b sign: done sign_up; pre c late: env.hour >= 10; pre a adult: s.age >= 18; }\n\ntick 0\nenv hour 9\nsubject a\nvalue age 0\nobject x\n\x00";
+const ACCEPTED: Bytes = &[
+    MAGIC,
+    b"\x01\x00\x00\x00\x95",
+    SALE,
+    ADDS_A,
+    b"\x01\x00\x00\x00\x0d0 object x\noj",
+    b"\x01\x00\x00\x00\xdapoint 2\npolicy 149\nattr s age : int 0..150 = 0;\n\
+env hour : int 0..23 = 9;\nright buy { pre b sign: done sign_up; pre c late: env.hour >= 10; pre a adult: s.age >= 18; }\n\n\
+tick 0\nenv hour 9\nsubject a\nvalue age 0\nobject x\n",
+    CLOSED,
+];
 
 /// What the subject `a` would meet.
 const DENIED: &[u8] = b"pre sign b false
@@ -88,7 +115,7 @@ const UNOPENED: Played = Played {
 pub const UNEXPLAINED_ROWS: &[Played] = &[
     Played {
         name: "a first journal",
-        file: b"",
+        file: &[],
         output: b"no subject\n",
         left: MADE,
         ..UNOPENED

@@ -1,7 +1,7 @@
 //! Hostile input, as bytes with how the program ends: documents at a limit and one above it, and files that were cut off or changed.
 
 use crate::Played;
-use crate::journals::PLAY;
+use crate::journals::{ADDS_A, Bytes, CLOSED, MAGIC, PLAY, POLICY_R};
 
 /// A document at a limit, or above it, which repeats a part between a front and a back, and what a form makes of it.
 #[derive(Clone, Copy)]
@@ -258,28 +258,35 @@ pub const HOSTILE_DOCUMENTS: &[Limit] = &[
 ];
 
 /// The policy is the record of a journal without entries.
-pub const WITHOUT_ENTRIES: &[u8] = b"UCONJR02\x01\x00\x00\x00\x0bright r {}\n\x00";
+pub const WITHOUT_ENTRIES: Bytes = &[MAGIC, POLICY_R, CLOSED];
 /// The empty policy is the record.
-const EMPTY_POLICY: &[u8] = b"UCONJR02\x01\x00\x00\x00\x00\x00";
+const EMPTY_POLICY: Bytes = &[MAGIC, b"\x01\x00\x00\x00\x00", CLOSED];
 /// The length of record 1 is the greatest that four bytes can tell.
-const GREATEST_LENGTH: &[u8] =
-    b"UCONJR02\x01\x00\x00\x00\x0bright r {}\n\x01\xff\xff\xff\xff0 subject a\nok\x00";
+const GREATEST_LENGTH: Bytes = &[MAGIC, POLICY_R, b"\x01\xff\xff\xff\xff0 subject a\nok\x00"];
 /// The first byte of record 1's payload is no digit.
-const WRONG_PAYLOAD: &[u8] =
-    b"UCONJR02\x01\x00\x00\x00\x0bright r {}\n\x01\x00\x00\x00\x0ex subject a\nok\x00";
+const WRONG_PAYLOAD: Bytes = &[
+    MAGIC,
+    POLICY_R,
+    b"\x01\x00\x00\x00\x0ex subject a\nok",
+    CLOSED,
+];
 /// The first byte of the policy is a capital letter.
-const WRONG_POLICY: &[u8] =
-    b"UCONJR02\x01\x00\x00\x00\x0bRight r {}\n\x01\x00\x00\x00\x0e0 subject a\nok\x00";
+const WRONG_POLICY: Bytes = &[MAGIC, b"\x01\x00\x00\x00\x0bRight r {}\n", ADDS_A, CLOSED];
 /// Record 1 has no byte.
-const EMPTY_RECORD: &[u8] = b"UCONJR02\x01\x00\x00\x00\x0bright r {}\n\x01\x00\x00\x00\x00\x00";
+const EMPTY_RECORD: Bytes = &[MAGIC, POLICY_R, b"\x01\x00\x00\x00\x00", CLOSED];
 /// Two records have no byte, of which the first is the empty policy.
-const EMPTY_RECORDS: &[u8] = b"UCONJR02\x01\x00\x00\x00\x00\x01\x00\x00\x00\x00\x00";
+const EMPTY_RECORDS: Bytes = &[
+    MAGIC,
+    b"\x01\x00\x00\x00\x00",
+    b"\x01\x00\x00\x00\x00",
+    CLOSED,
+];
 
 /// Files that nobody's `play` left so. What is refused is left as it was.
 pub const HOSTILE_JOURNALS: &[Played] = &[
     Played {
         name: "two foreign bytes",
-        file: b"hi",
+        file: &[b"hi"],
         left: WITHOUT_ENTRIES,
         ..PLAY
     },

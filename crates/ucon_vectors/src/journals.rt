@@ -1,5 +1,8 @@
 //! Documents that are played over a journal or a checkpoint of which is written, and what its file holds then.
 
+/// A file in parts, which stand in it one behind the other.
+pub type Bytes = &'static [&'static [u8]];
+
 /// One run over a file: a document is played over it, a checkpoint is written to it, or something is told of it. It has the calls of the disk and
 /// of the sink that fail, by their numbers from 0. It has what the program ends with, writes and tells, and the file afterwards.
 #[derive(Clone, Copy)]
@@ -7,96 +10,196 @@ pub struct Played {
     pub name: &'static str,
     /// The form's words, over the journal `j`.
     pub words: &'static [&'static str],
-    pub file: &'static [u8],
+    pub file: Bytes,
     pub document: &'static [u8],
     pub disk_faults: &'static [u64],
     pub sink_faults: &'static [u64],
     pub status: u8,
     pub output: &'static [u8],
     pub told: &'static [u8],
-    pub left: &'static [u8],
+    pub left: Bytes,
 }
 
+/// What each journal begins with.
+pub(crate) const MAGIC: &[u8] = b"UCONJR02";
+
+/// The same of version 1.
+pub(crate) const OLD_MAGIC: &[u8] = b"UCONJR01";
+
+/// The record of the policy: an open gate, the length in four bytes, and the payload.
+pub(crate) const POLICY_R: &[u8] = b"\x01\x00\x00\x00\x0bright r {}\n";
+
+/// The record of client 0's `subject a`.
+pub(crate) const ADDS_A: &[u8] = b"\x01\x00\x00\x00\x0e0 subject a\nok";
+
+/// The record of client 0's `subject b`.
+pub(crate) const ADDS_B: &[u8] = b"\x01\x00\x00\x00\x0e0 subject b\nok";
+
+/// The record of a checkpoint behind that of `subject a`.
+pub(crate) const POINT_WITH_A: &[u8] =
+    b"\x01\x00\x00\x00/point 1\npolicy 11\nright r {}\n\ntick 0\nsubject a\n";
+
+/// The gate of the next record, which is none yet.
+pub(crate) const CLOSED: &[u8] = b"\x00";
+
 /// One record behind the policy: client 0's `subject a`.
-pub const WITH_A: &[u8] =
-    b"UCONJR02\x01\x00\x00\x00\x0bright r {}\n\x01\x00\x00\x00\x0e0 subject a\nok\x00";
+pub const WITH_A: Bytes = &[MAGIC, POLICY_R, ADDS_A, CLOSED];
 
 /// The same with a checkpoint behind the record.
-pub const WITH_A_AND_POINT: &[u8] =
-    b"UCONJR02\x01\x00\x00\x00\x0bright r {}\n\x01\x00\x00\x00\x0e0 subject a\nok\x01\x00\x00\x00\x2fpoint 1\npolicy 11\nright r {}\n\ntick 0\nsubject a\n\x00";
+pub const WITH_A_AND_POINT: Bytes = &[MAGIC, POLICY_R, ADDS_A, POINT_WITH_A, CLOSED];
 /// With two checkpoints.
-pub(crate) const WITH_A_AND_TWO_POINTS: &[u8] =
-    b"UCONJR02\x01\x00\x00\x00\x0bright r {}\n\x01\x00\x00\x00\x0e0 subject a\nok\x01\x00\x00\x00\x2fpoint 1\npolicy 11\nright r {}\n\ntick 0\nsubject a\n\x01\x00\x00\x00\x2fpoint 1\npolicy 11\nright r {}\n\ntick 0\nsubject a\n\x00";
+pub(crate) const WITH_A_AND_TWO_POINTS: Bytes = &[
+    MAGIC,
+    POLICY_R,
+    ADDS_A,
+    POINT_WITH_A,
+    POINT_WITH_A,
+    CLOSED,
+];
 /// With a step behind the checkpoint.
-const WITH_A_AND_POINT_AND_B: &[u8] =
-    b"UCONJR02\x01\x00\x00\x00\x0bright r {}\n\x01\x00\x00\x00\x0e0 subject a\nok\x01\x00\x00\x00\x2fpoint 1\npolicy 11\nright r {}\n\ntick 0\nsubject a\n\x01\x00\x00\x00\x0e0 subject b\nok\x00";
+const WITH_A_AND_POINT_AND_B: Bytes = &[MAGIC, POLICY_R, ADDS_A, POINT_WITH_A, ADDS_B, CLOSED];
 /// The gate of the checkpoint is closed still, so that it doesn't count.
-const WITH_A_THEN_POINT: &[u8] =
-    b"UCONJR02\x01\x00\x00\x00\x0bright r {}\n\x01\x00\x00\x00\x0e0 subject a\nok\x00\x00\x00\x00\x2fpoint 1\npolicy 11\nright r {}\n\ntick 0\nsubject a\n\x00";
+const WITH_A_THEN_POINT: Bytes = &[
+    MAGIC,
+    POLICY_R,
+    ADDS_A,
+    b"\x00\x00\x00\x00\x2fpoint 1\npolicy 11\nright r {}\n\ntick 0\nsubject a\n",
+    CLOSED,
+];
 /// The checkpoint has a subject of no name.
-pub(crate) const WRONG_SUBJECT: &[u8] =
-    b"UCONJR02\x01\x00\x00\x00\x0bright r {}\n\x01\x00\x00\x00\x0e0 subject a\nok\x01\x00\x00\x00\x2fpoint 1\npolicy 11\nright r {}\n\ntick 0\nsubject A\n\x00";
+pub(crate) const WRONG_SUBJECT: Bytes = &[
+    MAGIC,
+    POLICY_R,
+    ADDS_A,
+    b"\x01\x00\x00\x00\x2fpoint 1\npolicy 11\nright r {}\n\ntick 0\nsubject A\n",
+    CLOSED,
+];
 /// The checkpoint tells another number of entries.
-pub(crate) const WRONG_NUMBER: &[u8] =
-    b"UCONJR02\x01\x00\x00\x00\x0bright r {}\n\x01\x00\x00\x00\x0e0 subject a\nok\x01\x00\x00\x00\x2fpoint 2\npolicy 11\nright r {}\n\ntick 0\nsubject a\n\x00";
+pub(crate) const WRONG_NUMBER: Bytes = &[
+    MAGIC,
+    POLICY_R,
+    ADDS_A,
+    b"\x01\x00\x00\x00\x2fpoint 2\npolicy 11\nright r {}\n\ntick 0\nsubject a\n",
+    CLOSED,
+];
 /// The record before the checkpoint has the reply `oj`.
-pub(crate) const CHANGED_BEFORE_POINT: &[u8] =
-    b"UCONJR02\x01\x00\x00\x00\x0bright r {}\n\x01\x00\x00\x00\x0e0 subject a\noj\x01\x00\x00\x00/point 1\npolicy 11\nright r {}\n\ntick 0\nsubject a\n\x00";
+pub(crate) const CHANGED_BEFORE_POINT: Bytes = &[
+    MAGIC,
+    POLICY_R,
+    b"\x01\x00\x00\x00\x0e0 subject a\noj",
+    POINT_WITH_A,
+    CLOSED,
+];
 /// There is a wrong checkpoint before the last one.
-pub(crate) const WRONG_POINT_BEFORE_POINT: &[u8] =
-    b"UCONJR02\x01\x00\x00\x00\x0bright r {}\n\x01\x00\x00\x00\x0e0 subject a\nok\x01\x00\x00\x00/point 1\npolicy 11\nright r {}\n\ntick 0\nsubject A\n\x01\x00\x00\x00/point 1\npolicy 11\nright r {}\n\ntick 0\nsubject a\n\x00";
+pub(crate) const WRONG_POINT_BEFORE_POINT: Bytes = &[
+    MAGIC,
+    POLICY_R,
+    ADDS_A,
+    b"\x01\x00\x00\x00/point 1\npolicy 11\nright r {}\n\ntick 0\nsubject A\n",
+    POINT_WITH_A,
+    CLOSED,
+];
 /// The record behind the checkpoint has the reply `oj`.
-const CHANGED_BEHIND_POINT: &[u8] =
-    b"UCONJR02\x01\x00\x00\x00\x0bright r {}\n\x01\x00\x00\x00\x0e0 subject a\nok\x01\x00\x00\x00/point 1\npolicy 11\nright r {}\n\ntick 0\nsubject a\n\x01\x00\x00\x00\x0e0 subject b\noj\x00";
+const CHANGED_BEHIND_POINT: Bytes = &[
+    MAGIC,
+    POLICY_R,
+    ADDS_A,
+    POINT_WITH_A,
+    b"\x01\x00\x00\x00\x0e0 subject b\noj",
+    CLOSED,
+];
 /// The checkpoint has one subject twice.
-const SUBJECT_TWICE: &[u8] =
-    b"UCONJR02\x01\x00\x00\x00\x0bright r {}\n\x01\x00\x00\x00\x0e0 subject a\nok\x01\x00\x00\x009point 1\npolicy 11\nright r {}\n\ntick 0\nsubject a\nsubject a\n\x00";
+const SUBJECT_TWICE: Bytes = &[
+    MAGIC,
+    POLICY_R,
+    ADDS_A,
+    b"\x01\x00\x00\x009point 1\npolicy 11\nright r {}\n\ntick 0\nsubject a\nsubject a\n",
+    CLOSED,
+];
 /// The checkpoint has a session of an object that isn't there.
-const NO_OBJECT: &[u8] =
-    b"UCONJR02\x01\x00\x00\x00\x0bright r {}\n\x01\x00\x00\x00\x0e0 subject a\nok\x01\x00\x00\x00Lpoint 1\npolicy 11\nright r {}\n\ntick 0\nsubject a\nsession 0 r a x requesting 0\n\x00";
+const NO_OBJECT: Bytes = &[
+    MAGIC,
+    POLICY_R,
+    ADDS_A,
+    b"\x01\x00\x00\x00Lpoint 1\npolicy 11\nright r {}\n\ntick 0\nsubject a\nsession 0 r a x requesting 0\n",
+    CLOSED,
+];
 /// In the checkpoint a use goes on by a right that the policy hasn't.
-const UNSETTLED: &[u8] =
-    b"UCONJR02\x01\x00\x00\x00\x0bright r {}\n\x01\x00\x00\x00\x0e0 subject a\nok\x01\x00\x00\x00Tpoint 1\npolicy 11\nright r {}\n\ntick 0\nsubject a\nobject x\nsession 0 q a x accessing 0\n\x00";
+const UNSETTLED: Bytes = &[
+    MAGIC,
+    POLICY_R,
+    ADDS_A,
+    b"\x01\x00\x00\x00Tpoint 1\npolicy 11\nright r {}\n\ntick 0\nsubject a\nobject x\nsession 0 q a x accessing 0\n",
+    CLOSED,
+];
 /// The checkpoint has the value of an attribute that isn't declared.
-const NO_ATTRIBUTE: &[u8] =
-    b"UCONJR02\x01\x00\x00\x00\x0bright r {}\n\x01\x00\x00\x00\x0e0 subject a\nok\x01\x00\x00\x009point 1\npolicy 11\nright r {}\n\ntick 0\nsubject a\nvalue k 1\n\x00";
+const NO_ATTRIBUTE: Bytes = &[
+    MAGIC,
+    POLICY_R,
+    ADDS_A,
+    b"\x01\x00\x00\x009point 1\npolicy 11\nright r {}\n\ntick 0\nsubject a\nvalue k 1\n",
+    CLOSED,
+];
 /// The checkpoint's policy is no policy.
-const POLICY_IN_PART: &[u8] =
-    b"UCONJR02\x01\x00\x00\x00\x0bright r {}\n\x01\x00\x00\x00\x0e0 subject a\nok\x01\x00\x00\x00,point 1\npolicy 9\nright r {\ntick 0\nsubject a\n\x00";
+const POLICY_IN_PART: Bytes = &[
+    MAGIC,
+    POLICY_R,
+    ADDS_A,
+    b"\x01\x00\x00\x00,point 1\npolicy 9\nright r {\ntick 0\nsubject a\n",
+    CLOSED,
+];
 /// The checkpoint's last line has no end.
-const POINT_IN_PART: &[u8] =
-    b"UCONJR02\x01\x00\x00\x00\x0bright r {}\n\x01\x00\x00\x00\x0e0 subject a\nok\x01\x00\x00\x00.point 1\npolicy 11\nright r {}\n\ntick 0\nsubject a\x00";
+const POINT_IN_PART: Bytes = &[
+    MAGIC,
+    POLICY_R,
+    ADDS_A,
+    b"\x01\x00\x00\x00.point 1\npolicy 11\nright r {}\n\ntick 0\nsubject a",
+    CLOSED,
+];
 
-const WITH_B: &[u8] =
-    b"UCONJR02\x01\x00\x00\x00\x0bright r {}\n\x01\x00\x00\x00\x0e0 subject b\nok\x00";
+const WITH_B: Bytes = &[MAGIC, POLICY_R, ADDS_B, CLOSED];
 
-const WITH_A_AND_B: &[u8] =
-    b"UCONJR02\x01\x00\x00\x00\x0bright r {}\n\x01\x00\x00\x00\x0e0 subject a\nok\x01\x00\x00\x00\x0e0 subject b\nok\x00";
+const WITH_A_AND_B: Bytes = &[MAGIC, POLICY_R, ADDS_A, ADDS_B, CLOSED];
 /// The gate of the second record is closed still, so that it doesn't count.
-const WITH_A_THEN_B: &[u8] =
-    b"UCONJR02\x01\x00\x00\x00\x0bright r {}\n\x01\x00\x00\x00\x0e0 subject a\nok\x00\x00\x00\x00\x0e0 subject b\nok\x00";
+const WITH_A_THEN_B: Bytes = &[
+    MAGIC,
+    POLICY_R,
+    ADDS_A,
+    b"\x00\x00\x00\x00\x0e0 subject b\nok",
+    CLOSED,
+];
 /// The same as the first by version 1.
-pub(crate) const OLD_WITH_A: &[u8] =
-    b"UCONJR01\x01\x00\x00\x00\x0bright r {}\n\x01\x00\x00\x00\x0e0 subject a\nok\x00";
+pub(crate) const OLD_WITH_A: Bytes = &[OLD_MAGIC, POLICY_R, ADDS_A, CLOSED];
 
-const OLD_WITH_A_AND_B: &[u8] =
-    b"UCONJR01\x01\x00\x00\x00\x0bright r {}\n\x01\x00\x00\x00\x0e0 subject a\nok\x01\x00\x00\x00\x0e0 subject b\nok\x00";
+const OLD_WITH_A_AND_B: Bytes = &[OLD_MAGIC, POLICY_R, ADDS_A, ADDS_B, CLOSED];
 /// The gate of record 1 is closed, and the record is cut off.
-pub(crate) const TORN: &[u8] = b"UCONJR02\x01\x00\x00\x00\x0bright r {}\n\x00\x00\x00\x00\x0e0 sub";
+pub(crate) const TORN: Bytes = &[MAGIC, POLICY_R, b"\x00\x00\x00\x00\x0e0 sub"];
 /// The reply is `oj`.
-pub(crate) const WRONG_REPLY: &[u8] =
-    b"UCONJR02\x01\x00\x00\x00\x0bright r {}\n\x01\x00\x00\x00\x0e0 subject a\noj\x00";
+pub(crate) const WRONG_REPLY: Bytes = &[
+    MAGIC,
+    POLICY_R,
+    b"\x01\x00\x00\x00\x0e0 subject a\noj",
+    CLOSED,
+];
 /// The caller is client 1, who is no administrator.
-pub(crate) const WRONG_CALLER: &[u8] =
-    b"UCONJR02\x01\x00\x00\x00\x0bright r {}\n\x01\x00\x00\x00\x0e1 subject a\nok\x00";
+pub(crate) const WRONG_CALLER: Bytes = &[
+    MAGIC,
+    POLICY_R,
+    b"\x01\x00\x00\x00\x0e1 subject a\nok",
+    CLOSED,
+];
 
-pub(crate) const MADE: &[u8] = b"UCONJR02\x01\x00\x00\x00\x0bright r {}\n\x00";
+pub(crate) const MADE: Bytes = &[MAGIC, POLICY_R, CLOSED];
 
 /// A checkpoint before the first entry.
-const POINTED: &[u8] =
-    b"UCONJR02\x01\x00\x00\x00\x0bright r {}\n\x01\x00\x00\x00\x25point 0\npolicy 11\nright r {}\n\ntick 0\n\x00";
+const POINTED: Bytes = &[
+    MAGIC,
+    POLICY_R,
+    b"\x01\x00\x00\x00\x25point 0\npolicy 11\nright r {}\n\ntick 0\n",
+    CLOSED,
+];
 
-pub(crate) const FOREIGN: &[u8] = b"0123456789";
+pub(crate) const FOREIGN: Bytes = &[b"0123456789"];
 
 /// A document that is a policy alone.
 pub const NO_LINES: &[u8] = b"right r {}\n";
@@ -117,14 +220,14 @@ pub(crate) const OTHER_POLICY: &[u8] = b"right q {}\n";
 pub const PLAY: Played = Played {
     name: "",
     words: &["play", "j"],
-    file: b"",
+    file: &[],
     document: NO_LINES,
     disk_faults: &[],
     sink_faults: &[],
     status: 0,
     output: b"",
     told: b"",
-    left: b"",
+    left: &[],
 };
 
 /// Two lines over a journal of one record, on a disk of which a call fails.
@@ -156,7 +259,7 @@ pub const PLAYED_ROWS: &[Played] = &[
     },
     Played {
         name: "nine bytes",
-        file: b"012345678",
+        file: &[b"012345678"],
         left: MADE,
         ..PLAY
     },

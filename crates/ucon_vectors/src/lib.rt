@@ -6,6 +6,7 @@
 //! **Before a change.** Add a row to the table of its topic, with a name for what it shows. The test over the table needs no change.
 #![tactic(auto)]
 
+ghost use Rattle.std.specs.List.{repeat};
 ghost use Rattle.std.specs.Prelude.{◌≡◌, ◌++◌, IfOk, codes};
 
 mod amended;
@@ -31,7 +32,7 @@ pub use generated::{GENERATED_ROWS, Generated};
 pub use guide::GUIDE_EXAMPLES;
 pub use hostile::{HOSTILE_DOCUMENTS, HOSTILE_JOURNALS, Limit, WITHOUT_ENTRIES};
 pub use journals::{
-    LOOKING, PLAYED_ROWS, POINTED_ROWS, Played, SUBJECTS_B_AND_C, WITH_A, WITH_A_AND_POINT,
+    Bytes, LOOKING, PLAYED_ROWS, POINTED_ROWS, Played, SUBJECTS_B_AND_C, WITH_A, WITH_A_AND_POINT,
 };
 pub use language::LANGUAGE_EXAMPLES;
 use std::alloc::{AllocError, Global};
@@ -46,6 +47,24 @@ pub fn document(alloc: Global, policy: &[u8], script: &[u8]) -> Result<Vec<u8>, 
     let mut bytes = Vec::from_slice(alloc, policy)?;
     bytes.extend_from_slice(b"%%\n")?;
     bytes.extend_from_slice(script)?;
+    Ok(bytes)
+}
+
+/// A front, a part so many times, and a back.
+pub fn repeated(
+    alloc: Global,
+    front: &[u8],
+    part: &[u8],
+    times: u32,
+    back: &[u8],
+) -> Result<Vec<u8>, AllocError>
+    ensures { IfOk result (λ bytes. bytes.items ≡ front.now ++ repeat times part.now ++ back.now) }
+{
+    let mut bytes = Vec::from_slice(alloc, front)?;
+    for _ in 0..times {
+        bytes.extend_from_slice(part)?;
+    }
+    bytes.extend_from_slice(back)?;
     Ok(bytes)
 }
 
