@@ -160,7 +160,10 @@ fn hold_images(
     let steps = places.last().copied().unwrap_or(0);
     let mut least = 0;
     if let Some(batched) = batched {
-        assert!(rt; is_answered(&batched, places, sure), "stopped after {calls} calls");
+        assert!(rt;
+            is_answered(&batched, places, sure),
+            "stopped after {calls} calls"
+        );
         if let BatchEnd::All = batched.end {
             least = steps;
         }
@@ -168,7 +171,10 @@ fn hold_images(
     let lens = (disk.contents().len() as u64).saturating_add(64);
     for &fill in FILLS {
         let other = first_other(alloc, &disk, lens, fill, (least, steps))?;
-        assert!(rt; other.is_none(), "stopped after {calls} calls, {other:?} bytes, filled with {fill}");
+        assert!(rt;
+            other.is_none(),
+            "stopped after {calls} calls, {other:?} bytes, filled with {fill}"
+        );
     }
     Ok(())
 }

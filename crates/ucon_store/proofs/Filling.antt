@@ -34,8 +34,8 @@ changing_append P T (e ∷ xs) ys =
     (if b then e ∷ changing_after P next (xs ++ ys) else changing_after P T (xs ++ ys))
     ≡ (if b then e ∷ changing_after P next xs else changing_after P T xs)
     ++ changing_after P (trace_from P T (if b then e ∷ changing_after P next xs else changing_after P T xs)) ys) [
-      true ↦ ap (λ (l : History). e ∷ l) (changing_append P next xs ys)
-    | false ↦ changing_append P T xs ys
+      | true ↦ ap (λ (l : History). e ∷ l) (changing_append P next xs ys)
+      | false ↦ changing_append P T xs ys
     ]
 
 pub answers_append : (P : PlainPolicy) (T : Trace) (n : ℕ) (xs ys : List Entry)
@@ -51,10 +51,10 @@ answers_append P T n (e ∷ xs) ys =
     ≡ (if b then (n + 1, r) ∷ answers_after P next (n + 1) xs else (n, r) ∷ answers_after P T n xs)
     ++ answers_after P (trace_from P T (if b then e ∷ changing_after P next xs else changing_after P T xs))
     (n + length (if b then e ∷ changing_after P next xs else changing_after P T xs)) ys) [
-      true ↦ ap (λ (l : List (ℕ × PlainReply)). (n + 1, r) ∷ l)
+      | true ↦ ap (λ (l : List (ℕ × PlainReply)). (n + 1, r) ∷ l)
           (answers_append P next (n + 1) xs ys
           ∙ ap (λ (m : ℕ). answers_after P next (n + 1) xs ++ answers_after P (trace_from P next (changing_after P next xs)) m ys) count)
-    | false ↦ ap (λ (l : List (ℕ × PlainReply)). (n, r) ∷ l) (answers_append P T n xs ys)
+      | false ↦ ap (λ (l : List (ℕ × PlainReply)). (n, r) ∷ l) (answers_append P T n xs ys)
     ]
 
 pub payloads_append : (P : PlainPolicy) (T : Trace) (xs ys : History)
@@ -88,8 +88,8 @@ take_answers P T n (suc i) (e ∷ lines) =
     elim (changes r) as (λ b.
     take (suc i) (if b then (n + 1, r) ∷ answers_after P next (n + 1) lines else (n, r) ∷ answers_after P T n lines)
     ≡ (if b then (n + 1, r) ∷ answers_after P next (n + 1) (take i lines) else (n, r) ∷ answers_after P T n (take i lines))) [
-      true ↦ ap (λ (l : List (ℕ × PlainReply)). (n + 1, r) ∷ l) (take_answers P next (n + 1) i lines)
-    | false ↦ ap (λ (l : List (ℕ × PlainReply)). (n, r) ∷ l) (take_answers P T n i lines)
+      | true ↦ ap (λ (l : List (ℕ × PlainReply)). (n + 1, r) ∷ l) (take_answers P next (n + 1) i lines)
+      | false ↦ ap (λ (l : List (ℕ × PlainReply)). (n, r) ∷ l) (take_answers P T n i lines)
     ]
 
 -- ---- what is taken up
@@ -142,9 +142,10 @@ module _ {E : Type 0} {follows : E → PlainPolicy → Trace → Type 0} {P : Pl
         takes = λ text H is.
             let here : U ≡ trace P (H ++ A) = ap (λ (S : Trace). trace_from P S A) is ∙ sym (trace_append P [] H A) in
             subst (λ (z : List Bytes × History). AreTaken (only_steps accepted) text P H z.0 z.1)
-            (λ i.
-            ((sym (payloads_append P T A B) ∙ ap (payloads_after P T) (sym all)) i,
-            (append_assoc H A B ∙ ap (λ (l : History). H ++ l) (sym all)) i))
+            (λ i. (
+              (sym (payloads_append P T A B) ∙ ap (payloads_after P T) (sym all)) i,
+              (append_assoc H A B ∙ ap (λ (l : History). H ++ l) (sym all)) i,
+            ))
             (taken_append (only_steps accepted) text P H (H ++ A) ((H ++ A) ++ B) (payloads_after P T A) (payloads_after P U B)
             (p.takes text H is) (q.takes text (H ++ A) here));
       }

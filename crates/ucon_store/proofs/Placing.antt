@@ -65,9 +65,9 @@ answers_serial P W (e ∷ lines) =
     (if b then (length W + 1, r) ∷ answers_after P (after P (trace P W) e.caller e.command) (length W + 1) lines
     else (length W, r) ∷ answers_after P (trace P W) (length W) lines)
     ≡ (length (if b then longer else W), r) ∷ serial P (if b then longer else W) lines) [
-      true ↦ (λ i. (count i, r) ∷ answers_after P (traces i) (count i) lines)
+      | true ↦ (λ i. (count i, r) ∷ answers_after P (traces i) (count i) lines)
           ∙ ap (λ (l : List (ℕ × PlainReply)). (length longer, r) ∷ l) (answers_serial P longer lines)
-    | false ↦ ap (λ (l : List (ℕ × PlainReply)). (length W, r) ∷ l) (answers_serial P W lines)
+      | false ↦ ap (λ (l : List (ℕ × PlainReply)). (length W, r) ∷ l) (answers_serial P W lines)
     ]
 
 changing_whole : (P : PlainPolicy) (W : History) (lines : List Entry) → changing_after P (trace P W) lines ≡ changing P W lines
@@ -79,8 +79,8 @@ changing_whole P W (e ∷ lines) =
     elim (changes r) as (λ b.
     (if b then e ∷ changing_after P (after P (trace P W) e.caller e.command) lines else changing_after P (trace P W) lines)
     ≡ (if b then e ∷ changing P longer lines else changing P W lines)) [
-      true ↦ ap (λ (T : Trace). e ∷ changing_after P T lines) traces ∙ ap (λ (l : History). e ∷ l) (changing_whole P longer lines)
-    | false ↦ changing_whole P W lines
+      | true ↦ ap (λ (T : Trace). e ∷ changing_after P T lines) traces ∙ ap (λ (l : History). e ∷ l) (changing_whole P longer lines)
+      | false ↦ changing_whole P W lines
     ]
 
 module _ {D : Type 0} (P : PlainPolicy) (G : History) (old : Kept D) where

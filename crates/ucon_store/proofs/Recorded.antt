@@ -67,8 +67,12 @@ found_perhaps together text P H es payloads file c takes h perhaps = ⊎_elim
     inl (found_as text P H c (holds_same text P H file c h (same_kind file c same.magic) same.payloads)))
     (λ (more : StillHolds file (journalled.counted file ++ payloads) c).
     let taken = together.steps (takes_of file) text P H (H ++ es) payloads (steps_taken (has_points file)) takes in
-    inr (es, refl, found_as text P (H ++ es) c
-    (holds_more together text P H (H ++ es) payloads file c taken h (same_kind file c more.magic) more.payloads)))
+    inr (
+      es,
+      refl,
+      found_as text P (H ++ es) c
+          (holds_more together text P H (H ++ es) payloads file c taken h (same_kind file c more.magic) more.payloads),
+    ))
     perhaps
 
 module _ {D : Type 0} {seen : D → DiskSeen} {journal : Journal D} {text : Bytes} {P : PlainPolicy}

@@ -18,7 +18,7 @@ ghost use Rattle.ucon_store.specs.Stays.{Stays};
 ghost use Rattle.ucon_store.specs.Steps.{AddsTogether};
 ghost use Rattle.ucon_store.specs.Whole.{IsFounded, IsFront, trace_behind, whole};
 
-use crate::batch::{Batch, Batched, BatchEnd, take_all};
+use crate::batch::{Batch, BatchEnd, Batched, take_all};
 use crate::store::Store;
 use std::alloc::Global;
 use ucon_disk::Disk;

@@ -38,11 +38,12 @@ returns-clause-taken g c = λ P T stands.
     ∙ ap (λ (a : PlainReply). batch_of c.args.journal.now ++ payload_spelling (told e a) ∷ []) said_is)
     (c.go_on.ensures ∙ ap (λ (t : Bytes). text_behind t e.command) c.in_default.ensures.text)
     (c.keep.ensures.follows P T e pends) (λ _. c.keep.ensures.nobody_fails P T e pends)
-    (λ text H is.
-    (H ++ e ∷ [],
-    ap (λ (a : PlainReply). taken accepted P H (payload_spelling (told e a))) (sym said_is)
-    ∙ c.in_default.ensures.taken P H (said_is ∙ ap (λ (U : Trace). reply_to P U e.caller e.command) is) changed,
-    refl))
+    (λ text H is. (
+      H ++ e ∷ [],
+      ap (λ (a : PlainReply). taken accepted P H (payload_spelling (told e a))) (sym said_is)
+          ∙ c.in_default.ensures.taken P H (said_is ∙ ap (λ (U : Trace). reply_to P U e.caller e.command) is) changed,
+      refl,
+    ))
 
 pub returns-clause-idle : goal.returns-clause-idle
 returns-clause-idle g c =
