@@ -20,8 +20,8 @@ use Rattle.ucon_converse.proofs.OneLine.{all_lack, line_of}
 
 -- what isn't there is none
 pub unstopped : {A : Type 0} (o : Option A) → is_some o ≡ false → o ≡ None
-unstopped None no = refl
-unstopped (Some a) no = absurd (cc no)
+unstopped None none = refl
+unstopped (Some a) none = absurd (cc none)
 
 -- what holds of a value holds of it in other words
 pub if_ok : {T E : Type 0} (r : Result T E) (A B : T → Type 0) → ((v : T) → A v → B v) → IfOk r A → IfOk r B
