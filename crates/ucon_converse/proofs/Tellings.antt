@@ -18,6 +18,11 @@ use Rattle.ucon_converse.specs.Replies.{IsToldSo, refusal_line}
 use Rattle.ucon_converse.proofs.Bare.{both, decimal_lacks}
 use Rattle.ucon_converse.proofs.OneLine.{all_lack, line_of}
 
+-- what isn't there is none
+pub unstopped : {A : Type 0} (o : Option A) → is_some o ≡ false → o ≡ None
+unstopped None none = refl
+unstopped (Some a) none = absurd (cc none)
+
 -- what holds of a value holds of it in other words
 pub if_ok : {T E : Type 0} (r : Result T E) (A B : T → Type 0) → ((v : T) → A v → B v) → IfOk r A → IfOk r B
 if_ok (Ok v) A B f a = f v a

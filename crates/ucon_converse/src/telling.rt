@@ -1,6 +1,6 @@
 //! Answers lines that are no client's request: a reading is told, and else why the line is none.
 
-ghost use Rattle.std.specs.Prelude.{◌≡◌, ◌∷◌, ◌++◌, [], IfOk, OnOk, Some};
+ghost use Rattle.std.specs.Prelude.{◌≡◌, ◌∷◌, ◌++◌, [], IfOk, OnOk, None, Some};
 ghost use Rattle.ucon_command.specs.Requests.{IsAskedBy, IsOfClient, IsRefusedTo};
 ghost use Rattle.ucon_model.specs.declared.command.Caller.{Caller as Caller'};
 ghost use Rattle.ucon_model.specs.History.{History};
@@ -85,7 +85,8 @@ fn reading_text<E: Engine, D: Disk>(
     store: &Store<E, D>,
     reading: &Reading,
 ) -> Result<Vec<u8>, NoMemory>
-    requires { IsLed store.now }
+    requires led { IsLed store.now }
+    requires unmarked { store.now.mark ≡ None }
     ensures told { IfOk result (λ told. (P : PlainPolicy) (G : History) → accepted store.now.policy ≡ Some P → IsFront P store.now G
         → told.items ≡ text_told P store.now.policy (G ++ store.now.entries) reading.now) }
     ensures bare { IfOk result (λ told. Lacks 10 told.items) }

@@ -1,9 +1,9 @@
 -- What is found in a file, by the payloads that count in it.
-use Rattle.std.proofs.Common.{◌≡◌, ℕ, Bool, List, [], ◌∷◌, ◌++◌, length, Some, ap, ◌∙◌}
-use Rattle.std.specs.Prelude.{option_map, unwrap_or}
+use Rattle.std.proofs.Common.{◌≡◌, ℕ, Bool, List, ◌++◌, ap, ◌∙◌}
 use Rattle.ucon_model.specs.Plain.{Bytes, PlainPolicy}
 use Rattle.ucon_model.specs.History.{History}
-use Rattle.ucon_model.specs.Found.{Finding, fresh, not_journal, holds, Takes, next_gate, found_behind, found_in, found_on}
+use Rattle.ucon_model.specs.Batches.{AreTaken}
+use Rattle.ucon_model.specs.Found.{Finding, fresh, not_journal, holds, Takes, TakesSteps, found_in, gate_behind, only_steps}
 use Rattle.ucon_journal.specs.Found as journal
 use Rattle.ucon_syntax.specs.Policies.{accepted}
 use Rattle.ucon_store.specs.Found.{finding_of, Holds, found_by}
@@ -37,16 +37,22 @@ pub holds_same : (text : Bytes) (P : PlainPolicy) (H : History) (file c : Bytes)
 holds_same text P H file c h kind same =
     hold_counted text P H h.gate c (ap (λ (b : Bool). found_in accepted (takes_with b) (journal.counted c)) kind ∙ (ap (found_in accepted (takes_of file)) same ∙ counted_hold text P H file h))
 
--- a payload more that is taken
-pub holds_more : ((takes : Takes) (front rest : List Bytes) → found_in accepted takes (front ++ rest) ≡ found_on accepted takes (found_in accepted takes front) (length front) rest)
-    → (text : Bytes) (P : PlainPolicy) (H later : History) (payload file c : Bytes) → takes_of file text P H payload ≡ Some later → Holds text P H file
-    → has_points c ≡ has_points file → journal.counted c ≡ journal.counted file ++ payload ∷ [] → Holds text P later c
-holds_more one_by_one text P H later payload file c takes h kind more =
+-- Payloads that are taken one after the other are found together behind those that hold something. Those that tell steps are taken wherever steps
+-- are.
+pub record Together : Type 0 where
+  pub found : (takes : Takes) (front rest : List Bytes) (text : Bytes) (P : PlainPolicy) (H later : History) (gate : ℕ)
+      → found_in accepted takes front ≡ holds text P H gate → AreTaken takes text P H rest later
+      → found_in accepted takes (front ++ rest) ≡ holds text P later (gate_behind gate rest)
+  pub steps : (takes : Takes) (text : Bytes) (P : PlainPolicy) (H later : History) (payloads : List Bytes) → TakesSteps accepted takes
+      → AreTaken (only_steps accepted) text P H payloads later → AreTaken takes text P H payloads later
+
+-- payloads more that are taken
+pub holds_more : Together → (text : Bytes) (P : PlainPolicy) (H later : History) (payloads : List Bytes) (file c : Bytes)
+    → AreTaken (takes_of file) text P H payloads later → Holds text P H file → has_points c ≡ has_points file
+    → journal.counted c ≡ journal.counted file ++ payloads → Holds text P later c
+holds_more together text P H later payloads file c takes h kind more =
     let all : Takes = takes_of file in
-    let n = length (journal.counted file) in
-    let before = counted_hold text P H file h in
-    let on = one_by_one all (journal.counted file) (payload ∷ []) in
-    let behind : found_on accepted all (found_in accepted all (journal.counted file)) n (payload ∷ []) ≡ found_behind all text P H n h.gate (payload ∷ []) = ap (λ f. found_on accepted all f n (payload ∷ [])) before in
-    let last : found_behind all text P H n h.gate (payload ∷ []) ≡ holds text P later (next_gate h.gate payload) = ap (λ o. unwrap_or (option_map (λ later. holds text P later (next_gate h.gate payload)) o) (Rattle.ucon_model.specs.Found.damaged n h.gate)) takes in
-    hold_counted text P later (next_gate h.gate payload) c
-    (ap (λ (b : Bool). found_in accepted (takes_with b) (journal.counted c)) kind ∙ (ap (found_in accepted all) more ∙ (on ∙ (behind ∙ last))))
+    hold_counted text P later (gate_behind h.gate payloads) c
+    (ap (λ (b : Bool). found_in accepted (takes_with b) (journal.counted c)) kind
+    ∙ (ap (found_in accepted all) more
+    ∙ together.found all (journal.counted file) payloads text P H later h.gate (counted_hold text P H file h) takes))

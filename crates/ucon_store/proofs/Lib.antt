@@ -1,9 +1,11 @@
 pub mod Adding
 pub mod Accepted
 pub mod After
+pub mod Batching
 pub mod Begun
 pub mod Differences
 pub mod FewPut
+pub mod Filling
 pub mod Finding
 pub mod Fronts
 pub mod Journals

@@ -30,13 +30,13 @@ use Rattle.ucon_store.specs.Starts.{IsStart, checkpoint_behind, point_behind, te
 use Rattle.ucon_store.specs.Stays.{Stays}
 use Rattle.ucon_store.specs.Whole.{IsFounded, found_founded, left_founded}
 use Rattle.ucon_store.proofs.Adding.{Adds, adds_payload, added_payload}
-use Rattle.ucon_store.proofs.Finding.{counted_hold, holds_more, holds_same, takes_of}
+use Rattle.ucon_store.proofs.Finding.{Together, counted_hold, holds_more, holds_same, takes_of}
 use Rattle.ucon_store.proofs.Versions.{closed_kind, takes_as}
 use Rattle.ucon_store.proofs.Places.{place_added}
 use Rattle.ucon_store.proofs.SamePlaces.{places_same}
-use Rattle.ucon_store.proofs.Recorded.{HoldsAtRest, IsAppended, OneByOne, at_rest_as, counted_then, holds_now, kind_now, kind_then, rest_with, same_kind, stays_marked, told_file, with_mark}
+use Rattle.ucon_store.proofs.Recorded.{HoldsAtRest, IsAppended, at_rest_as, counted_then, holds_now, kind_now, kind_then, rest_with, same_kind, stays_marked, told_file, with_mark}
 use Rattle.ucon_store.proofs.Stepped.{holds_founded, parts}
-use Rattle.ucon_store.proofs.Stepping.{stands_as, trace_append}
+use Rattle.ucon_store.proofs.Stepping.{stands_as, text_append, trace_append}
 use Rattle.ucon_disk.specs.Seen.{DiskSeen}
 
 pub point_begins : (text : Bytes) (P : PlainPolicy) (H : History) → is_point (checkpoint text P H) ≡ true
@@ -57,7 +57,7 @@ point_here text P H payload is short =
     point_told text P H payload short
     ∙ ap (λ (b : Bool). if b then Some H else None) ((bytes_eq-Decides payload (checkpoint text P H)).1 is)
 
-module _ (one : OneByOne) (text : Bytes) (P : PlainPolicy) (H : History) (payload : Bytes) (is : payload ≡ checkpoint text P H) (short : length payload ≤ most_payload) where
+module _ (together : Together) (text : Bytes) (P : PlainPolicy) (H : History) (payload : Bytes) (is : payload ≡ checkpoint text P H) (short : length payload ≤ most_payload) where
   begins : is_point payload ≡ true
   begins = ap is_point is ∙ point_begins text P H
 
@@ -74,7 +74,7 @@ module _ (one : OneByOne) (text : Bytes) (P : PlainPolicy) (H : History) (payloa
       ∙ (ap places_in more ∙ (place_added payload begins text P H h.gate (journalled.counted file) held ∙ ap (λ (l : List ℕ). l ++ length H ∷ []) (sym here)))
 
   pub holds_point : (file c : Bytes) → has_points file ≡ true → Holds text P H file → has_points c ≡ has_points file → journalled.counted c ≡ journalled.counted file ++ payload ∷ [] → Holds text P H c
-  holds_point file c points h kind more = holds_more one text P H H payload file c (takes file points) h kind more
+  holds_point file c points h kind more = holds_more together text P H H (payload ∷ []) file c (H, takes file points, refl) h kind more
 
   -- the payloads of before, or those with the checkpoint
   pub pointed_perhaps : (file c : Bytes) → has_points file ≡ true → Holds text P H file → PerhapsAdded payload file c → IsFoundPointed text H (point_places file) c
@@ -100,7 +100,7 @@ module _ (one : OneByOne) (text : Bytes) (P : PlainPolicy) (H : History) (payloa
         weaker (seen (disk_of journal)) (seen new) (PerhapsAdded payload file) (IsFoundPointed text H (point_places file))
         (λ c. pointed_perhaps file c (kind_of file told) (holds_now rest file told)) (run.each file (at_rest_as rest file told))
 
-    module _ {next : Journal D} (appended : IsAppended seen journal next payload) where
+    module _ {next : Journal D} (appended : IsAppended seen journal next (payload ∷ [])) where
       -- where the checkpoints stand then
       pub added_places : (file c : Bytes) → (seen (disk_of journal)).contents ≡ Some file → (seen (disk_of next)).contents ≡ Some c → point_places c ≡ point_places file ++ length H ∷ []
       added_places file c was now =
@@ -109,13 +109,9 @@ module _ (one : OneByOne) (text : Bytes) (P : PlainPolicy) (H : History) (payloa
 
       -- the journal is at rest with the same entries
       pub rest_pointed : HoldsAtRest seen next text P H
-      rest_pointed = rest_with rest appended one H (λ file told. takes file (kind_of file told))
+      rest_pointed = rest_with rest appended together H (λ file told. (H, takes file (kind_of file told), refl))
 
 -- ---- behind a history that a store is founded on
-
-pub text_append : (text : Bytes) (G H : History) → text_in_force text (G ++ H) ≡ text_in_force (text_in_force text G) H
-text_append text [] H = refl
-text_append text (e ∷ G) H = text_append (text_behind text e.command) G H
 
 -- the checkpoint behind a history and entries is the one behind the history's trace and them
 checkpoint_whole : (text start : Bytes) (before : ℕ) (P : PlainPolicy) (G H : History) → start ≡ text_in_force text G → length G ≡ before
@@ -163,7 +159,7 @@ module _ {E D : Type 0} {follows : E → PlainPolicy → Trace → Type 0} {seen
   point_now P T = point_text (before + length H) now (held_after P (trace_from P T H))
 
   point_is : (P : PlainPolicy) (T : Trace) → point_now P T ≡ checkpoint_behind text (payload_in point) before P T H
-  point_is P T = ap (λ (t : Bytes). point_text (before + length H) t (held_after P (trace_from P T H))) kept.in_force
+  point_is P T = ap (λ (t : Bytes). point_text (before + length H) t (held_after P (trace_from P T H))) (kept.in_force none)
 
   -- a store's checkpoint is ready where it was written after what the engine follows
   pub point_ready : {k : Journal D} → (IsClosed seen j → IsClosed seen k) → disk_of k ≡ disk_of j → version_of k ≡ version_of j
@@ -181,7 +177,7 @@ module _ {E D : Type 0} {follows : E → PlainPolicy → Trace → Type 0} {seen
         second = ap points_of version ∙ second;
         short = subst (λ (l : Bytes). length l ≤ most_payload) (sym is_written) short;
         writes = λ P T accepts leads.
-            is_written ∙ (writes P (trace_from P T H) (stands_as kept P accepts T leads)
+            is_written ∙ (writes P (trace_from P T H) (stands_as kept none P accepts T leads)
             ∙ ((λ i. point_text (is_count i) (is_shown i) (held_after P (trace_from P T H))) ∙ point_is P T));
       })
 
@@ -196,7 +192,7 @@ module _ {E D : Type 0} {follows : E → PlainPolicy → Trace → Type 0} {seen
       (λ P T accepts leads.
       unpointed seen P T (parts text point before opening H mark (disk_of j)) refusal (points_of (version_of j))
       (point_text count shown (held_after P (trace_from P T H)))
-      (refused P (trace_from P T H) (stands_as kept P accepts T leads))
+      (refused P (trace_from P T H) (stands_as kept none P accepts T leads))
       ((λ i. point_text (is_count i) (is_shown i) (held_after P (trace_from P T H))) ∙ point_is P T) (closed_kind seen j (kept.rests none).closed))
 
 -- the store on this disk
@@ -235,14 +231,16 @@ module _ {D : Type 0} {seen : D → DiskSeen} {x : Kept D} {k : Journal D} {payl
 
   -- since its record's making has begun, each image has it at most more, whatever is found in them
   pub adds_point : {new : D} → LeavesAfter (seen (disk_of k)) (seen new) (PerhapsAdded payload)
-      → Adds seen x (λ P T. checkpoint_behind x.policy x.point x.before P T x.entries) new
-  adds_point = adds_payload seen x (λ P T. checkpoint_behind x.policy x.point x.before P T x.entries) k ready.same ready.only ready.writes
+      → Adds seen x (λ P T. checkpoint_behind x.policy x.point x.before P T x.entries ∷ []) new
+  adds_point = adds_payload seen x (λ P T. checkpoint_behind x.policy x.point x.before P T x.entries ∷ []) k ready.same ready.only
+      (λ P T accepts leads. ap (λ (l : Bytes). l ∷ []) (ready.writes P T accepts leads))
 
   -- once it is there, it stands behind the payloads of before
-  pub written_point : {next : Journal D} → IsAppended seen k next payload
+  pub written_point : {next : Journal D} → IsAppended seen k next (payload ∷ [])
       → (P : PlainPolicy) (T : Trace) (file : Bytes) → accepted x.policy ≡ Some P → IsStart P x.point x.before T → (seen x.disk).contents ≡ Some file
       → told_payloads (seen (disk_of next)).contents ≡ journalled.counted file ++ checkpoint_behind x.policy x.point x.before P T x.entries ∷ []
-  written_point = added_payload seen x (λ P T. checkpoint_behind x.policy x.point x.before P T x.entries) k ready.same ready.only ready.writes
+  written_point = added_payload seen x (λ P T. checkpoint_behind x.policy x.point x.before P T x.entries ∷ []) k ready.same ready.only
+      (λ P T accepts leads. ap (λ (l : Bytes). l ∷ []) (ready.writes P T accepts leads))
 
   module _ (P : PlainPolicy) (G : History) (f : IsFounded seen P x G) where
     is_checkpoint : payload ≡ checkpoint x.policy P (G ++ x.entries)
@@ -253,14 +251,14 @@ module _ {D : Type 0} {seen : D → DiskSeen} {x : Kept D} {k : Journal D} {payl
     rest : HoldsAtRest seen k x.policy P (G ++ x.entries)
     rest = holds_founded seen x k ready.closed ready.same P G f
 
-  module _ (one : OneByOne) where
+  module _ (together : Together) where
     -- what a crash inside leaves
     pub leaves_point : {new : D} → LeavesAfter (seen (disk_of k)) (seen new) (PerhapsAdded payload)
         → LeavesPoint seen x new
     leaves_point {new} run P G file f told =
         subst (λ (d : D). (seen d).contents ≡ Some file
         → LeavesOnly (seen d) (seen new) (IsFoundPointed x.policy (G ++ x.entries) (point_places file))) ready.same
-        (run_pointed one x.policy P (G ++ x.entries) payload (is_checkpoint P G f) ready.short
+        (run_pointed together x.policy P (G ++ x.entries) payload (is_checkpoint P G f) ready.short
         (rest P G f) ready.second new run file) told
 
     -- where the disk failed, the store stays with a mark of no entries
@@ -277,20 +275,20 @@ module _ {D : Type 0} {seen : D → DiskSeen} {x : Kept D} {k : Journal D} {payl
         weaker (seen x.disk) (seen new) (IsFoundPointed x.policy (G ++ x.entries) (point_places file.0)) (IsFoundMarked x.policy (G ++ x.entries) (Some []))
         (λ c h. inl h.0) (leaves_point run P G file.0 f file.1))
 
-    module _ {next : Journal D} (appended : IsAppended seen k next payload) where
+    module _ {next : Journal D} (appended : IsAppended seen k next (payload ∷ [])) where
       -- where the checkpoints stand then
       pub places_point : (P : PlainPolicy) (G : History) (was file : Bytes) → IsFounded seen P x G → (seen x.disk).contents ≡ Some was
           → (seen (disk_of next)).contents ≡ Some file
           → point_places file ≡ point_places was ++ length (G ++ x.entries) ∷ []
       places_point P G was file f told now =
-          added_places one x.policy P (G ++ x.entries) payload (is_checkpoint P G f) ready.short (rest P G f) ready.second appended was file
+          added_places together x.policy P (G ++ x.entries) payload (is_checkpoint P G f) ready.short (rest P G f) ready.second appended was file
           (ap (λ d. (seen d).contents) ready.same ∙ told) now
 
       -- the store is founded still
       pub founded_point : {y : Kept D} → y ≡ on_disk x (disk_of next) → (P : PlainPolicy) (G : History) → IsFounded seen P x G
           → IsFounded seen P y G
       founded_point is P G f =
-          let now = rest_pointed one x.policy P (G ++ x.entries) payload (is_checkpoint P G f) ready.short (rest P G f) ready.second appended in
+          let now = rest_pointed together x.policy P (G ++ x.entries) payload (is_checkpoint P G f) ready.short (rest P G f) ready.second appended in
           subst (λ (s : Kept D). IsFounded seen P s G) (sym is) (record {
             accepts = f.accepts;
             front = record { starts = f.front.starts; count = f.front.count; text = f.front.text };

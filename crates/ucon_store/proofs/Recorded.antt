@@ -1,29 +1,30 @@
--- What putting a step's record on the disk leaves there.
-use Rattle.std.proofs.Common.{◌≡◌, inl, inr, ⊎_elim, ℕ, ◌≤◌, List, [], ◌∷◌, ◌++◌, length, Option, Some, None, refl, sym, ap, ◌∙◌, subst, true, false, ◌+◌, append_assoc}
+-- What putting the records of steps on the disk leaves there.
+use Rattle.std.proofs.Common.{◌≡◌, inl, inr, ⊎_elim, ℕ, ◌≤◌, List, [], ◌∷◌, ◌++◌, length, Option, Some, None, refl, sym, ap, ◌∙◌, subst, true, false, ◌+◌, ◌*◌, append_assoc}
 use Rattle.std.proofs.lemmas.List.{map-append}
 use Rattle.std.specs.Prelude.{is_some, take, IsSome, IfSome}
 use Rattle.std.specs.Str.{bytes_eq}
 use Rattle.ucon_model.specs.declared.command.Entry.{Entry}
 use Rattle.ucon_model.specs.Plain.{Bytes, PlainPolicy}
 use Rattle.ucon_model.specs.History.{History}
-use Rattle.ucon_model.specs.Found.{Takes, taken, found_in, found_on}
+use Rattle.ucon_model.specs.Batches.{AreTaken}
+use Rattle.ucon_model.specs.Found.{only_steps}
 use Rattle.ucon_disk.specs.Disk.{Only}
 use Rattle.ucon_disk.specs.Run.{IsAtRest, LeavesOnly, LeavesAfter, started, weaker}
 use Rattle.ucon_journal.specs.declared.journal.Journal.{Journal}
 use Rattle.ucon_journal.specs.Journal.{disk_of, gate_of, version_of, told_payloads, IsClosed}
 use Rattle.ucon_journal.specs.JournalBytes.{magic}
 use Rattle.ucon_journal.specs.Found as journalled
-use Rattle.ucon_journal.specs.Opened.{StillHolds, PerhapsAdded}
+use Rattle.ucon_journal.specs.Opened.{StillHolds, PerhapsAllAdded}
 use Rattle.ucon_turn.specs.Lists.{Begins, Continues, begins_refl}
 use Rattle.ucon_store.specs.declared.event.Event.TheVariants.{Done, Failed}
 use Rattle.ucon_store.specs.Events.{events, events_of, number_of}
 use Rattle.ucon_syntax.specs.Policies.{accepted}
-use Rattle.ucon_store.specs.Found.{Holds, IsFoundAs, IsFoundMarked, IsFoundWith, found_as, found_marked}
+use Rattle.ucon_store.specs.Found.{Holds, IsFoundAs, IsFoundMarked, IsFoundWith, found_as, found_with}
 use Rattle.ucon_store.specs.Kept.{Kept}
 use Rattle.ucon_store.specs.Stays.{Stays, IsFoundBetween}
 use Rattle.ucon_store.specs.Whole.{IsFounded, found_founded, left_founded, whole}
 use Rattle.ucon_store.specs.Points.{has_points, points_of}
-use Rattle.ucon_store.proofs.Finding.{holds_same, holds_more, takes_of}
+use Rattle.ucon_store.proofs.Finding.{Together, holds_same, holds_more, takes_of}
 use Rattle.ucon_store.proofs.Versions.{closed_kind, steps_taken}
 use Rattle.ucon_disk.specs.Causes.{raised}
 use Rattle.ucon_disk.specs.Seen.{DiskSeen}
@@ -34,20 +35,17 @@ pub record HoldsAtRest {D : Type 0} (seen : D → DiskSeen) (journal : Journal D
   pub only : Only (seen (disk_of journal)).contents (seen (disk_of journal)).images
   pub holds : IfSome (seen (disk_of journal)).contents (Holds text P H)
 
--- The record of a payload is on the disk: the journal is closed again, at the same version, its next gate is five bytes further at least, and where
--- the disk tells, the payload counts behind those of before, and a crash leaves nothing else.
+-- The records of payloads are on the disk: the journal is closed again, at the same version, its next gate is five bytes further at least for each,
+-- and where the disk tells, they count behind those of before, and a crash leaves nothing else.
 pub record IsAppended {D : Type 0} (seen : D → DiskSeen) (old new : Journal D)
-    (payload : Bytes) : Type 0 where
+    (payloads : List Bytes) : Type 0 where
   pub closed : IsClosed seen new
   pub version : version_of new ≡ version_of old
-  pub gate : gate_of old + 5 ≤ gate_of new
+  pub gate : gate_of old + 5 * length payloads ≤ gate_of new
   pub only : Only (seen (disk_of new)).contents (seen (disk_of new)).images
   pub tells : is_some (seen (disk_of new)).contents ≡ is_some (seen (disk_of old)).contents
   pub added : IfSome (seen (disk_of old)).contents
-      (λ file. told_payloads (seen (disk_of new)).contents ≡ told_payloads (seen (disk_of old)).contents ++ payload ∷ [])
-
-abbrev pub OneByOne : Type 0
-OneByOne = (takes : Takes) (front rest : List Bytes) → found_in accepted takes (front ++ rest) ≡ found_on accepted takes (found_in accepted takes front) (length front) rest
+      (λ file. told_payloads (seen (disk_of new)).contents ≡ told_payloads (seen (disk_of old)).contents ++ payloads)
 
 pub told_file : (o : Option Bytes) → IsSome o → (file : Bytes) × (o ≡ Some file)
 told_file None told = absurd (cc told)
@@ -60,12 +58,21 @@ some_told P o file is h = let g : IfSome (Some file) P = subst (λ (x : Option B
 pub same_kind : (file c : Bytes) → take 8 c ≡ take 8 file → has_points c ≡ has_points file
 same_kind file c same = ap (λ (front : Bytes). bytes_eq front (magic 2)) same
 
--- the payloads of before, or those with the step's, are found as the history, or as it with the step
-pub found_perhaps : OneByOne → (text : Bytes) (P : PlainPolicy) (H : History) (e : Entry) (payload file c : Bytes) → taken accepted P H payload ≡ Some (H ++ e ∷ []) → Holds text P H file
-    → PerhapsAdded payload file c → IsFoundWith text H (Some e) c
-found_perhaps one text P H e payload file c takes h perhaps = ⊎_elim
-    (λ (same : StillHolds file (journalled.counted file) c). inl (found_as text P H c (holds_same text P H file c h (same_kind file c same.magic) same.payloads)))
-    (λ (more : StillHolds file (journalled.counted file ++ payload ∷ []) c). inr (e, refl, found_as text P (H ++ e ∷ []) c (holds_more one text P H (H ++ e ∷ []) payload file c (steps_taken (has_points file) text P H (H ++ e ∷ []) payload takes) h (same_kind file c more.magic) more.payloads)))
+-- the payloads of before, or those with the entries' behind them, are found as the history, or as it with all of them
+pub found_perhaps : Together → (text : Bytes) (P : PlainPolicy) (H es : History) (payloads : List Bytes) (file c : Bytes)
+    → AreTaken (only_steps accepted) text P H payloads (H ++ es) → Holds text P H file → PerhapsAllAdded payloads file c
+    → IsFoundMarked text H (Some es) c
+found_perhaps together text P H es payloads file c takes h perhaps = ⊎_elim
+    (λ (same : StillHolds file (journalled.counted file) c).
+    inl (found_as text P H c (holds_same text P H file c h (same_kind file c same.magic) same.payloads)))
+    (λ (more : StillHolds file (journalled.counted file ++ payloads) c).
+    let taken = together.steps (takes_of file) text P H (H ++ es) payloads (steps_taken (has_points file)) takes in
+    inr (
+      es,
+      refl,
+      found_as text P (H ++ es) c
+          (holds_more together text P H (H ++ es) payloads file c taken h (same_kind file c more.magic) more.payloads),
+    ))
     perhaps
 
 module _ {D : Type 0} {seen : D → DiskSeen} {journal : Journal D} {text : Bytes} {P : PlainPolicy}
@@ -80,39 +87,39 @@ module _ {D : Type 0} {seen : D → DiskSeen} {journal : Journal D} {text : Byte
   kind_now file is =
       some_told (λ f. has_points f ≡ points_of (version_of journal)) (seen (disk_of journal)).contents file is (closed_kind seen journal rest.closed)
 
-  -- each image inside the call is found as the history, or as it with the step
-  pub run_perhaps : OneByOne → (e : Entry) (payload : Bytes) → taken accepted P H payload ≡ Some (H ++ e ∷ [])
+  -- each image inside the call is found as the history, or as it with all entries
+  pub run_perhaps : Together → (es : History) (payloads : List Bytes) → AreTaken (only_steps accepted) text P H payloads (H ++ es)
       → (new : D)
-      → LeavesAfter (seen (disk_of journal)) (seen new) (PerhapsAdded payload) → IsSome (seen (disk_of journal)).contents
-      → LeavesOnly (seen (disk_of journal)) (seen new) (IsFoundWith text H (Some e))
-  run_perhaps one e payload takes new run told =
+      → LeavesAfter (seen (disk_of journal)) (seen new) (PerhapsAllAdded payloads) → IsSome (seen (disk_of journal)).contents
+      → LeavesOnly (seen (disk_of journal)) (seen new) (IsFoundMarked text H (Some es))
+  run_perhaps together es payloads takes new run told =
       let f = told_file (seen (disk_of journal)).contents told in
-      weaker (seen (disk_of journal)) (seen new) (PerhapsAdded payload f.0) (IsFoundWith text H (Some e))
-      (λ c. found_perhaps one text P H e payload f.0 c takes (holds_now f.0 f.1)) (run.each f.0 (at_rest_as f.0 f.1))
+      weaker (seen (disk_of journal)) (seen new) (PerhapsAllAdded payloads f.0) (IsFoundMarked text H (Some es))
+      (λ c. found_perhaps together text P H es payloads f.0 c takes (holds_now f.0 f.1)) (run.each f.0 (at_rest_as f.0 f.1))
 
-  -- ---- once the record of a payload is there
+  -- ---- once the records of payloads are there
 
-  module _ {payload : Bytes} {next : Journal D} (appended : IsAppended seen journal next payload) where
+  module _ {payloads : List Bytes} {next : Journal D} (appended : IsAppended seen journal next payloads) where
     -- the file is of the kind that it was
     pub kind_then : (file c : Bytes) → (seen (disk_of journal)).contents ≡ Some file → (seen (disk_of next)).contents ≡ Some c → has_points c ≡ has_points file
     kind_then file c was now =
         some_told (λ f. has_points f ≡ points_of (version_of next)) (seen (disk_of next)).contents c now (closed_kind seen next appended.closed)
         ∙ (ap points_of appended.version ∙ sym (kind_now file was))
 
-    -- its payloads are those of before and this one
+    -- its payloads are those of before and these
     pub counted_then : (file c : Bytes) → (seen (disk_of journal)).contents ≡ Some file → (seen (disk_of next)).contents ≡ Some c
-        → journalled.counted c ≡ journalled.counted file ++ payload ∷ []
+        → journalled.counted c ≡ journalled.counted file ++ payloads
     counted_then file c was now =
         sym (ap told_payloads now)
-        ∙ (some_told (λ _. told_payloads (seen (disk_of next)).contents ≡ told_payloads (seen (disk_of journal)).contents ++ payload ∷ [])
+        ∙ (some_told (λ _. told_payloads (seen (disk_of next)).contents ≡ told_payloads (seen (disk_of journal)).contents ++ payloads)
         (seen (disk_of journal)).contents file was appended.added
-        ∙ ap (λ (x : Option Bytes). told_payloads x ++ payload ∷ []) was)
+        ∙ ap (λ (x : Option Bytes). told_payloads x ++ payloads) was)
 
-    -- and where it is taken, the journal is at rest with what it is taken as
-    pub rest_with : OneByOne → (later : History)
-        → ((file : Bytes) → (seen (disk_of journal)).contents ≡ Some file → takes_of file text P H payload ≡ Some later)
+    -- and where they are taken, the journal is at rest with what they are taken as
+    pub rest_with : Together → (later : History)
+        → ((file : Bytes) → (seen (disk_of journal)).contents ≡ Some file → AreTaken (takes_of file) text P H payloads later)
         → HoldsAtRest seen next text P later
-    rest_with one later takes =
+    rest_with together later takes =
         record { closed = appended.closed; only = appended.only; holds = each (seen (disk_of journal)).contents (seen (disk_of next)).contents refl refl }
       where
         each : (o n : Option Bytes) → (seen (disk_of journal)).contents ≡ o → (seen (disk_of next)).contents ≡ n → IfSome n (Holds text P later)
@@ -120,7 +127,7 @@ module _ {D : Type 0} {seen : D → DiskSeen} {journal : Journal D} {text : Byte
         each (Some file) None was now = tt
         each None (Some c) was now = absurd (let bad : true ≡ false = sym (ap is_some now) ∙ (appended.tells ∙ ap is_some was) in cc bad)
         each (Some file) (Some c) was now =
-            holds_more one text P H later payload file c (takes file was) (holds_now file was) (kind_then file c was now)
+            holds_more together text P H later payloads file c (takes file was) (holds_now file was) (kind_then file c was now)
             (counted_then file c was now)
 
 -- ---- what becomes of a store
@@ -133,24 +140,23 @@ with_entries x es disk = record x { entries = x.entries ++ es; mark = None; disk
 abbrev pub with_mark : {D : Type 0} → Kept D → History → D → Kept D
 with_mark x es disk = record x { mark = Some es; disk = disk }
 
-module _ {D : Type 0} (seen : D → DiskSeen) (x : Kept D) (e : Entry) where
-  -- a crash inside a step of x leaves the history that x is founded on with x's entries, or with the step's entry behind them
-  abbrev pub LeavesStep : D → Type 0
-  LeavesStep new = (P : PlainPolicy) (G : History) → IsFounded seen P x G → IsSome (seen x.disk).contents
-      → LeavesOnly (seen x.disk) (seen new) (IsFoundWith x.policy (G ++ x.entries) (Some e))
-
-  -- before a call of the disk
-  pub unbegun : ((d : D) (c : List ℕ) → (seen d).images_since (seen d).moment c → (seen d).images c) → (new : D) → new ≡ x.disk → LeavesStep new
-  unbegun only new same P G f told =
-      subst (λ (d : D). LeavesOnly (seen x.disk) (seen d) (IsFoundWith x.policy (G ++ x.entries) (Some e))) (sym same)
-      (started (seen x.disk) (IsFoundWith x.policy (G ++ x.entries) (Some e))
-      (λ c since. inl (found_founded seen P x G f told c (only x.disk c since))))
+-- a crash inside a step of x leaves the history that x is founded on with x's entries, or with the step's entry behind them
+abbrev pub LeavesStep : {D : Type 0} → (D → DiskSeen) → Kept D → Entry → D → Type 0
+LeavesStep seen x e new = (P : PlainPolicy) (G : History) → IsFounded seen P x G → IsSome (seen x.disk).contents
+    → LeavesOnly (seen x.disk) (seen new) (IsFoundWith x.policy (G ++ x.entries) (Some e))
 
 module _ {D : Type 0} (seen : D → DiskSeen) (x : Kept D) (es : History) where
   -- the same of a call that writes these entries, or none
   abbrev pub LeavesWith : D → Type 0
   LeavesWith new = (P : PlainPolicy) (G : History) → IsFounded seen P x G → IsSome (seen x.disk).contents
       → LeavesOnly (seen x.disk) (seen new) (IsFoundMarked x.policy (G ++ x.entries) (Some es))
+
+  -- before a call of the disk
+  pub unbegun : ((d : D) (c : List ℕ) → (seen d).images_since (seen d).moment c → (seen d).images c) → (new : D) → new ≡ x.disk → LeavesWith new
+  unbegun only new same P G f told =
+      subst (λ (d : D). LeavesOnly (seen x.disk) (seen d) (IsFoundMarked x.policy (G ++ x.entries) (Some es))) (sym same)
+      (started (seen x.disk) (IsFoundMarked x.policy (G ++ x.entries) (Some es))
+      (λ c since. inl (found_founded seen P x G f told c (only x.disk c since))))
 
   -- what a call did that put records on the disk, or met a fault there
   goes : (y : Kept D) → x.mark ≡ None → y.policy ≡ x.policy → y.point ≡ x.point → y.before ≡ x.before → y.opening ≡ x.opening
@@ -233,11 +239,11 @@ module _ {D : Type 0} (seen : D → DiskSeen) (x : Kept D) (es : History) where
           record { history = (G ++ x.entries) ++ more.0; found = more.2; begun = (more.0, refl); within = inr (more.0, more.1, refl) })
           h
 
--- what a step leaves is what its entry, being written, does
-pub leaves_with : {D : Type 0} {seen : D → DiskSeen} {x : Kept D} {e : Entry} {new : D} → LeavesStep seen x e new → LeavesWith seen x (e ∷ []) new
-leaves_with {D} {seen} {x} {e} {new} run P G f told =
-    weaker (seen x.disk) (seen new) (IsFoundWith x.policy (G ++ x.entries) (Some e)) (IsFoundMarked x.policy (G ++ x.entries) (Some (e ∷ [])))
-    (found_marked accepted x.policy (G ++ x.entries) (Some e)) (run P G f told)
+-- what a call leaves that writes one entry is what its step does
+pub leaves_step : {D : Type 0} {seen : D → DiskSeen} {x : Kept D} {e : Entry} {new : D} → LeavesWith seen x (e ∷ []) new → LeavesStep seen x e new
+leaves_step {D} {seen} {x} {e} {new} run P G f told =
+    weaker (seen x.disk) (seen new) (IsFoundMarked x.policy (G ++ x.entries) (Some (e ∷ []))) (IsFoundWith x.policy (G ++ x.entries) (Some e))
+    (found_with accepted x.policy (G ++ x.entries) (Some e)) (run P G f told)
 
 -- ---- the list of a turn's store
 

@@ -56,10 +56,10 @@ pub record IsAtRestWith {D : Type 0} (seen : D → DiskSeen)
 abbrev pub RevokesFew : PlainPolicy → Trace → Type 0
 RevokesFew P T = (H : History) (caller : Caller) (c : Command) → length (revocations_in (reply P (trace_from P T H) caller c)) ≤ 65536
 
--- Some trace leads to where the store begins, and behind each such trace the engine follows the store's entries, no accessing session fails, and
--- no reply will have too many revocations. The text that is kept for it is that of the policy in force behind the entries. Without a mark the
--- journal is at rest. What its file is found as isn't said here, since a store that begins behind a checkpoint may be of no history. Where there is
--- one, the calls pass it on (`IsFounded`).
+-- Some trace leads to where the store begins, and behind each such trace no reply will have too many revocations. Without a mark the engine
+-- follows the store's entries behind each such trace, no accessing session fails, the text that is kept is that of the policy in force behind the
+-- entries, and the journal is at rest. With a mark the engine may be behind some of the mark's entries. What its file is found as isn't said here,
+-- since a store that begins behind a checkpoint may be of no history. Where there is one, the calls pass it on (`IsFounded`).
 pub record IsKept {E D : Type 0} (follows : E → PlainPolicy → Trace → Type 0) (seen : D → DiskSeen)
     (engine : E) (journal : Journal D) (text : Bytes) (point : Option Beginning) (before : ℕ) (now : Bytes) (H : History)
     (mark : Option History) : Type 0 where
@@ -67,9 +67,9 @@ pub record IsKept {E D : Type 0} (follows : E → PlainPolicy → Trace → Type
   pub accepts : accepted text ≡ Some P
   pub begun : Trace
   pub starts : IsStart P (payload_in point) before begun
-  pub stands : (T : Trace) → IsStart P (payload_in point) before T → follows engine P (trace_from P T H)
-  pub settled : (T : Trace) → IsStart P (payload_in point) before T → NobodyFails P (trace_from P T H)
+  pub stands : mark ≡ None → (T : Trace) → IsStart P (payload_in point) before T → follows engine P (trace_from P T H)
+  pub settled : mark ≡ None → (T : Trace) → IsStart P (payload_in point) before T → NobodyFails P (trace_from P T H)
   pub revokes : (T : Trace) → IsStart P (payload_in point) before T → RevokesFew P T
-  pub in_force : now ≡ text_in_force (text_at_start text (payload_in point)) H
+  pub in_force : mark ≡ None → now ≡ text_in_force (text_at_start text (payload_in point)) H
   pub few : 5 * (before + length H) < 2 ^ 63
   pub rests : mark ≡ None → IsAtRestWith seen journal (before + length H)

@@ -1,4 +1,6 @@
+pub mod Batched
 pub mod Events
+pub mod Filling
 pub mod Faults
 pub mod Found
 pub mod Kept

@@ -1,5 +1,5 @@
 -- What a step answers and does.
-use Rattle.std.specs.Prelude.{◌≡◌, ◌⊎◌, ◌+◌, [], ◌∷◌, ◌++◌, length, take, true, Some, None, if◌then◌else◌}
+use Rattle.std.specs.Prelude.{◌≡◌, ◌⊎◌, ◌+◌, List, [], ◌∷◌, ◌++◌, length, take, true, Some, None, if◌then◌else◌}
 use Rattle.ucon_model.specs.declared.command.Entry.{Entry}
 use Rattle.ucon_model.specs.Action.{Trace}
 use Rattle.ucon_model.specs.Block.{reply as reply_to}
@@ -56,7 +56,11 @@ pub record HasFailedBehind {D : Type 0} (seen : D → DiskSeen) (P : PlainPolicy
 abbrev pub step_payload : PlainPolicy → Trace → History → Entry → Bytes
 step_payload P T H e = payload_spelling (told e (reply_to P (trace_from P T H) e.caller e.command))
 
--- it begins with the file's magic, and what counts in it are the file's payloads, or those and one more
-pub record AddsAtMost (payload file c : Bytes) : Type 0 where
+-- it begins with the file's magic, and what counts in it are the file's payloads, or those and all of these behind them
+pub record AddsTogether (added : List Bytes) (file c : Bytes) : Type 0 where
   pub magic : take 8 c ≡ take 8 file
-  pub payloads : (counted c ≡ counted file) ⊎ (counted c ≡ counted file ++ payload ∷ [])
+  pub payloads : (counted c ≡ counted file) ⊎ (counted c ≡ counted file ++ added)
+
+-- the same of one more
+abbrev pub AddsAtMost : (payload file c : Bytes) → Type 0
+AddsAtMost payload = AddsTogether (payload ∷ [])

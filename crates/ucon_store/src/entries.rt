@@ -1,6 +1,6 @@
 //! A list of entries, as proofs know it. In memory it is a number.
 
-ghost use Rattle.std.specs.Prelude.{◌≡◌, ◌+◌, ◌<◌, ◌^◌, ◌∷◌, [], ◌++◌, length, ⊤};
+ghost use Rattle.std.specs.Prelude.{◌≡◌, ◌↔◌, ◌+◌, ◌<◌, ◌^◌, ◌∷◌, [], ◌++◌, length, IsTrue, ⊤};
 
 use logbook::{Opening, Rule, Seen, Start};
 use std::marker::Model;
@@ -45,6 +45,15 @@ impl<'a> Opening<(&'a Told, Caller, &'a Command), Entry> for Longer {
     ghost use Rattle.std.specs.Prelude.{[], ◌∷◌, ◌++◌};
 
     ghost log = { λ count about. about.0.now.log ++ record { caller = about.1; command = about.2.now } ∷ [] };
+}
+
+/// A book that opens with the entries of one, and behind them those of another.
+pub struct Joined;
+
+impl<'a> Opening<(&'a Told, &'a Told), Entry> for Joined {
+    ghost use Rattle.std.specs.Prelude.{◌++◌};
+
+    ghost log = { λ count about. about.0.now.log ++ about.1.now.log };
 }
 
 /// Entries in their order. They stand in proofs alone; what is kept in memory is how many there are.
@@ -94,6 +103,13 @@ impl Entries {
         self.count
     }
 
+    /// Whether there are none.
+    pub fn is_empty(&self) -> bool
+        ensures { IsTrue result ↔ (self.now ≡ []) }
+    {
+        self.count == 0
+    }
+
     /// Adds an entry. It takes no memory.
     pub fn push(&mut self, caller: Caller, command: &Command)
         requires few { length self.old + 1 < 2 ^ 64 }
@@ -105,6 +121,20 @@ impl Entries {
             0,
         );
         self.count += 1;
+        self.told = told;
+    }
+
+    /// Adds the entries of another list, behind these. It takes no memory.
+    pub fn extend(&mut self, more: &Entries)
+        requires few { length self.old + length more.now < 2 ^ 64 }
+        ensures { self.new ≡ self.old ++ more.now }
+    {
+        let (told, _) = Seen::open_row::<(&Told, &Told), Joined>(
+            &(&self.told, &more.told),
+            Start::alone(),
+            0,
+        );
+        self.count += more.count;
         self.told = told;
     }
 }

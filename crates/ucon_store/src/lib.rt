@@ -18,6 +18,7 @@
 #![tactic(auto)]
 
 mod accepting;
+mod batch;
 mod beginning;
 mod entries;
 mod event;
@@ -37,6 +38,7 @@ mod starting;
 mod store;
 mod walking;
 
+pub use batch::{BatchEnd, Batched, MAX_BATCH};
 pub use event::{Base, Event};
 pub use fault::{PointFault, StepFault, StoreFault};
 pub use laws::{

@@ -30,6 +30,28 @@ use ucon_engine::Engine;
 use ucon_journal::{DiskFault, Journal, MAX_PAYLOAD};
 use ucon_model::{Caller, Command, Reply};
 
+/// Spells the payload of a step's record over another one. It is no longer than a payload may be.
+pub(crate) fn spell(
+    alloc: Global,
+    payload: &mut Vec<u8>,
+    caller: Caller,
+    command: &Command,
+    reply: &Reply,
+) -> Result<(), NoMemory>
+    requires client { caller.0 < 64 }
+    requires few { length (revocations_in (reply_of reply.now)) ≤ 65536 }
+    ensures taken { OnOk result ((P : PlainPolicy) (H : History)
+        → reply_of reply.now ≡ said P H caller command.now → changes (reply_of reply.now) ≡ true
+        → taken accepted P H payload.new.items ≡ Some (H ++ record { caller = caller; command = command.now } ∷ [])) }
+    ensures spelled { OnOk result (payload.new.items ≡ payload_spelling (told_of caller command.now reply.now)) }
+    ensures short { OnOk result (length payload.new.items ≤ MAX_PAYLOAD) }
+{
+    steps_are_taken_as_spelled();
+    payload.clear();
+    put_payload(alloc, payload, caller, command, reply)?;
+    Ok(())
+}
+
 /// Takes all the memory that a step needs, before anything is written: the payload of its record, and the text of its amendment.
 pub(crate) fn prepare<D: Disk>(
     alloc: Global,
@@ -54,9 +76,7 @@ pub(crate) fn prepare<D: Disk>(
     ensures room { OnOk result (HasRoomFor journal.new (length payload.new.items)) }
     ensures ready { OnOk result (HoldsAmendment in_force.new.next.items command.now) }
 {
-    steps_are_taken_as_spelled();
-    payload.clear();
-    put_payload(alloc, payload, caller, command, reply)?;
+    spell(alloc, payload, caller, command, reply)?;
     journal.reserve(payload.len())?;
     in_force.prepare(command)?;
     Ok(())

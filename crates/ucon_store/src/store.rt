@@ -28,6 +28,7 @@ ghost use Rattle.ucon_store.specs.Stays.{Stays};
 ghost use Rattle.ucon_store.specs.Steps.{AddsAtMost, IsPlaced, IsPlacedBehind, HasFailed, HasFailedBehind, step_payload};
 ghost use Rattle.ucon_store.specs.Whole.{GoesOnFrom, IsFounded, IsFront, trace_behind, whole};
 
+mod batching;
 mod lending;
 
 use crate::beginning::Beginning;
@@ -46,7 +47,7 @@ use ucon_base::Steps;
 use ucon_disk::Disk;
 use ucon_engine::Engine;
 use ucon_journal::{DiskFault, Journal, MAX_PAYLOAD};
-use ucon_model::{Caller, Command, SessionState, payloads_are_found_one_by_one};
+use ucon_model::{Caller, Command, SessionState, payloads_are_found_together};
 use ucon_state::State;
 
 /// The history of a journal under its policy: in memory by the engine, on the disk by the journal.
@@ -195,7 +196,7 @@ impl<E: Engine, D: Disk> Store<E, D> {
         ensures mark { (self.new.mark ≡ self.old.mark) ⊎ (self.new.mark ≡ Some (record { caller = caller; command = command.now } ∷ [])) }
         ensures stays { Stays D.seen self.old self.new }
     {
-        payloads_are_found_one_by_one();
+        payloads_are_found_together();
         if self.mark.is_some() {
             return Err(StepFault::Stopped);
         }
@@ -269,7 +270,7 @@ impl<E: Engine, D: Disk> Store<E, D> {
         ensures unfailed { OnOk result ((D.seen self.new.disk).faults ≡ (D.seen self.old.disk).faults) }
         ensures stays { Stays D.seen self.old self.new }
     {
-        payloads_are_found_one_by_one();
+        payloads_are_found_together();
         if self.mark.is_some() {
             return Err(PointFault::Stopped);
         }
@@ -310,20 +311,20 @@ impl<E: Engine, D: Disk> Store<E, D> {
         self.before + self.entries.len()
     }
 
-    /// What is there now. No accessing session fails.
+    /// What is there now. No accessing session fails. Behind a disk fault it may have what the disk doesn't, so that nothing is said of it.
     pub fn state(&self) -> &State
-        ensures follows { (P : PlainPolicy) (T : Trace) → accepted self.now.policy ≡ Some P → IsStart P self.now.point self.now.before T
-            → Follows (shown result.now) P (trace_behind P T self.now) }
-        ensures settled { (P : PlainPolicy) (T : Trace) → accepted self.now.policy ≡ Some P → IsStart P self.now.point self.now.before T
-            → NobodyFails P (trace_behind P T self.now) }
+        ensures follows { self.now.mark ≡ None → (P : PlainPolicy) (T : Trace) → accepted self.now.policy ≡ Some P
+            → IsStart P self.now.point self.now.before T → Follows (shown result.now) P (trace_behind P T self.now) }
+        ensures settled { self.now.mark ≡ None → (P : PlainPolicy) (T : Trace) → accepted self.now.policy ≡ Some P
+            → IsStart P self.now.point self.now.before T → NobodyFails P (trace_behind P T self.now) }
     {
         self.engine.state()
     }
 
-    /// The state of a session. None where there is no such session.
+    /// The state of a session. None where there is no such session. Behind a disk fault nothing is said of it.
     pub fn status(&self, session: u32) -> Option<SessionState>
-        ensures { (P : PlainPolicy) (T : Trace) → accepted self.now.policy ≡ Some P → IsStart P self.now.point self.now.before T
-            → result ≡ state_of (trace_behind P T self.now) session }
+        ensures { self.now.mark ≡ None → (P : PlainPolicy) (T : Trace) → accepted self.now.policy ≡ Some P
+            → IsStart P self.now.point self.now.before T → result ≡ state_of (trace_behind P T self.now) session }
     {
         self.engine.status(session)
     }

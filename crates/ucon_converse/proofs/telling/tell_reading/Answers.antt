@@ -8,8 +8,13 @@ use Rattle.ucon_syntax.specs.Policies.{accepted}
 use Rattle.ucon_converse.specs.Readings.{line_told, reading_line, text_told}
 use Rattle.ucon_converse.specs.Replies.{IsToldSo, refusal_line}
 use Rattle.ucon_converse.proofs.OneLine.{all_lack, refusal_line_is}
-use Rattle.ucon_converse.proofs.Tellings.{no_memory_told, reading_line_is, replied, stopped_told, told_so, whole_count}
+use Rattle.ucon_converse.proofs.Tellings.{no_memory_told, reading_line_is, replied, stopped_told, told_so, unstopped, whole_count}
 use Rattle.ucon_converse.proofs.telling.tell_reading.Goals as goal
+
+pub reading_text-requires-clause-unmarked : goal.reading_text-requires-clause-unmarked
+reading_text-requires-clause-unmarked g c =
+    let unfailed : is_some c.args.store.now.mark ≡ false = search rules in
+    unstopped c.args.store.now.mark unfailed
 
 pub returns-then-is_stopped : goal.returns-then-is_stopped
 returns-then-is_stopped g c =

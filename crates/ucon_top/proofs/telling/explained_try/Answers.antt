@@ -58,7 +58,7 @@ returns-clause-text g c =
     let o = c.args.object.now in
     if_ok c.try_text-text.result _ _
     (λ t each. over g c (λ Q U. try_spelling Q U s r o ≡ t.items)
-    (λ T starts. sym (each P (trace_from P T store.entries) (c.state.ensures.follows P T accepts starts))))
+    (λ T starts. sym (each P (trace_from P T store.entries) (c.state.ensures.follows told.store.2 P T accepts starts))))
     c.try_text-text.ensures
 
 pub returns-clause-no_memory : goal.returns-clause-no_memory

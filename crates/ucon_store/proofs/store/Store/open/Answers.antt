@@ -132,10 +132,10 @@ invariant_of-result g c =
       accepts = standing.accepts;
       begun = standing.begun;
       starts = standing.starts;
-      stands = standing.stands;
-      settled = standing.settled;
+      stands = λ _. standing.stands;
+      settled = λ _. standing.settled;
       revokes = standing.revokes;
-      in_force = standing.in_force;
+      in_force = λ _. standing.in_force;
       few = omega (arith, c.in-Ok-load.ensures.few, journal.gate_small);
       rests = λ _. record { closed = c.in-Ok-load.ensures.closed; few = c.in-Ok-load.ensures.few; only = c.in-Ok-load.ensures.only };
     }

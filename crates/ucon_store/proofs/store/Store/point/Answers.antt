@@ -1,4 +1,4 @@
-use Rattle.std.proofs.Common.{rules, ◌≡◌, ◌+◌, ◌∙◌, [], ℕ, None, Some, Err, ap, subst, sym, arith}
+use Rattle.std.proofs.Common.{rules, ◌≡◌, ◌+◌, ◌∙◌, ◌∷◌, [], ℕ, None, Some, Err, ap, subst, sym, arith}
 use Rattle.std.specs.Prelude.{Result, IfErr}
 use Rattle.ucon_journal.specs.Journal.{disk_of}
 use Rattle.ucon_model.specs.Action.{Trace}
@@ -10,8 +10,9 @@ use Rattle.ucon_store.specs.Pointing.{IsUnpointed}
 use Rattle.ucon_store.specs.Starts.{IsStart, checkpoint_behind}
 use Rattle.ucon_store.specs.Stays.{Stays, stays_same}
 use Rattle.ucon_store.proofs.Adding.{adds_nothing}
+use Rattle.ucon_store.proofs.Finding.{Together}
 use Rattle.ucon_store.proofs.Pointed.{IsPointReady, LeavesPoint, adds_point, fits_ready, founded_point, leaves_point, on_disk, places_point, point_ready, point_refused, points_nothing, points_ready, stays_point, stays_stopped, written_point}
-use Rattle.ucon_store.proofs.Recorded.{IsAppended, OneByOne, with_mark}
+use Rattle.ucon_store.proofs.Recorded.{IsAppended, with_mark}
 use Rattle.ucon_store.proofs.Stepped.{marked_parts, only_kept, parts}
 use Rattle.ucon_store.proofs.Stepping.{unmarked}
 use Rattle.ucon_store.proofs.store.Store.point.Given.{Over}
@@ -43,7 +44,7 @@ returns-in_err-text-clause-inside g c =
 pub returns-in_err-text-clause-adds : goal.returns-in_err-text-clause-adds
 returns-in_err-text-clause-adds g c =
     let x = c.args.self.now in
-    adds_nothing g.D.Disk.seen x (λ P T. checkpoint_behind x.policy x.point x.before P T x.entries) g.met.D.Disk.only_now
+    adds_nothing g.D.Disk.seen x (λ P T. checkpoint_behind x.policy x.point x.before P T x.entries ∷ []) g.met.D.Disk.only_now
     (only_kept c.self.invariant c.self.view_is) (disk_of c.prepare_point.new.journal)
     (c.prepare_point.ensures.disk ∙ ap (λ (s : Kept g.row.D.Denot). s.disk) c.self.view_is)
 
@@ -66,11 +67,14 @@ module _ (g : Over) (c : After-append g) where
       c.prepare_point.ensures.version c.in_ok-text.ensures.second c.deref-2.ensures.value c.in_ok-text.ensures.short
       (ap (λ n. c.self.inside.before + n) c.len.ensures) c.deref.ensures.value c.in_ok-text.ensures.text
 
-  one : OneByOne
-  one takes front behind = c.payloads_are_found_one_by_one.ensures accepted takes front behind
+  together : Together
+  together = record {
+    found = c.payloads_are_found_together.ensures.found accepted;
+    steps = c.payloads_are_found_together.ensures.steps accepted;
+  }
 
   leaves : LeavesPoint g.D.Disk.seen c.args.self.now (disk_of c.append.new.self)
-  leaves = leaves_point ready one c.append.ensures.images
+  leaves = leaves_point ready together c.append.ensures.images
 
 -- ---- the disk failed
 
@@ -87,13 +91,13 @@ returns-in-Err-clause-stays g c =
     let stopped : parts s.policy.items s.point s.before s.opening s.entries (Some c.new.result) (disk_of c.append.new.self)
     ≡ with_mark c.args.self.now [] (disk_of c.append.new.self) =
     marked_parts s.point c.self.view_is [] (disk_of c.append.new.self) (λ _. s.entries) c.new.ensures in
-    stays_stopped (ready g before) (one g before) c.append.ensures.images c.append.ensures.tells c.in-Err.ensures.cause
+    stays_stopped (ready g before) (together g before) c.append.ensures.images c.append.ensures.tells c.in-Err.ensures.cause
     g.met.D.Disk.counts_now stopped
 
 -- ---- it is there
 
 module _ (g : Over) (c : In_default g) where
-  appended : IsAppended g.D.Disk.seen c.prepare_point.new.journal c.append.new.self c.deref-2.result.now
+  appended : IsAppended g.D.Disk.seen c.prepare_point.new.journal c.append.new.self (c.deref-2.result.now ∷ [])
   appended = record {
     closed = c.in_default.ensures.closed;
     version = c.append.ensures.version;
@@ -115,7 +119,7 @@ returns-clause-second g c = points_ready (ready g (goal.at.returns-clause-second
 pub returns-clause-added : goal.returns-clause-added
 returns-clause-added g c =
     let before = (goal.at.returns-clause-added g c).After-append in
-    places_point (ready g before) (one g before) (appended g (goal.at.returns-clause-added g c).In_default)
+    places_point (ready g before) (together g before) (appended g (goal.at.returns-clause-added g c).In_default)
 
 pub returns-clause-written : goal.returns-clause-written
 returns-clause-written g c =
@@ -135,10 +139,10 @@ pub returns-clause-founded : goal.returns-clause-founded
 returns-clause-founded g c =
     let before = (goal.at.returns-clause-founded g c).After-append in
     let there = (goal.at.returns-clause-founded g c).In_default in
-    founded_point (ready g before) (one g before) (appended g there) (moved g there)
+    founded_point (ready g before) (together g before) (appended g there) (moved g there)
 
 pub returns-clause-stays : goal.returns-clause-stays
 returns-clause-stays g c =
     let before = (goal.at.returns-clause-stays g c).After-append in
     let there = (goal.at.returns-clause-stays g c).In_default in
-    stays_point (ready g before) (one g before) (appended g there) c.append.ensures.images c.in_default.ensures.cause (moved g there)
+    stays_point (ready g before) (together g before) (appended g there) c.append.ensures.images c.in_default.ensures.cause (moved g there)

@@ -13,10 +13,11 @@ use Rattle.ucon_store.specs.Points.{text_behind}
 use Rattle.ucon_store.specs.Stays.{Stays, stays_same}
 use Rattle.ucon_store.specs.Steps.{step_payload}
 use Rattle.ucon_store.proofs.Adding.{Adds, adds_nothing}
+use Rattle.ucon_store.proofs.Finding.{Together}
 use Rattle.ucon_store.proofs.Placing.{failed_whole, placed_whole}
-use Rattle.ucon_store.proofs.Recorded.{IsAppended, LeavesStep, OneByOne, events_marked, events_more, unbegun, with_entries, with_mark}
+use Rattle.ucon_store.proofs.Recorded.{IsAppended, LeavesStep, events_marked, events_more, leaves_step, unbegun, with_entries, with_mark}
 use Rattle.ucon_store.proofs.Stepped.{IsReady, added_ready, adds_ready, founded_ready, leaves_ready, marked_parts, more_parts, only_kept, parts, ready_for, stays_failed, stays_ready}
-use Rattle.ucon_store.proofs.Stepping.{kept_more, unmarked}
+use Rattle.ucon_store.proofs.Stepping.{kept_one, unmarked}
 use Rattle.ucon_store.proofs.store.Store.step.Given.{Over}
 use Rattle.ucon_store.proofs.store.Store.step.Goals.{After-record, Else-is_some, In-Err-record, In_default-record}
 use Rattle.ucon_store.proofs.store.Store.step.Goals as goal
@@ -28,7 +29,7 @@ pub prepare-requires-clause-few : goal.prepare-requires-clause-few
 prepare-requires-clause-few g c =
     let inv = c.self.invariant in
     let H = c.self.inside.entries in
-    let said_is = c.in_ok-reply.ensures.reply inv.P (trace_from inv.P inv.begun H) (inv.stands inv.begun inv.starts) in
+    let said_is = c.in_ok-reply.ensures.reply inv.P (trace_from inv.P inv.begun H) (inv.stands (unmarked c.self.inside.mark (search rules)) inv.begun inv.starts) in
     subst (λ (r : PlainReply). length (revocations_in r) ≤ 65536) (sym said_is) (inv.revokes inv.begun inv.starts H c.args.caller c.args.command.now)
 
 pub record-requires-clause-closed : goal.record-requires-clause-closed
@@ -40,7 +41,7 @@ record-requires-clause-closed g c =
 
 module _ (g : Over) (c : After-record g) where
   -- the store was ready for the step's record
-  ready : IsReady g.D.Disk.seen c.args.self.now c.prepare.new.journal (entry c.args.caller c.args.command.now) c.deref.result.now
+  ready : IsReady g.D.Disk.seen c.args.self.now c.prepare.new.journal (entry c.args.caller c.args.command.now ∷ []) (c.deref.result.now ∷ [])
   ready =
       let none : c.self.inside.mark ≡ None = unmarked c.self.inside.mark (search rules) in
       let changed : c.changes.result ≡ true = search rules in
@@ -48,12 +49,15 @@ module _ (g : Over) (c : After-record g) where
       (reply_of c.in_ok-reply.reply) (sym c.changes.ensures ∙ changed) c.in_ok-reply.ensures.reply
       c.deref.ensures.value c.in_default.ensures.spelled c.in_default.ensures.taken
 
-  one : OneByOne
-  one takes front behind = c.payloads_are_found_one_by_one.ensures accepted takes front behind
+  together : Together
+  together = record {
+    found = c.payloads_are_found_together.ensures.found accepted;
+    steps = c.payloads_are_found_together.ensures.steps accepted;
+  }
 
   leaves : LeavesStep g.D.Disk.seen c.args.self.now
       (entry c.args.caller c.args.command.now) (disk_of c.record.new.journal)
-  leaves = leaves_ready ready one c.record.ensures.images
+  leaves = leaves_step (leaves_ready ready together c.record.ensures.images)
 
 -- ---- it met a disk fault
 
@@ -72,7 +76,7 @@ returns-in-Err-record-clause-inside g c = leaves g (goal.at.returns-in-Err-recor
 pub returns-in-Err-record-clause-stays : goal.returns-in-Err-record-clause-stays
 returns-in-Err-record-clause-stays g c =
     let before = (goal.at.returns-in-Err-record-clause-stays g c).After-record in
-    stays_failed (ready g before) (one g before) c.record.ensures.images c.record.ensures.tells
+    stays_failed (ready g before) (together g before) c.record.ensures.images c.record.ensures.tells
     c.in-Err-record.ensures.cause g.met.D.Disk.counts_now (marked g (goal.at.returns-in-Err-record-clause-stays g c).In-Err-record c.of.result c.of.ensures)
 
 pub returns-in-Err-record-clause-events : goal.returns-in-Err-record-clause-events
@@ -84,7 +88,7 @@ returns-in-Err-record-clause-events g c =
 -- ---- it is there
 
 module _ (g : Over) (c : In_default-record g) where
-  appended : IsAppended g.D.Disk.seen c.prepare.new.journal c.record.new.journal c.deref.result.now
+  appended : IsAppended g.D.Disk.seen c.prepare.new.journal c.record.new.journal (c.deref.result.now ∷ [])
   appended = record {
     closed = c.in_default-record.ensures.closed;
     version = c.record.ensures.version;
@@ -109,8 +113,8 @@ pub invariant_of-self-2 : goal.invariant_of-self-2
 invariant_of-self-2 g c =
     let there = (goal.at.invariant_of-self-2 g c).In_default-record in
     let changed : c.changes.result ≡ true = search rules in
-    kept_more c.self.invariant (g.E.Engine.has_pending c.draft.new.self) (entry c.args.caller c.args.command.now)
-    (c.in_ok-reply.ensures.pending (sym c.changes.ensures ∙ changed)) c.record.new.engine c.record.new.journal (unmarked c.self.inside.mark (search rules))
+    kept_one c.self.invariant (g.E.Engine.has_pending c.draft.new.self) (entry c.args.caller c.args.command.now)
+    (c.in_ok-reply.ensures.pending (sym c.changes.ensures ∙ changed)) (unmarked c.self.inside.mark (search rules))
     c.prepare.ensures.gate (appended g there) c.record.ensures.small c.in_default-record.ensures.kept c.in_default-record.ensures.settled
     (c.in_default-record.ensures.in_force ∙ ap (λ (t : Bytes). text_behind t c.args.command.now) c.prepare.ensures.in_force) (grown g there)
 
@@ -121,13 +125,13 @@ pub returns-clause-founded : goal.returns-clause-founded
 returns-clause-founded g c =
     let before = (goal.at.returns-clause-founded g c).After-record in
     let there = (goal.at.returns-clause-founded g c).In_default-record in
-    founded_ready (ready g before) (one g before) (appended g there) (longer g there)
+    founded_ready (ready g before) (together g before) (appended g there) (longer g there)
 
 pub returns-clause-stays : goal.returns-clause-stays
 returns-clause-stays g c =
     let before = (goal.at.returns-clause-stays g c).After-record in
     let there = (goal.at.returns-clause-stays g c).In_default-record in
-    stays_ready (ready g before) (one g before) c.record.ensures.images (appended g there) c.in_default-record.ensures.cause
+    stays_ready (ready g before) (together g before) c.record.ensures.images (appended g there) c.in_default-record.ensures.cause
     (longer g there)
 
 pub returns-clause-events : goal.returns-clause-events
@@ -139,8 +143,8 @@ returns-clause-events g c =
 
 pub returns-in-Err-clause-inside : goal.returns-in-Err-clause-inside
 returns-in-Err-clause-inside g c =
-    unbegun g.D.Disk.seen c.args.self.now (entry c.args.caller c.args.command.now)
-    g.met.D.Disk.only_now (disk_of c.prepare.new.journal) (c.prepare.ensures.disk ∙ ap (λ (s : Kept g.row.D.Denot). s.disk) c.self.view_is)
+    leaves_step (unbegun g.D.Disk.seen c.args.self.now (entry c.args.caller c.args.command.now ∷ [])
+    g.met.D.Disk.only_now (disk_of c.prepare.new.journal) (c.prepare.ensures.disk ∙ ap (λ (s : Kept g.row.D.Denot). s.disk) c.self.view_is))
 
 pub returns-in-Err-clause-stays : goal.returns-in-Err-clause-stays
 returns-in-Err-clause-stays g c =
@@ -174,7 +178,7 @@ returns-in-Err-record-clause-failed g c is = failed_whole (returns-in-Err-record
 -- ---- what a step puts into the file, whatever that is found as
 
 module _ (g : Over) (c : After-record g) where
-  adds : Adds g.D.Disk.seen c.args.self.now (λ P T. step_payload P T c.args.self.now.entries (entry c.args.caller c.args.command.now)) (disk_of c.record.new.journal)
+  adds : Adds g.D.Disk.seen c.args.self.now (λ P T. step_payload P T c.args.self.now.entries (entry c.args.caller c.args.command.now) ∷ []) (disk_of c.record.new.journal)
   adds = adds_ready (ready g c) c.record.ensures.images
 
 pub returns-clause-adds : goal.returns-clause-adds
@@ -190,9 +194,9 @@ returns-clause-added g c _ =
 module _ (g : Over) (c : Else-is_some g) where
   -- before a call of the disk nothing is added
   nothing : (new : g.row.D.Denot) → new ≡ disk_of c.self.inside.journal
-      → Adds g.D.Disk.seen c.args.self.now (λ P T. step_payload P T c.args.self.now.entries (entry c.args.caller c.args.command.now)) new
+      → Adds g.D.Disk.seen c.args.self.now (λ P T. step_payload P T c.args.self.now.entries (entry c.args.caller c.args.command.now) ∷ []) new
   nothing new same =
-      adds_nothing g.D.Disk.seen c.args.self.now (λ P T. step_payload P T c.args.self.now.entries (entry c.args.caller c.args.command.now))
+      adds_nothing g.D.Disk.seen c.args.self.now (λ P T. step_payload P T c.args.self.now.entries (entry c.args.caller c.args.command.now) ∷ [])
       g.met.D.Disk.only_now (only_kept c.self.invariant c.self.view_is) new (same ∙ ap (λ (s : Kept g.row.D.Denot). s.disk) c.self.view_is)
 
 pub returns-in-Err-clause-adds : goal.returns-in-Err-clause-adds

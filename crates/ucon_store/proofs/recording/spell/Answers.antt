@@ -5,10 +5,10 @@ use Rattle.ucon_model.specs.Plain.{Bytes, PlainReply}
 use Rattle.ucon_syntax.specs.Policies.{accepted}
 use Rattle.ucon_command.specs.Payloads.{told_of}
 use Rattle.ucon_store.proofs.Taking.{same_taken}
-use Rattle.ucon_store.proofs.recording.prepare.Goals as goal
+use Rattle.ucon_store.proofs.recording.spell.Goals as goal
 
 pub returns-clause-taken : goal.returns-clause-taken
-returns-clause-taken g c = λ P H said_is changing.
+returns-clause-taken c = λ P H said_is changing.
     let t : Told = told_of c.args.caller c.args.command.now c.args.reply.now in
     let payload = c.put_payload.new.out.items in
     let text : payload ≡ payload_spelling t = c.in_ok-put_payload.ensures.text ∙ ap (λ (front : Bytes). front ++ payload_spelling t) c.clear.ensures.items in
