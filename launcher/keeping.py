@@ -19,7 +19,7 @@ from launcher.seal import EMPTY, Front
 from launcher.told import ARE, LOST, WERE, Told, meet, near, path_of, read_told, told_of
 
 # The forms that open the journal that is their second word, and write it.
-WRITES = ("play", "serve", "point", "converse", "explain")
+WRITES = ("play", "serve", "board", "point", "converse", "explain")
 ACCEPT = "--accept-loss"
 # The statuses behind which nothing of the journal was written, and nobody was told a place (docs/errors.md).
 UNTOUCHED = (1, 2, 3, 4, 7, 8, 10, 11)

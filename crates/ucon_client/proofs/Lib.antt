@@ -12,3 +12,8 @@ pub mod Ending
 pub mod Divided
 pub mod Crossing
 pub mod Moves
+pub mod Following
+pub mod Held
+pub mod Holding
+pub mod Turning
+pub mod Posting

@@ -1,8 +1,11 @@
 pub mod Answers
+pub mod Boarded
 pub mod Clients
 pub mod Dividing
 pub mod Events
 pub mod Laws
-pub mod Shared
+pub mod Looks
+pub mod Reading
+pub mod Steps
 pub mod Inbox
 pub mod Rule

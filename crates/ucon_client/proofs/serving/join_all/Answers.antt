@@ -5,7 +5,7 @@ use Rattle.ucon_client.specs.declared.client.Client.{Client}
 use Rattle.ucon_store.specs.declared.event.Event.{Event}
 use Rattle.ucon_store.specs.declared.event.Event.TheVariants.{Done}
 use Rattle.ucon_client.specs.declared.part.Part.{Part}
-use Rattle.ucon_client.specs.Answers.{Serves, number, served_of}
+use Rattle.ucon_client.specs.Answers.{ServesWith, number, served_of}
 use Rattle.ucon_client.specs.Clients.{AreJoined, AreRising, Served}
 use Rattle.ucon_store.specs.Events.{events, events_behind, number_of}
 use Rattle.ucon_base.specs.Elements.{Each, each_append, each_map}
@@ -16,7 +16,7 @@ use Rattle.ucon_client.proofs.serving.join_all.Goals as goal
 
 pub loop-client-init : goal.loop-client-init
 loop-client-init g c =
-    let opened = c.args.turn.now.opened in
+    let opened = c.args.turn.now.opened.store in
     let none : c.args.parts.now.items ≡ [] = c.requires.room.0 in
     let seen : events opened.entries opened.mark ≡ c.args.seat.now.seen = sym c.requires.seen.1 in
     record {
@@ -47,7 +47,7 @@ pub loop-client-preserved : goal.loop-client-preserved
 loop-client-preserved g c =
     let i = c.loop-client.invariant in
     let j = c.join.ensures in
-    let opened = c.args.turn.now.opened in
+    let opened = c.args.turn.now.opened.store in
     let C : Type 0 = Client g.row.E.Denot g.row.D.Denot in
     let part_of : C → Part = λ d. d.part in
     let client : C = c.in-Some.client in
@@ -59,7 +59,7 @@ loop-client-preserved g c =
     let clients : c.args.clients.items ≡ done ++ client ∷ rest = i.clients ∙ ap (λ l. done ++ l) c.in-Some.ensures.steps.0 in
     let few : length done < length c.args.clients.items = omega (arith, ap length clients, length-append done (client ∷ rest)) in
     let at : get_or c.args.clients.items (length done) client ≡ client = ap (λ l. get_or l (length done) client) clients ∙ get_or_at done client rest client (length done) refl in
-    let s = subst (λ (d : C). Serves c.args.turn.now d.part d.seat) at (c.requires.serves (length done) client few) in
+    let s = (subst (λ (d : C). ServesWith c.args.turn.now d.part d.seat d.looks) at (c.requires.serves (length done) client few)).0 in
     let n : ℕ = client.part.number in
     let numbers : map number (map part_of c.args.clients.items) ≡ map number (map part_of done ++ client.part ∷ map part_of rest) =
     ap (map number) (ap (map part_of) clients ∙ map-append part_of done (client ∷ rest)) in

@@ -15,8 +15,8 @@ use Rattle.ucon_client.proofs.serving.join_all.Given as goal
 abbrev pub invariant-loop-client : goal.invariant-loop-client
 invariant-loop-client g l = record {
   turn : IsSeatOf l.fn.turn l.seat × (l.seat.number ≡ 0) × (l.seat.given ≡ l.fn.seat.given);
-  joined : (P : PlainPolicy) (H : History) → accepted l.fn.turn.opened.policy ≡ Some P → IsFront P l.fn.turn.opened H
-      → AreJoined P (H ++ l.fn.turn.opened.entries) (map Done H ++ l.seat.seen) l.seat.taken (map served_of l.parts.items);
+  joined : (P : PlainPolicy) (H : History) → accepted l.fn.turn.opened.store.policy ≡ Some P → IsFront P l.fn.turn.opened.store H
+      → AreJoined P (H ++ l.fn.turn.opened.store.entries) (map Done H ++ l.seat.seen) l.seat.taken (map served_of l.parts.items);
   back : Each (λ p. Has l.seat.taken (p.number + 1)) l.parts.items;
   answered : l.parts.items ≡ map (λ c. c.part) l.yielded;
   clients : l.fn.clients.items ≡ l.yielded ++ l.client-iterator.rest.items;
