@@ -1,15 +1,20 @@
 -- A board follows its store, and what was read off it is confirmed.
-use Rattle.std.proofs.Common.{◌≡◌, ℕ, zero, suc, ◌+◌, ◌≤◌, Bool, true, false, List, [], ◌∷◌, ◌++◌, Option, Some, None, map, length, take, refl, sym, ap, ◌∙◌, subst, arith, append_assoc}
+use Rattle.std.proofs.Common.{◌≡◌, ℕ, zero, suc, ◌+◌, ◌≤◌, Bool, true, false, List, [], ◌∷◌, ◌++◌, Option, Some, None, map, length, take, refl, sym, ap, ◌∙◌, subst, arith, append_assoc, true≢false}
 use Rattle.std.specs.Prelude.{if◌then◌else◌, option_map, Result, Ok, Err, IfOk, IsErrOf}
-use Rattle.std.proofs.lemmas.List.{length-append}
+use Rattle.std.proofs.lemmas.List.{append-nil, length-append}
 use Rattle.ucon_model.specs.declared.command.Entry.{Entry}
 use Rattle.ucon_model.specs.Action.{Trace}
 use Rattle.ucon_model.specs.Block.{after, reply}
 use Rattle.ucon_model.specs.History.{History, changes, trace, trace_from}
 use Rattle.ucon_model.specs.Plain.{PlainPolicy, PlainReply}
 use Rattle.ucon_model.specs.Views.{reply_of}
-use Rattle.ucon_board.specs.Board.{Board, GoesOn, Written, place_of, state_in}
+use Rattle.ucon_board.specs.Board.{Board, GoesOn, Written, opening_state, place_of, state_in}
 use Rattle.ucon_board.specs.States.{IsTrueOf, ShowsFirst, state_after}
+use Rattle.ucon_model.specs.declared.session.SessionRow.{SessionRow}
+use Rattle.ucon_model.specs.declared.session.SessionState.{SessionState}
+use Rattle.ucon_state.specs.Following.{Follows}
+use Rattle.ucon_state.specs.Shown.{Shown}
+use Rattle.ucon_state.specs.Tables.{session_in}
 use Rattle.ucon_syntax.specs.Policies.{accepted}
 use Rattle.ucon_store.specs.declared.event.Event.{Event}
 use Rattle.ucon_store.specs.declared.event.Event.TheVariants.{Done}
@@ -23,7 +28,7 @@ use Rattle.ucon_store.specs.Kept.{Kept}
 use Rattle.ucon_store.specs.Marks.{marked}
 use Rattle.ucon_store.specs.Starts.{IsStart}
 use Rattle.ucon_store.specs.Steps.{HasFailedBehind, IsPlacedBehind}
-use Rattle.ucon_store.specs.Whole.{IsFront}
+use Rattle.ucon_store.specs.Whole.{IsFront, trace_behind}
 use Rattle.ucon_client.specs.Boarded.{IsOfSteps, IsShownBy, Publish, Publishes, ShowsBehind, ShowsStore, identity, known_by}
 use Rattle.ucon_client.specs.Events.{EndsAtMark, entries_in}
 use Rattle.ucon_client.specs.Looks.{IsConfirmed}
@@ -65,6 +70,24 @@ module _ {D : Type 0} (P : PlainPolicy) (T : Trace) (old new : Kept D) (w v : Wr
 
   pub still_shown : ShowsBehind P T new v.board
   still_shown = shown_by (changes (reply_of p.reply)) refl
+
+-- a board that was opened with a store's sessions behind all of its entries shows it
+pub opened_shows : {D : Type 0} (s : Kept D) (b : Board) (sessions : List SessionState) (state : Shown)
+    → b ≡ record { opened_at = s.before + length s.entries; sessions = sessions; replies = [] }
+    → ((n : ℕ) → opening_state sessions n ≡ option_map (λ row. row.state) (session_in state.tables n))
+    → ((P : PlainPolicy) (T : Trace) → accepted s.policy ≡ Some P → IsStart P s.point s.before T → Follows state P (trace_behind P T s)) → ShowsStore s b
+opened_shows s b sessions state is states follows P T accepts starts = record {
+  opened = s.entries;
+  since = [];
+  entries = sym (append-nil s.entries);
+  opened_at = ap (λ (k : Board). k.opened_at) is;
+  shows = subst (λ (k : Board). ShowsFirst P (trace_behind P T s) [] k true) (sym is) (record {
+    states = λ n. states n ∙ ap (option_map (λ (row : SessionRow). row.state)) ((follows P T accepts starts).tables.sessions.rows n);
+    within = omega arith;
+    replies = refl;
+    in_step = λ no. absurd (true≢false no);
+  });
+}
 
 -- where no entry was added, what was shown still is
 same_shown : {D : Type 0} (P : PlainPolicy) (T : Trace) (old new : Kept D) (w : Board) → ShowsBehind P T old w → new.before ≡ old.before → new.entries ≡ old.entries
@@ -147,6 +170,11 @@ take_seam : (xs ys : History) (n k : ℕ) → k ≡ length xs + n → take k (xs
 take_seam [] ys n k e = ap (λ (j : ℕ). take j ys) (omega (arith, e))
 take_seam (x ∷ xs) ys n zero e = absurd (omega (arith, e))
 take_seam (x ∷ xs) ys n (suc k) e = ap (λ (l : History). x ∷ l) (take_seam xs ys n k (omega (arith, e)))
+
+-- nothing follows a mark in a store's list, with a history before it
+pub log_ends : {D : Type 0} (s : Kept D) → IsOfSteps s.mark → (G : History) → EndsAtMark (map Done G ++ events_of s)
+log_ends s steps G =
+    subst EndsAtMark (sym (sym (events_behind G s.entries s.mark) ∙ ap (events (G ++ s.entries)) steps.is)) (ends_events (G ++ s.entries) steps.failed)
 
 -- what was ever read off a board that shows some entries, as the law says it
 abbrev pub AreTrue : Type 0

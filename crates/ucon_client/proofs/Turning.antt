@@ -21,25 +21,18 @@ use Rattle.ucon_client.specs.declared.answer.Answer.{Answer}
 use Rattle.ucon_client.specs.declared.boarded.SharedBase.{SharedBase}
 use Rattle.ucon_client.specs.declared.looks.Looks.{Looks}
 use Rattle.ucon_client.specs.declared.part.Part.{Part}
-use Rattle.ucon_client.specs.Answers.{AreHeld, HoldsLooks, IsLedTo, IsPart, IsReaderAt, Keeps, Serves, ServesWith, answer_of, entry_of, held_by, held_in, taken, told_of}
+use Rattle.ucon_client.specs.Answers.{AnswersOne, AreHeld, HoldsLooks, IsLedTo, IsPart, IsReaderAt, Keeps, Serves, ServesWith, answer_of, entry_of, held_by, held_in, taken, told_of}
 use Rattle.ucon_client.specs.Boarded.{Sharing, identity}
 use Rattle.ucon_client.specs.Clients.{AreRight, Steps, answered}
 use Rattle.ucon_client.specs.Events.{EndsAtMark}
 use Rattle.ucon_client.specs.Looks.{HasReached, IsConfirmed}
-use Rattle.ucon_client.specs.Steps.{AreConfirmed, Asks, HasConfirmed}
+use Rattle.ucon_client.specs.Steps.{AreConfirmed, Asks, HasConfirmed, base_of}
 use Rattle.ucon_client.proofs.Counting.{answered_none}
 use Rattle.ucon_client.specs.Reading.{HoldsOn}
 use Rattle.ucon_client.proofs.Held.{all_reached, confirmed_right, none_held, still_held, told_by_turn, told_more}
 use Rattle.ucon_client.proofs.Holding.{LooksTell}
 use Rattle.ucon_client.proofs.OneClient.{others_change_nothing, stays_right}
 use Rattle.ucon_client.proofs.Seats.{continues_behind}
-
--- what a base is, of what was handed in
-abbrev pub base_of : {D : Type 0} → Sharing D → SharedBase
-base_of s = record {
-  store = record { policy = s.store.policy; point = s.store.point; before = s.store.before; opening = s.store.opening };
-  board = option_map identity s.board;
-}
 
 of_base : (o : Option Known) (r : Known) → IfSome o (λ k. r.which ≡ k.which) → IfSome (option_map identity o) (λ k. r.which ≡ k.which)
 of_base None r h = tt
@@ -148,6 +141,71 @@ serves_next tell turn was now seat next old mid new line a before s h seated num
       },
       looks_on turn was now old mid new before h c on,
     )
+
+-- what is held is held for the part
+pub held_for : {D : Type 0} (turn : Opening (Sharing D)) (p : Part) (looks : Option Looks) → IfSome looks (HoldsLooks turn p) → IfSome looks (AreHeld p)
+held_for turn p None h = tt
+held_for turn p (Some l) h = h.held
+
+-- nothing is answered, and others may have had their turns
+pub serves_on : {D : Type 0} (turn : Opening (Sharing D)) (p : Part) (seat next : Knowledge (Sharing D) Event) (before : List Event) → Serves turn p seat
+    → IsSeatOf turn next → next.number ≡ seat.number → Continues (ByOthers number_of seat.number seat.taken) seat.seen before → next.seen ≡ before
+    → ((G : History) → EndsAtMark (map Done G ++ before)) → ServesWith turn p next None
+serves_on turn p seat next before s seated number others seen ends = (
+  record {
+    seated = seated;
+    number = number ∙ s.number;
+    part = s.part;
+    right = λ P G is front.
+        subst (λ (l : List Event). AreRight P p.number (G ++ turn.opened.store.entries) (map Done G ++ l) (told_of p)) (sym seen)
+        (others_change_nothing P p.number (G ++ turn.opened.store.entries) (map Done G ++ seat.seen) (map Done G ++ before) (told_of p) seat.number seat.taken
+        (s.right P G is front) (inl (sym s.number)) (continues_behind (ByOthers number_of seat.number seat.taken) (map Done G) seat.seen before others) (ends G));
+  },
+  tt,
+)
+
+-- ---- one answer more
+
+pub held_none : (p : Part) (mid new : Option Looks) → HoldsOn p mid new → held_by new ≡ []
+held_none p mid None on = refl
+held_none p None (Some k) on = absurd on
+held_none p (Some l) (Some k) on = on.1
+
+pub one_answered : (was now : Part) (old mid : Option Looks) (a : Answer) → now.answers.items ≡ (was.answers.items ++ held_by mid) ++ a ∷ [] → held_by mid ≡ held_by old
+    → length now.answers.items ≡ taken was old + 1
+one_answered was now old mid a answers same = omega (
+  arith,
+  ap length answers,
+  length-append (was.answers.items ++ held_by mid) (a ∷ []),
+  length-append was.answers.items (held_by mid),
+  ap length same,
+)
+
+-- without a reader it stays without one
+pub goes_alone : (b : SharedBase) (p : Part) (old mid new : Option Looks) (before : List Event) → old ≡ None → AreConfirmed b old mid before → HoldsOn p mid new
+    → (mid ≡ None) × (new ≡ None)
+goes_alone b p (Some l) mid new before none c on = absurd (cc none)
+goes_alone b p None (Some k) new before none c on = absurd c
+goes_alone b p None None (Some k) before none c on = absurd on
+goes_alone b p None None None before none c on = (refl, refl)
+
+pub answers_alone : {D : Type 0} (turn : Opening (Sharing D)) (was now : Part) (seat next : Knowledge (Sharing D) Event) (old mid : Option Looks)
+    (line : Line) (a : Answer) (before : List Event) → old ≡ None → mid ≡ None → now.answers.items ≡ (was.answers.items ++ held_by mid) ++ a ∷ []
+    → line ≡ get_or was.lines.items (taken was old) line → Continues (ByOthers number_of seat.number seat.taken) seat.seen before
+    → ((P : PlainPolicy) (G : History) → IsLedTo P (base_of turn.opened).store G
+      → Steps P (entry_of line) (map Done G ++ before) (map Done G ++ next.seen) (answer_of a))
+    → AnswersOne turn was now seat next.seen
+answers_alone turn was now seat next old mid line a before none alone answers at others steps =
+    let few : taken was old ≡ length was.answers.items = ap (taken was) none ∙ omega arith in
+    record {
+      line = line;
+      answer = a;
+      before = before;
+      next = at ∙ ap (λ (n : ℕ). get_or was.lines.items n line) few;
+      answers = answers ∙ ap (λ (l : List Answer). l ++ a ∷ []) (ap (λ (o : Option Looks). was.answers.items ++ held_by o) alone ∙ append-nil was.answers.items);
+      others = others;
+      step = λ P G is front. steps P G (record { accepts = is; starts = front.starts; count = front.count; text = front.text });
+    }
 
 -- no more lines are taken than there are
 pub few_taken : {D : Type 0} (turn : Opening (Sharing D)) (p : Part) (seat : Knowledge (Sharing D) Event) (looks : Option Looks) → ServesWith turn p seat looks

@@ -12,9 +12,11 @@ ghost use Rattle.ucon_store.specs.Events.{events_of, number_of};
 ghost use Rattle.ucon_store.specs.Stays.{Stays, stays_same, stays_again};
 ghost use Rattle.ucon_store.specs.Whole.{IsFront};
 ghost use Rattle.ucon_client.specs.Answers.{AreReadersAt, answer_of, entry_of};
-ghost use Rattle.ucon_client.specs.Boarded.{IsOfSteps, identity};
+ghost use Rattle.ucon_client.specs.Boarded.{IsOfSteps, IsShownBy, identity};
 ghost use Rattle.ucon_client.specs.Clients.{Steps};
+ghost use Rattle.ucon_client.specs.Events.{EndsAtMark};
 ghost use Rattle.ucon_client.specs.Looks.{IsConfirmed};
+ghost use Rattle.ucon_client.specs.Steps.{base_of};
 
 use crate::answer::Answer;
 use crate::publishing::{publish, readers, session_states};
@@ -74,10 +76,7 @@ impl<E: Engine, D: Disk> Boarded<E, D> {
         ensures store { result.store ≡ store }
         ensures opened_at { AreReadersAt result }
     {
-        let writer = match session_states(alloc, store.state()) {
-            Ok(sessions) => board(rt, alloc, store.place(), sessions.as_slice()).ok(),
-            Err(_) => None,
-        };
+        let writer = writer_over(rt, alloc, &store);
         Boarded { store, writer }
     }
 
@@ -123,6 +122,7 @@ impl<E: Engine, D: Disk> Boarded<E, D> {
         requires { IfSome self.now.board (λ k. reader.old.which ≡ k.which) }
         ensures which { reader.new.which ≡ reader.old.which }
         ensures later { GoesOn reader.old.board reader.new.board }
+        ensures ends { (G : History) → EndsAtMark (map Done G ++ events_of self.now.store) }
         ensures confirmed { result ≡ true → (P : PlainPolicy) (G : History) → accepted self.now.store.policy ≡ Some P → IsFront P self.now.store G
             → IsConfirmed P (map Done G ++ events_of self.now.store) reader.new.board }
     {
@@ -134,15 +134,31 @@ impl<E: Engine, D: Disk> Boarded<E, D> {
     }
 }
 
+/// The writer of a board that shows a store. None, if there is no memory for it.
+#[tactic(auto, using(crate::proofs::Following::opened_shows))]
+fn writer_over<R: Wait, E: Engine, D: Disk>(
+    rt: &R,
+    alloc: Global,
+    store: &Store<E, D>,
+) -> Option<BoardWriter>
+    ensures opened_at { IfSome result (λ w. w.board.opened_at ≡ store.now.before + length store.now.entries) }
+    ensures shown { IsShownBy store.now result }
+{
+    let Ok(sessions) = session_states(alloc, store.state()) else {
+        return None;
+    };
+    let Ok(writer) = board(rt, alloc, store.place(), sessions.as_slice()) else {
+        return None;
+    };
+    Some(writer)
+}
+
 impl<E: Engine, D: Disk> Turned for Boarded<E, D> {
     type Base = SharedBase;
 
     type Entry = Event;
 
-    ghost base = { λ s. record {
-      store = record { policy = s.store.policy; point = s.store.point; before = s.store.before; opening = s.store.opening };
-      board = option_map identity s.board;
-    } };
+    ghost base = { base_of };
 
     ghost entries = { λ s. events_of s.store };
 

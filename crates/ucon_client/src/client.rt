@@ -1,6 +1,6 @@
 //! A client: its part of the document, its seat, and what it reads off a board.
 
-ghost use Rattle.std.specs.Prelude.{◌≡◌, ◌↔◌, ◌+◌, ◌<◌, ◌≤◌, true, false, None, [], length, IfSome};
+ghost use Rattle.std.specs.Prelude.{◌≡◌, ◌↔◌, ◌+◌, ◌^◌, ◌<◌, ◌≤◌, true, false, None, [], length, IfSome};
 ghost use Rattle.ucon_turn.specs.Turns.{IsSeatOf};
 ghost use Rattle.ucon_client.specs.Answers.{IsPart, IsAnswered, IsReaderAt, Keeps, ServesWith, AnswersOne, held_by, taken};
 ghost use Rattle.ucon_store.specs.Events.{events_of};
@@ -76,7 +76,8 @@ impl<E: Engine, D: Disk> Client<E, D> {
 
     /// How many lines are answered, with those whose answers are held.
     fn taken(&self) -> usize
-        ensures { result ≡ taken self.now.part self.now.looks }
+        ensures taken { result ≡ taken self.now.part self.now.looks }
+        ensures few { result + 1 < 2 ^ 64 }
     {
         let held = match &self.looks {
             Some(looks) => looks.held.slice().len(),

@@ -1,7 +1,11 @@
 //! What a client does in its turn.
 
-ghost use Rattle.std.specs.Prelude.{◌≡◌, ◌+◌, ◌<◌, Some};
-ghost use Rattle.ucon_client.specs.Steps.{Asks, HasConfirmed, HasStepped};
+ghost use Rattle.std.specs.Prelude.{◌≡◌, ◌≢◌, ◌+◌, ◌++◌, ◌<◌, None, Some, false, map, true};
+ghost use Rattle.ucon_model.specs.History.{History};
+ghost use Rattle.ucon_store.specs.declared.event.Event.TheVariants.{Done};
+ghost use Rattle.ucon_store.specs.Events.{events_of};
+ghost use Rattle.ucon_client.specs.Events.{EndsAtMark};
+ghost use Rattle.ucon_client.specs.Steps.{AreConfirmed, Asks, HasConfirmed, HasStepped, base_of};
 
 use crate::answer::Answer;
 use crate::boarded::Boarded;
@@ -37,10 +41,26 @@ impl<E: Engine, D: Disk, R: Wait> Job<Boarded<E, D>> for Step<'_, R> {
     }
 
     fn run(&mut self, boarded: &mut Boarded<E, D>) -> Option<Answer> {
-        if let Some(looks) = &mut self.looks && !boarded.confirm(self.rt, &mut looks.reader) {
+        if !confirm_all(self.rt, boarded, &mut self.looks) {
             return None;
         }
         Some(boarded.step(self.rt, self.alloc, self.line))
+    }
+}
+
+/// Confirms what a client has read off a board, if it reads there. False where it can't be confirmed.
+fn confirm_all<E: Engine, D: Disk, R: Wait>(
+    rt: &R,
+    boarded: &Boarded<E, D>,
+    looks: &mut Option<Looks>,
+) -> bool
+    requires { Asks (base_of boarded.now) looks.old }
+    ensures confirmed { result ≡ true → AreConfirmed (base_of boarded.now) looks.old looks.new (events_of boarded.now.store) }
+    ensures unconfirmed { result ≡ false → (looks.old ≢ None) × ((G : History) → EndsAtMark (map Done G ++ events_of boarded.now.store)) }
+{
+    match looks {
+        Some(looks) => boarded.confirm(rt, &mut looks.reader),
+        None => true,
     }
 }
 
