@@ -142,11 +142,6 @@ serves_next tell turn was now seat next old mid new line a before s h seated num
       looks_on turn was now old mid new before h c on,
     )
 
--- what is held is held for the part
-pub held_for : {D : Type 0} (turn : Opening (Sharing D)) (p : Part) (looks : Option Looks) → IfSome looks (HoldsLooks turn p) → IfSome looks (AreHeld p)
-held_for turn p None h = tt
-held_for turn p (Some l) h = h.held
-
 -- nothing is answered, and others may have had their turns
 pub serves_on : {D : Type 0} (turn : Opening (Sharing D)) (p : Part) (seat next : Knowledge (Sharing D) Event) (before : List Event) → Serves turn p seat
     → IsSeatOf turn next → next.number ≡ seat.number → Continues (ByOthers number_of seat.number seat.taken) seat.seen before → next.seen ≡ before
@@ -164,22 +159,7 @@ serves_on turn p seat next before s seated number others seen ends = (
   tt,
 )
 
--- ---- one answer more
-
-pub held_none : (p : Part) (mid new : Option Looks) → HoldsOn p mid new → held_by new ≡ []
-held_none p mid None on = refl
-held_none p None (Some k) on = absurd on
-held_none p (Some l) (Some k) on = on.1
-
-pub one_answered : (was now : Part) (old mid : Option Looks) (a : Answer) → now.answers.items ≡ (was.answers.items ++ held_by mid) ++ a ∷ [] → held_by mid ≡ held_by old
-    → length now.answers.items ≡ taken was old + 1
-one_answered was now old mid a answers same = omega (
-  arith,
-  ap length answers,
-  length-append (was.answers.items ++ held_by mid) (a ∷ []),
-  length-append was.answers.items (held_by mid),
-  ap length same,
-)
+-- ---- one answer more, without a reader
 
 -- without a reader it stays without one
 pub goes_alone : (b : SharedBase) (p : Part) (old mid new : Option Looks) (before : List Event) → old ≡ None → AreConfirmed b old mid before → HoldsOn p mid new

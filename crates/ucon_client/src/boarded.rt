@@ -135,7 +135,6 @@ impl<E: Engine, D: Disk> Boarded<E, D> {
 }
 
 /// The writer of a board that shows a store. None, if there is no memory for it.
-#[tactic(auto, using(crate::proofs::Following::opened_shows))]
 fn writer_over<R: Wait, E: Engine, D: Disk>(
     rt: &R,
     alloc: Global,
