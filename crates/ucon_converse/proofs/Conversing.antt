@@ -37,7 +37,7 @@ use Rattle.ucon_converse.proofs.Leads.{LeadsOver, exchanges_lead, short_or_long}
 use Rattle.ucon_converse.proofs.Long.{long_lines_ask_nothing}
 
 -- a history that leads to where a store begins leads to where another begins that begins there
-front_same : {D : Type 0} (P : PlainPolicy) (x y : Kept D) (G : History) → y.policy ≡ x.policy → y.point ≡ x.point → y.before ≡ x.before → IsFront P x G → IsFront P y G
+pub front_same : {D : Type 0} (P : PlainPolicy) (x y : Kept D) (G : History) → y.policy ≡ x.policy → y.point ≡ x.point → y.before ≡ x.before → IsFront P x G → IsFront P y G
 front_same P x y G policy point before front = record {
   starts = subst (λ (z : Option Bytes × ℕ). IsStart P z.0 z.1 (trace P G)) (λ i. (sym point i, sym before i)) front.starts;
   count = front.count ∙ sym before;

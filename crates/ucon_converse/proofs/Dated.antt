@@ -13,7 +13,7 @@ use Rattle.ucon_tell.specs.declared.talk_fault.TalkFault.{TalkFault}
 use Rattle.ucon_tell.specs.declared.talk_fault.TalkFault.TheVariants as talks
 use Rattle.ucon_converse.specs.Conversation.{EndsAtBy, HasConversedBy}
 use Rattle.ucon_converse.specs.Keeping.{IsDated}
-use Rattle.ucon_converse.specs.Replies.{GivesReplyBy, IsPointed, IsTooLong, Rests, Standing}
+use Rattle.ucon_converse.specs.Replies.{GivesReplyBy, GoesOn, IsPointed, IsTooLong, Rests, Standing}
 
 -- a journal that is an old one was one before
 pub dated_before : (o p : Option Bytes) → (IsSome o → IsSome p) → SameKind o p → IsDated p → IsDated o
@@ -30,11 +30,14 @@ module _ (reads : PolicyReading) (P : PlainPolicy) (text : Bytes) (A B : Type 0)
   pointed_as before after (Err (faults.TooLarge size)) is = is
   pointed_as before after (Err (faults.NoMemory e)) is = is
 
-  rests_as : (answer : Answer) (before after : Standing) → Rests A P text answer before after → Rests B P text answer before after
-  rests_as (placed place reply) before after goes = record {
+  pub goes_as : (before after : Standing) → GoesOn A P text before after → GoesOn B P text before after
+  goes_as before after goes = record {
     due = λ due. let tried = goes.due due in (tried.0, pointed_as before after tried.0 tried.1);
     not_due = goes.not_due;
   }
+
+  rests_as : (answer : Answer) (before after : Standing) → Rests A P text answer before after → Rests B P text answer before after
+  rests_as (placed place reply) before after goes = goes_as before after goes
   rests_as no_memory before after is = is
   rests_as disk_fault before after is = is
   rests_as stopped before after is = is

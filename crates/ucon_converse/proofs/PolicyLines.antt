@@ -170,10 +170,10 @@ module _ {S : Type 0} (seen : S → SourceSeen) (h0 : Bytes) (left0 : Option Byt
     })
 
     -- the input's last line came
-    ended_so : ((u : Bytes) → line ≡ u ++ 10 ∷ [] → ⊥) → (whole : Bytes) → text ++ policy_part line ≡ whole → IsPartOfAll h0 new.held left0 (seen last).left whole
-    ended_so none whole is = ⊎_elim (λ (l : IsLine line). absurd (none l.text l.line_is))
+    ended_so : ((u : Bytes) → line ≡ u ++ 10 ∷ [] → ⊥) → (all' : Bytes) → text ++ policy_part line ≡ all' → IsPartOfAll h0 new.held left0 (seen last).left all'
+    ended_so none all' is = ⊎_elim (λ (l : IsLine line). absurd (none l.text l.line_is))
         (λ (e : IsBare line × (0 < length line) × (new.held ≡ []) × IsAtEnd (seen last).left).
-        let part : IsPartOfAll h0 new.held left0 (seen last).left whole = record {
+        let part : IsPartOfAll h0 new.held left0 (seen last).left all' = record {
           read = t.read ++ g.read;
           consumed = consumed_so;
           nothing = e.2;

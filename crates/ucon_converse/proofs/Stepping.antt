@@ -1,6 +1,6 @@
 -- What a store's step says, by its answer; and that its moment doesn't fall.
-use Rattle.std.proofs.Common.{◌≡◌, ◌↔◌, true, false, Result, Ok, Err, ℕ, ◌≤◌, List, [], ◌∷◌, ◌++◌, length, refl, sym, ap, ◌∙◌, inl, inr, arith}
-use Rattle.std.specs.Prelude.{IsSome, IsOk, IfOk, IsErrOf, Option, Some, None, if◌then◌else◌}
+use Rattle.std.proofs.Common.{◌≡◌, ◌↔◌, true, false, Result, Ok, Err, ℕ, ◌≤◌, List, [], ◌∷◌, ◌++◌, length, refl, sym, ap, subst, ◌∙◌, inl, inr, arith}
+use Rattle.std.specs.Prelude.{is_ok, IsSome, IsOk, IfOk, IsErrOf, Option, Some, None, if◌then◌else◌}
 use Rattle.ucon_base.specs.Memory.{out_of_memory}
 use Rattle.ucon_disk.specs.Seen.{DiskSeen}
 use Rattle.ucon_model.specs.declared.command.Entry.{Entry}
@@ -11,11 +11,14 @@ use Rattle.ucon_store.specs.declared.placed.Placed.{Placed}
 use Rattle.ucon_store.specs.declared.fault.StepFault.{StepFault}
 use Rattle.ucon_store.specs.declared.fault.StepFault.TheVariants as faults
 use Rattle.ucon_store.specs.Kept.{Kept}
+use Rattle.ucon_store.specs.Starts.{IsStart}
+use Rattle.ucon_store.specs.Stays.{Stays}
+use Rattle.ucon_syntax.specs.Policies.{accepted}
 use Rattle.ucon_store.specs.Steps.{IsPlaced, HasFailed}
 use Rattle.ucon_store.specs.Whole.{IsFront, whole}
 use Rattle.ucon_converse.specs.Holding.{stands}
-use Rattle.ucon_converse.specs.Keeping.{moment_by, moment_of}
-use Rattle.ucon_converse.specs.Replies.{IsStep}
+use Rattle.ucon_converse.specs.Keeping.{IsLed, moment_by, moment_of}
+use Rattle.ucon_converse.specs.Replies.{GoesOn, IsStep, Rests, Standing}
 use Rattle.ucon_converse.specs.Said.{answer_said}
 
 pub not_marked : (mark : Option History) → (IsSome mark → ⊥) → mark ≡ None
@@ -96,3 +99,25 @@ rises (Some file) (Some now) m n le tells = le file refl
 pub moments_rise : (old new : DiskSeen) → ((file : Bytes) → old.contents ≡ Some file → old.moment ≤ new.moment) → (IsSome old.contents → IsSome new.contents)
     → moment_of old ≤ moment_of new
 moments_rise old new = rises old.contents new.contents old.moment new.moment
+
+-- ---- behind a step
+
+-- a trace that leads to where a store begins leads to where it begins later
+pub led_later : {D : Type 0} (seen : D → DiskSeen) (x y : Kept D) → IsLed x → Stays seen x y → IsLed y
+led_later seen x y led stays = record {
+  P = led.P;
+  accepts = ap accepted stays.policy ∙ led.accepts;
+  begun = led.begun;
+  starts = subst (λ (z : Option Bytes × ℕ). IsStart led.P z.0 z.1 led.begun) (λ i. (sym stays.point i, sym stays.before i)) led.starts;
+}
+
+pub rests_ok : (old : Type 0) (P : PlainPolicy) (text : Bytes) (r : Result Placed StepFault) (before after : Standing) → is_ok r ≡ true → GoesOn old P text before after
+    → Rests old P text (answer_said r) before after
+rests_ok old P text (Ok p) before after ok goes = goes
+rests_ok old P text (Err e) before after ok goes = absurd (cc ok)
+
+pub rests_err : (old : Type 0) (P : PlainPolicy) (text : Bytes) (r : Result Placed StepFault) (s : Standing) → is_ok r ≡ false → Rests old P text (answer_said r) s s
+rests_err old P text (Ok p) s no = absurd (cc no)
+rests_err old P text (Err (faults.NoMemory e)) s no = refl
+rests_err old P text (Err faults.DiskFault) s no = refl
+rests_err old P text (Err faults.Stopped) s no = refl

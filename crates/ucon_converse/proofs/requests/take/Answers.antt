@@ -1,6 +1,7 @@
 use Rattle.std.proofs.Common.{rules, ◌≡◌, Ok, ℕ, List, refl, sym, subst, ◌∙◌}
 use Rattle.std.specs.Prelude.{None}
 use Rattle.ucon_model.specs.declared.command.Command.{Command}
+use Rattle.ucon_model.specs.declared.command.Entry.{Entry}
 use Rattle.ucon_syntax.specs.Policies.{accepted}
 use Rattle.ucon_store.specs.Steps.{step_payload}
 use Rattle.ucon_converse.specs.Holding.{stands}
@@ -28,7 +29,7 @@ returns-clause-keeps g c = λ made tried.
     let led = c.requires.led in
     let was = c.args.store.now in
     let now = c.step.new.self in
-    let e = record { caller = c.args.request.now.caller; command = c.in_ok-command.command } in
+    let e : Entry = record { caller = c.args.request.now.caller; command = c.in_ok-command.command } in
     let none : was.mark ≡ None = search rules in
     keeps_step g.D.Disk.seen g.met.D.Disk.only_now g.met.D.Disk.as_read g.met.D.Disk.counts_now was now made tried
     (step_payload led.P led.begun was.entries e)
