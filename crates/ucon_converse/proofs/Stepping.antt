@@ -1,6 +1,6 @@
 -- What a store's step says, by its answer; and that its moment doesn't fall.
 use Rattle.std.proofs.Common.{◌≡◌, ◌↔◌, true, false, Result, Ok, Err, ℕ, ◌≤◌, List, [], ◌∷◌, ◌++◌, length, refl, sym, ap, subst, ◌∙◌, inl, inr, arith}
-use Rattle.std.specs.Prelude.{is_ok, IsSome, IsOk, IfOk, IsErrOf, Option, Some, None, if◌then◌else◌}
+use Rattle.std.specs.Prelude.{is_ok, OnErr, IsSome, IsOk, IfOk, IsErrOf, Option, Some, None, if◌then◌else◌}
 use Rattle.ucon_base.specs.Memory.{out_of_memory}
 use Rattle.ucon_disk.specs.Seen.{DiskSeen}
 use Rattle.ucon_model.specs.declared.command.Entry.{Entry}
@@ -117,7 +117,11 @@ rests_ok old P text (Ok p) before after ok goes = goes
 rests_ok old P text (Err e) before after ok goes = absurd (cc ok)
 
 pub rests_err : (old : Type 0) (P : PlainPolicy) (text : Bytes) (r : Result Placed StepFault) (s : Standing) → is_ok r ≡ false → Rests old P text (answer_said r) s s
-rests_err old P text (Ok p) s no = absurd (cc no)
-rests_err old P text (Err (faults.NoMemory e)) s no = refl
-rests_err old P text (Err faults.DiskFault) s no = refl
-rests_err old P text (Err faults.Stopped) s no = refl
+rests_err old P text (Ok p) s bad = absurd (cc bad)
+rests_err old P text (Err (faults.NoMemory e)) s bad = refl
+rests_err old P text (Err faults.DiskFault) s bad = refl
+rests_err old P text (Err faults.Stopped) s bad = refl
+
+pub always_err : {T E : Type 0} (r : Result T E) (A : Type 0) → A → OnErr r A
+always_err (Ok v) A a = tt
+always_err (Err e) A a = a

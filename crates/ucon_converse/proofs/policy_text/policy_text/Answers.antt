@@ -1,4 +1,4 @@
-use Rattle.std.proofs.Common.{rules, ◌≡◌, ◌++◌, List, ℕ, sym, ap, subst, ◌∙◌}
+use Rattle.std.proofs.Common.{rules, ◌≡◌, ◌++◌, ◌∷◌, [], List, ℕ, length, length-append, arith, sym, ap, subst, ◌∙◌}
 use Rattle.ucon_flow.specs.Lines.{GivesLine, IsNoLine}
 use Rattle.ucon_converse.specs.PolicyPart.{IsKindOf, TakesPolicy}
 use Rattle.ucon_converse.specs.declared.policy_text.Kind.TheVariants.{Last, Line}
@@ -48,5 +48,9 @@ loop-line-preserved g c =
           subst (λ (t : List ℕ). TakesLines c.args.lines.now.held c.next.new.self.held (g.S.Source.seen c.args.input.now).left (g.S.Source.seen c.next.new.source).left t) (sym is)
           (taken_on g.S.Source.seen c.args.lines.now.held (g.S.Source.seen c.args.input.now).left c.loop-line.lines c.next.new.self c.loop-line.input c.next.new.source
           was c.loop-line.invariant.taken line gives kind.0 kind.1 kind.2);
+      limit = search rules;
+      many =
+          let so_far = c.loop-line.invariant.many in
+          omega (arith, so_far, ap length is, length-append was line, ap length kind.1, length-append kind.0 (10 ∷ []));
       source = search rules;
     }
