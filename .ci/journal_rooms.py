@@ -5,7 +5,7 @@ import subprocess
 import sys
 import tempfile
 import time
-from typing import Callable, Dict, List, Optional
+from typing import IO, Callable, Dict, List, Optional
 
 TOP = pathlib.Path(__file__).resolve().parent.parent
 sys.path.insert(0, str(TOP))
@@ -81,6 +81,12 @@ class Room:
             [sys.executable, str(UCON), *words], cwd=self.folder, input=document, stdout=subprocess.PIPE, stderr=subprocess.PIPE, check=False,
             env=self.env, timeout=60, **more,
         )
+
+    def ran_over(self, document: IO[bytes], *words: str) -> "subprocess.CompletedProcess[bytes]":
+        """Runs words over a document that is a file."""
+        out = subprocess.PIPE
+        words_of = [sys.executable, str(UCON), *words]
+        return subprocess.run(words_of, cwd=self.folder, stdin=document, stdout=out, stderr=out, check=False, env=self.env, timeout=60)
 
     def started(self, *words: str, **env: str) -> "subprocess.Popen[bytes]":
         return subprocess.Popen(

@@ -7,7 +7,8 @@ from front import policies, protocol
 from front.answers import Answer, explanation, refusal
 from front.asking import Asking, Handler, Members, Refused, body_of, json_response, query_of
 from front.events import of_step
-from launcher.amending import change_of, declared, one_line
+from launcher.amending import change_of, declared
+from launcher.policy import one_line
 
 # The commands of client 0 that are words and names alone: their members, in the order of the command.
 PLAIN: dict[str, Members] = {

@@ -11,7 +11,7 @@ from collections.abc import Awaitable, Callable
 from front.answers import Answer
 from front.asking import Refused
 from launcher import program
-from launcher.fault import policy_end
+from launcher.source import policy_end
 
 Trial = Callable[[bytes], Awaitable[Answer]]
 

@@ -10,15 +10,15 @@ from typing import Dict, List, NamedTuple, Optional
 
 from launcher import hints, log
 from launcher.asking import POLICY_REFUSED, answered
-from launcher.fault import policy_end
 from launcher.in_force import in_force
 from launcher.journal import FILE_FAILED, Journal, Refused, Step, no_policy, open_journal
 from launcher.keeping import ACCEPT, BEHIND_FILE, Keeper
 from launcher.lock import Lock, take
-from launcher.policy import TOKEN, declared_in, items_of, tokens_of
+from launcher.policy import declared_in, items_of, one_line, tokens_of
 from launcher.program import Ended
 from launcher.reading import is_path
-from launcher.room import copied, room
+from launcher.room import copied, is_unwritable, room
+from launcher.source import policy_end
 from launcher.told import loss_of
 
 # The journal wasn't amended.
@@ -76,12 +76,6 @@ def brought(file: str) -> Brought:
     except OSError as why:
         raise Refused(FILE_FAILED, f"{file} can't be read: {why.strerror}", "name a file with a policy, as one that `ucon check` takes") from None
     return Brought(raw[: policy_end(raw)], policy_end(raw) < len(raw))
-
-
-def one_line(policy: bytes) -> bytes:
-    """The same tokens on one line: a space where blanks and comments stood."""
-    parts = [(m.lastgroup == "blank", m.group()) for m in TOKEN.finditer(policy)]
-    return re.sub(rb"\0+", b" ", b"".join(b"\0" if is_blank else raw for is_blank, raw in parts)).strip(b" ")
 
 
 def declared(policy: bytes) -> Dict[str, bytes]:
@@ -172,6 +166,8 @@ def run(path_of_program: pathlib.Path, asked: Asked) -> int:
     if held is None:
         raise Refused(FILE_FAILED, f"{asked.path} can't be opened", "look at the path")
     try:
+        if is_unwritable(asked.path):
+            raise Refused(FILE_FAILED, f"{asked.path} may not be written by this user", "run it as the journal's owner; --dry-run writes nothing")
         document = document_and_report(path_of_program, Journal(asked.path, held.file), asked, policy)
         return put_in_force(path_of_program, held, asked, document)
     finally:

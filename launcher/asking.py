@@ -4,10 +4,10 @@ import pathlib
 import subprocess
 from typing import List, NamedTuple
 
-from launcher import forms, program
-from launcher.fault import policy_end
+from launcher import program
 from launcher.journal import Journal, Refused, no_policy, no_record
 from launcher.room import writable
+from launcher.source import policy_end
 
 # How long one answer may take, in seconds: of a journal that is as long as one gets it takes minutes.
 LONGEST = 3600
@@ -31,10 +31,12 @@ def answered(path_of_program: pathlib.Path, words: List[str], document: bytes) -
     """Runs the program over a document."""
     run, pipe = [str(path_of_program), *words], subprocess.PIPE
     try:
-        # A signal that this word ignores, of a file that grows too large, the program ignores too.
-        done = subprocess.run(run, input=document, stdout=pipe, stderr=pipe, timeout=LONGEST, check=False, restore_signals=False)
+        # A file, and no pipe: to write one from which a program that was killed doesn't read would end this process, too.
+        with program.file_of(document) as source:
+            # A signal that this word ignores, of a file that grows too large, the program ignores too.
+            done = subprocess.run(run, stdin=source, stdout=pipe, stderr=pipe, timeout=LONGEST, check=False, restore_signals=False)
     except subprocess.TimeoutExpired:
-        raise Refused(forms.FAILED, f"`{' '.join(words)}` took more than {LONGEST} seconds", "see what else runs on this machine") from None
+        raise Refused(program.FAILED, f"`{' '.join(words)}` took more than {LONGEST} seconds", "see what else runs on this machine") from None
     return Answered(program.ended_as(done.returncode), done.stdout, done.stderr)
 
 
@@ -53,13 +55,17 @@ def ask(path_of_program: pathlib.Path, journal: Journal, form: str, *more: str) 
     """What a form prints of the journal. Refused where the program refuses it, with its own line."""
     policy = first_policy(journal)
     with writable(journal) as path:
-        said = answered(path_of_program, [form, path, *more], policy)
-    if said.status == forms.USAGE:
+        return held(journal.name, form, answered(path_of_program, [form, path, *more], policy)).output
+
+
+def held(name: str, form: str, said: Answered) -> Answered:
+    """What the program answered of a journal, or of its copy, by a form. Refused where it refused that, with its own line."""
+    if said.status == program.USAGE:
         hint = "`ucon --version` says which one it is; build it anew"
-        raise Refused(forms.FAILED, f"the program that is run has no form `{form} JOURNAL`", hint)
+        raise Refused(program.FAILED, f"the program that is run has no form `{form} JOURNAL`", hint)
     if said.status in POLICY_REFUSED:
-        raise no_policy(journal.name)
+        raise no_policy(name)
     if said.status:
         hint = DAMAGED_HINT if said.status in (7, 8) else "docs/errors.md tells of each status; nothing was written"
-        raise Refused(said.status, f"{journal.name}: {said.line}", hint)
-    return said.output
+        raise Refused(said.status, f"{name}: {said.line}", hint)
+    return said

@@ -8,7 +8,7 @@ import sys
 from typing import List, NamedTuple, Optional, Tuple
 
 from launcher.journal import FILE_FAILED, Refused, no_policy, open_journal
-from launcher.program import Ended, Input, input_name
+from launcher.program import Ended, Input, file_of, input_name
 
 SCRIPT, POLICY_ALONE = "--script", "--journal-policy"
 # The forms that take the one or the other. What holds a conversation reads the journal's policy itself.
@@ -53,11 +53,8 @@ def put(brought: Brought) -> Tuple[List[str], Input]:
             raise Refused(NOT_BROUGHT, says, f"`ucon converse {journal} {POLICY_ALONE}` takes lines `CLIENT COMMAND`")
         front = policy + DIVIDER
         name, lines = script_of(brought.script)
-    with os.fdopen(os.memfd_create("document"), "wb") as document:
-        document.write(front + lines)
-        document.flush()
+    with file_of(front + lines) as document:
         os.dup2(document.fileno(), 0)
-    os.lseek(0, 0, os.SEEK_SET)
     return brought.words, Input(name, 0, len(front))
 
 

@@ -5,7 +5,6 @@ import os
 import pathlib
 import subprocess
 import sys
-import tempfile
 import time
 from typing import Dict, Iterator, List, NamedTuple, Optional
 
@@ -14,8 +13,6 @@ from launcher import program, sources
 LOG = program.TOP / "out" / "build.log"
 LOCK = program.TOP / "out" / "prove.lock"
 TIMES = program.TOP / "launcher" / "minutes.tsv"
-# The journal of a conversation without lines, which is taken away again.
-UNKEPT = os.path.join(tempfile.gettempdir(), f"ucon-prove-{os.getpid()}.journal")
 # How long one crate may take, in seconds. The longest take some minutes.
 LONGEST = 2 * 3600
 
@@ -183,7 +180,7 @@ def prove_all() -> bool:
             if step(name, words_for(name, jobs), log):
                 return failed(name)
     with contextlib.suppress(OSError):
-        os.unlink(UNKEPT)
+        os.unlink(unkept())
     for of in program.PROGRAMS:
         if not os.access(program.proved(of), os.X_OK):
             return failed(of.crate)
@@ -214,7 +211,14 @@ def words_for(name: str, jobs: List[str]) -> List[str]:
     with contextlib.suppress(FileNotFoundError):
         program.proved(of).unlink()
     # An empty document is accepted, and so is a conversation without lines over a journal that isn't there: the program's own status is 0.
-    return ["rt", "run", *jobs, "--", "check" if of == program.RUNS else UNKEPT]
+    return ["rt", "run", *jobs, "--", "check" if of == program.RUNS else unkept()]
+
+
+def unkept() -> str:
+    """The journal of a conversation without lines, which is taken away again."""
+    import tempfile
+
+    return os.path.join(tempfile.gettempdir(), f"ucon-prove-{os.getpid()}.journal")
 
 
 def stamp(of: program.Program, of_sources: str, began: float) -> None:

@@ -1,43 +1,37 @@
-"""What a journal is made of that goes on where another one is, without its past: the commands for its state, and what each is answered.
+"""What a journal is made of that goes on where another one is, without its past: the commands for its state, with what each is answered.
 
 It begins under a policy with the declarations of the one in force, and with rights of the same names that ask and change nothing. Under it
 are made entities, and in the order of time ticks, acts at their moments, and the uses that go on, each by its own client, at its start's
-tick and in the order of the numbers. Then values are set, and `amend` puts the policy in force."""
-from typing import Dict, Iterator, List, NamedTuple, Tuple
+tick and in the order of the numbers. Then values are set, and `amend` puts the policy in force.
 
-from launcher.amending import one_line
-from launcher.policy import Item, items_of, tokens_of
-from launcher.reported import Row, Session, State, spelled
+The steps are written as records of a journal. Whether each is answered so, the program says as it opens that: it runs every one."""
+from itertools import chain, count
+from typing import Dict, Iterator, List, NamedTuple, Sequence, Tuple
+
+from launcher.journal import FRESH_MAGIC
+from launcher.pointed import Row, Sessions, State
+from launcher.policy import Item, items_of, one_line, tokens_of
 
 # The greatest numbers of rights, of predicates of a right, and of bytes of a policy (docs/policy-language.md).
 RIGHTS, PREDICATES, LONGEST = 64, 16, 65_536
-# What a document has at most here; the program takes 262,144 commands, and 4,194,304 bytes.
-COMMANDS, BYTES = 200_000, 4_000_000
 
 
 class Refusal(Exception):
     """Why a state can't be carried."""
 
 
-class Step(NamedTuple):
-    """A command, whose it is, and what it is answered behind its place."""
-
-    client: int
-    command: bytes
-    reply: bytes
-
-
 class Plan(NamedTuple):
-    """The policy that a new journal begins with, its steps, and of each use the old number and the new one."""
+    """The policy that a new journal begins with, the payloads of its steps, the policy that its last one puts in force, and the old numbers
+    of its uses, which have the numbers from 1 in it."""
 
     first: bytes
-    steps: List[Step]
-    numbers: List[Tuple[int, int]]
+    steps: List[str]
+    last: bytes
+    numbers: Sequence[int]
 
-    @property
-    def size(self) -> int:
-        """About how many bytes the journal gets."""
-        return len(self.first) + sum(len(it.command) + len(it.reply) + 9 for it in self.steps)
+    def payloads(self) -> List[bytes]:
+        """The new journal's records."""
+        return [self.first, *"\0".join(self.steps).encode().split(b"\0")]
 
 
 # ---- policies
@@ -61,7 +55,7 @@ def policies_for(policy: bytes, state: State) -> Policies:
     more = -(-len(actions) // PREDICATES)
     if len(rights) + more > RIGHTS:
         # A right that nobody has in use isn't needed.
-        rights = list(dict.fromkeys(it.right for it in state.uses))
+        rights = list(dict.fromkeys(chain.from_iterable(part.rights for part in state.of("accessing"))))
     if len(rights) + more > RIGHTS:
         says = f"{len(rights)} rights are in use, and {len(actions)} actions were done, for which a policy of {RIGHTS} rights has no room"
         raise Refusal(says)
@@ -116,85 +110,82 @@ def named_actions(policy: bytes) -> List[str]:
 def plan(policy: bytes, state: State) -> Plan:
     """How a journal of this state is made under this policy in force. Refused by `Refusal` where it can't be."""
     policies = policies_for(policy, state)
-    uses = sorted(state.uses, key=lambda it: it.number)
-    numbers = [(use.number, n) for n, use in enumerate(uses, 1)]
-    steps = [Step(0, f"{side} {name}".encode(), b"ok") for side, found in (("subject", state.subjects), ("object", state.objects)) for name in found]
-    is_waiting = any(a.start > b.start for a, b in zip(uses, uses[1:]))
-    if is_waiting:
+    steps = [f"0 {side} {name}\nok" for side, found in (("subject", state.subjects), ("object", state.objects)) for name in found]
+    uses = list(state.of("accessing"))
+    starts = [start for part in uses for start in map(int, part.starts)]
+    order = sorted(starts)
+    if order == starts:
+        begins = tried(uses, "%s try %s %s %s\npermitted %d")
+    else:
         # A use began later than one with a higher number: all are tried first, in the order of their numbers, and begin as `again` is told.
-        steps.append(Step(0, b"amend " + policies.waits, b"ok"))
-        steps += [Step(use.client, tried(use), b"waiting %d waits" % n) for n, use in enumerate(uses, 1)]
-        steps.append(Step(0, b"amend " + one_line(policies.first), b"ok"))
-    steps += in_time(state, uses, is_waiting)
+        steps.append(amended(policies.waits))
+        steps += tried(uses, "%s try %s %s %s\nwaiting %d waits")
+        steps.append(amended(one_line(policies.first)))
+        clients = chain.from_iterable(part.clients for part in uses)
+        again = [f"{client} again {number}\npermitted {number}" for number, client in enumerate(clients, 1)]
+        begins = [again[place] for place in sorted(range(len(starts)), key=starts.__getitem__)]
+    steps += in_time(state, begins, order)
     steps += values("s", state.subjects, policies.defaults)
     steps += values("o", state.objects, policies.defaults)
-    variables = [(name, spelled(value)) for name, value in state.env.items()]
-    steps += [Step(0, f"env {name} {value}".encode(), b"ok") for name, value in variables if value != policies.defaults[f"env.{name}"]]
-    steps.append(Step(0, b"amend " + policies.in_force, b"ok"))
-    return Plan(policies.first, steps, numbers)
+    steps += [f"0 env {name} {value}\nok" for name, value in state.env.items() if value != policies.defaults[f"env.{name}"]]
+    steps.append(amended(policies.in_force))
+    return Plan(policies.first, steps, policies.in_force, [number for part in uses for number in part.numbers])
 
 
-def tried(use: Session) -> bytes:
-    return f"try {use.subject} {use.right} {use.object}".encode()
+def tried(uses: List[Sessions], form: str) -> List[str]:
+    """For each use a step that tries it, under its new number."""
+    numbers = count(1)
+    return [step for it in uses for step in map(form.__mod__, zip(it.clients, it.subjects, it.rights, it.objects, numbers))]
 
 
-def in_time(state: State, uses: List[Session], is_waiting: bool) -> Iterator[Step]:
-    """Ticks, acts and uses in the order of time, up to the tick."""
-    acts = [(it.at, 0, n, Step(0, f"act {it.subject} {it.action} {it.object}".encode(), b"ok")) for n, it in enumerate(state.acts)]
-    starts = [
-        (use.start, 1, n, Step(use.client, b"again %d" % n if is_waiting else tried(use), b"permitted %d" % n)) for n, use in enumerate(uses, 1)
-    ]
-    now = 0
-    for at, _, _, step in sorted(acts + starts):
-        if at > now:
-            now = at
-            yield Step(0, b"tick %d" % now, b"ok")
-        yield step
-    if state.tick > now:
-        yield Step(0, b"tick %d" % state.tick, b"ok")
+def amended(policy: bytes) -> str:
+    return f"0 amend {policy.decode()}\nok"
 
 
-def values(side: str, found: Dict[str, Row], defaults: Dict[str, str]) -> Iterator[Step]:
+def in_time(state: State, begins: List[str], starts: List[int]) -> List[str]:
+    """Ticks, acts, and the steps by which uses begin, whose ticks rise; all in the order of time, up to the tick."""
+    acts: Dict[int, List[str]] = {}
+    for act in state.acts:
+        acts.setdefault(act.at, []).append(f"0 act {act.subject} {act.action} {act.object}\nok")
+    ends = dict(zip(starts, count(1)))
+    made: List[str] = []
+    now = at = 0
+    for tick in sorted({*acts, *ends, state.tick}):
+        if tick > now:
+            now = tick
+            made.append(f"0 tick {tick}\nok")
+        end = ends.get(tick, at)
+        made += acts.get(tick, [])
+        made += begins[at:end]
+        at = end
+    return made
+
+
+def values(side: str, found: Dict[str, Row], defaults: Dict[str, str]) -> Iterator[str]:
     """What sets each value that isn't its attribute's default."""
     for name, row in found.items():
         for attribute, value in row.items():
-            if spelled(value) != defaults[f"{side}.{attribute}"]:
-                yield Step(0, f"set {side} {name} {attribute} {spelled(value)}".encode(), b"ok")
+            if value != defaults[f"{side}.{attribute}"]:
+                yield f"0 set {side} {name} {attribute} {value}\nok"
 
 
-class Part(NamedTuple):
-    """A document, and the steps that it makes."""
-
-    document: bytes
-    steps: List[Step]
-
-
-def parts(made: Plan) -> Iterator[Part]:
-    """Documents that make the steps, one after the other."""
-    left, room = list(reversed(made.steps)), BYTES - len(made.first)
-    while left:
-        lines: List[bytes] = []
-        taken: List[Step] = []
-        size, client = 0, -1
-        while left and len(taken) < COMMANDS and size < room:
-            step = left.pop()
-            lines.append(step.command if step.client == client else b"client %d\n%b" % (step.client, step.command))
-            client, size = step.client, size + len(lines[-1]) + 1
-            taken.append(step)
-        yield Part(made.first + b"%%\n" + b"".join(line + b"\n" for line in lines), taken)
+def journal_of(payloads: List[bytes]) -> bytes:
+    """The bytes of a journal of these records."""
+    fronts = {length: b"\1" + length.to_bytes(4, "big") for length in set(map(len, payloads))}
+    records = zip(map(fronts.__getitem__, map(len, payloads)), payloads)
+    return b"".join([FRESH_MAGIC, *chain.from_iterable(records), b"\0"])
 
 
 # ---- what comes of it
 
 
-def differences(old: State, new: State, numbers: List[Tuple[int, int]]) -> Iterator[str]:
+def differences(old: State, new: State, made: Plan) -> Iterator[str]:
     """Where a new journal's state isn't the old one's, closed and waiting sessions aside. Nothing where it is."""
-    number_of = dict(numbers)
-    wanted = [use._replace(number=number_of[use.number]) for use in old.uses]
     for what, is_same in (
-        ("tick", new.tick == old.tick), ("variables", new.env == old.env), ("subjects", new.subjects == old.subjects),
-        ("objects", new.objects == old.objects), ("acts", sorted(new.acts) == sorted(old.acts)),
-        ("uses", new.sessions == wanted and sum(new.counts.values()) == len(wanted)),
+        ("steps", new.entries == len(made.steps)), ("policy", new.policy in (None, made.last)), ("tick", new.tick == old.tick),
+        ("variables", new.env == old.env), ("subjects", new.subjects == old.subjects), ("objects", new.objects == old.objects),
+        ("acts", sorted(new.acts) == sorted(old.acts)),
+        ("uses", new.lines == old.lines_of("accessing") and new.tried == len(made.numbers)),
     ):
         if not is_same:
             yield what

@@ -1,26 +1,26 @@
 """`ucon carry JOURNAL NEW`: a fresh journal that goes on where another one is, without its past.
 
-The program makes it by commands, in a folder that is gone behind it; then the program's reports of both are compared, and only then the
-new file is put at its place, whole. The old journal is locked meanwhile, and stays as it is."""
+It is made of commands with their replies, in a folder that is gone behind it. The program runs them all as it opens that, and tells what
+stands in both journals; where that is the same, the new file is put at its place, whole. The old journal is locked meanwhile, and stays."""
 import os
 import pathlib
 import signal
 import sys
+from itertools import chain, count
 from typing import List, NamedTuple, Optional
 
 from launcher import backup, carried, program
-from launcher.asking import answered, ask
-from launcher.carried import Part, Plan
-from launcher.heads import Followed
+from launcher.carried import Plan
+from launcher.heads import Followed, head_of
 from launcher.in_force import in_force
-from launcher.journal import FILE_FAILED, Journal, Refused, open_journal
+from launcher.journal import DAMAGED, FILE_FAILED, Journal, Refused, open_journal
 from launcher.keeping import remove, write_whole
 from launcher.lock import take
-from launcher.log import write
+from launcher.output import write
+from launcher.pointed import OPEN, State
 from launcher.reading import is_path
-from launcher.reported import State
-from launcher.room import room
-from launcher.state import read
+from launcher.room import room, written
+from launcher.standing import standing
 from launcher.told import LOST, meet, path_of, told_of
 
 # The journal wasn't carried.
@@ -81,9 +81,9 @@ def front_of(path: str) -> bytes:
 
 
 def made(path_of_program: pathlib.Path, journal: Journal, asked: Asked) -> None:
-    old = read(journal, ask(path_of_program, journal, "report"))
+    old = standing(path_of_program, journal).state
     followed = followed_whole(journal)
-    policy = in_force(journal).text
+    policy = in_force(journal).text if old.policy is None else old.policy
     try:
         plan = carried.plan(policy, old)
     except carried.Refusal as why:
@@ -92,15 +92,14 @@ def made(path_of_program: pathlib.Path, journal: Journal, asked: Asked) -> None:
     unnamed = sorted({it.action for it in old.acts} - set(carried.named_actions(policy)))
     if unnamed:
         sys.stderr.write(f"ucon: carried too, though no obligation names them any more: {', '.join(unnamed)}\n")
-    text = text_of(followed, old, plan)
-    with room(2 * plan.size) as folder:
-        path = str(folder / "journal")
-        for part in carried.parts(plan):
-            play(path_of_program, path, part)
+    text, payloads = text_of(followed, old, plan), plan.payloads()
+    raw = carried.journal_of(payloads)
+    with room(len(raw)) as folder:
+        path = str(written(folder, asked.new, [raw]))
         os.chmod(path, os.fstat(journal.file).st_mode & 0o777)
         with open_journal(path) as new:
-            hold_same(journal.name, old, read(new, ask(path_of_program, new, "report")), plan)
-            put_at_its_place(new, asked, text)
+            hold_same(journal.name, old, tried(path_of_program, new), plan)
+            put_at_its_place(new, head_of(new.magic(), payloads), asked, text)
     write(text.encode())
 
 
@@ -117,23 +116,18 @@ def followed_whole(journal: Journal) -> Followed:
     return met.followed
 
 
-def play(path_of_program: pathlib.Path, path: str, part: Part) -> None:
-    """Makes the steps of a part. Refused where one is answered otherwise."""
-    said = answered(path_of_program, ["play", path], part.document)
-    if said.status:
-        hint = "make room in the folder for what is temporary, or set TMPDIR to another one; nothing was written"
-        raise Refused(said.status, f"the new journal can't be made: {said.line}", hint)
-    answers = [line.split(b" ", 2)[2] for line in said.output.splitlines()]
-    wanted = [step.reply for step in part.steps]
-    if answers != wanted:
-        n = next((n for n, (a, b) in enumerate(zip(answers, wanted)) if a != b), min(len(answers), len(wanted)))
-        line = part.steps[n].command[:200].decode(errors="replace")
-        reply = answers[n].decode(errors="replace") if n < len(answers) else "nothing"
-        raise Refused(NOT_CARRIED, f"`{line}` was answered `{reply}`, and not `{wanted[n].decode()}`", FAULT)
+def tried(path_of_program: pathlib.Path, new: Journal) -> State:
+    """What stands in the new journal. The program runs each of its records, and refuses one that it would have answered otherwise."""
+    try:
+        return standing(path_of_program, new).state
+    except Refused as why:
+        if why.status != DAMAGED:
+            raise
+        raise Refused(NOT_CARRIED, f"the program refuses what was made: {why.sentence}", FAULT) from None
 
 
 def hold_same(name: str, old: State, new: State, plan: Plan) -> None:
-    wrong = list(carried.differences(old, new, plan.numbers))
+    wrong = list(carried.differences(old, new, plan))
     if wrong:
         says = f"what was made isn't what is in {name}: other {', '.join(wrong)}"
         raise Refused(NOT_CARRIED, says, FAULT)
@@ -141,18 +135,17 @@ def hold_same(name: str, old: State, new: State, plan: Plan) -> None:
 
 def text_of(followed: Followed, old: State, plan: Plan) -> str:
     """What is printed, and kept in the companion behind its first line."""
-    closed = sum(old.counts.values()) - len(old.sessions)
-    lines = [f"records {followed.records}", f"entries {followed.steps}", f"head {followed.head.hex()}", f"closed {closed}"]
-    lines += [f"waiting {it.number}" for it in old.waiting]
-    lines += [f"session {old_number} {new_number}" for old_number, new_number in plan.numbers]
-    return "".join(f"{line}\n" for line in lines)
+    closed = sum(number for state, number in old.counts.items() if state not in OPEN)
+    lines = [f"records {followed.records}\n", f"entries {followed.steps}\n", f"head {followed.head.hex()}\n", f"closed {closed}\n"]
+    lines += [f"waiting {number}\n" for part in old.of("requesting") for number in part.numbers]
+    return "".join(lines) + "session %d %d\n" * len(plan.numbers) % tuple(chain.from_iterable(zip(plan.numbers, count(1))))
 
 
-def put_at_its_place(new: Journal, asked: Asked, text: str) -> None:
+def put_at_its_place(new: Journal, found: Followed, asked: Asked, text: str) -> None:
     """Copies the journal to its place. Its companion comes first: the journal never stands without the numbers of its uses."""
     mode = os.fstat(new.file).st_mode & 0o777
     try:
-        found = backup.made(new, new.magic(), asked.new, lambda: put_beside(asked.companion, FIRST_LINE + text, mode))
+        backup.made(new, asked.new, found, lambda: put_beside(asked.companion, FIRST_LINE + text, mode))
     except BaseException:
         if not os.path.lexists(asked.new):
             remove(asked.companion)

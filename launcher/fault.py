@@ -2,7 +2,7 @@
 from typing import List, NamedTuple, Optional
 
 from launcher.policy import Items, Token, items_of, tokens_of
-from launcher.source import Document, Span
+from launcher.source import Document, Span, policy_end
 
 
 class Hint(NamedTuple):
@@ -33,16 +33,6 @@ class Fault(NamedTuple):
     def is_first_on_line(self, token: Token) -> bool:
         start = self.document.line_start(token.start)
         return self.document.raw[start : token.start].strip(b" \t") == b""
-
-
-def policy_end(raw: bytes) -> int:
-    """Where the policy part ends: at the line `%%`, or with the document."""
-    if raw.startswith(b"%%\n") or raw == b"%%":
-        return 0
-    found = raw.find(b"\n%%\n")
-    if found < 0:
-        return len(raw) - 2 if raw.endswith(b"\n%%") else len(raw)
-    return found + 1
 
 
 def fault_at(document: Document, at: int) -> Fault:

@@ -8,10 +8,6 @@ from launcher import program
 from launcher.near import near
 from launcher.script import NAME
 
-# The status with which the proved program answers words that are no form, and that of a launcher that can't run it.
-USAGE = 1
-FAILED = 125
-
 
 class Form(NamedTuple):
     """One form of words."""
@@ -188,13 +184,15 @@ def own_forms() -> List[Form]:
 OF_SOURCES = """\
 Where no proved program is built, or its sources changed, the program as it is written is compiled once, in about a minute, and kept
 below out/, or below XDG_CACHE_HOME where the checkout can't be written; then a line on standard error says so.
-Pages: docs/policy-language.md, docs/commands.md, docs/errors.md, docs/grammar.md; the manual page: man docs/ucon.1
+Pages: docs/policy-language.md, docs/commands.md, docs/errors.md, docs/grammar.md; of a journal in use docs/operating.md; the manual page:
+man docs/ucon.1
 """
 INSTALLED = "The manual page: man ucon\n"
 NOTES = """\
 After a fault of a document that is a file, the place, the line and a hint follow the program's own line.
 With --script FILE no document comes on standard input: FILE has the script alone (- is standard input), and the policy is the one that
 the journal began with. With --journal-policy it is that policy, and no script.
+WORD --help tells of one word. An input that ends before its line %% begins no journal: it may be the front of a document.
 A journal has one writer at a time, and what was told of it stands beside it, in JOURNAL.told. Where it lacks some of that, play,
 serve, point, converse and explain are refused before anything is written; --accept-loss behind JOURNAL goes on with what is there, as does
 amend with it behind FILE. What an opening cuts off behind the last whole record is kept in JOURNAL.torn.
@@ -208,6 +206,14 @@ def help_text() -> str:
         f"{''.join(map(row, FORMS))}\n{''.join(map(row, own_forms()))}\n{OF_SOURCES if program.has_sources() else INSTALLED}"
         f"{NOTES}"
     )
+
+
+def help_of(words: List[str]) -> Optional[str]:
+    """What is said of one word where its help is asked for: `WORD --help`, or `help WORD`. None where it isn't."""
+    if len(words) != 2 or not (words[0] == "help" or words[1] in ("--help", "-h")):
+        return None
+    name = words[1] if words[0] == "help" else words[0]
+    return next((row(form) for form in FORMS + own_forms() if form.name == name and form.example), None)
 
 
 def instead(first: str) -> str:
@@ -224,8 +230,9 @@ def instead(first: str) -> str:
 
 def usage_hint(words: List[str]) -> str:
     """What stands behind the program's own line where the words are no form."""
-    names = ", ".join(form.words for form in FORMS + own_forms() if form.example)
     first = words[0] if words else ""
+    if len(words) == 2 and first == "help":
+        first = words[1]
     named = next((form for form in FORMS + own_forms() if form.name == first), None)
     if not words:
         why = "no words were given"
@@ -239,7 +246,9 @@ def usage_hint(words: List[str]) -> str:
         why = GONE[first]
     else:
         why = f"`{first}` is no form{instead(first)}"
-    return f"hint: {why}\nhint: the forms are {names}; --help tells of each\n"
+    if named:
+        return f"hint: {why}\nhint: `{in_place('./ucon')} {first} --help` tells what it does\n"
+    return f"hint: {why}\nhint: the words are {', '.join(form.name for form in FORMS + own_forms() if form.example)}; --help tells of each\n"
 
 
 def commit_text() -> str:

@@ -3,7 +3,7 @@
 The head after no record is SHA-256 (FIPS 180-4) of the file's first 8 bytes; the head after one record more is SHA-256 of the head before
 it, followed by the record's payload. Checkpoints count as records. `crates/ucon_audit` defines the same."""
 import re
-from typing import Callable, Iterable, List, NamedTuple, Optional, Tuple
+from typing import Callable, List, NamedTuple, Optional, Tuple
 
 from launcher.journal import FIRST_GATE, POINT, Journal, Window
 
@@ -24,19 +24,6 @@ def first_head(magic: bytes) -> bytes:
     return sha256(magic).digest()
 
 
-def next_head(head: bytes, payload: bytes) -> bytes:
-    """The head after one record more."""
-    return sha256(head + payload).digest()
-
-
-def head_after(magic: bytes, payloads: Iterable[bytes]) -> bytes:
-    """The head after these payloads of a journal whose file begins with these 8 bytes."""
-    head = first_head(magic)
-    for payload in payloads:
-        head = next_head(head, payload)
-    return head
-
-
 class Followed(NamedTuple):
     """A journal up to a gate: the gate's place, how many records and steps are before it, the head after them, and the marks."""
 
@@ -52,6 +39,22 @@ def start(journal: Journal) -> Followed:
     return Followed(FIRST_GATE, 0, 0, first_head(journal.magic()), b"")
 
 
+def head_of(magic: bytes, payloads: List[bytes]) -> Followed:
+    """A journal whose file begins with these 8 bytes, and has these records: a policy, and then steps alone."""
+    heads = heads_behind(first_head(magic), payloads)
+    at = FIRST_GATE + sum(map(len, payloads)) + 5 * len(payloads)
+    return Followed(at, len(heads), len(heads) - 1, heads[-1], marks_of(heads))
+
+
+def heads_behind(head: bytes, payloads: List[bytes]) -> List[bytes]:
+    """The heads after each of these records, which are behind those with this head."""
+    heads = []
+    for payload in payloads:
+        head = sha256(head + payload).digest()
+        heads.append(head)
+    return heads
+
+
 def follow(
     journal: Journal, begins: Followed, asked: int = 0, most: Optional[int] = None, hear: Optional[Callable[[Window], None]] = None
 ) -> Tuple[Followed, Optional[bytes]]:
@@ -61,10 +64,9 @@ def follow(
     at, records, steps, head, marks = begins
     found, kept = [marks], None
     for window in journal.windows(at, records):
-        payloads, heads = window.payloads()[: None if most is None else most - records], []
-        for payload in payloads:
-            head = sha256(head + payload).digest()
-            heads.append(head)
+        payloads = window.payloads()[: None if most is None else most - records]
+        heads = heads_behind(head, payloads)
+        head = heads[-1] if heads else head
         if hear:
             hear(window)
         if records < asked <= records + len(heads):

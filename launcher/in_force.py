@@ -3,7 +3,7 @@ and changed the policy, since a step that is refused has no record. With `--firs
 from typing import List, NamedTuple, Optional
 
 from launcher.journal import Damaged, Journal, no_record, open_journal, step_of
-from launcher.log import write
+from launcher.output import write
 from launcher.reading import is_path
 
 AMENDS = b"0 amend "

@@ -5,9 +5,8 @@ import re
 import stat
 from typing import Iterator, List, NamedTuple, Optional
 
-from launcher.fault import policy_end
 from launcher.policy import tokens_of
-from launcher.source import Document, Span, shown
+from launcher.source import Document, Span, policy_end, shown
 
 MAGICS = (b"UCONJR01", b"UCONJR02")
 # Where the policy's text begins, behind the magic, a gate and a length.

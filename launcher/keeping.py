@@ -10,16 +10,20 @@ import subprocess
 from types import FrameType
 from typing import IO, List, NamedTuple, Optional, Tuple
 
-from launcher import lock, program
+from launcher import founding, lock, program
+from launcher.bringing import POLICY_ALONE
 from launcher.heads import Followed, first_head, follow, start
 from launcher.journal import FRESH_MAGIC, LONGEST_FRESH, End, Journal, Refused
 from launcher.lock import Lock
 from launcher.program import Ended
+from launcher.room import is_unwritable, room, writable
 from launcher.seal import EMPTY, Front
 from launcher.told import ARE, LOST, WERE, Told, meet, near, path_of, read_told, told_of
 
 # The forms that open the journal that is their second word, and write it.
 WRITES = ("play", "serve", "point", "converse", "explain")
+# The one that makes no step.
+EXPLAINS = "explain"
 ACCEPT = "--accept-loss"
 # The statuses behind which nothing of the journal was written, and nobody was told a place (docs/errors.md).
 UNTOUCHED = (1, 2, 3, 4, 7, 8, 10, 11)
@@ -55,7 +59,10 @@ def run(path_of_program: pathlib.Path, words: List[str], accepts_loss: bool, cat
             # The program says what is wrong with the path.
             return started([str(path_of_program), *asked(words)], None, catches)
         try:
-            return Keeper(words[1], held, accepts_loss, words[0] == "converse").run([str(path_of_program), *asked(words)], catches)
+            keeper = Keeper(words[1], held, accepts_loss, words[0] == "converse")
+            if words[0] == EXPLAINS and is_unwritable(words[1]):
+                return keeper.run_over_copy([str(path_of_program), *words], catches)
+            return keeper.run([str(path_of_program), *asked(words)], catches)
         finally:
             held.release()
     except Refused as why:
@@ -106,6 +113,12 @@ class Keeper:
     def run(self, words: List[str], catches: bool, source: Optional[IO[bytes]] = None, output: Optional[IO[bytes]] = None) -> Ended:
         """Runs the program over standard input and output, or other files."""
         found = self.looked_at()
+        if source is None and self.journal.size <= LONGEST_FRESH:
+            refused = self.begin(words)
+            if refused:
+                return refused
+            if self.journal.size > LONGEST_FRESH:
+                words = [*words, POLICY_ALONE]
         tail = self.keep_tail(found)
         tells_others = self.tells_others and not found.accepted
         if tells_others:
@@ -119,11 +132,33 @@ class Keeper:
             self.put_back(found)
         return Ended(ended.status, ended.errors + "".join(self.said).encode())
 
+    def run_over_copy(self, words: List[str], catches: bool) -> Ended:
+        """Runs a form that makes no step over a journal that this user may only read."""
+        self.looked_at()
+        with writable(self.journal) as path:
+            return started([*words[:2], path, *words[3:]], self.held.file, catches)
+
     @property
     def put_back_hint(self) -> str:
         return f"nothing was written: put a copy back that has them (`ucon copy` makes one); {self.goes_on}"
 
     # ---- before
+
+    def begin(self, words: List[str]) -> Optional[Ended]:
+        """Looks at the document with which the journal begins. How the program ended where it refuses that; refused too where it isn't whole.
+        A conversation's policy is read then, so the journal is begun with it alone, and its lines follow under the journal's policy."""
+        front = founding.look(self.tells_others)
+        if front.is_whole and not front.is_taken:
+            return None
+        with program.file_of(front.raw) as document, open(os.devnull, "wb") as nowhere, room(0) as folder:
+            if front.is_whole:
+                ended = started(words, self.held.file, True, document, nowhere)
+                return ended if ended.status else None
+            at = 1 if self.tells_others else 2
+            ended = started([*words[:at], str(folder / "journal"), *words[at + 1 :]], None, True, document, nowhere)
+        if ended.status:
+            return ended
+        raise founding.not_begun(self.journal.name)
 
     def looked_at(self) -> Found:
         """What the journal is found as. Refused where it lacks what was told, or no write of the program leaves what stands behind it."""

@@ -5,12 +5,11 @@ import sys
 from typing import Callable, Dict, Iterator, List, NamedTuple, Optional, Tuple
 
 from launcher import hints
-from launcher.fault import policy_end
 from launcher.formula import Attribute, Number, Place, Predicate, Reader, Right, Sum, Update, places_in
 from launcher.policy import Item, Token, items_of, tokens_of
 from launcher.program import Ended, ended_as
 from launcher.ranges import Known, direction, falsified_by, truth
-from launcher.source import Document, Span
+from launcher.source import Document, Span, policy_end
 
 # How long the program may take to judge the document, in seconds, and how many steps of a chain are told.
 LONGEST, STEPS = 120, 4

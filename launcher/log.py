@@ -9,9 +9,10 @@ from functools import lru_cache
 from typing import Dict, List, NamedTuple, Optional, Set, Union
 
 from launcher.journal import FIRST_GATE, POINT, STEP, Damaged, Journal, Refused, Window, open_journal
+from launcher.output import say_cut_off, write
 from launcher.reading import is_path
 
-SINK_FAULT, FILE_FAILED = 5, 6
+FILE_FAILED = 6
 # How long one wait for more is, in seconds.
 WAIT = 0.2
 # A session that a reply names: what became of it, its number, and the label where there is one.
@@ -289,16 +290,6 @@ def print_all(journal: Journal, asked: Asked, before: Optional[Printed] = None) 
     return Printed(at, lines)
 
 
-def write(lines: bytes) -> None:
-    try:
-        sys.stdout.buffer.write(lines)
-        sys.stdout.flush()
-    except OSError as why:
-        # What is held back can't go out at the end either.
-        os.dup2(os.open(os.devnull, os.O_WRONLY), 1)
-        raise Refused(SINK_FAULT, f"standard output failed: {why.strerror}", "look at where the output goes") from None
-
-
 def wait(journal: Journal, at: int) -> bool:
     """Waits once for more. Whether somebody reads still; refused where the file at the path is another one now, or was cut."""
     reader = select.poll()
@@ -314,11 +305,3 @@ def wait(journal: Journal, at: int) -> bool:
     if FIRST_GATE < at >= journal.size:
         raise Refused(FILE_FAILED, f"{journal.name} was cut while it was followed", "what was printed isn't all in it any more")
     return True
-
-
-def say_cut_off(journal: Journal, at: int) -> None:
-    """Says what stands behind the last record, where an opening would cut it off."""
-    end = journal.end(at)
-    if end.is_torn and not (end.gate == 1 and end.has_whole):
-        why = end.strange or "a write that is under way, or was never finished; an opening cuts them off"
-        sys.stderr.write(f"ucon: {journal.name}: read up to byte {end.at}; {end.behind} bytes stand behind the last whole record: {why}\n")

@@ -22,12 +22,19 @@ def called(words: List[str]) -> Optional[Call]:
     return partial(module.run, asked=asked) if asked else None
 
 
-def run(path_of_program: pathlib.Path, call: Call) -> int:
-    """Runs such words, and says why where that can't be."""
+def run(words: List[str]) -> Optional[int]:
+    """Runs such words, and says why where that can't be. None where they are none."""
+    call = called(words)
+    if call is None:
+        return None
+    from launcher import which
+
     # To look for cycles again and again among 60,000 uses takes as long as to read them, and what there is of these ends with the word.
     gc.disable()
+    found = which.find()
+    which.say(found)
     try:
-        return call(path_of_program)
+        return call(found.path)
     except Refused as why:
         sys.stderr.write(why.text())
         return why.status

@@ -34,6 +34,12 @@ def tokens_of(raw: bytes) -> List[Token]:
     return [token for token in found if token.kind != "blank"]
 
 
+def one_line(policy: bytes) -> bytes:
+    """The same tokens on one line: a space where blanks and comments stood."""
+    parts = [(m.lastgroup == "blank", m.group()) for m in TOKEN.finditer(policy)]
+    return re.sub(rb"\0+", b" ", b"".join(b"\0" if is_blank else raw for is_blank, raw in parts)).strip(b" ")
+
+
 class Item(NamedTuple):
     """An item of a policy, numbered from 1 in written order: `attr`, `env`, `right` (its heading), `predicate` or `update`."""
 

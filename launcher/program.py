@@ -2,14 +2,19 @@
 import contextlib
 import os
 import pathlib
-import shutil
 import signal
 import stat
 import subprocess
 import sys
-from typing import Callable, Iterator, List, NamedTuple, Optional
+from typing import BinaryIO, Callable, Iterator, List, NamedTuple, Optional
 
 TOP = pathlib.Path(__file__).resolve().parent.parent
+# The status with which the proved program answers words that are no form, and that of a launcher that can't run it.
+USAGE, FAILED = 1, 125
+
+
+class Failed(Exception):
+    """There is no program to run, or a tool is missing or failed; what is to be said of it."""
 
 
 class Program(NamedTuple):
@@ -35,6 +40,8 @@ def has_sources() -> bool:
 
 
 def is_command(name: str) -> bool:
+    import shutil
+
     return shutil.which(name) is not None
 
 
@@ -92,6 +99,14 @@ def input_name() -> str:
         return "standard input"
     near = os.path.relpath(name)
     return name if near.startswith("..") else near
+
+
+def file_of(document: bytes) -> BinaryIO:
+    """A file in memory that is read from its front on."""
+    made = os.fdopen(os.memfd_create("document"), "w+b")
+    made.write(document)
+    made.seek(0)
+    return made
 
 
 class Ended(NamedTuple):

@@ -4,11 +4,10 @@ They are read off the document: its policy, and those of its amendments. What an
 from typing import Dict, Iterator, List, NamedTuple, Optional, Set, Tuple
 
 from launcher.amended import AMEND, comment_hint
-from launcher.fault import policy_end
 from launcher.near import near
 from launcher.policy import SIDES, declared_in, items_of, tokens_of
 from launcher.script import FORMS, GREATEST, Word, fits, is_integer, words_of
-from launcher.source import Document, Span
+from launcher.source import Document, Span, policy_end
 
 # How many places are shown, and how many lines looked at.
 MOST, LINES = 3, 20_000

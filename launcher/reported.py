@@ -1,14 +1,14 @@
-"""The state of a journal as `report` prints it, read in parts: a closed session is counted and not kept, since there may be a million of
-them."""
+"""The state of a journal as `report` prints it: the text of one that a checkpoint told, and the reading of the program's own text, which is
+asked for where there is no checkpoint. That is read in parts; a closed session is counted and not kept, since there may be a million of them."""
 import json
 import re
 import sys
+from itertools import chain
 from typing import Any, Dict, Iterator, List, NamedTuple, Pattern, Tuple, Union
 
+from launcher.pointed import OPEN, STATES, Act, Row, Sessions, State, Unread
+
 Value = Union[int, str, List[str]]
-Row = Dict[str, Value]
-OPEN = ("accessing", "requesting")
-STATES = (*OPEN, "denied", "revoked", "ended")
 decode = json.JSONDecoder().raw_decode
 # About how many characters of a list are read at once.
 PART = 1 << 16
@@ -18,54 +18,6 @@ ACT = re.compile(rf'\{{"action":{NAME},"at":{NUMBER},"object":{NAME},"subject":{
 SESSION = re.compile(
     rf'\{{"caller":{NUMBER},"number":{NUMBER},"object":{NAME},"right":{NAME},"start":{NUMBER},"state":{NAME},"subject":{NAME}\}}'
 )
-# How a row of a session that is counted alone shows its state.
-STATED = '"state":"%s"'
-
-
-class Unread(Exception):
-    """The text isn't a report; at which of its characters."""
-
-
-class Act(NamedTuple):
-    """An act that was done, and its last moment."""
-
-    subject: str
-    action: str
-    object: str
-    at: int
-
-
-class Session(NamedTuple):
-    number: int
-    client: int
-    subject: str
-    right: str
-    object: str
-    start: int
-    state: str
-
-
-class State(NamedTuple):
-    """What stands in a journal behind its last step. `sessions` has those that go on or wait, or none where they were only counted; `counts`
-    counts all by their states."""
-
-    entries: int
-    tick: int
-    env: Row
-    subjects: Dict[str, Row]
-    objects: Dict[str, Row]
-    acts: List[Act]
-    sessions: List[Session]
-    counts: Dict[str, int]
-
-    @property
-    def uses(self) -> List[Session]:
-        """The sessions that go on, by rising number."""
-        return [it for it in self.sessions if it.state == "accessing"]
-
-    @property
-    def waiting(self) -> List[Session]:
-        return [it for it in self.sessions if it.state == "requesting"]
 
 
 class Text:
@@ -95,16 +47,6 @@ class Text:
             raise Unread(str(why)) from None
         return found
 
-    def count_of(self, key: str, texts: List[str]) -> List[int]:
-        """How many rows of a list have each of these texts, of which each row has one."""
-        self.must(f'"{key}":[')
-        end = self.text.find("]", self.at)
-        counts = [self.text.count(text, self.at, end) for text in texts]
-        if end < 0 or self.text.count("{", self.at, end) != sum(counts):
-            raise Unread(f"`{key}` isn't a list of rows, behind {self.at}")
-        self.at = end + 1
-        return counts
-
     def rows(self, key: str, row: Pattern[str]) -> Iterator[List[Tuple[str, ...]]]:
         """The rows of a list, some of them at once. They have names and numbers alone, so that a bracket or a brace in it is no text's."""
         self.must(f'"{key}":[')
@@ -122,15 +64,15 @@ class Text:
         self.must("]")
 
 
-def read(raw: bytes, with_sessions: bool = True) -> State:
-    """The state that a report tells; where no session is asked for, they are only counted. Its keys stand in the order of their bytes."""
+def read(raw: bytes) -> State:
+    """The state that a report tells. Its keys stand in the order of their bytes."""
     try:
-        return read_all(Text(raw.decode("ascii")), with_sessions)
+        return read_all(Text(raw.decode("ascii")))
     except (KeyError, TypeError, ValueError) as why:
         raise Unread(f"{type(why).__name__}: {why}") from None
 
 
-def read_all(text: Text, with_sessions: bool) -> State:
+def read_all(text: Text) -> State:
     name = sys.intern
     text.must("{")
     rows = (row for part in text.rows("acts", ACT) for row in part)
@@ -140,27 +82,38 @@ def read_all(text: Text, with_sessions: bool) -> State:
         text.must(",")
         found[key] = text.value(key)
     text.must(",")
-    sessions, counts = read_sessions(text) if with_sessions else ([], dict(zip(STATES, text.count_of("sessions", [STATED % it for it in STATES]))))
+    sessions = read_sessions(text)
     for key in ("subjects", "tick"):
         text.must(",")
         found[key] = text.value(key)
     text.must("}")
-    return State(sessions=sessions, counts=counts, acts=acts, **found)
+    subjects, objects = ({entity: spelled_row(row) for entity, row in found[key].items()} for key in ("subjects", "objects"))
+    return State(found["entries"], found["tick"], spelled_row(found["env"]), subjects, objects, acts, *sessions)
 
 
-def read_sessions(text: Text) -> Tuple[List[Session], Dict[str, int]]:
-    counts = {state: 0 for state in STATES}
-    kept: List[Session] = []
+class Lines(NamedTuple):
+    """The sessions that go on or wait, as the lines of a checkpoint, their numbers, and how many sessions there are of each state."""
+
+    counts: Dict[str, int]
+    numbers: List[int]
+    lines: str
+
+
+def read_sessions(text: Text) -> Lines:
+    counts = dict.fromkeys(STATES, 0)
+    numbers: List[int] = []
+    lines: List[str] = []
     for rows in text.rows("sessions", SESSION):
-        # Column by column takes a third of the time that row by row takes.
-        clients, numbers, things, rights, starts, states, subjects = zip(*rows)
-        for state in counts:
-            counts[state] += states.count(state)
-        if not counts.keys() >= set(states):
-            raise Unread(f"a session is {', '.join(set(states) - counts.keys())}")
-        made = map(Session._make, zip(map(int, numbers), map(int, clients), subjects, rights, things, map(int, starts), states))
-        kept += [it for it in made if it.state in OPEN]
-    return kept, counts
+        for client, number, thing, right, start, state, subject in rows:
+            counts[state] += 1
+            if state in OPEN:
+                numbers.append(int(number))
+                lines.append(f"session {client} {right} {subject} {thing} {state} {start}\n")
+    return Lines(counts, numbers, "".join(lines))
+
+
+def spelled_row(row: Dict[str, Value]) -> Row:
+    return {name: spelled(value) for name, value in row.items()}
 
 
 def spelled(value: Value) -> str:
@@ -170,3 +123,35 @@ def spelled(value: Value) -> str:
     if isinstance(value, str):
         return f'"{value}"'
     return "{" + ",".join(f'"{it}"' for it in value) + "}"
+
+
+# ---- the text of a state
+
+
+def text_of(state: State) -> str:
+    """The report of a state that has its closed sessions, to the byte as the program's `report` prints it."""
+    acts = (f'{{"action":"{it.action}","at":{it.at},"object":"{it.object}","subject":"{it.subject}"}}' for it in state.acts)
+    sessions = chain.from_iterable(map(session_texts, state.sessions()))
+    return ",".join([
+        f'{{"acts":[{",".join(acts)}]', f'"entries":{state.entries}', f'"env":{row_text(state.env)}', f'"objects":{entities_text(state.objects)}',
+        f'"sessions":[{",".join(sessions)}]', f'"subjects":{entities_text(state.subjects)}', f'"tick":{state.tick}}}\n',
+    ])
+
+
+def session_texts(found: Sessions) -> Iterator[str]:
+    columns = zip(found.clients, found.numbers, found.objects, found.rights, found.starts, found.states, found.subjects)
+    return map('{"caller":%s,"number":%d,"object":"%s","right":"%s","start":%s,"state":"%s","subject":"%s"}'.__mod__, columns)
+
+
+def entities_text(found: Dict[str, Row]) -> str:
+    return "{" + ",".join(f'"{name}":{row_text(found[name])}' for name in sorted(found)) + "}"
+
+
+def row_text(row: Row) -> str:
+    return "{" + ",".join(f'"{name}":{value_text(row[name])}' for name in sorted(row)) + "}"
+
+
+def value_text(value: str) -> str:
+    """A value in JSON. Of its bytes a backslash alone is spelled otherwise there; a text has no quotes."""
+    escaped = value.replace("\\", "\\\\")
+    return f"[{escaped[1:-1]}]" if value.startswith("{") else escaped

@@ -5,9 +5,9 @@ import contextlib
 import fcntl
 import os
 import pathlib
-import shutil
-import tempfile
-from typing import Iterator
+import signal
+from itertools import chain
+from typing import Iterable, Iterator
 
 from launcher.journal import FILE_FAILED, Journal, Refused
 
@@ -16,23 +16,33 @@ MEMORY = "/dev/shm"
 PART = 1 << 20
 
 
+class NoRoom(Refused):
+    """A file can't be written where it would be gone then."""
+
+    def __init__(self, sentence: str) -> None:
+        super().__init__(FILE_FAILED, sentence, "make room in the folder for what is temporary, or set TMPDIR to another one; nothing was written")
+
+
 @contextlib.contextmanager
 def room(wanted: int) -> Iterator[pathlib.Path]:
     """A folder in which so many bytes are to be written. TMPDIR names another place for it."""
+    # A file that grows too large is a fault like others.
+    signal.signal(signal.SIGXFSZ, signal.SIG_IGN)
     top = place(wanted)
     clear(top)
     try:
-        hidden = pathlib.Path(tempfile.mkdtemp(prefix=f".{PREFIX}", dir=top))
+        hidden = top / f".{PREFIX}{os.getpid()}-{os.urandom(4).hex()}"
+        hidden.mkdir(0o700)
         file = os.open(hidden, os.O_RDONLY | os.O_CLOEXEC)
         # It has its name only once it is locked, so that nobody takes it away before.
         fcntl.flock(file, fcntl.LOCK_EX)
         made = hidden.rename(hidden.with_name(hidden.name[1:]))
     except OSError as why:
-        raise Refused(FILE_FAILED, f"no folder can be made in {top}: {why.strerror}", "make room there, or set TMPDIR to another folder") from None
+        raise NoRoom(f"no folder can be made in {top}: {why.strerror}") from None
     try:
         yield made
     finally:
-        shutil.rmtree(made, ignore_errors=True)
+        empty(made)
         os.close(file)
 
 
@@ -41,6 +51,8 @@ def place(wanted: int) -> pathlib.Path:
         there = os.statvfs(MEMORY)
         if there.f_bavail * there.f_frsize > 2 * wanted:
             return pathlib.Path(MEMORY)
+    import tempfile
+
     return pathlib.Path(tempfile.gettempdir())
 
 
@@ -51,16 +63,33 @@ def clear(top: pathlib.Path) -> None:
             file = os.open(left, os.O_RDONLY | os.O_CLOEXEC | os.O_NOFOLLOW | os.O_DIRECTORY)
             try:
                 fcntl.flock(file, fcntl.LOCK_EX | fcntl.LOCK_NB)
-                shutil.rmtree(left, ignore_errors=True)
+                empty(left)
             finally:
                 os.close(file)
+
+
+def empty(folder: pathlib.Path) -> None:
+    """Takes a folder away with the files in it, as far as that can be done."""
+    with contextlib.suppress(OSError):
+        for file in folder.iterdir():
+            file.unlink()
+        folder.rmdir()
+
+
+def may(path: str, how: int) -> bool:
+    return os.access(path, how, effective_ids=os.access in os.supports_effective_ids)
+
+
+def is_unwritable(path: str) -> bool:
+    """Whether a file is there that this user may read, and not write."""
+    return os.path.isfile(path) and may(path, os.R_OK) and not may(path, os.W_OK)
 
 
 @contextlib.contextmanager
 def writable(journal: Journal) -> Iterator[str]:
     """A path at which the program can open a journal: its own, or that of a copy where this user may only read it. The program opens a
     file for writing, also where it writes nothing."""
-    if os.access(journal.name, os.W_OK, effective_ids=os.access in os.supports_effective_ids):
+    if may(journal.name, os.W_OK):
         yield journal.name
         return
     with room(journal.size) as folder:
@@ -69,13 +98,16 @@ def writable(journal: Journal) -> Iterator[str]:
 
 def copied(journal: Journal, folder: pathlib.Path, size: int, end: bytes) -> pathlib.Path:
     """A copy of a journal's first bytes, with other ones behind them."""
+    parts = (journal.read(at, min(PART, size - at)) for at in range(0, size, PART))
+    return written(folder, journal.name, chain(parts, [end]))
+
+
+def written(folder: pathlib.Path, name: str, parts: Iterable[bytes]) -> pathlib.Path:
+    """A file of these bytes, which are tried in the place of a journal of this name."""
     path = folder / "journal"
     try:
-        with open(path, "wb") as copy:
-            for at in range(0, size, PART):
-                copy.write(journal.read(at, min(PART, size - at)))
-            copy.write(end)
+        with open(path, "wb") as file:
+            file.writelines(parts)
     except OSError as why:
-        hint = "make room, or set TMPDIR to another folder"
-        raise Refused(FILE_FAILED, f"{journal.name} can't be copied to be tried: {why.strerror}", hint) from None
+        raise NoRoom(f"{name} can't be copied to be tried: {why.strerror}") from None
     return path

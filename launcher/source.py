@@ -41,6 +41,16 @@ def text_end(raw: bytes, at: int) -> int:
     return len(raw) if end < 0 else end
 
 
+def policy_end(raw: bytes) -> int:
+    """Where the policy part ends: at the line `%%`, or with the document."""
+    if raw.startswith(b"%%\n") or raw == b"%%":
+        return 0
+    found = raw.find(b"\n%%\n")
+    if found < 0:
+        return len(raw) - 2 if raw.endswith(b"\n%%") else len(raw)
+    return found + 1
+
+
 class Document:
     """A document's bytes with its file's name."""
 

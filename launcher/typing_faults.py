@@ -2,9 +2,8 @@
 import difflib
 from typing import Dict, Iterator, List, Optional, Tuple
 
-from launcher.fault import policy_end
 from launcher.policy import SIDES, Declared, Item, Ref, declared_in, items_of, refs_of, tokens_of
-from launcher.source import Document, Span
+from launcher.source import Document, Span, policy_end
 
 Declarations = Dict[bytes, Dict[bytes, Declared]]
 # The mark of an item, and hints, each with a place that it speaks of.

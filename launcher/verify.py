@@ -8,7 +8,7 @@ from typing import List, NamedTuple, Optional
 
 from launcher.asking import ask
 from launcher.journal import FILE_FAILED, Journal, Refused, open_journal
-from launcher.log import say_cut_off, write
+from launcher.output import say_cut_off, write
 from launcher.reading import is_path
 from launcher.told import ARE, LOST, meet, near, path_of
 

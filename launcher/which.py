@@ -5,7 +5,9 @@ import pathlib
 import sys
 from typing import NamedTuple, Optional
 
-from launcher import build, forms, kit, program, written
+from launcher import program
+
+# What few calls need is loaded where it is needed.
 
 
 class Kind(enum.Enum):
@@ -34,6 +36,8 @@ def is_there(of: program.Program = program.RUNS) -> Optional[Found]:
     chosen = program.chosen(of)
     if chosen:
         return Found(Kind.CHOSEN, chosen) if os.access(chosen, os.X_OK) and chosen.is_file() else None
+    from launcher import build, written
+
     if build.is_proved(of):
         return Found(Kind.PROVED, program.proved(of))
     kept = written.kept(of) if program.has_sources() else None
@@ -41,15 +45,17 @@ def is_there(of: program.Program = program.RUNS) -> Optional[Found]:
 
 
 def find(of: program.Program = program.RUNS) -> Found:
-    """The program to be run, compiled as it is written where there is none. Fails by `kit.Failed`."""
+    """The program to be run, compiled as it is written where there is none. Fails by `program.Failed`."""
     found = is_there(of)
     if found:
         return found
     chosen = program.chosen(of)
     if chosen:
-        raise kit.Failed(f"{chosen}, which {of.variable} names, is no program that can be run")
+        raise program.Failed(f"{chosen}, which {of.variable} names, is no program that can be run")
     if not program.has_sources():
-        raise kit.Failed(f"{program.proved(of)} is not there; ./install of the repository puts it there")
+        raise program.Failed(f"{program.proved(of)} is not there; ./install of the repository puts it there")
+    from launcher import written
+
     return Found(Kind.WRITTEN, written.make(of))
 
 
@@ -71,11 +77,15 @@ def say_check_failed(found: Found, status: int) -> None:
 
 def proved_text() -> str:
     """What `--version` says of the proved program."""
+    from launcher import forms
+
     return f"ucon, {forms.commit_text()}, {Kind.PROVED.value} with {forms.kit_text()}\n"
 
 
 def version_text() -> str:
     """The commit, and which program is run."""
+    from launcher import forms
+
     found = is_there()
     if program.chosen():
         is_missing = "" if found else ", which isn't there"

@@ -76,20 +76,23 @@ module _ (law : TakenAsSpelled) (unread : UntakenUnread) (P : PlainPolicy) (H : 
   pub unchanged : changes r ≡ false → taken accepted P H payload ≡ None
   unchanged doesnt = by_read (payload_read accepted payload) refl (ap (λ b. b && bytes_eq (payload_spelling (told e r)) payload) doesnt)
 
-  -- or it changes something: then by whether the step is spelled as the payload
-  pub spelled_so : changes r ≡ true → (payload_read accepted (payload_spelling (told e r)) ≡ Ok (told e r)) → (spelled : Bytes) (same : Bool)
-      → spelled ≡ payload_spelling (told e r) → same ≡ bytes_eq spelled payload → taken accepted P H payload ≡ (if same then Some (H ++ e ∷ []) else None)
-  spelled_so does back spelled same are by_bytes = by_same (bytes_eq spelled payload) refl ∙ ap (λ b. if b then Some (H ++ e ∷ []) else None) (sym by_bytes)
+  -- or it changes something: then by whether the payload is that of the entry with it
+  pub told_so : changes r ≡ true → (same : Bool) → same ≡ bytes_eq (payload_spelling (told e r)) payload → (same ≡ true → payload_read accepted payload ≡ Ok (told e r))
+      → taken accepted P H payload ≡ (if same then Some (H ++ e ∷ []) else None)
+  told_so does same by_bytes read = by_same same by_bytes read
     where
-      one_test : test r ≡ bytes_eq spelled payload
-      one_test = ap (λ b. b && bytes_eq (payload_spelling (told e r)) payload) does ∙ ap (λ (x : Bytes). bytes_eq x payload) (sym are)
+      one_test : test r ≡ bytes_eq (payload_spelling (told e r)) payload
+      one_test = ap (λ b. b && bytes_eq (payload_spelling (told e r)) payload) does
 
-      by_same : (b : Bool) → bytes_eq spelled payload ≡ b → taken accepted P H payload ≡ (if bytes_eq spelled payload then Some (H ++ e ∷ []) else None)
-      by_same true same =
-          let one : spelled ≡ payload = (bytes_eq-Decides spelled payload).0 same in
-          by_reply (told e r) (ap (payload_read accepted) (sym one ∙ are) ∙ back) ∙ ap (λ b. if b then Some (H ++ e ∷ []) else None) one_test
-      by_same false same =
-          by_read (payload_read accepted payload) refl (one_test ∙ same) ∙ ap (λ b. if b then Some (H ++ e ∷ []) else None) (sym same)
+      by_same : (b : Bool) → b ≡ bytes_eq (payload_spelling (told e r)) payload → (b ≡ true → payload_read accepted payload ≡ Ok (told e r))
+          → taken accepted P H payload ≡ (if b then Some (H ++ e ∷ []) else None)
+      by_same true is reads = by_reply (told e r) (reads refl) ∙ ap (λ b. if b then Some (H ++ e ∷ []) else None) (one_test ∙ sym is)
+      by_same false is reads = by_read (payload_read accepted payload) refl (one_test ∙ sym is)
+
+-- what follows from two facts of what is given
+pub both_ok : {A E : Type 0} (o : Result A E) (P Q R : A → Type 0) → ((x : A) → P x → Q x → R x) → IfOk o P → IfOk o Q → IfOk o R
+both_ok (Ok x) P Q R f p q = f x p q
+both_ok (Err e) P Q R f p q = tt
 
 -- ---- a step or a checkpoint
 

@@ -11,15 +11,16 @@ ghost use Rattle.ucon_model.specs.Payload.{Told, entry_told, payload_read};
 ghost use Rattle.ucon_model.specs.Plain.{Bytes, PlainPolicy};
 ghost use Rattle.ucon_store.specs.Points.{checkpoint, is_point, takes_with, text_behind};
 ghost use Rattle.ucon_syntax.specs.Policies.{accepted};
+ghost use Rattle.ucon_command.specs.Payloads.{entry_read};
 
 use std::alloc::Global;
 use ucon_base::{NoMemory, Steps};
 use ucon_command::{
-    PayloadFault, put_payload, read_accepted, read_entry, steps_are_taken_as_spelled,
+    PayloadFault, read_accepted, read_entry, steps_are_taken_as_spelled, tells_reply,
 };
 use ucon_engine::Engine;
 use ucon_journal::MAX_PAYLOAD;
-use ucon_model::{Command, Entry};
+use ucon_model::{Caller, Command, Entry};
 use ucon_point::point_text;
 
 /// A history under a policy, kept by an engine. Of its entries only their number is kept, and the text of the policy in force behind them.
@@ -28,7 +29,7 @@ pub(crate) struct Keeping<E: Engine> {
     pub engine: E,
     pub entries: u64,
     pub in_force: Vec<u8>,
-    /// The payload of the last entry, as the engine's reply spells it. Its memory is kept for the next one.
+    /// Where replies are spelled. Its memory is kept for the next one.
     pub payload: Vec<u8>,
 }
 
@@ -94,12 +95,16 @@ impl<E: Engine> Keeping<E> {
             (taken accepted P H payload.now ≡ None)) }
     {
         steps_are_taken_as_spelled();
-        let entry = match read_entry(alloc, payload) {
-            Ok(entry) => entry,
+        let mut entry = Entry {
+            caller: Caller(0),
+            command: Command::Look(0),
+        };
+        let rest = match read_entry(alloc, payload, &mut entry) {
+            Ok(rest) => rest,
             Err(PayloadFault::BadPlace(_)) => return Ok(false),
             Err(PayloadFault::NoMemory(refused)) => return Err(refused),
         };
-        if !self.drafts(alloc, &entry, payload)? {
+        if !self.drafts(alloc, &entry, payload, rest)? {
             return Ok(false);
         }
         self.put_in_force(alloc, &entry.command)?;
@@ -108,13 +113,18 @@ impl<E: Engine> Keeping<E> {
         Ok(true)
     }
 
-    /// Drafts the entry of a payload. Whether the engine's reply changes something, and spelled with the entry is the payload: then the step is
-    /// pending.
-    fn drafts(&mut self, alloc: Global, entry: &Entry, payload: &[u8]) -> Result<bool, NoMemory>
+    /// Drafts the entry of a payload. Whether the engine's reply changes something, and its text stands behind the entry: then the step is pending.
+    fn drafts(
+        &mut self,
+        alloc: Global,
+        entry: &Entry,
+        payload: &[u8],
+        rest: &[u8],
+    ) -> Result<bool, NoMemory>
         requires idle { IsIdle E.follows self.old.engine }
         requires short { length payload.now ≤ MAX_PAYLOAD }
+        requires read { entry_read accepted payload.now ≡ Ok (entry.now, rest.now) }
         requires told { (t : Told) → payload_read accepted payload.now ≡ Ok t → entry.now ≡ entry_told t }
-        requires client { entry.now.caller.0 < 64 }
         ensures pending { IfOk result (λ same. same ≡ true → (P : PlainPolicy) (T : Trace) → E.follows self.old.engine P T
             → E.has_pending self.new.engine P T entry.now) }
         ensures taken { IfOk result (λ same. (P : PlainPolicy) (H : History) → E.follows self.old.engine P (trace P H)
@@ -127,15 +137,7 @@ impl<E: Engine> Keeping<E> {
         if !drafted.changes() {
             return Ok(false);
         }
-        self.payload.clear();
-        put_payload(
-            alloc,
-            &mut self.payload,
-            entry.caller,
-            &entry.command,
-            &drafted,
-        )?;
-        Ok(self.payload.as_slice() == payload)
+        tells_reply(alloc, &mut self.payload, rest, &drafted)
     }
 
     /// The text of the policy in force behind a command: that of an amendment, or the one before it.

@@ -1,12 +1,13 @@
 -- A step's payload is read as the step, and bytes that are read are the step's payload.
-use Rattle.std.proofs.Common.{◌≡◌, ℕ, suc, ◌+◌, ◌-◌, ◌*◌, ◌/◌, ◌%◌, ◌<◌, ◌≤◌, ◌^◌, Bool, true, false, cond, [], ◌∷◌, ◌++◌, length, take, drop, get_or, Some, None, Ok, Err, is_ok, is_some, subst, refl, sym, ap, ◌∙◌, arith, length-append, length-drop, inl, inr, ⊎_elim}
-use Rattle.std.specs.Prelude.{◌⊎◌, not, IfOk, MatchResult, Option, Result, option_map, option_and_then, ok_or, unwrap_or, nat_lt, ◌==◌, position}
+use Rattle.std.proofs.Common.{◌≡◌, ℕ, zero, suc, ◌+◌, ◌-◌, ◌*◌, ◌/◌, ◌%◌, ◌<◌, ◌≤◌, ◌^◌, Bool, true, false, cond, [], ◌∷◌, ◌++◌, length, take, drop, get_or, Some, None, Ok, Err, is_ok, is_some, subst, refl, sym, ap, ◌∙◌, arith, append_assoc, length-append, length-drop, inl, inr, ⊎_elim}
+use Rattle.std.specs.Prelude.{◌⊎◌, not, IfOk, MatchResult, Option, Result, option_map, option_and_then, ok_or, unwrap_or, OnOk, nat_lt, ◌==◌, position}
 use Rattle.std.specs.Fmt.{decimal}
 use Rattle.std.specs.List.{position_or_len}
 use Rattle.std.specs.Result.{result_ok, result_err, result_unwrap_or}
 use Rattle.std.specs.Str.{bytes_eq}
 use Rattle.std.specs.Str.Parse.{digits_value}
-use Rattle.std.proofs.lemmas.Bool.{lt-ltb, ltb-true, ltb-false, cases_lt, eq-eqb, eqb-true, false≢true}
+use Rattle.std.proofs.Math.Seq.{drop-append_seam}
+use Rattle.std.proofs.lemmas.Bool.{le-ltb, lt-ltb, ltb-true, ltb-false, cases_lt, eq-eqb, eqb-true, false≢true}
 use Rattle.std.proofs.lemmas.Fmt.{decimal_digit, decimal_step, decimal_is_IsNumeral, length-decimal-le}
 use Rattle.std.proofs.lemmas.List.{take_all}
 use Rattle.std.proofs.lemmas.Slice.Eq.{bytes_eq-Decides}
@@ -174,12 +175,46 @@ cut_here byte bs i e =
 pub cut_nowhere : (byte : ℕ) (bs : Bytes) → position (λ b. b == byte) bs ≡ None → cut_at byte bs ≡ None
 cut_nowhere byte bs e = (cut_first byte bs).1 (ltb-false _ _ (no_place (nat_lt (first_at byte bs) (length bs)) (first_at byte bs) e))
 
+behind_one : (byte n : ℕ) (bs : Bytes) → (first_at byte (take n bs) ≡ n → first_at byte bs ≡ n + first_at byte (drop n bs))
+    → (same : Bool) → cond (not same) (1 + first_at byte (take n bs)) 0 ≡ suc n → cond (not same) (1 + first_at byte bs) 0 ≡ suc n + first_at byte (drop n bs)
+behind_one byte n bs next true h = absurd (omega (arith, h))
+behind_one byte n bs next false h = omega (arith, next (omega (arith, h)))
+
+-- where none of the bytes at the front is the one that is sought, it stands as far behind them as among the others
+behind_front : (byte n : ℕ) (bs : Bytes) → first_at byte (take n bs) ≡ n → first_at byte bs ≡ n + first_at byte (drop n bs)
+behind_front byte zero bs is = omega arith
+behind_front byte (suc n) [] is = absurd (omega (arith, is))
+behind_front byte (suc n) (b ∷ bs) is = behind_one byte n bs (behind_front byte n bs) (b == byte) is
+
+pub place_behind : (byte n : ℕ) (bs : Bytes) → n ≤ length bs → first_at byte (take n bs) ≡ n
+    → position (λ b. b == byte) bs ≡ option_map (λ i. n + i) (position (λ b. b == byte) (drop n bs))
+place_behind byte n bs le is = by (nat_lt (first_at byte (drop n bs)) (length (drop n bs))) refl
+  where
+    at : first_at byte bs ≡ n + first_at byte (drop n bs)
+    at = behind_front byte n bs is
+
+    by : (below : Bool) → nat_lt (first_at byte (drop n bs)) (length (drop n bs)) ≡ below
+        → position (λ b. b == byte) bs ≡ option_map (λ i. n + i) (cond below (Some (first_at byte (drop n bs))) None)
+    by true h =
+        let lt : first_at byte bs < length bs = omega (arith, at, le, length-drop n bs, ltb-true _ _ h) in
+        ap (λ b. cond b (Some (first_at byte bs)) None) (lt-ltb _ _ lt) ∙ ap (λ (i : ℕ). Some i) at
+    by false h =
+        let ge : length bs ≤ first_at byte bs = omega (arith, at, le, length-drop n bs, ltb-false _ _ h) in
+        ap (λ b. cond b (Some (first_at byte bs)) None) (le-ltb _ _ ge)
+
 -- the two digits of a client's number, or the one
-one_digit : (n : ℕ) → n < 10 → decimal n ≡ (48 + n) ∷ []
+pub one_digit : (n : ℕ) → n < 10 → decimal n ≡ (48 + n) ∷ []
 one_digit n lt = decimal_digit n lt
 
-both_digits : (n : ℕ) → 10 ≤ n → n < 64 → decimal n ≡ (48 + n / 10) ∷ (48 + n % 10) ∷ []
+pub both_digits : (n : ℕ) → 10 ≤ n → n < 64 → decimal n ≡ (48 + n / 10) ∷ (48 + n % 10) ∷ []
 both_digits n le lt = decimal_step n le (omega (arith, lt)) ∙ ap (λ (ds : Bytes). ds ++ (48 + n % 10) ∷ []) (decimal_digit (n / 10) (omega (arith, lt)))
+
+-- whether bytes are a number's decimal, by a comparison with what it is spelled as
+pub decimal_by : (n : ℕ) (bs spelled : Bytes) (same : Bool) → decimal n ≡ spelled → same ≡ bytes_eq bs spelled → (same ≡ true → decimal n ≡ bs) × (decimal n ≡ bs → same ≡ true)
+decimal_by n bs spelled same is by = (
+  λ yes. is ∙ sym ((bytes_eq-Decides bs spelled).0 (sym by ∙ yes)),
+  λ one. by ∙ (bytes_eq-Decides bs spelled).1 (sym one ∙ is),
+)
 
 -- the digits of a client's number, by how many they are
 pub digits_are : (n : ℕ) (bs : Bytes) → n < 64 → decimal n ≡ bs
@@ -274,19 +309,15 @@ module _ (reads : Bytes → Option PlainPolicy) where
 
 -- ---- the entry alone
 
--- what is read of a whole payload beside what is read of its entry alone: refused at one place, or the entry of a step of one of the 64 clients
-abbrev IsOfOne : Result Told ℕ → Result Entry ℕ → Type 0
+-- what is read of a whole payload beside what is read of its entry alone: refused at one place, or, of one of the 64 clients, by the reply behind it
+abbrev IsOfOne : Result Told ℕ → Result (Entry × Bytes) ℕ → Type 0
 IsOfOne whole (Err place) = whole ≡ Err place
-IsOfOne whole (Ok e) = IfOk whole (λ t. e ≡ entry_told t) × (e.caller.0 < 64)
+IsOfOne whole (Ok p) = (p.0.caller.0 < 64) × ((place : ℕ) × (whole ≡ (ok_or (reply_read p.1) place >>= (λ reply. Ok (told p.0 reply)))))
 
-part_of_one : {A : Type 0} (o : Option A) (place : ℕ) (f : A → Result Told ℕ) (g : A → Result Entry ℕ) → ((x : A) → o ≡ Some x → IsOfOne (f x) (g x))
+part_of_one : {A : Type 0} (o : Option A) (place : ℕ) (f : A → Result Told ℕ) (g : A → Result (Entry × Bytes) ℕ) → ((x : A) → o ≡ Some x → IsOfOne (f x) (g x))
     → IsOfOne (ok_or o place >>= f) (ok_or o place >>= g)
 part_of_one None place f g next = refl
 part_of_one (Some x) place f g next = next x refl
-
-reply_of_one : (e : Entry) (o : Option PlainReply) (place : ℕ) → e.caller.0 < 64 → IsOfOne (ok_or o place >>= (λ reply. Ok (told e reply))) (Ok e)
-reply_of_one e None place client = (tt, client)
-reply_of_one e (Some reply) place client = (refl, client)
 
 module _ (reads : Bytes → Option PlainPolicy) where
   entry_of_one : (bytes : Bytes) → IsOfOne (payload_read reads bytes) (entry_read reads bytes)
@@ -296,21 +327,32 @@ module _ (reads : Bytes → Option PlainPolicy) where
       part_of_one (caller_read parts.0) 0 _ _ (λ caller is.
       part_of_one (cut_at 10 parts.1) (length parts.0 + 1) _ _ (λ step _.
       part_of_one (result_ok (line_read reads step.0)) (length parts.0 + 1) _ _ (λ command _.
-      reply_of_one (record { caller = caller; command = command }) (reply_read step.1) (length parts.0 + 1 + length step.0 + 1) (caller_is parts.0 caller is).1))))
+      ((caller_is parts.0 caller is).1, (length parts.0 + 1 + length step.0 + 1, refl))))))
 
-  told_from : (bytes : Bytes) (e : Entry) (whole : Result Told ℕ) → IsOfOne whole (Ok e) → (t : Told) → whole ≡ Ok t → e ≡ entry_told t
-  told_from bytes e (Ok s) is t h = is.0 ∙ ap (λ r. entry_told (result_unwrap_or r s)) h
-  told_from bytes e (Err place) is t h = absurd (refused h)
+  -- what the payload tells, where its entry is read: by the reply behind
+  by_reply : (bytes : Bytes) (e : Entry) (rest : Bytes) → entry_read reads bytes ≡ Ok (e, rest) → IsOfOne (payload_read reads bytes) (Ok (e, rest))
+  by_reply bytes e rest is = subst (IsOfOne (payload_read reads bytes)) is (entry_of_one bytes)
+
+  told_from : (bytes : Bytes) (e : Entry) (rest : Bytes) → entry_read reads bytes ≡ Ok (e, rest) → (t : Told) → payload_read reads bytes ≡ Ok t → e ≡ entry_told t
+  told_from bytes e rest is t h =
+      let one = by_reply bytes e rest is in
+      let reply = bind_is (ok_or (reply_read rest) one.1.0) (λ r. Ok (told e r)) t (sym one.1.1 ∙ h) in
+      ap (λ r. entry_told (result_unwrap_or r (told e reply.0))) reply.1.1
+
+  -- a reply that is read behind the entry is the payload's
+  pub reply_behind : (bytes : Bytes) (e : Entry) (rest : Bytes) (r : PlainReply) → entry_read reads bytes ≡ Ok (e, rest) → reply_read rest ≡ Some r → payload_read reads bytes ≡ Ok (told e r)
+  reply_behind bytes e rest r is h =
+      let one = by_reply bytes e rest is in
+      one.1.1 ∙ ap (λ o. ok_or o one.1.0 >>= (λ reply. Ok (told e reply))) h
 
   -- so what the code reads is the entry of the step that the payload tells
-  pub entry_is : (bytes : Bytes) (r : Result Entry PayloadFault) → MatchResult r (λ e. entry_read reads bytes ≡ Ok e) (IsBadAt (entry_read reads bytes))
-      → IfOk r (λ e. (t : Told) → payload_read reads bytes ≡ Ok t → e ≡ entry_told t)
+  pub entry_is : {A : Type 0} (bytes : Bytes) (e : Entry) (text : A → Bytes) (r : Result A PayloadFault)
+      → MatchResult r (λ a. entry_read reads bytes ≡ Ok (e, text a)) (IsBadAt (entry_read reads bytes))
+      → OnOk r ((t : Told) → payload_read reads bytes ≡ Ok t → e ≡ entry_told t)
       × ((place : ℕ) → r ≡ Err (BadPlace place) → payload_read reads bytes ≡ Err place)
-      × IfOk r (λ e. e.caller.0 < 64)
-  entry_is bytes (Ok e) is =
-      let one : IsOfOne (payload_read reads bytes) (Ok e) = subst (IsOfOne (payload_read reads bytes)) is (entry_of_one bytes) in
-      (told_from bytes e (payload_read reads bytes) one, λ place h. absurd (false≢true (ap is_ok (sym h))), one.1)
-  entry_is bytes (Err fault) is = (
+      × OnOk r (e.caller.0 < 64)
+  entry_is bytes e text (Ok a) is = (told_from bytes e (text a) is, λ place h. absurd (false≢true (ap is_ok (sym h))), (by_reply bytes e (text a) is).0)
+  entry_is bytes e text (Err fault) is = (
     tt,
     λ place h.
         let same : fault ≡ BadPlace place = ap (λ r. unwrap_or (result_err r) fault) h in
@@ -318,3 +360,50 @@ module _ (reads : Bytes → Option PlainPolicy) where
         subst (IsOfOne (payload_read reads bytes)) bad (entry_of_one bytes),
     tt,
   )
+
+  -- an entry that is read is spelled as it stands, before what stands behind it
+  module _ (commands : CommandsAreSpelled reads) where
+    pub entry_spelled : (bytes : Bytes) (e : Entry) (rest : Bytes) → entry_read reads bytes ≡ Ok (e, rest)
+        → decimal e.caller.0 ++ 32 ∷ (command_spelling e.command ++ 10 ∷ rest) ≡ bytes
+    unfolding entry_read
+    entry_spelled bytes e rest h =
+        let cut = bind_is (ok_or (cut_at 32 bytes) 0) _ (e, rest) h in
+        let parts : Bytes × Bytes = cut.0 in
+        let client = bind_is (ok_or (caller_read parts.0) 0) _ (e, rest) cut.1.1 in
+        let step = bind_is (ok_or (cut_at 10 parts.1) (length parts.0 + 1)) _ (e, rest) client.1.1 in
+        let line = bind_is (ok_or (result_ok (line_read reads step.0.0)) (length parts.0 + 1)) _ (e, rest) step.1.1 in
+        let same : (record { caller = client.0; command = line.0 }, step.0.1) ≡ (e, rest) = ap (λ r. result_unwrap_or r (e, rest)) line.1.1 in
+        let caller = caller_is parts.0 client.0 (said_is _ 0 client.0 client.1.0) in
+        let command : command_spelling line.0 ≡ step.0.0 = commands step.0.0 line.0 (command_ok (line_read reads step.0.0) line.0 (said_is _ _ line.0 line.1.0)) in
+        ap (λ (p : Entry × Bytes). decimal p.0.caller.0 ++ 32 ∷ (command_spelling p.0.command ++ 10 ∷ p.1)) (sym same)
+        ∙ ap (λ (w : Bytes). w ++ 32 ∷ (command_spelling line.0 ++ 10 ∷ step.0.1)) caller.0
+        ∙ ap (λ (w : Bytes). parts.0 ++ 32 ∷ (w ++ 10 ∷ step.0.1)) command
+        ∙ ap (λ (w : Bytes). parts.0 ++ 32 ∷ w) (cut_is 10 parts.1 step.0 (said_is _ _ step.0 step.1.0))
+        ∙ cut_is 32 bytes parts (said_is _ 0 parts cut.1.0)
+
+    -- what stands before a step's reply
+    abbrev front_of : Entry → Bytes
+    front_of e = decimal e.caller.0 ++ 32 ∷ (command_spelling e.command ++ 10 ∷ [])
+
+    front_told : (e : Entry) (rest : Bytes) → decimal e.caller.0 ++ 32 ∷ (command_spelling e.command ++ 10 ∷ rest) ≡ front_of e ++ rest
+    front_told e rest =
+        ap (λ (bs : Bytes). decimal e.caller.0 ++ 32 ∷ bs) (sym (append_assoc (command_spelling e.command) (10 ∷ []) rest))
+        ∙ sym (append_assoc (decimal e.caller.0) (32 ∷ (command_spelling e.command ++ 10 ∷ [])) rest)
+
+    same_behind : (front a b : Bytes) (same : Bool) → bytes_eq a b ≡ same → same ≡ bytes_eq (front ++ a) (front ++ b)
+    same_behind front a b true is = sym ((bytes_eq-Decides (front ++ a) (front ++ b)).1 (ap (λ (x : Bytes). front ++ x) ((bytes_eq-Decides a b).0 is)))
+    same_behind front a b false is = sym (not_true (bytes_eq (front ++ a) (front ++ b)) (λ yes.
+        let one : a ≡ b = sym (drop-append_seam front a) ∙ ap (drop (length front)) ((bytes_eq-Decides (front ++ a) (front ++ b)).0 yes) ∙ drop-append_seam front b in
+        false≢true (sym is ∙ (bytes_eq-Decides a b).1 one)))
+      where
+        not_true : (x : Bool) → (x ≡ true → ⊥) → x ≡ false
+        not_true true isnt = absurd (isnt refl)
+        not_true false isnt = refl
+
+    -- the payload is that of the entry with a reply exactly if the reply's text stands behind the entry
+    pub reply_told : (bytes : Bytes) (e : Entry) (rest : Bytes) (r : PlainReply) → entry_read reads bytes ≡ Ok (e, rest)
+        → bytes_eq (reply_spelling r) rest ≡ bytes_eq (payload_spelling (told e r)) bytes
+    reply_told bytes e rest r h =
+        same_behind (front_of e) (reply_spelling r) rest (bytes_eq (reply_spelling r) rest) refl
+        ∙ ap (λ (x : Bytes). bytes_eq x (front_of e ++ rest)) (sym (front_told e (reply_spelling r)))
+        ∙ ap (λ (x : Bytes). bytes_eq (payload_spelling (told e r)) x) (sym (front_told e rest) ∙ entry_spelled bytes e rest h)

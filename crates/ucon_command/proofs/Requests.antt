@@ -1,6 +1,5 @@
 -- Lines that ask something, and whose they are.
-use Rattle.std.proofs.Common.{◌≡◌, ℕ, ◌<◌, ◌∷◌, ◌++◌, Some, None, refl, sym, ap, ◌∙◌, arith}
-use Rattle.std.specs.Prelude.{Option, option_and_then}
+use Rattle.std.proofs.Common.{◌≡◌, ◌∷◌, ◌++◌, Some, None, sym, ap, ◌∙◌, arith}
 use Rattle.std.specs.Fmt.{decimal}
 use Rattle.ucon_model.specs.declared.command.Caller.{Caller}
 use Rattle.ucon_model.specs.Output.{cut_at}

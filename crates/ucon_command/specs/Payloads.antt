@@ -21,16 +21,16 @@ use Rattle.ucon_reply.specs.Replies.{most_reply}
 abbrev pub told_of : Caller → Command → Reply → Told
 told_of caller command reply = record { caller = caller; command = command; reply = reply_of reply }
 
--- The entry of the step that a payload tells, whatever stands behind the command, or the place of the first part that is wrong. That place is 0 if
--- there is no space, or the bytes up to the first one are no client's number. It is the place behind the space if no newline follows, or the bytes
--- up to the first one are no command line.
-unfoldable pub entry_read : (Bytes → Option PlainPolicy) → Bytes → Result Entry ℕ
+-- The entry of the step that a payload tells, and what stands behind its line, whatever that is; or the place of the first part that is wrong. That
+-- place is 0 if there is no space, or the bytes up to the first one are no client's number. It is the place behind the space if no newline follows,
+-- or the bytes up to the first one are no command line.
+unfoldable pub entry_read : (Bytes → Option PlainPolicy) → Bytes → Result (Entry × Bytes) ℕ
 entry_read reads bytes = do
   parts ← ok_or (cut_at 32 bytes) 0
   caller ← ok_or (caller_read parts.0) 0
   step ← ok_or (cut_at 10 parts.1) (length parts.0 + 1)
   command ← ok_or (result_ok (line_read reads step.0)) (length parts.0 + 1)
-  Ok (record { caller = caller; command = command })
+  Ok (record { caller = caller; command = command }, step.1)
 
 -- what is read is refused at this place, unless memory ran out
 abbrev pub IsBadAt : {A : Type 0} → Result A ℕ → PayloadFault → Type 0

@@ -1,7 +1,6 @@
 -- Lines that ask something.
 use Rattle.std.specs.Prelude.{◌≡◌, ⊤, ◌<◌, ◌∷◌, ◌++◌, IsFalse}
 use Rattle.std.specs.Fmt.{decimal}
-use Rattle.ucon_command.specs.declared.line_fault.LineFault.{LineFault}
 use Rattle.ucon_command.specs.declared.request.RequestFault.{RequestFault}
 use Rattle.ucon_command.specs.declared.request.RequestFault.TheVariants.{BadClient, BadCommand}
 use Rattle.ucon_command.specs.Faults.{IsRefusal, IsSure, amends}

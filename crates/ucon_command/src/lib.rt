@@ -37,6 +37,6 @@ pub use laws::{
 };
 pub use line_fault::LineFault;
 pub use lines::read_command;
-pub use payload::{put_payload, read_entry, read_payload};
+pub use payload::{put_payload, read_entry, read_payload, tells_reply};
 pub use payload_fault::PayloadFault;
 pub use request::{Request, RequestFault, read_request};

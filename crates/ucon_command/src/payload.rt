@@ -1,27 +1,34 @@
 //! Payloads of a journal's records: a step as text, both ways.
 
-ghost use Rattle.std.specs.Prelude.{◌≡◌, ◌<◌, ◌≤◌, ◌+◌, ◌-◌, ◌^◌, ◌==◌, ◌++◌, ◌↔◌, ℕ, IsTrue, length, ok_or, position, IfOk, OnOk, IfSome};
+ghost use Rattle.std.specs.Prelude.{◌≡◌, ◌<◌, ◌≤◌, ◌+◌, ◌-◌, ◌^◌, ◌==◌, ◌++◌, ◌↔◌, [], ℕ, IsTrue, true, length, ok_or, position, IfOk, OnOk, IfSome};
 ghost use Rattle.std.specs.Prelude.{MatchOption, MatchResult, Ok, Err, None, Some};
 ghost use Rattle.std.specs.Fmt.{decimal};
+ghost use Rattle.std.specs.List.{position_or_len};
 ghost use Rattle.std.specs.Result.{result_ok};
+ghost use Rattle.std.specs.Str.{bytes_eq};
 ghost use Rattle.ucon_model.specs.CommandLine.{IsCommand, line_read};
 ghost use Rattle.ucon_model.specs.Output.{cut_at};
-ghost use Rattle.ucon_model.specs.Payload.{Told, caller_read, entry_told, payload_read, payload_spelling, step_read};
+ghost use Rattle.ucon_model.specs.Payload.{Told, caller_read, entry_told, payload_read, payload_spelling, step_read, told};
+ghost use Rattle.ucon_model.specs.Plain.{Bytes, made};
 ghost use Rattle.ucon_model.specs.ReplyText.{IsReply, reply_read};
+ghost use Rattle.ucon_model.specs.Spelling.{reply_spelling};
 ghost use Rattle.ucon_model.specs.Views.{reply_of};
 ghost use Rattle.ucon_syntax.specs.Policies.{accepted};
 ghost use Rattle.ucon_command.specs.Payloads.{GivesStep, IsBadAt, entry_read, most_told, told_of};
 
+use crate::command_line::CommandLine;
 use crate::commands::put_command;
 use crate::laws::{commands_are_read_back, payloads_are_read_back};
 use crate::line_fault::LineFault;
 use crate::lines::read_command;
 use crate::payload_fault::PayloadFault;
-use itoa::Buffer;
 use std::alloc::Global;
+use std::simd::prelude::*;
 use ucon_base::{NoMemory, put};
-use ucon_model::{Caller, Command, Entry, Reply, texts_lack_bytes};
-use ucon_reply::{ReplyFault, put_session, put_spelling, read_reply, replies_are_read_back};
+use ucon_model::{Caller, Command, Entry, Head, Reply, texts_lack_bytes};
+use ucon_reply::{
+    ReplyFault, put_reply, put_session, put_spelling, read_reply, replies_are_read_back,
+};
 
 /// Adds the one text of a step: the caller in decimal, a space, the command's text, a newline, the reply's text. What was added is read back as the
 /// step, if it is of one of the 64 clients, and is no longer than the reply's revocations let it be. If there is no memory, some of it may
@@ -89,20 +96,27 @@ fn payload(alloc: Global, bytes: &[u8]) -> Result<(Caller, Command, Reply), Payl
     step(alloc, client.len() + 1, caller, behind)
 }
 
-/// The entry of the step that the bytes tell, or the place of the first part that is wrong: the caller or the command. The reply isn't looked at.
-/// Bytes that don't begin with a client's number and a space are refused before any memory is taken.
-pub fn read_entry(alloc: Global, bytes: &[u8]) -> Result<Entry, PayloadFault>
-    ensures read { MatchResult result (λ e. entry_read accepted bytes.now ≡ Ok e) (IsBadAt (entry_read accepted bytes.now)) }
-    ensures told { IfOk result (λ e. (t : Told) → payload_read accepted bytes.now ≡ Ok t → e ≡ entry_told t) }
+/// Writes the entry of the step that the bytes tell over another one, and gives the text behind its line, in which the reply has to stand: it isn't
+/// looked at. Or the place of the first part that is wrong, the caller or the command. Then the other entry may be changed. Bytes that don't begin
+/// with a client's number and a space are refused before any memory is taken.
+#[inline(always)]
+pub fn read_entry<'a>(
+    alloc: Global,
+    bytes: &'a [u8],
+    out: &mut Entry,
+) -> Result<&'a [u8], PayloadFault>
+    ensures read { MatchResult result (λ rest. entry_read accepted bytes.now ≡ Ok (out.new, rest.now)) (IsBadAt (entry_read accepted bytes.now)) }
+    ensures told { OnOk result ((t : Told) → payload_read accepted bytes.now ≡ Ok t → out.new ≡ entry_told t) }
     ensures untold { (place : ℕ) → result ≡ Err (PayloadFault.BadPlace place) → payload_read accepted bytes.now ≡ Err place }
-    ensures client { IfOk result (λ e. e.caller.0 < 64) }
+    ensures client { OnOk result (out.new.caller.0 < 64) }
 {
-    entry(alloc, bytes)
+    entry(alloc, bytes, out)
 }
 
+#[inline(always)]
 #[tactic(auto, unfolding(crate::specs::Payloads::entry_read))]
-fn entry(alloc: Global, bytes: &[u8]) -> Result<Entry, PayloadFault>
-    ensures { MatchResult result (λ e. entry_read accepted bytes.now ≡ Ok e) (IsBadAt (entry_read accepted bytes.now)) }
+fn entry<'a>(alloc: Global, bytes: &'a [u8], out: &mut Entry) -> Result<&'a [u8], PayloadFault>
+    ensures { MatchResult result (λ rest. entry_read accepted bytes.now ≡ Ok (out.new, rest.now)) (IsBadAt (entry_read accepted bytes.now)) }
 {
     let Some((client, behind)) = cut_at(b' ', bytes) else {
         return Err(PayloadFault::BadPlace(0));
@@ -111,11 +125,82 @@ fn entry(alloc: Global, bytes: &[u8]) -> Result<Entry, PayloadFault>
         return Err(PayloadFault::BadPlace(0));
     };
     let place = client.len() + 1;
-    let Some((line, _)) = cut_at(b'\n', behind) else {
+    let Some((line, rest)) = cut_at(b'\n', behind) else {
         return Err(PayloadFault::BadPlace(place));
     };
-    let command = command_at(alloc, place, line)?;
-    Ok(Entry { caller, command })
+    command_into(alloc, place, line, &mut out.command)?;
+    out.caller = caller;
+    Ok(rest)
+}
+
+/// Writes the command of a line at this place over another one.
+#[inline(always)]
+fn command_into(
+    alloc: Global,
+    place: usize,
+    line: &[u8],
+    out: &mut Command,
+) -> Result<(), PayloadFault>
+    ensures { MatchResult result (λ _. ok_or (result_ok (line_read accepted line.now)) place ≡ Ok out.new)
+        (IsBadAt (ok_or (result_ok (line_read accepted line.now)) place)) }
+{
+    match CommandLine::judge(alloc, line) {
+        Ok(judged) => Ok(judged.command_into(alloc, out)?),
+        Err(LineFault::NoMemory(refused)) => Err(PayloadFault::NoMemory(refused)),
+        Err(_) => Err(PayloadFault::BadPlace(place)),
+    }
+}
+
+/// Whether a payload, of which an entry was read and this text behind it, is that of the entry with this reply. The entry isn't spelled again. The
+/// room is written over.
+#[inline(always)]
+pub fn tells_reply(
+    alloc: Global,
+    room: &mut Vec<u8>,
+    rest: &[u8],
+    reply: &Reply,
+) -> Result<bool, NoMemory>
+    ensures same { IfOk result (λ same. (bytes : Bytes) (e : Entry) → entry_read accepted bytes ≡ Ok (e, rest.now)
+        → same ≡ bytes_eq (payload_spelling (told e (reply_of reply.now))) bytes) }
+    ensures read { IfOk result (λ same. same ≡ true → (bytes : Bytes) (e : Entry) → entry_read accepted bytes ≡ Ok (e, rest.now)
+        → payload_read accepted bytes ≡ Ok (told e (reply_of reply.now))) }
+{
+    commands_are_read_back();
+    is_text_of(alloc, room, rest, reply)
+}
+
+/// Whether bytes are the text of a reply. It is spelled into the room, but for `ok`, the reply to most steps.
+#[inline(always)]
+fn is_text_of(
+    alloc: Global,
+    room: &mut Vec<u8>,
+    text: &[u8],
+    reply: &Reply,
+) -> Result<bool, NoMemory>
+    ensures same { IfOk result (λ same. same ≡ bytes_eq (reply_spelling (reply_of reply.now)) text.now) }
+    ensures read { IfOk result (λ same. same ≡ true → reply_read text.now ≡ Some (reply_of reply.now)) }
+{
+    replies_are_read_back();
+    if is_ok(reply) {
+        return Ok(b"ok".as_slice() == text);
+    }
+    room.clear();
+    put_reply(alloc, room, reply)?;
+    Ok(room.as_slice() == text)
+}
+
+/// Whether a reply is `ok` alone.
+#[inline(always)]
+fn is_ok(reply: &Reply) -> bool
+    ensures { IsTrue result → reply_of reply.now ≡ made Head.Ok [] }
+{
+    match reply {
+        Reply::Made {
+            head: Head::Ok,
+            revoked,
+        } => revoked.slice().is_empty(),
+        _ => false,
+    }
 }
 
 /// A caller's command up to the first newline, and the reply behind it, where the command begins at this place.
@@ -171,11 +256,38 @@ pub(crate) fn cut_at(byte: u8, bytes: &[u8]) -> Option<(&[u8], &[u8])>
     }
 }
 
+/// Where the first of these bytes stands. The first sixteen are looked at together.
+#[inline(never)]
 fn first_place(byte: u8, bytes: &[u8]) -> Option<usize>
     ensures place { result ≡ position (λ b. b == byte) bytes.now }
     ensures within { IfSome result (λ i. i + 1 ≤ length bytes.now) }
 {
+    if bytes.len() < 16 || !lacks(byte, &bytes[..16]) {
+        return place_among(byte, bytes);
+    }
+    match place_among(byte, &bytes[16..]) {
+        Some(at) => Some(16 + at),
+        None => None,
+    }
+}
+
+/// The same, one byte after the other.
+#[inline(always)]
+fn place_among(byte: u8, bytes: &[u8]) -> Option<usize>
+    ensures place { result ≡ position (λ b. b == byte) bytes.now }
+    ensures within { IfSome result (λ i. i + 1 ≤ length bytes.now) }
+{
     bytes.iter().position(|b| *b == byte)
+}
+
+/// Whether none of sixteen bytes is this one.
+#[inline(always)]
+fn lacks(byte: u8, chunk: &[u8]) -> bool
+    requires { length chunk.now ≡ 16 }
+    ensures { IsTrue result → position_or_len (λ b. b == byte) chunk.now ≡ 16 }
+{
+    let found = Simd::<u8, 16>::from_slice(chunk).simd_eq(Simd::splat(byte));
+    !found.any()
 }
 
 /// The client, 0 to 63, whose number in decimal the bytes are.
@@ -206,9 +318,15 @@ fn digit(b: u8) -> u32
     u32::from(b.saturating_sub(b'0'))
 }
 
+/// Whether bytes are a number's decimal. It has one digit or two.
 fn is_decimal_of(bytes: &[u8], n: u32) -> bool
+    requires { n < 64 }
     ensures { IsTrue result ↔ (decimal n ≡ bytes.now) }
 {
-    let mut digits = Buffer::new();
-    digits.format(n).as_bytes() == bytes
+    let unit = b'0' + (n % 10) as u8;
+    if n < 10 {
+        return bytes == [unit].as_slice();
+    }
+    let ten = b'0' + (n / 10) as u8;
+    bytes == [ten, unit].as_slice()
 }

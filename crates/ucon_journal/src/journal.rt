@@ -97,6 +97,7 @@ impl<D: Disk> Journal<D> {
     }
 
     /// Takes the next record, whose payload `payload` gives then, and tells whether there was one.
+    #[inline(always)]
     pub fn next(&mut self) -> Result<bool, TakeFault>
         requires { IsReading D.seen self.old }
         ensures reading { IsReading D.seen self.new }

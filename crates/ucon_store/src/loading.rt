@@ -9,6 +9,7 @@ ghost use Rattle.ucon_model.specs.Action.{Trace};
 ghost use Rattle.ucon_model.specs.Payload.{Told, entry_told, payload_read};
 ghost use Rattle.ucon_model.specs.Plain.{PlainPolicy};
 ghost use Rattle.ucon_syntax.specs.Policies.{accepted};
+ghost use Rattle.ucon_command.specs.Payloads.{entry_read};
 ghost use Rattle.ucon_store.specs.Loading.{HasLoaded, IsLoading, IsStanding, TakingGives};
 ghost use Rattle.ucon_store.specs.Opening.{HasReason};
 ghost use Rattle.ucon_store.specs.Points.{HoldsAmendment};
@@ -19,11 +20,11 @@ use crate::fault::{StoreFault, at_record};
 use crate::in_force::InForce;
 use std::alloc::Global;
 use ucon_base::{NoMemory, Steps};
-use ucon_command::{PayloadFault, payloads_are_read_back, put_payload, read_entry};
+use ucon_command::{PayloadFault, payloads_are_read_back, read_entry, tells_reply};
 use ucon_disk::Disk;
 use ucon_engine::Engine;
 use ucon_journal::{Journal, MAX_PAYLOAD};
-use ucon_model::{Entry, texts_tell_changes};
+use ucon_model::{Caller, Command, Entry, texts_tell_changes};
 
 /// The text of a journal's policy, an engine under it, and the entries so far, for which the engine stands, from the last checkpoint on.
 #[derive(Drop)]
@@ -38,14 +39,20 @@ pub(crate) struct Loaded<E> {
     pub in_force: InForce,
     /// How many records were taken in, those before the checkpoint among them.
     pub records: u64,
-    /// The payload of the last entry, as the engine's reply spells it. Its memory is kept for the next one.
+    /// Where replies are spelled. Its memory is kept for the payloads of the steps that come.
     pub payload: Vec<u8>,
 }
 
 impl<E: Engine> Loaded<E> {
     /// Takes the step of a payload in, if it is the next one: the engine's reply changes something, and the step with it is spelled as the
-    /// payload. The payload's own reply isn't read. False if it isn't the next one; the engine is then of no more use.
-    fn take_step(&mut self, alloc: Global, payload: &[u8]) -> Result<bool, StoreFault>
+    /// payload. The payload's own reply isn't read. False if it isn't the next one; the engine is then of no more use. The payload's entry is written
+    /// over another one, whose memory is kept for the next.
+    fn take_step(
+        &mut self,
+        alloc: Global,
+        payload: &[u8],
+        entry: &mut Entry,
+    ) -> Result<bool, StoreFault>
         requires standing { IsStanding E.follows self.old }
         requires short { length payload.now ≤ MAX_PAYLOAD }
         requires few { length self.old.entries + 1 < 2 ^ 64 }
@@ -59,12 +66,12 @@ impl<E: Engine> Loaded<E> {
         ensures before { self.new.before ≡ self.old.before }
         ensures records { self.new.records ≡ self.old.records }
     {
-        let entry = match read_entry(alloc, payload) {
-            Ok(entry) => entry,
+        let rest = match read_entry(alloc, payload, entry) {
+            Ok(rest) => rest,
             Err(PayloadFault::BadPlace(_)) => return Ok(false),
             Err(PayloadFault::NoMemory(refused)) => return Err(StoreFault::NoMemory(refused)),
         };
-        if !self.drafts(alloc, &entry, payload)? {
+        if !self.drafts(alloc, entry, payload, rest)? {
             return Ok(false);
         }
         self.engine.keep();
@@ -73,13 +80,19 @@ impl<E: Engine> Loaded<E> {
         Ok(true)
     }
 
-    /// Takes the memory that a payload's entry needs, and drafts it. True if the engine's reply changes something, and spelled with the entry is
-    /// the payload: then the step is pending.
-    fn drafts(&mut self, alloc: Global, entry: &Entry, payload: &[u8]) -> Result<bool, NoMemory>
+    /// Takes the memory that a payload's entry needs, and drafts it. True if the engine's reply changes something, and its text stands behind the
+    /// entry: then the step is pending.
+    fn drafts(
+        &mut self,
+        alloc: Global,
+        entry: &Entry,
+        payload: &[u8],
+        rest: &[u8],
+    ) -> Result<bool, NoMemory>
         requires standing { IsStanding E.follows self.old }
         requires short { length payload.now ≤ MAX_PAYLOAD }
+        requires read { entry_read accepted payload.now ≡ Ok (entry.now, rest.now) }
         requires told { (t : Told) → payload_read accepted payload.now ≡ Ok t → entry.now ≡ entry_told t }
-        requires client { entry.now.caller.0 < 64 }
         ensures pending { IfOk result (λ same. same ≡ true → (P : PlainPolicy) (T : Trace) → E.follows self.old.engine P T
             → E.has_pending self.new.engine P T entry.now) }
         ensures taken { IfOk result (λ same. same ≡ true → TakingGives self.old payload.now (Some (self.old.entries ++ entry.now ∷ []))) }
@@ -96,25 +109,15 @@ impl<E: Engine> Loaded<E> {
         if !drafted.changes() {
             return Ok(false);
         }
-        self.payload.clear();
-        put_payload(
-            alloc,
-            &mut self.payload,
-            entry.caller,
-            &entry.command,
-            &drafted,
-        )?;
-        if self.payload.as_slice() != payload {
-            return Ok(false);
-        }
-        Ok(true)
+        tells_reply(alloc, &mut self.payload, rest, &drafted)
     }
 
-    /// Takes the journal's next record in. False where there is none.
+    /// Takes the journal's next record in. False where there is none. Its entry is written over another one.
     fn take_next<D: Disk>(
         &mut self,
         alloc: Global,
         journal: &mut Journal<D>,
+        entry: &mut Entry,
     ) -> Result<bool, StoreFault>
         requires loading { IsLoading E.follows D.seen self.old journal.old }
         requires reading { IsReading D.seen journal.old }
@@ -137,7 +140,7 @@ impl<E: Engine> Loaded<E> {
             Err(fault) => Err(at_record(number, fault)),
             Ok(false) => Ok(false),
             Ok(true) => {
-                let taken = self.take_step(alloc, journal.payload())?;
+                let taken = self.take_step(alloc, journal.payload(), entry)?;
                 if !taken {
                     return Err(StoreFault::Damaged { number, place });
                 }
@@ -164,7 +167,11 @@ impl<E: Engine> Loaded<E> {
         ensures run { LeavesOnly (D.seen (disk_of journal.old)) (D.seen (disk_of journal.new)) (D.seen (disk_of journal.old)).images }
         ensures unfailed { OnOk result ((D.seen (disk_of journal.new)).faults ≡ (D.seen (disk_of journal.old)).faults) }
     {
-        'records: while self.take_next(alloc, journal)? {}
+        let mut entry = Entry {
+            caller: Caller(0),
+            command: Command::Look(0),
+        };
+        'records: while self.take_next(alloc, journal, &mut entry)? {}
         Ok(())
     }
 }

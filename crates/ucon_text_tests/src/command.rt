@@ -7,7 +7,7 @@ use ucon_command::{
     LineFault, PayloadFault, RequestFault, command_text, put_payload, read_command, read_entry,
     read_payload, read_request,
 };
-use ucon_model::{Caller, Command, Head, Refusal, Reply, Revoked, SessionState};
+use ucon_model::{Caller, Command, Entry, Head, Refusal, Reply, Revoked, SessionState};
 use ucon_reply::{ReplyFault, read_reply, reply_text};
 
 const LINES: &[&[u8]] = &[
@@ -383,8 +383,12 @@ fn is_payload_back(alloc: Global, payload: &[u8]) -> bool {
 }
 
 fn is_entry_of(alloc: Global, payload: &[u8], caller: Caller) -> bool {
-    match read_entry(alloc, payload) {
-        Ok(entry) => entry.caller == caller,
+    let mut entry = Entry {
+        caller: Caller(7),
+        command: Command::Look(0),
+    };
+    match read_entry(alloc, payload, &mut entry) {
+        Ok(rest) => entry.caller == caller && rest == b"ok".as_slice(),
         Err(_) => false,
     }
 }

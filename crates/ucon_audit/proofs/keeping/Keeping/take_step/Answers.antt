@@ -9,7 +9,7 @@ use Rattle.ucon_audit.proofs.keeping.Keeping.take_step.Goals as goal
 pub returns : goal.returns
 returns g c = record {
   taken = λ text P H keeps.
-      let e = c.in-Ok.entry in
+      let e = c.read_entry.new.out in
       let same : c.in_ok-drafts.field-0 ≡ true = search rules in
       let drafted = c.drafts.new.self in
       let rest = c.drafts.ensures.rest in

@@ -23,13 +23,13 @@ returns-in-Err-BadPlace-clause-wrong g c = λ _ P T accepts start.
 pub returns-clause-taken : goal.returns-clause-taken
 returns-clause-taken g c = λ _ P T accepts start.
     let same : c.in_ok-drafts.field-0 ≡ true = search rules in
-    let added = c.push.ensures ∙ ap (λ (l : List Entry). l ++ c.in-Ok.entry ∷ []) (ap (λ (l : Loaded g.row.E.Denot). l.entries) c.drafts.ensures.rest) in
+    let added = c.push.ensures ∙ ap (λ (l : List Entry). l ++ c.read_entry.new.out ∷ []) (ap (λ (l : Loaded g.row.E.Denot). l.entries) c.drafts.ensures.rest) in
     c.in_ok-drafts.ensures.taken same P T accepts start ∙ ap (λ (l : List Entry). Some l) (sym added)
 
 pub returns-clause-standing : goal.returns-clause-standing
 returns-clause-standing g c = λ _.
     let H = c.args.self.now.entries in
-    let e = c.in-Ok.entry in
+    let e = c.read_entry.new.out in
     let standing = c.requires.standing in
     let Q = standing.P in
     let first = text_at_start c.args.self.now.policy.items (payload_in c.args.self.now.point) in
