@@ -1,3 +1,4 @@
+pub mod Answered
 pub mod Bare
 pub mod Behind
 pub mod Checkpoints
