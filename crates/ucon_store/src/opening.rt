@@ -8,6 +8,7 @@ ghost use Rattle.ucon_journal.specs.Found as journalled;
 ghost use Rattle.ucon_journal.specs.Journal.{disk_of, gate_of, payload_of, HasEnded, IsReading, IsClosed};
 ghost use Rattle.ucon_model.specs.Plain.{PlainPolicy};
 ghost use Rattle.ucon_syntax.specs.Policies.{accepted};
+ghost use Rattle.ucon_store.specs.Keeping.{SameRecords};
 ghost use Rattle.ucon_store.specs.Kept.{payload_in};
 ghost use Rattle.ucon_store.specs.Loading.{IsRead, IsStanding};
 ghost use Rattle.ucon_store.specs.Opening.{HasReason, KeepsFound, Opens};
@@ -47,6 +48,7 @@ pub(crate) fn load<E: Engine, D: Disk>(
     ensures closed { OnOk result (IsClosed D.seen journal.new) }
     ensures places { OnOk result (SamePlaces (D.seen (disk_of journal.old)).contents (D.seen (disk_of journal.new)).contents) }
     ensures kind { OnOk result (SameKind (D.seen (disk_of journal.old)).contents (D.seen (disk_of journal.new)).contents) }
+    ensures records { OnOk result (SameRecords policy.now (D.seen (disk_of journal.old)).contents (D.seen (disk_of journal.new)).contents) }
     ensures only { OnOk result (Only (D.seen (disk_of journal.new)).contents (D.seen (disk_of journal.new)).images) }
     ensures reason { IfErr result (λ fault. HasReason fault policy.now (D.seen (disk_of journal.old)).contents
         (D.seen (disk_of journal.old)).faults (D.seen (disk_of journal.new)).faults) }
@@ -86,6 +88,7 @@ fn go_on<E: Engine, D: Disk>(
     ensures closed { OnOk result (IsClosed D.seen journal.new) }
     ensures places { OnOk result (SamePlaces (D.seen (disk_of journal.old)).contents (D.seen (disk_of journal.new)).contents) }
     ensures kind { OnOk result (SameKind (D.seen (disk_of journal.old)).contents (D.seen (disk_of journal.new)).contents) }
+    ensures records { OnOk result (SameRecords policy.now (D.seen (disk_of journal.old)).contents (D.seen (disk_of journal.new)).contents) }
     ensures only { OnOk result (Only (D.seen (disk_of journal.new)).contents (D.seen (disk_of journal.new)).images) }
     ensures reason { IfErr result (λ fault. HasReason fault policy.now (D.seen (disk_of journal.old)).contents
         (D.seen (disk_of journal.old)).faults (D.seen (disk_of journal.new)).faults) }
@@ -122,6 +125,7 @@ fn make<E: Engine, D: Disk>(
     ensures closed { OnOk result (IsClosed D.seen journal.new) }
     ensures places { OnOk result (SamePlaces (D.seen (disk_of journal.old)).contents (D.seen (disk_of journal.new)).contents) }
     ensures kind { OnOk result (SameKind (D.seen (disk_of journal.old)).contents (D.seen (disk_of journal.new)).contents) }
+    ensures records { OnOk result (SameRecords policy.now (D.seen (disk_of journal.old)).contents (D.seen (disk_of journal.new)).contents) }
     ensures only { OnOk result (Only (D.seen (disk_of journal.new)).contents (D.seen (disk_of journal.new)).images) }
     ensures reason { IfErr result (λ fault. HasReason fault policy.now (D.seen (disk_of journal.old)).contents
         (D.seen (disk_of journal.old)).faults (D.seen (disk_of journal.new)).faults) }

@@ -18,6 +18,7 @@ ghost use Rattle.ucon_turn.specs.Lists.{Continues};
 ghost use Rattle.ucon_syntax.specs.Policies.{accepted};
 ghost use Rattle.ucon_store.specs.Events.{events_of, number_of};
 ghost use Rattle.ucon_store.specs.Found.{IsFoundAs, IsFoundWith};
+ghost use Rattle.ucon_store.specs.Keeping.{SameRecords};
 ghost use Rattle.ucon_store.specs.Kept.{Kept};
 ghost use Rattle.ucon_store.specs.Opened.{last_point};
 ghost use Rattle.ucon_store.specs.Opening.{HasReason, IsSeenAs, Opens};
@@ -96,7 +97,8 @@ impl<E: Engine, D: Disk> Store<E, D> {
     /// Opens the store of the journal in a file, under the policy of this text, which has to be an accepted one. A file of at most nine bytes
     /// becomes a journal, and one without a record gets the policy as record 0. So the file of an open store holds its policy. On a disk at rest a
     /// file that is no journal, is damaged or has another policy keeps its bytes. A fault hands the disk back. The store begins behind the last
-    /// checkpoint, before which no record is run. So a file of which only what stands behind it is right is opened, too.
+    /// checkpoint, before which no record is run. So a file of which only what stands behind it is right is opened, too. Whatever the file is found
+    /// as, each of its records counts still.
     pub fn open(alloc: Global, policy: &[u8], disk: D) -> Result<Store<E, D>, (D, StoreFault)>
         requires { IsSome (accepted policy.now) }
         ensures store { IfOk result (λ s. (s.policy ≡ policy.now) × (s.opening ≡ s.before + length s.entries) × (s.mark ≡ None)) }
@@ -112,6 +114,7 @@ impl<E: Engine, D: Disk> Store<E, D> {
         ensures images { IfOk result (λ s. LeavesAfter (D.seen disk) (D.seen s.disk) (Opens policy.now)) }
         ensures at_rest { IfOk result (λ s. Only (D.seen s.disk).contents (D.seen s.disk).images) }
         ensures places { IfOk result (λ s. SamePlaces (D.seen disk).contents (D.seen s.disk).contents) }
+        ensures records { IfOk result (λ s. SameRecords policy.now (D.seen disk).contents (D.seen s.disk).contents) }
         ensures old { IfOk result (λ s. (before now : List ℕ) → (D.seen disk).contents ≡ Some before → (D.seen s.disk).contents ≡ Some now
             → (has_points now ≡ false) ↔ IsOld before) }
         ensures tells { IfOk result (λ s. is_some (D.seen s.disk).contents ≡ is_some (D.seen disk).contents) }

@@ -16,7 +16,7 @@ use Rattle.ucon_store.specs.Starts.{BeginsAt, IsStart}
 use Rattle.ucon_store.proofs.Begun.{opening_reason, reason_before, told_before}
 use Rattle.ucon_store.proofs.Fronts.{begins_opened, found_first_opened, founded_first, goes_on_opened, seen_opened}
 use Rattle.ucon_store.proofs.Runs.{begin_opens, whole_opens}
-use Rattle.ucon_store.proofs.SamePlaces.{opened_old, opened_places}
+use Rattle.ucon_store.proofs.SamePlaces.{opened_old, opened_places, opened_records}
 use Rattle.ucon_store.proofs.Stepping.{one_policy}
 use Rattle.ucon_store.proofs.store.Store.open.Goals as goal
 
@@ -147,3 +147,8 @@ returns-in-Ok-load-clause-places g c =
 pub returns-in-Ok-load-clause-old : goal.returns-in-Ok-load-clause-old
 returns-in-Ok-load-clause-old g c =
     opened_old (g.D.Disk.seen c.args.disk).contents (g.D.Disk.seen (disk_of c.in-Ok.journal)).contents (g.D.Disk.seen (disk_of c.load.new.journal)).contents c.in-Ok.ensures.bytes c.in-Ok-load.ensures.kind
+
+pub returns-in-Ok-load-clause-records : goal.returns-in-Ok-load-clause-records
+returns-in-Ok-load-clause-records g c =
+    opened_records c.args.policy.now (g.D.Disk.seen c.args.disk).contents (g.D.Disk.seen (disk_of c.in-Ok.journal)).contents
+    (g.D.Disk.seen (disk_of c.load.new.journal)).contents c.in-Ok.ensures.bytes c.in-Ok-load.ensures.records
