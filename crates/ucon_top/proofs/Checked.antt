@@ -19,7 +19,7 @@ use Rattle.ucon_store.specs.Found.{IsFoundAs, Tells, finding_of, found, found_by
 use Rattle.ucon_store.specs.Points.{has_points, places_in, point_places, takes_with}
 use Rattle.ucon_top.specs.Accepted.{HasSomePolicy}
 use Rattle.ucon_top.specs.OwnReading.{Checks, IsCheckedState, IsStillFound, IsUnchecked}
-use Rattle.ucon_top.specs.Telling.{HasItsPoints}
+use Rattle.ucon_top.specs.Pointed.{HasItsPoints}
 
 true_or_false : (b : Bool) → (b ≡ true) ⊎ (b ≡ false)
 true_or_false true = inl refl
@@ -82,14 +82,22 @@ untouched_checks text file c untouched = ⊎_elim
     })
     untouched
 
+untouched_places : (file c : Bytes) → Untouched file c → HasItsPoints file c
+untouched_places file c untouched = ⊎_elim
+    (λ (is : c ≡ file). ap point_places is)
+    (λ (short : (length file ≤ 9) × (length c ≤ 9)).
+    short_places c (at_most (length c) short.1) ∙ sym (short_places file (at_most (length file) short.0)))
+    untouched
+
 module _ (text : Bytes) (old new : DiskSeen) (kept : LeavesAfter old new Untouched) where
   still_unchecked : LeavesAfter old new (Checks text)
   still_unchecked = record { each = λ file rest. weaker old new (Untouched file) (Checks text file) (untouched_checks text file) (kept.each file rest) }
 
   still_checked : (file : Bytes) (opening : History) → old.contents ≡ Some file → IsFoundAs text file opening
-      → new.contents ≡ option_map opened old.contents → Only new.contents new.images → IsStillFound text file opening old new HasItsPoints
+      → new.contents ≡ option_map opened old.contents → Only new.contents new.images → IsStillFound text file opening old new HasItsPoints HasItsPoints
   still_checked file opening told found_there as_it_was at_rest = record {
-    since = λ rest. weaker old new (Untouched file) (λ c. IsFoundAs text c opening) (λ c u. (untouched_checks text file c u).same opening found_there) (kept.each file rest);
+    since = λ rest. weaker old new (Untouched file) (λ c. IsFoundAs text c opening × HasItsPoints file c)
+        (λ c u. ((untouched_checks text file c u).same opening found_there, untouched_places file c u)) (kept.each file rest);
     now = λ c image.
         let there : new.contents ≡ Some (opened file) = as_it_was ∙ ap (option_map opened) told in
         let only : Only (Some (opened file)) new.images = subst (λ (o : Option Bytes). Only o new.images) there at_rest in

@@ -18,23 +18,20 @@ use Rattle.ucon_model.specs.Plain.{Bytes, PlainPolicy}
 use Rattle.ucon_store.specs.declared.fault.StoreFault.{StoreFault}
 use Rattle.ucon_store.specs.declared.fault.StoreFault.TheVariants as stores
 use Rattle.ucon_store.specs.Found.{IsFoundBy}
-use Rattle.ucon_store.specs.Points.{point_places, PolicyReading}
+use Rattle.ucon_store.specs.Points.{PolicyReading}
 use Rattle.ucon_outcome.specs.declared.outcome.Outcome.{Outcome}
 use Rattle.ucon_outcome.specs.declared.outcome.Outcome.TheVariants.{Done, SinkFault, DiskFault, Damaged, NotJournal, NoMemory, OtherPolicy}
 use Rattle.ucon_top.specs.declared.form.Form.{Form}
 use Rattle.ucon_top.specs.declared.form.Form.TheVariants.{Audit, Report, Explain}
 use Rattle.ucon_top.specs.Accepted.{HasPolicy}
+use Rattle.ucon_top.specs.Keeping.{KeepsFile}
 use Rattle.ucon_top.specs.Own.{IsOwnStateBy}
 use Rattle.ucon_top.specs.Played.{IsUnopenedBy}
-use Rattle.ucon_top.specs.Pointed.{IsStillFoundBy}
+use Rattle.ucon_top.specs.Pointed.{HasItsPoints, IsStillFoundBy}
 use Rattle.ucon_top.specs.Seen.{IsAsBefore}
 
--- an image has the checkpoints of the opening file
-abbrev pub HasItsPoints : (opening image : Bytes) → Type 0
-HasItsPoints opening image = point_places image ≡ point_places opening
-
 -- The bytes are those of a document whose policy is accepted. If the disk told its file, opening saw in it, under that policy, so many entries and
--- what is there after a trace, and of the trace this is so. If the file is found as a history, that has as many entries. The file is still found
+-- what is there after a trace, and of the trace this is so. Its records are kept. If it is found as a history, that has as many entries. It is still found
 -- as it, with its checkpoints where they were, and the same is so of the history's trace. A file that opening alone accepts has none.
 pub record IsOpenedStateBy (reads : PolicyReading) (bytes : Bytes) (old new : DiskSeen) (so : PlainPolicy → Trace → Type 0) : Type 0 where
   pub policy : PlainPolicy
@@ -43,8 +40,9 @@ pub record IsOpenedStateBy (reads : PolicyReading) (bytes : Bytes) (old new : Di
   pub actions : Trace
   pub own : IfSome old.contents (IsOwnStateBy reads (policy_part bytes) policy entries actions)
   pub is_so : so policy actions
+  pub keeps : KeepsFile old new
   pub still : (file : Bytes) (opening : History) → old.contents ≡ Some file → IsFoundBy reads (policy_part bytes) file opening
-      → (length opening ≡ entries) × IsStillFoundBy reads (policy_part bytes) file opening old new HasItsPoints × so policy (trace policy opening)
+      → (length opening ≡ entries) × IsStillFoundBy reads (policy_part bytes) file opening old new HasItsPoints HasItsPoints × so policy (trace policy opening)
 
 -- The bytes are those of a document whose policy is accepted. Where the disk told its file, that is found as a history under that policy, and of both
 -- this is so. The file is as it was, and a crash leaves nothing else; one of at most nine bytes is a journal without a record. So the file is still
@@ -57,7 +55,7 @@ pub record IsCheckedStateBy (reads : PolicyReading) (bytes : Bytes) (old new : D
   pub at_rest : Only new.contents new.images
   pub images_kept : LeavesAfter old new Untouched
   pub still : (file : Bytes) (opening : History) → old.contents ≡ Some file → IsFoundBy reads (policy_part bytes) file opening
-      → IsStillFoundBy reads (policy_part bytes) file opening old new HasItsPoints
+      → IsStillFoundBy reads (policy_part bytes) file opening old new HasItsPoints HasItsPoints
 
 -- What a full check under the policy of this text may make of a file: what was found is still found. Where nothing was, the file is as it was.
 pub record ChecksBy (reads : PolicyReading) (text file c : Bytes) : Type 0 where
