@@ -1,3 +1,4 @@
+pub mod Arriving
 pub mod Capped
 pub mod Cuts
 pub mod Divided
@@ -5,4 +6,5 @@ pub mod Drawing
 pub mod FirstByte
 pub mod Generating
 pub mod Headings
+pub mod Judging
 pub mod Scripts

@@ -12,7 +12,7 @@ use Rattle.ucon_syntax.specs.Policies.{accepted}
 use Rattle.ucon_script.specs.declared.doc_fault.DocFault.{DocFault}
 use Rattle.ucon_script.specs.declared.doc_fault.DocFault.TheVariants.{BadHeading, BadLine, TooManyClients, TooManyLines, NoMemory}
 use Rattle.ucon_script.specs.Document.{IsLineCause, IsCause}
-use Rattle.ucon_script.specs.Lines.{client_after, count_after, told_from}
+use Rattle.ucon_script.specs.Lines.{after_told, client_after, count_after, told_from}
 use Rattle.ucon_script.proofs.Cuts.{first_line, next_lines, cut_or_last}
 
 -- what is told from a line on is told below the lines above it
@@ -24,11 +24,6 @@ told_below above (l ∷ ls) n = ap (before_next (line_told accepted n (client_be
 pub first_told : (n : ℕ) (client : Option Caller) (said : ℕ) (text : Bytes)
     → told_from n client said (lines_of text) ≡ before_next (line_told accepted n client said (first_line text)) (told_from (n + 1) (client_after client (first_line text)) (count_after said (first_line text)) (lines_of (next_lines text)))
 first_told n client said text = ⊎_elim (λ cut. rw cut.lines refl) (λ last. rw (last.lines, last.behind) refl) (cut_or_last text)
-
--- what was told before what the next lines say
-abbrev pub after_told : List ScriptLine → Result (List ScriptLine) DocumentRefusal → Result (List ScriptLine) DocumentRefusal
-after_told told (Ok next) = Ok (told ++ next)
-after_told told (Err r) = Err r
 
 joined_told : (told : List ScriptLine) (o : Option ScriptLine) (next : Result (List ScriptLine) DocumentRefusal) → after_told (told ++ option_to_list o) next ≡ after_told told (before_next (Ok o) next)
 joined_told told o (Ok next) = simp append_assoc refl

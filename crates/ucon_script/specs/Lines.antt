@@ -1,5 +1,5 @@
 -- The lines of a text, taken from its front.
-use Rattle.std.specs.Prelude.{◌≡◌, ℕ, ◌+◌, ◌||◌, List, [], ◌∷◌, Option, Some, None, option_map, Result, Ok, if◌then◌else◌}
+use Rattle.std.specs.Prelude.{◌≡◌, ℕ, ◌+◌, ◌||◌, List, [], ◌∷◌, ◌++◌, Option, Some, None, option_map, Result, Ok, Err, if◌then◌else◌}
 use Rattle.ucon_model.specs.declared.command.Caller.{Caller}
 use Rattle.ucon_model.specs.Plain.{Bytes}
 use Rattle.ucon_model.specs.Document.{ScriptLine, DocumentRefusal, is_skipped, is_heading, heading_number, caller_of, line_told, before_next}
@@ -20,6 +20,11 @@ abbrev pub told_from : ℕ → Option Caller → ℕ → List Bytes → Result (
 told_from n client said [] = Ok []
 told_from n client said (l ∷ ls) =
     before_next (line_told accepted n client said l) (told_from (n + 1) (client_after client l) (count_after said l) ls)
+
+-- what was told before what the next lines say
+abbrev pub after_told : List ScriptLine → Result (List ScriptLine) DocumentRefusal → Result (List ScriptLine) DocumentRefusal
+after_told told (Ok next) = Ok (told ++ next)
+after_told told (Err r) = Err r
 
 -- a text's script begins behind this divider; without one it says nothing
 abbrev pub Divides : Bytes → Option Divider → Type 0

@@ -52,7 +52,7 @@ pub fn find_divider(bytes: &[u8]) -> Option<Divider<'_>>
     None
 }
 
-fn is_divider(line: &[u8]) -> bool
+pub fn is_divider(line: &[u8]) -> bool
     ensures { result ≡ is_divider line.now }
 {
     line == b"%%".as_slice()
@@ -71,7 +71,7 @@ pub fn cut(bytes: &[u8], separator: u8) -> (&[u8], &[u8])
 }
 
 #[inline(always)]
-fn first_place(bytes: &[u8], separator: u8) -> Option<usize>
+pub fn first_place(bytes: &[u8], separator: u8) -> Option<usize>
     ensures place { result ≡ position (λ b. b == separator) bytes.now }
     ensures within { IfSome result (λ i. i + 1 ≤ length bytes.now) }
 {

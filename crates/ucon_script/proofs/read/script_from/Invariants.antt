@@ -2,8 +2,7 @@ use Rattle.std.proofs.Common.{◌≡◌, ◌+◌, ◌≤◌, length, map}
 use Rattle.std.specs.Prelude.{None}
 use Rattle.ucon_model.specs.Document.{lines_of}
 use Rattle.ucon_script.specs.Document.{spelled_line}
-use Rattle.ucon_script.specs.Lines.{told_from}
-use Rattle.ucon_script.proofs.Scripts.{after_told}
+use Rattle.ucon_script.specs.Lines.{after_told, told_from}
 use Rattle.ucon_script.proofs.read.script_from.Given as goal
 
 -- what the lines so far and those of the rest say is what all say
