@@ -5,8 +5,12 @@ use std::alloc::Global;
 use std::process::Abort;
 use std::test::Fail;
 use ucon_command::LineFault;
+use ucon_flow::MemSource;
 use ucon_model::{Caller, Command};
-use ucon_script::{DocFault, Line, LineText, Script, policy_part, read_document, read_script};
+use ucon_script::{
+    ComingDocument, DocFault, Line, LineText, Script, ScriptStop, policy_part, read_coming,
+    read_document, read_script,
+};
 
 /// What a document may have.
 const MOST_BYTES: usize = 4_194_304;
@@ -29,10 +33,45 @@ const PARTS: &[(&[u8], &[u8])] = &[
 ];
 
 #[test]
-fn policy_parts(rt: HostRuntime) {
+fn policy_parts(rt: HostRuntime) -> Result<(), Fail> {
     for &(text, part) in PARTS {
         assert!(rt; policy_part(text) == part, "{}", text.escape_ascii());
+        let (document, _) = coming(rt.alloc(), text)?;
+        assert!(rt;
+            document.policy.as_slice() == part,
+            "{} coming",
+            text.escape_ascii()
+        );
     }
+    Ok(())
+}
+
+/// A document that comes in pieces of three bytes, and what is left of its source.
+fn coming(alloc: Global, text: &[u8]) -> Result<(ComingDocument, MemSource), Fail> {
+    let mut source = MemSource::new(Vec::from_slice(alloc, text)?, 3, Vec::new(alloc));
+    let document = read_coming(alloc, &mut source)?;
+    Ok((document, source))
+}
+
+/// What is seen of a document's lines as they come, and what stops it.
+fn seen_coming(
+    alloc: Global,
+    text: &[u8],
+) -> Result<(Vec<(u32, u8, u32)>, Option<ScriptStop>), Fail> {
+    let (document, mut source) = coming(alloc, text)?;
+    let mut script = document.script;
+    let mut lines = Vec::new(alloc);
+    for _ in 0..u64::MAX {
+        if script.is_over() {
+            break;
+        }
+        match script.next(alloc, &mut source) {
+            Ok(Some(line)) => lines.push(seen(&line))?,
+            Ok(None) => {}
+            Err(stop) => return Ok((lines, Some(stop))),
+        }
+    }
+    Ok((lines, None))
 }
 
 /// A line's number, its client, and the session that it looks at; 0 for another command.
@@ -139,7 +178,7 @@ const SEEN: &[(&[u8], &[(u32, u8, u32)])] = &[
 ];
 
 #[test]
-fn lines_have_their_numbers_and_clients(rt: HostRuntime) {
+fn lines_have_their_numbers_and_clients(rt: HostRuntime) -> Result<(), Fail> {
     for &(text, lines) in SEEN {
         assert!(rt; text.len() <= MOST_BYTES, "{}", text.escape_ascii());
         assert!(rt;
@@ -152,7 +191,14 @@ fn lines_have_their_numbers_and_clients(rt: HostRuntime) {
             "{} in place",
             text.escape_ascii()
         );
+        let (coming, stop) = seen_coming(rt.alloc(), text)?;
+        assert!(rt;
+            coming.as_slice() == lines && stop.is_none(),
+            "{} coming",
+            text.escape_ascii()
+        );
     }
+    Ok(())
 }
 
 fn fault(alloc: Global, rt: &impl Abort, text: &[u8]) -> Option<DocFault> {
@@ -229,14 +275,21 @@ const REFUSED: &[(&[u8], DocFault)] = &[
 ];
 
 #[test]
-fn the_first_refusal_decides(rt: HostRuntime) {
+fn the_first_refusal_decides(rt: HostRuntime) -> Result<(), Fail> {
     for &(text, first) in REFUSED {
         assert!(rt;
             fault(rt.alloc(), &rt, text) == Some(first),
             "{}",
             text.escape_ascii()
         );
+        let (_, stop) = seen_coming(rt.alloc(), text)?;
+        assert!(rt;
+            stop == Some(ScriptStop::Refused(first)),
+            "{} coming",
+            text.escape_ascii()
+        );
     }
+    Ok(())
 }
 
 /// A document's front, the part that it repeats, how often, and its back; its length, and what is wrong with it first.
