@@ -12,3 +12,4 @@ pub mod Ending
 pub mod Divided
 pub mod Crossing
 pub mod Moves
+pub mod Rounds

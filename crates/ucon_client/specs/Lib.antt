@@ -2,6 +2,7 @@ pub mod Answers
 pub mod Clients
 pub mod Dividing
 pub mod Events
+pub mod Feeding
 pub mod Laws
 pub mod Shared
 pub mod Inbox

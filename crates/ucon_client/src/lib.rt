@@ -3,7 +3,8 @@
 //! `serve` opens the turn, splits a seat for each client, lets all run, takes the seats back and closes the turn. In the end the records of all,
 //! put by their places, are the entries behind the opening history (`proofs/Together.antt`).
 //!
-//! Through an inbox a client's lines come while it runs (`ends.rt`).
+//! Through an inbox a client's lines come while it runs (`ends.rt`). One half of a live run reads and feeds them (`feeding.rt`), while the other
+//! serves (`halves.rt`).
 //!
 //! **Always.** In the store that clients share nothing but steps is made (`Shared`). A client's answers are right for what its seat has seen
 //! (`AreRight`, `Serves`).
@@ -18,7 +19,9 @@ mod answer;
 mod client;
 mod dividing;
 mod ends;
+mod feeding;
 mod gate;
+mod halves;
 mod item;
 mod laws;
 mod part;
@@ -31,7 +34,9 @@ pub use answer::Answer;
 pub use client::Client;
 pub use dividing::divide;
 pub use ends::{Feeder, Taker, inbox, rejoin};
+pub use feeding::feed;
 pub use gate::{Gate, OpenGate};
+pub use halves::{Serving, serve_while_fed};
 pub use item::Item;
 pub use laws::{a_seen_mark_stops, faults_are_marked};
 pub use part::Part;
