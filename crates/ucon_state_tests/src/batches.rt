@@ -54,22 +54,6 @@ fn entries(alloc: Global, lines: &[&[u8]]) -> Result<Vec<Entry>, Fail>
     Ok(entries)
 }
 
-/// As many lines, each of another client and with another subject.
-fn subjects(alloc: Global, count: u8) -> Result<Vec<Entry>, Fail>
-    requires { count < 65 }
-    ensures { IfOk result (λ v. All (λ e. e.caller.0 < 64) v.items) }
-{
-    let mut entries = Vec::new(alloc);
-    for client in 0..count {
-        let line = format!(in alloc; "subject s{client}")?;
-        entries.push(Entry {
-            caller: Caller(client),
-            command: read_command(alloc, line.as_bytes())?,
-        })?;
-    }
-    Ok(entries)
-}
-
 /// What the lines are answered over a new file on a disk that stops after so many calls. None if the store isn't opened.
 fn answered(
     alloc: Global,
