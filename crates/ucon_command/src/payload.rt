@@ -96,9 +96,9 @@ fn payload(alloc: Global, bytes: &[u8]) -> Result<(Caller, Command, Reply), Payl
     step(alloc, client.len() + 1, caller, behind)
 }
 
-/// Writes the entry of the step that the bytes tell over another one, and gives the text behind its line, in which the reply has to stand: it isn't
-/// looked at. Or the place of the first part that is wrong, the caller or the command. Then the other entry may be changed. Bytes that don't begin
-/// with a client's number and a space are refused before any memory is taken.
+/// Writes the entry of the step that the bytes tell over another one. It gives the text behind the entry's line, in which the reply has to stand
+/// and which isn't looked at. Or it gives the place of the first part that is wrong, the caller or the command. Then the other entry may be
+/// changed. Bytes that don't begin with a client's number and a space are refused before any memory is taken.
 #[inline(always)]
 pub fn read_entry<'a>(
     alloc: Global,
