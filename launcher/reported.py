@@ -1,5 +1,5 @@
-"""The state of a journal as `report` prints it: the text of one that a checkpoint told, and the reading of the program's own text, which is
-asked for where there is no checkpoint. That is read in parts; a closed session is counted and not kept, since there may be a million of them."""
+"""The state of a journal as `report` prints it: the text of one that a checkpoint told. Where there is no checkpoint, the program's own text
+is read. That is read in parts; a closed session is counted and not kept, since there may be a million of them."""
 import json
 import re
 import sys
