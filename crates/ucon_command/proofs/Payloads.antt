@@ -227,6 +227,12 @@ digits_are n bs lt e = ⊎_elim
 pub caller_spelled : (bs : Bytes) (n : ℕ) → n < 64 → decimal n ≡ bs → Some (caller_of n) ≡ caller_read bs
 caller_spelled bs n lt e = sym (caller_back n lt) ∙ ap caller_read e
 
+-- a digit is the number of a client
+pub digit_read : (unit : ℕ) → 48 ≤ unit → unit ≤ 57 → caller_read (unit ∷ []) ≡ Some (caller_of (unit - 48))
+digit_read unit le lt =
+    let digit : 48 + (unit - 48) ≡ unit = omega (arith, le) in
+    sym (caller_spelled (unit ∷ []) (unit - 48) (omega (arith, lt)) (one_digit (unit - 48) (omega (arith, lt)) ∙ ap (λ (b : ℕ). b ∷ []) digit))
+
 caller_none : (bs : Bytes) (o : Option Caller) → caller_read bs ≡ o → ((n : ℕ) → n < 64 → decimal n ≡ bs → ⊥) → None ≡ caller_read bs
 caller_none bs None is h = sym is
 caller_none bs (Some caller) is h = let k = caller_is bs caller is in absurd (h caller.0 k.1 k.0)

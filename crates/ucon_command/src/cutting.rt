@@ -99,6 +99,91 @@ fn set_into(
     ensures ok { OnOk result (command_cut (Cuts.Set side name attr value) line.now ≡ Some out.new) }
     ensures err { OnErr result (out.new ≡ out.old) }
 {
+    match digits_in(&line[value as usize..]) {
+        Some(n) => {
+            set_integer_into(line, side, name, attr, value, n, out);
+            Ok(())
+        }
+        None => set_over(alloc, line, side, name, attr, value, out),
+    }
+}
+
+/// `set` of an integer. Another `set` of an integer stays where it is, and gets its parts one by one.
+#[inline(always)]
+fn set_integer_into(
+    line: &[u8],
+    side: Side,
+    name: u16,
+    attr: u16,
+    value: u16,
+    n: Int,
+    out: &mut Command,
+)
+    requires name { IsTrue (has_name name attr line.now) }
+    requires attr { IsTrue (has_name attr value line.now) }
+    requires value { value_in (drop value line.now) ≡ Some (Value.Int n) }
+    ensures { command_cut (Cuts.Set side name attr value) line.now ≡ Some out.new }
+{
+    if let Command::Set {
+        side: other_side,
+        name: other_name,
+        attr: other_attr,
+        value: other,
+    } = out
+    {
+        if let Value::Int(_) = other {
+            *other_side = side;
+            *other_name = name_between(line, name, attr);
+            *other_attr = name_between(line, attr, value);
+            *other = Value::Int(n);
+            return;
+        }
+    }
+    set_integer_over(line, side, name, attr, value, n, out);
+}
+
+/// `set` of an integer over a command of any form.
+#[inline(never)]
+fn set_integer_over(
+    line: &[u8],
+    side: Side,
+    name: u16,
+    attr: u16,
+    value: u16,
+    n: Int,
+    out: &mut Command,
+)
+    requires name { IsTrue (has_name name attr line.now) }
+    requires attr { IsTrue (has_name attr value line.now) }
+    requires value { value_in (drop value line.now) ≡ Some (Value.Int n) }
+    ensures { command_cut (Cuts.Set side name attr value) line.now ≡ Some out.new }
+{
+    let command = Command::Set {
+        side,
+        name: name_between(line, name, attr),
+        attr: name_between(line, attr, value),
+        value: Value::Int(n),
+    };
+    write_over(out, command);
+}
+
+/// `set` over a command of any form.
+#[inline(never)]
+fn set_over(
+    alloc: Global,
+    line: &[u8],
+    side: Side,
+    name: u16,
+    attr: u16,
+    value: u16,
+    out: &mut Command,
+) -> Result<(), NoMemory>
+    requires name { IsTrue (has_name name attr line.now) }
+    requires attr { IsTrue (has_name attr value line.now) }
+    requires value { IsSome (value_in (drop value line.now)) }
+    ensures ok { OnOk result (command_cut (Cuts.Set side name attr value) line.now ≡ Some out.new) }
+    ensures err { OnErr result (out.new ≡ out.old) }
+{
     let command = Command::Set {
         side,
         name: name_between(line, name, attr),

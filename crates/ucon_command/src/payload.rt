@@ -1,6 +1,6 @@
 //! Payloads of a journal's records: a step as text, both ways.
 
-ghost use Rattle.std.specs.Prelude.{◌≡◌, ◌<◌, ◌≤◌, ◌+◌, ◌-◌, ◌^◌, ◌==◌, ◌++◌, ◌↔◌, [], ℕ, IsTrue, true, length, ok_or, position, IfOk, OnOk, IfSome};
+ghost use Rattle.std.specs.Prelude.{◌≡◌, ◌<◌, ◌≤◌, ◌+◌, ◌-◌, ◌^◌, ◌==◌, ◌++◌, ◌↔◌, ◌∷◌, [], ℕ, IsTrue, true, length, ok_or, position, IfOk, OnOk, IfNone, IfSome};
 ghost use Rattle.std.specs.Prelude.{MatchOption, MatchResult, Ok, Err, None, Some};
 ghost use Rattle.std.specs.Fmt.{decimal};
 ghost use Rattle.std.specs.List.{position_or_len};
@@ -118,10 +118,7 @@ pub fn read_entry<'a>(
 fn entry<'a>(alloc: Global, bytes: &'a [u8], out: &mut Entry) -> Result<&'a [u8], PayloadFault>
     ensures { MatchResult result (λ rest. entry_read accepted bytes.now ≡ Ok (out.new, rest.now)) (IsBadAt (entry_read accepted bytes.now)) }
 {
-    let Some((client, behind)) = cut_at(b' ', bytes) else {
-        return Err(PayloadFault::BadPlace(0));
-    };
-    let Some(caller) = caller_in(client) else {
+    let Some((caller, client, behind)) = client_before(bytes) else {
         return Err(PayloadFault::BadPlace(0));
     };
     let place = client.len() + 1;
@@ -131,6 +128,49 @@ fn entry<'a>(alloc: Global, bytes: &'a [u8], out: &mut Entry) -> Result<&'a [u8]
     command_into(alloc, place, line, &mut out.command)?;
     out.caller = caller;
     Ok(rest)
+}
+
+/// The client of an entry, its number in decimal, and what stands behind the space after it. Most clients have one digit.
+#[inline(always)]
+fn client_before(bytes: &[u8]) -> Option<(Caller, &[u8], &[u8])>
+    ensures cut { IfSome result (λ k. cut_at 32 bytes.now ≡ Some (k.1.now, k.2.now)) }
+    ensures client { IfSome result (λ k. caller_read k.1.now ≡ Some k.0) }
+    ensures within { IfSome result (λ k. length k.1.now + 1 + length k.2.now ≡ length bytes.now) }
+    ensures none { IfNone result (entry_read accepted bytes.now ≡ Err 0) }
+{
+    if let [unit, b' ', behind @ ..] = bytes {
+        if let Some(caller) = client_of(*unit) {
+            return Some((caller, &bytes[..1], behind));
+        }
+    }
+    far_client_before(bytes)
+}
+
+/// The client whose number is this digit.
+#[inline(always)]
+#[tactic(auto, using(crate::proofs::Payloads::digit_read))]
+fn client_of(unit: u8) -> Option<Caller>
+    ensures client { IfSome result (λ caller. caller_read (unit ∷ []) ≡ Some caller) }
+    ensures digit { IfSome result (λ _. 48 ≤ unit) }
+{
+    if unit < b'0' || unit > b'9' {
+        return None;
+    }
+    Some(Caller(unit - b'0'))
+}
+
+/// The same of a client of any number.
+#[inline(never)]
+#[tactic(auto, unfolding(crate::specs::Payloads::entry_read))]
+fn far_client_before(bytes: &[u8]) -> Option<(Caller, &[u8], &[u8])>
+    ensures cut { IfSome result (λ k. cut_at 32 bytes.now ≡ Some (k.1.now, k.2.now)) }
+    ensures client { IfSome result (λ k. caller_read k.1.now ≡ Some k.0) }
+    ensures within { IfSome result (λ k. length k.1.now + 1 + length k.2.now ≡ length bytes.now) }
+    ensures none { IfNone result (entry_read accepted bytes.now ≡ Err 0) }
+{
+    let (client, behind) = cut_at(b' ', bytes)?;
+    let caller = caller_in(client)?;
+    Some((caller, client, behind))
 }
 
 /// Writes the command of a line at this place over another one.
