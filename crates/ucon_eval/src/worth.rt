@@ -153,7 +153,11 @@ pub fn values_compare(op: Op, a: &Value, b: &Value) -> bool
 fn texts_or_sets_compare(op: Op, a: &Value, b: &Value) -> bool
     ensures { result ≡ compares op a.now b.now }
 {
-    Worth::of(a).compares(op, &Worth::of(b))
+    match (op, a, b) {
+        (Op::Eq, Value::Text(a), Value::Text(b)) => a == b,
+        (Op::Ne, Value::Text(a), Value::Text(b)) => a != b,
+        _ => Worth::of(a).compares(op, &Worth::of(b)),
+    }
 }
 
 /// Counts the texts of a set.
