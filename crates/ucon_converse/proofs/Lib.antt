@@ -1,6 +1,9 @@
+pub mod Answered
 pub mod Bare
 pub mod Behind
+pub mod Checkpoints
 pub mod Conversing
+pub mod Dated
 pub mod Ended
 pub mod Faulty
 pub mod Leads
@@ -13,3 +16,4 @@ pub mod Records
 pub mod Stepping
 pub mod Tellings
 pub mod Unasked
+pub mod Unpointed

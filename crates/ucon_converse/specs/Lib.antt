@@ -1,8 +1,12 @@
+pub mod Answering
 pub mod Conversation
+pub mod Due
 pub mod Ended
 pub mod Greeting
 pub mod Holding
+pub mod KeeperLaws
 pub mod Keeping
+pub mod Noted
 pub mod PolicyFaults
 pub mod PolicyPart
 pub mod ReadingLines

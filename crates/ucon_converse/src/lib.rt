@@ -11,11 +11,14 @@
 //! `specs/Conversation.antt`, then `keeper.rt`.
 #![tactic(auto)]
 
+mod answering;
 mod holding;
 mod keeper;
 mod laws;
 mod lines;
 mod opening;
+mod pointing;
+mod points;
 mod policy_text;
 mod reading;
 mod reading_texts;
@@ -28,5 +31,6 @@ pub use holding::{MOST_LINE, hold};
 pub use keeper::StoreKeeper;
 pub use laws::{readings_are_no_requests, readings_are_read_back};
 pub use opening::{PolicyFrom, converse};
+pub use pointing::FEWEST_STEPS;
 pub use reading::Reading;
 pub use voice::SinkVoice;

@@ -1,12 +1,12 @@
 -- Lines as they come.
-use Rattle.std.proofs.Common.{◌≡◌, ℕ, ◌+◌, ◌-◌, ◌^◌, ◌≤◌, ◌<◌, List, [], ◌∷◌, ◌++◌, length, min, refl, sym, ap, ◌∙◌, subst, inl, inr, ⊎_elim, append_assoc, arith, length-append}
-use Rattle.std.specs.Prelude.{◌⊎◌, ◌==◌, not, Option, Some, None, IfSome, Result, Ok, Err, IsErr}
+use Rattle.std.proofs.Common.{◌≡◌, ℕ, ◌+◌, ◌-◌, ◌^◌, ◌≤◌, ◌<◌, List, [], ◌∷◌, ◌++◌, length, refl, sym, ap, ◌∙◌, subst, ⊎_elim, append_assoc, arith, length-append}
+use Rattle.std.specs.Prelude.{◌==◌, not, Option, Some, None, IfSome, Result, Ok, Err, IsErr}
 use Rattle.std.specs.Io.KnownBytes.{Consumes, IsAtEnd}
 use Rattle.std.proofs.KnownBytes.{Consumes-nil, Consumes-trans}
 use Rattle.std.proofs.lemmas.List.{append-nil}
 use Rattle.std.proofs.lemmas.List.Folds.{prefix_len-append}
 use Rattle.ucon_flow.specs.Lines.{Reading, newline, HasNewline, IsBare, IsLine, first_line, Holds, GivesLine}
-use Rattle.ucon_flow.proofs.Lines.{newline_within, line_len, newline_behind, newline_stays, bare_or_not, held_of}
+use Rattle.ucon_flow.proofs.Lines.{line_len, newline_behind, newline_stays, bare_or_not, held_of}
 use Rattle.ucon_tell.specs.declared.talk_fault.TalkFault.{TalkFault}
 use Rattle.ucon_tell.specs.declared.talk_fault.TalkFault.TheVariants as faults
 use Rattle.ucon_tell.specs.declared.talking.Heard.{Heard}

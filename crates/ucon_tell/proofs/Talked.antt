@@ -1,5 +1,5 @@
 -- Conversations, one after the other.
-use Rattle.std.proofs.Common.{◌≡◌, ◌⊎◌, inl, inr, ⊎_elim, ℕ, ◌+◌, ◌≤◌, List, [], ◌∷◌, ◌++◌, length, take, append_assoc, length-append, refl, sym, ap, subst, ◌∙◌, arith}
+use Rattle.std.proofs.Common.{◌≡◌, inl, inr, ⊎_elim, ℕ, ◌+◌, ◌≤◌, List, [], ◌∷◌, ◌++◌, length, take, append_assoc, length-append, refl, sym, ap, subst, ◌∙◌, arith}
 use Rattle.std.proofs.lemmas.List.{append-nil}
 use Rattle.std.proofs.KnownBytes.{Appends-nil, Appends-trans}
 use Rattle.std.proofs.Math.Seq.{take-append-add}
@@ -8,7 +8,7 @@ use Rattle.std.specs.Io.KnownBytes.{Appends}
 use Rattle.ucon_base.specs.declared.no_memory.NoMemory.{NoMemory}
 use Rattle.ucon_tell.specs.Seen.{KeeperSeen, VoiceSeen}
 use Rattle.ucon_tell.specs.Told.{IsCut, TellsFronts}
-use Rattle.ucon_tell.specs.Talk.{Exchange, HasTalked, IsAnswered, IsAnsweredBy, IsToldOnceKept, AnswersEach, ends_by, lines_in, replies_in, writes_by}
+use Rattle.ucon_tell.specs.Talk.{Exchange, HasTalked, IsAnsweredBy, IsToldOnceKept, AnswersEach, ends_by, lines_in, replies_in, writes_by}
 use Rattle.ucon_tell.specs.declared.talk_fault.TalkFault.{TalkFault}
 use Rattle.ucon_tell.specs.declared.talk_fault.TalkFault.TheVariants as faults
 
@@ -55,20 +55,21 @@ module _ {K : Type 0} (seen : K → KeeperSeen) (stays : K → K → Type 0)
   }
 
   -- a keeper tried to answer a line, and found no memory
-  pub none_told : (e : NoMemory) (first last : K) (v : VoiceSeen) (hears : List ℕ → Type 0) → hears [] → stays first last → HasTalked seen stays answers refuses limit (Err (faults.NoMemory e)) first last v v hears
-  none_told e first last v hears none stayed = record {
+  pub none_told : (e : NoMemory) (first last : K) (v : VoiceSeen) (hears : List ℕ → Type 0) → hears [] → ends_by answers (Err (faults.NoMemory e)) first last
+      → HasTalked seen stays answers refuses limit (Err (faults.NoMemory e)) first last v v hears
+  none_told e first last v hears none perhaps = record {
     exchanges = [];
     heard = none;
     reached = first;
     answered = refl;
-    ends = stayed;
+    ends = perhaps;
     output = Appends-nil v.contents;
     told = λ b t is. inl is;
   }
 
   -- one line was answered, and its reply told, at this moment
   pub one_told : (r : Result (Unit {0}) TalkFault) (first last : K) (line reply : List ℕ) (old new : VoiceSeen) (hears : List ℕ → Type 0) → IsAnsweredBy limit answers refuses first last line reply
-      → ends_by stays r last last → writes_by r old.contents new.contents reply → TellsFronts old new reply (seen last).moment → hears (line ++ 10 ∷ [])
+      → ends_by answers r last last → writes_by r old.contents new.contents reply → TellsFronts old new reply (seen last).moment → hears (line ++ 10 ∷ [])
       → HasTalked seen stays answers refuses limit r first last old new hears
   one_told r first last line reply old new hears answered ends written tells heard = record {
     exchanges = record { line = line; reply = reply; after = last } ∷ [];
@@ -162,12 +163,12 @@ module _ {K : Type 0} (seen : K → KeeperSeen) (stays : K → K → Type 0)
     told = p.told;
   }
     where
-      ends : (s : Result (Unit {0}) TalkFault) → ends_by stays s p.reached last
+      ends : (s : Result (Unit {0}) TalkFault) → ends_by answers s p.reached last
       ends (Ok done) = p.ends
       ends (Err faults.SinkFault) = p.ends
       ends (Err faults.SourceFault) = p.ends
       ends (Err faults.TooLong) = p.ends
-      ends (Err (faults.NoMemory e)) = subst (stays p.reached) p.ends (same p.reached)
+      ends (Err (faults.NoMemory e)) = ([], inl p.ends)
 
       output : (s : Result (Unit {0}) TalkFault) → (s ≡ Err faults.SinkFault → ⊥) → writes_by s old.contents new.contents (replies_in p.exchanges)
       output (Ok done) bad = p.output

@@ -1,10 +1,11 @@
-use Rattle.std.proofs.Common.{rules, ◌≡◌, ◌++◌, inr, refl, sym, ◌∙◌}
+use Rattle.std.proofs.Common.{rules, ◌≡◌, ◌++◌, inl, inr, ℕ, List, refl, sym, ◌∙◌}
 use Rattle.std.specs.Prelude.{None, Some, is_some}
 use Rattle.ucon_model.specs.History.{History}
 use Rattle.ucon_model.specs.Plain.{Bytes, PlainPolicy}
 use Rattle.ucon_store.specs.Whole.{IsFront}
 use Rattle.ucon_syntax.specs.Policies.{accepted}
-use Rattle.ucon_converse.specs.Keeping.{standing}
+use Rattle.ucon_converse.specs.Holding.{stands}
+use Rattle.ucon_converse.specs.Keeping.{IsDated}
 use Rattle.ucon_converse.specs.Readings.{IsNoReading, line_told}
 use Rattle.ucon_converse.specs.Replies.{GivesReplyBy, IsToldSo}
 use Rattle.ucon_converse.specs.Said.{fault_line}
@@ -19,15 +20,15 @@ returns-in-Some g c =
     let reading = c.in-Some.reading in
     let Told : Bytes → Type 0 = λ reply. (P : PlainPolicy) (G : History) → accepted s.policy ≡ Some P → IsFront P s G
     → IsToldSo s.mark (line_told P s.policy (G ++ s.entries) reading) reply in
-    let Given : Bytes → Type 0 = λ reply. (P : PlainPolicy) (G : History) → accepted s.policy ≡ Some P → IsFront P s G
-    → GivesReplyBy accepted P s.policy (standing G s) (standing G s) c.args.line.now reply in
+    let Given : Bytes → Type 0 = λ reply. (P : PlainPolicy) (G : History) (points : List ℕ) (tried : ℕ) → accepted s.policy ≡ Some P → IsFront P s G
+    → GivesReplyBy accepted P s.policy (IsDated (g.D.Disk.seen s.disk).contents) (stands G points tried s) (stands G points tried s) c.args.line.now reply in
     replied_as c.tell_reading.result c.args.out.now.items c.tell_reading.new.out.items Told Given
-    (λ reply told. λ P G accepts front. inr (inr (inr (record {
+    (λ reply told. λ P G points tried accepts front. inr (inr (inr (inl (record {
       reading = reading;
       asks = c.in-Some.ensures.told;
       told = told P G accepts front;
       same = refl;
-    })))) c.tell_reading.ensures
+    }))))) c.tell_reading.ensures
 
 pub returns-in-None : goal.returns-in-None
 returns-in-None g c =
@@ -37,8 +38,10 @@ returns-in-None g c =
     let stopped = c.is_stopped.result in
     let is : is_some s.mark ≡ stopped = search rules in
     let unread : IsNoReading line = λ reading asks. let no : None ≡ Some reading = sym c.in-None.is ∙ c.read_reading.ensures.asked reading asks in cc no in
-    let Given : Bytes → Type 0 = λ reply. (P : PlainPolicy) (G : History) → accepted s.policy ≡ Some P → IsFront P s G
-    → GivesReplyBy accepted P s.policy (standing G s) (standing G s) line reply in
+    let Given : Bytes → Type 0 = λ reply. (P : PlainPolicy) (G : History) (points : List ℕ) (tried : ℕ) → accepted s.policy ≡ Some P → IsFront P s G
+    → GivesReplyBy accepted P s.policy (IsDated (g.D.Disk.seen s.disk).contents) (stands G points tried s) (stands G points tried s) line reply in
     replied c.put_fault.result c.args.out.now.items c.put_fault.new.out.items (fault_line fault stopped) Given
     (fault_line_is c.texts_lack_bytes.ensures.numbers line fault stopped c.requires.client)
-    (λ P G accepts front. fault_told line P s.policy (standing G s) stopped is unread fault c.requires.client c.requires.refused) c.put_fault.ensures
+    (λ P G points tried accepts front.
+    fault_told line P s.policy (IsDated (g.D.Disk.seen s.disk).contents) (stands G points tried s) stopped is unread c.requires.unpointed fault c.requires.client c.requires.refused)
+    c.put_fault.ensures
