@@ -20,13 +20,13 @@ use Rattle.ucon_store.specs.Whole.{IsFront}
 use Rattle.ucon_syntax.specs.Policies.{accepted}
 use Rattle.ucon_tell.specs.Heard.{Hears}
 use Rattle.ucon_tell.specs.Seen.{VoiceSeen}
-use Rattle.ucon_tell.specs.Talk.{AnswersEach, Exchange, HasTalked, IsAnswered, IsToldOnceKept, ends_by, lines_in, replies_in, writes_by}
+use Rattle.ucon_tell.specs.Talk.{AnswersEach, Exchange, HasTalked, IsAnswered, IsAnsweredUntold, IsToldOnceKept, ends_by, lines_in, replies_in, writes_by}
 use Rattle.ucon_tell.specs.Told.{IsCut, IsFrontOf}
 use Rattle.ucon_tell.specs.declared.talk_fault.TalkFault.{TalkFault}
 use Rattle.ucon_tell.specs.declared.talk_fault.TalkFault.TheVariants as faults
 use Rattle.ucon_turn.specs.Lists.{Begins}
 use Rattle.ucon_converse.specs.Answering.{Answering}
-use Rattle.ucon_converse.specs.Conversation.{EndsAtBy, HasConversedBy, IsRunOver, IsStoppedBy, IsToldOnceKeptBy, behind, goes_out}
+use Rattle.ucon_converse.specs.Conversation.{HasConversedBy, IsRunOver, IsStoppedBy, IsToldOnceKeptBy, behind, goes_out}
 use Rattle.ucon_converse.specs.Greeting.{HasGreeted}
 use Rattle.ucon_converse.specs.Holding.{IsFoundPast, IsFoundedAt, standing}
 use Rattle.ucon_converse.specs.Keeping.{GivesReply, IsDated, Keeps, Refuses, kept_seen, moment_of}
@@ -241,22 +241,25 @@ module _ {D : Type 0} (seen : D → DiskSeen) (only : (d : D) (c : List ℕ) →
           failed = stopped_so reached l.run l.over l.failed (fault l.run reached.history l.failed l.leads) l.mark;
         }
 
-        ends_so : (r : Result (Unit {0}) TalkFault) (reached : Answering D) → accepted reached.store.policy ≡ Some P → IsFront P reached.store G
-            → (IsDated (seen reached.store.disk).contents → Old) → reached.store.policy ≡ first.store.policy → ends_by (GivesReply seen) r reached last
-            → EndsAtBy accepted P first.store.policy Old r (standing G places reached) (standing G places last)
-        ends_so (Ok done) reached accepts' front' dated policy e = ap (standing G places) e
-        ends_so (Err faults.SourceFault) reached accepts' front' dated policy e = ap (standing G places) e
-        ends_so (Err faults.SinkFault) reached accepts' front' dated policy e = ap (standing G places) e
-        ends_so (Err faults.TooLong) reached accepts' front' dated policy e = ap (standing G places) e
-        ends_so (Err (faults.NoMemory m)) reached accepts' front' dated policy e = ⊎_elim
+        ends_so : (r : Result (Unit {0}) TalkFault) (reached : Answering D) (comes comes' : Bytes → Type 0) → ((l : Bytes) → comes l → comes' l) → accepted reached.store.policy ≡ Some P → IsFront P reached.store G
+            → (IsDated (seen reached.store.disk).contents → Old) → reached.store.policy ≡ first.store.policy → ends_by 65546 (GivesReply seen) comes r reached last
+            → ends_by 65546 (GivesReplyBy accepted P first.store.policy Old) comes' r (standing G places reached) (standing G places last)
+        ends_so (Ok done) reached comes comes' onto accepts' front' dated policy e = ap (standing G places) e
+        ends_so (Err faults.SourceFault) reached comes comes' onto accepts' front' dated policy e = ap (standing G places) e
+        ends_so (Err faults.SinkFault) reached comes comes' onto accepts' front' dated policy e = ap (standing G places) e
+        ends_so (Err faults.TooLong) reached comes comes' onto accepts' front' dated policy e = ap (standing G places) e
+        ends_so (Err (faults.NoMemory m)) reached comes comes' onto accepts' front' dated policy e = ⊎_elim
             (λ (same : reached ≡ last). inl (ap (standing G places) same))
-            (λ (more : (reply : Bytes) × GivesReply seen reached last e.0 reply).
-            inr (
-              e.0,
-              more.0,
-              subst (λ (text : Bytes). GivesReplyBy accepted P text Old (standing G places reached) (standing G places last) e.0 more.0) policy
-                  (said_one Old reached last e.0 more.0 dated accepts' front' more.1),
-            )) e.1
+            (λ (u : IsAnsweredUntold 65546 (GivesReply seen) comes reached last).
+            inr (record {
+              line = u.line;
+              bare = u.bare;
+              fits = u.fits;
+              came = onto (u.line ++ 10 ∷ []) u.came;
+              reply = u.reply;
+              answer = subst (λ (text : Bytes). GivesReplyBy accepted P text Old (standing G places reached) (standing G places last) u.line u.reply) policy
+                  (said_one Old reached last u.line u.reply dated accepts' front' u.answer);
+            })) e
 
         pub conversed : (r : Result (Unit {0}) TalkFault) → HasGreeted (Ok tt) steps (moment_of (seen first.store.disk)) v0 v1
             → HasTalked (kept_seen seen) (Keeps seen) (GivesReply seen) Refuses 65546 r first last v1 v2 hears → Conversed r
@@ -272,7 +275,8 @@ module _ {D : Type 0} (seen : D → DiskSeen) (only : (d : D) (c : List ℕ) →
               heard = subst hears (sym (lines_shown G places h.exchanges)) h.heard;
               reached = standing G places h.reached;
               answered = said;
-              ends = ends_so r h.reached (ap accepted s.policy ∙ accepts) (front_same P first.store h.reached.store G s.policy s.point s.before front)
+              ends = ends_so r h.reached (λ more. hears (lines_in h.exchanges ++ more)) (λ more. hears (lines_in (shown G places h.exchanges) ++ more))
+                  (λ more heard. subst (λ (l : Bytes). hears (l ++ more)) (sym (lines_shown G places h.exchanges)) heard) (ap accepted s.policy ∙ accepts) (front_same P first.store h.reached.store G s.policy s.point s.before front)
                   (dated_before (seen first.store.disk).contents (seen h.reached.store.disk).contents s.tells along.kind) s.policy h.ends;
               output = subst (λ (l : Bytes). goes_out r v0.contents v2.contents ready l) (sym (replies_shown G places h.exchanges))
                   (went_out r v0.contents v1.contents v2.contents ready (replies_in h.exchanges) wrote h.output);
