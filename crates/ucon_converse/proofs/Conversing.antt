@@ -20,7 +20,7 @@ use Rattle.ucon_store.specs.Whole.{IsFront}
 use Rattle.ucon_syntax.specs.Policies.{accepted}
 use Rattle.ucon_tell.specs.Heard.{Hears}
 use Rattle.ucon_tell.specs.Seen.{VoiceSeen}
-use Rattle.ucon_tell.specs.Talk.{AnswersEach, Exchange, HasTalked, IsAnswered, IsAnsweredUntold, IsToldOnceKept, ends_by, lines_in, replies_in, writes_by}
+use Rattle.ucon_tell.specs.Talk.{AnswersEach, Exchange, HasTalked, IsAnswered, IsToldOnceKept, lines_in, replies_in, writes_by}
 use Rattle.ucon_tell.specs.Told.{IsCut, IsFrontOf}
 use Rattle.ucon_tell.specs.declared.talk_fault.TalkFault.{TalkFault}
 use Rattle.ucon_tell.specs.declared.talk_fault.TalkFault.TheVariants as faults
@@ -35,6 +35,7 @@ use Rattle.ucon_converse.specs.Replies.{GivesReplyBy, IsTooLong, Standing, ready
 use Rattle.ucon_converse.proofs.Dated.{answered_as, dated_before}
 use Rattle.ucon_converse.proofs.Leads.{LeadsOver, exchanges_lead, short_or_long}
 use Rattle.ucon_converse.proofs.Long.{long_lines_ask_nothing}
+use Rattle.ucon_converse.proofs.Untold.{ends_onto}
 
 -- a history that leads to where a store begins leads to where another begins that begins there
 pub front_same : {D : Type 0} (P : PlainPolicy) (x y : Kept D) (G : History) → y.policy ≡ x.policy → y.point ≡ x.point → y.before ≡ x.before → IsFront P x G → IsFront P y G
@@ -78,7 +79,7 @@ module _ {D : Type 0} (G : History) (places : List ℕ) where
 -- ---- what went out
 
 -- the first line went out, and then the replies
-went_out : (r : Result (Unit {0}) TalkFault) (before between now : Option Bytes) (ready replies : Bytes) → Appends before between ready → writes_by r between now replies
+pub went_out : (r : Result (Unit {0}) TalkFault) (before between now : Option Bytes) (ready replies : Bytes) → Appends before between ready → writes_by r between now replies
     → goes_out r before now ready replies
 went_out (Ok done) before between now xs ys p q = Appends-trans before between now xs ys p q
 went_out (Err faults.SinkFault) before between now xs ys p q = (
@@ -110,15 +111,15 @@ module _ {D : Type 0} (seen : D → DiskSeen) (only : (d : D) (c : List ℕ) →
     (read : (d : D) → IfSome (seen d).contents (seen d).images)
     (counts : (d : D) (t : ℕ) (c : List ℕ) → t ≤ (seen d).moment → (seen d).images c → (seen d).images_since t c)
     (sooner : (d : D) (t u : ℕ) (c : List ℕ) → t ≤ u → u ≤ (seen d).moment → (seen d).images_since u c → (seen d).images_since t c) where
-  abbrev Answered' : Answering D → List (Exchange (Answering D)) → Answering D → Type 0
+  abbrev pub Answered' : Answering D → List (Exchange (Answering D)) → Answering D → Type 0
   Answered' first xs last = AnswersEach 65546 (GivesReply seen) Refuses first xs last
 
   -- an answer leaves what a store's runs do
-  keeps_one : (before : Answering D) (x : Exchange (Answering D)) → IsAnswered 65546 (GivesReply seen) Refuses before x → Keeps seen before x.after
+  pub keeps_one : (before : Answering D) (x : Exchange (Answering D)) → IsAnswered 65546 (GivesReply seen) Refuses before x → Keeps seen before x.after
   keeps_one before x a = ⊎_elim (λ (lt : length x.line < 65546). (a.answer lt).keeps)
       (λ (le : 65546 ≤ length x.line). subst (λ (s : Answering D). Keeps seen before s) (sym (a.refusal le).0) (keeps_same seen only before)) (short_or_long (length x.line) 65546)
 
-  keeps_along : (first last : Answering D) (xs : List (Exchange (Answering D))) → Answered' first xs last → Keeps seen first last
+  pub keeps_along : (first last : Answering D) (xs : List (Exchange (Answering D))) → Answered' first xs last → Keeps seen first last
   keeps_along first last [] run = subst (λ (s : Answering D). Keeps seen first s) run (keeps_same seen only first)
   keeps_along first last (x ∷ xs) run = keeps_again seen only read counts first x.after last (keeps_one first x run.0) (keeps_along x.after last xs run.1)
 
@@ -241,26 +242,6 @@ module _ {D : Type 0} (seen : D → DiskSeen) (only : (d : D) (c : List ℕ) →
           failed = stopped_so reached l.run l.over l.failed (fault l.run reached.history l.failed l.leads) l.mark;
         }
 
-        ends_so : (r : Result (Unit {0}) TalkFault) (reached : Answering D) (comes comes' : Bytes → Type 0) → ((l : Bytes) → comes l → comes' l) → accepted reached.store.policy ≡ Some P → IsFront P reached.store G
-            → (IsDated (seen reached.store.disk).contents → Old) → reached.store.policy ≡ first.store.policy → ends_by 65546 (GivesReply seen) comes r reached last
-            → ends_by 65546 (GivesReplyBy accepted P first.store.policy Old) comes' r (standing G places reached) (standing G places last)
-        ends_so (Ok done) reached comes comes' onto accepts' front' dated policy e = ap (standing G places) e
-        ends_so (Err faults.SourceFault) reached comes comes' onto accepts' front' dated policy e = ap (standing G places) e
-        ends_so (Err faults.SinkFault) reached comes comes' onto accepts' front' dated policy e = ap (standing G places) e
-        ends_so (Err faults.TooLong) reached comes comes' onto accepts' front' dated policy e = ap (standing G places) e
-        ends_so (Err (faults.NoMemory m)) reached comes comes' onto accepts' front' dated policy e = ⊎_elim
-            (λ (same : reached ≡ last). inl (ap (standing G places) same))
-            (λ (u : IsAnsweredUntold 65546 (GivesReply seen) comes reached last).
-            inr (record {
-              line = u.line;
-              bare = u.bare;
-              fits = u.fits;
-              came = onto (u.line ++ 10 ∷ []) u.came;
-              reply = u.reply;
-              answer = subst (λ (text : Bytes). GivesReplyBy accepted P text Old (standing G places reached) (standing G places last) u.line u.reply) policy
-                  (said_one Old reached last u.line u.reply dated accepts' front' u.answer);
-            })) e
-
         pub conversed : (r : Result (Unit {0}) TalkFault) → HasGreeted (Ok tt) steps (moment_of (seen first.store.disk)) v0 v1
             → HasTalked (kept_seen seen) (Keeps seen) (GivesReply seen) Refuses 65546 r first last v1 v2 hears → Conversed r
         conversed r greeted h =
@@ -275,9 +256,13 @@ module _ {D : Type 0} (seen : D → DiskSeen) (only : (d : D) (c : List ℕ) →
               heard = subst hears (sym (lines_shown G places h.exchanges)) h.heard;
               reached = standing G places h.reached;
               answered = said;
-              ends = ends_so r h.reached (λ more. hears (lines_in h.exchanges ++ more)) (λ more. hears (lines_in (shown G places h.exchanges) ++ more))
-                  (λ more heard. subst (λ (l : Bytes). hears (l ++ more)) (sym (lines_shown G places h.exchanges)) heard) (ap accepted s.policy ∙ accepts) (front_same P first.store h.reached.store G s.policy s.point s.before front)
-                  (dated_before (seen first.store.disk).contents (seen h.reached.store.disk).contents s.tells along.kind) s.policy h.ends;
+              ends = ends_onto (standing G places) 65546 (GivesReply seen) (GivesReplyBy accepted P first.store.policy Old)
+                  (λ more. hears (lines_in h.exchanges ++ more)) (λ more. hears (lines_in (shown G places h.exchanges) ++ more))
+                  (λ more heard. subst (λ (l : Bytes). hears (l ++ more)) (sym (lines_shown G places h.exchanges)) heard) h.reached last
+                  (λ line reply gives. subst (λ (text : Bytes). GivesReplyBy accepted P text Old (standing G places h.reached) (standing G places last) line reply)
+                  s.policy
+                  (said_one Old h.reached last line reply (dated_before (seen first.store.disk).contents (seen h.reached.store.disk).contents s.tells along.kind)
+                  (ap accepted s.policy ∙ accepts) (front_same P first.store h.reached.store G s.policy s.point s.before front) gives)) r h.ends;
               output = subst (λ (l : Bytes). goes_out r v0.contents v2.contents ready l) (sym (replies_shown G places h.exchanges))
                   (went_out r v0.contents v1.contents v2.contents ready (replies_in h.exchanges) wrote h.output);
               told = lead.told;

@@ -8,12 +8,12 @@ use Rattle.ucon_store.specs.declared.fault.PointFault.{PointFault}
 use Rattle.ucon_store.specs.declared.fault.PointFault.TheVariants as faults
 use Rattle.ucon_store.specs.Points.{PolicyReading, SameKind}
 use Rattle.ucon_tell.specs.Seen.{VoiceSeen}
-use Rattle.ucon_tell.specs.Talk.{AnswersEach, Exchange, ends_by, lines_in}
+use Rattle.ucon_tell.specs.Talk.{AnswersEach, Exchange, lines_in}
 use Rattle.ucon_tell.specs.declared.talk_fault.TalkFault.{TalkFault}
-use Rattle.ucon_tell.specs.declared.talk_fault.TalkFault.TheVariants as talks
 use Rattle.ucon_converse.specs.Conversation.{HasConversedBy}
 use Rattle.ucon_converse.specs.Keeping.{IsDated}
 use Rattle.ucon_converse.specs.Replies.{GivesReplyBy, GoesOn, IsPointed, IsTooLong, Rests, Standing}
+use Rattle.ucon_converse.proofs.Untold.{ends_onto}
 
 -- a journal that is an old one was one before
 pub dated_before : (o p : Option Bytes) → (IsSome o → IsSome p) → SameKind o p → IsDated p → IsDated o
@@ -68,22 +68,6 @@ module _ (reads : PolicyReading) (P : PlainPolicy) (text : Bytes) (A B : Type 0)
     each_as limit x.after last xs run.1,
   )
 
-  ends_as : (limit : ℕ) (comes : Bytes → Type 0) (r : Result (Unit {0}) TalkFault) (reached last : Standing)
-      → ends_by limit (GivesReplyBy reads P text A) comes r reached last → ends_by limit (GivesReplyBy reads P text B) comes r reached last
-  ends_as limit comes (Ok done) reached last e = e
-  ends_as limit comes (Err talks.SourceFault) reached last e = e
-  ends_as limit comes (Err talks.SinkFault) reached last e = e
-  ends_as limit comes (Err talks.TooLong) reached last e = e
-  ends_as limit comes (Err (talks.NoMemory m)) reached last (inl same) = inl same
-  ends_as limit comes (Err (talks.NoMemory m)) reached last (inr u) = inr (record {
-    line = u.line;
-    bare = u.bare;
-    fits = u.fits;
-    came = u.came;
-    reply = u.reply;
-    answer = answered_as reached last u.line u.reply u.answer;
-  })
-
   -- a conversation over a journal that is an old one only if this is so, where what is premised of the disk is met
   pub conversed_as : (limit : ℕ) (result : Result (Unit {0}) TalkFault) (opening last : Standing) (before now : VoiceSeen) (disk : DiskSeen) (tells : Type 0) (hears : Bytes → Type 0)
       → tells → HasConversedBy reads P text A limit result opening last before now disk tells hears
@@ -93,7 +77,8 @@ module _ (reads : PolicyReading) (P : PlainPolicy) (text : Bytes) (A B : Type 0)
     heard = h.heard;
     reached = h.reached;
     answered = each_as limit opening h.reached h.exchanges h.answered;
-    ends = ends_as limit (λ more. hears (lines_in h.exchanges ++ more)) result h.reached last h.ends;
+    ends = ends_onto (λ s. s) limit (GivesReplyBy reads P text A) (GivesReplyBy reads P text B) (λ more. hears (lines_in h.exchanges ++ more))
+        (λ more. hears (lines_in h.exchanges ++ more)) (λ more heard. heard) h.reached last (λ line reply gives. answered_as h.reached last line reply gives) result h.ends;
     output = h.output;
     told = h.told;
     among = h.among;

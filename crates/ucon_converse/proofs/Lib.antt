@@ -9,11 +9,15 @@ pub mod Faulty
 pub mod Leads
 pub mod Long
 pub mod OneLine
+pub mod Overall
 pub mod PolicyLines
+pub mod Reaching
 pub mod ReadingBack
 pub mod ReadingExamples
 pub mod Records
 pub mod Stepping
 pub mod Tellings
 pub mod Unasked
+pub mod Unheard
 pub mod Unpointed
+pub mod Untold

@@ -172,7 +172,7 @@ GivesReplyBy reads P text old before after line reply =
     ⊎ IsRead P text before after line reply ⊎ IsAskedForPoint P text old before after line reply
 
 -- a line that is too long was given this reply
-abbrev pub IsTooLong : Standing → Bytes → Type 0
+abbrev pub IsTooLong : {K : Type 0} → K → Bytes → Type 0
 IsTooLong before reply = reply ≡ refusal_line (codes "too long")
 
 -- ---- all lines
