@@ -14,7 +14,7 @@ use Rattle.ucon_model.specs.Plain.{Bytes, PlainPolicy}
 use Rattle.ucon_model.specs.StoredRun.{LeadsTo, failed_line}
 use Rattle.ucon_store.specs.Kept.{Kept}
 use Rattle.ucon_store.specs.Marks.{marked}
-use Rattle.ucon_store.specs.Points.{SameKind, has_points, text_in_force}
+use Rattle.ucon_store.specs.Points.{text_in_force}
 use Rattle.ucon_store.specs.Starts.{IsStart, text_at_start}
 use Rattle.ucon_store.specs.Whole.{IsFront}
 use Rattle.ucon_syntax.specs.Policies.{accepted}

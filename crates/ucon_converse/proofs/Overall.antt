@@ -1,7 +1,7 @@
 -- From a keeper that talked to answers behind a trace that leads to where its store begins.
-use Rattle.std.proofs.Common.{◌≡◌, ◌⊎◌, inl, inr, ⊎_elim, ℕ, ◌+◌, ◌≤◌, List, [], ◌∷◌, ◌++◌, length, refl, sym, ap, subst, ◌∙◌}
+use Rattle.std.proofs.Common.{◌≡◌, inl, inr, ℕ, ◌+◌, ◌≤◌, List, [], ◌∷◌, ◌++◌, length, refl, sym, ap, subst, ◌∙◌}
 use Rattle.std.proofs.lemmas.List.{append-nil}
-use Rattle.std.specs.Prelude.{Option, Some, None, IfSome, Result, Ok, Err}
+use Rattle.std.specs.Prelude.{Option, Some, IfSome, Result, Ok, Err}
 use Rattle.ucon_disk.specs.Seen.{DiskSeen}
 use Rattle.ucon_flow.specs.Writing.{AppendsPrefix}
 use Rattle.ucon_model.specs.Action.{Trace}
@@ -10,7 +10,7 @@ use Rattle.ucon_model.specs.Plain.{Bytes, PlainPolicy}
 use Rattle.ucon_store.specs.Kept.{Kept}
 use Rattle.ucon_store.specs.Opened.{Sees, holds}
 use Rattle.ucon_store.specs.Opening.{IsSeenAs}
-use Rattle.ucon_store.specs.Starts.{IsBeforeAll, IsStart}
+use Rattle.ucon_store.specs.Starts.{IsStart}
 use Rattle.ucon_state.specs.Held.{held_after}
 use Rattle.ucon_store.specs.Stays.{Stays}
 use Rattle.ucon_syntax.specs.Policies.{accepted}

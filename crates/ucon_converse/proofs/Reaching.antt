@@ -1,5 +1,5 @@
 -- What a store has reached behind a trace that leads to where it begins, step by step.
-use Rattle.std.proofs.Common.{◌≡◌, ◌≢◌, ◌↔◌, ◌⊎◌, inl, inr, ⊎_elim, true, false, Result, Ok, Err, ℕ, ◌+◌, List, [], ◌∷◌, ◌++◌, length, length-append, refl, sym, ap, subst, ◌∙◌, arith}
+use Rattle.std.proofs.Common.{◌≡◌, ◌≢◌, ◌↔◌, inl, inr, ⊎_elim, true, false, Result, Ok, Err, ℕ, ◌+◌, [], ◌∷◌, ◌++◌, length, length-append, refl, sym, ap, subst, ◌∙◌, arith}
 use Rattle.std.specs.Prelude.{Bool, Option, Some, None, IsSome, IfOk, IfErr, IsErrOf, is_ok, if◌then◌else◌}
 use Rattle.ucon_base.specs.Memory.{out_of_memory}
 use Rattle.ucon_disk.specs.Seen.{DiskSeen}
@@ -7,7 +7,6 @@ use Rattle.ucon_model.specs.declared.command.Entry.{Entry}
 use Rattle.ucon_model.specs.Action.{Trace}
 use Rattle.ucon_model.specs.Block.{after}
 use Rattle.ucon_model.specs.History.{History, changes, trace_from}
-use Rattle.ucon_model.specs.LegalRun.{Answered}
 use Rattle.ucon_model.specs.Plain.{PlainPolicy, PlainReply}
 use Rattle.ucon_model.specs.Views.{reply_of}
 use Rattle.ucon_store.specs.declared.placed.Placed.{Placed}

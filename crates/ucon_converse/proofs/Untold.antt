@@ -1,5 +1,5 @@
 -- A line that was answered and not told, seen otherwise.
-use Rattle.std.proofs.Common.{◌≡◌, ⊎_elim, inl, inr, ℕ, List, ◌∷◌, ◌++◌, [], ap}
+use Rattle.std.proofs.Common.{◌≡◌, ⊎_elim, inl, inr, ℕ, ◌∷◌, ◌++◌, [], ap}
 use Rattle.std.specs.Prelude.{Result, Ok, Err}
 use Rattle.ucon_model.specs.Plain.{Bytes}
 use Rattle.ucon_tell.specs.Talk.{IsAnsweredUntold, ends_by}

@@ -1,6 +1,5 @@
-use Rattle.std.proofs.Common.{rules, ◌≡◌, ◌⊎◌, ⊎_elim, inl, inr, ℕ, None, Some, refl, sym, ap, subst, ◌∙◌}
-use Rattle.std.specs.Prelude.{Option, IsSome, IfErr, Result}
-use Rattle.ucon_model.specs.History.{History, trace}
+use Rattle.std.proofs.Common.{sym, subst}
+use Rattle.ucon_model.specs.History.{trace}
 use Rattle.ucon_store.specs.Starts.{checkpoint_behind}
 use Rattle.ucon_converse.specs.declared.points.Points.{Points}
 use Rattle.ucon_converse.specs.Answering.{answering}
