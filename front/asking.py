@@ -10,7 +10,7 @@ from front.answers import Answer, refusal
 from front.book import Book
 from front.monitor import NoAnswer, Unavailable
 from front.protocol import Unspeakable
-from front.readings import NotThere
+from front.readings import Pointless
 from front.repeats import KEY, OtherRequest, Repeats
 from front.users import User
 
@@ -136,7 +136,7 @@ class Asking:
     def __init__(self, book: Book) -> None:
         self.book = book
         self.limits = book.config.limits
-        self.repeats: Repeats[Answer] = Repeats(book.config.key_seconds, (Unavailable, Unspeakable, Refused, NotThere))
+        self.repeats: Repeats[Answer] = Repeats(book.config.key_seconds, (Unavailable, Unspeakable, Refused, Pointless))
 
     def user(self, request: web.Request) -> User:
         user: User = request["user"]

@@ -3,12 +3,15 @@ from collections.abc import Awaitable, Callable
 
 from front.protocol import Reply, SessionRow, Unspeakable, explained, json_part, numbers, session_row
 
-# How the program says that it has no such reading.
-UNKNOWN = "bad client"
+# Why the program makes no checkpoint that it is asked for, and what whoever asked is told of it.
+POINTLESS = {
+    "old journal": "the journal is of version 1, which has no checkpoints",
+    "point too large": "what is there is too long for a checkpoint",
+}
 
 
-class NotThere(Exception):
-    """This program has no such reading."""
+class Pointless(Exception):
+    """There can be no checkpoint. The journal goes on without one."""
 
 
 class Readings:
@@ -41,10 +44,11 @@ class Readings:
         return reply.place or 0, explained(reply.text)
 
     async def point(self) -> Reply:
-        """Has a checkpoint written, by a program that does so when it is asked."""
+        """Has a checkpoint written."""
         try:
             return await self._ask("point")
         except Unspeakable as why:
-            if str(why).endswith(f": {UNKNOWN}"):
-                raise NotThere("this program makes no checkpoint in a conversation: stop, and run `./ucon point`") from None
-            raise
+            reason = POINTLESS.get(str(why).rpartition(": ")[2])
+            if reason is None:
+                raise
+            raise Pointless(reason) from None

@@ -22,7 +22,7 @@ from front.events import Streams
 from front.limits import Connections, Rates
 from front.monitor import Failed, NoAnswer, Unavailable
 from front.protocol import Unspeakable
-from front.readings import NotThere
+from front.readings import Pointless
 from front.routes import UserRoutes
 from front.users import User
 
@@ -121,8 +121,8 @@ class Front:
             return json_response(why.answer, **headers)
         except Unspeakable as why:
             return json_response(refusal(str(why), 400))
-        except NotThere as why:
-            return json_response(refusal(str(why), 501))
+        except Pointless as why:
+            return json_response(refusal(str(why), 409))
         except Unavailable as why:
             return json_response(refusal(f"the monitor can't answer now: {why}", 503), **{"Retry-After": "1"})
         except NoAnswer as why:

@@ -171,8 +171,7 @@ class Console {
   async readValues() {
     const tables = [];
     if (this.isAdmin) {
-      const state = await this.api.get("/admin/state").catch((why) => (why.status === 501 ? why : Promise.reject(why)));
-      if (state instanceof Refused) return at("tables").replaceChildren(state.message);
+      const state = await this.api.get("/admin/state");
       tables.push(this.entities("Subjects", state.subjects), this.entities("Objects", state.objects));
       const variables = Object.entries(state.env).map(([name, it]) => [name, spelled(it)]);
       tables.push(table("Variables, and the tick", ["Name", "Value"], [...variables, ["tick", String(state.tick)]]));

@@ -31,8 +31,6 @@ DIVIDER = {
     "text": "policy:2:1: the line `%%` is no part of a policy: it divides a document; leave it out, with all below it", "line": 2, "column": 1,
 }
 KEYED = {"Idempotency-Key": "amendment"}
-# What only a program with all readings answers.
-READINGS = ("/explain", "/admin/explain", "/admin/state", "/admin/point")
 WOULD_DO = [
     "loses its values: s.cleared", "loses its values: o.seats", "loses its values: o.taken",
     "revokes: 1 [ann enter hall] by no_right", "revokes: 5 [bob enter hall] by no_right",
@@ -187,6 +185,7 @@ TABLE = [
     Row("root", "GET", "/admin/users", None, 200),
     Row("root", "GET", "/admin/policy", None, 200),
     Row("root", "POST", "/admin/point", {}, 200),
+    Row("root", "POST", "/admin/point", {"now": True}, 400),
     # A fault is told as a check tells it, before what would be lost; and neither is kept under a key.
     Row("root", "POST", "/admin/amend", {"policy": NO_LABEL, "drop": ALL}, 400, {"error": "the policy has a fault", "fault": FAULT}, KEYED),
     Row("root", "POST", "/admin/amend", {"policy": NO_LABEL}, 400, {"error": "the policy has a fault", "fault": FAULT}),
@@ -239,9 +238,6 @@ class Routes(unittest.IsolatedAsyncioTestCase):
                 with self.subTest(number=number, who=row.who, path=row.path):
                     body, raw = (None, row.body) if isinstance(row.body, bytes) else (row.body, None)
                     told = await running.ask(row.who, row.method, row.path, body, raw, **row.headers)
-                    if told.status == 501 and row.path.startswith(READINGS):
-                        # The program has no such reading: nothing else may be answered so.
-                        continue
                     self.assertEqual(told.status, row.status, str(told.body)[:300])
                     if row.status == 405:
                         self.assertEqual(told.headers["Allow"], "POST")

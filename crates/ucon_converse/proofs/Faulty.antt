@@ -1,5 +1,5 @@
 -- Lines that aren't taken.
-use Rattle.std.proofs.Common.{◌≡◌, true, false, Result, Ok, Err, ◌∷◌, ◌++◌, refl, sym, ap, subst, ◌∙◌, inl, inr}
+use Rattle.std.proofs.Common.{◌≡◌, true, false, Result, Ok, Err, ℕ, List, ◌∷◌, ◌++◌, refl, sym, ap, subst, ◌∙◌, inl, inr}
 use Rattle.std.proofs.lemmas.List.{append_cancel_left}
 use Rattle.std.specs.Prelude.{Bool, IsFalse, IsOk, Option, Some, None, is_some, codes}
 use Rattle.std.specs.Fmt.{decimal}
@@ -18,18 +18,18 @@ use Rattle.ucon_model.specs.LegalRun.{Answered}
 use Rattle.ucon_model.specs.Plain.{Bytes, PlainPolicy}
 use Rattle.ucon_syntax.specs.Policies.{accepted}
 use Rattle.ucon_converse.specs.Readings.{IsNoReading}
-use Rattle.ucon_converse.specs.Replies.{GivesReplyBy, IsStep, Standing, client_line, refusal_line, unheard}
+use Rattle.ucon_converse.specs.Replies.{GivesReplyBy, IsStep, Rests, Standing, client_line, refusal_line, unheard}
 use Rattle.ucon_converse.specs.Requests.{refusal_words}
 use Rattle.ucon_converse.specs.Said.{fault_line, line_told, unheard_so}
 
 -- a client's text is one
-one_text : (line : Bytes) (one other : Caller) (text more : Bytes) → one ≡ other → IsAskedBy line one text → IsAskedBy line other more → more ≡ text
+pub one_text : (line : Bytes) (one other : Caller) (text more : Bytes) → one ≡ other → IsAskedBy line one text → IsAskedBy line other more → more ≡ text
 one_text line one other text more same p q =
     let lines : decimal one.0 ++ 32 ∷ more ≡ decimal one.0 ++ 32 ∷ text = ap (λ (c : Caller). decimal c.0 ++ 32 ∷ more) same ∙ (sym q.line_is ∙ p.line_is) in
     let behind : 32 ∷ more ≡ 32 ∷ text = append_cancel_left (decimal one.0) (32 ∷ more) (32 ∷ text) lines in
     cc behind
 
-said_otherwise : {A B : Type 0} (r : Result A B) (a : A) (b : B) → r ≡ Ok a → r ≡ Err b → ⊥
+pub said_otherwise : {A B : Type 0} (r : Result A B) (a : A) (b : B) → r ≡ Ok a → r ≡ Err b → ⊥
 said_otherwise r a b ok err = let bad : Ok a ≡ Err b = sym ok ∙ err in cc bad
 
 -- what is told where no memory was there, as it is done
@@ -38,14 +38,20 @@ unheard_is None stopped is = ap unheard_so (sym is)
 unheard_is (Some e) stopped is = ap unheard_so (sym is)
 
 -- to be told so is a step that changes nothing
-unheard_step : (P : PlainPolicy) (history : History) (failed : Option History) (e : Entry)
-    → IsStep P (record { history = history; failed = failed }) (record { history = history; failed = failed }) (record { line = e; answer = unheard failed })
-unheard_step P history None e = inl (refl, record { failed = None; mark = refl; leads = inl (tt, (refl, refl)) })
-unheard_step P history (Some f) e = inr (refl, refl, refl)
+unheard_step : (P : PlainPolicy) (history : History) (failed : Option History) (points : List ℕ) (tried : ℕ) (e : Entry)
+    → IsStep P (record { history = history; failed = failed; points = points; tried = tried })
+    (record { history = history; failed = failed; points = points; tried = tried }) (record { line = e; answer = unheard failed })
+unheard_step P history None points tried e = inl (refl, record { failed = None; mark = refl; leads = inl (tt, (refl, refl)); points = refl; tried = refl })
+unheard_step P history (Some f) points tried e = inr (refl, refl, refl)
 
-module _ (line : Bytes) (P : PlainPolicy) (policy : Bytes) (before : Standing) (stopped : Bool) (is : is_some before.failed ≡ stopped) (unread : IsNoReading line) where
+unheard_rests : (old : Type 0) (P : PlainPolicy) (text : Bytes) (failed : Option History) (s : Standing) → Rests old P text (unheard failed) s s
+unheard_rests old P text None s = refl
+unheard_rests old P text (Some f) s = refl
+
+module _ (line : Bytes) (P : PlainPolicy) (policy : Bytes) (old : Type 0) (before : Standing) (stopped : Bool) (is : is_some before.failed ≡ stopped)
+    (unread : IsNoReading line) (unpointed : line ≡ codes "point" → ⊥) where
   abbrev Gives : Bytes → Type 0
-  Gives reply = GivesReplyBy accepted P policy before before line reply
+  Gives reply = GivesReplyBy accepted P policy old before before line reply
 
   -- its text is no command, for this reason
   refused_for : (whose : Caller) (text : Bytes) (refusal : LineRefusal) → IsAskedBy line whose text → line_read accepted text ≡ Err refusal
@@ -55,6 +61,7 @@ module _ (line : Bytes) (P : PlainPolicy) (policy : Bytes) (before : Standing) (
         let same : q.text ≡ text = one_text line whose e.caller text q.text (one e.caller q.text q.by) by q.by in
         said_otherwise (line_read accepted text) e.command refusal (sym (ap (line_read accepted) same) ∙ q.says) refused;
     unread = unread;
+    unpointed = unpointed;
     words = refusal_words refusal;
     why = inr (record { caller = whose; text = text; by = by; refusal = refusal; refused = refused; words_are = refl });
     reply_is = refl;
@@ -80,7 +87,11 @@ module _ (line : Bytes) (P : PlainPolicy) (policy : Bytes) (before : Standing) (
           inl (record {
             told = told;
             request = record { text = text; by = by; says = says };
-            step = unheard_step P before.history before.failed e;
+            steps = record {
+              between = before;
+              step = unheard_step P before.history before.failed before.points before.tried e;
+              rests = unheard_rests old P policy before.failed before;
+            };
             reply_is = told_is;
           })
       by_said (Err refusal) refused = inr (inr (inl (record {
@@ -110,6 +121,7 @@ module _ (line : Bytes) (P : PlainPolicy) (policy : Bytes) (before : Standing) (
   fault_told BadClient of to = inr (inl (record {
     none = λ e q. to e.caller q.text q.by;
     unread = unread;
+    unpointed = unpointed;
     words = codes "bad client";
     why = inl (record { nobody = to; words_are = refl });
     reply_is = refl;

@@ -10,7 +10,8 @@ use Rattle.ucon_journal.specs.Opened.{Untouched, opened}
 use Rattle.ucon_model.specs.Plain.{Bytes}
 use Rattle.ucon_outcome.specs.declared.outcome.Refused.{Refused}
 use Rattle.ucon_outcome.specs.declared.outcome.Refused.TheVariants as refusals
-use Rattle.ucon_converse.specs.Ended.{HasBadFirst, HasFirst, IsNoPolicy, IsOfRecord, LeavesSame, record_refused}
+use Rattle.ucon_converse.specs.Ended.{HasBadFirst, IsNoPolicy, IsOfRecord, LeavesSame, record_refused}
+use Rattle.ucon_converse.specs.Holding.{HasFirst}
 use Rattle.ucon_converse.specs.PolicyFaults.{IsRefusedText}
 
 pub if_err : {T E : Type 0} (r : Result T E) (A B : E → Type 0) → ((e : E) → A e → B e) → IfErr r A → IfErr r B

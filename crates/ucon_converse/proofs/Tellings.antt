@@ -10,13 +10,15 @@ use Rattle.ucon_model.specs.Output.{Lacks}
 use Rattle.ucon_model.specs.Plain.{Bytes, PlainPolicy}
 use Rattle.ucon_state.specs.Following.{Follows}
 use Rattle.ucon_state.specs.Shown.{Shown}
+use Rattle.ucon_store.specs.declared.fault.PointFault.{PointFault}
+use Rattle.ucon_store.specs.declared.fault.PointFault.TheVariants as faults
 use Rattle.ucon_store.specs.Kept.{Kept}
 use Rattle.ucon_store.specs.Whole.{IsFront}
 use Rattle.ucon_tell.specs.Told.{IsReplied}
 use Rattle.ucon_converse.specs.Readings.{reading_line}
-use Rattle.ucon_converse.specs.Replies.{IsToldSo, refusal_line}
+use Rattle.ucon_converse.specs.Replies.{IsToldSo, point_line, refusal_line}
 use Rattle.ucon_converse.proofs.Bare.{both, decimal_lacks}
-use Rattle.ucon_converse.proofs.OneLine.{all_lack, line_of}
+use Rattle.ucon_converse.proofs.OneLine.{all_lack, line_of, refusal_line_is}
 
 -- what isn't there is none
 pub unstopped : {A : Type 0} (o : Option A) → is_some o ≡ false → o ≡ None
@@ -41,13 +43,13 @@ one_off front last old new n count is left =
 
 -- ---- histories
 
-trace_append : (P : PlainPolicy) (T : Trace) (G H : History) → trace_from P T (G ++ H) ≡ trace_from P (trace_from P T G) H
+pub trace_append : (P : PlainPolicy) (T : Trace) (G H : History) → trace_from P T (G ++ H) ≡ trace_from P (trace_from P T G) H
 trace_append P T [] H = refl
 trace_append P T (e ∷ G) H = trace_append P (after P T e.caller e.command) G H
 
 module _ {D : Type 0} (P : PlainPolicy) (s : Kept D) (G : History) where
   -- the trace of a store is that of the history before its entries and them
-  whole_trace : trace_from P (trace P G) s.entries ≡ trace P (G ++ s.entries)
+  pub whole_trace : trace_from P (trace P G) s.entries ≡ trace P (G ++ s.entries)
   whole_trace = sym (trace_append P [] G s.entries)
 
   pub follows_whole : (shown : Shown) → Follows shown P (trace_from P (trace P G) s.entries) → Follows shown P (trace P (G ++ s.entries))
@@ -62,6 +64,14 @@ pub reading_line_is : (steps : ℕ) (told : Bytes) → Lacks 10 told → IsLine 
 reading_line_is steps told lacks =
     let front : Lacks 10 (codes "- " ++ decimal steps) = both (codes "- ") (decimal steps) (all_lack (codes "- ") refl) (decimal_lacks steps) in
     line_of (codes "- " ++ decimal steps ++ 32 ∷ told) (both (codes "- " ++ decimal steps) (32 ∷ told) front (refl, lacks))
+
+pub point_line_is : (said : Result ℕ PointFault) → IsLine (point_line said)
+point_line_is (Ok n) = reading_line_is n (codes "point " ++ decimal n) (both (codes "point ") (decimal n) (all_lack (codes "point ") refl) (decimal_lacks n))
+point_line_is (Err faults.DiskFault) = refusal_line_is (codes "disk fault") (all_lack (codes "disk fault") refl)
+point_line_is (Err faults.Stopped) = refusal_line_is (codes "stopped") (all_lack (codes "stopped") refl)
+point_line_is (Err faults.OldJournal) = refusal_line_is (codes "old journal") (all_lack (codes "old journal") refl)
+point_line_is (Err (faults.TooLarge size)) = refusal_line_is (codes "point too large") (all_lack (codes "point too large") refl)
+point_line_is (Err (faults.NoMemory e)) = refusal_line_is (codes "no memory") (all_lack (codes "no memory") refl)
 
 -- a line that was added is a reply
 pub replied : {T E : Type 0} (r : Result T E) (old new reply : Bytes) (so : Bytes → Type 0) → IsLine reply → so reply → OnOk r (new ≡ old ++ reply) → OnOk r (IsReplied so old new)

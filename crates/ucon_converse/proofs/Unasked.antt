@@ -43,3 +43,9 @@ no_request line reading caller text is by =
     let letter = begins reading in
     digits_begin (decimal caller.0) text letter.first letter.rest (decimal_is_IsNumeral caller.0 (omega (arith, few))).0.1 letter.letter
     (sym by.line_is ∙ (is.line_is ∙ letter.is))
+
+-- nor is the line that asks for a checkpoint
+pub point_asks_nothing : (line : Bytes) (caller : Caller) (text : Bytes) → line ≡ codes "point" → IsAskedBy line caller text → ⊥
+point_asks_nothing line caller text is by =
+    let few = by.few in
+    digits_begin (decimal caller.0) text 112 (codes "oint") (decimal_is_IsNumeral caller.0 (omega (arith, few))).0.1 (lit< tt) (sym by.line_is ∙ is)

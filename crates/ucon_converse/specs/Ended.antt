@@ -1,9 +1,10 @@
 -- How a whole conversation ends: the journal isn't opened, or lines were answered over it.
-use Rattle.std.specs.Prelude.{◌≡◌, ◌⊎◌, ⊤, ℕ, ◌<◌, Bool, true, false, List, [], ◌∷◌, ◌++◌, length, Option, IfSome, Some, None, is_some, IsSome, Result, Ok, Err}
+use Rattle.std.specs.Prelude.{◌≡◌, ◌⊎◌, ⊤, ℕ, ◌<◌, Bool, true, false, List, [], ◌++◌, length, Option, IfSome, Some, None, is_some, IsSome, Result, Ok, Err}
 use Rattle.ucon_disk.specs.Causes.{raised}
 use Rattle.ucon_disk.specs.Run.{IsAtRest, LeavesAfter, LeavesOnly}
 use Rattle.ucon_disk.specs.Seen.{DiskSeen}
 use Rattle.ucon_journal.specs.Found.{counted}
+use Rattle.ucon_model.specs.Action.{Trace}
 use Rattle.ucon_model.specs.History.{History}
 use Rattle.ucon_model.specs.Plain.{Bytes, PlainPolicy}
 use Rattle.ucon_outcome.specs.declared.outcome.Outcome.{Outcome}
@@ -13,22 +14,25 @@ use Rattle.ucon_outcome.specs.declared.outcome.Refused.{Refused}
 use Rattle.ucon_outcome.specs.declared.outcome.Refused.TheVariants as refusals
 use Rattle.ucon_outcome.specs.Ending.{by_opening}
 use Rattle.ucon_store.specs.declared.fault.StoreFault.{StoreFault}
-use Rattle.ucon_store.specs.Found.{IsFoundBy, IsFoundMarkedBy}
-use Rattle.ucon_store.specs.Kept.{Kept}
+use Rattle.ucon_store.specs.Found.{IsFoundBy}
+use Rattle.ucon_store.specs.Opened.{Parted, last_point, steps_among}
 use Rattle.ucon_store.specs.Opening.{HasReasonBy, OpensBy}
-use Rattle.ucon_store.specs.Points.{PolicyReading}
-use Rattle.ucon_store.specs.Stays.{Stays}
-use Rattle.ucon_store.specs.Whole.{IsFounded, IsFront}
+use Rattle.ucon_store.specs.Points.{IsOld, PolicyReading, point_places}
+use Rattle.ucon_store.specs.Starts.{IsStart}
+use Rattle.ucon_store.specs.Whole.{IsFront}
 use Rattle.ucon_syntax.specs.Policies.{accepted}
 use Rattle.ucon_tell.specs.Heard.{Hears}
 use Rattle.ucon_tell.specs.Seen.{VoiceSeen}
 use Rattle.ucon_tell.specs.declared.talk_fault.TalkFault.{TalkFault}
 use Rattle.ucon_tell.specs.declared.talk_fault.TalkFault.TheVariants as faults
 use Rattle.ucon_turn.specs.Lists.{Begins}
+use Rattle.ucon_converse.specs.Answering.{Answering}
 use Rattle.ucon_converse.specs.Conversation.{HasConversedBy}
-use Rattle.ucon_converse.specs.Keeping.{standing}
+use Rattle.ucon_converse.specs.Holding.{HasFirst, IsFoundedAt, IsLeftBy, standing}
+use Rattle.ucon_converse.specs.Keeping.{IsDated, Keeps}
 use Rattle.ucon_converse.specs.PolicyFaults.{IsPolicyFaultOf}
-use Rattle.ucon_converse.specs.PolicyPart.{TakesPolicy}
+use Rattle.ucon_converse.specs.PolicyPart.{IsLongPolicy, TakesPolicy}
+use Rattle.ucon_converse.specs.Reached.{HasAnsweredBy, IsSeenAtBy, Reached, reached_by}
 use Rattle.ucon_converse.specs.Replies.{Standing}
 
 -- How it ends, by how the talk did, and by whether a step has met a disk fault. A fault of the source or of the sink stands before one of the disk.
@@ -42,17 +46,20 @@ ended_so (Err (faults.NoMemory e)) failed = outcomes.NoMemory e
 
 -- ---- over a store
 
--- A store was talked with and closed, behind each history that leads to where it begins. Of what was heard this is so, by how the talk ended.
-pub record IsTalkedOver {D : Type 0} (seen : D → DiskSeen) (store : Kept D) (disk : D) (outcome : Outcome) (before now : VoiceSeen)
+-- A store that answers lines was talked with and closed, behind each trace and each history that leads to where it begins. Of what was heard this is
+-- so, by how the talk ended.
+pub record IsTalkedOver {D : Type 0} (seen : D → DiskSeen) (first : Answering D) (disk : D) (outcome : Outcome) (before now : VoiceSeen)
     (hears : Result (Unit {0}) TalkFault → Bytes → Type 0) : Type 0 where
-  pub closed : Kept D
-  pub disk_is : disk ≡ closed.disk
-  pub stays : Stays seen store closed
+  pub closed : Answering D
+  pub disk_is : disk ≡ closed.store.disk
+  pub keeps : Keeps seen first closed
   pub result : Result (Unit {0}) TalkFault
-  pub outcome_is : outcome ≡ ended_so result (is_some closed.mark)
-  pub conversed : (P : PlainPolicy) (G : History) → accepted store.policy ≡ Some P → IsFront P store G → store.mark ≡ None
-      → HasConversedBy accepted P store.policy 65546 result (standing G store) (standing G closed) before now (seen closed.disk)
-      (IsFounded seen P store G × IsSome (seen store.disk).contents) (hears result)
+  pub outcome_is : outcome ≡ ended_so result (is_some closed.store.mark)
+  pub answered : (P : PlainPolicy) (T : Trace) → accepted first.store.policy ≡ Some P → IsStart P first.store.point first.store.before T
+      → HasAnsweredBy accepted P 65546 result (reached_by P T first.store) (reached_by P T closed.store) before now (hears result)
+  pub conversed : (P : PlainPolicy) (G : History) (places : List ℕ) → accepted first.store.policy ≡ Some P → IsFront P first.store G → first.store.mark ≡ None
+      → HasConversedBy accepted P first.store.policy (IsDated (seen first.store.disk).contents) 65546 result (standing G places first) (standing G places closed)
+      before now (seen closed.store.disk) (IsFoundedAt seen P first G places) (hears result)
 
 -- ---- over a journal that was found as a history
 
@@ -63,18 +70,28 @@ pub record IsFoundSinceBy (reads : PolicyReading) (text : Bytes) (opening H : Hi
   pub begun : Begins opening history
   pub within : Begins history H ⊎ ((es : History) × (mark ≡ Some es) × (history ≡ H ++ es))
 
--- The conversation went on behind the opening history to a last standing. The disk's count of faults is one more if a step met a disk fault, and
--- otherwise as it was. A crash at any moment since, if the disk was at rest before, and a crash now at any rate, leaves what was done by then.
+-- how many steps stand before the last checkpoint, if there is one
+abbrev pub steps_before : Option Parted → ℕ
+steps_before None = 0
+steps_before (Some p) = steps_among p.before
+
+-- what a store stands for that was opened over a file which was found as this history
+abbrev pub opened_on : Bytes → History → Standing
+opened_on file H = record { history = H; failed = None; points = point_places file; tried = steps_before (last_point file) }
+
+-- The conversation went on behind the opening history to a last standing. The disk's count of faults is one more if a call met a disk fault, and
+-- otherwise as it was. A crash at any moment since, if the disk was at rest before, and a crash now at any rate, leaves what was done by then. Now it
+-- leaves the policy and all checkpoints, too.
 pub record IsHeldBehindBy (reads : PolicyReading) (text : Bytes) (P : PlainPolicy) (file : Bytes) (opening : History) (outcome : Outcome)
     (old new : DiskSeen) (before now : VoiceSeen) (hears : Result (Unit {0}) TalkFault → Bytes → Type 0) : Type 0 where
   pub result : Result (Unit {0}) TalkFault
   pub last : Standing
   pub outcome_is : outcome ≡ ended_so result (is_some last.failed)
-  pub conversed : HasConversedBy reads P text 65546 result (record { history = opening; failed = None }) last before now new ⊤ (hears result)
+  pub conversed : HasConversedBy reads P text (IsOld file) 65546 result (opened_on file opening) last before now new ⊤ (hears result)
   pub unfailed : last.failed ≡ None → new.faults ≡ old.faults
   pub failed : (es : History) → last.failed ≡ Some es → new.faults ≡ raised old.faults
   pub since : IsAtRest old file → LeavesOnly old new (IsFoundSinceBy reads text opening last.history last.failed)
-  pub left : (c : Bytes) → new.images c → IsFoundMarkedBy reads text last.history last.failed c
+  pub left : (c : Bytes) → new.images c → IsLeftBy reads text last c
 
 -- ---- under a policy
 
@@ -89,12 +106,27 @@ pub record IsNotOpenedBy (reads : PolicyReading) (text : Bytes) (outcome : Outco
   pub contents : now.contents ≡ before.contents
   pub silent : (b : Bytes) (t : ℕ) → now.told b t → before.told b t
 
--- The text is a policy's, and the journal was opened under it. If the file was found as a history, the conversation went on behind that. A file
--- that opening alone accepts has none, and nothing is said of the replies.
+-- Lines were answered behind the actions that opening saw in the file, if the disk told it. The disk's count of faults is one more if a call met a disk
+-- fault, and otherwise as it was.
+pub record IsAnsweredOverBy (reads : PolicyReading) (text : Bytes) (P : PlainPolicy) (outcome : Outcome) (old new : DiskSeen) (before now : VoiceSeen)
+    (hears : Result (Unit {0}) TalkFault → Bytes → Type 0) : Type 0 where
+  pub first : Reached
+  pub seen : IfSome old.contents (IsSeenAtBy reads P text first)
+  pub unmarked : first.failed ≡ None
+  pub result : Result (Unit {0}) TalkFault
+  pub last : Reached
+  pub outcome_is : outcome ≡ ended_so result (is_some last.failed)
+  pub answered : HasAnsweredBy reads P 65546 result first last before now (hears result)
+  pub unfailed : last.failed ≡ None → new.faults ≡ old.faults
+  pub failed : (es : History) → last.failed ≡ Some es → new.faults ≡ raised old.faults
+
+-- The text is a policy's, and the journal was opened under it. Lines were answered, whatever the disk tells and its file was found as. If it was found
+-- as a history, the conversation went on behind that.
 pub record IsHeldBy (reads : PolicyReading) (text : Bytes) (outcome : Outcome) (old new : DiskSeen) (before now : VoiceSeen)
     (hears : Result (Unit {0}) TalkFault → Bytes → Type 0) : Type 0 where
   pub policy : PlainPolicy
   pub reads_so : reads text ≡ Some policy
+  pub answers : IsAnsweredOverBy reads text policy outcome old new before now hears
   pub run : (file : Bytes) (opening : History) → old.contents ≡ Some file → IsFoundBy reads text file opening
       → IsHeldBehindBy reads text policy file opening outcome old new before now hears
 
@@ -131,7 +163,7 @@ pub record IsRefusedPolicy (fault : PolicyFault) (left_before left : Option Byte
 abbrev pub HasNoPolicy : Outcome → Option Bytes → Option Bytes → Type 0
 HasNoPolicy (outcomes.Policy f) left_before left = IsRefusedPolicy f left_before left
 HasNoPolicy outcomes.SourceFault left_before left = ⊤
-HasNoPolicy outcomes.TooLong left_before left = ⊤
+HasNoPolicy outcomes.TooLong left_before left = IsLongPolicy [] left_before left
 HasNoPolicy (outcomes.NoMemory e) left_before left = ⊤
 HasNoPolicy outcome left_before left = ⊥
 
@@ -146,10 +178,6 @@ pub record IsOnlyRead (old new : DiskSeen) : Type 0 where
   pub contents : new.contents ≡ old.contents
   pub faults : new.faults ≡ old.faults
   pub images_kept : LeavesSame old new
-
--- the first record that counts in a file has this payload
-abbrev pub HasFirst : Bytes → Bytes → Type 0
-HasFirst text file = (others : List Bytes) × (counted file ≡ text ∷ others)
 
 -- it has more bytes than a record may have, or is refused as a policy
 abbrev pub IsNoPolicy : Bytes → Type 0

@@ -1,64 +1,72 @@
 -- What each image of a store's disk holds once a line was answered.
-use Rattle.std.proofs.Common.{◌≡◌, ◌⊎◌, inl, inr, ⊎_elim, ℕ, List, ◌++◌, Option, Some, None, IsSome, refl, subst}
+use Rattle.std.specs.Prelude.{◌≡◌, ◌⊎◌, ℕ, List, [], ◌∷◌, ◌++◌, length, Some, None, IsSome, IfSome}
 use Rattle.ucon_disk.specs.Seen.{DiskSeen}
+use Rattle.ucon_journal.specs.Found.{counted}
 use Rattle.ucon_model.specs.History.{History}
 use Rattle.ucon_model.specs.Plain.{Bytes, PlainPolicy}
-use Rattle.ucon_store.specs.Found.{IsFoundAs, IsFoundBy, IsFoundMarked}
+use Rattle.ucon_store.specs.Found.{IsFoundBy, IsFoundMarkedBy}
 use Rattle.ucon_store.specs.Kept.{Kept}
-use Rattle.ucon_store.specs.Points.{PolicyReading}
-use Rattle.ucon_store.specs.Stays.{IsFoundBetween, Stays}
-use Rattle.ucon_store.specs.Whole.{IsFounded, whole}
+use Rattle.ucon_store.specs.Points.{PolicyReading, point_places}
+use Rattle.ucon_store.specs.Whole.{IsFounded}
 use Rattle.ucon_syntax.specs.Policies.{accepted}
-use Rattle.ucon_turn.specs.Lists.{Begins, begins_refl}
+use Rattle.ucon_turn.specs.Lists.{Begins}
+use Rattle.ucon_converse.specs.Answering.{Answering}
+use Rattle.ucon_converse.specs.Replies.{Standing}
 
--- a file is found as a history that begins with this one
-pub record IsFoundPastBy (reads : PolicyReading) (text : Bytes) (H : History) (file : Bytes) : Type 0 where
+-- ---- files
+
+-- the first record that counts in a file has this payload
+abbrev pub HasFirst : Bytes → Bytes → Type 0
+HasFirst text file = (others : List Bytes) × (counted file ≡ text ∷ others)
+
+-- a file has the policy of this text, and checkpoints at these places, perhaps with others behind
+pub record HasPointsPast (text : Bytes) (points : List ℕ) (file : Bytes) : Type 0 where
+  pub recorded : HasFirst text file
+  pub kept : Begins points (point_places file)
+
+-- it is found as a history that begins with a standing's, and has the policy and the checkpoints that there were
+pub record IsFoundPastBy (reads : PolicyReading) (text : Bytes) (s : Standing) (file : Bytes) : Type 0 where
   pub history : History
   pub found : IsFoundBy reads text file history
-  pub begun : Begins H history
+  pub begun : Begins s.history history
+  pub points : HasPointsPast text s.points file
 
-abbrev pub IsFoundPast : Bytes → History → Bytes → Type 0
+abbrev pub IsFoundPast : Bytes → Standing → Bytes → Type 0
 IsFoundPast = IsFoundPastBy accepted
 
--- A history stands before the store's entries. Without a mark the store is founded on it. A crash leaves it and the entries, or these and the
--- mark.
-pub record IsBased {D : Type 0} (seen : D → DiskSeen) (P : PlainPolicy) (s : Kept D) (G : History) : Type 0 where
-  pub founded : s.mark ≡ None → IsFounded seen P s G
-  pub told : IsSome (seen s.disk).contents
-  pub each : (c : Bytes) → (seen s.disk).images c → IsFoundMarked s.policy (G ++ s.entries) s.mark c
+-- its checkpoints are those of a standing; or, if a checkpoint met a disk fault, there is one more, behind all steps
+abbrev pub HasPointsOf : Standing → Bytes → Type 0
+HasPointsOf s file = (point_places file ≡ s.points) ⊎ ((s.failed ≡ Some []) × (point_places file ≡ s.points ++ length s.history ∷ []))
+
+-- it has the policy, the history and the checkpoints of a standing, but for what a call that met a disk fault was writing
+pub record IsLeftBy (reads : PolicyReading) (text : Bytes) (s : Standing) (file : Bytes) : Type 0 where
+  pub found : IsFoundMarkedBy reads text s.history s.failed file
+  pub recorded : HasFirst text file
+  pub points : HasPointsOf s file
+
+-- ---- stores
+
+-- what a store stands for with this history before its entries, where checkpoints stand so, and one was last tried behind so many steps
+abbrev pub stands : {D : Type 0} → History → List ℕ → ℕ → Kept D → Standing
+stands G points tried s = record { history = G ++ s.entries; failed = s.mark; points = points; tried = tried }
+
+-- the same of one that answers lines, with these checkpoints before those that it made
+abbrev pub standing : {D : Type 0} → History → List ℕ → Answering D → Standing
+standing G places a = stands G (places ++ a.made) a.tried a.store
+
+-- it is founded on a history, and its file has these checkpoints and those that were made since
+pub record IsFoundedAt {D : Type 0} (seen : D → DiskSeen) (P : PlainPolicy) (a : Answering D) (G : History) (places : List ℕ) : Type 0 where
+  pub founded : IsFounded seen P a.store G
+  pub told : IsSome (seen a.store.disk).contents
+  pub points : IfSome (seen a.store.disk).contents (λ file. point_places file ≡ places ++ a.made)
+
+-- A history stands before the store's entries, and these checkpoints before its own. Without a mark the store is founded on it. A crash leaves what
+-- the store stands for.
+pub record IsBased {D : Type 0} (seen : D → DiskSeen) (P : PlainPolicy) (a : Answering D) (G : History) (places : List ℕ) : Type 0 where
+  pub founded : a.store.mark ≡ None → IsFoundedAt seen P a G places
+  pub told : IsSome (seen a.store.disk).contents
+  pub each : (c : Bytes) → (seen a.store.disk).images c → IsLeftBy accepted a.store.policy (standing G places a) c
 
 -- this image holds all that the store has answered, behind each history that stands before its entries
-abbrev pub HoldsAll : {D : Type 0} → (D → DiskSeen) → Kept D → Bytes → Type 0
-HoldsAll seen s c = (P : PlainPolicy) (G : History) → IsBased seen P s G → IsFoundPast s.policy (G ++ s.entries) c
-
-none_or_some : {A : Type 0} (o : Option A) → (o ≡ None) ⊎ ((a : A) × (o ≡ Some a))
-none_or_some None = inl refl
-none_or_some (Some a) = inr (a, refl)
-
-past_of : (text : Bytes) (H : History) (mark : Option History) (c : Bytes) → IsFoundMarked text H mark c → IsFoundPast text H c
-past_of text H mark c (inl f) = record { history = H; found = f; begun = begins_refl H }
-past_of text H mark c (inr f) = record { history = H ++ f.0; found = f.2; begun = (f.0, refl) }
-
-module _ {D : Type 0} (seen : D → DiskSeen) where
-  -- what a store had answered each image holds, at its moment and from then on
-  pub kept_since : ((d : D) (c : List ℕ) → (seen d).images_since (seen d).moment c → (seen d).images c) → (x y : Kept D) (c : List ℕ) → Stays seen x y
-      → (seen y.disk).images_since (seen x.disk).moment c → HoldsAll seen x c
-  kept_since only x y c stays since = λ P G based. ⊎_elim
-      (λ (unmarked : x.mark ≡ None).
-      let run = stays.left P G (based.founded unmarked) based.told in
-      ⊎_elim (λ (image : (seen x.disk).images c). past_of x.policy (G ++ x.entries) x.mark c (based.each c image))
-      (λ (f : IsFoundBetween (whole G x) (whole G y) c).
-      record { history = f.history; found = subst (λ (text : Bytes). IsFoundAs text c f.history) stays.policy f.found; begun = f.begun }) (run.each c since))
-      (λ (marked : (es : History) × (x.mark ≡ Some es)).
-      let same : y ≡ x = stays.mark marked.0 marked.1 in
-      let image : (seen x.disk).images c = only x.disk c (subst (λ (s : Kept D). (seen s.disk).images_since (seen x.disk).moment c) same since) in
-      past_of x.policy (G ++ x.entries) x.mark c (based.each c image))
-      (none_or_some x.mark)
-
-  -- a history on which a store is founded stands before the entries of all that it becomes
-  pub based_on : (x y : Kept D) (P : PlainPolicy) (G : History) → IsFounded seen P x G → IsSome (seen x.disk).contents → Stays seen x y → IsBased seen P y G
-  based_on x y P G f told stays = record {
-    founded = λ none. stays.founded P G f none;
-    told = stays.tells told;
-    each = λ c image. stays.left_now P G f (stays.tells told) c image;
-  }
+abbrev pub HoldsAll : {D : Type 0} → (D → DiskSeen) → Answering D → Bytes → Type 0
+HoldsAll seen a c = (P : PlainPolicy) (G : History) (places : List ℕ) → IsBased seen P a G places → IsFoundPast a.store.policy (standing G places a) c

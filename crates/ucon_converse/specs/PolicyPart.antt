@@ -1,5 +1,5 @@
 -- The policy in front of a conversation, as it is taken off the input.
-use Rattle.std.specs.Prelude.{◌≡◌, ◌⊎◌, [], ◌∷◌, ◌++◌, Option, false, codes}
+use Rattle.std.specs.Prelude.{◌≡◌, ◌⊎◌, ◌<◌, [], ◌∷◌, ◌++◌, length, Option, false, codes}
 use Rattle.std.specs.Io.KnownBytes.{Consumes, IsAtEnd}
 use Rattle.ucon_model.specs.Document.{is_divider, policy_part}
 use Rattle.ucon_model.specs.Plain.{Bytes}
@@ -24,6 +24,22 @@ pub record IsPartOfAll (held_before held : Bytes) (left_before left : Option Byt
 abbrev pub TakesPolicy : Bytes → Bytes → Option Bytes → Option Bytes → Bytes → Type 0
 TakesPolicy held_before held left_before left text =
     StandsBeforeDivider held_before held left_before left text ⊎ IsPartOfAll held_before held left_before left text
+
+-- Of the policy part more bytes were read than a policy may have, whatever follows.
+pub record IsLongSoFar (held_before : Bytes) (left_before left : Option Bytes) : Type 0 where
+  pub read : Bytes
+  pub consumed : Consumes left_before left read
+  pub long : (more : Bytes) → 4194304 < length (policy_part ((held_before ++ read) ++ more))
+
+-- the input was read to its end, and its policy part has more bytes than that
+pub record IsLongPart (held_before : Bytes) (left_before left : Option Bytes) : Type 0 where
+  pub read : Bytes
+  pub consumed : Consumes left_before left read
+  pub ended : IsAtEnd left
+  pub long : 4194304 < length (policy_part (held_before ++ read))
+
+abbrev pub IsLongPolicy : Bytes → Option Bytes → Option Bytes → Type 0
+IsLongPolicy held_before left_before left = IsLongSoFar held_before left_before left ⊎ IsLongPart held_before left_before left
 
 -- ---- line by line
 

@@ -1,32 +1,42 @@
 -- What the lines of a conversation are answered, by what a store stands for before and after.
-use Rattle.std.specs.Prelude.{◌≡◌, ◌⊎◌, ℕ, List, [], ◌∷◌, ◌++◌, Option, Some, None, IsSome, true, codes}
+use Rattle.std.specs.Prelude.{◌≡◌, ◌⊎◌, ℕ, ◌<◌, List, [], ◌∷◌, ◌++◌, length, Option, Some, None, IsSome, true, false, codes, Result, Ok, Err}
 use Rattle.std.specs.Fmt.{decimal}
 use Rattle.ucon_command.specs.Faults.{amends}
 use Rattle.ucon_command.specs.Requests.{IsAskedBy}
 use Rattle.ucon_model.specs.declared.command.Caller.{Caller}
 use Rattle.ucon_model.specs.declared.command.Entry.{Entry}
 use Rattle.ucon_model.specs.History.{History}
-use Rattle.ucon_model.specs.LegalRun.{Answer, Answered, no_memory, stopped}
+use Rattle.ucon_model.specs.LegalRun.{Answer, Answered, no_memory, disk_fault, stopped, placed}
 use Rattle.ucon_model.specs.Output.{answer_line, answer_spelling}
+use Rattle.ucon_model.specs.Payload.{most_payload}
 use Rattle.ucon_model.specs.Plain.{Bytes, PlainPolicy}
 use Rattle.ucon_model.specs.StoredRun.{LeadsTo}
+use Rattle.ucon_store.specs.declared.fault.PointFault.{PointFault}
+use Rattle.ucon_store.specs.declared.fault.PointFault.TheVariants as faults
 use Rattle.ucon_store.specs.Marks.{marked}
-use Rattle.ucon_store.specs.Points.{PolicyReading}
+use Rattle.ucon_store.specs.Points.{PolicyReading, checkpoint}
 use Rattle.ucon_tell.specs.Talk.{Exchange}
 use Rattle.ucon_converse.specs.declared.reading.Reading.{Reading}
-use Rattle.ucon_converse.specs.Readings.{IsNoReading, IsReadingOf, line_told}
+use Rattle.ucon_converse.specs.Due.{is_due_after}
+use Rattle.ucon_converse.specs.Readings.{IsNoReading, IsReadingOf, line_told, reading_line}
 use Rattle.ucon_converse.specs.Requests.{IsNoRequestBy, IsRequestBy, TellsWhyBy}
 
--- what a store stands for at one moment: the whole history, and its mark, if it is stopped
+-- What a store stands for at one moment: the whole history; its mark, if it is stopped; how many steps stand before each checkpoint in its journal; and
+-- how many there were when a checkpoint was last tried, or before the one behind which the store began.
 pub record Standing : Type 0 where
   pub history : History
   pub failed : Option History
+  pub points : List ℕ
+  pub tried : ℕ
 
--- answers in text order lead from the history of one standing to another, whose mark is that of the step that met a disk fault, if one did
+-- Answers in text order lead from the history of one standing to another, whose mark is that of the step that met a disk fault, if one did. No
+-- checkpoint is tried.
 pub record LeadsOn (P : PlainPolicy) (before after : Standing) (told : List Answered) : Type 0 where
   pub failed : Option Entry
   pub mark : after.failed ≡ marked failed
   pub leads : LeadsTo P before.history told after.history failed
+  pub points : after.points ≡ before.points
+  pub tried : after.tried ≡ before.tried
 
 -- One request was answered. Where the store isn't stopped the answer is the next one of a run in text order behind the history; else it is that the
 -- disk had failed.
@@ -54,19 +64,72 @@ abbrev pub unheard : Option History → Answer
 unheard None = no_memory
 unheard (Some mark) = stopped
 
+-- ---- checkpoints
+
+-- a checkpoint was tried, and nothing else is other
+abbrev pub tried_at : Standing → Standing
+tried_at s = record { history = s.history; failed = s.failed; points = s.points; tried = length s.history }
+
+-- one was made, behind all steps
+abbrev pub pointed_at : Standing → Standing
+pointed_at s = record { history = s.history; failed = s.failed; points = s.points ++ length s.history ∷ []; tried = length s.history }
+
+-- one met a disk fault, which leaves no step in doubt
+abbrev pub stopped_at : Standing → Standing
+stopped_at s = record { history = s.history; failed = Some []; points = s.points; tried = length s.history }
+
+-- What became of a checkpoint that was tried, in a journal that is an old one if this is so. It was made, and stands behind so many steps. Or it met a
+-- disk fault. Or it was refused: since a disk fault came before; in an old journal; as one too long for a record; for want of memory.
+abbrev pub IsPointed : Type 0 → PlainPolicy → Bytes → Standing → Standing → Result ℕ PointFault → Type 0
+IsPointed old P text before after (Ok n) = (before.failed ≡ None) × (n ≡ length before.history) × (after ≡ pointed_at before)
+IsPointed old P text before after (Err faults.DiskFault) = (before.failed ≡ None) × (after ≡ stopped_at before)
+IsPointed old P text before after (Err faults.Stopped) = IsSome before.failed × (after ≡ before)
+IsPointed old P text before after (Err faults.OldJournal) = (before.failed ≡ None) × old × (after ≡ tried_at before)
+IsPointed old P text before after (Err (faults.TooLarge size)) =
+    (before.failed ≡ None) × (most_payload < length (checkpoint text P before.history)) × (after ≡ tried_at before)
+IsPointed old P text before after (Err (faults.NoMemory e)) = (before.failed ≡ None) × (after ≡ tried_at before)
+
+-- what is told of it
+abbrev pub point_line : Result ℕ PointFault → Bytes
+point_line (Ok n) = reading_line n (codes "point " ++ decimal n)
+point_line (Err faults.DiskFault) = refusal_line (codes "disk fault")
+point_line (Err faults.Stopped) = refusal_line (codes "stopped")
+point_line (Err faults.OldJournal) = refusal_line (codes "old journal")
+point_line (Err (faults.TooLarge size)) = refusal_line (codes "point too large")
+point_line (Err (faults.NoMemory e)) = refusal_line (codes "no memory")
+
+-- By itself a checkpoint is tried exactly if one is due. Nothing is told of it.
+pub record GoesOn (old : Type 0) (P : PlainPolicy) (text : Bytes) (before after : Standing) : Type 0 where
+  pub due : is_due_after P before.tried before.history ≡ true → (said : Result ℕ PointFault) × IsPointed old P text before after said
+  pub not_due : is_due_after P before.tried before.history ≡ false → after ≡ before
+
+-- that is so behind a reply, and behind any other answer nothing happens
+abbrev pub Rests : Type 0 → PlainPolicy → Bytes → Answer → Standing → Standing → Type 0
+Rests old P text (placed place reply) before after = GoesOn old P text before after
+Rests old P text no_memory before after = after ≡ before
+Rests old P text disk_fault before after = after ≡ before
+Rests old P text stopped before after = after ≡ before
+
+-- a request was answered, and then a checkpoint was tried, if one was due
+pub record StepsAndRests (old : Type 0) (P : PlainPolicy) (text : Bytes) (before after : Standing) (t : Answered) : Type 0 where
+  pub between : Standing
+  pub step : IsStep P before between t
+  pub rests : Rests old P text t.answer between after
+
 -- ---- one line
 
--- it is a request, and its answer was given
-pub record IsAskedAndAnswered (reads : PolicyReading) (P : PlainPolicy) (before after : Standing) (line reply : Bytes) : Type 0 where
+-- it is a request, its answer was given, and then a checkpoint was tried, if one was due
+pub record IsAskedAndAnswered (reads : PolicyReading) (P : PlainPolicy) (policy : Bytes) (old : Type 0) (before after : Standing) (line reply : Bytes) : Type 0 where
   pub told : Answered
   pub request : IsRequestBy reads line told.line
-  pub step : IsStep P before after told
+  pub steps : StepsAndRests old P policy before after told
   pub reply_is : reply ≡ answer_line told
 
--- it is none, and no reading, and that was told
+-- it is none, no reading, and asks for no checkpoint, and that was told
 pub record IsRefused (reads : PolicyReading) (before after : Standing) (line reply : Bytes) : Type 0 where
   pub none : IsNoRequestBy reads line
   pub unread : IsNoReading line
+  pub unpointed : line ≡ codes "point" → ⊥
   pub words : Bytes
   pub why : TellsWhyBy reads line words
   pub reply_is : reply ≡ refusal_line words
@@ -94,14 +157,22 @@ pub record IsRead (P : PlainPolicy) (text : Bytes) (before after : Standing) (li
   pub told : IsToldSo before.failed (line_told P text before.history reading) reply
   pub same : after ≡ before
 
--- a line was given this reply, which led from here to there, behind a history that began under a policy of this text
-abbrev pub GivesReplyBy : PolicyReading → PlainPolicy → Bytes → Standing → Standing → Bytes → Bytes → Type 0
-GivesReplyBy reads P text before after line reply =
-    IsAskedAndAnswered reads P before after line reply ⊎ IsRefused reads before after line reply ⊎ IsUnjudged reads before after line reply
-    ⊎ IsRead P text before after line reply
+-- it asks for a checkpoint, and was told what became of it
+pub record IsAskedForPoint (P : PlainPolicy) (text : Bytes) (old : Type 0) (before after : Standing) (line reply : Bytes) : Type 0 where
+  pub asks : line ≡ codes "point"
+  pub said : Result ℕ PointFault
+  pub pointed : IsPointed old P text before after said
+  pub reply_is : reply ≡ point_line said
+
+-- A line was given this reply, which led from here to there, behind a history that began under a policy of this text, in a journal that is an old one if
+-- this is so.
+abbrev pub GivesReplyBy : PolicyReading → PlainPolicy → Bytes → Type 0 → Standing → Standing → Bytes → Bytes → Type 0
+GivesReplyBy reads P text old before after line reply =
+    IsAskedAndAnswered reads P text old before after line reply ⊎ IsRefused reads before after line reply ⊎ IsUnjudged reads before after line reply
+    ⊎ IsRead P text before after line reply ⊎ IsAskedForPoint P text old before after line reply
 
 -- a line that is too long was given this reply
-abbrev pub IsTooLong : Standing → Bytes → Type 0
+abbrev pub IsTooLong : {K : Type 0} → K → Bytes → Type 0
 IsTooLong before reply = reply ≡ refusal_line (codes "too long")
 
 -- ---- all lines

@@ -3,65 +3,76 @@
 ghost use Rattle.std.specs.Prelude.{◌≡◌, ◌+◌, length};
 ghost use Rattle.ucon_converse.specs.Keeping.{IsLed};
 
-use crate::lines::{put_answer, put_refusal};
-use crate::requests::take;
-use crate::telling::answer_unasked;
+use crate::answering::{answer_other, answer_request};
+use crate::lines::put_refusal;
+use crate::points::{Places, Points};
 use std::alloc::Global;
 use std::marker::Model;
 use ucon_base::NoMemory;
 use ucon_command::read_request;
 use ucon_disk::Disk;
 use ucon_engine::Engine;
-use ucon_model::texts_lack_bytes;
 use ucon_store::Store;
 use ucon_tell::Keeper;
 
-/// A store that answers the lines of a conversation.
+/// A store that answers the lines of a conversation, and makes checkpoints by itself.
 #[derive(Drop)]
 pub struct StoreKeeper<E: Engine, D: Disk> {
     store: Store<E, D>,
+    points: Points,
 }
 
 impl<E: Engine, D: Disk> Model for StoreKeeper<E, D> {
-    ghost use Rattle.ucon_store.specs.Kept.{Kept, kept_code};
+    ghost use Rattle.ucon_converse.specs.Answering.{Answering, answering, answering_code};
     ghost use Rattle.ucon_converse.specs.Keeping.{IsLed};
 
-    ghost Value = { Kept D };
+    ghost Value = { Answering D };
 
-    ghost coded = { kept_code D.code };
+    ghost coded = { answering_code D.code };
 
-    ghost view = { λ k. k.store };
+    ghost view = { λ k. answering k.store k.points };
 
     ghost invariant = { λ k. IsLed k.store };
 }
 
 impl<E: Engine, D: Disk> StoreKeeper<E, D> {
-    /// Over a store to whose beginning a trace leads.
+    ghost use Rattle.std.specs.Prelude.{[]};
+    ghost use Rattle.ucon_converse.specs.Answering.{Answering};
+
+    /// Over a store to whose beginning a trace leads. No checkpoint was tried behind that.
     pub fn new(store: Store<E, D>) -> StoreKeeper<E, D>
         requires { IsLed store }
-        ensures { result ≡ store }
+        ensures { result ≡ record { store = store; made = []; tried = store.before } }
     {
-        StoreKeeper { store }
+        let tried = store.before();
+        StoreKeeper {
+            store,
+            points: Points {
+                made: Places::new(),
+                tried,
+            },
+        }
     }
 
     /// The number of its steps, those before a checkpoint among them.
     pub(crate) fn steps(&self) -> u64
-        ensures { result ≡ self.now.before + length self.now.entries }
+        ensures { result ≡ self.now.store.before + length self.now.store.entries }
     {
         self.store.place()
     }
 
     /// The store.
     pub fn into_store(self) -> Store<E, D>
-        ensures { result ≡ self }
+        ensures { result ≡ self.store }
     {
-        let StoreKeeper { store } = self;
+        let StoreKeeper { store, points: _ } = self;
         store
     }
 }
 
 impl<E: Engine, D: Disk> Keeper for StoreKeeper<E, D> {
-    ghost use Rattle.ucon_converse.specs.Keeping.{GivesReply, Keeps, Refuses, keeps_again, keeps_kept, keeps_same, kept_seen};
+    ghost use Rattle.ucon_converse.specs.Keeping.{GivesReply, Keeps, Refuses, kept_seen};
+    ghost use Rattle.ucon_converse.specs.KeeperLaws.{keeps_again, keeps_kept, keeps_same};
 
     ghost seen = { λ k. kept_seen D.seen k };
 
@@ -71,22 +82,25 @@ impl<E: Engine, D: Disk> Keeper for StoreKeeper<E, D> {
 
     ghost refuses = { λ x reply. Refuses x reply };
 
-    ghost kept = { λ x y t c keeps le lt since. keeps_kept D.seen D.only_now D.since_earlier x y t c keeps le lt since };
+    ghost kept = { λ x y t c keeps le lt since. keeps_kept D.seen D.only_now D.as_read D.since_earlier x y t c keeps le lt since };
 
     ghost onward = { λ x y keeps. keeps.later };
 
     ghost same = { λ x. keeps_same D.seen D.only_now x };
 
-    ghost again = { λ x y z p q. keeps_again D.seen D.only_now D.counts_now x y z p q };
+    ghost again = { λ x y z p q. keeps_again D.seen D.only_now D.as_read D.counts_now x y z p q };
 
     fn answer(&mut self, alloc: Global, line: &[u8], text: &mut Vec<u8>) -> Result<(), NoMemory> {
-        texts_lack_bytes();
         match read_request(alloc, line) {
-            Ok(request) => {
-                let said = take(alloc, &mut self.store, &request);
-                put_answer(alloc, text, request.caller, &said)
-            }
-            Err(fault) => answer_unasked(alloc, &self.store, line, fault, text),
+            Ok(request) => answer_request(
+                alloc,
+                &mut self.store,
+                &mut self.points,
+                line,
+                &request,
+                text,
+            ),
+            Err(fault) => answer_other(alloc, &mut self.store, &mut self.points, line, fault, text),
         }
     }
 

@@ -2,15 +2,15 @@
 
 ghost use Rattle.std.specs.Prelude.{◌≡◌, ◌++◌, Err, OnOk};
 ghost use Rattle.ucon_model.specs.Output.{Lacks, answer_spelling};
-ghost use Rattle.ucon_converse.specs.Replies.{client_line, ready_line, refusal_line};
+ghost use Rattle.ucon_converse.specs.Replies.{client_line, point_line, ready_line, refusal_line};
 ghost use Rattle.ucon_converse.specs.Said.{answer_said, fault_line, unheard_so};
 ghost use Rattle.ucon_flow.specs.Lines.{IsLine};
 
 use std::alloc::Global;
-use ucon_base::{NoMemory, put_number};
+use ucon_base::{NoMemory, put, put_number};
 use ucon_command::{LineFault, RequestFault};
 use ucon_model::{Caller, texts_lack_bytes};
-use ucon_store::{Placed, StepFault};
+use ucon_store::{Placed, PointFault, StepFault};
 use ucon_trial::{put_reply, put_unplaced};
 
 /// Adds the line of what a step said.
@@ -83,6 +83,31 @@ pub(crate) fn put_refusal(out: &mut Vec<u8>, words: &[u8]) -> Result<(), NoMemor
     out.extend_from_slice(words)?;
     out.push(b'\n')?;
     Ok(())
+}
+
+/// Adds the line of what became of a checkpoint that was asked for.
+pub(crate) fn put_pointed(out: &mut Vec<u8>, said: &Result<u64, PointFault>) -> Result<(), NoMemory>
+    ensures { OnOk result (out.new.items ≡ out.old.items ++ point_line said.now) }
+{
+    match said {
+        Ok(steps) => put_point(out, *steps),
+        Err(PointFault::DiskFault) => put_refusal(out, b"disk fault"),
+        Err(PointFault::Stopped) => put_refusal(out, b"stopped"),
+        Err(PointFault::OldJournal) => put_refusal(out, b"old journal"),
+        Err(PointFault::TooLarge(_)) => put_refusal(out, b"point too large"),
+        Err(PointFault::NoMemory(_)) => put_refusal(out, b"no memory"),
+    }
+}
+
+/// Adds the line of a checkpoint that was made behind so many steps.
+fn put_point(out: &mut Vec<u8>, steps: u64) -> Result<(), NoMemory>
+    ensures { OnOk result (out.new.items ≡ out.old.items ++ point_line (Ok steps)) }
+{
+    put(out, b"- ")?;
+    put_number(out, steps)?;
+    put(out, b" point ")?;
+    put_number(out, steps)?;
+    put(out, b"\n")
 }
 
 /// Adds the first line, with the number of the steps that are there.

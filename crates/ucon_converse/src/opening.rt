@@ -1,6 +1,6 @@
 //! The whole conversation.
 
-ghost use Rattle.std.specs.Prelude.{◌≡◌, ◌⊎◌, None, IsSome};
+ghost use Rattle.std.specs.Prelude.{◌≡◌, ◌⊎◌, [], None, IsSome};
 ghost use Rattle.ucon_converse.specs.Keeping.{IsLed};
 ghost use Rattle.ucon_syntax.specs.Policies.{accepted};
 ghost use Rattle.ucon_outcome.specs.Ending.{IsCounted, status_of};
@@ -152,7 +152,7 @@ fn converse_over<E: Engine, S: Source, D: Disk, V: Voice<StoreKeeper<E, D>>>(
     requires led { IsLed store }
     requires limit { lines.old.limit ≡ 65546 }
     ensures status { result.status ≡ status_of result.outcome }
-    ensures talked { IsTalkedOver D.seen store result.disk result.outcome (V.seen out.old) (V.seen out.new)
+    ensures talked { IsTalkedOver D.seen (record { store = store; made = []; tried = store.before }) result.disk result.outcome (V.seen out.old) (V.seen out.new)
         (λ r heard. Hears r lines.old.held lines.new.held (S.seen input.old).left (S.seen input.new).left heard) }
     ensures source { IsCounted result.outcome Outcome.SourceFault (S.seen input.old).faults (S.seen input.new).faults }
     ensures sink { IsCounted result.outcome Outcome.SinkFault (V.seen out.old).faults (V.seen out.new).faults }

@@ -1,10 +1,10 @@
 //! The policy in front of a conversation.
 
-ghost use Rattle.std.specs.Prelude.{◌≡◌, ◌≢◌, ◌++◌, IfErr, IfOk, IsErrOf, IsSome, OnOk};
+ghost use Rattle.std.specs.Prelude.{◌≡◌, ◌≢◌, ◌+◌, ◌<◌, ◌++◌, length, IfErr, IfOk, IsErrOf, IsSome, OnOk};
 ghost use Rattle.ucon_flow.specs.Causes.{raised};
 ghost use Rattle.ucon_model.specs.Document.{is_divider};
 ghost use Rattle.ucon_syntax.specs.Policies.{accepted};
-ghost use Rattle.ucon_converse.specs.PolicyPart.{IsKindOf, TakesPolicy};
+ghost use Rattle.ucon_converse.specs.PolicyPart.{IsKindOf, IsLongPolicy, TakesPolicy};
 ghost use Rattle.ucon_converse.specs.PolicyFaults.{IsRefusedText};
 
 use std::alloc::Global;
@@ -35,7 +35,9 @@ pub(crate) fn policy_text<S: Source>(
     lines: &mut LineReader,
     input: &mut S,
 ) -> Result<Vec<u8>, ReadFault>
+    requires { lines.old.limit ≡ 4194304 }
     ensures text { IfOk result (λ text. TakesPolicy lines.old.held lines.new.held (S.seen input.old).left (S.seen input.new).left text.items) }
+    ensures too_long { IsErrOf result ReadFault.TooLong → IsLongPolicy lines.old.held (S.seen input.old).left (S.seen input.new).left }
     ensures failed { IsErrOf result ReadFault.SourceFault → (S.seen input.new).faults ≡ raised (S.seen input.old).faults }
     ensures unfailed { result ≢ Err ReadFault.SourceFault → (S.seen input.new).faults ≡ (S.seen input.old).faults }
 {
@@ -60,6 +62,7 @@ pub(crate) fn policy_text<S: Source>(
 /// Adds a line to a policy's text.
 fn put_line(text: &mut Vec<u8>, line: &[u8]) -> Result<(), ReadFault>
     ensures ok { OnOk result (text.new.items ≡ text.old.items ++ line.now) }
+    ensures too_long { IsErrOf result ReadFault.TooLong → 4194304 < length text.old.items + length line.now }
     ensures unfailed { result ≢ Err ReadFault.SourceFault }
 {
     if line.len() > MOST_POLICY.saturating_sub(text.len()) {

@@ -3,7 +3,8 @@
 ghost use Rattle.std.specs.Prelude.{◌≡◌, ◌<◌, IfErr, IfOk, IfSome, length};
 ghost use Rattle.ucon_disk.specs.Disk.{SameImages};
 ghost use Rattle.ucon_disk.specs.Run.{LeavesOnly};
-ghost use Rattle.ucon_converse.specs.Ended.{HasFirst, IsOfRecord, IsOnlyRead, LeavesSame};
+ghost use Rattle.ucon_converse.specs.Ended.{IsOfRecord, IsOnlyRead, LeavesSame};
+ghost use Rattle.ucon_converse.specs.Holding.{HasFirst};
 ghost use Rattle.ucon_journal.specs.Found.{counted, payloads_from};
 ghost use Rattle.ucon_journal.specs.Journal.{IsReading, disk_of, gate_of};
 

@@ -1,11 +1,12 @@
-//! Readings in a conversation. The lines that they are told were worked out by hand.
+//! Readings and checkpoints in a conversation. The lines that they are told were worked out by hand.
 
 use std::alloc::Global;
 use std::test::Fail;
 use ucon_cascade::Monitor;
-use ucon_converse::{PolicyFrom, SinkVoice, converse};
+use ucon_converse::{PolicyFrom, converse};
 use ucon_disk::MemDisk;
 use ucon_flow::{MemSink, MemSource};
+use ucon_tell::SinkVoice;
 
 /// How a conversation ended: its status, all that it told, and its disk.
 #[derive(Drop)]
@@ -49,6 +50,9 @@ explain ann sit desk
 explain ann sit sofa
 policy
 state
+point
+point 5
+0 point
 session 02
 session 4294967296
 using s
@@ -78,6 +82,9 @@ const TOLD: &[u8] = b"- 0 ready
 - 5 no object
 - 5 \"attr o users : int 0..9 = 0; # a \\\"seat\\\"\\nright sit { on a alone: o.users <= 1; before o.users = o.users + 1; after_revoke o.users = o.users - 1; }\\n\"
 - 5 {\"acts\":[],\"entries\":5,\"env\":{},\"objects\":{\"desk\":{\"users\":1}},\"sessions\":[{\"caller\":1,\"number\":1,\"object\":\"desk\",\"right\":\"sit\",\"start\":0,\"state\":\"revoked\",\"subject\":\"ann\"},{\"caller\":2,\"number\":2,\"object\":\"desk\",\"right\":\"sit\",\"start\":0,\"state\":\"accessing\",\"subject\":\"ben\"}],\"subjects\":{\"ann\":{},\"ben\":{}},\"tick\":0}
+- 5 point 5
+- - bad client
+- - unknown word
 - - bad client
 - - bad client
 - - bad client
@@ -90,13 +97,23 @@ const TOLD: &[u8] = b"- 0 ready
 
 /// What is asked of the same journal under its own policy.
 const AGAIN: &[u8] = b"using
+point
 steps
 ";
 
 const TOLD_AGAIN: &[u8] = b"- 5 ready
 - 5 using 2
+- 5 point 5
 - 5 steps
 ";
+
+/// How often a text stands in bytes.
+fn count(bytes: &[u8], text: &[u8]) -> usize {
+    bytes
+        .windows(text.len().max(1))
+        .filter(|w| **w == *text)
+        .count()
+}
 
 #[test]
 fn readings_are_told(rt: HostRuntime) -> Result<(), Fail> {
@@ -105,9 +122,11 @@ fn readings_are_told(rt: HostRuntime) -> Result<(), Fail> {
     let first = held(alloc, PolicyFrom::Input, INPUT, disk)?;
     assert!(rt; first.status == 0);
     assert!(rt; first.told.as_slice() == TOLD);
+    assert!(rt; count(first.disk.contents(), b"point 5\n") == 1);
     let again = held(alloc, PolicyFrom::Journal, AGAIN, first.disk)?;
     assert!(rt; again.status == 0);
     assert!(rt; again.told.as_slice() == TOLD_AGAIN);
+    assert!(rt; count(again.disk.contents(), b"point 5\n") == 2);
     Ok(())
 }
 
@@ -123,21 +142,67 @@ fn no_journal_is_made_without_a_policy(rt: HostRuntime) -> Result<(), Fail> {
     Ok(())
 }
 
+/// A journal of version 1, of one step.
+const OLD: &[u8] =
+    b"UCONJR01\x01\x00\x00\x00\x0bright r {}\n\x01\x00\x00\x00\x0e0 subject a\nok\x00";
+
+/// A journal of version 1 has no checkpoints, and the conversation goes on.
+#[test]
+fn an_old_journal_gets_no_checkpoint(rt: HostRuntime) -> Result<(), Fail> {
+    let alloc = rt.alloc();
+    let disk = MemDisk::new(alloc, Vec::from_slice(alloc, OLD)?, Vec::new(alloc), None);
+    let end = held(alloc, PolicyFrom::Journal, b"point\n0 subject b\n", disk)?;
+    assert!(rt; end.status == 0);
+    assert!(rt; end.told.as_slice() == b"- 1 ready\n- - old journal\n0 2 ok\n".as_slice());
+    Ok(())
+}
+
+/// So many steps, each of which leaves nothing but the tick.
+fn ticks(alloc: Global, steps: u64) -> Result<Vec<u8>, Fail> {
+    let mut input = Vec::from_slice(alloc, b"right r {}\n%%\n")?;
+    for tick in 0..steps {
+        input.extend_from_slice(format!(in alloc; "0 tick {tick}\n")?.as_bytes())?;
+    }
+    Ok(input)
+}
+
+/// How many checkpoints a conversation of so many steps makes by itself, all of them behind 4,096 steps.
+#[test]
+fn a_checkpoint_is_made_behind_enough_steps(rt: HostRuntime) -> Result<(), Fail> {
+    let alloc = rt.alloc();
+    for (steps, made) in [(4_095, 0), (4_097, 1)] {
+        let disk = MemDisk::new(alloc, Vec::new(alloc), Vec::new(alloc), None);
+        let end = held(alloc, PolicyFrom::Input, &ticks(alloc, steps)?, disk)?;
+        assert!(rt; end.status == 0);
+        assert!(rt;
+            count(end.disk.contents(), b"point 4096\n") == made,
+            "{steps}"
+        );
+        assert!(rt; count(end.disk.contents(), b"point ") == made, "{steps}");
+    }
+    Ok(())
+}
+
 const STEP: &[u8] = b"attr o users : int 0..9 = 0;
 %%
 0 subject ann
+point
+0 subject ben
 steps
 ";
 
-/// Whether this is all that may be told where one call of the disk fails: nothing; a step that failed, and then no reading; or a step and a reading.
-fn is_told(told: &[u8]) -> bool {
-    told.is_empty()
-        || told == b"- 0 ready\n0 - disk fault\n- - stopped\n".as_slice()
-        || told == b"- 0 ready\n0 1 ok\n- 1 steps\n".as_slice()
-}
+/// All that may be told of these lines where one call of the disk fails: nothing; up to the step or the checkpoint that failed, and then that all is
+/// stopped; or all.
+const TOLD_BESIDE_A_FAULT: &[&[u8]] = &[
+    b"",
+    b"- 0 ready\n0 - disk fault\n- - stopped\n0 - stopped\n- - stopped\n",
+    b"- 0 ready\n0 1 ok\n- - disk fault\n0 - stopped\n- - stopped\n",
+    b"- 0 ready\n0 1 ok\n- 1 point 1\n0 - disk fault\n- - stopped\n",
+    b"- 0 ready\n0 1 ok\n- 1 point 1\n0 2 ok\n- 2 steps\n",
+];
 
 #[test]
-fn behind_a_disk_fault_no_reading_is_told(rt: HostRuntime) -> Result<(), Fail> {
+fn behind_a_disk_fault_nothing_more_is_done(rt: HostRuntime) -> Result<(), Fail> {
     let alloc = rt.alloc();
     for call in 0..40 {
         let disk = MemDisk::new(
@@ -147,7 +212,12 @@ fn behind_a_disk_fault_no_reading_is_told(rt: HostRuntime) -> Result<(), Fail> {
             None,
         );
         let end = held(alloc, PolicyFrom::Input, STEP, disk)?;
-        assert!(rt; is_told(&end.told), "call {call}");
+        assert!(rt;
+            TOLD_BESIDE_A_FAULT
+                .iter()
+                .any(|told| end.told.as_slice() == *told),
+            "call {call}"
+        );
     }
     Ok(())
 }

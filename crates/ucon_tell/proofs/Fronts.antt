@@ -1,5 +1,5 @@
 -- What a voice notes while it is told a text, piece by piece.
-use Rattle.std.proofs.Common.{◌≡◌, ◌⊎◌, inl, inr, ⊎_elim, ℕ, List, ◌++◌, take, drop, sym, ◌∙◌, take-append-drop}
+use Rattle.std.proofs.Common.{◌≡◌, inl, inr, ⊎_elim, ℕ, List, take, drop, sym, ◌∙◌, take-append-drop}
 use Rattle.std.specs.Prelude.{Option, Some, None, IfSome}
 use Rattle.std.specs.Io.KnownBytes.{Appends}
 use Rattle.ucon_tell.specs.Seen.{VoiceSeen}

@@ -1,12 +1,12 @@
 -- Lines as they come.
-use Rattle.std.proofs.Common.{◌≡◌, ℕ, ◌+◌, ◌-◌, ◌^◌, ◌≤◌, ◌<◌, List, [], ◌∷◌, ◌++◌, length, min, refl, sym, ap, ◌∙◌, subst, inl, inr, ⊎_elim, append_assoc, arith, length-append}
-use Rattle.std.specs.Prelude.{◌⊎◌, ◌==◌, not, Option, Some, None, IfSome, Result, Ok, Err, IsErr}
+use Rattle.std.proofs.Common.{◌≡◌, ℕ, ◌+◌, ◌-◌, ◌^◌, ◌≤◌, ◌<◌, List, [], ◌∷◌, ◌++◌, length, refl, sym, ap, ◌∙◌, subst, ⊎_elim, append_assoc, arith, length-append}
+use Rattle.std.specs.Prelude.{◌==◌, not, Option, Some, None, IfSome, Result, Ok, Err, IsErr}
 use Rattle.std.specs.Io.KnownBytes.{Consumes, IsAtEnd}
 use Rattle.std.proofs.KnownBytes.{Consumes-nil, Consumes-trans}
 use Rattle.std.proofs.lemmas.List.{append-nil}
 use Rattle.std.proofs.lemmas.List.Folds.{prefix_len-append}
 use Rattle.ucon_flow.specs.Lines.{Reading, newline, HasNewline, IsBare, IsLine, first_line, Holds, GivesLine}
-use Rattle.ucon_flow.proofs.Lines.{newline_within, line_len, newline_behind, newline_stays, bare_or_not, held_of}
+use Rattle.ucon_flow.proofs.Lines.{line_len, newline_behind, newline_stays, bare_or_not, held_of}
 use Rattle.ucon_tell.specs.declared.talk_fault.TalkFault.{TalkFault}
 use Rattle.ucon_tell.specs.declared.talk_fault.TalkFault.TheVariants as faults
 use Rattle.ucon_tell.specs.declared.talking.Heard.{Heard}
@@ -158,12 +158,18 @@ none_taken held left = record { read = []; consumed = Consumes-nil left; all = a
 behind : (h0 h read more lines rest : List ℕ) → h0 ++ read ≡ lines ++ h → h ++ more ≡ rest → h0 ++ (read ++ more) ≡ lines ++ rest
 behind h0 h read more lines rest p q = sym (append_assoc h0 read more) ∙ (ap (λ (x : List ℕ). x ++ more) p ∙ (append_assoc lines h more ∙ ap (λ (x : List ℕ). lines ++ x) q))
 
+-- one line more came behind the lines
+line_behind : (n : ℕ) (h0 h h1 : List ℕ) (l0 l l1 : Option (List ℕ)) (line lines : List ℕ) (p : TakesLines n h0 h l0 l lines) (q : TakesLine h h1 l l1 line)
+    → h0 ++ (p.read ++ q.read) ≡ (lines ++ (line ++ 10 ∷ [])) ++ h1
+line_behind n h0 h h1 l0 l l1 line lines p q =
+    behind h0 h p.read q.read lines ((line ++ 10 ∷ []) ++ h1) p.all q.all ∙ sym (append_assoc lines (line ++ 10 ∷ []) h1)
+
 -- one line more
 pub taken_on : (n : ℕ) (h0 h h1 : List ℕ) (l0 l l1 : Option (List ℕ)) (lines line : List ℕ) → TakesLines n h0 h l0 l lines → TakesLine h h1 l l1 line → TakesLines (n + 1) h0 h1 l0 l1 (lines ++ (line ++ 10 ∷ []))
 taken_on n h0 h h1 l0 l l1 lines line p q = record {
   read = p.read ++ q.read;
   consumed = Consumes-trans l0 l l1 p.read q.read p.consumed q.consumed;
-  all = behind h0 h p.read q.read lines ((line ++ 10 ∷ []) ++ h1) p.all q.all ∙ sym (append_assoc lines (line ++ 10 ∷ []) h1);
+  all = line_behind n h0 h h1 l0 l l1 line lines p q;
   some = let few = p.some in let all = length-append lines (line ++ 10 ∷ []) in let one = length-append line (10 ∷ []) in omega arith;
 }
 
@@ -193,17 +199,26 @@ hears_added (Err faults.SinkFault) n h0 h h1 l0 l l1 line err q lines more p is 
   read = p.read ++ q.read;
   consumed = Consumes-trans l0 l l1 p.read q.read p.consumed q.consumed;
   rest = h1;
-  all = behind h0 h p.read q.read lines ((line ++ 10 ∷ []) ++ h1) p.all q.all ∙ (sym (append_assoc lines (line ++ 10 ∷ []) h1) ∙ ap (λ (x : List ℕ). (lines ++ x) ++ h1) (sym is));
+  all = line_behind n h0 h h1 l0 l l1 line lines p q ∙ ap (λ (x : List ℕ). (lines ++ x) ++ h1) (sym is);
   left_over = refl;
 }
 hears_added (Err faults.TooLong) n h0 h h1 l0 l l1 line err q lines more p is = absurd is
-hears_added (Err (faults.NoMemory e)) n h0 h h1 l0 l l1 line err q lines more p is = record {
-  read = p.read ++ q.read;
-  consumed = Consumes-trans l0 l l1 p.read q.read p.consumed q.consumed;
-  rest = (line ++ 10 ∷ []) ++ h1;
-  all = behind h0 h p.read q.read lines ((line ++ 10 ∷ []) ++ h1) p.all q.all ∙ ap (λ (x : List ℕ). x ++ ((line ++ 10 ∷ []) ++ h1)) (sym (ap (λ (x : List ℕ). lines ++ x) is ∙ append-nil lines));
-  left_over = tt;
-}
+hears_added (Err (faults.NoMemory e)) n h0 h h1 l0 l l1 line err q lines more p is = ⊎_elim
+    (λ (none : more ≡ []). record {
+      read = p.read ++ q.read;
+      consumed = Consumes-trans l0 l l1 p.read q.read p.consumed q.consumed;
+      rest = (line ++ 10 ∷ []) ++ h1;
+      all = behind h0 h p.read q.read lines ((line ++ 10 ∷ []) ++ h1) p.all q.all
+          ∙ ap (λ (x : List ℕ). x ++ ((line ++ 10 ∷ []) ++ h1)) (sym (ap (λ (x : List ℕ). lines ++ x) none ∙ append-nil lines));
+      left_over = tt;
+    })
+    (λ (one : more ≡ line ++ 10 ∷ []). record {
+      read = p.read ++ q.read;
+      consumed = Consumes-trans l0 l l1 p.read q.read p.consumed q.consumed;
+      rest = h1;
+      all = line_behind n h0 h h1 l0 l l1 line lines p q ∙ ap (λ (x : List ℕ). (lines ++ x) ++ h1) (sym one);
+      left_over = tt;
+    }) is
 
 -- as many lines as can be counted
 pub hears_endless : (n : ℕ) (h0 h : List ℕ) (l0 l : Option (List ℕ)) (lines : List ℕ) → 2 ^ 64 - 1 ≤ n → TakesLines n h0 h l0 l lines → Hears (Err faults.TooLong) h0 h l0 l lines

@@ -6,9 +6,10 @@ use Rattle.std.proofs.Math.Seq.{take-append-add}
 use Rattle.std.specs.Prelude.{Option, Some, None, IfSome, Result, Ok, Err}
 use Rattle.std.specs.Io.KnownBytes.{Appends}
 use Rattle.ucon_base.specs.declared.no_memory.NoMemory.{NoMemory}
+use Rattle.ucon_tell.specs.Heard.{adds_line}
 use Rattle.ucon_tell.specs.Seen.{KeeperSeen, VoiceSeen}
 use Rattle.ucon_tell.specs.Told.{IsCut, TellsFronts}
-use Rattle.ucon_tell.specs.Talk.{Exchange, HasTalked, IsAnswered, IsAnsweredBy, IsToldOnceKept, AnswersEach, ends_by, lines_in, replies_in, writes_by}
+use Rattle.ucon_tell.specs.Talk.{Exchange, HasTalked, IsAnsweredBy, IsAnsweredUntold, IsToldOnceKept, AnswersEach, ends_by, lines_in, replies_in, writes_by}
 use Rattle.ucon_tell.specs.declared.talk_fault.TalkFault.{TalkFault}
 use Rattle.ucon_tell.specs.declared.talk_fault.TalkFault.TheVariants as faults
 
@@ -31,6 +32,18 @@ wrote_on (Err faults.SinkFault) before between now xs ys p q = (
 wrote_on (Err faults.SourceFault) before between now xs ys p q = Appends-trans before between now xs ys p q
 wrote_on (Err faults.TooLong) before between now xs ys p q = Appends-trans before between now xs ys p q
 wrote_on (Err (faults.NoMemory e)) before between now xs ys p q = Appends-trans before between now xs ys p q
+
+-- what was answered and not told came as the line that was heard
+pub perhaps_added : {K : Type 0} (answers : K → K → List ℕ → List ℕ → Type 0) (limit : ℕ) (line : List ℕ) (e : NoMemory) (old new : K)
+    → (old ≡ new) ⊎ IsAnsweredUntold limit answers (λ all. all ≡ line ++ 10 ∷ []) old new → ends_by limit answers (adds_line (Err (faults.NoMemory e)) line) (Err (faults.NoMemory e)) old new
+perhaps_added answers limit line e old new is = ⊎_elim inl (λ (u : IsAnsweredUntold limit answers (λ all. all ≡ line ++ 10 ∷ []) old new). inr (record {
+  line = u.line;
+  bare = u.bare;
+  fits = u.fits;
+  came = inr u.came;
+  reply = u.reply;
+  answer = u.answer;
+})) is
 
 module _ {K : Type 0} (answers : K → K → List ℕ → List ℕ → Type 0) (refuses : K → List ℕ → Type 0) (limit : ℕ) where
   answers_append : (first mid last : K) (xs ys : List (Exchange K)) → AnswersEach limit answers refuses first xs mid → AnswersEach limit answers refuses mid ys last
@@ -55,20 +68,21 @@ module _ {K : Type 0} (seen : K → KeeperSeen) (stays : K → K → Type 0)
   }
 
   -- a keeper tried to answer a line, and found no memory
-  pub none_told : (e : NoMemory) (first last : K) (v : VoiceSeen) (hears : List ℕ → Type 0) → hears [] → stays first last → HasTalked seen stays answers refuses limit (Err (faults.NoMemory e)) first last v v hears
-  none_told e first last v hears none stayed = record {
+  pub none_told : (e : NoMemory) (first last : K) (v : VoiceSeen) (hears : List ℕ → Type 0) → hears [] → ends_by limit answers hears (Err (faults.NoMemory e)) first last
+      → HasTalked seen stays answers refuses limit (Err (faults.NoMemory e)) first last v v hears
+  none_told e first last v hears none perhaps = record {
     exchanges = [];
     heard = none;
     reached = first;
     answered = refl;
-    ends = stayed;
+    ends = perhaps;
     output = Appends-nil v.contents;
     told = λ b t is. inl is;
   }
 
   -- one line was answered, and its reply told, at this moment
   pub one_told : (r : Result (Unit {0}) TalkFault) (first last : K) (line reply : List ℕ) (old new : VoiceSeen) (hears : List ℕ → Type 0) → IsAnsweredBy limit answers refuses first last line reply
-      → ends_by stays r last last → writes_by r old.contents new.contents reply → TellsFronts old new reply (seen last).moment → hears (line ++ 10 ∷ [])
+      → ends_by limit answers (λ more. hears ((line ++ 10 ∷ []) ++ more)) r last last → writes_by r old.contents new.contents reply → TellsFronts old new reply (seen last).moment → hears (line ++ 10 ∷ [])
       → HasTalked seen stays answers refuses limit r first last old new hears
   one_told r first last line reply old new hears answered ends written tells heard = record {
     exchanges = record { line = line; reply = reply; after = last } ∷ [];
@@ -106,13 +120,32 @@ module _ {K : Type 0} (seen : K → KeeperSeen) (stays : K → K → Type 0)
     heard = subst hears (sym (lines_append p.exchanges q.exchanges)) (both (lines_in p.exchanges) (lines_in q.exchanges) p.heard q.heard);
     reached = q.reached;
     answered = answers_append answers refuses limit first mid q.reached p.exchanges q.exchanges (subst (AnswersEach limit answers refuses first p.exchanges) p.ends p.answered) q.answered;
-    ends = q.ends;
+    ends = ends r q.ends;
     output = subst (λ (w : List ℕ). writes_by r v0.contents v2.contents w) (sym (replies_append p.exchanges q.exchanges))
         (wrote_on r v0.contents v1.contents v2.contents (replies_in p.exchanges) (replies_in q.exchanges) p.output q.output);
     told = λ b t is. ⊎_elim (λ (m : v1.told b t). ⊎_elim inl (λ (h : IfSome v0.contents (λ held. IsToldOnceKept seen stays held p.exchanges mid b t)). inr (sooner v0.contents b t h)) (p.told b t m))
         (λ (h : IfSome v1.contents (λ held. IsToldOnceKept seen stays held q.exchanges last b t)). inr (then v0.contents v1.contents p.output b t h)) (q.told b t is);
   }
     where
+      ends : (s : Result (Unit {0}) TalkFault) → ends_by limit answers (λ more. hears_then (lines_in q.exchanges ++ more)) s q.reached last
+          → ends_by limit answers (λ more. hears (lines_in (p.exchanges ++ q.exchanges) ++ more)) s q.reached last
+      ends (Ok done) e = e
+      ends (Err faults.SourceFault) e = e
+      ends (Err faults.SinkFault) e = e
+      ends (Err faults.TooLong) e = e
+      ends (Err (faults.NoMemory m)) e = ⊎_elim inl (λ (u : IsAnsweredUntold limit answers (λ more. hears_then (lines_in q.exchanges ++ more)) q.reached last). inr (record {
+        line = u.line;
+        bare = u.bare;
+        fits = u.fits;
+        came =
+            let one : List ℕ = u.line ++ 10 ∷ [] in
+            let all : lines_in p.exchanges ++ (lines_in q.exchanges ++ one) ≡ lines_in (p.exchanges ++ q.exchanges) ++ one =
+            sym (append_assoc (lines_in p.exchanges) (lines_in q.exchanges) one) ∙ ap (λ (l : List ℕ). l ++ one) (sym (lines_append p.exchanges q.exchanges)) in
+            subst hears all (both (lines_in p.exchanges) (lines_in q.exchanges ++ one) p.heard u.came);
+        reply = u.reply;
+        answer = u.answer;
+      })) e
+
       sooner : (o : Option (List ℕ)) (b : List ℕ) (t : ℕ) → IfSome o (λ held. IsToldOnceKept seen stays held p.exchanges mid b t)
           → IfSome o (λ held. IsToldOnceKept seen stays held (p.exchanges ++ q.exchanges) last b t)
       sooner None b t h = tt
@@ -162,12 +195,12 @@ module _ {K : Type 0} (seen : K → KeeperSeen) (stays : K → K → Type 0)
     told = p.told;
   }
     where
-      ends : (s : Result (Unit {0}) TalkFault) → ends_by stays s p.reached last
+      ends : (s : Result (Unit {0}) TalkFault) → ends_by limit answers (λ more. hears (lines_in p.exchanges ++ more)) s p.reached last
       ends (Ok done) = p.ends
       ends (Err faults.SinkFault) = p.ends
       ends (Err faults.SourceFault) = p.ends
       ends (Err faults.TooLong) = p.ends
-      ends (Err (faults.NoMemory e)) = subst (stays p.reached) p.ends (same p.reached)
+      ends (Err (faults.NoMemory e)) = inl p.ends
 
       output : (s : Result (Unit {0}) TalkFault) → (s ≡ Err faults.SinkFault → ⊥) → writes_by s old.contents new.contents (replies_in p.exchanges)
       output (Ok done) bad = p.output

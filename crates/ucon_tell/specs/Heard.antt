@@ -1,5 +1,5 @@
 -- Lines as they come, and what is left of the input where a conversation ends.
-use Rattle.std.specs.Prelude.{◌≡◌, ⊤, ℕ, ◌-◌, ◌^◌, ◌<◌, ◌≤◌, List, [], ◌∷◌, ◌++◌, length, Option, Some, None, Result, Ok, Err}
+use Rattle.std.specs.Prelude.{◌≡◌, ◌⊎◌, ⊤, ℕ, ◌-◌, ◌^◌, ◌<◌, ◌≤◌, List, [], ◌∷◌, ◌++◌, length, Option, Some, None, Result, Ok, Err}
 use Rattle.std.specs.Io.KnownBytes.{Consumes, IsAtEnd}
 use Rattle.ucon_flow.specs.Lines.{Reading, Reads, IsBare, IsLine}
 use Rattle.ucon_tell.specs.declared.talk_fault.TalkFault.{TalkFault}
@@ -80,10 +80,10 @@ pub record SkipsNext {S : Type 0} (seen : S → SourceSeen) (result : Result (Op
   pub limit : new.limit ≡ old.limit
   pub by : SkippedAs result skipped new.held (seen last).left
 
--- the line was answered, or there was no memory for its reply
+-- The line was answered; if there was no memory for its reply it may have been.
 abbrev pub adds_line : Result (Unit {0}) TalkFault → List ℕ → List ℕ → Type 0
 adds_line (Ok done) line lines = lines ≡ line ++ 10 ∷ []
 adds_line (Err faults.SourceFault) line lines = ⊥
 adds_line (Err faults.SinkFault) line lines = lines ≡ line ++ 10 ∷ []
 adds_line (Err faults.TooLong) line lines = ⊥
-adds_line (Err (faults.NoMemory e)) line lines = lines ≡ []
+adds_line (Err (faults.NoMemory e)) line lines = (lines ≡ []) ⊎ (lines ≡ line ++ 10 ∷ [])

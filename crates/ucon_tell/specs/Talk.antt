@@ -43,13 +43,22 @@ abbrev pub AnswersEach : {K : Type 0} → ℕ → (K → K → List ℕ → List
 AnswersEach limit answers refuses first [] last = first ≡ last
 AnswersEach limit answers refuses first (x ∷ xs) last = IsAnswered limit answers refuses first x × AnswersEach limit answers refuses x.after xs last
 
--- the keeper is as it was when it had answered the last line; if there was no memory, maybe for a reply, a call may have gone on from there
-abbrev pub ends_by : {K : Type 0} → (K → K → Type 0) → Result (Unit {0}) TalkFault → K → K → Type 0
-ends_by stays (Ok done) reached last = reached ≡ last
-ends_by stays (Err faults.SourceFault) reached last = reached ≡ last
-ends_by stays (Err faults.SinkFault) reached last = reached ≡ last
-ends_by stays (Err faults.TooLong) reached last = reached ≡ last
-ends_by stays (Err (faults.NoMemory e)) reached last = stays reached last
+-- A line that came next, and fits the limit, was answered, and nobody is told.
+pub record IsAnsweredUntold {K : Type 0} (limit : ℕ) (answers : K → K → List ℕ → List ℕ → Type 0) (comes : List ℕ → Type 0) (before after : K) : Type 0 where
+  pub line : List ℕ
+  pub bare : IsBare line
+  pub fits : length line < limit
+  pub came : comes (line ++ 10 ∷ [])
+  pub reply : List ℕ
+  pub answer : answers before after line reply
+
+-- The keeper is as it was when it had answered the last line. If there was no memory for a reply, it may have answered the next line, too.
+abbrev pub ends_by : {K : Type 0} → ℕ → (K → K → List ℕ → List ℕ → Type 0) → (List ℕ → Type 0) → Result (Unit {0}) TalkFault → K → K → Type 0
+ends_by limit answers comes (Ok done) reached last = reached ≡ last
+ends_by limit answers comes (Err faults.SourceFault) reached last = reached ≡ last
+ends_by limit answers comes (Err faults.SinkFault) reached last = reached ≡ last
+ends_by limit answers comes (Err faults.TooLong) reached last = reached ≡ last
+ends_by limit answers comes (Err (faults.NoMemory e)) reached last = (reached ≡ last) ⊎ IsAnsweredUntold limit answers comes reached last
 
 -- the replies went out whole, unless the voice failed
 abbrev pub writes_by : Result (Unit {0}) TalkFault → Option (List ℕ) → Option (List ℕ) → List ℕ → Type 0
@@ -81,6 +90,6 @@ module _ {K : Type 0} (seen : K → KeeperSeen) (stays : K → K → Type 0) whe
     pub heard : hears (lines_in exchanges)
     pub reached : K
     pub answered : AnswersEach limit answers refuses first exchanges reached
-    pub ends : ends_by stays result reached last
+    pub ends : ends_by limit answers (λ more. hears (lines_in exchanges ++ more)) result reached last
     pub output : writes_by result before.contents now.contents (replies_in exchanges)
     pub told : (b : List ℕ) (t : ℕ) → now.told b t → before.told b t ⊎ IfSome before.contents (λ held. IsToldOnceKept held exchanges last b t)

@@ -22,6 +22,10 @@ pub record TellsFronts (old new : VoiceSeen) (bytes : List ℕ) (moment : ℕ) :
   pub kept : (b : List ℕ) (t : ℕ) → old.told b t → new.told b t
   pub nothing_else : (b : List ℕ) (t : ℕ) → new.told b t → old.told b t ⊎ ((t ≡ moment) × IfSome old.contents (λ before. IsCut before bytes b))
 
+-- nothing was done, or a line was answered, and nobody is told
+abbrev pub HasPerhapsAnswered : {K : Type 0} → (K → K → List ℕ → Type 0) → K → K → Type 0
+HasPerhapsAnswered answers old new = (old ≡ new) ⊎ ((reply : List ℕ) × answers old new reply)
+
 -- one line, of which this is so, was added to a text
 abbrev pub IsReplied : (List ℕ → Type 0) → List ℕ → List ℕ → Type 0
 IsReplied so old new = (reply : List ℕ) × IsLine reply × so reply × (new ≡ old ++ reply)

@@ -1,8 +1,8 @@
 //! Who answers lines.
 
-ghost use Rattle.std.specs.Prelude.{◌≤◌, ℕ, List, OnOk};
+ghost use Rattle.std.specs.Prelude.{◌≤◌, ℕ, List, OnErr, OnOk};
 ghost use Rattle.ucon_tell.specs.Seen.{KeeperSeen};
-ghost use Rattle.ucon_tell.specs.Told.{IsReplied};
+ghost use Rattle.ucon_tell.specs.Told.{HasPerhapsAnswered, IsReplied};
 
 use std::alloc::Global;
 use ucon_base::NoMemory;
@@ -22,9 +22,10 @@ pub trait Keeper {
     ghost refuses: { Self → List ℕ → Type 0 };
 
     /// Answers a line, given without its newline, and adds the reply, one line with its newline, to a text. What the reply tells is kept when this
-    /// returns. If there is no memory the line may have been taken, and no reply is told.
+    /// returns. If there is no memory the line may have been answered, and no reply is told.
     fn answer(&mut self, alloc: Global, line: &[u8], text: &mut Vec<u8>) -> Result<(), NoMemory>
         ensures reply { OnOk result (IsReplied (answers self.old self.new line.now) text.old.items text.new.items) }
+        ensures failed { OnErr result (HasPerhapsAnswered (λ x y reply. answers x y line.now reply) self.old self.new) }
         ensures stays { stays self.old self.new };
 
     /// Adds the reply to a line that is too long, which nobody has read.

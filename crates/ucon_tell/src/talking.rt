@@ -1,11 +1,11 @@
 //! The conversation.
 
-ghost use Rattle.std.specs.Prelude.{◌≡◌, ◌≢◌, ◌++◌, ◌∷◌, [], ℕ, List, OnOk, IfSome, IsErrOf};
+ghost use Rattle.std.specs.Prelude.{◌≡◌, ◌≢◌, ◌⊎◌, ◌++◌, ◌∷◌, [], ℕ, List, OnErr, OnOk, IfSome, IsErrOf};
 ghost use Rattle.ucon_flow.specs.Causes.{raised};
 ghost use Rattle.ucon_flow.specs.Lines.{IsBare};
 ghost use Rattle.ucon_tell.specs.Heard.{HearsNext, Hears, IsCutOf, IsHeardAs, SkipsNext, adds_line};
 ghost use Rattle.ucon_tell.specs.Told.{IsReplied};
-ghost use Rattle.ucon_tell.specs.Talk.{HasTalked, IsAnsweredBy};
+ghost use Rattle.ucon_tell.specs.Talk.{HasTalked, IsAnsweredBy, IsAnsweredUntold};
 
 use crate::keeper::Keeper;
 use crate::talk_fault::TalkFault;
@@ -129,6 +129,8 @@ fn reply<K: Keeper>(
 ) -> Result<(), NoMemory>
     ensures reply { (limit : ℕ) (line : List ℕ) → IsBare line → IsHeardAs limit heard.now line
         → OnOk result (IsReplied (IsAnsweredBy limit K.answers K.refuses keeper.old keeper.new line) text.old.items text.new.items) }
+    ensures failed { (limit : ℕ) (line : List ℕ) → IsBare line → IsHeardAs limit heard.now line
+        → OnErr result ((keeper.old ≡ keeper.new) ⊎ IsAnsweredUntold limit K.answers (λ all. all ≡ line ++ 10 ∷ []) keeper.old keeper.new) }
     ensures stays { K.stays keeper.old keeper.new }
 {
     match heard {

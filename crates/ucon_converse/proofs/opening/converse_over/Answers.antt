@@ -6,6 +6,7 @@ use Rattle.ucon_outcome.specs.Ending.{IsCounted}
 use Rattle.ucon_store.specs.Kept.{Kept}
 use Rattle.ucon_tell.specs.Heard.{Hears}
 use Rattle.ucon_tell.specs.declared.talk_fault.TalkFault.{TalkFault}
+use Rattle.ucon_converse.specs.Answering.{Answering}
 use Rattle.ucon_converse.specs.Ended.{IsTalkedOver, ended_so}
 use Rattle.ucon_converse.proofs.Ended.{sink_counted, source_counted}
 use Rattle.ucon_converse.proofs.opening.converse_over.Goals as goal
@@ -17,18 +18,19 @@ returns-clause-talked g c =
     let closed = c.hold-talked.new.keeper in
     let hears : Result (Unit {0}) TalkFault → List ℕ → Type 0 =
     λ r heard. Hears r c.args.lines.now.held c.hold-talked.new.lines.held (g.S.Source.seen c.args.input.now).left (g.S.Source.seen c.hold-talked.new.input).left heard in
-    let given_back : c.into_store-store.result ≡ closed = c.into_store-store.ensures in
+    let given_back : c.into_store-store.result ≡ closed.store = c.into_store-store.ensures in
     let there : is_some c.into_store-store.result.mark ≡ c.is_stopped.result = search rules in
-    let failed : is_some closed.mark ≡ c.is_stopped.result = ap (λ (s : Kept g.row.D.Denot). is_some s.mark) (sym given_back) ∙ there in
+    let failed : is_some closed.store.mark ≡ c.is_stopped.result = ap (λ (s : Kept g.row.D.Denot). is_some s.mark) (sym given_back) ∙ there in
     let over : IsTalkedOver seen first c.by.result.disk c.by.result.outcome (g.V.Voice.seen c.args.out.now) (g.V.Voice.seen c.hold-talked.new.out) hears = record {
       closed = closed;
       disk_is = c.by.ensures.disk ∙ (c.close.ensures.disk ∙ ap (λ (s : Kept g.row.D.Denot). s.disk) given_back);
-      stays = c.hold-talked.ensures.stays;
+      keeps = c.hold-talked.ensures.keeps;
       result = c.hold-talked.result;
       outcome_is = c.by.ensures.outcome ∙ (c.ended_by-outcome.ensures ∙ ap (ended_so c.hold-talked.result) (sym failed));
-      conversed = λ P G accepts front unmarked. c.hold-talked.ensures.conversed P G accepts front unmarked;
+      answered = λ P T accepts starts. c.hold-talked.ensures.answered P T accepts starts;
+      conversed = λ P G places accepts front unmarked. c.hold-talked.ensures.conversed P G places accepts front unmarked;
     } in
-    subst (λ (s : Kept g.row.D.Denot). IsTalkedOver seen s c.by.result.disk c.by.result.outcome (g.V.Voice.seen c.args.out.now) (g.V.Voice.seen c.hold-talked.new.out) hears)
+    subst (λ (s : Answering g.row.D.Denot). IsTalkedOver seen s c.by.result.disk c.by.result.outcome (g.V.Voice.seen c.args.out.now) (g.V.Voice.seen c.hold-talked.new.out) hears)
     c.new-keeper.ensures over
 
 pub returns-clause-source : goal.returns-clause-source

@@ -1,9 +1,10 @@
-use Rattle.std.proofs.Common.{inr, subst}
+use Rattle.std.proofs.Common.{[], inr, subst}
 use Rattle.std.specs.Prelude.{List, ℕ, Result}
 use Rattle.ucon_flow.specs.Lines.{Reading}
 use Rattle.ucon_syntax.specs.Policies.{accepted}
 use Rattle.ucon_tell.specs.Heard.{Hears}
 use Rattle.ucon_tell.specs.declared.talk_fault.TalkFault.{TalkFault}
+use Rattle.ucon_converse.specs.Answering.{Answering}
 use Rattle.ucon_converse.specs.Ended.{IsTalkedOver}
 use Rattle.ucon_converse.proofs.Behind.{held_over}
 use Rattle.ucon_converse.proofs.Ended.{some_is}
@@ -20,10 +21,12 @@ returns-in-Ok-clause-ends g c =
     let new = g.V.Voice.seen c.converse_over.new.out in
     let so : List ℕ → Result (Unit {0}) TalkFault → List ℕ → Type 0 =
     λ held r heard. Hears r held c.converse_over.new.lines.held (g.S.Source.seen c.args.input.now).left (g.S.Source.seen c.converse_over.new.input).left heard in
-    let over : IsTalkedOver seen store c.converse_over.result.disk c.converse_over.result.outcome old new (so c.args.lines.now.held) =
-    subst (λ (l : Reading). IsTalkedOver seen store c.converse_over.result.disk c.converse_over.result.outcome old new (so l.held)) c.limit_to.ensures c.converse_over.ensures.talked in
+    let first : Answering g.row.D.Denot = record { store = store; made = []; tried = store.before } in
+    let over : IsTalkedOver seen first c.converse_over.result.disk c.converse_over.result.outcome old new (so c.args.lines.now.held) =
+    subst (λ (l : Reading). IsTalkedOver seen first c.converse_over.result.disk c.converse_over.result.outcome old new (so l.held)) c.limit_to.ensures c.converse_over.ensures.talked in
     inr (
-    held_over seen text P.0 P.1 c.args.disk store told.store.0 told.store.2 told.images told.unfailed told.tells
+    held_over seen g.met.D.Disk.only_now g.met.D.Disk.as_read text P.0 P.1 c.args.disk store told.store.0 told.store.2 told.images told.unfailed told.tells
+    told.begins told.places told.old (told.leads P.0 P.1) (told.seen P.0 P.1)
     c.converse_over.result.disk c.converse_over.result.outcome old new (so c.args.lines.now.held) over
     (λ file H is found. told.founded P.0 file H P.1 is found)
     )

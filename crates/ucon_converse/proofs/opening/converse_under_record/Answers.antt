@@ -5,7 +5,8 @@ use Rattle.ucon_model.specs.Plain.{Bytes}
 use Rattle.ucon_outcome.specs.declared.outcome.Outcome.{Outcome}
 use Rattle.ucon_syntax.specs.Policies.{accepted}
 use Rattle.ucon_tell.specs.Heard.{Hears}
-use Rattle.ucon_converse.specs.Ended.{EndsUnderBy, HasFirst, IsOfRecord, LeavesSame, record_refused}
+use Rattle.ucon_converse.specs.Ended.{EndsUnderBy, IsOfRecord, LeavesSame, record_refused}
+use Rattle.ucon_converse.specs.Holding.{HasFirst}
 use Rattle.ucon_converse.proofs.Records.{refused_so}
 use Rattle.ucon_converse.proofs.opening.converse_under_record.Goals as goal
 

@@ -1,9 +1,20 @@
-use Rattle.std.proofs.Common.{◌≡◌, List, ℕ, ◌++◌, ◌∷◌, [], Ok, Err, ap, subst, sym, ◌∙◌, refl}
+use Rattle.std.proofs.Common.{rules, ◌≡◌, inl, List, ℕ, ◌++◌, Ok, Err, ap, subst, sym, ◌∙◌, refl}
+use Rattle.std.specs.Prelude.{Result}
 use Rattle.ucon_tell.specs.Heard.{adds_line}
-use Rattle.ucon_tell.specs.Talk.{IsAnsweredBy}
+use Rattle.ucon_tell.specs.Talk.{HasTalked, IsAnsweredBy}
+use Rattle.ucon_tell.specs.declared.talk_fault.TalkFault.{TalkFault}
 use Rattle.ucon_tell.specs.declared.talk_fault.TalkFault.TheVariants as faults
-use Rattle.ucon_tell.proofs.Talked.{one_told}
+use Rattle.ucon_tell.proofs.Talked.{none_told, one_told, perhaps_added}
 use Rattle.ucon_tell.proofs.talking.exchange.Goals as goal
+
+pub returns-in_err-reply-clause-talked : goal.returns-in_err-reply-clause-talked
+returns-in_err-reply-clause-talked g c = λ limit line bare heard.
+    let e = c.in_err-reply.field-0.0 in
+    let is : c.from_residual.result ≡ Err (faults.NoMemory e) = search rules in
+    let v = g.V.Voice.seen c.args.out.now in
+    subst (λ (r : Result (Unit {0}) TalkFault). HasTalked g.K.Keeper.seen g.K.Keeper.stays g.K.Keeper.answers g.K.Keeper.refuses limit r c.args.keeper.now c.reply.new.keeper v v (adds_line r line)) (sym is)
+    (none_told g.K.Keeper.seen g.K.Keeper.stays g.met.K.Keeper.kept g.met.K.Keeper.onward g.met.K.Keeper.same g.met.K.Keeper.again g.K.Keeper.answers g.K.Keeper.refuses limit e c.args.keeper.now c.reply.new.keeper v (adds_line (Err (faults.NoMemory e)) line) (inl refl)
+    (perhaps_added g.K.Keeper.answers limit line e c.args.keeper.now c.reply.new.keeper (c.in_err-reply.ensures.failed limit line bare heard)))
 
 pub returns-in-Ok-clause-talked : goal.returns-in-Ok-clause-talked
 returns-in-Ok-clause-talked g c = λ limit line bare heard.

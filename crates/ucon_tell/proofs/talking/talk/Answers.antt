@@ -1,5 +1,5 @@
-use Rattle.std.proofs.Common.{◌≡◌, ℕ, ◌+◌, Ok, Err, rules, arith, refl, subst, sym, List, ◌∷◌, [], ◌++◌}
-use Rattle.std.specs.Prelude.{Option, Some, None, Result}
+use Rattle.std.proofs.Common.{◌≡◌, ℕ, ◌+◌, Ok, Err, rules, arith, refl, subst, sym, List, [], ◌++◌}
+use Rattle.std.specs.Prelude.{Option, Result}
 use Rattle.ucon_tell.specs.Heard.{Hears, HearsLine, HearsNext, IsHeardAs, adds_line}
 use Rattle.ucon_tell.specs.Talk.{HasTalked}
 use Rattle.ucon_tell.specs.declared.talk_fault.TalkFault.{TalkFault}

@@ -1,4 +1,4 @@
-use Rattle.std.proofs.Common.{◌≡◌, ℕ, [], ◌∷◌, ◌++◌, List, refl, sym, ◌∙◌, ap}
+use Rattle.std.proofs.Common.{ℕ, [], ◌∷◌, ◌++◌, List, refl, sym, ◌∙◌, ap}
 use Rattle.ucon_tell.specs.declared.memory.Note.{Note}
 use Rattle.ucon_tell.proofs.memory.MemVoice.hold.Goals as goal
 

@@ -1,5 +1,4 @@
-use Rattle.std.proofs.Common.{◌≡◌, List, ℕ, subst}
-use Rattle.ucon_tell.specs.declared.memory.Note.{Note}
+use Rattle.std.proofs.Common.{ℕ, subst}
 use Rattle.ucon_tell.specs.Noted.{HasNoted}
 use Rattle.ucon_tell.proofs.Noting.{is_noted, nothing_else_noted, still_noted}
 use Rattle.ucon_tell.proofs.memory.MemVoiceVoice.write.Given.{Over}
