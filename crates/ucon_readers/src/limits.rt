@@ -3,7 +3,7 @@
 ghost use Rattle.std.specs.Prelude.{◌≡◌, ◌∷◌, [], None, Some};
 ghost use Rattle.ucon_model.specs.declared.session.SessionRow.{SessionRow};
 ghost use Rattle.ucon_model.specs.Deadlines.{form_limit, limit_of};
-ghost use Rattle.ucon_model.specs.Reach.{Timed, formula_timed, test_timed, timed_of};
+ghost use Rattle.ucon_model.specs.Reach.{Timed, formula_timed, lasting, test_timed, timed_of};
 ghost use Rattle.ucon_model.specs.Truth.{Readings};
 ghost use Rattle.ucon_model.specs.Views.{formula_of, predicate_of, test_of};
 ghost use Rattle.ucon_readers.specs.Limits.{GivesWay, IsFirstLimit, timed_parts};
@@ -39,24 +39,45 @@ fn earlier(now: Int, first: Option<i64>, limit: i64) -> Option<i64>
     }
 }
 
-/// The first limit so far and with a formula, of a usage that began at `start`.
+/// The first limit so far and with a formula, of a usage that began at `start`. No recursion is entered for a comparison or a duration, as most are.
+#[inline(always)]
 fn first_of_formula(now: Int, start: Int, first: Option<i64>, f: &Formula) -> Option<i64>
     ensures { (R : Readings) (row : SessionRow) → R.now ≡ now → row.start ≡ start
         → GivesWay R row (formula_timed (formula_of f.now)) first result }
 {
     match f {
-        Formula::And(f, g) => {
-            let first = first_of_formula(now, start, first, f);
-            first_of_formula(now, start, first, g)
-        }
-        Formula::Or(f, g) => {
-            let first = first_of_formula(now, start, first, f);
-            first_of_formula(now, start, first, g)
-        }
-        Formula::Not(f) => first_of_formula(now, start, first, f),
         Formula::Compare(..) => first,
         Formula::Lasts(ticks) => earlier(now, first, start.get() + ticks.get()),
+        _ => first_of_parts(now, start, first, f),
     }
+}
+
+/// The same, by the limits of its parts.
+#[inline(never)]
+fn first_of_parts(now: Int, start: Int, first: Option<i64>, f: &Formula) -> Option<i64>
+    ensures { (R : Readings) (row : SessionRow) → R.now ≡ now → row.start ≡ start
+        → GivesWay R row (formula_timed (formula_of f.now)) first result }
+{
+    match f {
+        Formula::And(f, g) => {
+            let first = first_of_parts(now, start, first, f);
+            first_of_parts(now, start, first, g)
+        }
+        Formula::Or(f, g) => {
+            let first = first_of_parts(now, start, first, f);
+            first_of_parts(now, start, first, g)
+        }
+        Formula::Not(f) => first_of_parts(now, start, first, f),
+        Formula::Compare(..) => first,
+        Formula::Lasts(ticks) => first_of_duration(now, start, first, *ticks),
+    }
+}
+
+/// The first limit so far and with a duration of so many ticks.
+fn first_of_duration(now: Int, start: Int, first: Option<i64>, ticks: Int) -> Option<i64>
+    ensures { (R : Readings) (row : SessionRow) → R.now ≡ now → row.start ≡ start → GivesWay R row (lasting ticks ∷ []) first result }
+{
+    earlier(now, first, start.get() + ticks.get())
 }
 
 /// The first limit so far and with a test of session n, whose usage began at `start`.
