@@ -86,8 +86,51 @@ pub fn set_attribute(
     let entity = find_entity(state, side, name).ok_or(no_entity(side))?;
     let admitted = attr_admits(state, side, attr, value).ok_or(Refusal::NoAttribute)?;
     require(admitted, Refusal::BadValue)?;
-    write(state, side, name, entity, attr, value.copy(alloc)?)?;
+    write_copy(alloc, state, side, name, entity, attr, value)?;
     Ok(Outcome::Made(Head::Ok))
+}
+
+/// Writes a copy of a value, which is an integer mostly.
+#[inline(always)]
+fn write_copy(
+    alloc: Global,
+    state: &mut State,
+    side: Side,
+    name: &Name,
+    entity: u32,
+    attr: &Name,
+    value: &Value,
+) -> Result<(), NoMemory>
+    requires there { entity_number (shown state.old).tables side name.now ≡ Some entity }
+    requires within { entity < length (entities_of side (shown state.old).tables) }
+    requires admitted { AttributeAdmits (shown state.old).policy side attr.now value.now }
+    ensures leads { OnOk result (Leads (shown state.old) (shown state.new) (λ P T. write side name.now attr.now value.now ∷ T)) }
+    ensures base { KeepsBase (shown state.old) (shown state.new) }
+{
+    match value {
+        Value::Int(n) => write(state, side, name, entity, attr, Value::Int(*n)),
+        _ => write_large_copy(alloc, state, side, name, entity, attr, value),
+    }
+}
+
+/// Writes a copy of any value. It stands alone, so that a write of an integer makes no room for a large value.
+#[inline(never)]
+fn write_large_copy(
+    alloc: Global,
+    state: &mut State,
+    side: Side,
+    name: &Name,
+    entity: u32,
+    attr: &Name,
+    value: &Value,
+) -> Result<(), NoMemory>
+    requires there { entity_number (shown state.old).tables side name.now ≡ Some entity }
+    requires within { entity < length (entities_of side (shown state.old).tables) }
+    requires admitted { AttributeAdmits (shown state.old).policy side attr.now value.now }
+    ensures leads { OnOk result (Leads (shown state.old) (shown state.new) (λ P T. write side name.now attr.now value.now ∷ T)) }
+    ensures base { KeepsBase (shown state.old) (shown state.new) }
+{
+    write(state, side, name, entity, attr, value.copy(alloc)?)
 }
 
 /// The value of an attribute of an entity.

@@ -82,7 +82,22 @@ fn run_update(alloc: Global, state: &mut State, n: u32, when: When, at: u32) -> 
 
 /// Runs the updates of a time of the right of session n, in written order. A right with more updates than a `u32` counts is answered
 /// as out of memory.
+#[inline(always)]
 pub fn run_updates(alloc: Global, state: &mut State, n: u32, when: When) -> Result<(), NoMemory>
+    requires { IsFollowing (shown state.old) }
+    ensures leads { OnOk result (Leads (shown state.old) (shown state.new) (λ P T. extended T (session_writes P n when T))) }
+    ensures base { KeepsBase (shown state.old) (shown state.new) }
+{
+    tables_keep_what_is_followed();
+    if updates_in(state, n).is_empty() {
+        return Ok(());
+    }
+    run_each_update(alloc, state, n, when)
+}
+
+/// The same for a right that has updates.
+#[inline(never)]
+fn run_each_update(alloc: Global, state: &mut State, n: u32, when: When) -> Result<(), NoMemory>
     requires { IsFollowing (shown state.old) }
     ensures leads { OnOk result (Leads (shown state.old) (shown state.new) (λ P T. extended T (session_writes P n when T))) }
     ensures base { KeepsBase (shown state.old) (shown state.new) }

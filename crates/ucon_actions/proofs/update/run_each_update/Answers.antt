@@ -13,7 +13,7 @@ use Rattle.ucon_engine.specs.ReadOff.{session_same}
 use Rattle.ucon_actions.proofs.Writes.{written_out-more}
 use Rattle.ucon_actions.proofs.Updated.{all_written, in_trace, none_written, row_stays_by, row_written, updates_stay, with_row}
 use Rattle.ucon_actions.proofs.Keeping.{base_on, same_base}
-use Rattle.ucon_actions.proofs.update.run_updates.Goals as goal
+use Rattle.ucon_actions.proofs.update.run_each_update.Goals as goal
 
 pub loop-at-init : goal.loop-at-init
 loop-at-init c =

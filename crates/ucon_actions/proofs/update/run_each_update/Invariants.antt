@@ -1,7 +1,7 @@
 use Rattle.ucon_actions.specs.Leads.{Leads, KeepsBase}
 use Rattle.ucon_state.specs.Shown.{shown}
 use Rattle.ucon_actions.specs.Updating.{first_written_out}
-use Rattle.ucon_actions.proofs.update.run_updates.Given as goal
+use Rattle.ucon_actions.proofs.update.run_each_update.Given as goal
 
 -- the updates so far have run
 abbrev pub invariant-loop-at : goal.invariant-loop-at
