@@ -98,6 +98,7 @@ impl Gate for MeetingGate {
 fn served_at<R: Threads + Wait + Sync>(
     rt: &R,
     alloc: Global,
+    form: &str,
     meeting: &Meeting,
     gate: &MeetingGate,
 ) -> Result<End, Fail> {
@@ -107,23 +108,44 @@ fn served_at<R: Threads + Wait + Sync>(
         return Err("client 0 is not served".into());
     }
     let served = document(alloc, meeting.policy, meeting.served)?;
-    over(rt, alloc, "serve", &served, first.disk, gate)
+    over(rt, alloc, form, &served, first.disk, gate)
 }
 
 /// One thread for all clients never gets past the first lines: the gate's turns run out.
 #[test]
 fn two_clients_meet(rt: HostRuntime) -> Result<(), Fail> {
     let meeting = two_clients();
-    let gate = MeetingGate::new();
-    let end = served_at(&rt, rt.alloc(), &meeting, &gate)?;
-    assert!(rt; matches!(end.outcome, Outcome::Done));
-    assert!(rt; !gate.missed.came());
-    assert!(rt;
-        meeting
-            .outputs
-            .iter()
-            .any(|text| *text == end.output.as_slice())
-    );
+    for form in ["serve", "board"].as_slice() {
+        let gate = MeetingGate::new();
+        let end = served_at(&rt, rt.alloc(), form, &meeting, &gate)?;
+        assert!(rt; matches!(end.outcome, Outcome::Done));
+        assert!(rt; !gate.missed.came());
+        assert!(rt;
+            meeting
+                .outputs
+                .iter()
+                .any(|text| *text == end.output.as_slice())
+        );
+    }
+    Ok(())
+}
+
+/// A client's looks follow its steps, whether it reads them off a board or asks in its turn.
+#[test]
+fn looks_follow_steps(rt: HostRuntime) -> Result<(), Fail> {
+    let alloc = rt.alloc();
+    let made = document(alloc, CAPPED, b"client 0\nsubject a\nobject x\n")?;
+    let lines = document(
+        alloc,
+        CAPPED,
+        b"client 1\ntry a use x\nlook 1\nend 1\nlook 1\nlook 2\n",
+    )?;
+    for form in ["serve", "board"].as_slice() {
+        let first = played(&rt, alloc, &made, b"", None)?;
+        let end = over(&rt, alloc, form, &lines, first.disk, &OpenGate)?;
+        assert!(rt; end.output.as_slice()
+            == b"1 3 permitted 1\n1 3 status 1 accessing\n1 4 ended 1\n1 4 status 1 ended\n1 4 no session\n".as_slice());
+    }
     Ok(())
 }
 

@@ -4,7 +4,7 @@ use Rattle.std.proofs.lemmas.List.Elements.{All-push}
 use Rattle.ucon_turn.specs.Lists.{Has}
 use Rattle.ucon_client.specs.declared.client.Client.{Client}
 use Rattle.ucon_client.specs.declared.part.Part.{Part}
-use Rattle.ucon_client.specs.Answers.{IsPart, Serves, number}
+use Rattle.ucon_client.specs.Answers.{IsPart, IsReaderAt, ServesWith, number}
 use Rattle.ucon_client.specs.Clients.{AreRising}
 use Rattle.ucon_client.proofs.Parts.{seat_number, below_next, given_more}
 use Rattle.ucon_base.specs.Elements.{Each, each_parts}
@@ -37,7 +37,7 @@ loop-part-preserved g c =
     let part : Part = c.in-Some.part in
     let done = c.loop-part.yielded in
     let rest = c.next.new.self.rest.items in
-    let Fair : C → Type 0 = λ d. Serves c.args.turn.now d.part d.seat in
+    let Fair : C → Type 0 = λ d. ServesWith c.args.turn.now d.part d.seat d.looks in
     let parts : c.args.parts.items ≡ done ++ part ∷ rest = i.parts ∙ ap (λ l. done ++ l) c.in-Some.ensures.steps.0 in
     let long : length (done ++ part ∷ []) ≡ length done + 1 = length_push done part in
     let items : c.push_reserved.new.self.items ≡ c.loop-part.clients.items ++ client ∷ [] = c.push_reserved.ensures.items in

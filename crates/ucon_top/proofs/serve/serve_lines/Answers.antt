@@ -22,12 +22,12 @@ returns-in-Err-clause-run g c = λ P accepts.
     let was = (g.K.Sink.seen c.args.out.now).contents in
     let only_now = (g.met.D.Disk g.world.𝓛 g.world.𝓜 g.world.𝓡 ((λ s x. x), (λ x. x), (λ x. x), (λ x. x))).only_now in
     closed_at_once g.D.Disk.seen own_answers P was was only_now laws
-    c.args.store (by_client (map entry_of c.args.lines.now)) c.by.result.disk c.by.result.outcome c.requires (c.by.ensures.disk ∙ c.close.ensures.disk)
+    c.args.boarded.store (by_client (map entry_of c.args.lines.now)) c.by.result.disk c.by.result.outcome c.requires (c.by.ensures.disk ∙ c.close.ensures.disk)
     (rw c.by.ensures.outcome tt) (rw c.by.ensures.outcome (λ s answers. answers))
 
 pub returns-in-Ok-serve-clause-run : goal.returns-in-Ok-serve-clause-run
 returns-in-Ok-serve-clause-run g c = λ P accepts.
-    let store = c.args.store in
+    let store = c.args.boarded.store in
     let closed = c.in-Ok-serve.store in
     let r = c.in-Ok-serve.ensures in
     let is : c.deref.result.now ≡ c.in-Ok-serve.parts.items = c.deref.ensures.value in
@@ -51,7 +51,7 @@ returns-clause-run g c = λ P accepts.
     let was = (g.K.Sink.seen c.args.out.now).contents in
     let only_now = (g.met.D.Disk g.world.𝓛 g.world.𝓜 g.world.𝓡 ((λ s x. x), (λ x. x), (λ x. x), (λ x. x))).only_now in
     let back = c.in-Err-serve.store in
-    let same : back ≡ c.args.store = c.in-Err-serve.ensures.err.0 in
+    let same : back ≡ c.args.boarded.store = c.in-Err-serve.ensures.err.0 in
     let lines = by_client (map entry_of c.args.lines.now) in
     subst (λ (s : Kept g.row.D.Denot). IsClosedRun g.D.Disk.seen own_answers P s lines
     c.by-in-Err-serve.result.outcome c.by-in-Err-serve.result.disk was was) same

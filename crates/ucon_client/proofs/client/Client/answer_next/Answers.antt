@@ -1,68 +1,66 @@
-use Rattle.std.proofs.Common.{rules, ◌≡◌, ℕ, ◌+◌, List, [], ◌∷◌, ◌++◌, map, length, get_or, inl, ap, sym, ◌∙◌, subst}
-use Rattle.std.proofs.lemmas.List.{length_push}
+use Rattle.std.proofs.Common.{rules, ◌≡◌, get_or, refl, sym, ◌∙◌, subst}
+use Rattle.std.specs.Prelude.{IfSome, None, Option, Some}
 use Rattle.ucon_base.specs.Elements.{Each}
-use Rattle.ucon_model.specs.LegalRun.{Answered}
 use Rattle.ucon_script.specs.declared.document.Line.{Line}
 use Rattle.ucon_client.specs.declared.answer.Answer.{Answer}
+use Rattle.ucon_client.specs.declared.looks.Looks.{Looks}
 use Rattle.ucon_client.specs.declared.part.Part.{Part}
-use Rattle.ucon_client.specs.Answers.{entry_of, answer_of, told_of}
-use Rattle.ucon_client.specs.Clients.{AreRight, answered}
-use Rattle.ucon_store.specs.declared.event.Event.{Event}
-use Rattle.ucon_store.specs.declared.event.Event.TheVariants.{Done}
-use Rattle.ucon_store.specs.Events.{number_of}
-use Rattle.ucon_turn.specs.Lists.{ByOthers}
-use Rattle.ucon_client.proofs.OneClient.{stays_right}
-use Rattle.ucon_client.proofs.Seats.{continues_behind}
-use Rattle.ucon_client.proofs.Counting.{answered_next, line_at}
+use Rattle.ucon_client.specs.Answers.{HoldsLooks, taken}
+use Rattle.ucon_client.specs.Steps.{HasStepped, base_of}
+use Rattle.ucon_client.proofs.Counting.{line_at}
+use Rattle.ucon_client.proofs.Turning.{answers_alone, goes_alone, held_on, serves_next, serves_on}
 use Rattle.ucon_client.proofs.client.Client.answer_next.Goals as goal
+
+pub returns-in_default-clause-serves : goal.returns-in_default-clause-serves
+returns-in_default-clause-serves g c =
+    let turn = c.args.turn.now in
+    let called = c.call-said.ensures in
+    let d = called.did in
+    let none = subst (HasStepped (base_of turn.opened) c.index-slice-place.result c.take.result c.call-said.new.job.looks d.0 c.call-said.new.seat.seen) c.in-None.is d.3 in
+    serves_on turn c.args.self.now.part c.args.self.now.seat c.call-said.new.seat d.0 c.requires.serves.0 called.turn called.kept.0 d.1 none.0 none.2
+
+pub take_in-requires-clause-held : goal.take_in-requires-clause-held
+take_in-requires-clause-held g c =
+    let turn = c.args.turn.now in
+    let was : Part = c.args.self.now.part in
+    let d = c.call-said.ensures.did in
+    let mid : Option Looks = c.call-said.new.job.looks in
+    let some = subst (HasStepped (base_of turn.opened) c.index-slice-place.result c.take.result mid d.0 c.call-said.new.seat.seen) c.in-Some.is d.3 in
+    let holds = subst (λ (o : Option Looks). IfSome o (HoldsLooks turn was)) (sym c.take.ensures.value) c.requires.serves.1 in
+    held_on turn was c.take.result mid d.0 holds some.0
 
 pub returns-clause-serves : goal.returns-clause-serves
 returns-clause-serves g c =
+    let turn = c.args.turn.now in
     let was : Part = c.args.self.now.part in
-    let seat = c.args.self.now.seat in
-    let now : Part = c.add.new.self in
-    let seen = c.call-answer.new.seat.seen in
-    let s = c.requires.serves in
-    let d = c.call-answer.ensures.did in
-    let lines = was.lines.items in
-    let line : Line = c.index-slice-len.result in
-    let a : Answer = c.call-answer.result in
-    let at : line ≡ get_or lines (length was.answers.items) line = search rules in
-    let own = line_at (λ l. l.caller.0 ≡ was.number) lines (length was.answers.items) line c.requires.more at s.part.own in
-    let kept = c.add.ensures.kept in
-    let longer : length now.answers.items ≡ length was.answers.items + 1 = ap length c.add.ensures.answers ∙ length_push was.answers.items a in
-    let told : told_of now ≡ told_of was ++ record { line = entry_of line; answer = answer_of a } ∷ [] =
-    (λ i. answered (map entry_of (kept.1 i).items) (map answer_of (c.add.ensures.answers i))) ∙ answered_next lines was.answers.items line a c.requires.more at in
-    record {
-      seated = c.call-answer.ensures.turn;
-      number = c.call-answer.ensures.kept.0 ∙ (s.number ∙ ap (λ n. n + 1) (sym kept.0));
-      part = record {
-        few = search rules;
-        own = subst (λ (z : ℕ × List Line). Each (λ l. l.caller.0 ≡ z.0) z.1) (λ i. (sym kept.0 i, (sym kept.1 i).items)) s.part.own;
-        first = search rules;
-        room = search rules;
-      };
-      right = λ P G is front.
-          let done : List Event = map Done G in
-          let step = d.3 P G (record { accepts = is; starts = front.starts; count = front.count; text = front.text }) in
-          subst (λ (z : ℕ × List Answered). AreRight P z.0 (G ++ c.args.turn.now.opened.entries) (done ++ seen) z.1) (λ i. (sym kept.0 i, sym told i))
-          (stays_right P was.number (G ++ c.args.turn.now.opened.entries) (done ++ seat.seen) (done ++ d.0) (done ++ seen) (told_of was) (entry_of line)
-          (answer_of a) seat.number seat.taken (s.right P G is front) own (inl (sym s.number))
-          (continues_behind (ByOthers number_of seat.number seat.taken) done seat.seen d.0 d.1) step);
-    }
+    let old : Option Looks = c.args.self.now.looks in
+    let called = c.call-said.ensures in
+    let d = called.did in
+    let mid : Option Looks = c.call-said.new.job.looks in
+    let line : Line = c.index-slice-place.result in
+    let at : line ≡ get_or was.lines.items (taken was old) line = search rules in
+    let own = line_at (λ l. l.caller.0 ≡ was.number) was.lines.items (taken was old) line c.requires.more at c.requires.serves.0.part.own in
+    let some = subst (λ (o : Option Looks). HasStepped (base_of turn.opened) line o mid d.0 c.call-said.new.seat.seen (Some c.in-Some.answer)) c.take.ensures.value
+    (subst (HasStepped (base_of turn.opened) line c.take.result mid d.0 c.call-said.new.seat.seen) c.in-Some.is d.3) in
+    let t = c.take_in.ensures in
+    serves_next c.replies_tell_states.ensures.look turn was c.take_in.new.part c.args.self.now.seat c.call-said.new.seat old mid c.take_in.result line
+    c.in-Some.answer d.0 c.requires.serves.0 c.requires.serves.1 called.turn called.kept.0 t.kept t.part t.answers c.requires.more at own d.1 some.0 some.1 t.looks
 
-pub returns-clause-answers : goal.returns-clause-answers
-returns-clause-answers g c =
+pub returns-clause-alone : goal.returns-clause-alone
+returns-clause-alone g c = λ none.
+    let turn = c.args.turn.now in
     let was : Part = c.args.self.now.part in
-    let d = c.call-answer.ensures.did in
-    let line : Line = c.index-slice-len.result in
-    let at : line ≡ get_or was.lines.items (length was.answers.items) line = search rules in
-    record {
-      line = line;
-      answer = c.call-answer.result;
-      before = d.0;
-      next = at;
-      answers = c.add.ensures.answers;
-      others = d.1;
-      step = λ P G is front. d.3 P G (record { accepts = is; starts = front.starts; count = front.count; text = front.text });
-    }
+    let old : Option Looks = c.args.self.now.looks in
+    let d = c.call-said.ensures.did in
+    let mid : Option Looks = c.call-said.new.job.looks in
+    let line : Line = c.index-slice-place.result in
+    let at : line ≡ get_or was.lines.items (taken was old) line = search rules in
+    let some = subst (λ (o : Option Looks). HasStepped (base_of turn.opened) line o mid d.0 c.call-said.new.seat.seen (Some c.in-Some.answer)) c.take.ensures.value
+    (subst (HasStepped (base_of turn.opened) line c.take.result mid d.0 c.call-said.new.seat.seen) c.in-Some.is d.3) in
+    let t = c.take_in.ensures in
+    let alone = goes_alone (base_of turn.opened) c.take_in.new.part old mid c.take_in.result d.0 none some.0 t.looks in
+    (
+      refl,
+      alone.1,
+      answers_alone turn was c.take_in.new.part c.args.self.now.seat c.call-said.new.seat old mid line c.in-Some.answer d.0 none alone.0 t.answers at d.1 some.1,
+    )
