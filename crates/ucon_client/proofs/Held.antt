@@ -15,7 +15,7 @@ use Rattle.ucon_store.specs.declared.event.Event.{Event}
 use Rattle.ucon_client.specs.declared.answer.Answer.{Answer}
 use Rattle.ucon_client.specs.declared.looks.Looks.{Looks}
 use Rattle.ucon_client.specs.declared.part.Part.{Part}
-use Rattle.ucon_client.specs.Answers.{AreHeld, IsPart, answer_of, entry_of, held_by, held_in, taken, told_of}
+use Rattle.ucon_client.specs.Answers.{AreHeld, IsPart, answer_of, entry_of, held_in, told_of}
 use Rattle.ucon_client.specs.Clients.{AreRight, answered}
 use Rattle.ucon_client.specs.Looks.{HasReached, IsConfirmed, IsRead, IsUpTo, Look, Rise, answered_look, last_place}
 use Rattle.ucon_client.specs.Reading.{GoesOnReading, HasRead, HoldsOn}
@@ -128,22 +128,17 @@ there (x ∷ xs) zero lt = (x, refl)
 there (x ∷ xs) (suc k) lt = there xs k (omega (arith, lt))
 
 -- the answers held, and one more behind them
-pub told_by_turn : (was now : Part) (looks : Option Looks) (line : Line) (a : Answer) → now.lines ≡ was.lines
-    → now.answers.items ≡ (was.answers.items ++ held_by looks) ++ a ∷ [] → taken was looks < length was.lines.items
-    → line ≡ get_or was.lines.items (taken was looks) line
-    → told_of now ≡ (told_of was ++ held_in was (held_by looks)) ++ record { line = entry_of line; answer = answer_of a } ∷ []
-told_by_turn was now looks line a lines is lt at =
-    let middle : List Answer = was.answers.items ++ held_by looks in
-    let long : length middle ≡ taken was looks = length-append was.answers.items (held_by looks) in
+pub told_by_turn : (was now : Part) (held : List Answer) (line : Line) (a : Answer) → now.lines ≡ was.lines
+    → now.answers.items ≡ (was.answers.items ++ held) ++ a ∷ [] → length was.answers.items + length held < length was.lines.items
+    → line ≡ get_or was.lines.items (length was.answers.items + length held) line
+    → told_of now ≡ (told_of was ++ held_in was held) ++ record { line = entry_of line; answer = answer_of a } ∷ []
+told_by_turn was now held line a lines is lt at =
+    let middle : List Answer = was.answers.items ++ held in
+    let long : length middle ≡ length was.answers.items + length held = length-append was.answers.items held in
     (λ i. answered (map entry_of (lines i).items) (map answer_of (is i)))
     ∙ (answered_next was.lines.items middle line a (omega (arith, long, lt)) (at ∙ ap (λ k. get_or was.lines.items k line) (sym long))
-    ∙ ap (λ (t : List Answered). t ++ record { line = entry_of line; answer = answer_of a } ∷ []) (middle_told middle refl))
-  where
-    middle_told : (answers : List Answer) → answers ≡ was.answers.items ++ held_by looks
-        → answered (map entry_of was.lines.items) (map answer_of answers) ≡ told_of was ++ held_in was (held_by looks)
-    middle_told answers same =
-        told_more was (record was { answers = record was.answers { items = answers } }) (held_by looks) refl same
-
+    ∙ ap (λ (t : List Answered). t ++ record { line = entry_of line; answer = answer_of a } ∷ [])
+    (told_more was (record was { answers = record was.answers { items = middle } }) held refl refl))
 
 -- nothing is held any more behind an answer that stops nobody
 pub taken_in : (was now : Part) (l new : Looks) (a : Answer) → AreHeld was l → now.lines ≡ was.lines
@@ -151,17 +146,23 @@ pub taken_in : (was now : Part) (l new : Looks) (a : Answer) → AreHeld was l �
     → new.held.items ≡ [] → l.last ≤ new.last → IsUpTo new.last (answer_of a) → AreHeld now new
 taken_in was now l new a h lines is lt none above up =
     let few : length now.answers.items ≤ length now.lines.items =
-    omega (arith, lt, ap length is, length-append (was.answers.items ++ l.held.items) (a ∷ []), length-append was.answers.items l.held.items,
-    ap (λ (x : Seen Line). length x.items) lines) in
+    omega (
+      arith,
+      lt,
+      ap length is,
+      length-append (was.answers.items ++ l.held.items) (a ∷ []),
+      length-append was.answers.items l.held.items,
+      ap (λ (x : Seen Line). length x.items) lines,
+    ) in
     let line = there was.lines.items (length was.answers.items + length l.held.items) lt in
     none_held now new few none
-    (subst (HasReached new.last) (sym (told_by_turn was now (Some l) line.0 a lines is lt line.1))
+    (subst (HasReached new.last) (sym (told_by_turn was now l.held.items line.0 a lines is lt line.1))
     (each_append (λ (t : Answered). IsUpTo new.last t.answer) (told_of was ++ held_in was l.held.items) (record { line = entry_of line.0; answer = answer_of a } ∷ [])
     (all_reached was l new.last h above) (up, tt)))
 
 pub reads_on : (was now : Part) (l settled : Looks) (o : Option Looks) (a : Answer) → AreHeld was l → now.lines ≡ was.lines
     → now.answers.items ≡ (was.answers.items ++ l.held.items) ++ a ∷ [] → length was.answers.items + length l.held.items < length was.lines.items
-    → (settled.reader ≡ l.reader) × (settled.held.items ≡ []) × (settled.last ≡ l.last) → GoesOnReading settled o (answer_of a) → HoldsOn now (Some l) o
+    → (settled.reader ≡ l.reader) × (settled.held.items ≡ []) × (settled.last ≡ l.last) → GoesOnReading settled o (answer_of a) → HoldsOn now l o
 reads_on was now l settled None a h lines is lt s on = tt
 reads_on was now l settled (Some new) a h lines is lt s on =
     (on.reader ∙ s.0, on.held ∙ s.1, taken_in was now l new a h lines is lt (on.held ∙ s.1) (omega (arith, on.above, s.2)) on.up_to)

@@ -139,8 +139,7 @@ true_in P G log board c le (l ∷ looks) h =
     let b : Board = h.0.0 in
     let on : GoesOn b board = h.0.1 in
     let place : l.place ≡ place_of b = h.0.2 in
-    let within = c.within b on in
-    (
+    let within = c.within b on in (
       (
         omega (arith, le, place, on.opened_at),
         omega (arith, place, within),

@@ -1,5 +1,5 @@
 -- What a turn makes of a client's answers.
-use Rattle.std.proofs.Common.{◌≡◌, ℕ, zero, suc, ◌+◌, ◌<◌, ◌≤◌, true, List, [], ◌∷◌, ◌++◌, Option, Some, None, map, length, drop, get_or, refl, sym, ap, ◌∙◌, subst, inl, arith}
+use Rattle.std.proofs.Common.{◌≡◌, ℕ, Bool, zero, suc, ◌+◌, ◌<◌, ◌≤◌, true, List, [], ◌∷◌, ◌++◌, Option, Some, None, map, length, drop, get_or, refl, sym, ap, ◌∙◌, subst, inl, arith}
 use Rattle.std.specs.Prelude.{IfSome, option_map}
 use Rattle.std.proofs.lemmas.List.{append-nil, append_assoc, length-append}
 use Rattle.ucon_base.specs.Elements.{Each}
@@ -26,10 +26,10 @@ use Rattle.ucon_client.specs.Boarded.{Sharing, identity}
 use Rattle.ucon_client.specs.Clients.{AreRight, Steps, answered}
 use Rattle.ucon_client.specs.Events.{EndsAtMark}
 use Rattle.ucon_client.specs.Looks.{HasReached, IsConfirmed}
-use Rattle.ucon_client.specs.Steps.{AreConfirmed, Asks, HasConfirmed, base_of}
-use Rattle.ucon_client.proofs.Counting.{answered_none}
+use Rattle.ucon_client.specs.Steps.{HasAnswered, HasConfirmed, IsOfBase, base_of}
+use Rattle.ucon_client.proofs.Counting.{answered_next}
 use Rattle.ucon_client.specs.Reading.{HoldsOn}
-use Rattle.ucon_client.proofs.Held.{all_reached, confirmed_right, none_held, still_held, told_by_turn, told_more}
+use Rattle.ucon_client.proofs.Held.{all_reached, confirmed_right, none_held, told_by_turn, told_more}
 use Rattle.ucon_client.proofs.Holding.{LooksTell}
 use Rattle.ucon_client.proofs.OneClient.{others_change_nothing, stays_right}
 use Rattle.ucon_client.proofs.Seats.{continues_behind}
@@ -38,9 +38,8 @@ of_base : (o : Option Known) (r : Known) → IfSome o (λ k. r.which ≡ k.which
 of_base None r h = tt
 of_base (Some k) r h = h
 
-pub asks : {D : Type 0} (turn : Opening (Sharing D)) (p : Part) (looks : Option Looks) → IfSome looks (HoldsLooks turn p) → Asks (base_of turn.opened) looks
-asks turn p None h = tt
-asks turn p (Some l) h = of_base turn.opened.board l.reader h.reader.0
+pub asks : {D : Type 0} (turn : Opening (Sharing D)) (p : Part) (l : Looks) → HoldsLooks turn p l → IsOfBase (base_of turn.opened) l
+asks turn p l h = of_base turn.opened.board l.reader h.reader.0
 
 module _ {D : Type 0} (tell : LooksTell) (turn : Opening (Sharing D)) (was : Part) (seat : Knowledge (Sharing D) Event) (s : Serves turn was seat)
     (P : PlainPolicy) (G : History) (is : accepted turn.opened.store.policy ≡ Some P) (front : IsFront P turn.opened.store G) where
@@ -62,38 +61,16 @@ module _ {D : Type 0} (tell : LooksTell) (turn : Opening (Sharing D)) (was : Par
         confirmed_right tell P H (map Done G ++ before) was old new still h.held c.later (c.true_of refl P G led)
         (omega (arith, length-append G turn.opened.store.entries, front.count, h.reader.1, c.later.opened_at))
 
-    pub confirmed : (old new : Option Looks) → IfSome old (HoldsLooks turn was) → AreConfirmed (base_of turn.opened) old new before
-        → AreRight P was.number H (map Done G ++ before) (told_of was ++ held_in was (held_by old))
-    confirmed None None h c =
-        subst (AreRight P was.number H (map Done G ++ before)) (sym (ap (λ (t : List Answered). told_of was ++ t) (answered_none (map entry_of (drop (length was.answers.items) was.lines.items))) ∙ append-nil (told_of was))) still
-    confirmed (Some old) (Some new) h c = one_confirmed old new h c
-    confirmed None (Some new) h c = absurd c
-    confirmed (Some old) None h c = absurd c
-
-  pub turned : (before seen : List Event) (old new : Option Looks) (line : Line) (a : Answer) → Continues (ByOthers number_of seat.number seat.taken) seat.seen before
-      → IfSome old (HoldsLooks turn was) → AreConfirmed (base_of turn.opened) old new before → line.caller.0 ≡ was.number
+  pub turned : (before seen : List Event) (old new : Looks) (line : Line) (a : Answer) → Continues (ByOthers number_of seat.number seat.taken) seat.seen before
+      → HoldsLooks turn was old → HasConfirmed (base_of turn.opened) old new before true → line.caller.0 ≡ was.number
       → Steps P (entry_of line) (map Done G ++ before) (map Done G ++ seen) (answer_of a)
-      → AreRight P was.number H (map Done G ++ seen) ((told_of was ++ held_in was (held_by old)) ++ record { line = entry_of line; answer = answer_of a } ∷ [])
+      → AreRight P was.number H (map Done G ++ seen) ((told_of was ++ held_in was old.held.items) ++ record { line = entry_of line; answer = answer_of a } ∷ [])
   turned before seen old new line a others h c own step =
       let log : List Event = map Done G ++ before in
-      stays_right P was.number H log log (map Done G ++ seen) (told_of was ++ held_in was (held_by old)) (entry_of line) (answer_of a) seat.number seat.taken
-      (confirmed before others step.ends old new h c) own (inl (sym s.number)) (continues_refl (ByOthers number_of seat.number seat.taken) log) step
+      stays_right P was.number H log log (map Done G ++ seen) (told_of was ++ held_in was old.held.items) (entry_of line) (answer_of a) seat.number seat.taken
+      (one_confirmed before others step.ends old new h c) own (inl (sym s.number)) (continues_refl (ByOthers number_of seat.number seat.taken) log) step
 
 -- ---- what is held, behind a turn
-
--- what is confirmed was held before
-pub same_held : (b : SharedBase) (old new : Option Looks) (before : List Event) → AreConfirmed b old new before → held_by new ≡ held_by old
-same_held b None None before c = refl
-same_held b (Some l) (Some k) before c = c.held
-same_held b None (Some k) before c = absurd c
-same_held b (Some l) None before c = absurd c
-
-pub held_on : {D : Type 0} (turn : Opening (Sharing D)) (p : Part) (old new : Option Looks) (before : List Event) → IfSome old (HoldsLooks turn p)
-    → AreConfirmed (base_of turn.opened) old new before → IfSome new (AreHeld p)
-held_on turn p None None before h c = tt
-held_on turn p (Some l) (Some k) before h c = still_held p l k h.held c.held c.last c.later
-held_on turn p None (Some k) before h c = absurd c
-held_on turn p (Some l) None before h c = absurd c
 
 module _ {D : Type 0} (turn : Opening (Sharing D)) where
   pub reader_on : (l k : Looks) → IsReaderAt turn.opened l.reader → k.reader.which ≡ l.reader.which
@@ -104,32 +81,25 @@ module _ {D : Type 0} (turn : Opening (Sharing D)) where
       by_board None i = tt
       by_board (Some b) i = which ∙ i
 
-  pub looks_on : (was now : Part) (old mid new : Option Looks) (before : List Event) → IfSome old (HoldsLooks turn was)
-      → AreConfirmed (base_of turn.opened) old mid before → HoldsOn now mid new → IfSome new (HoldsLooks turn now)
-  looks_on was now old mid None before h c on = tt
-  looks_on was now (Some l) (Some k) (Some new) before h c on = record {
-    reader = subst (IsReaderAt turn.opened) (sym on.0) (reader_on l k h.reader c.which c.later.opened_at);
+  pub looks_on : (was now : Part) (old mid : Looks) (new : Option Looks) (before : List Event) (confirmed : Bool) → HoldsLooks turn was old
+      → HasConfirmed (base_of turn.opened) old mid before confirmed → HoldsOn now mid new → IfSome new (HoldsLooks turn now)
+  looks_on was now old mid None before confirmed h c on = tt
+  looks_on was now old mid (Some new) before confirmed h c on = record {
+    reader = subst (IsReaderAt turn.opened) (sym on.0) (reader_on old mid h.reader c.which c.later.opened_at);
     held = on.2;
   }
-  looks_on was now None None (Some new) before h c on = absurd on
-  looks_on was now None (Some k) (Some new) before h c on = absurd c
-  looks_on was now (Some l) None (Some new) before h c on = absurd c
 
 -- one answer more, behind what was held
-pub serves_next : {D : Type 0} → LooksTell → (turn : Opening (Sharing D)) (was now : Part) (seat next : Knowledge (Sharing D) Event) (old mid new : Option Looks)
-    (line : Line) (a : Answer) (before : List Event) → Serves turn was seat → IfSome old (HoldsLooks turn was) → IsSeatOf turn next → next.number ≡ seat.number
-    → Keeps was now → IsPart now → now.answers.items ≡ (was.answers.items ++ held_by mid) ++ a ∷ []
-    → taken was old < length was.lines.items → line ≡ get_or was.lines.items (taken was old) line → line.caller.0 ≡ was.number
-    → Continues (ByOthers number_of seat.number seat.taken) seat.seen before
-    → AreConfirmed (base_of turn.opened) old mid before
-    → ((P : PlainPolicy) (G : History) → IsLedTo P (base_of turn.opened).store G
-      → Steps P (entry_of line) (map Done G ++ before) (map Done G ++ next.seen) (answer_of a))
-    → HoldsOn now mid new → ServesWith turn now next new
+pub serves_next : {D : Type 0} → LooksTell → (turn : Opening (Sharing D)) (was now : Part) (seat next : Knowledge (Sharing D) Event) (old mid : Looks)
+    (new : Option Looks) (line : Line) (a : Answer) (before : List Event) → Serves turn was seat → HoldsLooks turn was old → IsSeatOf turn next
+    → next.number ≡ seat.number → Keeps was now → IsPart now → now.answers.items ≡ (was.answers.items ++ mid.held.items) ++ a ∷ []
+    → length was.answers.items + length old.held.items < length was.lines.items
+    → line ≡ get_or was.lines.items (length was.answers.items + length old.held.items) line → line.caller.0 ≡ was.number
+    → Continues (ByOthers number_of seat.number seat.taken) seat.seen before → HasConfirmed (base_of turn.opened) old mid before true
+    → HasAnswered (base_of turn.opened) line before next.seen a → HoldsOn now mid new → ServesWith turn now next new
 serves_next tell turn was now seat next old mid new line a before s h seated number kept part answers lt at own others c steps on =
-    let same : held_by mid ≡ held_by old = same_held (base_of turn.opened) old mid before c in
-    let told : told_of now ≡ (told_of was ++ held_in was (held_by old)) ++ record { line = entry_of line; answer = answer_of a } ∷ [] =
-    told_by_turn was now old line a kept.1 (answers ∙ ap (λ (l : List Answer). (was.answers.items ++ l) ++ a ∷ []) same) lt at in
-    (
+    let told : told_of now ≡ (told_of was ++ held_in was old.held.items) ++ record { line = entry_of line; answer = answer_of a } ∷ [] =
+    told_by_turn was now old.held.items line a kept.1 (answers ∙ ap (λ (l : List Answer). (was.answers.items ++ l) ++ a ∷ []) c.held) lt at in (
       record {
         seated = seated;
         number = number ∙ (s.number ∙ ap (λ n. n + 1) (sym kept.0));
@@ -139,7 +109,7 @@ serves_next tell turn was now seat next old mid new line a before s h seated num
             (turned tell turn was seat s P G is front before next.seen old mid line a others h c own
             (steps P G (led tell turn was seat s P G is front)));
       },
-      looks_on turn was now old mid new before h c on,
+      looks_on turn was now old mid new before true h c on,
     )
 
 -- nothing is answered, and others may have had their turns
@@ -161,30 +131,26 @@ serves_on turn p seat next before s seated number others seen ends = (
 
 -- ---- one answer more, without a reader
 
--- without a reader it stays without one
-pub goes_alone : (b : SharedBase) (p : Part) (old mid new : Option Looks) (before : List Event) → old ≡ None → AreConfirmed b old mid before → HoldsOn p mid new
-    → (mid ≡ None) × (new ≡ None)
-goes_alone b p (Some l) mid new before none c on = absurd (cc none)
-goes_alone b p None (Some k) new before none c on = absurd c
-goes_alone b p None None (Some k) before none c on = absurd on
-goes_alone b p None None None before none c on = (refl, refl)
-
-pub answers_alone : {D : Type 0} (turn : Opening (Sharing D)) (was now : Part) (seat next : Knowledge (Sharing D) Event) (old mid : Option Looks)
-    (line : Line) (a : Answer) (before : List Event) → old ≡ None → mid ≡ None → now.answers.items ≡ (was.answers.items ++ held_by mid) ++ a ∷ []
-    → line ≡ get_or was.lines.items (taken was old) line → Continues (ByOthers number_of seat.number seat.taken) seat.seen before
-    → ((P : PlainPolicy) (G : History) → IsLedTo P (base_of turn.opened).store G
-      → Steps P (entry_of line) (map Done G ++ before) (map Done G ++ next.seen) (answer_of a))
-    → AnswersOne turn was now seat next.seen
-answers_alone turn was now seat next old mid line a before none alone answers at others steps =
-    let few : taken was old ≡ length was.answers.items = ap (taken was) none ∙ omega arith in
+pub serves_alone : {D : Type 0} (turn : Opening (Sharing D)) (was now : Part) (seat next : Knowledge (Sharing D) Event) (line : Line) (a : Answer)
+    (before : List Event) → Serves turn was seat → IsSeatOf turn next → next.number ≡ seat.number → Keeps was now → IsPart now
+    → now.answers.items ≡ was.answers.items ++ a ∷ [] → length was.answers.items < length was.lines.items
+    → line ≡ get_or was.lines.items (length was.answers.items) line → line.caller.0 ≡ was.number
+    → Continues (ByOthers number_of seat.number seat.taken) seat.seen before → HasAnswered (base_of turn.opened) line before next.seen a
+    → Serves turn now next
+serves_alone turn was now seat next line a before s seated number kept part answers lt at own others steps =
+    let told : told_of now ≡ told_of was ++ record { line = entry_of line; answer = answer_of a } ∷ [] =
+    (λ i. answered (map entry_of (kept.1 i).items) (map answer_of (answers i))) ∙ answered_next was.lines.items was.answers.items line a lt at in
     record {
-      line = line;
-      answer = a;
-      before = before;
-      next = at ∙ ap (λ (n : ℕ). get_or was.lines.items n line) few;
-      answers = answers ∙ ap (λ (l : List Answer). l ++ a ∷ []) (ap (λ (o : Option Looks). was.answers.items ++ held_by o) alone ∙ append-nil was.answers.items);
-      others = others;
-      step = λ P G is front. steps P G (record { accepts = is; starts = front.starts; count = front.count; text = front.text });
+      seated = seated;
+      number = number ∙ (s.number ∙ ap (λ n. n + 1) (sym kept.0));
+      part = part;
+      right = λ P G is front.
+          let done : List Event = map Done G in
+          let step = steps P G (record { accepts = is; starts = front.starts; count = front.count; text = front.text }) in
+          subst (λ (z : ℕ × List Answered). AreRight P z.0 (G ++ turn.opened.store.entries) (done ++ next.seen) z.1) (λ i. (sym kept.0 i, sym told i))
+          (stays_right P was.number (G ++ turn.opened.store.entries) (done ++ seat.seen) (done ++ before) (done ++ next.seen) (told_of was) (entry_of line)
+          (answer_of a) seat.number seat.taken (s.right P G is front) own (inl (sym s.number))
+          (continues_behind (ByOthers number_of seat.number seat.taken) done seat.seen before others) step);
     }
 
 -- no more lines are taken than there are
@@ -211,8 +177,7 @@ serves_settled tell turn was now seat next l k new before s h seated number kept
     let long : length now.answers.items ≡ length was.answers.items + length l.held.items =
     omega (arith, ap length answers, length-append was.answers.items k.held.items, ap length c.held) in
     let lines : length now.lines.items ≡ length was.lines.items = ap (λ (x : Seen Line). length x.items) kept.1 in
-    let few : length now.answers.items ≤ length now.lines.items = omega (arith, long, lines, h.held.few) in
-    (
+    let few : length now.answers.items ≤ length now.lines.items = omega (arith, long, lines, h.held.few) in (
       record {
         seated = seated;
         number = number ∙ (s.number ∙ ap (λ n. n + 1) (sym kept.0));

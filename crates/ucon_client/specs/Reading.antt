@@ -30,7 +30,6 @@ GoesOnReading old None answer = ⊤
 GoesOnReading old (Some new) answer = ReadsOn old new answer
 
 -- the same reader, and nothing is held for the part any more; or the client reads no more
-abbrev pub HoldsOn : Part → Option Looks → Option Looks → Type 0
+abbrev pub HoldsOn : Part → Looks → Option Looks → Type 0
 HoldsOn p old None = ⊤
-HoldsOn p None (Some new) = ⊥
-HoldsOn p (Some old) (Some new) = (new.reader ≡ old.reader) × (new.held.items ≡ []) × AreHeld p new
+HoldsOn p old (Some new) = (new.reader ≡ old.reader) × (new.held.items ≡ []) × AreHeld p new

@@ -1,5 +1,5 @@
 -- What a client does in its turn.
-use Rattle.std.specs.Prelude.{◌≡◌, ◌≢◌, ◌++◌, Bool, true, List, map, Option, Some, None, IfSome, option_map, ⊤}
+use Rattle.std.specs.Prelude.{◌≡◌, ◌++◌, Bool, true, List, map, Option, Some, None, IfSome, option_map}
 use Rattle.ucon_model.specs.History.{History}
 use Rattle.ucon_model.specs.Plain.{PlainPolicy}
 use Rattle.ucon_board.specs.Board.{Board, GoesOn}
@@ -26,11 +26,6 @@ base_of s = record {
 abbrev pub IsOfBase : SharedBase → Looks → Type 0
 IsOfBase b l = IfSome b.board (λ k. l.reader.which ≡ k.which)
 
--- so it is, if there is one
-abbrev pub Asks : SharedBase → Option Looks → Type 0
-Asks b None = ⊤
-Asks b (Some l) = IsOfBase b l
-
 -- The reader is of the same board, and what it reads goes on from what it has read. If it is confirmed, all that it ever read is true of the list,
 -- with each history before that leads to where the store begins. What is held is kept. Confirmed or not, nothing follows a mark in the list.
 pub record HasConfirmed (b : SharedBase) (old new : Looks) (before : List Event) (confirmed : Bool) : Type 0 where
@@ -41,17 +36,12 @@ pub record HasConfirmed (b : SharedBase) (old new : Looks) (before : List Event)
   pub ends : (G : History) → EndsAtMark (map Done G ++ before)
   pub true_of : confirmed ≡ true → (P : PlainPolicy) (G : History) → IsLedTo P b.store G → IsConfirmed P (map Done G ++ before) new.reader.board
 
--- the same, if there is a reader; it is confirmed, or the list is as it was
-abbrev pub AreConfirmed : SharedBase → Option Looks → Option Looks → List Event → Type 0
-AreConfirmed b None None before = ⊤
-AreConfirmed b (Some old) (Some new) before = HasConfirmed b old new before true
-AreConfirmed b None (Some new) before = ⊥
-AreConfirmed b (Some old) None before = ⊥
+-- the line's step, with each history before the lists that leads to where the store begins
+abbrev pub HasAnswered : SharedBase → Line → (before after : List Event) → Answer → Type 0
+HasAnswered b line before after a = (P : PlainPolicy) (G : History) → IsLedTo P b.store G
+    → Steps P (entry_of line) (map Done G ++ before) (map Done G ++ after) (answer_of a)
 
--- The line's step is made, once what was read is confirmed; or nothing is done, which there must be a reader for. Then nothing follows a mark in the
--- list.
-abbrev pub HasStepped : SharedBase → Line → Option Looks → Option Looks → (before after : List Event) → Option Answer → Type 0
-HasStepped b line old new before after (Some answer) = AreConfirmed b old new before
-    × ((P : PlainPolicy) (G : History) → IsLedTo P b.store G
-      → Steps P (entry_of line) (map Done G ++ before) (map Done G ++ after) (answer_of answer))
-HasStepped b line old new before after None = (after ≡ before) × (old ≢ None) × ((G : History) → EndsAtMark (map Done G ++ before))
+-- The line's step is made, once what was read is confirmed; or nothing is done. Then nothing follows a mark in the list.
+abbrev pub HasStepped : SharedBase → Line → (old new : Looks) → (before after : List Event) → Option Answer → Type 0
+HasStepped b line old new before after (Some a) = HasConfirmed b old new before true × HasAnswered b line before after a
+HasStepped b line old new before after None = (after ≡ before) × ((G : History) → EndsAtMark (map Done G ++ before))

@@ -1,6 +1,6 @@
 //! The store that clients share, and the board that shows it.
 
-ghost use Rattle.std.specs.Prelude.{◌≡◌, ◌≢◌, ◌+◌, ◌++◌, ◌<◌, ◌≤◌, None, Some, true, length, map, option_map, IfSome};
+ghost use Rattle.std.specs.Prelude.{◌≡◌, ◌≢◌, ◌+◌, ◌++◌, ◌<◌, ◌≤◌, None, Some, true, length, map, option_map, IfErr, IfOk, IfSome};
 ghost use Rattle.ucon_base.specs.Elements.{Each};
 ghost use Rattle.ucon_board.specs.Board.{GoesOn};
 ghost use Rattle.ucon_model.specs.History.{History};
@@ -23,6 +23,7 @@ use crate::publishing::{publish, readers, session_states};
 use std::alloc::Global;
 use std::marker::Model;
 use std::sync::Wait;
+use ucon_base::NoMemory;
 use ucon_board::{BoardReader, BoardWriter, board, boards_show_entries};
 use ucon_disk::Disk;
 use ucon_engine::Engine;
@@ -33,8 +34,9 @@ use ucon_turn::Turned;
 /// A store as the value of a turn, in which nothing but steps is made. So where it is stopped, its mark is one step's. A board may show it, on which
 /// each reply that changes something is published behind its step.
 pub struct Boarded<E: Engine, D: Disk> {
-    pub(crate) store: Store<E, D>,
-    pub(crate) writer: Option<BoardWriter>,
+    /// In a box, since each turn moves the value.
+    store: Box<Store<E, D>>,
+    writer: Option<BoardWriter>,
 }
 
 impl<E: Engine, D: Disk> Model for Boarded<E, D> {
@@ -45,9 +47,9 @@ impl<E: Engine, D: Disk> Model for Boarded<E, D> {
 
     ghost coded = { sharing_code D.code };
 
-    ghost view = { λ s. record { store = s.store; board = option_map known_by s.writer } };
+    ghost view = { λ s. record { store = s.store.value; board = option_map known_by s.writer } };
 
-    ghost invariant = { λ s. IsOfSteps s.store.mark × IsShownBy s.store s.writer };
+    ghost invariant = { λ s. IsOfSteps s.store.value.mark × IsShownBy s.store.value s.writer };
 }
 
 /// What no run changes: what no step of the store changes, and the board as it was opened, by which its readers know it. No value of it is made.
@@ -57,27 +59,35 @@ pub struct SharedBase {
 }
 
 impl<E: Engine, D: Disk> Boarded<E, D> {
-    /// Over a store that isn't stopped, without a board.
-    pub fn new(store: Store<E, D>) -> Boarded<E, D>
+    /// Over a store that isn't stopped, without a board. Where there is no memory for it, the store comes back.
+    pub fn new(alloc: Global, store: Store<E, D>) -> Result<Boarded<E, D>, (Store<E, D>, NoMemory)>
         requires { store.mark ≡ None }
-        ensures store { result.store ≡ store }
-        ensures alone { result.board ≡ None }
-        ensures opened_at { AreReadersAt result }
+        ensures store { IfOk result (λ b. b.store ≡ store) }
+        ensures alone { IfOk result (λ b. b.board ≡ None) }
+        ensures opened_at { IfOk result AreReadersAt }
+        ensures err { IfErr result (λ e. e.0 ≡ store) }
     {
-        Boarded {
+        let store = boxed(alloc, store)?;
+        Ok(Boarded {
             store,
             writer: None,
-        }
+        })
     }
 
     /// Over a store that isn't stopped, with a board that shows it. Without one, if there is no memory for it.
-    pub fn shown<R: Wait>(rt: &R, alloc: Global, store: Store<E, D>) -> Boarded<E, D>
+    pub fn shown<R: Wait>(
+        rt: &R,
+        alloc: Global,
+        store: Store<E, D>,
+    ) -> Result<Boarded<E, D>, (Store<E, D>, NoMemory)>
         requires { store.mark ≡ None }
-        ensures store { result.store ≡ store }
-        ensures opened_at { AreReadersAt result }
+        ensures store { IfOk result (λ b. b.store ≡ store) }
+        ensures opened_at { IfOk result AreReadersAt }
+        ensures err { IfErr result (λ e. e.0 ≡ store) }
     {
+        let store = boxed(alloc, store)?;
         let writer = writer_over(rt, alloc, &store);
-        Boarded { store, writer }
+        Ok(Boarded { store, writer })
     }
 
     /// The store. It ends the board, for which it may wait for a reader.
@@ -89,7 +99,7 @@ impl<E: Engine, D: Disk> Boarded<E, D> {
         if let Some(writer) = writer {
             writer.close(rt);
         }
-        store
+        Box::into_inner(store)
     }
 
     /// Readers of its board: so many, or as many as can be had.
@@ -134,12 +144,24 @@ impl<E: Engine, D: Disk> Boarded<E, D> {
     }
 }
 
-/// The writer of a board that shows a store. None, if there is no memory for it.
+/// The store in a box. Where there is no memory for it, the store comes back.
+fn boxed<E: Engine, D: Disk>(
+    alloc: Global,
+    store: Store<E, D>,
+) -> Result<Box<Store<E, D>>, (Store<E, D>, NoMemory)>
+    ensures ok { IfOk result (λ b. b.value ≡ store) }
+    ensures err { IfErr result (λ e. e.0 ≡ store) }
+{
+    Box::new(alloc, store).map_err(NoMemory::handed_back)
+}
+
+/// The writer of a board that shows a store, which isn't stopped. None, if there is no memory for it.
 fn writer_over<R: Wait, E: Engine, D: Disk>(
     rt: &R,
     alloc: Global,
     store: &Store<E, D>,
 ) -> Option<BoardWriter>
+    requires { store.now.mark ≡ None }
     ensures opened_at { IfSome result (λ w. w.board.opened_at ≡ store.now.before + length store.now.entries) }
     ensures shown { IsShownBy store.now result }
 {

@@ -9,7 +9,7 @@ use crate::boarded::Boarded;
 use crate::gate::Gate;
 use crate::looks::{Looks, take_in};
 use crate::part::Part;
-use crate::step::{Confirm, Step};
+use crate::step::{Confirm, ConfirmedStep, Step};
 use std::alloc::Global;
 use std::sync::Wait;
 use ucon_board::{BoardReader, replies_tell_states};
@@ -95,40 +95,61 @@ impl<E: Engine, D: Disk> Client<E, D> {
         ensures answers { self.old.looks ≡ None → AnswersOne turn.now self.old.part self.new.part self.old.seat self.new.seat.seen }
         ensures kept { Keeps self.old.part self.new.part }
     {
+        if self.looks.is_none() {
+            self.answer_next(rt, alloc, turn);
+            return;
+        }
         let count = self.taken() + 1;
         let read = match &mut self.looks {
             Some(looks) => looks.read_next(rt, &self.part),
             None => false,
         };
-        if !read && !self.answer_next(rt, alloc, turn) {
+        if !read && !self.answer_behind(rt, alloc, turn) {
             self.answer_up_to(rt, alloc, turn, count);
         }
     }
 
+    /// Answers the next line in the client's turn. It has no reader.
+    fn answer_next<R: Wait>(&mut self, rt: &R, alloc: Global, turn: &Turn<Boarded<E, D>>)
+        requires serves { ServesWith turn.now self.old.part self.old.seat self.old.looks }
+        requires alone { self.old.looks ≡ None }
+        requires more { length self.old.part.answers.items < length self.old.part.lines.items }
+        ensures serves { ServesWith turn.now self.new.part self.new.seat self.new.looks }
+        ensures alone { self.new.looks ≡ None }
+        ensures answers { AnswersOne turn.now self.old.part self.new.part self.old.seat self.new.seat.seen }
+        ensures kept { Keeps self.old.part self.new.part }
+    {
+        let line = &self.part.lines.slice()[self.part.answers.len()];
+        let mut step = Step { rt, alloc, line };
+        let answer = turn.call(rt, &mut self.seat, &mut step);
+        self.part.add(answer);
+    }
+
     /// Answers the next line in the client's turn, once that has confirmed what was read. False where it can't: then nothing is answered, and the
     /// client reads the board no more.
-    fn answer_next<R: Wait>(&mut self, rt: &R, alloc: Global, turn: &Turn<Boarded<E, D>>) -> bool
+    fn answer_behind<R: Wait>(&mut self, rt: &R, alloc: Global, turn: &Turn<Boarded<E, D>>) -> bool
         requires serves { ServesWith turn.now self.old.part self.old.seat self.old.looks }
         requires more { taken self.old.part self.old.looks < length self.old.part.lines.items }
         ensures serves { ServesWith turn.now self.new.part self.new.seat self.new.looks }
         ensures answered { result ≡ true
             → (length self.new.part.answers.items ≡ taken self.old.part self.old.looks + 1) × (held_by self.new.looks ≡ []) }
         ensures unconfirmed { result ≡ false → (self.new.part ≡ self.old.part) × (self.new.looks ≡ None) }
-        ensures alone { self.old.looks ≡ None → (result ≡ true) × (self.new.looks ≡ None)
-            × AnswersOne turn.now self.old.part self.new.part self.old.seat self.new.seat.seen }
         ensures kept { Keeps self.old.part self.new.part }
     {
         replies_tell_states();
         let place = self.taken();
+        let Some(looks) = self.looks.take() else {
+            return false;
+        };
         let line = &self.part.lines.slice()[place];
-        let mut step = Step {
+        let mut step = ConfirmedStep {
             rt,
             alloc,
             line,
-            looks: self.looks.take(),
+            looks,
         };
         let said = turn.call(rt, &mut self.seat, &mut step);
-        let Step {
+        let ConfirmedStep {
             rt: _,
             alloc: _,
             line: _,

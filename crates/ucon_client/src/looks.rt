@@ -106,24 +106,16 @@ impl Looks {
 }
 
 /// Puts the answer to the next line into the part, behind those that were held and are confirmed by now, and goes on reading behind it.
-pub(crate) fn take_in(
-    alloc: Global,
-    part: &mut Part,
-    looks: Option<Looks>,
-    answer: Answer,
-) -> Option<Looks>
+pub(crate) fn take_in(alloc: Global, part: &mut Part, looks: Looks, answer: Answer) -> Option<Looks>
     requires part { IsPart part.old }
-    requires held { IfSome looks (AreHeld part.old) }
-    requires more { taken part.old looks < length part.old.lines.items }
+    requires held { AreHeld part.old looks }
+    requires more { length part.old.answers.items + length looks.held.items < length part.old.lines.items }
     ensures part { IsPart part.new }
-    ensures answers { part.new.answers.items ≡ (part.old.answers.items ++ held_by looks) ++ answer ∷ [] }
+    ensures answers { part.new.answers.items ≡ (part.old.answers.items ++ looks.held.items) ++ answer ∷ [] }
     ensures kept { Keeps part.old part.new }
     ensures looks { HoldsOn part.new looks result }
 {
-    let on = match looks {
-        Some(looks) => looks.settle(alloc, part).after(&answer),
-        None => None,
-    };
+    let on = looks.settle(alloc, part).after(&answer);
     part.add(answer);
     on
 }

@@ -1,6 +1,6 @@
 //! Serves a document over a journal: each client in a thread of its own.
 
-ghost use Rattle.std.specs.Prelude.{◌≡◌, ◌⊎◌, ◌<◌, ◌≤◌, length, map, Some, None, true};
+ghost use Rattle.std.specs.Prelude.{◌≡◌, ◌⊎◌, ◌<◌, ◌≤◌, length, map, Some, None, true, IfErr, IfOk};
 ghost use Rattle.ucon_base.specs.Elements.{Each};
 ghost use Rattle.ucon_disk.specs.Causes.{raised};
 ghost use Rattle.ucon_model.specs.History.{History};
@@ -26,6 +26,7 @@ use crate::play::write_output;
 use std::alloc::Global;
 use std::sync::Wait;
 use std::thread::Threads;
+use ucon_base::NoMemory;
 use ucon_client::{Boarded, Gate, Part, divide};
 use ucon_disk::Disk;
 use ucon_engine::Engine;
@@ -69,8 +70,10 @@ pub fn serve<E: Engine + Send, K: Sink, D: Disk + Send, G: Gate + Sync, R: Threa
     };
     match Store::<E, D>::open(alloc, policy_part(bytes), disk) {
         Ok(store) => {
-            let boarded = boarded_for(rt, alloc, form, store);
-            serve_lines(rt, alloc, boarded, script.lines.slice(), out, gate)
+            match boarded_for(rt, alloc, form, store) {
+                Ok(boarded) => serve_lines(rt, alloc, boarded, script.lines.slice(), out, gate),
+                Err((store, refused)) => Ended::by(Outcome::NoMemory(refused), store.close()),
+            }
         }
         Err((disk, fault)) => Ended::by(Outcome::from(fault), disk),
     }
@@ -82,15 +85,16 @@ fn boarded_for<E: Engine, D: Disk, R: Wait>(
     alloc: Global,
     form: Form,
     store: Store<E, D>,
-) -> Boarded<E, D>
+) -> Result<Boarded<E, D>, (Store<E, D>, NoMemory)>
     requires { store.mark ≡ None }
-    ensures store { result.store ≡ store }
-    ensures opened_at { AreReadersAt result }
+    ensures store { IfOk result (λ b. b.store ≡ store) }
+    ensures opened_at { IfOk result AreReadersAt }
+    ensures err { IfErr result (λ e. e.0 ≡ store) }
 {
     if matches!(form, Form::Board) {
         Boarded::shown(rt, alloc, store)
     } else {
-        Boarded::new(store)
+        Boarded::new(alloc, store)
     }
 }
 

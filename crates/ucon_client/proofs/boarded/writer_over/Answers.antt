@@ -10,4 +10,4 @@ returns-clause-shown g c =
     let same : c.as_slice.result.now ≡ sessions = search rules in
     opened_shows c.args.store.now c.in-Ok-board.writer.board sessions (shown c.state.result.now)
     (c.in-Ok-board.ensures.board ∙ (λ i. record { opened_at = c.place.ensures.place i; sessions = same i; replies = [] }))
-    c.in-Ok.ensures.states c.state.ensures.follows
+    c.in-Ok.ensures.states (c.state.ensures.follows c.requires)
