@@ -175,7 +175,7 @@ module _ (E D : RattleType) (g : engine.Ghosts E.Denot) (d : disk.Ghosts D.Denot
   boarded_inside_send : IsSend (boarded_inside.the_row E D g d)
   boarded_inside_send =
       recorded_send (boarded_inside.the_field E D g d).row _ _ (boarded_inside.the_type E D g d).to_one
-      (struct_send (structs.shape (boarded_inside.the_type E D g d)) (store_send, (search (writer.the_send, crosses, sendable) depth 20, tt)))
+      (struct_send (structs.shape (boarded_inside.the_type E D g d)) (search (store_send, crosses, sendable) depth 20, (search (writer.the_send, crosses, sendable) depth 20, tt)))
 
   boarded_send : IsSend (Boarded.the_row E D g d)
   boarded_send = view_send (boarded_inside.the_row E D g d) _ _ _ _ boarded_inside_send

@@ -185,37 +185,37 @@ module _ {D : Type 0} (true_of : AreTrue) (P : PlainPolicy) (G : History) (s : K
   log_is : map Done G ++ events_of s ≡ events (G ++ s.entries) (marked steps.failed)
   log_is = sym (events_behind G s.entries s.mark) ∙ ap (events (G ++ s.entries)) steps.is
 
-  abbrev Shown : ShowsBehind P (trace P G) s w
-  Shown = shown P (trace P G) is front.starts
+  abbrev Here : ShowsBehind P (trace P G) s w
+  Here = shown P (trace P G) is front.starts
 
-  all : G ++ s.entries ≡ G ++ (Shown.opened ++ Shown.since)
-  all = ap (λ (l : History). G ++ l) Shown.entries
+  all : G ++ s.entries ≡ G ++ (Here.opened ++ Here.since)
+  all = ap (λ (l : History). G ++ l) Here.entries
 
-  long : length (G ++ s.entries) ≡ length G + (length Shown.opened + length Shown.since)
-  long = omega (arith, ap length all, length-append G (Shown.opened ++ Shown.since), length-append Shown.opened Shown.since)
+  long : length (G ++ s.entries) ≡ length G + (length Here.opened + length Here.since)
+  long = omega (arith, ap length all, length-append G (Here.opened ++ Here.since), length-append Here.opened Here.since)
 
   module _ (b : Board) (on : GoesOn b w) where
-    abbrev Truth : IsTrueOf P (trace_from P (trace P G) Shown.opened) Shown.since b
-    Truth = true_of P (trace_from P (trace P G) Shown.opened) Shown.since b w true Shown.shows on
+    abbrev Truth : IsTrueOf P (trace_from P (trace P G) Here.opened) Here.since b
+    Truth = true_of P (trace_from P (trace P G) Here.opened) Here.since b w true Here.shows on
 
-    place : place_of b ≡ length G + (length Shown.opened + length b.replies)
-    place = omega (arith, on.opened_at, Shown.opened_at, front.count)
+    place : place_of b ≡ length G + (length Here.opened + length b.replies)
+    place = omega (arith, on.opened_at, Here.opened_at, front.count)
 
     within : place_of b ≤ length (G ++ s.entries)
     within = omega (arith, place, long, Truth.within)
 
-    first : take (place_of b) (G ++ s.entries) ≡ G ++ (Shown.opened ++ take (length b.replies) Shown.since)
+    first : take (place_of b) (G ++ s.entries) ≡ G ++ (Here.opened ++ take (length b.replies) Here.since)
     first =
         ap (take (place_of b)) all
-        ∙ (take_seam G (Shown.opened ++ Shown.since) (length Shown.opened + length b.replies) (place_of b) place
-        ∙ ap (λ (l : History). G ++ l) (take_seam Shown.opened Shown.since (length b.replies) (length Shown.opened + length b.replies) refl))
+        ∙ (take_seam G (Here.opened ++ Here.since) (length Here.opened + length b.replies) (place_of b) place
+        ∙ ap (λ (l : History). G ++ l) (take_seam Here.opened Here.since (length b.replies) (length Here.opened + length b.replies) refl))
 
     states : (n : ℕ) → state_in b n ≡ state_after (trace P (take (place_of b) (G ++ s.entries))) n
     states n =
         Truth.states n
         ∙ ap (λ (T : Trace). state_after T n) (sym (ap (trace P) first
-        ∙ (trace_append P [] G (Shown.opened ++ take (length b.replies) Shown.since)
-        ∙ trace_append P (trace P G) Shown.opened (take (length b.replies) Shown.since))))
+        ∙ (trace_append P [] G (Here.opened ++ take (length b.replies) Here.since)
+        ∙ trace_append P (trace P G) Here.opened (take (length b.replies) Here.since))))
 
   pub confirmed : IsConfirmed P (map Done G ++ events_of s) w
   confirmed =

@@ -32,12 +32,20 @@ impl<E: Engine, D: Disk, R: Wait> Job<Boarded<E, D>> for Step<'_, R> {
     ghost did = { λ j b before after said _. HasAnswered b j.line.now before after said };
 
     fn number(&self) -> u32 {
-        self.line.caller.0 as u32 + 1
+        seat_of(self.line)
     }
 
     fn run(&mut self, boarded: &mut Boarded<E, D>) -> Answer {
         boarded.step(self.rt, self.alloc, self.line)
     }
+}
+
+/// The number of the seat that a line's client has.
+fn seat_of(line: &Line) -> u32
+    requires { line.now.caller.0 < 64 }
+    ensures { result ≡ line.now.caller.0 + 1 }
+{
+    line.caller.0 as u32 + 1
 }
 
 /// The step of one line, once what the client has read off a board is confirmed. Where that can't be confirmed, the line isn't answered.
@@ -60,7 +68,7 @@ impl<E: Engine, D: Disk, R: Wait> Job<Boarded<E, D>> for ConfirmedStep<'_, R> {
     ghost did = { λ j b before after said k. HasStepped b j.line.now j.looks k.looks before after said };
 
     fn number(&self) -> u32 {
-        self.line.caller.0 as u32 + 1
+        seat_of(self.line)
     }
 
     fn run(&mut self, boarded: &mut Boarded<E, D>) -> Option<Answer> {

@@ -69,12 +69,7 @@ pub fn serve<E: Engine + Send, K: Sink, D: Disk + Send, G: Gate + Sync, R: Threa
         Err(refused) => return Ended::by(Outcome::from(refused), disk),
     };
     match Store::<E, D>::open(alloc, policy_part(bytes), disk) {
-        Ok(store) => {
-            match boarded_for(rt, alloc, form, store) {
-                Ok(boarded) => serve_lines(rt, alloc, boarded, script.lines.slice(), out, gate),
-                Err((store, refused)) => Ended::by(Outcome::NoMemory(refused), store.close()),
-            }
-        }
+        Ok(store) => serve_lines(rt, alloc, form, store, script.lines.slice(), out, gate),
         Err((disk, fault)) => Ended::by(Outcome::from(fault), disk),
     }
 }
@@ -102,17 +97,17 @@ fn boarded_for<E: Engine, D: Disk, R: Wait>(
 fn serve_lines<E: Engine + Send, K: Sink, D: Disk + Send, G: Gate + Sync, R: Threads + Wait + Sync>(
     rt: &R,
     alloc: Global,
-    boarded: Boarded<E, D>,
+    form: Form,
+    store: Store<E, D>,
     lines: &[LineText<'_>],
     out: &mut K,
     gate: &G,
 ) -> Ended<D>
-    requires unmarked { boarded.store.mark ≡ None }
-    requires opened_at { AreReadersAt boarded }
+    requires { store.mark ≡ None }
     ensures status { result.status ≡ status_of result.outcome }
     ensures of_run { IsOfRun result.outcome }
-    ensures run { (P : PlainPolicy) → accepted boarded.store.policy ≡ Some P
-        → IsClosedRun D.seen own_answers P boarded.store (by_client (map entry_of lines.now))
+    ensures run { (P : PlainPolicy) → accepted store.policy ≡ Some P
+        → IsClosedRun D.seen own_answers P store (by_client (map entry_of lines.now))
         result.outcome result.disk (K.seen out.old).contents (K.seen out.new).contents }
     ensures sink { IsCounted result.outcome Outcome.SinkFault (K.seen out.old).faults (K.seen out.new).faults }
     ensures unwritten { IsUnwritten result.outcome → out.new ≡ out.old }
@@ -120,9 +115,11 @@ fn serve_lines<E: Engine + Send, K: Sink, D: Disk + Send, G: Gate + Sync, R: Thr
     runs_over_a_store_are_legal();
     let parts = match divide(alloc, lines) {
         Ok(parts) => parts,
-        Err(refused) => {
-            return Ended::by(Outcome::NoMemory(refused), boarded.into_store(rt).close());
-        }
+        Err(refused) => return Ended::by(Outcome::NoMemory(refused), store.close()),
+    };
+    let boarded = match boarded_for(rt, alloc, form, store) {
+        Ok(boarded) => boarded,
+        Err((store, refused)) => return Ended::by(Outcome::NoMemory(refused), store.close()),
     };
     match ucon_client::serve(rt, alloc, boarded, parts, gate) {
         Ok((store, parts)) => end_served(alloc, store, &parts, out),

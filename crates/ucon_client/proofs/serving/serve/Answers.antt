@@ -79,7 +79,7 @@ module _ (g : Over) (c : After-close-boarded g) (mark : IsOfSteps c.close-boarde
       × IsMarkOf Closed.mark (faulted (told_in c.join_all.new.parts.items))
   legal =
       let opened : Kept g.row.D.Denot = c.in-Ok-open.opened.0.opened.store in
-      let same : opened ≡ c.args.boarded.store = ap (λ (s : Sharing g.row.D.Denot). s.store) (c.in-Ok-open.ensures.turn.0 ∙ c.readers.ensures.same) in
+      let same : opened ≡ c.args.boarded.store = ap (λ (s : Sharing g.row.D.Denot). s.store) (c.in-Ok-open.ensures.turn.0 ∙ c.readers-readers.ensures.same) in
       closed_legal P H opened c.args.boarded.store Closed c.join_all.new.seat.seen c.join_all.new.seat.taken (map served_of c.join_all.new.parts.items)
       same c.requires.unmarked (c.join_all.ensures.joined P H (ap (λ (s : Kept g.row.D.Denot). accepted s.policy) same ∙ is)
       (subst (λ (s : Kept g.row.D.Denot). IsFront P s H) (sym same) front)) c.close-boarded.ensures.list c.close-boarded.ensures.callers mark
@@ -122,4 +122,4 @@ returns-clause-clients g c =
     let whole : take c.seat_all.new.clients.len (now ++ drop (length now) old) ≡ now =
     take_at now (drop (length now) old) c.seat_all.new.clients.len (long ∙ sym c.seat_all.new.clients.ok.0) in
     let is : c.join_all.new.parts.items ≡ map part_of now = c.join_all.ensures.parts ∙ ap (map part_of) whole in
-    clients_told c.join_all.new.parts.items (subst (Each IsPart) (sym is) (each_part IsPart part_of now (λ k d lt. (c.serve_all.ensures.serves k d lt).part)))
+    clients_told c.join_all.new.parts.items (subst (Each IsPart) (sym is) (each_part IsPart part_of now (λ k d lt. (c.serve_all.ensures.serves k d lt).0.part)))

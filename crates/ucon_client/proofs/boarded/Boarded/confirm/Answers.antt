@@ -15,7 +15,7 @@ use Rattle.ucon_client.proofs.boarded.Boarded.confirm.Goals as goal
 pub returns-in-Some-clause-confirmed : goal.returns-in-Some-clause-confirmed
 returns-in-Some-clause-confirmed g c = λ yes P G accepts front.
     let K = Kept g.row.D.Denot in
-    let was : K = c.self.inside.store in
+    let was : K = c.self.inside.store.value in
     let writer : Written = c.in-Some.writer in
     let here : was ≡ c.args.self.now.store = ap (λ (k : Sharing g.row.D.Denot). k.store) c.self.view_is in
     let shown = subst (IsShownBy was) c.in-Some.is c.self.invariant.1 in
@@ -25,8 +25,8 @@ returns-in-Some-clause-confirmed g c = λ yes P G accepts front.
 
 pub returns-in-Some-clause-ends : goal.returns-in-Some-clause-ends
 returns-in-Some-clause-ends g c = λ G.
-    subst (λ (s : Sharing g.row.D.Denot). EndsAtMark (map Done G ++ events_of s.store)) c.self.view_is (log_ends c.self.inside.store c.self.invariant.0 G)
+    subst (λ (s : Sharing g.row.D.Denot). EndsAtMark (map Done G ++ events_of s.store)) c.self.view_is (log_ends c.self.inside.store.value c.self.invariant.0 G)
 
 pub returns-in-None-clause-ends : goal.returns-in-None-clause-ends
 returns-in-None-clause-ends g c = λ G.
-    subst (λ (s : Sharing g.row.D.Denot). EndsAtMark (map Done G ++ events_of s.store)) c.self.view_is (log_ends c.self.inside.store c.self.invariant.0 G)
+    subst (λ (s : Sharing g.row.D.Denot). EndsAtMark (map Done G ++ events_of s.store)) c.self.view_is (log_ends c.self.inside.store.value c.self.invariant.0 G)

@@ -12,7 +12,7 @@ use Rattle.ucon_store.specs.Kept.{Kept}
 use Rattle.ucon_store.specs.Whole.{IsFront}
 use Rattle.ucon_client.specs.declared.answer.Answer.{Answer}
 use Rattle.ucon_client.specs.Answers.{answer_of, answered_by, entry_of}
-use Rattle.ucon_client.specs.Boarded.{IsOfSteps, Sharing, identity, known_by}
+use Rattle.ucon_client.specs.Boarded.{IsOfSteps, IsShownBy, Sharing, identity}
 use Rattle.ucon_client.specs.Clients.{Stepped, Steps}
 use Rattle.ucon_client.proofs.Counting.{answers_step}
 use Rattle.ucon_client.proofs.Following.{followed, same_board}
@@ -27,13 +27,17 @@ of_step old new e was = ⊎_elim
 
 pub invariant_of-self : goal.invariant_of-self
 invariant_of-self g c =
-    let was = c.self.inside.store in
+    let was : Kept g.row.D.Denot = c.deref_mut.result.now in
+    let same : was ≡ c.self.inside.store.value = c.deref_mut.ensures.value in
+    let first = subst (λ (k : Kept g.row.D.Denot). IsOfSteps k.mark) (sym same) c.self.invariant.0 in
+    let shown = subst (λ (k : Kept g.row.D.Denot). IsShownBy k c.self.inside.writer) (sym same) c.self.invariant.1 in
     let now = c.step-said.new.self in
     let s = c.step-said.ensures in
-    let line = entry_of c.args.line.now in (
-      of_step was.mark now.mark line c.self.invariant.0 s.mark,
+    let line = entry_of c.args.line.now in
+    (
+      of_step was.mark now.mark line first s.mark,
       followed g.D.Disk.seen was now (s.stays.policy, s.stays.point, s.stays.before) line c.step-said.result c.self.inside.writer c.publish.new.writer
-          c.self.invariant.1 c.publish.ensures s.placed_behind s.no_memory s.still s.failed_behind,
+      shown c.publish.ensures s.placed_behind s.no_memory s.still s.failed_behind,
     )
 
 pub returns-clause-board : goal.returns-clause-board
@@ -44,13 +48,14 @@ returns-clause-board g c =
 pub returns-clause-steps : goal.returns-clause-steps
 returns-clause-steps g c = λ (P : PlainPolicy) (G : History) accepts' front'.
     let s = c.step-said.ensures in
-    let was = c.self.inside.store in
+    let was : Kept g.row.D.Denot = c.deref_mut.result.now in
+    let same : was ≡ c.self.inside.store.value = c.deref_mut.ensures.value in
     let now = c.step-said.new.self in
     let line = entry_of c.args.line.now in
-    let first = c.self.invariant.0 in
+    let first = subst (λ (k : Kept g.row.D.Denot). IsOfSteps k.mark) (sym same) c.self.invariant.0 in
     let then = of_step was.mark now.mark line first s.mark in
     let gives : c.from.result ≡ answered_by c.step-said.result = search rules in
-    let here : was ≡ c.args.self.now.store = ap (λ (k : Sharing g.row.D.Denot). k.store) c.self.view_is in
+    let here : was ≡ c.args.self.now.store = same ∙ ap (λ (k : Sharing g.row.D.Denot). k.store) c.self.view_is in
     let front : IsFront P was G = subst (λ (k : Kept g.row.D.Denot). IsFront P k G) (sym here) front' in
     let accepts : accepted was.policy ≡ Some P = ap (λ (k : Kept g.row.D.Denot). accepted k.policy) here ∙ accepts' in
     subst (λ (z : List Event × List Event). Steps P line z.0 z.1 (answer_of c.from.result))

@@ -2,7 +2,7 @@ use Rattle.std.proofs.Common.{◌≡◌, sym, ◌∙◌, subst}
 use Rattle.std.specs.Prelude.{IfSome, Option}
 use Rattle.ucon_client.specs.declared.looks.Looks.{Looks}
 use Rattle.ucon_client.specs.declared.part.Part.{Part}
-use Rattle.ucon_client.specs.Answers.{HoldsLooks}
+use Rattle.ucon_client.specs.Answers.{HoldsLooks, ServesWith}
 use Rattle.ucon_client.specs.Steps.{HasConfirmed, base_of}
 use Rattle.ucon_client.proofs.Turning.{serves_on, serves_settled}
 use Rattle.ucon_client.proofs.client.Client.confirm.Goals as goal
@@ -26,4 +26,5 @@ pub returns-else-confirmed-clause-serves : goal.returns-else-confirmed-clause-se
 returns-else-confirmed-clause-serves g c =
     let called = c.call-confirmed.ensures in
     let d = called.did in
-    serves_on c.args.turn.now c.args.self.now.part c.args.self.now.seat c.call-confirmed.new.seat d.0 c.requires.0 called.turn called.kept.0 d.1 d.3.1 d.3.0.ends
+    subst (ServesWith c.args.turn.now c.args.self.now.part c.call-confirmed.new.seat) (sym c.take.ensures.after)
+    (serves_on c.args.turn.now c.args.self.now.part c.args.self.now.seat c.call-confirmed.new.seat d.0 c.requires.0 called.turn called.kept.0 d.1 d.3.1 d.3.0.ends)

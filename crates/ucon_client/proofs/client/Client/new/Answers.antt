@@ -16,7 +16,7 @@ returns-clause-serves g c = (
     right = λ P G is front.
         starts_right P G c.args.part c.args.turn.now.opened.store c.args.seat.seen c.requires.unmarked c.requires.seen c.requires.part.1;
   },
-  elim c.match-looks.branch [
+  elim c.match-reader.branch [
     | in-Some w ↦ (
         let reader = subst (λ (o : Option Known). IfSome o (IsReaderAt c.args.turn.now.opened)) w.in-Some.is c.requires.reader in
         subst (λ (o : Option Looks). IfSome o (HoldsLooks c.args.turn.now c.args.part)) (sym w.looks-is)
@@ -29,7 +29,7 @@ returns-clause-serves g c = (
 
 pub returns-clause-none_held : goal.returns-clause-none_held
 returns-clause-none_held g c =
-    elim c.match-looks.branch [
+    elim c.match-reader.branch [
       | in-Some w ↦ subst (λ (o : Option Looks). held_by o ≡ []) (sym w.looks-is) w.new.ensures.1
       | in-None w ↦ ap held_by w.looks-is
     ]
