@@ -1,4 +1,4 @@
-use Rattle.std.proofs.Common.{◌≡◌, List, map, sym, ap, subst, ◌∙◌}
+use Rattle.std.proofs.Common.{true, ◌≡◌, List, map, sym, ap, subst, ◌∙◌}
 use Rattle.ucon_model.specs.declared.command.Entry.{Entry}
 use Rattle.ucon_model.specs.History.{History}
 use Rattle.ucon_model.specs.LegalRun.{Answered, own_answers}
@@ -23,7 +23,7 @@ returns-in-Err-clause-run g c = λ P accepts.
     let only_now = (g.met.D.Disk g.world.𝓛 g.world.𝓜 g.world.𝓡 ((λ s x. x), (λ x. x), (λ x. x), (λ x. x))).only_now in
     closed_at_once g.D.Disk.seen own_answers P was was only_now laws
     c.args.store (by_client (map entry_of c.args.lines.now)) c.by.result.disk c.by.result.outcome c.requires (c.by.ensures.disk ∙ c.close.ensures.disk)
-    (rw c.by.ensures.outcome tt) (rw c.by.ensures.outcome (λ s answers. answers))
+    (rw c.by.ensures.outcome tt) (rw c.by.ensures.outcome (λ answers. answers))
 
 pub returns-in-Ok-serve-clause-run : goal.returns-in-Ok-serve-clause-run
 returns-in-Ok-serve-clause-run g c = λ P accepts.
@@ -40,7 +40,7 @@ returns-in-Ok-serve-clause-run g c = λ P accepts.
     }) in
     let lines : map (λ (t : Answered). t.line) (told_in c.deref.result.now) ≡ by_client (map entry_of c.args.lines.now) =
     ap (λ (parts : List Part). map (λ (t : Answered). t.line) (told_in parts)) is ∙ (r.lines ∙ c.in-Ok.ensures.lines) in
-    subst (λ (es : List Entry). IsClosedRun g.D.Disk.seen own_answers P store es
+    subst (λ (es : List Entry). IsClosedRun g.D.Disk.seen own_answers true P store es
     c.end_served.result.outcome c.end_served.result.disk (g.K.Sink.seen c.args.out.now).contents (g.K.Sink.seen c.end_served.new.out).contents) lines
     (c.end_served.ensures.run P store r.stays run)
 
@@ -53,9 +53,9 @@ returns-clause-run g c = λ P accepts.
     let back = c.in-Err-serve.store in
     let same : back ≡ c.args.store = c.in-Err-serve.ensures.err.0 in
     let lines = by_client (map entry_of c.args.lines.now) in
-    subst (λ (s : Kept g.row.D.Denot). IsClosedRun g.D.Disk.seen own_answers P s lines
+    subst (λ (s : Kept g.row.D.Denot). IsClosedRun g.D.Disk.seen own_answers true P s lines
     c.by-in-Err-serve.result.outcome c.by-in-Err-serve.result.disk was was) same
     (closed_at_once g.D.Disk.seen own_answers P was was only_now laws
     back lines c.by-in-Err-serve.result.disk c.by-in-Err-serve.result.outcome (ap (λ (s : Kept g.row.D.Denot). s.mark) same ∙ c.requires)
     (c.by-in-Err-serve.ensures.disk ∙ c.close-in-Err-serve.ensures.disk)
-    (rw c.by-in-Err-serve.ensures.outcome tt) (rw c.by-in-Err-serve.ensures.outcome (λ s answers. answers)))
+    (rw c.by-in-Err-serve.ensures.outcome tt) (rw c.by-in-Err-serve.ensures.outcome (λ answers. answers)))
