@@ -1,10 +1,11 @@
 -- What running a document over the disk of a journal leaves, and how it ends: in the order of the text, or each client in a thread of its own.
-use Rattle.std.specs.Prelude.{◌≡◌, ◌⊎◌, ℕ, Bool, List, [], ◌∷◌, ◌++◌, length, map, Option, Some, None, Ok, IsSome, IfSome, ⊤}
+use Rattle.std.specs.Prelude.{◌≡◌, ◌≢◌, ◌⊎◌, ℕ, Bool, List, [], ◌∷◌, ◌++◌, length, map, Option, Some, None, Ok, IsSome, IfSome, ⊤}
 use Rattle.std.specs.Bool.{OnFalse}
 use Rattle.std.specs.Io.KnownBytes.{Appends}
 use Rattle.ucon_flow.specs.Writing.{AppendsPrefix}
 use Rattle.ucon_disk.specs.Causes.{raised}
 use Rattle.ucon_disk.specs.Run.{LeavesFrom, LeavesOnly}
+use Rattle.ucon_journal.specs.Opened.{opened}
 use Rattle.ucon_turn.specs.Lists.{Begins}
 use Rattle.ucon_model.specs.declared.command.Caller.{Caller}
 use Rattle.ucon_model.specs.declared.command.Entry.{Entry}
@@ -82,10 +83,11 @@ pub record IsRunOverBy (reads : PolicyReading) (form : Form) (bytes : Bytes) (ol
   pub run : (file : Bytes) (opening : History) → old.contents ≡ Some file → IsFoundBy reads (policy_part bytes) file opening
       → (length opening ≡ entries) × IsPlayedBy reads (sees_by form) (policy_part bytes) policy file opening old new told × causes told
 
--- The journal wasn't opened for this reason. A crash leaves what it could leave before, or a file in which what was found is still found, and which is
--- as it was if it is foreign.
+-- The journal wasn't opened for this reason. But for a disk fault the file is as it was; one of at most nine bytes is a journal without a record. A
+-- crash leaves what it could leave before, or a file in which what was found is still found, and which is as it was if it is foreign.
 pub record IsUnopenedBy (reads : PolicyReading) (fault : StoreFault) (text : Bytes) (old new : DiskSeen) : Type 0 where
   pub reason : HasReasonBy reads fault text old.contents old.faults new.faults
+  pub as_it_was : fault ≢ stores.DiskFault → IfSome old.contents (λ file. new.contents ≡ Some (opened file))
   pub images_kept : LeavesFrom old new (OpensBy reads text)
 
 -- What holds of the disk, and of the sink, by how playing ended. Otherwise than by the causes named here it made no call of the disk.
